@@ -1,0 +1,4 @@
+pub mod Bodies
+pub mod RoundTrip
+pub mod MeaningLemmas
+pub mod TextLemmas

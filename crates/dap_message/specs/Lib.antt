@@ -1,0 +1,9 @@
+pub use Rattle.dap_json.specs.Stored
+pub use Rattle.dap_json.specs.Field
+pub use Rattle.dap_json.specs.Writable
+pub use Rattle.dap_json.specs.Taking
+pub use Rattle.dap_json.specs.Put
+pub mod Envelope
+pub mod Plain
+pub mod Canon
+pub mod Meaning
