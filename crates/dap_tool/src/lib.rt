@@ -1,0 +1,13 @@
+//! The outside of the ends: whole streams from a reader to a writer, faults as a program tells them.
+//!
+//! What this crate knows: readers, writers, statuses and fault lines. What it must not know: header bytes, and how
+//! a table keeps its entries. It relies on the public contracts of the crates below alone.
+#![tactic(auto)]
+
+mod answerer;
+mod fault;
+mod first_serve;
+mod sending;
+
+pub use fault::{FirstFault, ToolFault, fault_line, status};
+pub use first_serve::first_serve;
