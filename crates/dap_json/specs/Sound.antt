@@ -4,7 +4,7 @@ use Rattle.std.specs.declared.cmp.Ordering.TheVariants.{Less}
 use Rattle.std.specs.Ordering.{nat_cmp}
 use Rattle.std.specs.Cmp.Lexicographic.{slice_cmp}
 use Rattle.std.specs.Float.{float_is_finite}
-use Rattle.serde_json.specs.Data.{Num, unsigned, negative, float, Data, null, boolean, number, string, array, object, Items, no_items, item, Members, no_members, member}
+use Rattle.serde_json.specs.Data.{Num, unsigned, negative, float, Data, null, boolean, number, string, array, object, Items, no_items, item, Members, no_members, member, put}
 
 -- an integer of 64 bits, with a sign only below zero, or a finite float
 abbrev pub IsSoundNumber : Num → Type 0
@@ -35,3 +35,6 @@ abbrev mutual
   pub HasSound : Members → Type 0
   HasSound no_members = ⊤
   HasSound (member k d ms) = IsUtf8 k × IsBefore k ms × IsSound d × HasSound ms
+
+abbrev pub PutIsSound : Type 0
+PutIsSound = (key : List ℕ) (d : Data) (ms : Members) → IsUtf8 key → IsSound d → IsSound (object ms) → IsSound (object (put key d ms))

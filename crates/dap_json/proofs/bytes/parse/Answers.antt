@@ -1,6 +1,6 @@
 use Rattle.std.proofs.Common.{rules}
 use Rattle.dap_json.proofs.Parsed.{json_of-read, json_of-refused}
-use Rattle.dap_json.proofs.parsing.parse.Goals as goal
+use Rattle.dap_json.proofs.bytes.parse.Goals as goal
 
 pub returns-in-Ok-clause-ok : goal.returns-in-Ok-clause-ok
 returns-in-Ok-clause-ok c = json_of-read c.args.bytes.now _ c.in-Ok.ensures.ok.0 c.in-Ok.ensures.ok.1
