@@ -12,7 +12,7 @@ use Rattle.dap_message.specs.Laws.{WrittenIsReadAgain}
 use Rattle.dap_json.specs.Writable.{is_plain_tree}
 use Rattle.dap_message.specs.Refusals.{max_command}
 use Rattle.dap_message.specs.Plain.{is_plain, is_plain_kind}
-use Rattle.dap_message.specs.SoundMessage.{IsSoundText, IsSoundTree, IsSoundKind, IsSoundMessage}
+use Rattle.dap_message.specs.SoundMessage.{IsSoundText, IsSoundTree, HasSoundTexts, HasSoundTree, IsSoundMessage}
 use Rattle.dap_message.specs.declared.message.Message.{Message}
 use Rattle.dap_message.specs.declared.message.Kind.{Kind}
 use Rattle.dap_message.specs.declared.message.Kind.TheVariants.{Request, Response, Event, Other}
@@ -68,15 +68,15 @@ module _ (put_sound : PutIsSound) where
       let five = put_if_text (codes "message") m fourth (IsUtf8-are_ascii (codes "message") refl) t four in
       put_if_tree (codes "body") b fifth (IsUtf8-are_ascii (codes "body") refl) s five
 
-  kind_sound : (seq : ℕ) (k : Kind) → nat_le seq max_seq ≡ true → is_plain_kind k ≡ true → IsSoundKind k → IsSound (object (members_of seq k))
-  kind_sound seq (Request c a) e p s = request_sound seq c a e s.0 s.1
-  kind_sound seq (Response r ok c m b) e p s = response_sound seq r ok c m b e (all_three (nat_le r max_seq) (nat_le (length c) max_command) (is_plain_tree b) p).0 s.0 s.1 s.2
-  kind_sound seq (Event v b) e p s = event_sound seq v b e s.0 s.1
-  kind_sound seq (Other t) e p s = common_sound seq t e s
+  kind_sound : (seq : ℕ) (k : Kind) → nat_le seq max_seq ≡ true → is_plain_kind k ≡ true → HasSoundTexts k → HasSoundTree k → IsSound (object (members_of seq k))
+  kind_sound seq (Request c a) e p t s = request_sound seq c a e t s
+  kind_sound seq (Response r ok c m b) e p t s = response_sound seq r ok c m b e (all_three (nat_le r max_seq) (nat_le (length c) max_command) (is_plain_tree b) p).0 t.0 t.1 s
+  kind_sound seq (Event v b) e p t s = event_sound seq v b e t s
+  kind_sound seq (Other g) e p t s = common_sound seq g e t
 
   IsSound-tree_of : (m : Message) → is_plain m ≡ true → IsSoundMessage m → IsSound (tree_of m)
   unfolding tree_of
-  IsSound-tree_of m p s = let q = both (nat_le m.seq max_seq) (is_plain_kind m.kind) p in kind_sound m.seq m.kind q.0 q.1 s
+  IsSound-tree_of m p s = let q = both (nat_le m.seq max_seq) (is_plain_kind m.kind) p in kind_sound m.seq m.kind q.0 q.1 s.texts s.tree
 
   pub Msg-canon : IsReadAgain → WrittenIsReadAgain
   unfolding canon

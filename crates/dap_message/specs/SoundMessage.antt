@@ -14,11 +14,18 @@ abbrev pub IsSoundTree : Option Data → Type 0
 IsSoundTree None = ⊤
 IsSoundTree (Some d) = IsSound d
 
-abbrev pub IsSoundKind : Kind → Type 0
-IsSoundKind (Request command arguments) = IsUtf8 command × IsSoundTree arguments
-IsSoundKind (Response request_seq success command message body) = IsUtf8 command × IsSoundText message × IsSoundTree body
-IsSoundKind (Event event body) = IsUtf8 event × IsSoundTree body
-IsSoundKind (Other tag) = IsUtf8 tag
+abbrev pub HasSoundTexts : Kind → Type 0
+HasSoundTexts (Request command arguments) = IsUtf8 command
+HasSoundTexts (Response request_seq success command message body) = IsUtf8 command × IsSoundText message
+HasSoundTexts (Event event body) = IsUtf8 event
+HasSoundTexts (Other tag) = IsUtf8 tag
 
-abbrev pub IsSoundMessage : Message → Type 0
-IsSoundMessage m = IsSoundKind m.kind
+abbrev pub HasSoundTree : Kind → Type 0
+HasSoundTree (Request command arguments) = IsSoundTree arguments
+HasSoundTree (Response request_seq success command message body) = IsSoundTree body
+HasSoundTree (Event event body) = IsSoundTree body
+HasSoundTree (Other tag) = ⊤
+
+pub record IsSoundMessage (m : Message) : Type 0 where
+  pub texts : HasSoundTexts m.kind
+  pub tree : HasSoundTree m.kind
