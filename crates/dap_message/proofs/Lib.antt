@@ -1,4 +1,5 @@
-pub mod Bodies
 pub mod RoundTrip
 pub mod MeaningLemmas
-pub mod TextLemmas
+pub mod RefusalLemmas
+pub mod Told
+pub mod SoundTree

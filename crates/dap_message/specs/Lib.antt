@@ -1,9 +1,14 @@
 pub use Rattle.dap_json.specs.Stored
 pub use Rattle.dap_json.specs.Field
 pub use Rattle.dap_json.specs.Writable
-pub use Rattle.dap_json.specs.Taking
 pub use Rattle.dap_json.specs.Put
-pub mod Envelope
+pub use Rattle.dap_json.specs.Sound
+pub use Rattle.dap_json.specs.Read
+pub mod Refusals
+pub mod Meaning
+pub mod Gives
+pub mod Verdict
 pub mod Plain
 pub mod Canon
-pub mod Meaning
+pub mod SoundMessage
+pub mod Laws

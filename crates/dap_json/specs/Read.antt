@@ -1,0 +1,15 @@
+-- From bytes to JSON, and back.
+use Rattle.std.specs.Prelude.{◌≡◌, ◌≤◌, ℕ, List, false, Option, Some, None, if◌then◌else◌}
+use Rattle.std.specs.Str.{is_utf8}
+use Rattle.serde_json.specs.Data.{Data, depth}
+use Rattle.serde_json.specs.Read.{read, max_depth}
+use Rattle.serde_json.specs.Written.{has_float, compact_text}
+use Rattle.dap_json.specs.Sound.{IsSound}
+
+-- the value that bytes are: text in UTF-8, and JSON that nests at most 127 deep
+unfoldable pub json_of : List ℕ → Option Data
+json_of bytes = if is_utf8 bytes then read bytes else None
+
+-- what a Rust value can hold, without floats, is read again from its compact text
+abbrev pub IsReadAgain : Type 0
+IsReadAgain = (d : Data) → IsSound d → has_float d ≡ false → depth d ≤ max_depth → json_of (compact_text d) ≡ Some d

@@ -1,0 +1,17 @@
+//! Laws of the definitions, each on a function with nothing to run.
+ghost use Rattle.dap_message.specs.Laws.{EachBodyIsOne, WrittenIsReadAgain};
+
+use dap_json::laws::{put_is_sound, text_is_read_again};
+
+/// Each body is one message, or has one first refusal: never both, never two.
+pub fn each_body_is_one()
+    ensures { EachBodyIsOne }
+{}
+
+/// A plain message that a Rust value can hold, once written, is read again as itself.
+pub fn written_is_read_again()
+    ensures { WrittenIsReadAgain }
+{
+    text_is_read_again();
+    put_is_sound();
+}
