@@ -62,3 +62,8 @@ HasDistinctSeqs (k ∷ kept) = (contains_seq k.entry.seq kept ≡ false) × HasD
 pub record IsOrderly (table : KeptRequests) : Type 0 where
   pub bound : length table.kept ≤ table.room
   pub distinct : HasDistinctSeqs table.kept
+
+-- no request with this number is kept, and there is no room for it
+pub record IsRefusedForRoom (seq : ℕ) (table : KeptRequests) : Type 0 where
+  pub new : contains_seq seq table.kept ≡ false
+  pub full : length table.kept ≡ table.room

@@ -11,10 +11,3 @@ pub struct Entry {
     /// `Request.arguments`, or `None` where the request has none.
     pub arguments: Option<Tree>,
 }
-
-/// A kept request, and whether its answer waits for another request.
-#[derive(Drop)]
-pub(crate) struct Slot {
-    pub(crate) entry: Entry,
-    pub(crate) parked: bool,
-}

@@ -1,7 +1,8 @@
 //! The kept requests by arrival.
 ghost use Rattle.std.specs.Iterator.{YieldsFirstRef, item_count};
 
-use crate::entry::{Entry, Slot};
+use crate::entry::Entry;
+use crate::slot::Slot;
 use std::iter::FusedIterator;
 use std::marker::Model;
 

@@ -10,6 +10,7 @@ mod in_order;
 mod outstanding;
 mod put_fault;
 mod seq;
+mod slot;
 
 #[cfg(test)]
 mod tests;

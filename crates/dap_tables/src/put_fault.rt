@@ -1,7 +1,8 @@
 //! Why a request is not kept.
 ghost use Rattle.std.specs.Prelude.{◌≡◌};
 
-use crate::entry::{Entry, Slot};
+use crate::entry::Entry;
+use crate::slot::Slot;
 use std::alloc::AllocFailed;
 
 /// Why a request is not kept. Each hands back the request.
