@@ -1,0 +1,74 @@
+-- Searches of a list whose elements are seen through a function.
+use Rattle.std.proofs.Common.{◌≡◌, ℕ, List, [], ◌∷◌, ◌++◌, Bool, true, false, not, Option, Some, None, map, filter, drop, take, refl, sym, ap, ◌∙◌, cond, suc, position, length, get_or, ◌<◌, ◌≤◌, IfSome}
+use Rattle.std.proofs.lemmas.List.Folds.{find_at}
+use Rattle.std.proofs.lemmas.Option.{slice_get_read, slice_get_past}
+use Rattle.std.proofs.lemmas.Bool.{ltb-false, ltb-true}
+use Rattle.std.specs.Prelude.{◌||◌, find, nat_lt, slice_get}
+use Rattle.std.specs.List.{list_any, position_or_len}
+use Rattle.std.specs.Option.{option_map, option_copied}
+use Rattle.std.specs.Prelude.{is_some}
+use denote.Ref.{Bor}
+
+pub or-false : (a b : Bool) → a ≡ false → b ≡ false → (a || b) ≡ false
+or-false true b h k = cc
+or-false false b h k = k
+
+pub or-left : (a b : Bool) → (a || b) ≡ false → a ≡ false
+or-left true b h = h
+or-left false b h = refl
+
+pub or-right : (a b : Bool) → (a || b) ≡ false → b ≡ false
+or-right true b h = cc
+or-right false b h = h
+
+module _ {X Y : Type 0} (f : X → Y) (p : Y → Bool) where
+  pub list_any-map : (xs : List X) → list_any p (map f xs) ≡ list_any (λ x. p (f x)) xs
+  list_any-map [] = refl
+  list_any-map (x ∷ xs) = ap (λ b. p (f x) || b) (list_any-map xs)
+
+  option_map-cond : (b : Bool) (x : X) (o : Option X) → cond b (Some (f x)) (option_map f o) ≡ option_map f (cond b (Some x) o)
+  option_map-cond true x o = refl
+  option_map-cond false x o = refl
+
+  pub find-map : (xs : List X) → find p (map f xs) ≡ option_map f (find (λ x. p (f x)) xs)
+  find-map [] = refl
+  find-map (x ∷ xs) = ap (λ o. cond (p (f x)) (Some (f x)) o) (find-map xs) ∙ option_map-cond (p (f x)) x (find (λ x. p (f x)) xs)
+
+pub map-map : {X Y Z : Type 0} (f : X → Y) (g : Y → Z) (xs : List X) → map g (map f xs) ≡ map (λ x. g (f x)) xs
+map-map f g [] = refl
+map-map f g (x ∷ xs) = ap (λ zs. g (f x) ∷ zs) (map-map f g xs)
+
+pub is_some-copied : {X : Type 0} (o : Option (Bor X)) → is_some (option_copied o) ≡ is_some o
+is_some-copied None = refl
+is_some-copied (Some x) = refl
+
+pub IfSome-copied : {X : Type 0} (P : X → Type 0) (o : Option (Bor X)) → IfSome (option_copied o) P → IfSome o (λ x. P x.now)
+IfSome-copied P None h = tt
+IfSome-copied P (Some x) h = h
+
+-- ---- what stands at the place that a search gives
+
+module _ {X : Type 0} (p : X → Bool) (xs : List X) where
+  found-cases : (b : Bool) (i : ℕ) (r : X) → nat_lt (position_or_len p xs) (length xs) ≡ b → cond b (Some (position_or_len p xs)) None ≡ Some i → r ≡ get_or xs i r → find p xs ≡ Some r
+  found-cases true i r h e read =
+      let same : position_or_len p xs ≡ i = cc in
+      let within : position_or_len p xs < length xs = ltb-true (position_or_len p xs) (length xs) h in
+      find_at p xs ∙ slice_get_read xs (length xs) (position_or_len p xs) r refl within (read ∙ ap (λ n. get_or xs n r) (sym same))
+  found-cases false i r h e read = cc
+
+  pub find_from_position : (i : ℕ) (r : X) → position p xs ≡ Some i → r ≡ get_or xs i r → find p xs ≡ Some r
+  find_from_position i r e read = found-cases (nat_lt (position_or_len p xs) (length xs)) i r refl e read
+
+  none-cases : (b : Bool) → nat_lt (position_or_len p xs) (length xs) ≡ b → cond b (Some (position_or_len p xs)) None ≡ None → find p xs ≡ None
+  none-cases true h e = cc
+  none-cases false h e = find_at p xs ∙ slice_get_past xs (position_or_len p xs) (ltb-false (position_or_len p xs) (length xs) h)
+
+  pub find_none : position p xs ≡ None → find p xs ≡ None
+  find_none e = none-cases (nat_lt (position_or_len p xs) (length xs)) refl e
+
+  same-place : (b : Bool) (i : ℕ) → cond b (Some (position_or_len p xs)) None ≡ Some i → i ≡ position_or_len p xs
+  same-place true i e = cc
+  same-place false i e = cc
+
+  pub place_is : (i : ℕ) → position p xs ≡ Some i → i ≡ position_or_len p xs
+  place_is i e = same-place (nat_lt (position_or_len p xs) (length xs)) i e

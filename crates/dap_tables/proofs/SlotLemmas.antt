@@ -1,0 +1,79 @@
+-- The stored requests and what a contract sees of them.
+use Rattle.std.proofs.Common.{◌≡◌, ◌≢◌, ℕ, ◌+◌, ◌<◌, ◌≤◌, List, [], ◌∷◌, ◌++◌, Bool, true, false, not, Option, Some, None, map, filter, length, take, drop, suc, refl, sym, ap, ◌∙◌, cond, arith, position, subst}
+use Rattle.std.specs.Prelude.{◌==◌, ◌||◌, ◌&&◌, if◌then◌else◌, find, slice_index_or, slice_get}
+use Rattle.std.specs.List.{list_any, position_or_len, remove}
+use Rattle.std.specs.Option.{option_map}
+use Rattle.std.proofs.Math.Numerals.{one-add}
+use Rattle.std.proofs.lemmas.List.{map-append}
+use Rattle.dap_tables.specs.declared.entry.Entry.{Entry}
+use Rattle.dap_tables.specs.declared.slot.Slot.{Slot}
+use Rattle.dap_tables.specs.Slot.{kept_of, table_of, slot_marked}
+use Rattle.dap_tables.specs.Outstanding.{Kept, KeptRequests, entries, contains_seq, entry_with, without, is_parked, with_mark, marked, unparked, oldest_unparked, HasDistinctSeqs, IsOrderly}
+use Rattle.dap_tables.proofs.Lists.{list_any-map, find-map, map-map}
+use Rattle.dap_tables.proofs.KeptLemmas.{eqb-self, eqb-other, without-absent, without-none, same-seq, finding, contains_from_is_parked, contains_from_oldest, unparked_from_oldest, IsOrderly-push, contains_seq-push, entry_with-push, without-push, IsOrderly-without, contains_seq-without}
+
+pub contains_seq-slots : (seq : ℕ) (slots : List Slot) → list_any (λ slot. slot.entry.seq == seq) slots ≡ contains_seq seq (map kept_of slots)
+contains_seq-slots seq slots = sym (list_any-map kept_of (λ (k : Kept). k.entry.seq == seq) slots)
+
+pub is_parked-slots : (seq : ℕ) (slots : List Slot) → list_any (λ slot. (slot.entry.seq == seq) && slot.parked) slots ≡ is_parked seq (map kept_of slots)
+is_parked-slots seq slots = sym (list_any-map kept_of (λ (k : Kept). (k.entry.seq == seq) && k.parked) slots)
+
+pub entries-slots : (slots : List Slot) → map (λ slot. slot.entry) slots ≡ entries (map kept_of slots)
+entries-slots slots = sym (map-map kept_of (λ (k : Kept). k.entry) slots)
+
+pub entry_with-slots : (seq : ℕ) (slots : List Slot) → entry_with seq (map kept_of slots) ≡ option_map (λ slot. slot.entry) (find (λ slot. slot.entry.seq == seq) slots)
+entry_with-slots seq [] = refl
+entry_with-slots seq (s ∷ slots) = first-cases (s.entry.seq == seq) s (find (λ (t : Slot). t.entry.seq == seq) slots) (entry_with seq (map kept_of slots)) (entry_with-slots seq slots)
+  where
+    first-cases : (b : Bool) (s : Slot) (o : Option Slot) (p : Option Entry) → p ≡ option_map (λ slot. slot.entry) o → cond b (Some s.entry) p ≡ option_map (λ slot. slot.entry) (cond b (Some s) o)
+    first-cases true s o p h = refl
+    first-cases false s o p h = h
+
+oldest-cases : (b : Bool) (s : Slot) (o : Option Slot) (p : Option Kept) → option_map (λ slot. slot.entry.seq) o ≡ option_map (λ k. k.entry.seq) p → option_map (λ slot. slot.entry.seq) (cond b (Some s) o) ≡ option_map (λ k. k.entry.seq) (cond b (Some (kept_of s)) p)
+oldest-cases true s o p h = refl
+oldest-cases false s o p h = h
+
+pub oldest_unparked-slots : (slots : List Slot) → option_map (λ slot. slot.entry.seq) (find (λ slot. not slot.parked) slots) ≡ oldest_unparked (map kept_of slots)
+oldest_unparked-slots [] = refl
+oldest_unparked-slots (s ∷ slots) = oldest-cases (not s.parked) s (find (λ (t : Slot). not t.parked) slots) (find (λ (k : Kept). not k.parked) (map kept_of slots)) (oldest_unparked-slots slots)
+
+-- ---- the stored requests without one
+
+remove-cases : (b : Bool) (n : ℕ) (s : Slot) (slots : List Slot) (kept : List Kept) → (b ≡ true → map kept_of slots ≡ kept) → map kept_of (remove slots n) ≡ kept → map kept_of (remove (s ∷ slots) (cond (not b) (1 + n) 0)) ≡ cond (not b) (kept_of s ∷ kept) kept
+remove-cases true n s slots kept f h = f refl
+remove-cases false n s slots kept f h = rw one-add (ap (λ (ks : List Kept). kept_of s ∷ ks) h)
+
+pub remove-slots : (seq : ℕ) (slots : List Slot) → HasDistinctSeqs (map kept_of slots) → map kept_of (remove slots (position_or_len (λ slot. slot.entry.seq == seq) slots)) ≡ without seq (map kept_of slots)
+remove-slots seq [] d = refl
+remove-slots seq (s ∷ slots) d =
+    remove-cases (s.entry.seq == seq) (position_or_len (λ (slot : Slot). slot.entry.seq == seq) slots) s slots (without seq (map kept_of slots))
+    (λ same. sym (without-absent seq (map kept_of slots) (subst (λ (n : ℕ). contains_seq n (map kept_of slots) ≡ false) (same-seq s.entry.seq seq same) d.0)))
+    (remove-slots seq slots d.1)
+
+kept_of-marked : (b mark : Bool) (s : Slot) → kept_of (if b then record s { parked = mark } else s) ≡ (if b then marked mark (kept_of s) else kept_of s)
+kept_of-marked true mark s = refl
+kept_of-marked false mark s = refl
+
+pub with_mark-slots : (seq : ℕ) (mark : Bool) (slots : List Slot) → map kept_of (map (slot_marked seq mark) slots) ≡ with_mark seq mark (map kept_of slots)
+with_mark-slots seq mark [] = refl
+with_mark-slots seq mark (s ∷ slots) = λ i. kept_of-marked (s.entry.seq == seq) mark s i ∷ with_mark-slots seq mark slots i
+
+pub slot_marked-hit : (seq : ℕ) (mark : Bool) (s : Slot) → s.entry.seq ≡ seq → slot_marked seq mark s ≡ record s { parked = mark }
+slot_marked-hit seq mark s h = rw (h, eqb-self seq) refl
+
+pub slot_marked-miss : (seq : ℕ) (mark : Bool) (s : Slot) → s.entry.seq ≢ seq → slot_marked seq mark s ≡ s
+slot_marked-miss seq mark s h = rw (eqb-other s.entry.seq seq h) refl
+
+-- ---- the invariant, from what a contract sees
+
+pub IsOrderly-shown : (room : ℕ) (slots : List Slot) (ks : List Kept) → map kept_of slots ≡ ks → IsOrderly (record { room = room; kept = ks }) → IsOrderly (table_of room slots)
+IsOrderly-shown room slots ks e o = subst (λ (x : List Kept). IsOrderly (record { room = room; kept = x })) (sym e) o
+
+pub put-slots : (slots : List Slot) (entry : Entry) (new : List Slot) → new ≡ slots ++ record { entry = entry; parked = false } ∷ [] → map kept_of new ≡ map kept_of slots ++ unparked entry ∷ []
+put-slots slots entry new e = ap (λ (x : List Slot). map kept_of x) e ∙ map-append kept_of slots (record { entry = entry; parked = false } ∷ [])
+
+
+pub ruleset slots = (entries-slots, oldest_unparked-slots)
+pub ruleset parking = (is_parked-slots, oldest_unparked-slots, contains_from_is_parked, contains_from_oldest, unparked_from_oldest)
+pub ruleset putting = (IsOrderly-push, contains_seq-push, entry_with-push, without-push)
+pub ruleset taking = (IsOrderly-without, contains_seq-without, without-none, finding)

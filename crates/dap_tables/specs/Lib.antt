@@ -1,0 +1,4 @@
+pub mod Outstanding
+pub mod PutFault
+pub mod Slot
+pub mod Seq

@@ -1,0 +1,22 @@
+-- An end's own sequence numbers.
+--
+-- The Specification page (`ProtocolMessage.seq`) has the first message of an end at 1 and each later one at one more.
+-- That there is a greatest number is this profile's choice.
+use Rattle.std.specs.Prelude.{ℕ, ◌+◌, ◌-◌, ◌≤◌, nat_lt, if◌then◌else◌, Option, Some, None}
+
+-- the greatest number, and how many were given
+pub record Numbers : Type 0 where
+  pub last : ℕ
+  pub used : ℕ
+
+-- the number that comes next, if one is left
+abbrev pub next_number : Numbers → Option ℕ
+next_number numbers = if nat_lt numbers.used numbers.last then Some (numbers.used + 1) else None
+
+-- the numbers after that one was given
+abbrev pub after_next : Numbers → Numbers
+after_next numbers = if nat_lt numbers.used numbers.last then record numbers { used = numbers.used + 1 } else numbers
+
+-- how many are left
+abbrev pub left : Numbers → ℕ
+left numbers = numbers.last - numbers.used

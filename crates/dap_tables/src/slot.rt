@@ -1,0 +1,70 @@
+//! How the table stores a request, and the walks over its store.
+ghost use Rattle.std.specs.Prelude.{◌≡◌, ◌==◌, ◌&&◌, not, if◌then◌else◌, map, find, position};
+ghost use Rattle.std.specs.List.{list_any};
+ghost use Rattle.std.specs.Option.{option_map, option_copied};
+ghost use Rattle.dap_tables.specs.Outstanding.{HasDistinctSeqs, entry_with, without};
+ghost use Rattle.dap_tables.specs.Slot.{kept_of, slot_marked};
+
+use crate::entry::Entry;
+
+/// A kept request, and whether its answer waits for another request.
+#[derive(Drop)]
+pub(crate) struct Slot {
+    pub(crate) entry: Entry,
+    pub(crate) parked: bool,
+}
+
+pub(crate) fn contains(slots: &[Slot], seq: u64) -> bool
+    ensures { result ≡ list_any (λ slot. slot.entry.seq == seq) slots.now }
+{
+    slots.iter().any(|slot| slot.entry.seq == seq)
+}
+
+pub(crate) fn is_parked(slots: &[Slot], seq: u64) -> bool
+    ensures { result ≡ list_any (λ slot. (slot.entry.seq == seq) && slot.parked) slots.now }
+{
+    slots.iter().any(|slot| slot.entry.seq == seq && slot.parked)
+}
+
+pub(crate) fn entry_with(slots: &[Slot], seq: u64) -> Option<&Entry>
+    ensures { option_copied result ≡ option_map (λ slot. slot.entry) (find (λ slot. slot.entry.seq == seq) slots.now) }
+{
+    slots
+        .iter()
+        .find(|slot| slot.entry.seq == seq)
+        .map(|slot| &slot.entry)
+}
+
+pub(crate) fn oldest_unparked(slots: &[Slot]) -> Option<u64>
+    ensures { result ≡ option_map (λ slot. slot.entry.seq) (find (λ slot. not slot.parked) slots.now) }
+{
+    slots
+        .iter()
+        .find(|slot| !slot.parked)
+        .map(|slot| slot.entry.seq)
+}
+
+fn place_of(slots: &[Slot], seq: u64) -> Option<usize>
+    ensures { result ≡ position (λ slot. slot.entry.seq == seq) slots.now }
+{
+    slots.iter().position(|slot| slot.entry.seq == seq)
+}
+
+pub(crate) fn take(slots: &mut Vec<Slot>, seq: u64) -> Option<Entry>
+    requires { HasDistinctSeqs (map kept_of slots.old.items) }
+    ensures entry { result ≡ entry_with seq (map kept_of slots.old.items) }
+    ensures others { map kept_of slots.new.items ≡ without seq (map kept_of slots.old.items) }
+{
+    let place = place_of(slots, seq)?;
+    Some(slots.remove(place).entry)
+}
+
+pub(crate) fn set_mark(slots: &mut [Slot], seq: u64, parked: bool)
+    ensures { slots.new ≡ map (slot_marked seq parked) slots.old }
+{
+    for slot in slots.iter_mut() {
+        if slot.entry.seq == seq {
+            slot.parked = parked;
+        }
+    }
+}
