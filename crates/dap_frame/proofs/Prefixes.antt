@@ -11,7 +11,7 @@ use Rattle.dap_frame.specs.declared.limits.Bounds.{Bounds}
 use Rattle.dap_frame.specs.Header.{blank_line}
 use Rattle.dap_frame.specs.Stream.{Frame, NoFrame}
 use Rattle.dap_frame.specs.Verdict.{block_end, judged, verdict, IsUnrefused}
-use Rattle.dap_frame.specs.Intake.{Announces}
+use Rattle.dap_frame.specs.Stage.{Announces}
 use Rattle.dap_frame.proofs.Grammar.{end_block}
 use Rattle.dap_frame.proofs.Blocks.{end_is}
 use Rattle.dap_frame.proofs.Streams.{frame_end, frame_judged, no_frame_open, no_frame_part}

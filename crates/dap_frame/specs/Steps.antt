@@ -8,7 +8,7 @@ use Rattle.dap_frame.specs.declared.stage.Stage.{Stage}
 use Rattle.dap_frame.specs.declared.stage.Stage.TheVariants.{Header, Body, Ready, Closed}
 use Rattle.dap_frame.specs.Stream.{Frame, FramesThen}
 use Rattle.dap_frame.specs.Verdict.{block_end}
-use Rattle.dap_frame.specs.Intake.{IsOpen, Announces, Stands}
+use Rattle.dap_frame.specs.Stage.{IsOpen, Announces, Stands}
 
 -- how far a header block has come, where `left` bytes of the piece were not taken
 abbrev pub EndsAs : ℕ → List ℕ → ℕ → HeaderEnd → Type 0

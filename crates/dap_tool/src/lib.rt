@@ -6,8 +6,8 @@
 
 mod answerer;
 mod fault;
-mod first_serve;
 mod sending;
+mod serving;
 
 pub use fault::{FirstFault, ToolFault, fault_line, status};
-pub use first_serve::first_serve;
+pub use serving::first_serve;
