@@ -1,5 +1,5 @@
 -- What is written for what is read, whatever pieces the reader gives.
-use Rattle.std.specs.Prelude.{◌≡◌, ℕ, ◌≤◌, List, [], ◌∷◌, ◌++◌, length, take, Option, Result, Ok, Err}
+use Rattle.std.specs.Prelude.{◌≡◌, ℕ, ◌+◌, ◌≤◌, List, [], ◌∷◌, ◌++◌, length, take, Option, Result, Ok, Err}
 use Rattle.std.specs.Io.KnownBytes.{Appends, Consumes, IsAtEnd}
 use Rattle.dap_frame.specs.declared.Cause.TheVariants.{Refused}
 use Rattle.dap_frame.specs.declared.Refusal.{Refusal}
@@ -7,9 +7,9 @@ use Rattle.dap_frame.specs.declared.frames.End.{End}
 use Rattle.dap_frame.specs.declared.frames.End.TheVariants.{Clean, Truncated, Refused as Closed}
 use Rattle.dap_frame.specs.declared.frames.FrameFault.{FrameFault}
 use Rattle.dap_frame.specs.Settings.{Settings, bounds_of}
-use Rattle.dap_frame.specs.Stream.{Frame, Split}
+use Rattle.dap_frame.specs.Stream.{Split}
 use Rattle.dap_frame.specs.Verdict.{verdict, Part, Refused as Refuses, IsUnrefused}
-use Rattle.dap_frame.specs.Intake.{StartsAt, counted}
+use Rattle.dap_frame.specs.Intake.{StartsAt, LastStartsAt, counted}
 use Rattle.dap_message.specs.Meaning.{Msg}
 use Rattle.dap_message.specs.Refusals.{Bad}
 use Rattle.dap_message.specs.declared.fault.BodyRefusal.{BodyRefusal}
@@ -42,7 +42,7 @@ pub record FrameRefused (limits : Settings) (w w' : Option (List ℕ)) (s : List
   pub refusal : Refusal
   pub cause : fault.cause ≡ Refused refusal
   pub verdict_is : verdict (bounds_of limits) rest ≡ Refuses refusal (length rest)
-  pub offset : StartsAt fault.offset s rest
+  pub offset : StartsAt (bounds_of limits) fault.offset s bodies rest
 
 -- the same, and then one frame, whose body is no message
 pub record BodyRefused (limits : Settings) (w w' : Option (List ℕ)) (s : List ℕ) (cause : BodyRefusal) (offset : ℕ) : Type 0 where
@@ -52,9 +52,7 @@ pub record BodyRefused (limits : Settings) (w w' : Option (List ℕ)) (s : List 
   pub split : Split (bounds_of limits) s (bodies ++ body ∷ []) []
   pub answered : Answered limits w w' bodies messages
   pub bad : Bad body cause
-  pub frame : List ℕ
-  pub frame_is : Frame (bounds_of limits) frame body
-  pub starts : StartsAt offset s frame
+  pub starts : LastStartsAt (bounds_of limits) offset s (bodies ++ body ∷ []) body
 
 -- the same, and then a request, for whose answer no seq is left
 pub record Exhausted (limits : Settings) (w w' : Option (List ℕ)) (s : List ℕ) : Type 0 where

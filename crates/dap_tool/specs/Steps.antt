@@ -1,5 +1,7 @@
 -- Words for the steps that serving is made of.
 use Rattle.std.specs.Prelude.{◌≡◌, ℕ, ◌+◌, ◌<◌, ◌≤◌, List, [], ◌∷◌, ◌++◌, length, take, Option}
+use Rattle.dap_frame.specs.declared.Cause.{Cause}
+use Rattle.dap_frame.specs.declared.Cause.TheVariants.{Refused, OutOfMemory as NoMemory}
 use Rattle.dap_frame.specs.declared.frames.FrameFault.{FrameFault}
 use Rattle.dap_frame.specs.Settings.{Settings, bounds_of}
 use Rattle.dap_frame.specs.Intake.{Intake, StandsFor, counted}
@@ -43,6 +45,16 @@ LeavesUnanswered answerer m SeqExhausted = (length (answer_to (answerer.seq.last
 LeavesUnanswered answerer m TooManyReads = ⊥
 LeavesUnanswered answerer m OutOfMemory = Unit {0}
 
+-- why a request is not answered
+abbrev pub LeavesRequest : Answerer → FirstFault → Type 0
+LeavesRequest answerer Read = ⊥
+LeavesRequest answerer (Write n) = ⊥
+LeavesRequest answerer (Frame fault) = ⊥
+LeavesRequest answerer (Body cause offset) = ⊥
+LeavesRequest answerer SeqExhausted = answerer.seq.used ≡ answerer.seq.last
+LeavesRequest answerer TooManyReads = ⊥
+LeavesRequest answerer OutOfMemory = Unit {0}
+
 -- why a ready body is not read
 abbrev pub LeavesUnread : Intake → FirstFault → Type 0
 LeavesUnread i Read = ⊥
@@ -52,6 +64,14 @@ LeavesUnread i (Body cause offset) = Bad i.held cause × (offset ≡ i.start)
 LeavesUnread i SeqExhausted = ⊥
 LeavesUnread i TooManyReads = ⊥
 LeavesUnread i OutOfMemory = Unit {0}
+
+-- the fault of a closed reader
+abbrev pub fault_of_cause : Cause → FrameFault → FirstFault
+fault_of_cause (Refused refusal) fault = Frame fault
+fault_of_cause NoMemory fault = OutOfMemory
+
+abbrev pub fault_of_frame : FrameFault → FirstFault
+fault_of_frame fault = fault_of_cause fault.cause fault
 
 -- the requests among the messages so far were answered
 pub record HasAnswered (limits : Settings) (answerer : Answerer) (w w' : Option (List ℕ)) (n : ℕ) (xs : List (List ℕ)) (ms : List Message) : Type 0 where
@@ -77,8 +97,19 @@ pub record Completed (limits : Settings) (frames : Intake) (answerer : Answerer)
   pub stands : StandsFor frames s (bodies ++ frames.held ∷ []) []
   pub has_answered : HasAnswered limits answerer w w' n bodies messages
 
+-- a fault that comes while a piece is served
+abbrev pub IsWithinPiece : FirstFault → Type 0
+IsWithinPiece Read = ⊥
+IsWithinPiece (Write n) = Unit {0}
+IsWithinPiece (Frame fault) = Unit {0}
+IsWithinPiece (Body cause offset) = Unit {0}
+IsWithinPiece SeqExhausted = Unit {0}
+IsWithinPiece TooManyReads = ⊥
+IsWithinPiece OutOfMemory = Unit {0}
+
 -- serving stopped within a piece
 pub record StopsIn (limits : Settings) (w w' : Option (List ℕ)) (s piece : List ℕ) (fault : FirstFault) : Type 0 where
+  pub fault_is : IsWithinPiece fault
   pub n : ℕ
   pub within : n ≤ length piece
   pub stops : Stops limits w w' (s ++ take n piece) fault

@@ -1,12 +1,12 @@
 //! Answers to messages, each at once.
 
-ghost use Rattle.std.specs.Prelude.{◌≡◌, ◌+◌, [], length, IfOk, IfErr, OnOk, IsTrue};
+ghost use Rattle.std.specs.Prelude.{◌≡◌, ◌+◌, ◌≤◌, [], length, IfOk, IfErr, OnOk, IsTrue};
 ghost use Rattle.dap_frame.specs.Settings.{Settings};
 ghost use Rattle.dap_frame.specs.Written.{frame_of};
 ghost use Rattle.dap_message.specs.Canon.{canon};
 ghost use Rattle.dap_message.specs.Plain.{is_plain};
 ghost use Rattle.dap_tool.specs.Answers.{capabilities_body, unsupported_body, response_to, answer_to, written};
-ghost use Rattle.dap_tool.specs.Steps.{IsIdle, IsAnswerable, LeavesUnanswered};
+ghost use Rattle.dap_tool.specs.Steps.{IsIdle, IsAnswerable, LeavesUnanswered, LeavesRequest};
 
 use crate::fault::FirstFault;
 use dap_frame::{Limits, write_frame};
@@ -111,10 +111,11 @@ impl Answerer {
         ensures frames { IfOk result (λ frames. frames.items ≡ written (answer_to (self.old.seq.used + 1) message)) }
         ensures fault { IfErr result (LeavesUnanswered self.old message) }
     {
-        match message.kind {
+        let Message { seq, kind } = message;
+        match kind {
             Kind::Request { command, arguments } => {
                 let request = Entry {
-                    seq: message.seq,
+                    seq,
                     command,
                     arguments,
                 };
@@ -124,7 +125,16 @@ impl Answerer {
         }
     }
 
+    /// Keeps a request, answers it and takes it out.
     fn answer_request(&mut self, alloc: Global, request: Entry) -> Result<Vec<u8>, FirstFault>
+        requires idle { IsIdle self.old }
+        requires seq { request.seq ≤ 9007199254740991 }
+        requires command { length request.command ≤ 64 }
+        ensures idle { OnOk result (IsIdle self.new) }
+        ensures last { self.new.seq.last ≡ self.old.seq.last }
+        ensures used { OnOk result (self.new.seq.used ≡ self.old.seq.used + 1) }
+        ensures frame { IfOk result (λ frame. frame.items ≡ frame_of (canon (response_to (self.old.seq.used + 1) request.seq request.command))) }
+        ensures fault { IfErr result (LeavesRequest self.old) }
     {
         let seq = request.seq;
         match self.outstanding.put(request) {
@@ -138,7 +148,8 @@ impl Answerer {
         let Some(request) = self.outstanding.take(seq) else {
             unreachable!()
         };
-        let message = response(alloc, own, request).map_err(|_| FirstFault::OutOfMemory)?;
-        framed(alloc, &message).map_err(|_| FirstFault::OutOfMemory)
+        let message = response(alloc, own, request)?;
+        let frame = framed(alloc, &message)?;
+        Ok(frame)
     }
 }

@@ -34,6 +34,16 @@ pub enum FirstFault {
     OutOfMemory,
 }
 
+impl From<AllocError> for FirstFault {
+    ghost use Rattle.dap_tool.specs.declared.fault.FirstFault.TheVariants.{OutOfMemory};
+
+    ghost from_gives = { λ _ fault. fault ≡ OutOfMemory };
+
+    fn from(_refused: AllocError) -> FirstFault {
+        FirstFault::OutOfMemory
+    }
+}
+
 /// Why a tool stops.
 #[derive(Clone, Copy, Debug, PartialEq, Eq, Error)]
 pub enum ToolFault {

@@ -5,12 +5,12 @@ ghost use Rattle.dap_frame.specs.Intake.{IsReady, IsUnderWay};
 ghost use Rattle.dap_frame.specs.Settings.{Settings};
 ghost use Rattle.dap_message.specs.Meaning.{Msg};
 ghost use Rattle.dap_tool.specs.FirstServe.{Serves, Stops};
-ghost use Rattle.dap_tool.specs.Steps.{IsIdle, LeavesUnread, Reached, Completed, StopsIn};
+ghost use Rattle.dap_tool.specs.Steps.{IsIdle, LeavesUnread, Reached, Completed, StopsIn, IsWithinPiece, fault_of_frame};
 
 use crate::answerer::Answerer;
 use crate::fault::FirstFault;
 use crate::sending::send;
-use dap_frame::{Cause, End, FrameFault, Frames, Limits};
+use dap_frame::{Cause, End, FrameFault, Frames, Limits, each_stream_has_one_split};
 use dap_message::{BodyFault, Message, read_message};
 use std::alloc::Global;
 use std::io::{Read, Write};
@@ -47,15 +47,13 @@ fn answer_body<W: Write>(
     ensures idle { OnOk result (IsIdle answerer.new) }
     ensures ok { IfOk result (λ n. (limits : Settings) (w : Option (List ℕ)) (s : List ℕ) → Completed limits frames.old answerer.old w (W.contents writer.old) written s
         → Reached limits frames.new answerer.new w (W.contents writer.new) n s) }
+    ensures within_piece { IfErr result IsWithinPiece }
     ensures err { IfErr result (λ fault. (limits : Settings) (w : Option (List ℕ)) (s : List ℕ) → Completed limits frames.old answerer.old w (W.contents writer.old) written s
         → Stops limits w (W.contents writer.new) s fault) }
 {
     let message = read_body(alloc, frames)?;
     frames.release();
     let answer = answerer.answer(alloc, message)?;
-    if answer.is_empty() {
-        return Ok(written);
-    }
     match send(writer, &answer, written) {
         Ok(total) => Ok(total),
         Err(written) => Err(FirstFault::Write { written }),
@@ -64,6 +62,7 @@ fn answer_body<W: Write>(
 
 /// The fault of a closed reader.
 fn frame_fault(fault: FrameFault) -> FirstFault
+    ensures { result ≡ fault_of_frame fault }
 {
     match fault.cause {
         Cause::Refused(_) => FirstFault::Frame(fault),
@@ -120,6 +119,8 @@ pub fn first_serve<R: Read, W: Write>(
 ) -> Result<End, FirstFault>
     ensures { Serves limits max_reads (R.remaining reader.old) (R.remaining reader.new) (W.contents writer.old) (W.contents writer.new) result }
 {
+    // A law for the proof: also where memory is refused at once, no bytes are a stream with one split.
+    each_stream_has_one_split();
     let Ok(mut frames) = Frames::open(alloc, &limits) else {
         return Err(FirstFault::OutOfMemory);
     };
@@ -128,7 +129,7 @@ pub fn first_serve<R: Read, W: Write>(
     };
     let mut written = 0;
     let mut buffer = [0; 4096];
-    for _ in 0..max_reads {
+    for _read in 0..max_reads {
         let Ok(n) = reader.read(&mut buffer) else {
             return Err(FirstFault::Read);
         };
