@@ -3,3 +3,4 @@ pub mod MeaningLemmas
 pub mod RefusalLemmas
 pub mod Told
 pub mod SoundTree
+pub mod Examples

@@ -16,3 +16,6 @@ pub use laws::{each_body_is_one, written_is_read_again};
 pub use message::{Kind, MAX_COMMAND, Message};
 pub use reading::read_message;
 pub use writing::write_message;
+
+#[cfg(test)]
+mod tests;

@@ -1,0 +1,69 @@
+-- Worked examples, each shown by computation.
+use Rattle.std.proofs.Common.{◌≡◌, [], ◌∷◌, codes, true, false, Some, None, refl}
+use Rattle.std.specs.Fmt.{digits}
+use Rattle.std.specs.Str.{is_utf8, chars}
+use Rattle.json.specs.Print.{escape_byte}
+use Rattle.serde_json.specs.Data.{Data, null, boolean, string, array, object, no_items, item, no_members, member, put}
+use Rattle.serde_json.specs.Written.{compact_text}
+use Rattle.serde_json.proofs.OnLiterals.{serde_json_on_literals}
+use Rattle.dap_json.specs.Field.{whole_at, text_at, bool_at, tree_at}
+use Rattle.dap_json.specs.Put.{put_if, whole}
+use Rattle.dap_json.specs.Read.{json_of}
+use Rattle.dap_json.specs.Writable.{is_writable, is_plain_tree}
+
+-- ---- from bytes
+
+reads_an_object : json_of (codes " {\"b\":1,\"a\":\"x\"} ") ≡ Some (object (member (codes "a") (string (codes "x")) (member (codes "b") (whole 1) no_members)))
+unfolding json_of is_utf8 chars serde_json_on_literals
+reads_an_object = refl
+
+last_of_equal_keys : json_of (codes "{\"a\":1,\"a\":2}") ≡ Some (object (member (codes "a") (whole 2) no_members))
+unfolding json_of is_utf8 chars serde_json_on_literals
+last_of_equal_keys = refl
+
+-- a string of the byte 255
+no_utf8 : json_of (34 ∷ 255 ∷ 34 ∷ []) ≡ None
+unfolding json_of is_utf8 chars serde_json_on_literals
+no_utf8 = refl
+
+half_an_object : json_of (codes "{\"a\":") ≡ None
+unfolding json_of is_utf8 chars serde_json_on_literals
+half_an_object = refl
+
+-- ---- members
+
+abbrev numbers : Data
+numbers = object (put (codes "great") (whole 9007199254740992) (put (codes "seq") (whole 9007199254740991) (put (codes "none") null no_members)))
+
+greatest_seq : whole_at (codes "seq") numbers ≡ Some 9007199254740991
+greatest_seq = refl
+
+past_the_greatest : whole_at (codes "great") numbers ≡ None
+past_the_greatest = refl
+
+a_number_is_no_text : text_at (codes "seq") numbers ≡ None
+a_number_is_no_text = refl
+
+null_is_absent : tree_at (codes "none") numbers ≡ None
+null_is_absent = refl
+
+an_array_has_no_keys : bool_at (codes "a") (array (item (boolean true) no_items)) ≡ None
+an_array_has_no_keys = refl
+
+-- ---- building and writing
+
+keys_in_byte_order : put (codes "a") null (put (codes "B") null no_members) ≡ member (codes "B") null (member (codes "a") null no_members)
+keys_in_byte_order = refl
+
+nothing_is_put : put_if (codes "a") None no_members ≡ no_members
+nothing_is_put = refl
+
+as_text : compact_text (object (member (codes "a") (array (item null (item (whole 7) no_items))) (member (codes "b") (string (codes "x\"y")) no_members))) ≡ codes "{\"a\":[null,7],\"b\":\"x\\\"y\"}"
+unfolding escape_byte digits
+as_text = refl
+
+two_deep : is_writable 1 (array (item (object no_members) no_items)) ≡ false
+two_deep = refl
+
+null_is_no_tree : is_plain_tree (Some null) ≡ false
+null_is_no_tree = refl
