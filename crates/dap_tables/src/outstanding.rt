@@ -12,7 +12,7 @@ use std::alloc::{AllocError, Global};
 use std::marker::Model;
 
 /// The requests that an end keeps until it has answered them, by arrival.
-#[derive(Drop)]
+#[derive(Debug, Drop)]
 pub struct Outstanding {
     slots: Vec<Slot>,
     room: usize,
@@ -57,6 +57,8 @@ impl Outstanding {
         ensures handed_back { IfErr result (λ fault. refused_entry fault ≡ entry) }
         ensures repeated { (result ≡ Err (PutFault.Repeated entry)) ↔ IsTrue (contains_seq entry.seq self.old.kept) }
         ensures full { (result ≡ Err (PutFault.Full entry)) ↔ IsRefusedForRoom entry.seq self.old }
+
+        ensures new { OnOk result (contains_seq entry.seq self.old.kept ≡ false) }
 
         // The request is found again by its seq, and taking it out gives back what was kept before.
         ensures found { OnOk result (entry_with entry.seq self.new.kept ≡ Some entry) }

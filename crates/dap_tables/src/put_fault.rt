@@ -6,7 +6,7 @@ use crate::slot::Slot;
 use std::alloc::AllocFailed;
 
 /// Why a request is not kept. Each hands back the request.
-#[derive(Drop)]
+#[derive(Debug, Drop)]
 pub enum PutFault {
     /// A request with its seq is kept already.
     Repeated(Entry),

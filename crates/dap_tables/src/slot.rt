@@ -8,7 +8,7 @@ ghost use Rattle.dap_tables.specs.Slot.{kept_of, slot_marked};
 use crate::entry::Entry;
 
 /// A kept request, and whether its answer waits for another request.
-#[derive(Drop)]
+#[derive(Debug, Drop)]
 pub(crate) struct Slot {
     pub(crate) entry: Entry,
     pub(crate) parked: bool,
