@@ -1,8 +1,8 @@
 -- Small tables and numbers, worked out.
-use Rattle.std.proofs.Common.{◌≡◌, ℕ, List, [], ◌∷◌, ◌++◌, Bool, true, false, Some, None, refl, lit≤, arith}
+use Rattle.std.proofs.Common.{◌≡◌, ℕ, List, [], ◌∷◌, ◌++◌, true, false, Some, None, refl, lit≤}
 use Rattle.std.specs.Prelude.{codes}
 use Rattle.dap_tables.specs.declared.entry.Entry.{Entry}
-use Rattle.dap_tables.specs.Outstanding.{Kept, KeptRequests, unparked, marked, entries, contains_seq, entry_with, without, is_parked, with_mark, oldest_unparked, HasDistinctSeqs, IsOrderly, IsRefusedForRoom}
+use Rattle.dap_tables.specs.Outstanding.{Kept, unparked, entries, contains_seq, entry_with, without, is_parked, with_mark, oldest_unparked, HasDistinctSeqs, IsOrderly, IsRefusedForRoom}
 use Rattle.dap_tables.specs.Seq.{Numbers, next_number, after_next, left, answers}
 
 abbrev request : ℕ → Entry

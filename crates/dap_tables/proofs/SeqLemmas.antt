@@ -1,9 +1,9 @@
 -- What the calls give, one after the other.
-use Rattle.std.proofs.Common.{◌≡◌, ℕ, zero, suc, ◌+◌, List, [], ◌∷◌, ◌++◌, Option, Some, None, map, replicate, refl, ap, ◌∙◌, arith, cond, subst}
+use Rattle.std.proofs.Common.{◌≡◌, ℕ, zero, suc, ◌+◌, List, ◌∷◌, ◌++◌, Option, Some, None, map, replicate, refl, ap, arith, subst}
 use Rattle.std.specs.Prelude.{nat_lt, true, false}
 use Rattle.std.specs.List.{range_with_len}
 use Rattle.std.proofs.lemmas.Bool.Decides.{nat_tests}
-use Rattle.dap_tables.specs.Seq.{Numbers, next_number, after_next, answers, CountsTo}
+use Rattle.dap_tables.specs.Seq.{answers, CountsTo}
 
 done : (used : ℕ) → nat_lt used used ≡ false
 done used = grind (arith, nat_tests)

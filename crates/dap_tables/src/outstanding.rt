@@ -182,9 +182,7 @@ impl Outstanding {
         ensures entries { result ≡ entries self.now.kept }
         ensures orderly { IsOrderly self.now }
     {
-        InOrder {
-            slots: &self.slots,
-        }
+        InOrder { slots: &self.slots }
     }
 
     fn set_mark(&mut self, seq: u64, parked: bool)

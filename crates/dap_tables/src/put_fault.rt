@@ -24,7 +24,8 @@ impl PutFault {
         ensures { result ≡ refused_entry self }
     {
         match self {
-            PutFault::Repeated(entry) | PutFault::Full(entry) | PutFault::OutOfMemory(entry) => entry,
+            PutFault::Repeated(entry) | PutFault::Full(entry) | PutFault::OutOfMemory(entry) =>
+                entry,
         }
     }
 }

@@ -23,7 +23,9 @@ pub(crate) fn contains(slots: &[Slot], seq: u64) -> bool
 pub(crate) fn is_parked(slots: &[Slot], seq: u64) -> bool
     ensures { result ≡ list_any (λ slot. (slot.entry.seq == seq) && slot.parked) slots.now }
 {
-    slots.iter().any(|slot| slot.entry.seq == seq && slot.parked)
+    slots
+        .iter()
+        .any(|slot| slot.entry.seq == seq && slot.parked)
 }
 
 pub(crate) fn entry_with(slots: &[Slot], seq: u64) -> Option<&Entry>

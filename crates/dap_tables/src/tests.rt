@@ -16,7 +16,11 @@ fn request(alloc: Global, seq: u64) -> Result<Entry, AllocError> {
 }
 
 // The answer to a put, and the seq of the request that it hands back.
-fn put(alloc: Global, table: &mut Outstanding, seq: u64) -> Result<(&'static str, u64), AllocError> {
+fn put(
+    alloc: Global,
+    table: &mut Outstanding,
+    seq: u64,
+) -> Result<(&'static str, u64), AllocError> {
     Ok(match table.put(request(alloc, seq)?) {
         Ok(()) => ("kept", 0),
         Err(PutFault::Repeated(entry)) => ("Repeated", entry.seq),
@@ -36,7 +40,12 @@ fn seqs(alloc: Global, table: &Outstanding) -> Result<Vec<u64>, AllocError>
 fn two_requests(rt: HostRuntime) -> Result<(), Fail> {
     let mut table = Outstanding::open(rt.alloc(), 2)?;
     assert!(rt; table.is_empty() && !table.is_full());
-    for (seq, answer) in [(5, ("kept", 0)), (9, ("kept", 0)), (9, ("Repeated", 9)), (7, ("Full", 7))] {
+    for (seq, answer) in [
+        (5, ("kept", 0)),
+        (9, ("kept", 0)),
+        (9, ("Repeated", 9)),
+        (7, ("Full", 7)),
+    ] {
         assert_eq!(rt; put(rt.alloc(), &mut table, seq)?, answer, "at {seq}");
     }
     assert!(rt; table.is_full() && !table.is_empty());
@@ -72,7 +81,10 @@ fn keeps_the_order(rt: HostRuntime) -> Result<(), Fail> {
     assert_eq!(rt; table.len(), 2);
     assert_eq!(rt; put(rt.alloc(), &mut table, 4)?.0, "kept");
     assert_eq!(rt; seqs(rt.alloc(), &table)?.as_slice(), [1, 3, 4].as_slice());
-    assert_eq!(rt; table.get(3).map(|entry| entry.command.as_str()), Some("threads"));
+    assert_eq!(rt;
+        table.get(3).map(|entry| entry.command.as_str()),
+        Some("threads")
+    );
     assert!(rt; table.get(4).is_some_and(|entry| entry.arguments.is_some()));
     assert!(rt; table.get(2).is_none());
 
@@ -84,7 +96,13 @@ fn keeps_the_order(rt: HostRuntime) -> Result<(), Fail> {
 #[test]
 fn numbers_up_to_three(rt: HostRuntime) {
     let mut numbers = Seq::open(3);
-    for (left, number) in [(3, Some(1)), (2, Some(2)), (1, Some(3)), (0, None), (0, None)] {
+    for (left, number) in [
+        (3, Some(1)),
+        (2, Some(2)),
+        (1, Some(3)),
+        (0, None),
+        (0, None),
+    ] {
         assert_eq!(rt; numbers.left(), left);
         assert_eq!(rt; numbers.next(), number);
     }
