@@ -43,10 +43,6 @@ pub contains_seq-push : (ks : List Kept) (k : Kept) → contains_seq k.entry.seq
 contains_seq-push ks k =
     list_any-append (λ (q : Kept). q.entry.seq == k.entry.seq) ks (k ∷ []) ∙ or-true (contains_seq k.entry.seq ks) ((k.entry.seq == k.entry.seq) || false) (rw (eqb-self k.entry.seq))
 
-cond-first : (a b : Bool) (k : Kept) (ks : List Kept) → a ≡ false → ks ≡ [] → cond a (k ∷ ks) ks ≡ []
-cond-first true b k ks h e = cc
-cond-first false b k ks h e = e
-
 -- what isn't kept stays out
 pub without-absent : (seq : ℕ) (ks : List Kept) → contains_seq seq ks ≡ false → without seq ks ≡ ks
 without-absent seq [] h = refl

@@ -1,5 +1,5 @@
 //! The numbers that an end gives its own messages.
-ghost use Rattle.std.specs.Prelude.{◌≡◌, ◌≤◌, ◌+◌, ◌↔◌, IsNone, IfSome, IfNone, OnSome};
+ghost use Rattle.std.specs.Prelude.{◌≡◌, ◌≤◌, ◌↔◌, IsNone};
 ghost use Rattle.dap_tables.specs.Seq.{next_number, after_next, left, CountsTo};
 
 use std::marker::Model;
