@@ -1,15 +1,14 @@
 -- What is true of lists of requests in which no number comes twice.
-use Rattle.std.proofs.Common.{◌≡◌, ℕ, ◌+◌, ◌≤◌, ◌<◌, List, [], ◌∷◌, ◌++◌, Bool, true, false, not, Option, Some, None, map, filter, length, refl, sym, ap, ◌∙◌, arith, subst, length-append, IsTrue, IsSome, IfSome, IfNone, cond, ◌↔◌}
+use Rattle.std.proofs.Common.{◌≡◌, ℕ, ◌+◌, ◌≤◌, ◌<◌, List, [], ◌∷◌, ◌++◌, Bool, true, false, not, Option, Some, None, filter, length, refl, sym, ap, ◌∙◌, arith, subst, length-append, IsTrue, IsSome, IfSome, IfNone, cond}
 use Rattle.std.specs.Prelude.{◌==◌, ◌||◌, ◌&&◌, ◌≢◌, find, if◌then◌else◌}
-use Rattle.std.specs.List.{list_any}
 use Rattle.std.specs.Option.{option_map}
 use Rattle.std.proofs.lemmas.List.{append-nil, length-map}
 use Rattle.std.proofs.lemmas.List.Elements.{filter-append}
-use Rattle.std.proofs.lemmas.List.Folds.{list_any-append, find-append}
+use Rattle.std.proofs.lemmas.List.Folds.{list_any-append}
 use Rattle.std.proofs.lemmas.Bool.Decides.{nat_tests}
 use Rattle.dap_tables.specs.declared.entry.Entry.{Entry}
-use Rattle.dap_tables.specs.Outstanding.{Kept, KeptRequests, unparked, marked, entries, contains_seq, entry_with, without, is_parked, with_mark, oldest_unparked, HasDistinctSeqs, IsOrderly}
-use Rattle.dap_tables.proofs.Lists.{or-false, or-left, or-right, find-map, map-map}
+use Rattle.dap_tables.specs.Outstanding.{Kept, marked, entries, contains_seq, entry_with, without, is_parked, with_mark, oldest_unparked, HasDistinctSeqs, IsOrderly}
+use Rattle.dap_tables.proofs.Lists.{or-false, or-left, or-right}
 
 pub eqb-flip : (a b : ℕ) → (a == b) ≡ (b == a)
 eqb-flip a b = grind (arith, nat_tests)
@@ -30,7 +29,7 @@ HasDistinctSeqs-push [] k d h = (refl, tt)
 HasDistinctSeqs-push (x ∷ ks) k d h =
     let apart : (k.entry.seq == x.entry.seq) ≡ false = eqb-flip k.entry.seq x.entry.seq ∙ or-left (x.entry.seq == k.entry.seq) (contains_seq k.entry.seq ks) h in
     let one : contains_seq x.entry.seq (ks ++ k ∷ []) ≡ false =
-        list_any-append (λ (q : Kept). q.entry.seq == x.entry.seq) ks (k ∷ []) ∙ or-false (contains_seq x.entry.seq ks) ((k.entry.seq == x.entry.seq) || false) d.0 (or-false (k.entry.seq == x.entry.seq) false apart refl) in
+    list_any-append (λ (q : Kept). q.entry.seq == x.entry.seq) ks (k ∷ []) ∙ or-false (contains_seq x.entry.seq ks) ((k.entry.seq == x.entry.seq) || false) d.0 (or-false (k.entry.seq == x.entry.seq) false apart refl) in
     (one, HasDistinctSeqs-push ks k d.1 (or-right (x.entry.seq == k.entry.seq) (contains_seq k.entry.seq ks) h))
 
 pub IsOrderly-push : (room : ℕ) (ks : List Kept) (k : Kept) → IsOrderly (record { room = room; kept = ks }) → contains_seq k.entry.seq ks ≡ false → length ks < room → IsOrderly (record { room = room; kept = ks ++ k ∷ [] })
@@ -43,10 +42,6 @@ or-true false b h = h
 pub contains_seq-push : (ks : List Kept) (k : Kept) → contains_seq k.entry.seq (ks ++ k ∷ []) ≡ true
 contains_seq-push ks k =
     list_any-append (λ (q : Kept). q.entry.seq == k.entry.seq) ks (k ∷ []) ∙ or-true (contains_seq k.entry.seq ks) ((k.entry.seq == k.entry.seq) || false) (rw (eqb-self k.entry.seq))
-
-cond-first : (a b : Bool) (k : Kept) (ks : List Kept) → a ≡ false → ks ≡ [] → cond a (k ∷ ks) ks ≡ []
-cond-first true b k ks h e = cc
-cond-first false b k ks h e = e
 
 -- what isn't kept stays out
 pub without-absent : (seq : ℕ) (ks : List Kept) → contains_seq seq ks ≡ false → without seq ks ≡ ks
@@ -255,4 +250,5 @@ is_parked-unpark seq ks = all-marked seq false ks ∙ none (contains_seq seq ks)
     none false = refl
 
 pub ruleset finding = (contains_from_entry_with, entry_with_from_contains, entry_with-seq)
+
 pub ruleset marking = (entries-with_mark, is_parked-park, is_parked-unpark)

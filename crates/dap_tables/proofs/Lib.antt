@@ -1,3 +1,5 @@
 pub mod Lists
 pub mod KeptLemmas
 pub mod SlotLemmas
+pub mod SeqLemmas
+mod Examples

@@ -1,6 +1,6 @@
 -- The stored requests and what a contract sees of them.
-use Rattle.std.proofs.Common.{◌≡◌, ◌≢◌, ℕ, ◌+◌, ◌<◌, ◌≤◌, List, [], ◌∷◌, ◌++◌, Bool, true, false, not, Option, Some, None, map, filter, length, take, drop, suc, refl, sym, ap, ◌∙◌, cond, arith, position, subst}
-use Rattle.std.specs.Prelude.{◌==◌, ◌||◌, ◌&&◌, if◌then◌else◌, find, slice_index_or, slice_get}
+use Rattle.std.proofs.Common.{◌≡◌, ◌≢◌, ℕ, ◌+◌, List, [], ◌∷◌, ◌++◌, Bool, true, false, not, Option, Some, map, refl, sym, ap, ◌∙◌, cond, subst}
+use Rattle.std.specs.Prelude.{◌==◌, ◌&&◌, if◌then◌else◌, find}
 use Rattle.std.specs.List.{list_any, position_or_len, remove}
 use Rattle.std.specs.Option.{option_map}
 use Rattle.std.proofs.Math.Numerals.{one-add}
@@ -9,7 +9,7 @@ use Rattle.dap_tables.specs.declared.entry.Entry.{Entry}
 use Rattle.dap_tables.specs.declared.slot.Slot.{Slot}
 use Rattle.dap_tables.specs.Slot.{kept_of, table_of, slot_marked}
 use Rattle.dap_tables.specs.Outstanding.{Kept, KeptRequests, entries, contains_seq, entry_with, without, is_parked, with_mark, marked, unparked, oldest_unparked, HasDistinctSeqs, IsOrderly}
-use Rattle.dap_tables.proofs.Lists.{list_any-map, find-map, map-map}
+use Rattle.dap_tables.proofs.Lists.{list_any-map, map-map}
 use Rattle.dap_tables.proofs.KeptLemmas.{eqb-self, eqb-other, without-absent, without-none, same-seq, finding, contains_from_is_parked, contains_from_oldest, unparked_from_oldest, IsOrderly-push, contains_seq-push, entry_with-push, without-push, IsOrderly-without, contains_seq-without}
 
 pub contains_seq-slots : (seq : ℕ) (slots : List Slot) → list_any (λ slot. slot.entry.seq == seq) slots ≡ contains_seq seq (map kept_of slots)
@@ -72,8 +72,15 @@ IsOrderly-shown room slots ks e o = subst (λ (x : List Kept). IsOrderly (record
 pub put-slots : (slots : List Slot) (entry : Entry) (new : List Slot) → new ≡ slots ++ record { entry = entry; parked = false } ∷ [] → map kept_of new ≡ map kept_of slots ++ unparked entry ∷ []
 put-slots slots entry new e = ap (λ (x : List Slot). map kept_of x) e ∙ map-append kept_of slots (record { entry = entry; parked = false } ∷ [])
 
+-- the table after a change of the list
+pub table_of-changed : (change : List Kept → List Kept) (room : ℕ) (old new : List Slot) (table : KeptRequests) → table_of room old ≡ table → map kept_of new ≡ change (map kept_of old) → table_of room new ≡ record table { kept = change table.kept }
+table_of-changed change room old new table e h =
+    ap (λ (kept : List Kept). record { room = room; kept = kept }) h ∙ ap (λ (t : KeptRequests). record t { kept = change t.kept }) e
 
 pub ruleset slots = (entries-slots, oldest_unparked-slots)
+
 pub ruleset parking = (is_parked-slots, oldest_unparked-slots, contains_from_is_parked, contains_from_oldest, unparked_from_oldest)
+
 pub ruleset putting = (IsOrderly-push, contains_seq-push, entry_with-push, without-push)
+
 pub ruleset taking = (IsOrderly-without, contains_seq-without, without-none, finding)

@@ -3,7 +3,7 @@
 -- A request has a number of its own (Specification page, `Request.seq`), and its response names that number
 -- (`Response.request_seq`). So no two requests that are kept have the same one.
 -- That only so many are kept, and that a request can be parked, are this profile's choices.
-use Rattle.std.specs.Prelude.{◌≡◌, ℕ, ◌≤◌, ◌==◌, Bool, true, false, not, ◌&&◌, if◌then◌else◌, Option, List, [], ◌∷◌, length, map, filter, find, option_map}
+use Rattle.std.specs.Prelude.{◌≡◌, ℕ, ◌≤◌, ◌==◌, Bool, false, not, ◌&&◌, if◌then◌else◌, Option, List, [], ◌∷◌, length, map, filter, find, option_map}
 use Rattle.std.specs.List.{list_any}
 use Rattle.dap_tables.specs.declared.entry.Entry.{Entry}
 

@@ -2,7 +2,8 @@
 --
 -- The Specification page (`ProtocolMessage.seq`) has the first message of an end at 1 and each later one at one more.
 -- That there is a greatest number is this profile's choice.
-use Rattle.std.specs.Prelude.{ℕ, ◌+◌, ◌-◌, ◌≤◌, nat_lt, if◌then◌else◌, Option, Some, None}
+use Rattle.std.specs.Prelude.{◌≡◌, ℕ, zero, suc, ◌+◌, ◌-◌, nat_lt, if◌then◌else◌, Option, Some, None, List, [], ◌∷◌, ◌++◌, map, replicate}
+use Rattle.std.specs.List.{range_with_len}
 
 -- the greatest number, and how many were given
 pub record Numbers : Type 0 where
@@ -20,3 +21,12 @@ after_next numbers = if nat_lt numbers.used numbers.last then record numbers { u
 -- how many are left
 abbrev pub left : Numbers → ℕ
 left numbers = numbers.last - numbers.used
+
+-- what so many calls in a row give
+abbrev pub answers : ℕ → Numbers → List (Option ℕ)
+answers zero numbers = []
+answers (suc calls) numbers = next_number numbers ∷ answers calls (after_next numbers)
+
+-- the calls give 1, 2 and so on up to this number, each once, and from then on nothing
+abbrev pub CountsTo : ℕ → Numbers → Type 0
+CountsTo last numbers = (more : ℕ) → answers (last + more) numbers ≡ map Some (range_with_len 1 last) ++ replicate more None

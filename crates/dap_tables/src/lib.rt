@@ -11,7 +11,6 @@ mod outstanding;
 mod put_fault;
 mod seq;
 mod slot;
-
 #[cfg(test)]
 mod tests;
 

@@ -1,5 +1,5 @@
 //! The requests that an end has still to answer.
-ghost use Rattle.std.specs.Prelude.{◌≡◌, ◌↔◌, [], ◌∷◌, ◌++◌, ◌==◌, true, false, length, IsTrue, IsSome, IfOk, IfErr, IfSome, IfNone, OnOk, OnErr, Err, Some, position};
+ghost use Rattle.std.specs.Prelude.{◌≡◌, ◌↔◌, [], ◌∷◌, ◌++◌, true, false, length, IsTrue, IsSome, IfOk, IfErr, IfSome, IfNone, OnOk, OnErr, Err, Some};
 ghost use Rattle.std.specs.Option.{option_copied};
 ghost use Rattle.dap_tables.specs.Outstanding.{IsOrderly, IsRefusedForRoom, unparked, entries, contains_seq, entry_with, without, is_parked, with_mark, oldest_unparked};
 ghost use Rattle.dap_tables.specs.PutFault.{refused_entry};
@@ -12,7 +12,7 @@ use std::alloc::{AllocError, Global};
 use std::marker::Model;
 
 /// The requests that an end keeps until it has answered them, by arrival.
-#[derive(Drop)]
+#[derive(Debug, Drop)]
 pub struct Outstanding {
     slots: Vec<Slot>,
     room: usize,
@@ -45,8 +45,10 @@ impl Outstanding {
         })
     }
 
-    /// Keeps a request, after those that are kept already and not parked.
-    /// Its seq is tested first, then whether there is room.
+    /// Keeps a request, not parked, after those that are kept already.
+    ///
+    /// `Repeated` comes where its seq is kept already, else `Full` where there is no room, else
+    /// `OutOfMemory` where the allocator refuses.
     #[tactic(auto, using(crate::proofs::SlotLemmas::putting))]
     pub fn put(&mut self, entry: Entry) -> Result<(), PutFault>
         ensures ok { OnOk result (self.new ≡ record self.old { kept = self.old.kept ++ unparked entry ∷ [] }) }
@@ -57,6 +59,7 @@ impl Outstanding {
         ensures handed_back { IfErr result (λ fault. refused_entry fault ≡ entry) }
         ensures repeated { (result ≡ Err (PutFault.Repeated entry)) ↔ IsTrue (contains_seq entry.seq self.old.kept) }
         ensures full { (result ≡ Err (PutFault.Full entry)) ↔ IsRefusedForRoom entry.seq self.old }
+        ensures new { OnOk result (contains_seq entry.seq self.old.kept ≡ false) }
 
         // The request is found again by its seq, and taking it out gives back what was kept before.
         ensures found { OnOk result (entry_with entry.seq self.new.kept ≡ Some entry) }
@@ -180,9 +183,7 @@ impl Outstanding {
         ensures entries { result ≡ entries self.now.kept }
         ensures orderly { IsOrderly self.now }
     {
-        InOrder {
-            slots: &self.slots,
-        }
+        InOrder { slots: &self.slots }
     }
 
     fn set_mark(&mut self, seq: u64, parked: bool)

@@ -6,7 +6,7 @@ use crate::slot::Slot;
 use std::alloc::AllocFailed;
 
 /// Why a request is not kept. Each hands back the request.
-#[derive(Drop)]
+#[derive(Debug, Drop)]
 pub enum PutFault {
     /// A request with its seq is kept already.
     Repeated(Entry),
@@ -24,7 +24,8 @@ impl PutFault {
         ensures { result ≡ refused_entry self }
     {
         match self {
-            PutFault::Repeated(entry) | PutFault::Full(entry) | PutFault::OutOfMemory(entry) => entry,
+            PutFault::Repeated(entry) | PutFault::Full(entry) | PutFault::OutOfMemory(entry) =>
+                entry,
         }
     }
 }

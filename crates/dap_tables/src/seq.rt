@@ -1,6 +1,6 @@
 //! The numbers that an end gives its own messages.
-ghost use Rattle.std.specs.Prelude.{◌≡◌, ◌≤◌, ◌+◌, ◌↔◌, IsNone, IfSome, IfNone, OnSome};
-ghost use Rattle.dap_tables.specs.Seq.{next_number, after_next, left};
+ghost use Rattle.std.specs.Prelude.{◌≡◌, ◌≤◌, ◌↔◌, IsNone};
+ghost use Rattle.dap_tables.specs.Seq.{next_number, after_next, left, CountsTo};
 
 use std::marker::Model;
 
@@ -26,8 +26,10 @@ impl Model for Seq {
 
 impl Seq {
     /// No number given yet, and `s` the greatest that will be.
+    #[tactic(auto, using(crate::proofs::SeqLemmas::counting))]
     pub fn open(s: u64) -> Seq
-        ensures { result ≡ record { last = s; used = 0 } }
+        ensures opened { result ≡ record { last = s; used = 0 } }
+        ensures counts { CountsTo s result }
     {
         Seq { last: s, used: 0 }
     }

@@ -1,5 +1,5 @@
 //! How the table stores a request, and the walks over its store.
-ghost use Rattle.std.specs.Prelude.{◌≡◌, ◌==◌, ◌&&◌, not, if◌then◌else◌, map, find, position};
+ghost use Rattle.std.specs.Prelude.{◌≡◌, ◌==◌, ◌&&◌, not, map, find, position};
 ghost use Rattle.std.specs.List.{list_any};
 ghost use Rattle.std.specs.Option.{option_map, option_copied};
 ghost use Rattle.dap_tables.specs.Outstanding.{HasDistinctSeqs, entry_with, without};
@@ -8,7 +8,7 @@ ghost use Rattle.dap_tables.specs.Slot.{kept_of, slot_marked};
 use crate::entry::Entry;
 
 /// A kept request, and whether its answer waits for another request.
-#[derive(Drop)]
+#[derive(Debug, Drop)]
 pub(crate) struct Slot {
     pub(crate) entry: Entry,
     pub(crate) parked: bool,
@@ -23,11 +23,14 @@ pub(crate) fn contains(slots: &[Slot], seq: u64) -> bool
 pub(crate) fn is_parked(slots: &[Slot], seq: u64) -> bool
     ensures { result ≡ list_any (λ slot. (slot.entry.seq == seq) && slot.parked) slots.now }
 {
-    slots.iter().any(|slot| slot.entry.seq == seq && slot.parked)
+    slots
+        .iter()
+        .any(|slot| slot.entry.seq == seq && slot.parked)
 }
 
 pub(crate) fn entry_with(slots: &[Slot], seq: u64) -> Option<&Entry>
-    ensures { option_copied result ≡ option_map (λ slot. slot.entry) (find (λ slot. slot.entry.seq == seq) slots.now) }
+    ensures { let found = find (λ slot. slot.entry.seq == seq) slots.now in
+        option_copied result ≡ option_map (λ slot. slot.entry) found }
 {
     slots
         .iter()
@@ -36,7 +39,8 @@ pub(crate) fn entry_with(slots: &[Slot], seq: u64) -> Option<&Entry>
 }
 
 pub(crate) fn oldest_unparked(slots: &[Slot]) -> Option<u64>
-    ensures { result ≡ option_map (λ slot. slot.entry.seq) (find (λ slot. not slot.parked) slots.now) }
+    ensures { let found = find (λ slot. not slot.parked) slots.now in
+        result ≡ option_map (λ slot. slot.entry.seq) found }
 {
     slots
         .iter()

@@ -1,9 +1,8 @@
 use Rattle.std.proofs.Common.{rules, ◌≡◌, ◌==◌, ap, ◌∙◌, sym, Some, None, Option, map, position, ℕ, List}
-use Rattle.std.specs.Prelude.{find}
 use Rattle.std.specs.List.{remove}
 use Rattle.std.specs.Option.{option_map}
 use Rattle.dap_tables.specs.declared.slot.Slot.{Slot}
-use Rattle.dap_tables.specs.Outstanding.{entry_with, contains_seq}
+use Rattle.dap_tables.specs.Outstanding.{entry_with}
 use Rattle.dap_tables.specs.Slot.{kept_of}
 use Rattle.dap_tables.proofs.Lists.{find_from_position, find_none, place_is}
 use Rattle.dap_tables.proofs.KeptLemmas.{absent_from_entry_with, without-absent}

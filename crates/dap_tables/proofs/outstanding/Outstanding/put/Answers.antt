@@ -1,4 +1,4 @@
-use Rattle.std.proofs.Common.{rules, ◌≡◌, ◌<◌, ap, ◌∙◌, List, [], ◌∷◌, ◌++◌, map, length, false, arith}
+use Rattle.std.proofs.Common.{rules, ◌≡◌, ◌<◌, ap, ◌∙◌, List, [], ◌∷◌, ◌++◌, map, length, false}
 use Rattle.dap_tables.specs.Outstanding.{Kept, KeptRequests, unparked, without, entry_with, contains_seq}
 use Rattle.dap_tables.specs.Slot.{kept_of}
 use Rattle.dap_tables.proofs.KeptLemmas.{IsOrderly-push, entry_with-push, without-push}

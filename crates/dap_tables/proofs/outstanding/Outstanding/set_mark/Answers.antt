@@ -2,10 +2,10 @@ use Rattle.std.proofs.Common.{rules, ◌≡◌, ap, ◌∙◌, List, length, map
 use Rattle.std.specs.Vec.{with_items}
 use Rattle.std.proofs.lemmas.List.{with_items_is}
 use Rattle.dap_tables.specs.declared.slot.Slot.{Slot}
-use Rattle.dap_tables.specs.Outstanding.{KeptRequests, Kept, with_mark}
+use Rattle.dap_tables.specs.Outstanding.{with_mark}
 use Rattle.dap_tables.specs.Slot.{kept_of, slot_marked}
 use Rattle.dap_tables.proofs.KeptLemmas.{IsOrderly-with_mark}
-use Rattle.dap_tables.proofs.SlotLemmas.{with_mark-slots, IsOrderly-shown}
+use Rattle.dap_tables.proofs.SlotLemmas.{with_mark-slots, IsOrderly-shown, table_of-changed}
 use Rattle.dap_tables.proofs.outstanding.Outstanding.set_mark.Goals as goal
 
 pub invariant_of-self : goal.invariant_of-self
@@ -26,5 +26,4 @@ returns-clause-mark c =
     let stored = with_items_is c.self.inside.slots c.set_mark.new.slots long in
     let marked : c.set_mark.new.slots ≡ map (slot_marked c.args.seq c.args.parked) c.self.inside.slots.items = search rules in
     let shown = ap (λ (slots : List Slot). map kept_of slots) (stored ∙ marked) ∙ with_mark-slots c.args.seq c.args.parked c.self.inside.slots.items in
-    ap (λ (kept : List Kept). record { room = c.self.inside.room; kept = kept }) shown
-    ∙ ap (λ (t : KeptRequests). record t { kept = with_mark c.args.seq c.args.parked t.kept }) c.self.view_is
+    table_of-changed (with_mark c.args.seq c.args.parked) c.self.inside.room c.self.inside.slots.items (with_items c.self.inside.slots c.set_mark.new.slots).items c.args.self.now c.self.view_is shown

@@ -1,7 +1,7 @@
-use Rattle.std.proofs.Common.{rules, ◌≡◌, ap, ◌∙◌, List, map, sym, subst, Option, IfNone}
+use Rattle.std.proofs.Common.{◌≡◌, ap, ◌∙◌, List, map, sym, subst, Option, IfNone}
 use Rattle.dap_tables.specs.declared.entry.Entry.{Entry}
-use Rattle.dap_tables.specs.Outstanding.{KeptRequests, Kept, without, entry_with}
-use Rattle.dap_tables.specs.Slot.{kept_of, table_of}
+use Rattle.dap_tables.specs.Outstanding.{Kept, without}
+use Rattle.dap_tables.specs.Slot.{kept_of}
 use Rattle.dap_tables.proofs.KeptLemmas.{IsOrderly-without, without-none, IfNone-then}
 use Rattle.dap_tables.proofs.SlotLemmas.{IsOrderly-shown}
 use Rattle.dap_tables.proofs.outstanding.Outstanding.take.Goals as goal

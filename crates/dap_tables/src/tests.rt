@@ -1,0 +1,117 @@
+ghost use Rattle.std.specs.Prelude.{◌≡◌, map, IfOk};
+ghost use Rattle.dap_tables.specs.Outstanding.{entries};
+
+use crate::{Entry, Outstanding, PutFault, Seq};
+use dap_json::{Text, Tree};
+use serde_json::Value;
+use std::alloc::{AllocError, Global};
+use std::test::Fail;
+
+fn request(alloc: Global, seq: u64) -> Result<Entry, AllocError> {
+    Ok(Entry {
+        seq,
+        command: Text::copied(alloc, "threads")?,
+        arguments: Some(Tree::new(Value::Bool(true))),
+    })
+}
+
+// The answer to a put, and the seq of the request that it hands back.
+fn put(
+    alloc: Global,
+    table: &mut Outstanding,
+    seq: u64,
+) -> Result<(&'static str, u64), AllocError> {
+    Ok(match table.put(request(alloc, seq)?) {
+        Ok(()) => ("kept", 0),
+        Err(PutFault::Repeated(entry)) => ("Repeated", entry.seq),
+        Err(PutFault::Full(entry)) => ("Full", entry.seq),
+        Err(PutFault::OutOfMemory(entry)) => ("OutOfMemory", entry.seq),
+    })
+}
+
+// A chain over the requests, which knows what comes.
+fn seqs(alloc: Global, table: &Outstanding) -> Result<Vec<u64>, AllocError>
+    ensures { IfOk result (λ seqs. seqs.items ≡ map (λ entry. entry.seq) (entries table.now.kept)) }
+{
+    table.in_order().map(|entry| entry.seq).collect(alloc)
+}
+
+#[test]
+fn two_requests(rt: HostRuntime) -> Result<(), Fail> {
+    let mut table = Outstanding::open(rt.alloc(), 2)?;
+    assert!(rt; table.is_empty() && !table.is_full());
+    for (seq, answer) in [
+        (5, ("kept", 0)),
+        (9, ("kept", 0)),
+        (9, ("Repeated", 9)),
+        (7, ("Full", 7)),
+    ] {
+        assert_eq!(rt; put(rt.alloc(), &mut table, seq)?, answer, "at {seq}");
+    }
+    assert!(rt; table.is_full() && !table.is_empty());
+    assert_eq!(rt; table.take(7).map(|entry| entry.seq), None);
+    assert_eq!(rt; table.take(5).map(|entry| entry.seq), Some(5));
+    assert_eq!(rt; put(rt.alloc(), &mut table, 5)?, ("kept", 0));
+    assert_eq!(rt; seqs(rt.alloc(), &table)?.as_slice(), [9, 5].as_slice());
+
+    assert_eq!(rt; table.oldest_unparked(), Some(9));
+    assert!(rt; table.contains(9));
+    table.park(9);
+    assert_eq!(rt; table.oldest_unparked(), Some(5));
+    for (seq, kept, parked) in [(5, true, false), (7, false, false), (9, true, true)] {
+        assert_eq!(rt; table.contains(seq), kept, "at {seq}");
+        assert_eq!(rt; table.is_parked(seq), parked, "at {seq}");
+    }
+    assert!(rt; table.contains(5));
+    table.park(5);
+    assert_eq!(rt; table.oldest_unparked(), None);
+    assert!(rt; table.contains(9));
+    table.unpark(9);
+    assert_eq!(rt; table.oldest_unparked(), Some(9));
+    Ok(())
+}
+
+#[test]
+fn keeps_the_order(rt: HostRuntime) -> Result<(), Fail> {
+    let mut table = Outstanding::open(rt.alloc(), 3)?;
+    for seq in [1, 2, 3] {
+        assert_eq!(rt; put(rt.alloc(), &mut table, seq)?.0, "kept");
+    }
+    assert_eq!(rt; table.take(2).map(|entry| entry.seq), Some(2));
+    assert_eq!(rt; table.len(), 2);
+    assert_eq!(rt; put(rt.alloc(), &mut table, 4)?.0, "kept");
+    assert_eq!(rt; seqs(rt.alloc(), &table)?.as_slice(), [1, 3, 4].as_slice());
+    assert_eq!(rt;
+        table.get(3).map(|entry| entry.command.as_str()),
+        Some("threads")
+    );
+    assert!(rt; table.get(4).is_some_and(|entry| entry.arguments.is_some()));
+    assert!(rt; table.get(2).is_none());
+
+    let refused = PutFault::Full(request(rt.alloc(), 8)?);
+    assert_eq!(rt; refused.into_entry().seq, 8);
+    Ok(())
+}
+
+#[test]
+fn numbers_up_to_three(rt: HostRuntime) {
+    let mut numbers = Seq::open(3);
+    for (left, number) in [
+        (3, Some(1)),
+        (2, Some(2)),
+        (1, Some(3)),
+        (0, None),
+        (0, None),
+    ] {
+        assert_eq!(rt; numbers.left(), left);
+        assert_eq!(rt; numbers.next(), number);
+    }
+}
+
+#[test]
+fn shows_what_is_kept(rt: HostRuntime) -> Result<(), Fail> {
+    let entry = request(rt.alloc(), 5)?;
+    let shown = format!(in rt.alloc(); "{entry:?}")?;
+    assert!(rt; shown.as_str().starts_with("Entry { seq: 5, command: "));
+    Ok(())
+}
