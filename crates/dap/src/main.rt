@@ -20,7 +20,8 @@ const USAGE: u8 = 2;
 fn main(rt: HostRuntime) -> Result<ExitCode> {
     let alloc = rt.alloc();
     let words: Vec<String> = std::env::args(&rt)?.collect(alloc)?;
-    let command = command_line::command(alloc)?;
+    let limit_texts = command_line::limit_texts(alloc)?;
+    let command = command_line::command(alloc, limit_texts.as_slice())?;
     let matches = match command.try_get_matches_from(words.as_slice()) {
         Ok(matches) => matches,
         Err(error) => {

@@ -52,7 +52,7 @@ module _ (n : ℕ) (small : n < 2 ^ 64) where
   no_blank_after : suffix_len is_blank (decimal n) ≡ 0
   no_blank_after =
       let e : suffix_len is_blank (decimal n) ≡ length (decimal n) - length (decimal n) =
-          suffix_len_is is_blank (decimal n) (length (decimal n)) 0 (omega arith) (λ k l m. absurd (omega arith)) (λ l. not_blank _ (digit_at (decimal n) (length (decimal n) - 1) all (omega arith))) in
+      suffix_len_is is_blank (decimal n) (length (decimal n)) 0 (omega arith) (λ k l m. absurd (omega arith)) (λ l. not_blank _ (digit_at (decimal n) (length (decimal n) - 1) all (omega arith))) in
       omega (arith, e)
 
   trimmed_again : trimmed (32 ∷ decimal n) ≡ decimal n
@@ -69,15 +69,15 @@ module _ (n : ℕ) (small : n < 2 ^ 64) where
 
   pub length_block : Block header n
   length_block = record {
-      fields = length_field n ∷ [];
-      some = omega arith;
-      each = (field, tt);
-      spelled = spelled;
-      digits = decimal n;
-      one_length = ap (λ ds. ds ∷ []) trimmed_again;
-      number = let begun : nat_lt 0 (length (decimal n)) ≡ true = grind (arith, nat_tests, some) in rw (begun, digits_pass is_ascii_digit digit_passes (decimal n) all) refl;
-      size = sym (digits_value-decimal own n small);
-    }
+    fields = length_field n ∷ [];
+    some = omega arith;
+    each = (field, tt);
+    spelled = spelled;
+    digits = decimal n;
+    one_length = ap (λ ds. ds ∷ []) trimmed_again;
+    number = let begun : nat_lt 0 (length (decimal n)) ≡ true = grind (arith, nat_tests, some) in rw (begun, digits_pass is_ascii_digit digit_passes (decimal n) all) refl;
+    size = sym (digits_value-decimal own n small);
+  }
 
   pub header_short : n < 10 ^ 8 → length header ≤ 32
   header_short fits = let digits : length (decimal n) ≤ 8 = length-decimal-le 8 n (omega arith) fits small in omega (arith, digits, length-append (decimal n) (codes "\r\n\r\n"))
@@ -85,12 +85,12 @@ module _ (n : ℕ) (small : n < 2 ^ 64) where
 module _ (bounds : Bounds) (room : 32 ≤ bounds.header) (least : bounds.body ≤ 16777216) where
   pub written_frame : (x : List ℕ) → length x ≤ bounds.body → Frame bounds (frame_of x) x
   written_frame x fits = record {
-      header = header (length x) (omega arith);
-      spelled = refl;
-      announced = length_block (length x) (omega arith);
-      header_fits = let short : length (header (length x) (omega arith)) ≤ 32 = header_short (length x) (omega arith) (omega arith) in omega arith;
-      body_fits = fits;
-    }
+    header = header (length x) (omega arith);
+    spelled = refl;
+    announced = length_block (length x) (omega arith);
+    header_fits = let short : length (header (length x) (omega arith)) ≤ 32 = header_short (length x) (omega arith) (omega arith) in omega arith;
+    body_fits = fits;
+  }
 
   written_frames : (xs : List (List ℕ)) → All (λ x. length x ≤ bounds.body) xs → FramesThen bounds xs [] (flat_map frame_of xs)
   written_frames [] each = refl

@@ -70,9 +70,10 @@ module _ (bounds : Bounds) (f x p q : List ℕ) (b : ℕ) (fr : Frame bounds f x
   at_front (inr long) =
       let rest : List ℕ = drop (length fr.header) p in
       let short : length rest < length x = omega (arith, length-drop (length fr.header) p, count) in
-      let is = held long in
-      (subst (NoFrame bounds) (sym is) (no_frame_part bounds fr.header rest (length x) announces short),
-       part_unrefused bounds _ (ap (verdict bounds) is ∙ verdict_part bounds fr.header rest (length x) announces))
+      let is = held long in (
+        subst (NoFrame bounds) (sym is) (no_frame_part bounds fr.header rest (length x) announces short),
+        part_unrefused bounds _ (ap (verdict bounds) is ∙ verdict_part bounds fr.header rest (length x) announces),
+      )
 
   pub before_end : NoFrame bounds p × IsUnrefused (verdict bounds p)
   before_end = at_front (cases_lt (length p) (length fr.header))

@@ -8,14 +8,14 @@ pub record Completes (old new : Intake) (piece : List ℕ) (n : ℕ) : Type 0 wh
   pub within : n ≤ length piece
   pub ready : IsReady new
   pub stands : (s : List ℕ) (xs : List (List ℕ)) (rest : List ℕ) → StandsFor old s xs rest
-    → StandsFor new (s ++ take n piece) (xs ++ new.held ∷ []) []
+      → StandsFor new (s ++ take n piece) (xs ++ new.held ∷ []) []
 
 -- all n bytes of the piece go behind the rest, and the frame is still under way
 pub record Gathers (old new : Intake) (piece : List ℕ) (n : ℕ) : Type 0 where
   pub all : n ≡ length piece
   pub under_way : IsUnderWay new
   pub stands : (s : List ℕ) (xs : List (List ℕ)) (rest : List ℕ) → StandsFor old s xs rest
-    → StandsFor new (s ++ piece) xs (rest ++ piece)
+      → StandsFor new (s ++ piece) xs (rest ++ piece)
 
 -- the first bytes of the piece, some n of them, go behind the rest, and the reader is closed with this fault:
 -- with a refusal, just as many as make it the verdict on the rest
@@ -25,4 +25,4 @@ pub record Closes (old new : Intake) (piece : List ℕ) (fault : FrameFault) : T
   pub n : ℕ
   pub within : n ≤ length piece
   pub stands : (s : List ℕ) (xs : List (List ℕ)) (rest : List ℕ) → StandsFor old s xs rest
-    → StandsFor new (s ++ take n piece) xs (rest ++ take n piece)
+      → StandsFor new (s ++ take n piece) xs (rest ++ take n piece)

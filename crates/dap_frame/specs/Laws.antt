@@ -15,7 +15,7 @@ pub record WrittenIsReadAgain : Type 0 where
   pub frame : (bounds : Bounds) (x : List ℕ) → 32 ≤ bounds.header → bounds.body ≤ 16777216 → length x ≤ bounds.body → Frame bounds (frame_of x) x
   pub split : (bounds : Bounds) (xs : List (List ℕ)) → 32 ≤ bounds.header → bounds.body ≤ 16777216 → All (λ x. length x ≤ bounds.body) xs → Split bounds (flat_map frame_of xs) xs []
 
--- what comes before the last byte of a frame
+-- each proper prefix of a frame has no frame at its front, and is not refused
 pub record FrameHasNoFrameWithin : Type 0 where
   pub no_frame : (bounds : Bounds) (f x p q : List ℕ) (b : ℕ) → Frame bounds f x → f ≡ p ++ b ∷ q → NoFrame bounds p
   pub unrefused : (bounds : Bounds) (f x p q : List ℕ) (b : ℕ) → Frame bounds f x → f ≡ p ++ b ∷ q → IsUnrefused (verdict bounds p)

@@ -3,6 +3,6 @@ use Rattle.dap_frame.proofs.laws.frame_has_no_frame_within.Goals as goal
 
 pub returns : goal.returns
 returns c = record {
-    no_frame = λ bounds f x p q b fr cut. (before_end bounds f x p q b fr cut).0;
-    unrefused = λ bounds f x p q b fr cut. (before_end bounds f x p q b fr cut).1;
-  }
+  no_frame = λ bounds f x p q b fr cut. (before_end bounds f x p q b fr cut).0;
+  unrefused = λ bounds f x p q b fr cut. (before_end bounds f x p q b fr cut).1;
+}
