@@ -1,0 +1,7 @@
+//! Worked examples over several crates, as tests alone.
+#![tactic(auto)]
+
+#[cfg(test)]
+mod streams;
+#[cfg(test)]
+mod tests;

@@ -1,0 +1,286 @@
+//! `first_serve` over streams in memory, with the bytes that it has to write.
+
+use crate::streams::{Pieces, Short};
+use dap_frame::{Cause, End, FrameFault, Limits, Refusal, write_frame};
+use dap_message::BodyRefusal;
+use dap_tool::{FirstFault, ToolFault, fault_line, first_serve, status};
+use std::alloc::Global;
+use std::test::Fail;
+
+/// What serving a stream gave: how it ended, and what was written.
+#[derive(Drop)]
+struct Served {
+    end: Result<End, FirstFault>,
+    written: Vec<u8>,
+}
+
+/// Serves a stream that comes in pieces of one size.
+fn serve(alloc: Global, limits: Limits, input: &[u8], size: usize) -> Result<Served, Fail> {
+    let mut reader = Pieces {
+        rest: input,
+        size: size.max(1),
+        calls_left: usize::MAX,
+    };
+    let mut writer = Short {
+        room: usize::MAX,
+        held: Vec::new(alloc),
+    };
+    let end = first_serve(alloc, &mut reader, &mut writer, limits, 1000000);
+    let Short { room: _, held } = writer;
+    Ok(Served { end, written: held })
+}
+
+/// The frames of some bodies, one after the other.
+fn framed(alloc: Global, bodies: &[&[u8]]) -> Result<Vec<u8>, Fail> {
+    let mut frames = Vec::new(alloc);
+    for body in bodies {
+        write_frame(&mut frames, body)?;
+    }
+    Ok(frames)
+}
+
+static INITIALIZE: &[u8; 81] =
+    b"{\"seq\":1,\"type\":\"request\",\"command\":\"initialize\",\"arguments\":{\"adapterID\":\"rec\"}}";
+static THREADS: &[u8; 46] = b"{\"seq\":1,\"type\":\"request\",\"command\":\"threads\"}";
+static CAPABILITIES: &[u8; 251] = b"{\"body\":{\"supportsCancelRequest\":true,\"supportsConfigurationDoneRequest\":true,\"supportsLoadedSourcesRequest\":true,\"supportsStepBack\":true,\"supportsTerminateRequest\":true},\"command\":\"initialize\",\"request_seq\":1,\"seq\":1,\"success\":true,\"type\":\"response\"}";
+static UNSUPPORTED: &[u8; 173] = b"{\"body\":{\"error\":{\"format\":\"The command is not supported.\",\"id\":1004}},\"command\":\"threads\",\"message\":\"unsupported\",\"request_seq\":1,\"seq\":1,\"success\":false,\"type\":\"response\"}";
+
+/// `initialize`, cut at each place, is answered with the capabilities; no bytes are answered with none.
+#[test]
+fn initialize_is_answered(rt: HostRuntime) -> Result<(), Fail> {
+    let input = framed(rt.alloc(), &[INITIALIZE])?;
+    let answer = framed(rt.alloc(), &[CAPABILITIES])?;
+    assert_eq!(rt; input.len(), 103);
+    assert_eq!(rt; answer.len(), 274);
+    assert!(rt; answer.starts_with(b"Content-Length: 251\r\n\r\n"));
+    for size in 1..104 {
+        let served = serve(rt.alloc(), Limits::usual(), &input, size)?;
+        assert_eq!(rt; served.end, Ok(End::Clean), "pieces of {size}");
+        assert_eq!(rt; served.written.as_slice(), answer.as_slice());
+    }
+    let served = serve(rt.alloc(), Limits::usual(), b"", 1)?;
+    assert_eq!(rt; served.end, Ok(End::Clean));
+    assert!(rt; served.written.is_empty());
+    Ok(())
+}
+
+#[test]
+fn other_requests_are_unsupported(rt: HostRuntime) -> Result<(), Fail> {
+    let input = framed(rt.alloc(), &[THREADS])?;
+    let answer = framed(rt.alloc(), &[UNSUPPORTED])?;
+    assert_eq!(rt; input.len(), 68);
+    assert_eq!(rt; answer.len(), 196);
+    assert!(rt; answer.starts_with(b"Content-Length: 173\r\n\r\n"));
+    for size in 1..69 {
+        let served = serve(rt.alloc(), Limits::usual(), &input, size)?;
+        assert_eq!(rt; served.end, Ok(End::Clean), "pieces of {size}");
+        assert_eq!(rt; served.written.as_slice(), answer.as_slice());
+    }
+    Ok(())
+}
+
+/// Responses, events and messages of other types have no effect; each answer has the next seq.
+#[test]
+fn only_requests_are_answered(rt: HostRuntime) -> Result<(), Fail> {
+    let input = framed(
+        rt.alloc(),
+        &[
+            b"{\"seq\":1,\"type\":\"response\",\"request_seq\":1,\"success\":false,\"command\":\"threads\"}",
+            b"{\"seq\":2,\"type\":\"event\",\"event\":\"a\\u0007\"}",
+            THREADS,
+            b"{\"seq\":3,\"type\":\"x\"}",
+            THREADS,
+        ],
+    )?;
+    let mut second = Vec::from_slice(rt.alloc(), b"{\"body\":{\"error\":{\"format\":\"The command is not supported.\",\"id\":1004}},\"command\":\"threads\",\"message\":\"unsupported\",\"request_seq\":1,")?;
+    second.extend_from_slice(b"\"seq\":2,\"success\":false,\"type\":\"response\"}")?;
+    let answer = framed(rt.alloc(), &[UNSUPPORTED, &second])?;
+    for size in [1, 7, 4096] {
+        let served = serve(rt.alloc(), Limits::usual(), &input, size)?;
+        assert_eq!(rt; served.end, Ok(End::Clean));
+        assert_eq!(rt; served.written.as_slice(), answer.as_slice());
+    }
+    Ok(())
+}
+
+/// Each refusal of framing comes after the answers to what stood before, with its offset, its line and status 3.
+#[test]
+fn refused_frames(rt: HostRuntime) -> Result<(), Fail> {
+    let answer = framed(rt.alloc(), &[CAPABILITIES])?;
+    let limits = Limits::new(64, 1024, 64, 1, 1, 10, 1).ok().ok_or("limits")?;
+    let long = vec![in rt.alloc(); b'a'; 64]?;
+    let cases: [(&[u8], Refusal, &[u8]); 6] = [
+        (&long, Refusal::HeaderTooLong, b"dap: HeaderTooLong at 103\n"),
+        (b"\r\n\r\n", Refusal::BadHeader, b"dap: BadHeader at 103\n"),
+        (b"A: b\r\n\r\n", Refusal::NoLength, b"dap: NoLength at 103\n"),
+        (b"Content-Length: 2\r\nContent-Length: 2\r\n\r\n", Refusal::TwoLengths, b"dap: TwoLengths at 103\n"),
+        (b"Content-Length: 2x\r\n\r\n", Refusal::BadLength, b"dap: BadLength at 103\n"),
+        (b"Content-Length: 1025\r\n\r\n", Refusal::BodyTooLong, b"dap: BodyTooLong at 103\n"),
+    ];
+    for (bad, refusal, line) in &cases {
+        let mut input = framed(rt.alloc(), &[INITIALIZE])?;
+        input.extend_from_slice(bad)?;
+        write_frame(&mut input, INITIALIZE)?;
+        for size in [1, 100, 4096] {
+            let served = serve(rt.alloc(), limits, &input, size)?;
+            let fault = FirstFault::Frame(FrameFault {
+                cause: Cause::Refused(*refusal),
+                offset: 103,
+            });
+            assert_eq!(rt; served.end, Err(fault));
+            assert_eq!(rt; served.written.as_slice(), answer.as_slice());
+            let fault = ToolFault::First(fault);
+            assert_eq!(rt; status(&fault), 3);
+            assert_eq!(rt; fault_line(rt.alloc(), &fault)?.as_slice(), *line);
+        }
+    }
+    Ok(())
+}
+
+/// Each refusal of a body, likewise.
+#[test]
+fn refused_bodies(rt: HostRuntime) -> Result<(), Fail> {
+    let answer = framed(rt.alloc(), &[CAPABILITIES])?;
+    let cases: [(&[u8], BodyRefusal, &[u8]); 12] = [
+        (b"", BodyRefusal::NotJson, b"dap: NotJson at 103\n"),
+        (b"[]", BodyRefusal::NotObject, b"dap: NotObject at 103\n"),
+        (b"{\"seq\":-1}", BodyRefusal::BadSeq, b"dap: BadSeq at 103\n"),
+        (b"{\"seq\":1.0}", BodyRefusal::BadSeq, b"dap: BadSeq at 103\n"),
+        (b"{\"seq\":9007199254740992}", BodyRefusal::BadSeq, b"dap: BadSeq at 103\n"),
+        (b"{\"seq\":1}", BodyRefusal::BadType, b"dap: BadType at 103\n"),
+        (b"{\"seq\":1,\"type\":\"request\"}", BodyRefusal::BadCommand, b"dap: BadCommand at 103\n"),
+        (
+            b"{\"seq\":1,\"type\":\"response\",\"command\":\"x\"}",
+            BodyRefusal::BadRequestSeq,
+            b"dap: BadRequestSeq at 103\n",
+        ),
+        (
+            b"{\"seq\":1,\"type\":\"response\",\"command\":\"x\",\"request_seq\":1}",
+            BodyRefusal::BadSuccess,
+            b"dap: BadSuccess at 103\n",
+        ),
+        (b"{\"seq\":1,\"type\":\"event\"}", BodyRefusal::BadEvent, b"dap: BadEvent at 103\n"),
+        (
+            b"{\"seq\":1,\"type\":\"response\",\"command\":\"x\",\"request_seq\":1,\"success\":true,\"message\":1}",
+            BodyRefusal::BadMessage,
+            b"dap: BadMessage at 103\n",
+        ),
+        (b"\xff", BodyRefusal::NotJson, b"dap: NotJson at 103\n"),
+    ];
+    for (body, cause, line) in &cases {
+        let input = framed(rt.alloc(), &[INITIALIZE, body, INITIALIZE])?;
+        for size in [1, 100, 4096] {
+            let served = serve(rt.alloc(), Limits::usual(), &input, size)?;
+            let fault = FirstFault::Body {
+                cause: *cause,
+                offset: 103,
+            };
+            assert_eq!(rt; served.end, Err(fault));
+            assert_eq!(rt; served.written.as_slice(), answer.as_slice());
+            let fault = ToolFault::First(fault);
+            assert_eq!(rt; status(&fault), 3);
+            assert_eq!(rt; fault_line(rt.alloc(), &fault)?.as_slice(), *line);
+        }
+    }
+    Ok(())
+}
+
+/// Every prefix of a stream is served up to its last whole frame.
+#[test]
+fn cut_short(rt: HostRuntime) -> Result<(), Fail> {
+    let input = framed(rt.alloc(), &[INITIALIZE, THREADS])?;
+    let first = framed(rt.alloc(), &[CAPABILITIES])?;
+    for count in 0..input.len() {
+        let (front, _) = input.split_at(count);
+        let served = serve(rt.alloc(), Limits::usual(), front, 10)?;
+        let clean = count == 0 || count == 103;
+        assert_eq!(rt; served.end, Ok(if clean { End::Clean } else { End::Truncated }), "after {count}");
+        let wanted: &[u8] = if count < 103 { b"" } else { &first };
+        assert_eq!(rt; served.written.as_slice(), wanted);
+    }
+    let fault = ToolFault::Truncated;
+    assert_eq!(rt; status(&fault), 4);
+    assert_eq!(rt; fault_line(rt.alloc(), &fault)?.as_slice(), b"dap: Truncated\n".as_slice());
+    Ok(())
+}
+
+/// A writer that takes so many bytes and then fails: that count is told, and those bytes went out.
+#[test]
+fn failing_writer(rt: HostRuntime) -> Result<(), Fail> {
+    let input = framed(rt.alloc(), &[INITIALIZE, THREADS])?;
+    let whole = serve(rt.alloc(), Limits::usual(), &input, 4096)?;
+    for room in 0..whole.written.len() {
+        let mut reader = Pieces {
+            rest: &input,
+            size: 50,
+            calls_left: 100,
+        };
+        let mut writer = Short {
+            room,
+            held: Vec::new(rt.alloc()),
+        };
+        let end = first_serve(rt.alloc(), &mut reader, &mut writer, Limits::usual(), 100);
+        let fault = FirstFault::Write { written: room as u64 };
+        assert_eq!(rt; end, Err(fault));
+        assert!(rt; writer.held.len() == room && whole.written.starts_with(&writer.held));
+        let fault = ToolFault::First(fault);
+        assert_eq!(rt; status(&fault), 5);
+        assert_eq!(rt; fault_line(rt.alloc(), &fault)?.as_slice(), b"dap: Write\n".as_slice());
+    }
+    Ok(())
+}
+
+/// A reader that fails at each read in turn, and reads that are used up: what came before is answered.
+#[test]
+fn failing_reader(rt: HostRuntime) -> Result<(), Fail> {
+    let input = framed(rt.alloc(), &[INITIALIZE, THREADS])?;
+    for calls in 0..4 {
+        let mut reader = Pieces {
+            rest: &input,
+            size: 60,
+            calls_left: calls,
+        };
+        let mut writer = Short {
+            room: usize::MAX,
+            held: Vec::new(rt.alloc()),
+        };
+        let end = first_serve(rt.alloc(), &mut reader, &mut writer, Limits::usual(), 100);
+        assert_eq!(rt; end, Err(FirstFault::Read));
+        assert_eq!(rt; writer.held.len(), [0, 0, 274, 470][calls]);
+        let mut reader = Pieces {
+            rest: &input,
+            size: 60,
+            calls_left: 100,
+        };
+        let mut writer = Short {
+            room: usize::MAX,
+            held: Vec::new(rt.alloc()),
+        };
+        let end = first_serve(rt.alloc(), &mut reader, &mut writer, Limits::usual(), calls as u64);
+        assert_eq!(rt; end, Err(FirstFault::TooManyReads));
+        assert_eq!(rt; writer.held.len(), [0, 0, 274, 470][calls]);
+        assert_eq!(rt; input.len() - reader.rest.len(), [0, 60, 120, 171][calls]);
+    }
+    for fault in [FirstFault::Read, FirstFault::TooManyReads] {
+        assert_eq!(rt; status(&ToolFault::First(fault)), 5);
+    }
+    assert_eq!(rt; status(&ToolFault::First(FirstFault::OutOfMemory)), 6);
+    Ok(())
+}
+
+/// The answer for which no seq is left is not written, and those before it are.
+#[test]
+fn seqs_run_out(rt: HostRuntime) -> Result<(), Fail> {
+    let input = framed(rt.alloc(), &[INITIALIZE, THREADS, THREADS])?;
+    let limits = Limits::new(32, 1024, 2, 1, 1, 1, 1).ok().ok_or("limits")?;
+    let answer = framed(rt.alloc(), &[CAPABILITIES])?;
+    for size in [1, 1000] {
+        let served = serve(rt.alloc(), limits, &input, size)?;
+        assert_eq!(rt; served.end, Err(FirstFault::SeqExhausted));
+        assert_eq!(rt; served.written.as_slice(), answer.as_slice());
+    }
+    let fault = ToolFault::First(FirstFault::SeqExhausted);
+    assert_eq!(rt; status(&fault), 3);
+    assert_eq!(rt; fault_line(rt.alloc(), &fault)?.as_slice(), b"dap: SeqExhausted\n".as_slice());
+    Ok(())
+}

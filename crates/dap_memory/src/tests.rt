@@ -1,0 +1,211 @@
+//! Examples with their answers, or want of memory.
+
+use dap_frame::{Cause, Fed, FrameFault, Frames, Limits, write_frame};
+use dap_message::{BodyFault, Kind, Message, Text, read_message, write_message};
+use dap_tables::{Entry, Outstanding, PutFault};
+use dap_tool::{FirstFault, ToolFault, fault_line, first_serve};
+use std::alloc::Global;
+use std::io;
+use std::io::{Read, Write};
+use std::test::Fail;
+
+/// What a test notes where an allocation was refused.
+fn note(rt: &HostRuntime) -> io::Result<()> {
+    eprintln!(rt; "refused")
+}
+
+static INPUT: &[u8; 171] =
+    b"Content-Length: 81\r\n\r\n{\"seq\":1,\"type\":\"request\",\"command\":\"initialize\",\"arguments\":{\"adapterID\":\"rec\"}}Content-Length: 46\r\n\r\n{\"seq\":1,\"type\":\"request\",\"command\":\"threads\"}";
+
+static OUTPUT: &[u8; 470] =
+    b"Content-Length: 251\r\n\r\n{\"body\":{\"supportsCancelRequest\":true,\"supportsConfigurationDoneRequest\":true,\"supportsLoadedSourcesRequest\":true,\"supportsStepBack\":true,\"supportsTerminateRequest\":true},\"command\":\"initialize\",\"request_seq\":1,\"seq\":1,\"success\":true,\"type\":\"response\"}Content-Length: 173\r\n\r\n{\"body\":{\"error\":{\"format\":\"The command is not supported.\",\"id\":1004}},\"command\":\"threads\",\"message\":\"unsupported\",\"request_seq\":1,\"seq\":2,\"success\":false,\"type\":\"response\"}";
+
+/// Gives its bytes at once.
+#[derive(Drop)]
+struct Whole<'a> {
+    rest: &'a [u8],
+}
+
+impl Read for Whole<'_> {
+    fn read(&mut self, buf: &mut [u8]) -> io::Result<usize> {
+        let n = self.rest.len().min(buf.len());
+        let (given, rest) = self.rest.split_at(n);
+        buf[..n].copy_from_slice(given);
+        self.rest = rest;
+        Ok(n)
+    }
+}
+
+/// Keeps up to 1024 bytes, and takes no memory.
+#[derive(Drop)]
+struct Kept {
+    bytes: [u8; 1024],
+    len: usize,
+    ghost within: { len ≤ 1024 },
+}
+
+impl Write for Kept {
+    ghost use Rattle.std.specs.Prelude.{◌≤◌};
+
+    fn write(&mut self, buf: &[u8]) -> io::Result<usize> {
+        let room = 1024 - self.len;
+        let n = room.min(buf.len());
+        let start = self.len;
+        let end = start + n;
+        self.bytes[start..end].copy_from_slice(&buf[..n]);
+        self.len = end;
+        Ok(n)
+    }
+
+    fn flush(&mut self) -> io::Result<()> {
+        Ok(())
+    }
+}
+
+/// Two requests are answered, or a front of the answers is written.
+#[test]
+fn serving(rt: HostRuntime) -> Result<(), Fail> {
+    let mut reader = Whole { rest: INPUT };
+    let mut writer = Kept {
+        bytes: [0; 1024],
+        len: 0,
+    };
+    let end = first_serve(rt.alloc(), &mut reader, &mut writer, Limits::usual(), 10);
+    let written = &writer.bytes[..writer.len];
+    match end {
+        Ok(_) => assert!(rt; written == OUTPUT.as_slice()),
+        Err(fault) => {
+            assert_eq!(rt; fault, FirstFault::OutOfMemory);
+            assert!(rt; OUTPUT.starts_with(written));
+            note(&rt)?;
+        }
+    }
+    Ok(())
+}
+
+/// A frame is read, or the reader is closed for good.
+#[test]
+fn framing(rt: HostRuntime) -> Result<(), Fail> {
+    let Ok(mut frames) = Frames::open(rt.alloc(), &Limits::usual()) else {
+        note(&rt)?;
+        return Ok(());
+    };
+    match frames.feed(INPUT) {
+        Ok(fed) => {
+            assert_eq!(rt;
+                fed,
+                Fed {
+                    used: 103,
+                    ready: true
+                }
+            );
+            assert_eq!(rt; frames.held(), 81);
+        }
+        Err(fault) => {
+            assert_eq!(rt;
+                fault,
+                FrameFault {
+                    cause: Cause::OutOfMemory,
+                    offset: 0
+                }
+            );
+            assert_eq!(rt; frames.feed(b"x"), Err(fault));
+            assert_eq!(rt; frames.held(), 0);
+            note(&rt)?;
+        }
+    }
+    Ok(())
+}
+
+/// A frame is appended whole, or nothing is.
+#[test]
+fn writing_a_frame(rt: HostRuntime) -> Result<(), Fail> {
+    let mut out = Vec::new(rt.alloc());
+    for body in [b"{}".as_slice(), b"[0,1,2,3,4,5,6,7,8,9]".as_slice()] {
+        let before = out.len();
+        match write_frame(&mut out, body) {
+            Ok(()) => assert!(rt; out.ends_with(body)),
+            Err(_) => {
+                assert_eq!(rt; out.len(), before);
+                note(&rt)?;
+            }
+        }
+    }
+    Ok(())
+}
+
+/// Messages of each type are read, and written again as they stood.
+#[test]
+fn messages(rt: HostRuntime) -> Result<(), Fail> {
+    let bodies: [&[u8]; 3] = [
+        b"{\"arguments\":{\"a\":[1,\"b\"]},\"command\":\"threads\",\"seq\":1,\"type\":\"request\"}",
+        b"{\"body\":{},\"command\":\"x\",\"message\":\"m\",\"request_seq\":1,\"seq\":2,\"success\":false,\"type\":\"response\"}",
+        b"{\"body\":[true],\"event\":\"e\",\"seq\":3,\"type\":\"event\"}",
+    ];
+    for body in bodies {
+        let message = match read_message(rt.alloc(), body) {
+            Ok(message) => message,
+            Err(fault) => {
+                assert_eq!(rt; fault, BodyFault::OutOfMemory);
+                note(&rt)?;
+                return Ok(());
+            }
+        };
+        assert!(rt; message.plain());
+        match write_message(rt.alloc(), &message) {
+            Ok(written) => assert_eq!(rt; written.as_slice(), body),
+            Err(_) => note(&rt)?,
+        }
+    }
+    Ok(())
+}
+
+fn entry(alloc: Global, seq: u64) -> Option<Entry> {
+    let command = Text::copied(alloc, "threads").ok()?;
+    Some(Entry {
+        seq,
+        command,
+        arguments: None,
+    })
+}
+
+/// Two requests are kept and no third, or one is handed back and the table is as it was.
+#[test]
+fn keeping_requests(rt: HostRuntime) -> Result<(), Fail> {
+    let Ok(mut table) = Outstanding::open(rt.alloc(), 2) else {
+        note(&rt)?;
+        return Ok(());
+    };
+    for seq in [5, 9, 9, 7] {
+        let Some(request) = entry(rt.alloc(), seq) else {
+            note(&rt)?;
+            return Ok(());
+        };
+        let before = table.len();
+        match table.put(request) {
+            Ok(()) => assert!(rt; table.contains(seq)),
+            Err(PutFault::OutOfMemory(request)) => {
+                assert_eq!(rt; request.seq, seq);
+                assert!(rt; !table.contains(seq));
+                note(&rt)?;
+            }
+            Err(PutFault::Repeated(request)) => assert!(rt; request.seq == 9 && table.contains(9)),
+            Err(PutFault::Full(request)) => assert!(rt; request.seq == 7 && before == 2),
+        }
+    }
+    Ok(())
+}
+
+/// A fault's line, or none.
+#[test]
+fn telling_a_fault(rt: HostRuntime) -> Result<(), Fail> {
+    let fault = FirstFault::Body {
+        cause: dap_message::BodyRefusal::BadSeq,
+        offset: 103,
+    };
+    match fault_line(rt.alloc(), &ToolFault::First(fault)) {
+        Ok(line) => assert_eq!(rt; line.as_slice(), b"dap: BadSeq at 103\n".as_slice()),
+        Err(_) => note(&rt)?,
+    }
+    Ok(())
+}
