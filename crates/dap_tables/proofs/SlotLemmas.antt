@@ -1,10 +1,10 @@
 -- The stored requests and what a contract sees of them.
-use Rattle.std.proofs.Common.{◌≡◌, ◌≢◌, ℕ, ◌+◌, List, [], ◌∷◌, ◌++◌, Bool, true, false, not, Option, Some, map, refl, sym, ap, ◌∙◌, cond, subst}
+use Rattle.std.proofs.Common.{length, ◌≡◌, ◌≢◌, ℕ, ◌+◌, List, [], ◌∷◌, ◌++◌, Bool, true, false, not, Option, Some, map, refl, sym, ap, ◌∙◌, cond, subst}
 use Rattle.std.specs.Prelude.{◌==◌, ◌&&◌, if◌then◌else◌, find}
 use Rattle.std.specs.List.{list_any, position_or_len, remove}
 use Rattle.std.specs.Option.{option_map}
 use Rattle.std.proofs.Math.Numerals.{one-add}
-use Rattle.std.proofs.lemmas.List.{map-append}
+use Rattle.std.proofs.lemmas.List.{map-append, length-map}
 use Rattle.dap_tables.specs.declared.entry.Entry.{Entry}
 use Rattle.dap_tables.specs.declared.slot.Slot.{Slot}
 use Rattle.dap_tables.specs.Slot.{kept_of, table_of, slot_marked}
@@ -77,7 +77,10 @@ pub table_of-changed : (change : List Kept → List Kept) (room : ℕ) (old new 
 table_of-changed change room old new table e h =
     ap (λ (kept : List Kept). record { room = room; kept = kept }) h ∙ ap (λ (t : KeptRequests). record t { kept = change t.kept }) e
 
-pub ruleset slots = (entries-slots, oldest_unparked-slots)
+pub length-entries : (kept : List Kept) → length (entries kept) ≡ length kept
+length-entries kept = length-map kept (λ (k : Kept). k.entry)
+
+pub ruleset slots = (length-entries, entries-slots, oldest_unparked-slots)
 
 pub ruleset parking = (is_parked-slots, oldest_unparked-slots, contains_from_is_parked, contains_from_oldest, unparked_from_oldest)
 

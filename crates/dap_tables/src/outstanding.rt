@@ -181,6 +181,7 @@ impl Outstanding {
     #[tactic(auto, using(crate::proofs::SlotLemmas::slots))]
     pub fn in_order(&self) -> InOrder<'_>
         ensures entries { result ≡ entries self.now.kept }
+        ensures len { length result ≡ length self.now.kept }
         ensures orderly { IsOrderly self.now }
     {
         InOrder { slots: &self.slots }

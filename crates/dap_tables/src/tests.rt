@@ -1,5 +1,5 @@
-ghost use Rattle.std.specs.Prelude.{◌≡◌, map, IfOk};
-ghost use Rattle.dap_tables.specs.Outstanding.{entries};
+ghost use Rattle.std.specs.Prelude.{◌≡◌, ◌↔◌, map, IfOk, IfSome, IsSome, Some};
+ghost use Rattle.dap_tables.specs.Outstanding.{entries, is_parked, oldest_unparked};
 
 use crate::{Entry, Outstanding, PutFault, Seq};
 use dap_json::{Text, Tree};
@@ -34,6 +34,24 @@ fn seqs(alloc: Global, table: &Outstanding) -> Result<Vec<u64>, AllocError>
     ensures { IfOk result (λ seqs. seqs.items ≡ map (λ entry. entry.seq) (entries table.now.kept)) }
 {
     table.in_order().map(|entry| entry.seq).collect(alloc)
+}
+
+// What a caller can conclude: a request that was kept is taken out again, and leaves the rest as it was.
+fn kept_and_taken(table: &mut Outstanding, entry: Entry) -> Result<Option<Entry>, PutFault>
+    ensures taken { IfOk result (λ taken. taken ≡ Some entry) }
+    ensures same { table.new ≡ table.old }
+{
+    let seq = entry.seq;
+    table.put(entry)?;
+    Ok(table.take(seq))
+}
+
+// What a caller can conclude: the oldest that is not parked is kept, so it can be taken.
+fn take_oldest(table: &mut Outstanding) -> Option<Entry>
+    ensures { IsSome result ↔ IsSome (oldest_unparked table.old.kept) }
+{
+    let seq = table.oldest_unparked()?;
+    table.take(seq)
 }
 
 #[test]
@@ -87,6 +105,13 @@ fn keeps_the_order(rt: HostRuntime) -> Result<(), Fail> {
     );
     assert!(rt; table.get(4).is_some_and(|entry| entry.arguments.is_some()));
     assert!(rt; table.get(2).is_none());
+
+    assert_eq!(rt; take_oldest(&mut table).map(|entry| entry.seq), Some(1));
+    match kept_and_taken(&mut table, request(rt.alloc(), 6)?) {
+        Ok(taken) => assert_eq!(rt; taken.map(|entry| entry.seq), Some(6)),
+        Err(_) => assert!(rt; false, "6 is kept"),
+    }
+    assert_eq!(rt; seqs(rt.alloc(), &table)?.as_slice(), [3, 4].as_slice());
 
     let refused = PutFault::Full(request(rt.alloc(), 8)?);
     assert_eq!(rt; refused.into_entry().seq, 8);
