@@ -12,7 +12,7 @@ mod writing;
 
 pub use dap_json::{Text, Tree};
 pub use fault::{BodyFault, BodyRefusal};
-pub use laws::{each_body_is_one, written_is_read_again};
+pub use laws::{each_body_is_one, read_is_sound, written_is_read_again};
 pub use message::{Kind, MAX_COMMAND, Message};
 pub use reading::read_message;
 pub use writing::write_message;
