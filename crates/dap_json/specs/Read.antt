@@ -13,3 +13,7 @@ json_of bytes = if is_utf8 bytes then read bytes else None
 -- what a Rust value can hold, without floats, is read again from its compact text
 abbrev pub IsReadAgain : Type 0
 IsReadAgain = (d : Data) → IsSound d → has_float d ≡ false → depth d ≤ max_depth → json_of (compact_text d) ≡ Some d
+
+-- what is read is what a Rust value can hold
+abbrev pub IsReadSound : Type 0
+IsReadSound = (bytes : List ℕ) (d : Data) → json_of bytes ≡ Some d → IsSound d

@@ -4,3 +4,4 @@ pub mod RefusalLemmas
 pub mod Told
 pub mod SoundTree
 pub mod Examples
+pub mod SoundReading

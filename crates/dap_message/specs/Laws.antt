@@ -27,3 +27,6 @@ EachBodyIsOne = (body : List ℕ) → IsOneMessage body ⊎ IsOneRefusal body
 
 abbrev pub WrittenIsReadAgain : Type 0
 WrittenIsReadAgain = (m : Message) → IsTrue (is_plain m) → IsSoundMessage m → Msg (canon m) m
+
+abbrev pub ReadIsSound : Type 0
+ReadIsSound = (body : List ℕ) (m : Message) → Msg body m → IsSoundMessage m

@@ -1,7 +1,7 @@
 //! Laws of the definitions, each on a function with nothing to run.
-ghost use Rattle.dap_message.specs.Laws.{EachBodyIsOne, WrittenIsReadAgain};
+ghost use Rattle.dap_message.specs.Laws.{EachBodyIsOne, WrittenIsReadAgain, ReadIsSound};
 
-use dap_json::laws::{put_is_sound, text_is_read_again};
+use dap_json::laws::{put_is_sound, text_is_read_again, what_is_read_is_sound};
 
 /// Each body is one message, or has one first refusal: never both, never two.
 pub fn each_body_is_one()
@@ -14,4 +14,12 @@ pub fn written_is_read_again()
 {
     text_is_read_again();
     put_is_sound();
+}
+
+/// What is read is a message that a Rust value can hold, so that it is read again once written, if
+/// it is plain.
+pub fn read_is_sound()
+    ensures { ReadIsSound }
+{
+    what_is_read_is_sound();
 }

@@ -10,7 +10,7 @@ fn fault_of(alloc: Global, body: &[u8]) -> Option<BodyFault> {
     }
 }
 
-/// `open` so often, then `middle`, then `close` so often.
+/// An event whose body is `middle` in so many arrays.
 fn nested(alloc: Global, times: usize, middle: &str) -> Result<String, AllocError> {
     let mut text = String::new(alloc);
     text.push_str("{\"seq\":1,\"type\":\"event\",\"event\":\"e\",\"body\":")?;
@@ -189,4 +189,22 @@ fn counts_how_deep_a_body_nests(rt: HostRuntime) -> Result<(), Fail> {
         }
     }
     Ok(())
+}
+
+/// For `rt try --test --fail-alloc N`: the row's answer, or want of memory.
+#[test]
+fn answers_or_runs_out_of_memory(rt: HostRuntime) {
+    let body =
+        b"{\"seq\":3,\"type\":\"response\",\"request_seq\":2,\"success\":false,\"command\":\"next\",\"message\":\"m\",\"body\":{\"a\":[\"b\"]}}";
+    let text =
+        b"{\"body\":{\"a\":[\"b\"]},\"command\":\"next\",\"message\":\"m\",\"request_seq\":2,\"seq\":3,\"success\":false,\"type\":\"response\"}";
+    match read_message(rt.alloc(), body) {
+        Err(fault) => assert_eq!(rt; fault, BodyFault::OutOfMemory),
+        Ok(message) => {
+            assert!(rt; message.plain());
+            if let Ok(written) = write_message(rt.alloc(), &message) {
+                assert_eq!(rt; written.as_slice(), text.as_slice());
+            }
+        }
+    }
 }
