@@ -116,7 +116,15 @@ pub fn limits(matches: &ArgMatches<'_>) -> Result<Limits, LimitFault> {
             .get_one::<u64>(option.name)
             .unwrap_or(usual.get(option.limit))
     };
-    let [header, body, requests, references, breakpoints, seq, reference] = &LIMIT_OPTIONS;
+    let [
+        header,
+        body,
+        requests,
+        references,
+        breakpoints,
+        seq,
+        reference,
+    ] = &LIMIT_OPTIONS;
     Limits::new(
         set(header),
         set(body),

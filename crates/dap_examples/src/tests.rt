@@ -41,9 +41,14 @@ fn framed(alloc: Global, bodies: &[&[u8]]) -> Result<Vec<u8>, Fail> {
 
 static INITIALIZE: &[u8; 81] =
     b"{\"seq\":1,\"type\":\"request\",\"command\":\"initialize\",\"arguments\":{\"adapterID\":\"rec\"}}";
+
 static THREADS: &[u8; 46] = b"{\"seq\":1,\"type\":\"request\",\"command\":\"threads\"}";
-static CAPABILITIES: &[u8; 251] = b"{\"body\":{\"supportsCancelRequest\":true,\"supportsConfigurationDoneRequest\":true,\"supportsLoadedSourcesRequest\":true,\"supportsStepBack\":true,\"supportsTerminateRequest\":true},\"command\":\"initialize\",\"request_seq\":1,\"seq\":1,\"success\":true,\"type\":\"response\"}";
-static UNSUPPORTED: &[u8; 173] = b"{\"body\":{\"error\":{\"format\":\"The command is not supported.\",\"id\":1004}},\"command\":\"threads\",\"message\":\"unsupported\",\"request_seq\":1,\"seq\":1,\"success\":false,\"type\":\"response\"}";
+
+static CAPABILITIES: &[u8; 251] =
+    b"{\"body\":{\"supportsCancelRequest\":true,\"supportsConfigurationDoneRequest\":true,\"supportsLoadedSourcesRequest\":true,\"supportsStepBack\":true,\"supportsTerminateRequest\":true},\"command\":\"initialize\",\"request_seq\":1,\"seq\":1,\"success\":true,\"type\":\"response\"}";
+
+static UNSUPPORTED: &[u8; 173] =
+    b"{\"body\":{\"error\":{\"format\":\"The command is not supported.\",\"id\":1004}},\"command\":\"threads\",\"message\":\"unsupported\",\"request_seq\":1,\"seq\":1,\"success\":false,\"type\":\"response\"}";
 
 /// `initialize`, cut at each place, is answered with the capabilities; no bytes are answered with none.
 #[test]
@@ -92,7 +97,10 @@ fn only_requests_are_answered(rt: HostRuntime) -> Result<(), Fail> {
             THREADS,
         ],
     )?;
-    let mut second = Vec::from_slice(rt.alloc(), b"{\"body\":{\"error\":{\"format\":\"The command is not supported.\",\"id\":1004}},\"command\":\"threads\",\"message\":\"unsupported\",\"request_seq\":1,")?;
+    let mut second = Vec::from_slice(
+        rt.alloc(),
+        b"{\"body\":{\"error\":{\"format\":\"The command is not supported.\",\"id\":1004}},\"command\":\"threads\",\"message\":\"unsupported\",\"request_seq\":1,",
+    )?;
     second.extend_from_slice(b"\"seq\":2,\"success\":false,\"type\":\"response\"}")?;
     let answer = framed(rt.alloc(), &[UNSUPPORTED, &second])?;
     for size in [1, 7, 4096] {
@@ -110,12 +118,32 @@ fn refused_frames(rt: HostRuntime) -> Result<(), Fail> {
     let limits = Limits::new(64, 1024, 64, 1, 1, 10, 1).ok().ok_or("limits")?;
     let long = vec![in rt.alloc(); b'a'; 64]?;
     let cases: [(&[u8], Refusal, &[u8]); 6] = [
-        (&long, Refusal::HeaderTooLong, b"dap: HeaderTooLong at 103\n"),
+        (
+            &long,
+            Refusal::HeaderTooLong,
+            b"dap: HeaderTooLong at 103\n",
+        ),
         (b"\r\n\r\n", Refusal::BadHeader, b"dap: BadHeader at 103\n"),
-        (b"A: b\r\n\r\n", Refusal::NoLength, b"dap: NoLength at 103\n"),
-        (b"Content-Length: 2\r\nContent-Length: 2\r\n\r\n", Refusal::TwoLengths, b"dap: TwoLengths at 103\n"),
-        (b"Content-Length: 2x\r\n\r\n", Refusal::BadLength, b"dap: BadLength at 103\n"),
-        (b"Content-Length: 1025\r\n\r\n", Refusal::BodyTooLong, b"dap: BodyTooLong at 103\n"),
+        (
+            b"A: b\r\n\r\n",
+            Refusal::NoLength,
+            b"dap: NoLength at 103\n",
+        ),
+        (
+            b"Content-Length: 2\r\nContent-Length: 2\r\n\r\n",
+            Refusal::TwoLengths,
+            b"dap: TwoLengths at 103\n",
+        ),
+        (
+            b"Content-Length: 2x\r\n\r\n",
+            Refusal::BadLength,
+            b"dap: BadLength at 103\n",
+        ),
+        (
+            b"Content-Length: 1025\r\n\r\n",
+            Refusal::BodyTooLong,
+            b"dap: BodyTooLong at 103\n",
+        ),
     ];
     for (bad, refusal, line) in &cases {
         let mut input = framed(rt.alloc(), &[INITIALIZE])?;
@@ -144,11 +172,31 @@ fn refused_bodies(rt: HostRuntime) -> Result<(), Fail> {
     let cases: [(&[u8], BodyRefusal, &[u8]); 12] = [
         (b"", BodyRefusal::NotJson, b"dap: NotJson at 103\n"),
         (b"[]", BodyRefusal::NotObject, b"dap: NotObject at 103\n"),
-        (b"{\"seq\":-1}", BodyRefusal::BadSeq, b"dap: BadSeq at 103\n"),
-        (b"{\"seq\":1.0}", BodyRefusal::BadSeq, b"dap: BadSeq at 103\n"),
-        (b"{\"seq\":9007199254740992}", BodyRefusal::BadSeq, b"dap: BadSeq at 103\n"),
-        (b"{\"seq\":1}", BodyRefusal::BadType, b"dap: BadType at 103\n"),
-        (b"{\"seq\":1,\"type\":\"request\"}", BodyRefusal::BadCommand, b"dap: BadCommand at 103\n"),
+        (
+            b"{\"seq\":-1}",
+            BodyRefusal::BadSeq,
+            b"dap: BadSeq at 103\n",
+        ),
+        (
+            b"{\"seq\":1.0}",
+            BodyRefusal::BadSeq,
+            b"dap: BadSeq at 103\n",
+        ),
+        (
+            b"{\"seq\":9007199254740992}",
+            BodyRefusal::BadSeq,
+            b"dap: BadSeq at 103\n",
+        ),
+        (
+            b"{\"seq\":1}",
+            BodyRefusal::BadType,
+            b"dap: BadType at 103\n",
+        ),
+        (
+            b"{\"seq\":1,\"type\":\"request\"}",
+            BodyRefusal::BadCommand,
+            b"dap: BadCommand at 103\n",
+        ),
         (
             b"{\"seq\":1,\"type\":\"response\",\"command\":\"x\"}",
             BodyRefusal::BadRequestSeq,
@@ -159,7 +207,11 @@ fn refused_bodies(rt: HostRuntime) -> Result<(), Fail> {
             BodyRefusal::BadSuccess,
             b"dap: BadSuccess at 103\n",
         ),
-        (b"{\"seq\":1,\"type\":\"event\"}", BodyRefusal::BadEvent, b"dap: BadEvent at 103\n"),
+        (
+            b"{\"seq\":1,\"type\":\"event\"}",
+            BodyRefusal::BadEvent,
+            b"dap: BadEvent at 103\n",
+        ),
         (
             b"{\"seq\":1,\"type\":\"response\",\"command\":\"x\",\"request_seq\":1,\"success\":true,\"message\":1}",
             BodyRefusal::BadMessage,
@@ -194,13 +246,20 @@ fn cut_short(rt: HostRuntime) -> Result<(), Fail> {
         let (front, _) = input.split_at(count);
         let served = serve(rt.alloc(), Limits::usual(), front, 10)?;
         let clean = count == 0 || count == 103;
-        assert_eq!(rt; served.end, Ok(if clean { End::Clean } else { End::Truncated }), "after {count}");
+        assert_eq!(rt;
+            served.end,
+            Ok(if clean { End::Clean } else { End::Truncated }),
+            "after {count}"
+        );
         let wanted: &[u8] = if count < 103 { b"" } else { &first };
         assert_eq!(rt; served.written.as_slice(), wanted);
     }
     let fault = ToolFault::Truncated;
     assert_eq!(rt; status(&fault), 4);
-    assert_eq!(rt; fault_line(rt.alloc(), &fault)?.as_slice(), b"dap: Truncated\n".as_slice());
+    assert_eq!(rt;
+        fault_line(rt.alloc(), &fault)?.as_slice(),
+        b"dap: Truncated\n".as_slice()
+    );
     Ok(())
 }
 
@@ -220,12 +279,17 @@ fn failing_writer(rt: HostRuntime) -> Result<(), Fail> {
             held: Vec::new(rt.alloc()),
         };
         let end = first_serve(rt.alloc(), &mut reader, &mut writer, Limits::usual(), 100);
-        let fault = FirstFault::Write { written: room as u64 };
+        let fault = FirstFault::Write {
+            written: room as u64,
+        };
         assert_eq!(rt; end, Err(fault));
         assert!(rt; writer.held.len() == room && whole.written.starts_with(&writer.held));
         let fault = ToolFault::First(fault);
         assert_eq!(rt; status(&fault), 5);
-        assert_eq!(rt; fault_line(rt.alloc(), &fault)?.as_slice(), b"dap: Write\n".as_slice());
+        assert_eq!(rt;
+            fault_line(rt.alloc(), &fault)?.as_slice(),
+            b"dap: Write\n".as_slice()
+        );
     }
     Ok(())
 }
@@ -256,7 +320,13 @@ fn failing_reader(rt: HostRuntime) -> Result<(), Fail> {
             room: usize::MAX,
             held: Vec::new(rt.alloc()),
         };
-        let end = first_serve(rt.alloc(), &mut reader, &mut writer, Limits::usual(), calls as u64);
+        let end = first_serve(
+            rt.alloc(),
+            &mut reader,
+            &mut writer,
+            Limits::usual(),
+            calls as u64,
+        );
         assert_eq!(rt; end, Err(FirstFault::TooManyReads));
         assert_eq!(rt; writer.held.len(), [0, 0, 274, 470][calls]);
         assert_eq!(rt; input.len() - reader.rest.len(), [0, 60, 120, 171][calls]);
@@ -281,6 +351,9 @@ fn seqs_run_out(rt: HostRuntime) -> Result<(), Fail> {
     }
     let fault = ToolFault::First(FirstFault::SeqExhausted);
     assert_eq!(rt; status(&fault), 3);
-    assert_eq!(rt; fault_line(rt.alloc(), &fault)?.as_slice(), b"dap: SeqExhausted\n".as_slice());
+    assert_eq!(rt;
+        fault_line(rt.alloc(), &fault)?.as_slice(),
+        b"dap: SeqExhausted\n".as_slice()
+    );
     Ok(())
 }

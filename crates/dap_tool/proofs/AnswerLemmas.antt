@@ -1,7 +1,6 @@
 -- Answers to messages, one after the other.
-use Rattle.std.proofs.Common.{◌≡◌, ℕ, ◌+◌, ◌<◌, ◌≤◌, Bool, true, false, ◌&&◌, List, [], ◌∷◌, ◌++◌, length, refl, sym, ap, ◌∙◌, subst, arith, nat_le, codes, bytes_eq}
-use Rattle.std.specs.List.{flat_map}
-use Rattle.std.specs.Prelude.{nat_lt, cond, Option, Some, None}
+use Rattle.std.proofs.Common.{◌≡◌, ℕ, ◌+◌, ◌<◌, ◌≤◌, Bool, true, false, List, [], ◌∷◌, ◌++◌, length, refl, sym, ap, ◌∙◌, arith, nat_le, codes, bytes_eq}
+use Rattle.std.specs.Prelude.{nat_lt, cond, Some, None}
 use Rattle.std.proofs.lemmas.Bool.{le-leb, ltb-true}
 use Rattle.dap_tables.specs.Seq.{Numbers, next_number}
 use Rattle.std.proofs.lemmas.List.{length-append, append_assoc, append-nil}

@@ -1,6 +1,6 @@
 -- What an end answers that serves nothing yet: `initialize` with its capabilities (Specification, "Initialize Request"),
 -- every other request with the failure `unsupported`.
-use Rattle.std.specs.Prelude.{◌≡◌, ℕ, ◌+◌, Bool, true, false, List, [], ◌∷◌, ◌++◌, length, Some, None, codes, bytes_eq, if◌then◌else◌}
+use Rattle.std.specs.Prelude.{ℕ, ◌+◌, Bool, true, false, List, [], ◌∷◌, ◌++◌, length, Some, None, codes, bytes_eq}
 use Rattle.std.specs.List.{flat_map}
 use Rattle.serde_json.specs.Data.{Data, boolean, number, unsigned, string, object, member, no_members}
 use Rattle.dap_frame.specs.Written.{frame_of}
@@ -24,9 +24,9 @@ capabilities_body = object (
 abbrev pub unsupported_body : Data
 unsupported_body = object (
     member (codes "error") (object (
-        member (codes "format") (string (codes "The command is not supported.")) (
-        member (codes "id") (number (unsigned 1004))
-        no_members)))
+    member (codes "format") (string (codes "The command is not supported.")) (
+    member (codes "id") (number (unsigned 1004))
+    no_members)))
     no_members)
 
 abbrev pub response_kind : Bool → ℕ → List ℕ → Kind

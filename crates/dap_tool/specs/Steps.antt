@@ -9,8 +9,6 @@ use Rattle.dap_message.specs.Refusals.{Bad}
 use Rattle.dap_message.specs.declared.message.Message.{Message}
 use Rattle.dap_message.specs.declared.message.Kind.{Kind}
 use Rattle.dap_message.specs.declared.message.Kind.TheVariants.{Request, Response, Event, Other}
-use Rattle.dap_tables.specs.Outstanding.{KeptRequests}
-use Rattle.dap_tables.specs.Seq.{Numbers}
 use Rattle.dap_tool.specs.Answers.{answer_to, answers_of, written}
 use Rattle.dap_tool.specs.FirstServe.{Answered, Stops}
 use Rattle.dap_tool.specs.declared.answerer.Answerer.{Answerer}

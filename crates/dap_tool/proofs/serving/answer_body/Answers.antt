@@ -1,8 +1,6 @@
-use Rattle.std.proofs.Common.{◌≡◌, ap, sym, ◌∙◌, subst, List, length}
-use Rattle.std.specs.Io.KnownBytes.{Appends}
+use Rattle.std.proofs.Common.{ap, sym, ◌∙◌, subst}
 use Rattle.dap_frame.specs.Intake.{StandsFor}
-use Rattle.dap_message.specs.Meaning.{Msg}
-use Rattle.dap_tool.proofs.Reaching.{reached, cut_short, unread, unanswered}
+use Rattle.dap_tool.proofs.Reaching.{reached, cut_short}
 use Rattle.dap_tool.proofs.serving.answer_body.Goals as goal
 
 pub returns-in-Ok-clause-ok : goal.returns-in-Ok-clause-ok

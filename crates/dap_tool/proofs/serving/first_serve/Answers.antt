@@ -1,6 +1,6 @@
-use Rattle.std.proofs.Common.{arith, length, List, [], sym, ap, ◌∙◌}
+use Rattle.std.proofs.Common.{arith, []}
 use Rattle.dap_frame.specs.Settings.{bounds_of}
-use Rattle.dap_tool.proofs.Reaching.{SoFar-start, SoFar-more, stopped_first, stopped, failed, too_many, ended}
+use Rattle.dap_tool.proofs.Reaching.{SoFar-more, stopped_first, stopped, ended}
 use Rattle.dap_tool.proofs.serving.first_serve.Goals as goal
 
 pub returns-in_default : goal.returns-in_default
@@ -23,7 +23,7 @@ returns-in-Err g c =
 
 pub loop-read-preserved : goal.loop-read-preserved
 loop-read-preserved g c = record {
-    under_way = c.in-Ok-serve_piece.ensures.under_way;
-    idle = c.in-Ok-serve_piece.ensures.idle;
-    so_far = SoFar-more c.args.limits _ _ _ _ _ _ _ _ _ _ _ _ _ c.in-Ok-read.n c.split_at.result.0.now c.read.new.buf c.loop-read.invariant.so_far c.split_at.ensures.front (omega (arith, c.in-Ok-read.ensures.bound)) c.if-n-eq0.false c.in-Ok-read.ensures.bytes.0 c.in-Ok-serve_piece.ensures.ok;
-  }
+  under_way = c.in-Ok-serve_piece.ensures.under_way;
+  idle = c.in-Ok-serve_piece.ensures.idle;
+  so_far = SoFar-more c.args.limits _ _ _ _ _ _ _ _ _ _ _ _ _ c.in-Ok-read.n c.split_at.result.0.now c.read.new.buf c.loop-read.invariant.so_far c.split_at.ensures.front (omega (arith, c.in-Ok-read.ensures.bound)) c.if-n-eq0.false c.in-Ok-read.ensures.bytes.0 c.in-Ok-serve_piece.ensures.ok;
+}

@@ -8,7 +8,7 @@ pub returns-in-Err-clause-err : goal.returns-in-Err-clause-err
 returns-in-Err-clause-err g c = λ limits w s r.
     subst (StopsIn limits w _ s c.args.piece.now) (sym c.frame_fault.ensures)
     (closed limits c.loop-at.frames c.loop-at.answerer w _ c.loop-at.total s c.args.piece.now c.split_at.result.1.now c.loop-at.at c.split_at.ensures.back (c.loop-at.invariant.reached limits w s r) c.feed.new.self c.in-Err.ensures.bounds
-        c.in-Err.fault c.loop-at.invariant.within (c.in-Err.ensures.closes c.loop-at.invariant.under_way))
+    c.in-Err.fault c.loop-at.invariant.within (c.in-Err.ensures.closes c.loop-at.invariant.under_way))
 
 pub loop-at-preserved-in-Ok-answer_body : goal.loop-at-preserved-in-Ok-answer_body
 loop-at-preserved-in-Ok-answer_body g c =
@@ -26,7 +26,7 @@ returns-in-Err-answer_body-clause-err g c = λ limits w s r.
     let done = c.in-Ok.ensures.completes c.if-fed.true c.loop-at.invariant.under_way in
     stops_here limits w _ s c.args.piece.now _ c.in-Err-answer_body.fault c.in-Err-answer_body.ensures.within_piece (within_rest _ _ _ _ c.split_at.ensures.back c.loop-at.invariant.within done.within)
     (c.in-Err-answer_body.ensures.err limits w _
-        (completed limits c.loop-at.frames c.loop-at.answerer w _ c.loop-at.total s c.args.piece.now c.split_at.result.1.now c.loop-at.at c.split_at.ensures.back (c.loop-at.invariant.reached limits w s r) c.feed.new.self c.in-Ok.ensures.bounds c.in-Ok.fed.used done))
+    (completed limits c.loop-at.frames c.loop-at.answerer w _ c.loop-at.total s c.args.piece.now c.split_at.result.1.now c.loop-at.at c.split_at.ensures.back (c.loop-at.invariant.reached limits w s r) c.feed.new.self c.in-Ok.ensures.bounds c.in-Ok.fed.used done))
 
 pub loop-at-preserved : goal.loop-at-preserved
 loop-at-preserved g c =

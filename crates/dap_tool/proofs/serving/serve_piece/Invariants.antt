@@ -10,7 +10,7 @@ invariant-loop-at g l = record {
   under_way : IsUnderWay l.frames;
   idle : IsIdle l.answerer;
   reached : (limits : Settings) (w : Option (List ℕ)) (s : List ℕ) → Reached limits l.fn.frames l.fn.answerer w (g.W.Write.contents l.fn.writer) l.fn.written s
-    → Reached limits l.frames l.answerer w (g.W.Write.contents l.writer) l.total (s ++ take l.at l.piece);
+      → Reached limits l.frames l.answerer w (g.W.Write.contents l.writer) l.total (s ++ take l.at l.piece);
 }
 
 abbrev pub decreases-loop-at : goal.decreases-loop-at

@@ -1,4 +1,4 @@
-use Rattle.std.proofs.Common.{◌≡◌, ℕ, ◌≤◌, IsTrue, arith, ap, sym, ◌∙◌, subst, rules, Some}
+use Rattle.std.proofs.Common.{◌≡◌, ◌≤◌, IsTrue, sym, subst, rules}
 use Rattle.dap_message.specs.Plain.{is_plain}
 use Rattle.dap_tables.specs.declared.entry.Entry.{Entry}
 use Rattle.dap_tool.specs.Answers.{response_to}
@@ -12,4 +12,4 @@ framed-requires c =
     let small : c.in-Some.own ≤ 9007199254740991 = next_small _ _ _ c.in-Some.ensures.number c.requires.idle.small in
     subst (λ m. IsTrue (is_plain m)) (sym made)
     (subst (λ (request : Entry). IsTrue (is_plain (response_to c.in-Some.own request.seq request.command))) (sym same)
-        (is_plain-response_to c.in-Some.own c.args.request.seq c.args.request.command small c.requires.seq c.requires.command))
+    (is_plain-response_to c.in-Some.own c.args.request.seq c.args.request.command small c.requires.seq c.requires.command))
