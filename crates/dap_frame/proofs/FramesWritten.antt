@@ -1,6 +1,6 @@
 -- What is written of a body is a frame of it.
-use Rattle.std.proofs.Common.{◌≡◌, ℕ, zero, suc, ◌+◌, ◌-◌, ◌<◌, ◌≤◌, ◌^◌, Bool, true, false, ◌&&◌, List, [], ◌∷◌, ◌++◌, length, get_or, take, drop, refl, sym, ap, ◌∙◌, subst, arith, codes}
-use Rattle.std.specs.Prelude.{decimal, IsTrue, nat_lt, All}
+use Rattle.std.proofs.Common.{◌≡◌, ℕ, suc, ◌-◌, ◌<◌, ◌≤◌, ◌^◌, Bool, true, false, ◌&&◌, List, [], ◌∷◌, ◌++◌, length, refl, sym, ap, ◌∙◌, arith, codes}
+use Rattle.std.specs.Prelude.{decimal, nat_lt, All}
 use Rattle.std.specs.List.{list_all, flat_map, prefix_len, suffix_len}
 use Rattle.std.specs.Char.{is_ascii_digit}
 use Rattle.std.specs.Str.Parse.{digits_value, AllDigits}
@@ -11,7 +11,7 @@ use Rattle.std.proofs.lemmas.Bool.Decides.{nat_tests}
 use Rattle.std.proofs.lemmas.List.{length-append, append_assoc, append-nil, take_all}
 use Rattle.std.proofs.lemmas.List.Sums.{prefix_len_is, suffix_len_is}
 use Rattle.dap_frame.specs.declared.limits.Bounds.{Bounds}
-use Rattle.dap_frame.specs.Header.{Field, IsField, Block, block, crlf, lengths, trimmed, is_blank, is_value_byte, is_number}
+use Rattle.dap_frame.specs.Header.{Field, IsField, Block, block, crlf, trimmed, is_blank, is_value_byte}
 use Rattle.dap_frame.specs.Stream.{Frame, FramesThen, Split}
 use Rattle.dap_frame.specs.Written.{frame_of}
 use Rattle.dap_frame.proofs.Streams.{no_frame_nil}

@@ -1,5 +1,5 @@
 -- A frame before its last byte.
-use Rattle.std.proofs.Common.{◌≡◌, ℕ, ◌+◌, ◌-◌, ◌<◌, ◌≤◌, Bool, true, false, cond, List, [], ◌∷◌, ◌++◌, length, take, drop, refl, sym, ap, ◌∙◌, subst, Option, Some, None, Ok, ◌⊎◌, inl, inr, arith}
+use Rattle.std.proofs.Common.{◌≡◌, ℕ, ◌+◌, ◌<◌, ◌≤◌, Bool, true, false, cond, List, [], ◌∷◌, ◌++◌, length, take, drop, refl, sym, ap, ◌∙◌, subst, Option, Some, None, ◌⊎◌, inl, inr, arith}
 use Rattle.std.specs.Prelude.{nat_eq}
 use Rattle.std.specs.List.{starts_with}
 use Rattle.std.specs.Option.{option_map}
@@ -10,7 +10,7 @@ use Rattle.std.proofs.lemmas.Slice.Eq.{bytes_eq-Decides}
 use Rattle.dap_frame.specs.declared.limits.Bounds.{Bounds}
 use Rattle.dap_frame.specs.Header.{blank_line}
 use Rattle.dap_frame.specs.Stream.{Frame, NoFrame}
-use Rattle.dap_frame.specs.Verdict.{block_end, judged, verdict, IsUnrefused}
+use Rattle.dap_frame.specs.Verdict.{block_end, verdict, IsUnrefused}
 use Rattle.dap_frame.specs.Stage.{Announces}
 use Rattle.dap_frame.proofs.Grammar.{end_block}
 use Rattle.dap_frame.proofs.Blocks.{end_is}

@@ -1,11 +1,10 @@
 -- The stages that the code of a reader goes through, and what it holds at each. Callers see them as under way, ready and closed.
-use Rattle.std.specs.Prelude.{◌≡◌, ℕ, ◌<◌, ◌≤◌, List, [], ◌∷◌, ◌++◌, length, Some, None, Ok}
-use Rattle.dap_frame.specs.declared.Cause.{Cause}
+use Rattle.std.specs.Prelude.{◌≡◌, ℕ, ◌<◌, ◌≤◌, List, [], ◌++◌, length, Some, None, Ok}
 use Rattle.dap_frame.specs.declared.Cause.TheVariants.{Refused, OutOfMemory}
 use Rattle.dap_frame.specs.declared.limits.Bounds.{Bounds}
 use Rattle.dap_frame.specs.declared.stage.Stage.{Stage}
 use Rattle.dap_frame.specs.declared.stage.Stage.TheVariants.{Header, Body, Ready, Closed}
-use Rattle.dap_frame.specs.Stream.{Frame, FramesThen, Split}
+use Rattle.dap_frame.specs.Stream.{Split}
 use Rattle.dap_frame.specs.Verdict.{block_end, judged, verdict, Refused as Refuses}
 
 abbrev pub IsGathering : Stage → Type 0

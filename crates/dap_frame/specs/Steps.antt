@@ -2,7 +2,6 @@
 use Rattle.std.specs.Prelude.{◌≡◌, ℕ, ◌≤◌, List, [], ◌∷◌, ◌++◌, length, Some, None}
 use Rattle.dap_frame.specs.declared.frames.HeaderEnd.{HeaderEnd}
 use Rattle.dap_frame.specs.declared.frames.HeaderEnd.TheVariants.{Open, Whole, TooLong}
-use Rattle.dap_frame.specs.declared.Cause.{Cause}
 use Rattle.dap_frame.specs.declared.limits.Bounds.{Bounds}
 use Rattle.dap_frame.specs.declared.stage.Stage.{Stage}
 use Rattle.dap_frame.specs.declared.stage.Stage.TheVariants.{Header, Body, Ready, Closed}

@@ -210,7 +210,7 @@ fn ends(rt: HostRuntime) -> Result<(), Fail> {
         End::Clean
     );
     for (count, held) in [(1, 1), (20, 20), (22, 0), (67, 45)] {
-        let (front, _) = frame.split_at(count);
+        let front = frame.get(..count).ok_or("a longer frame")?;
         let told = stream_outcome(rt.alloc(), &Limits::usual(), front, 3)?;
         assert_eq!(rt; told.end, End::Truncated, "after {count}");
         assert_eq!(rt; told.held, held);
