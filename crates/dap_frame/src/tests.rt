@@ -71,7 +71,7 @@ fn limits(h: u64, b: u64) -> Result<Limits, Fail> {
     )
 }
 
-static ROW_2_BODY: &[u8; 46] = b"{\"seq\":1,\"type\":\"request\",\"command\":\"threads\"}";
+static THREADS: &[u8; 46] = b"{\"seq\":1,\"type\":\"request\",\"command\":\"threads\"}";
 
 fn joined(alloc: Global, front: &[u8], back: &[u8]) -> Result<Vec<u8>, Fail> {
     let mut all = Vec::from_slice(alloc, front)?;
@@ -138,13 +138,13 @@ fn accepted(rt: HostRuntime) -> Result<(), Fail> {
         (
             Limits::usual(),
             b"X-Note: hi\r\ncontent-length:0046\r\n\r\n",
-            ROW_2_BODY,
+            THREADS,
             81,
         ),
         (
             Limits::usual(),
             b"Content-Length: 46\r\n\r\n",
-            ROW_2_BODY,
+            THREADS,
             68,
         ),
         (narrow, b"Content-Length: 000000000002\r\n\r\n", b"{}", 34),
@@ -204,7 +204,7 @@ fn refused_after_frames(rt: HostRuntime) -> Result<(), Fail> {
 /// No bytes end clean; a frame that is cut short, in its block or in its body, does not.
 #[test]
 fn ends(rt: HostRuntime) -> Result<(), Fail> {
-    let frame = joined(rt.alloc(), b"Content-Length: 46\r\n\r\n", ROW_2_BODY)?;
+    let frame = joined(rt.alloc(), b"Content-Length: 46\r\n\r\n", THREADS)?;
     assert_eq!(rt;
         stream_outcome(rt.alloc(), &Limits::usual(), b"", 0)?.end,
         End::Clean
@@ -268,7 +268,7 @@ fn waits_and_latches(rt: HostRuntime) -> Result<(), Fail> {
 #[test]
 fn many_frames(rt: HostRuntime) -> Result<(), Fail> {
     let mut frames = Frames::open(rt.alloc(), &limits(32, 1024)?)?;
-    let frame = joined(rt.alloc(), b"Content-Length: 46\r\n\r\n", ROW_2_BODY)?;
+    let frame = joined(rt.alloc(), b"Content-Length: 46\r\n\r\n", THREADS)?;
     for k in 0..10000u64 {
         assert_eq!(rt;
             frames.feed(&frame),

@@ -191,7 +191,7 @@ fn counts_how_deep_a_body_nests(rt: HostRuntime) -> Result<(), Fail> {
     Ok(())
 }
 
-/// For `rt try --test --fail-alloc N`: the row's answer, or want of memory.
+/// For `rt try --test --fail-alloc N`: the example's answer, or want of memory.
 #[test]
 fn answers_or_runs_out_of_memory(rt: HostRuntime) {
     let body =

@@ -1,5 +1,5 @@
 -- How far serving has come, piece by piece.
-use Rattle.std.proofs.Common.{◌≡◌, ℕ, ◌+◌, ◌≤◌, List, [], ◌∷◌, ◌++◌, length, take, drop, Option, Ok, Err, refl, sym, ap, ◌∙◌, subst, arith}
+use Rattle.std.proofs.Common.{◌≡◌, ℕ, ◌+◌, ◌≤◌, List, [], ◌∷◌, ◌++◌, length, take, drop, Option, Ok, Err, refl, sym, ap, ◌∙◌, subst, arith, ◌*◌, ◌<◌}
 use Rattle.std.proofs.lemmas.List.{length-append, length-drop, length-take, append_assoc, append-nil, take_all, take-append-drop}
 use Rattle.std.proofs.Math.Seq.{take-add, take-append-add}
 use Rattle.std.proofs.KnownBytes.{Appends-nil, Appends-trans, Consumes-nil, Consumes-trans, Consumes-kept}
@@ -208,6 +208,7 @@ pub record SoFar (limits : Settings) (r r' w w' : Option (List ℕ)) (frames : I
   pub consumed : Consumes r r' s
   pub reached : Reached limits frames answerer w w' n s
   pub enough : reads ≤ length s
+  pub few : length s ≤ 4096 * reads
 
 pub SoFar-start : (limits : Settings) (r w : Option (List ℕ)) (frames : Intake) (answerer : Answerer) → frames.bounds ≡ bounds_of limits → StandsFor frames [] [] [] → answerer.seq.last ≡ limits.seq → answerer.seq.used ≡ 0 → SoFar limits r r w w frames answerer 0 0
 SoFar-start limits r w frames answerer bounds fresh last used = record {
@@ -222,14 +223,16 @@ SoFar-start limits r w frames answerer bounds fresh last used = record {
     has_answered = record { answered = record { messages = tt; within = omega arith; out = Appends-nil w }; last = last; used = used; count = refl };
   };
   enough = omega arith;
+  few = omega arith;
 }
 
-pub SoFar-more : (limits : Settings) (r r1 r2 w w1 w2 : Option (List ℕ)) (frames new_frames : Intake) (answerer new : Answerer) (n m reads k : ℕ) (piece buf : List ℕ) → SoFar limits r r1 w w1 frames answerer n reads → piece ≡ take k buf → k ≤ length buf → (k ≡ 0 → ⊥) → Consumes r1 r2 (take k buf) → ((limits : Settings) (w : Option (List ℕ)) (s : List ℕ) → Reached limits frames answerer w w1 n s → Reached limits new_frames new w w2 m (s ++ piece)) → SoFar limits r r2 w w2 new_frames new m (reads + 1)
-SoFar-more limits r r1 r2 w w1 w2 frames new_frames answerer new n m reads k piece buf so e fits some c goes = record {
+pub SoFar-more : (limits : Settings) (r r1 r2 w w1 w2 : Option (List ℕ)) (frames new_frames : Intake) (answerer new : Answerer) (n m reads k : ℕ) (piece buf : List ℕ) → SoFar limits r r1 w w1 frames answerer n reads → piece ≡ take k buf → length buf ≡ 4096 → k ≤ length buf → (k ≡ 0 → ⊥) → Consumes r1 r2 (take k buf) → ((limits : Settings) (w : Option (List ℕ)) (s : List ℕ) → Reached limits frames answerer w w1 n s → Reached limits new_frames new w w2 m (s ++ piece)) → SoFar limits r r2 w w2 new_frames new m (reads + 1)
+SoFar-more limits r r1 r2 w w1 w2 frames new_frames answerer new n m reads k piece buf so e long fits some c goes = record {
   s = so.s ++ piece;
   consumed = Consumes-trans r r1 r2 so.s piece so.consumed (subst (Consumes r1 r2) (sym e) c);
   reached = goes limits w so.s so.reached;
   enough = omega (arith, so.enough, length-append so.s piece, ap length e, length-take k buf);
+  few = omega (arith, so.few, length-append so.s piece, ap length e, length-take k buf);
 }
 
 module _ (limits : Settings) (r r1 w w1 : Option (List ℕ)) (frames : Intake) (answerer : Answerer) (n reads : ℕ) (so : SoFar limits r r1 w w1 frames answerer n reads) (under : IsUnderWay frames) where
@@ -247,22 +250,26 @@ module _ (limits : Settings) (r r1 w w1 : Option (List ℕ)) (frames : Intake) (
   nothing_more : (r2 : Option (List ℕ)) → Consumes r r2 so.s → Consumes r r2 (so.s ++ [])
   nothing_more r2 c = subst (Consumes r r2) (sym (append-nil so.s)) c
 
-  pub failed : (r2 : Option (List ℕ)) (max : ℕ) → Keeps r1 r2 → Serves limits max r r2 w w1 (Err Read)
-  failed r2 max keeps = record { s = so.s; later = []; read = nothing_more r2 (Consumes-kept r r1 r2 so.s so.consumed keeps); unused = refl; reads_made = tt; stops = (so.reached.rest, all_answered) }
+  few_read : (max : ℕ) → reads ≤ max → length (so.s ++ []) ≤ 4096 * max
+  few_read max under_max = omega (arith, so.few, ap length (append-nil so.s))
 
-  pub too_many : (max : ℕ) → max ≤ reads → Serves limits max r r1 w w1 (Err TooManyReads)
-  too_many max past = record { s = so.s; later = []; read = nothing_more r1 so.consumed; unused = refl; reads_made = omega (arith, so.enough); stops = (so.reached.rest, all_answered) }
+  pub failed : (r2 : Option (List ℕ)) (max : ℕ) → reads ≤ max → Keeps r1 r2 → Serves limits max r r2 w w1 (Err Read)
+  failed r2 max under_max keeps = record { s = so.s; later = []; read = nothing_more r2 (Consumes-kept r r1 r2 so.s so.consumed keeps); few = few_read max under_max; unused = refl; reads_made = tt; stops = (so.reached.rest, all_answered) }
+
+  pub too_many : (max : ℕ) → reads ≤ max → max ≤ reads → Serves limits max r r1 w w1 (Err TooManyReads)
+  too_many max under_max past = record { s = so.s; later = []; read = nothing_more r1 so.consumed; few = few_read max under_max; unused = refl; reads_made = omega (arith, so.enough); stops = (so.reached.rest, all_answered) }
 
   ends_as : (end : End) → (end ≡ EndRefused → ⊥) → EndsWith frames so.reached.rest end → EndsAs limits so.reached.rest end
   ends_as Clean other e = e
   ends_as Truncated other e = subst (λ b. verdict b so.reached.rest ≡ Part) so.reached.bounds e
   ends_as EndRefused other e = absurd (other refl)
 
-  pub ended : (r2 : Option (List ℕ)) (max k : ℕ) (buf : List ℕ) (end : End) → k ≡ 0 → Consumes r1 r2 (take k buf) → IsAtEnd r2 → (end ≡ EndRefused → ⊥) → EndsWith frames so.reached.rest end → Serves limits max r r2 w w1 (Ok end)
-  ended r2 max k buf end none c at_end other ends = record {
+  pub ended : (r2 : Option (List ℕ)) (max k : ℕ) (buf : List ℕ) (end : End) → reads ≤ max → k ≡ 0 → Consumes r1 r2 (take k buf) → IsAtEnd r2 → (end ≡ EndRefused → ⊥) → EndsWith frames so.reached.rest end → Serves limits max r r2 w w1 (Ok end)
+  ended r2 max k buf end under_max none c at_end other ends = record {
     s = so.s;
     rest = so.reached.rest;
     read = subst (Consumes r r2) (append-nil so.s) (Consumes-trans r r1 r2 so.s [] so.consumed (subst (λ j. Consumes r1 r2 (take j buf)) none c));
+    few = omega (arith, so.few);
     at_end = at_end;
     all = all_answered;
     ends = ends_as end other ends;
@@ -286,14 +293,15 @@ any_reads SeqExhausted reads bytes inner = tt
 any_reads TooManyReads reads bytes inner = absurd inner
 any_reads OutOfMemory reads bytes inner = tt
 
-pub stopped : (limits : Settings) (r r1 r2 w w1 w2 : Option (List ℕ)) (frames : Intake) (answerer : Answerer) (n reads max k : ℕ) (piece buf : List ℕ) (fault : FirstFault) → SoFar limits r r1 w w1 frames answerer n reads → piece ≡ take k buf → length buf ≡ 4096 → Consumes r1 r2 (take k buf) → ((limits : Settings) (w : Option (List ℕ)) (s : List ℕ) → Reached limits frames answerer w w1 n s → StopsIn limits w w2 s piece fault) → Serves limits max r r2 w w2 (Err fault)
-stopped limits r r1 r2 w w1 w2 frames answerer n reads max k piece buf fault so e long c goes =
+pub stopped : (limits : Settings) (r r1 r2 w w1 w2 : Option (List ℕ)) (frames : Intake) (answerer : Answerer) (n reads max k : ℕ) (piece buf : List ℕ) (fault : FirstFault) → SoFar limits r r1 w w1 frames answerer n reads → piece ≡ take k buf → length buf ≡ 4096 → reads < max → Consumes r1 r2 (take k buf) → ((limits : Settings) (w : Option (List ℕ)) (s : List ℕ) → Reached limits frames answerer w w1 n s → StopsIn limits w w2 s piece fault) → Serves limits max r r2 w w2 (Err fault)
+stopped limits r r1 r2 w w1 w2 frames answerer n reads max k piece buf fault so e long under_max c goes =
     let st = goes limits w so.s so.reached in
     let whole : (so.s ++ take st.n piece) ++ drop st.n piece ≡ so.s ++ piece = append_assoc so.s (take st.n piece) (drop st.n piece) ∙ ap (λ z. so.s ++ z) (take-append-drop st.n piece) in
     record {
       s = so.s ++ take st.n piece;
       later = drop st.n piece;
       read = subst (Consumes r r2) (sym whole) (Consumes-trans r r1 r2 so.s piece so.consumed (subst (Consumes r1 r2) (sym e) c));
+      few = omega (arith, so.few, ap length whole, length-append so.s piece, ap length e, length-take k buf, long);
       unused = short_left fault (drop st.n piece) st.fault_is (omega (arith, length-drop st.n piece, ap length e, length-take k buf, long));
       reads_made = any_reads fault max (length (so.s ++ take st.n piece)) st.fault_is;
       stops = st.stops;
@@ -305,6 +313,7 @@ stopped_first limits r w max xs rest split = record {
   s = [];
   later = [];
   read = Consumes-nil r;
+  few = omega arith;
   unused = omega arith;
   reads_made = tt;
   stops = record { bodies = []; others = xs; rest = rest; messages = []; split = split; answered = record { messages = tt; within = omega arith; out = Appends-nil w } };

@@ -1,5 +1,5 @@
 -- What is written for what is read, whatever pieces the reader gives.
-use Rattle.std.specs.Prelude.{◌≡◌, ℕ, ◌+◌, ◌≤◌, List, [], ◌∷◌, ◌++◌, length, take, Option, Result, Ok, Err}
+use Rattle.std.specs.Prelude.{◌≡◌, ℕ, ◌+◌, ◌*◌, ◌≤◌, List, [], ◌∷◌, ◌++◌, length, take, Option, Result, Ok, Err}
 use Rattle.std.specs.Io.KnownBytes.{Appends, Consumes, IsAtEnd}
 use Rattle.dap_frame.specs.declared.Cause.TheVariants.{Refused}
 use Rattle.dap_frame.specs.declared.Refusal.{Refusal}
@@ -123,11 +123,12 @@ EndsAs limits rest Clean = rest ≡ []
 EndsAs limits rest Truncated = verdict (bounds_of limits) rest ≡ Part
 EndsAs limits rest Closed = ⊥
 
--- the input came to its end, and every request in it was answered
-pub record Ended (limits : Settings) (r r' w w' : Option (List ℕ)) (end : End) : Type 0 where
+-- the input came to its end, read in pieces of at most 4096 bytes, and every request in it was answered
+pub record Ended (limits : Settings) (reads : ℕ) (r r' w w' : Option (List ℕ)) (end : End) : Type 0 where
   pub s : List ℕ
   pub rest : List ℕ
   pub read : Consumes r r' s
+  pub few : length s ≤ 4096 * reads
   pub at_end : IsAtEnd r'
   pub all : AllAnswered limits w w' s rest
   pub ends : EndsAs limits rest end
@@ -137,10 +138,11 @@ pub record Stopped (limits : Settings) (reads : ℕ) (r r' w w' : Option (List �
   pub s : List ℕ
   pub later : List ℕ
   pub read : Consumes r r' (s ++ later)
+  pub few : length (s ++ later) ≤ 4096 * reads
   pub unused : LeavesUnused fault later
   pub reads_made : IsAfterReads fault reads (length s)
   pub stops : Stops limits w w' s fault
 
 abbrev pub Serves : Settings → ℕ → Option (List ℕ) → Option (List ℕ) → Option (List ℕ) → Option (List ℕ) → Result End FirstFault → Type 0
-Serves limits reads r r' w w' (Ok end) = Ended limits r r' w w' end
+Serves limits reads r r' w w' (Ok end) = Ended limits reads r r' w w' end
 Serves limits reads r r' w w' (Err fault) = Stopped limits reads r r' w w' fault
