@@ -141,12 +141,7 @@ fn accepted(rt: HostRuntime) -> Result<(), Fail> {
             THREADS,
             81,
         ),
-        (
-            Limits::usual(),
-            b"Content-Length: 46\r\n\r\n",
-            THREADS,
-            68,
-        ),
+        (Limits::usual(), b"Content-Length: 46\r\n\r\n", THREADS, 68),
         (narrow, b"Content-Length: 000000000002\r\n\r\n", b"{}", 34),
         (Limits::usual(), b"Content-Length: 0\r\n\r\n", b"", 21),
     ];
