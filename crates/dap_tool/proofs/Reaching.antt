@@ -18,7 +18,7 @@ use Rattle.dap_frame.specs.Ends.{EndsWith}
 use Rattle.dap_message.specs.Meaning.{Msg}
 use Rattle.dap_message.specs.declared.message.Message.{Message}
 use Rattle.dap_tool.specs.Answers.{AreMessages, answer_to, answers_of, written}
-use Rattle.dap_tool.specs.FirstServe.{AllAnswered, CutShort, Interrupted, Stops, EndsAs, LeavesUnused, IsAfterReads, Serves}
+use Rattle.dap_tool.specs.FirstServe.{AllAnswered, CutShort, Interrupted, Stops, IsEndOf, LeavesUnused, IsAfterReads, Serves}
 use Rattle.dap_tool.specs.Steps.{LeavesUnread, LeavesUnanswered, HasAnswered, Reached, Completed, StopsIn, IsWithinPiece, fault_of_cause, fault_of_frame}
 use Rattle.dap_tool.specs.declared.answerer.Answerer.{Answerer}
 use Rattle.dap_tool.specs.declared.fault.FirstFault.{FirstFault}
@@ -63,12 +63,15 @@ module _ (limits : Settings) (old : Answerer) (w w1 : Option (List ℕ)) (n : �
 
   pub CutShort-more : (new : Answerer) (w2 : Option (List ℕ)) (s : List ℕ) (n' out : ℕ) → new.seq.last ≡ old.seq.last → new.seq.used ≡ old.seq.used + length (answer_to (old.seq.used + 1) m) → new.seq.used ≤ new.seq.last → Split (bounds_of limits) s (xs ++ x ∷ []) [] → out ≤ length answer → n' ≡ counted (n + out) → Appends w1 w2 (take out answer) → CutShort limits w w2 s n'
   CutShort-more new w2 s n' out l e within split short count appends = record {
-    bodies = xs ++ x ∷ [];
-    messages = ms ++ m ∷ [];
+    bodies = xs;
+    messages = ms;
+    body = x;
+    message = m;
     split = split;
     are_messages = all_messages;
     within = fewer new.seq.used new.seq.last e l within;
     out = length (written (answers_of ms)) + out;
+    begun = omega arith;
     short = omega (arith, ap length all_written, length-append (written (answers_of ms)) answer);
     appends = subst (λ z. Appends w w2 (take (length (written (answers_of ms)) + out) z)) (sym all_written) (subst (Appends w w2) (sym (take-append-add (written (answers_of ms)) answer out)) (Appends-trans w w1 w2 (written (answers_of ms)) (take out answer) h.answered.out appends));
     count = omega (arith, count, h.count);
@@ -113,7 +116,7 @@ module _ (limits : Settings) (frames : Intake) (answerer : Answerer) (w w1 : Opt
     answered = c.has_answered.answered;
     message = m;
     message_is = is;
-    wants_answer = subst (λ k. length (answer_to (k + 1) m) ≡ 1) c.has_answered.last l.0;
+    request = l.0;
     none_left = sym c.has_answered.used ∙ l.1 ∙ c.has_answered.last;
   }
   unanswered m TooManyReads is l = absurd l
@@ -259,7 +262,7 @@ module _ (limits : Settings) (r r1 w w1 : Option (List ℕ)) (frames : Intake) (
   pub too_many : (max : ℕ) → reads ≤ max → max ≤ reads → Serves limits max r r1 w w1 (Err TooManyReads)
   too_many max under_max past = record { s = so.s; later = []; read = nothing_more r1 so.consumed; few = few_read max under_max; unused = refl; reads_made = omega (arith, so.enough); stops = (so.reached.rest, all_answered) }
 
-  ends_as : (end : End) → (end ≡ EndRefused → ⊥) → EndsWith frames so.reached.rest end → EndsAs limits so.reached.rest end
+  ends_as : (end : End) → (end ≡ EndRefused → ⊥) → EndsWith frames so.reached.rest end → IsEndOf limits so.reached.rest end
   ends_as Clean other e = e
   ends_as Truncated other e = subst (λ b. verdict b so.reached.rest ≡ Part) so.reached.bounds e
   ends_as EndRefused other e = absurd (other refl)

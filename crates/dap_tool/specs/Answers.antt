@@ -43,6 +43,12 @@ answer_to_kind own seq (Response request_seq success command message body) = []
 answer_to_kind own seq (Event event body) = []
 answer_to_kind own seq (Other tag) = []
 
+abbrev pub IsRequest : Kind → Type 0
+IsRequest (Request command arguments) = Unit {0}
+IsRequest (Response request_seq success command message body) = ⊥
+IsRequest (Event event body) = ⊥
+IsRequest (Other tag) = ⊥
+
 -- a response to a request, and nothing to other messages
 abbrev pub answer_to : ℕ → Message → List Message
 answer_to own m = answer_to_kind own m.seq m.kind

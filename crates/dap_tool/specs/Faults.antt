@@ -59,7 +59,7 @@ line_at name offset = codes "dap: " ++ name ++ codes " at " ++ decimal offset ++
 
 abbrev pub line_of_cause : Cause → ℕ → List ℕ
 line_of_cause (Refused refusal) offset = line_at (name_of_refusal refusal) offset
-line_of_cause NoMemory offset = named_line (codes "OutOfMemory")
+line_of_cause NoMemory offset = line_at (codes "OutOfMemory") offset
 
 abbrev pub line_of_first : FirstFault → List ℕ
 line_of_first Read = named_line (codes "Read")

@@ -1,4 +1,5 @@
--- What is written for what is read, whatever pieces the reader gives.
+-- What is written for what is read, whatever pieces the reader gives. Overview, "Base Protocol", for the frames; that an
+-- end stops at the first refusal is this profile's choice.
 use Rattle.std.specs.Prelude.{◌≡◌, ℕ, ◌+◌, ◌*◌, ◌≤◌, List, [], ◌∷◌, ◌++◌, length, take, Option, Result, Ok, Err}
 use Rattle.std.specs.Io.KnownBytes.{Appends, Consumes, IsAtEnd}
 use Rattle.dap_frame.specs.declared.Cause.TheVariants.{Refused}
@@ -14,7 +15,7 @@ use Rattle.dap_message.specs.Meaning.{Msg}
 use Rattle.dap_message.specs.Refusals.{Bad}
 use Rattle.dap_message.specs.declared.fault.BodyRefusal.{BodyRefusal}
 use Rattle.dap_message.specs.declared.message.Message.{Message}
-use Rattle.dap_tool.specs.Answers.{AreMessages, answer_to, answers_of, written}
+use Rattle.dap_tool.specs.Answers.{AreMessages, IsRequest, answers_of, written}
 use Rattle.dap_tool.specs.declared.fault.FirstFault.{FirstFault}
 use Rattle.dap_tool.specs.declared.fault.FirstFault.TheVariants.{Read, Write, Frame as BadFrame, Body, SeqExhausted, TooManyReads, OutOfMemory}
 
@@ -63,19 +64,23 @@ pub record Exhausted (limits : Settings) (w w' : Option (List ℕ)) (s : List �
   pub answered : Answered limits w w' bodies messages
   pub message : Message
   pub message_is : Msg body message
-  pub wants_answer : length (answer_to (limits.seq + 1) message) ≡ 1
+  pub request : IsRequest message.kind
   pub none_left : length (answers_of messages) ≡ limits.seq
 
--- of the answers only the first n bytes went out
+-- of the answers only the first n bytes went out: all to the messages before the last, and not all to the last,
+-- or all of it where the writer failed after its last byte
 pub record CutShort (limits : Settings) (w w' : Option (List ℕ)) (s : List ℕ) (n : ℕ) : Type 0 where
   pub bodies : List (List ℕ)
   pub messages : List Message
-  pub split : Split (bounds_of limits) s bodies []
-  pub are_messages : AreMessages bodies messages
-  pub within : length (answers_of messages) ≤ limits.seq
+  pub body : List ℕ
+  pub message : Message
+  pub split : Split (bounds_of limits) s (bodies ++ body ∷ []) []
+  pub are_messages : AreMessages (bodies ++ body ∷ []) (messages ++ message ∷ [])
+  pub within : length (answers_of (messages ++ message ∷ [])) ≤ limits.seq
   pub out : ℕ
-  pub short : out ≤ length (written (answers_of messages))
-  pub appends : Appends w w' (take out (written (answers_of messages)))
+  pub begun : length (written (answers_of messages)) ≤ out
+  pub short : out ≤ length (written (answers_of (messages ++ message ∷ [])))
+  pub appends : Appends w w' (take out (written (answers_of (messages ++ message ∷ []))))
   pub count : n ≡ counted out
 
 -- the answers to the first bodies of s went out
@@ -97,7 +102,7 @@ Stops limits w w' s SeqExhausted = Exhausted limits w w' s
 Stops limits w w' s TooManyReads = (rest : List ℕ) × AllAnswered limits w w' s rest
 Stops limits w w' s OutOfMemory = Interrupted limits w w' s
 
--- how many bytes at most were read and not used: none, unless the bytes before them were refused
+-- what was read and not used: at a fault within a piece, at most the rest of that piece, else nothing
 abbrev pub LeavesUnused : FirstFault → List ℕ → Type 0
 LeavesUnused Read later = later ≡ []
 LeavesUnused (Write n) later = length later ≤ 4096
@@ -107,7 +112,7 @@ LeavesUnused SeqExhausted later = length later ≤ 4096
 LeavesUnused TooManyReads later = later ≡ []
 LeavesUnused OutOfMemory later = length later ≤ 4096
 
--- each read gave a byte at least
+-- TooManyReads comes only after as many bytes as reads, since each read before it gave one at least
 abbrev pub IsAfterReads : FirstFault → ℕ → ℕ → Type 0
 IsAfterReads Read reads bytes = Unit {0}
 IsAfterReads (Write n) reads bytes = Unit {0}
@@ -117,11 +122,11 @@ IsAfterReads SeqExhausted reads bytes = Unit {0}
 IsAfterReads TooManyReads reads bytes = reads ≤ bytes
 IsAfterReads OutOfMemory reads bytes = Unit {0}
 
--- where the input ended with a reader that has these bytes left over
-abbrev pub EndsAs : Settings → List ℕ → End → Type 0
-EndsAs limits rest Clean = rest ≡ []
-EndsAs limits rest Truncated = verdict (bounds_of limits) rest ≡ Part
-EndsAs limits rest Closed = ⊥
+-- how input ends with this rest after its whole frames, none of which is refused
+abbrev pub IsEndOf : Settings → List ℕ → End → Type 0
+IsEndOf limits rest Clean = rest ≡ []
+IsEndOf limits rest Truncated = verdict (bounds_of limits) rest ≡ Part
+IsEndOf limits rest Closed = ⊥
 
 -- the input came to its end, read in pieces of at most 4096 bytes, and every request in it was answered
 pub record Ended (limits : Settings) (reads : ℕ) (r r' w w' : Option (List ℕ)) (end : End) : Type 0 where
@@ -131,7 +136,7 @@ pub record Ended (limits : Settings) (reads : ℕ) (r r' w w' : Option (List ℕ
   pub few : length s ≤ 4096 * reads
   pub at_end : IsAtEnd r'
   pub all : AllAnswered limits w w' s rest
-  pub ends : EndsAs limits rest end
+  pub ends : IsEndOf limits rest end
 
 -- serving stopped at a fault, with the bytes s used and some read after them
 pub record Stopped (limits : Settings) (reads : ℕ) (r r' w w' : Option (List ℕ)) (fault : FirstFault) : Type 0 where

@@ -1,15 +1,16 @@
--- Words for the steps that serving is made of.
+-- Words for the steps that serving is made of: they serve private functions alone.
 use Rattle.std.specs.Prelude.{◌≡◌, ℕ, ◌+◌, ◌<◌, ◌≤◌, List, [], ◌∷◌, ◌++◌, length, take, Option}
 use Rattle.dap_frame.specs.declared.Cause.{Cause}
 use Rattle.dap_frame.specs.declared.Cause.TheVariants.{Refused, OutOfMemory as NoMemory}
 use Rattle.dap_frame.specs.declared.frames.FrameFault.{FrameFault}
 use Rattle.dap_frame.specs.Settings.{Settings, bounds_of}
 use Rattle.dap_frame.specs.Intake.{Intake, StandsFor, counted}
-use Rattle.dap_message.specs.Refusals.{Bad}
+use Rattle.dap_message.specs.Refusals.{Bad, max_command}
 use Rattle.dap_message.specs.declared.message.Message.{Message}
 use Rattle.dap_message.specs.declared.message.Kind.{Kind}
 use Rattle.dap_message.specs.declared.message.Kind.TheVariants.{Request, Response, Event, Other}
-use Rattle.dap_tool.specs.Answers.{answer_to, answers_of, written}
+use Rattle.dap_json.specs.Field.{max_seq}
+use Rattle.dap_tool.specs.Answers.{IsRequest, answers_of, written}
 use Rattle.dap_tool.specs.FirstServe.{Answered, Stops}
 use Rattle.dap_tool.specs.declared.answerer.Answerer.{Answerer}
 use Rattle.dap_tool.specs.declared.fault.FirstFault.{FirstFault}
@@ -19,18 +20,18 @@ use Rattle.dap_tool.specs.declared.fault.FirstFault.TheVariants.{Read, Write, Fr
 pub record IsIdle (answerer : Answerer) : Type 0 where
   pub none_kept : answerer.outstanding.kept ≡ []
   pub room : 0 < answerer.outstanding.room
-  pub small : answerer.seq.last ≤ 9007199254740991
-  pub in_order : answerer.seq.used ≤ answerer.seq.last
+  pub small : answerer.seq.last ≤ max_seq
+  pub bound : answerer.seq.used ≤ answerer.seq.last
 
 -- a request that can be answered has a seq and a command in their limits
 abbrev pub IsAnswerableKind : Kind → Type 0
-IsAnswerableKind (Request command arguments) = length command ≤ 64
+IsAnswerableKind (Request command arguments) = length command ≤ max_command
 IsAnswerableKind (Response request_seq success command message body) = Unit {0}
 IsAnswerableKind (Event event body) = Unit {0}
 IsAnswerableKind (Other tag) = Unit {0}
 
 pub record IsAnswerable (m : Message) : Type 0 where
-  pub seq : m.seq ≤ 9007199254740991
+  pub seq : m.seq ≤ max_seq
   pub kind : IsAnswerableKind m.kind
 
 -- why a message is not answered
@@ -39,19 +40,9 @@ LeavesUnanswered answerer m Read = ⊥
 LeavesUnanswered answerer m (Write n) = ⊥
 LeavesUnanswered answerer m (Frame fault) = ⊥
 LeavesUnanswered answerer m (Body cause offset) = ⊥
-LeavesUnanswered answerer m SeqExhausted = (length (answer_to (answerer.seq.last + 1) m) ≡ 1) × (answerer.seq.used ≡ answerer.seq.last)
+LeavesUnanswered answerer m SeqExhausted = IsRequest m.kind × (answerer.seq.used ≡ answerer.seq.last)
 LeavesUnanswered answerer m TooManyReads = ⊥
 LeavesUnanswered answerer m OutOfMemory = Unit {0}
-
--- why a request is not answered
-abbrev pub LeavesRequest : Answerer → FirstFault → Type 0
-LeavesRequest answerer Read = ⊥
-LeavesRequest answerer (Write n) = ⊥
-LeavesRequest answerer (Frame fault) = ⊥
-LeavesRequest answerer (Body cause offset) = ⊥
-LeavesRequest answerer SeqExhausted = answerer.seq.used ≡ answerer.seq.last
-LeavesRequest answerer TooManyReads = ⊥
-LeavesRequest answerer OutOfMemory = Unit {0}
 
 -- why a ready body is not read
 abbrev pub LeavesUnread : Intake → FirstFault → Type 0

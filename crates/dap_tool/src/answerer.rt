@@ -3,10 +3,12 @@
 ghost use Rattle.std.specs.Prelude.{◌≡◌, ◌+◌, ◌≤◌, [], length, IfOk, IfErr, OnOk, IsTrue};
 ghost use Rattle.dap_frame.specs.Settings.{Settings};
 ghost use Rattle.dap_frame.specs.Written.{frame_of};
+ghost use Rattle.dap_json.specs.Field.{max_seq};
 ghost use Rattle.dap_message.specs.Canon.{canon};
+ghost use Rattle.dap_message.specs.Refusals.{max_command};
 ghost use Rattle.dap_message.specs.Plain.{is_plain};
 ghost use Rattle.dap_tool.specs.Answers.{capabilities_body, unsupported_body, response_to, answer_to, written};
-ghost use Rattle.dap_tool.specs.Steps.{IsIdle, IsAnswerable, LeavesUnanswered, LeavesRequest};
+ghost use Rattle.dap_tool.specs.Steps.{IsIdle, IsAnswerable, LeavesUnanswered};
 
 use crate::fault::FirstFault;
 use dap_frame::{Limits, write_frame};
@@ -128,13 +130,13 @@ impl Answerer {
     /// Keeps a request, answers it and takes it out.
     fn answer_request(&mut self, alloc: Global, request: Entry) -> Result<Vec<u8>, FirstFault>
         requires idle { IsIdle self.old }
-        requires seq { request.seq ≤ 9007199254740991 }
-        requires command { length request.command ≤ 64 }
+        requires seq { request.seq ≤ max_seq }
+        requires command { length request.command ≤ max_command }
         ensures idle { OnOk result (IsIdle self.new) }
         ensures last { self.new.seq.last ≡ self.old.seq.last }
         ensures used { OnOk result (self.new.seq.used ≡ self.old.seq.used + 1) }
         ensures frame { IfOk result (λ frame. frame.items ≡ frame_of (canon (response_to (self.old.seq.used + 1) request.seq request.command))) }
-        ensures fault { IfErr result (LeavesRequest self.old) }
+        ensures fault { IfErr result (LeavesUnanswered self.old (record { seq = request.seq; kind = Kind.Request request.command request.arguments })) }
     {
         let seq = request.seq;
         match self.outstanding.put(request) {

@@ -14,11 +14,11 @@ pub enum FirstFault {
     /// The reader failed.
     #[error("the input cannot be read")]
     Read,
-    /// The writer failed or took nothing, after so many bytes in all.
+    /// The writer failed or took nothing, after so many bytes in all; more than 18446744073709551615 are told as that.
     #[error("the output failed after {written} bytes")]
     Write { written: u64 },
-    /// The framing of the input is refused.
-    #[error("a frame is refused at byte {}", .0.offset)]
+    /// The framing of the input is refused, or memory for a frame was.
+    #[error("the frame at byte {} is refused", .0.offset)]
     Frame(FrameFault),
     /// A body is no message; the frame's first byte has this offset in the input.
     #[error("the body of the frame at byte {offset} is refused")]
@@ -119,7 +119,7 @@ pub fn fault_line(alloc: Global, fault: &ToolFault) -> Result<Vec<u8>, AllocErro
                     let name = refusal_name(refusal);
                     format!(in alloc; "dap: {name} at {offset}\n")?
                 }
-                Cause::OutOfMemory => format!(in alloc; "dap: OutOfMemory\n")?,
+                Cause::OutOfMemory => format!(in alloc; "dap: OutOfMemory at {offset}\n")?,
             }
         }
         ToolFault::First(FirstFault::Body { cause, offset }) => {
