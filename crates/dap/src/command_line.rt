@@ -79,6 +79,7 @@ fn limit_option<'a>(alloc: Global, option: &LimitOption, help: &'a str) -> Arg<'
         .value_name(option.unit)
         .help(help)
         .action(ArgAction::Set)
+        .allow_negative_numbers(true)
         .value_parser(ValueParser::unsigned(option.limit.least(), option.limit.greatest()))
 }
 
@@ -90,6 +91,7 @@ fn serve<'a>(alloc: Global, limit_texts: &'a [String]) -> Result<Command<'a>, Al
         .action(ArgAction::Set);
     let mut serve = Command::new(alloc, "serve")
         .about("Answers the Debug Adapter Protocol requests of standard input on standard output")
+        .after_help("So far only --max-header, --max-body and --max-seq have an effect.")
         .arg(recording)?;
     for (option, help) in LIMIT_OPTIONS.iter().zip(limit_texts) {
         serve = serve.arg(limit_option(alloc, option, help.as_str()))?;
@@ -100,7 +102,7 @@ fn serve<'a>(alloc: Global, limit_texts: &'a [String]) -> Result<Command<'a>, Al
 /// The command line of the program.
 pub fn command<'a>(alloc: Global, limit_texts: &'a [String]) -> Result<Command<'a>, AllocError> {
     Command::new(alloc, "dap")
-        .about("Serves, reads and checks streams of the Debug Adapter Protocol")
+        .about("Serves streams of the Debug Adapter Protocol")
         .version("0.1.0")
         .after_help("Statuses: 0 fine, 2 usage, 3 refused, 4 truncated, 5 read or write, 6 memory")
         .subcommand_required(true)

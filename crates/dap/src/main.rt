@@ -5,7 +5,7 @@ mod command_line;
 
 use clap::ArgMatches;
 use clap::error::ErrorKind;
-use dap_frame::{End, Limits};
+use dap_frame::End;
 use dap_tool::{FirstFault, ToolFault, fault_line, first_serve, status};
 use std::alloc::{AllocError, AllocFailed};
 use std::io;
@@ -18,10 +18,14 @@ const MAX_READS: u64 = 1000000000;
 /// The status of a wrong command line.
 const USAGE: u8 = 2;
 
-/// What keeps the program from telling how it ended: memory, or a stream that takes nothing.
+/// What keeps the program from telling how it ended.
 #[derive(Debug, Drop)]
 enum Failure {
+    /// A word of the command line is not UTF-8.
+    Words,
+    /// Memory was refused before the streams were touched.
     Memory,
+    /// Help, a version or a message could not be written.
     Stream,
 }
 
@@ -38,17 +42,30 @@ impl<T: Drop> From<AllocFailed<T>> for Failure {
 }
 
 impl From<io::Error> for Failure {
-    fn from(_failed: io::Error) -> Failure {
-        Failure::Stream
+    fn from(failed: io::Error) -> Failure {
+        match failed.kind() {
+            io::ErrorKind::InvalidData => Failure::Words,
+            io::ErrorKind::OutOfMemory => Failure::Memory,
+            _ => Failure::Stream,
+        }
     }
 }
 
 fn main(rt: HostRuntime) -> ExitCode {
-    let code = match run(&rt) {
-        Ok(code) => code,
-        Err(Failure::Memory) => status(&ToolFault::First(FirstFault::OutOfMemory)),
-        Err(Failure::Stream) => status(&ToolFault::First(FirstFault::Read)),
+    let (line, code) = match run(&rt) {
+        Ok(code) => return ExitCode::from(code),
+        Err(Failure::Words) => ("dap: a word of the command line is not UTF-8\n", USAGE),
+        Err(Failure::Memory) => (
+            "dap: OutOfMemory\n",
+            status(&ToolFault::First(FirstFault::OutOfMemory)),
+        ),
+        Err(Failure::Stream) => (
+            "dap: Write\n",
+            status(&ToolFault::First(FirstFault::Write { written: 0 })),
+        ),
     };
+    // Where the line cannot be written either, the status still tells.
+    let _ = rt.stderr().write_all(line.as_bytes());
     ExitCode::from(code)
 }
 
@@ -64,37 +81,40 @@ fn run(rt: &HostRuntime) -> Result<u8, Failure> {
             if error.kind() == ErrorKind::OutOfMemory {
                 return Err(Failure::Memory);
             }
-            error.print(rt)?;
-            return Ok(error.exit_code() as u8);
+            let code = error.exit_code() as u8;
+            let printed = error.print(rt);
+            // Help that was asked for has to come out; a usage message may fail to.
+            if code == 0 {
+                printed?;
+            }
+            return Ok(code);
         }
     };
     match matches.subcommand() {
-        Some(("serve", matches)) => serve(rt, matches),
+        Some(("serve", matches)) => Ok(serve(rt, matches)),
         _ => Ok(USAGE),
     }
 }
 
-/// Serves standard input to standard output.
-fn serve(rt: &HostRuntime, matches: &ArgMatches<'_>) -> Result<u8, Failure> {
-    let limits = match command_line::limits(matches) {
-        Ok(limits) => limits,
-        Err(limit) => {
-            eprintln!(rt; "dap: {limit:?} is out of its range")?;
-            return Ok(USAGE);
-        }
+/// Serves standard input to standard output, and answers the exit status.
+fn serve(rt: &HostRuntime, matches: &ArgMatches<'_>) -> u8 {
+    // The command line took each option in its range, so that the limits are never refused here.
+    let Ok(limits) = command_line::limits(matches) else {
+        return USAGE;
     };
     let mut input = rt.reader();
     let mut output = io::writer(rt);
     match first_serve(rt.alloc(), &mut input, &mut output, limits, MAX_READS) {
         Ok(End::Truncated) => tell(rt, &ToolFault::Truncated),
-        Ok(_) => Ok(0),
+        Ok(_) => 0,
         Err(fault) => tell(rt, &ToolFault::First(fault)),
     }
 }
 
 /// Writes a fault's line on standard error, and answers its status, whether or not the line went out.
-fn tell(rt: &HostRuntime, fault: &ToolFault) -> Result<u8, Failure> {
-    let line = fault_line(rt.alloc(), fault)?;
-    let _ = rt.stderr().write_all(&line);
-    Ok(status(fault))
+fn tell(rt: &HostRuntime, fault: &ToolFault) -> u8 {
+    if let Ok(line) = fault_line(rt.alloc(), fault) {
+        let _ = rt.stderr().write_all(&line);
+    }
+    status(fault)
 }
