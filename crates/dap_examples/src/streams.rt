@@ -54,3 +54,41 @@ impl Write for Short {
         Ok(())
     }
 }
+
+/// Takes everything, counts its flushes, and fails at one of them.
+#[derive(Drop)]
+pub struct Flushed {
+    pub held: Vec<u8>,
+    pub flushes: usize,
+    pub flushes_left: usize,
+}
+
+impl Write for Flushed {
+    fn write(&mut self, buf: &[u8]) -> io::Result<usize> {
+        self.held.extend_from_slice(buf)?;
+        Ok(buf.len())
+    }
+
+    fn flush(&mut self) -> io::Result<()> {
+        if self.flushes_left == 0 {
+            return Err(io::Error::from(io::ErrorKind::Other));
+        }
+        self.flushes_left -= 1;
+        self.flushes = self.flushes.saturating_add(1);
+        Ok(())
+    }
+}
+
+/// Takes nothing, and calls that no failure.
+#[derive(Drop)]
+pub struct Stuck;
+
+impl Write for Stuck {
+    fn write(&mut self, _buf: &[u8]) -> io::Result<usize> {
+        Ok(0)
+    }
+
+    fn flush(&mut self) -> io::Result<()> {
+        Ok(())
+    }
+}

@@ -1,6 +1,6 @@
 //! `first_serve` over streams in memory, with the bytes that it has to write.
 
-use crate::streams::{Pieces, Short};
+use crate::streams::{Flushed, Pieces, Short, Stuck};
 use dap_frame::{Cause, End, FrameFault, Limits, Refusal, write_frame};
 use dap_message::BodyRefusal;
 use dap_tool::{FirstFault, ToolFault, fault_line, first_serve, status};
@@ -355,5 +355,60 @@ fn seqs_run_out(rt: HostRuntime) -> Result<(), Fail> {
         fault_line(rt.alloc(), &fault)?.as_slice(),
         b"dap: SeqExhausted\n".as_slice()
     );
+    Ok(())
+}
+
+/// Each answer is flushed; a flush that fails is told with all that went out; a writer that takes nothing has failed.
+#[test]
+fn flushes(rt: HostRuntime) -> Result<(), Fail> {
+    let input = framed(rt.alloc(), &[INITIALIZE, THREADS])?;
+    for (flushes_left, end, flushes, written) in [
+        (9, Ok(End::Clean), 2, 470),
+        (1, Err(FirstFault::Write { written: 470 }), 1, 470),
+        (0, Err(FirstFault::Write { written: 274 }), 0, 274),
+    ] {
+        let mut reader = Pieces {
+            rest: &input,
+            size: 4096,
+            calls_left: 100,
+        };
+        let mut writer = Flushed {
+            held: Vec::new(rt.alloc()),
+            flushes: 0,
+            flushes_left,
+        };
+        let served = first_serve(rt.alloc(), &mut reader, &mut writer, Limits::usual(), 100);
+        assert_eq!(rt; served, end);
+        assert_eq!(rt; writer.flushes, flushes);
+        assert_eq!(rt; writer.held.len(), written);
+    }
+    let mut reader = Pieces {
+        rest: &input,
+        size: 4096,
+        calls_left: 100,
+    };
+    let served = first_serve(rt.alloc(), &mut reader, &mut Stuck, Limits::usual(), 100);
+    assert_eq!(rt; served, Err(FirstFault::Write { written: 0 }));
+    Ok(())
+}
+
+/// After a refusal nothing more is read: not a byte, where the bytes come one by one.
+#[test]
+fn reads_no_more_after_a_refusal(rt: HostRuntime) -> Result<(), Fail> {
+    let mut input = framed(rt.alloc(), &[INITIALIZE])?;
+    input.extend_from_slice(b"A: b\r\n\r\nContent-Length: 2\r\n\r\n{}")?;
+    let mut reader = Pieces {
+        rest: &input,
+        size: 1,
+        calls_left: 1000,
+    };
+    let mut writer = Short {
+        room: usize::MAX,
+        held: Vec::new(rt.alloc()),
+    };
+    let served = first_serve(rt.alloc(), &mut reader, &mut writer, Limits::usual(), 1000);
+    assert!(rt; served.is_err());
+    assert_eq!(rt; input.len() - reader.rest.len(), 111);
+    assert_eq!(rt; writer.held.len(), 274);
     Ok(())
 }
