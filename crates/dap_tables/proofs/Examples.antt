@@ -5,16 +5,16 @@ use Rattle.dap_tables.specs.declared.entry.Entry.{Entry}
 use Rattle.dap_tables.specs.Outstanding.{Kept, unparked, entries, contains_seq, entry_with, without, is_parked, with_mark, oldest_unparked, HasDistinctSeqs, IsOrderly, IsRefusedForRoom}
 use Rattle.dap_tables.specs.Seq.{Numbers, next_number, after_next, left, answers}
 
-abbrev request : ℕ → Entry
-request seq = record { seq = seq; command = codes "next"; arguments = None }
+abbrev asked : ℕ → Entry
+asked seq = record { seq = seq; command = codes "next"; arguments = None }
 
 -- 5 and then 9 in a table for two
 abbrev two : List Kept
-two = unparked (request 5) ∷ unparked (request 9) ∷ []
+two = unparked (asked 5) ∷ unparked (asked 9) ∷ []
 
 -- 5 was taken and came again
 abbrev again : List Kept
-again = without 5 two ++ unparked (request 5) ∷ []
+again = without 5 two ++ unparked (asked 5) ∷ []
 
 repeated_is_kept : contains_seq 9 two ≡ true
 repeated_is_kept = refl
@@ -28,16 +28,16 @@ seven_finds_no_room = record { new = refl; full = refl }
 two_are_orderly : IsOrderly (record { room = 2; kept = two })
 two_are_orderly = record { bound = lit≤ tt; distinct = (refl, (refl, tt)) }
 
-twice_is_not_distinct : ¬ (HasDistinctSeqs (unparked (request 5) ∷ unparked (request 5) ∷ []))
+twice_is_not_distinct : ¬ (HasDistinctSeqs (unparked (asked 5) ∷ unparked (asked 5) ∷ []))
 twice_is_not_distinct d = cc (d.0)
 
-five_is_found : entry_with 5 two ≡ Some (request 5)
+five_is_found : entry_with 5 two ≡ Some (asked 5)
 five_is_found = refl
 
 seven_is_not_found : entry_with 7 two ≡ None
 seven_is_not_found = refl
 
-a_taken_one_comes_last_again : entries again ≡ request 9 ∷ request 5 ∷ []
+a_taken_one_comes_last_again : entries again ≡ asked 9 ∷ asked 5 ∷ []
 a_taken_one_comes_last_again = refl
 
 the_oldest_is_nine : oldest_unparked again ≡ Some 9
@@ -58,7 +58,7 @@ only_nine_is_parked = (refl, refl)
 none_that_is_not_kept_is_parked : is_parked 7 (with_mark 7 true again) ≡ false
 none_that_is_not_kept_is_parked = refl
 
-the_others_keep_their_order : entries (without 2 (unparked (request 1) ∷ unparked (request 2) ∷ unparked (request 3) ∷ []) ++ unparked (request 4) ∷ []) ≡ request 1 ∷ request 3 ∷ request 4 ∷ []
+the_others_keep_their_order : entries (without 2 (unparked (asked 1) ∷ unparked (asked 2) ∷ unparked (asked 3) ∷ []) ++ unparked (asked 4) ∷ []) ≡ asked 1 ∷ asked 3 ∷ asked 4 ∷ []
 the_others_keep_their_order = refl
 
 -- numbers up to 3
