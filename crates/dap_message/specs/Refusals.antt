@@ -1,6 +1,6 @@
 -- The nine refusals of a body, each a test on the JSON value that its bytes are, in their order.
 -- Which keys a message has: Specification, "ProtocolMessage", "Request", "Response", "Event". The order, the greatest seq and the greatest length of a command are this profile's choice.
-use Rattle.std.specs.Prelude.{◌≡◌, ℕ, List, [], ◌∷◌, length, codes, Bool, true, false, not, ◌&&◌, ◌||◌, nat_le, bytes_eq, Option, Some, None, is_some, is_none, find}
+use Rattle.std.specs.Prelude.{◌≡◌, ℕ, List, [], ◌∷◌, length, codes, Bool, false, not, ◌&&◌, ◌||◌, nat_le, bytes_eq, Option, Some, None, is_some, is_none, find}
 use Rattle.serde_json.specs.Data.{Data}
 use Rattle.dap_json.specs.Field.{if_passes, is_object, whole_at, text_at, bool_at, tree_at}
 use Rattle.dap_json.specs.Read.{json_of}
