@@ -1,9 +1,10 @@
 -- Worked examples, each shown by computation.
 use Rattle.std.proofs.Common.{◌≡◌, [], ◌∷◌, codes, true, false, Some, None, refl}
+use lib.Ieee.{nan}
 use Rattle.std.specs.Fmt.{digits}
 use Rattle.std.specs.Str.{is_utf8, chars}
 use Rattle.json.specs.Print.{escape_byte}
-use Rattle.serde_json.specs.Data.{Data, null, boolean, string, array, object, no_items, item, no_members, member, put}
+use Rattle.serde_json.specs.Data.{Data, null, boolean, number, float, string, array, object, no_items, item, no_members, member, put}
 use Rattle.serde_json.specs.Written.{compact_text}
 use Rattle.serde_json.proofs.OnLiterals.{serde_json_on_literals}
 use Rattle.dap_json.specs.Field.{whole_at, text_at, bool_at, tree_at}
@@ -25,6 +26,11 @@ last_of_equal_keys = refl
 no_utf8 : json_of (34 ∷ 255 ∷ 34 ∷ []) ≡ None
 unfolding json_of is_utf8 chars serde_json_on_literals
 no_utf8 = refl
+
+-- no float is as great, and nothing else is said of the number
+a_number_too_great : json_of (codes "{\"x\":1e999}") ≡ None
+unfolding json_of is_utf8 chars serde_json_on_literals
+a_number_too_great = refl
 
 half_an_object : json_of (codes "{\"a\":") ≡ None
 unfolding json_of is_utf8 chars serde_json_on_literals
@@ -62,8 +68,23 @@ as_text : compact_text (object (member (codes "a") (array (item null (item (whol
 unfolding escape_byte digits
 as_text = refl
 
-two_deep : is_writable 1 (array (item (object no_members) no_items)) ≡ false
-two_deep = refl
+abbrev two_deep : Data
+two_deep = array (item (object no_members) no_items)
+
+two_deep_within_two : is_writable 2 two_deep ≡ true
+two_deep_within_two = refl
+
+two_deep_within_one : is_writable 1 two_deep ≡ false
+two_deep_within_one = refl
+
+a_scalar_nests_no_deep : is_writable 0 (string (codes "x")) ≡ true
+a_scalar_nests_no_deep = refl
+
+an_empty_array_nests_one_deep : is_writable 0 (array no_items) ≡ false
+an_empty_array_nests_one_deep = refl
+
+a_float_is_not_written : is_writable 1 (array (item (number (float nan)) no_items)) ≡ false
+a_float_is_not_written = refl
 
 null_is_no_tree : is_plain_tree (Some null) ≡ false
 null_is_no_tree = refl

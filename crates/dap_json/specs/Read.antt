@@ -1,4 +1,5 @@
 -- From bytes to JSON, and back.
+-- Overview, "Base Protocol": the content part of a message is JSON in UTF-8. JSON is that of RFC 8259, which leaves the limits on nesting and on the range of numbers to whoever reads it.
 use Rattle.std.specs.Prelude.{◌≡◌, ◌≤◌, ℕ, List, false, Option, Some, None, if◌then◌else◌}
 use Rattle.std.specs.Str.{is_utf8}
 use Rattle.serde_json.specs.Data.{Data, depth}
@@ -6,7 +7,7 @@ use Rattle.serde_json.specs.Read.{read, max_depth}
 use Rattle.serde_json.specs.Written.{has_float, compact_text}
 use Rattle.dap_json.specs.Sound.{IsSound}
 
--- the value that bytes are: text in UTF-8, and JSON that nests at most 127 deep
+-- The value that bytes are. They are none if they are not UTF-8, no JSON value, nested deeper than 127, or with a number too great for a float.
 unfoldable pub json_of : List ℕ → Option Data
 json_of bytes = if is_utf8 bytes then read bytes else None
 

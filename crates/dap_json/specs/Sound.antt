@@ -1,4 +1,5 @@
 -- Which JSON data a Rust value can hold.
+-- Overview, "Base Protocol": the content part of a message is in UTF-8, and so are its texts. The ranges of numbers, the order of keys and that no key stands twice are this profile's choice, where RFC 8259 leaves one.
 use Rattle.std.specs.Prelude.{◌≡◌, ℕ, ◌^◌, ◌<◌, pos, negsuc, List, IsUtf8, true, ⊤}
 use Rattle.std.specs.declared.cmp.Ordering.TheVariants.{Less}
 use Rattle.std.specs.Ordering.{nat_cmp}

@@ -1,9 +1,9 @@
 -- Worked examples, each shown by computation.
-use Rattle.std.proofs.Common.{◌≡◌, codes, false, Some, None, refl, arith}
+use Rattle.std.proofs.Common.{◌≡◌, ℕ, List, length, nat_le, codes, true, false, Some, None, refl, arith}
 use Rattle.std.specs.Fmt.{digits}
 use Rattle.std.specs.Str.{is_utf8, chars}
 use Rattle.json.specs.Print.{escape_byte}
-use Rattle.serde_json.specs.Data.{null, object, no_members, member}
+use Rattle.serde_json.specs.Data.{null, boolean, object, no_members, member, put}
 use Rattle.serde_json.proofs.OnLiterals.{serde_json_on_literals}
 use Rattle.dap_json.specs.Put.{whole}
 use Rattle.dap_json.specs.Read.{json_of}
@@ -117,6 +117,10 @@ canon_of_event = refl
 
 null_is_not_plain : is_plain (record { seq = 1; kind = Request (codes "launch") (Some null) }) ≡ false
 null_is_not_plain = refl
+
+a_response_with_a_body_is_plain : (seq request_seq : ℕ) (command : List ℕ) → nat_le seq 9007199254740991 ≡ true → nat_le request_seq 9007199254740991 ≡ true → nat_le (length command) 64 ≡ true
+    → is_plain (record { seq = seq; kind = Response request_seq true command None (Some (object (put (codes "supportsConfigurationDoneRequest") (boolean true) no_members))) }) ≡ true
+a_response_with_a_body_is_plain seq request_seq command e f g = rw (e, f, g) refl
 
 a_type_is_no_tag : is_plain (record { seq = 1; kind = Other (codes "event") }) ≡ false
 a_type_is_no_tag = refl

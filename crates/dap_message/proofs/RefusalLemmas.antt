@@ -3,9 +3,9 @@ use Rattle.std.proofs.Common.{◌≡◌, ℕ, List, codes, bytes_eq, Bool, true,
 use Rattle.std.proofs.lemmas.Slice.Eq.{bytes_eq-Decides}
 use Rattle.serde_json.specs.Data.{Data, null, boolean, number, string, array, object}
 use Rattle.serde_json.specs.Find.{get}
-use Rattle.dap_json.specs.Field.{whole_at, text_at, bool_at}
+use Rattle.dap_json.specs.Field.{is_object, whole_at, text_at, bool_at}
 use Rattle.dap_message.specs.Gives.{Verdict}
-use Rattle.dap_message.specs.Refusals.{is_object, command_at, refusal_of}
+use Rattle.dap_message.specs.Refusals.{command_at, refusal_of}
 use Rattle.dap_message.specs.Verdict.{envelope_of, kind_in, kind_of, request_of, response_of, event_of, verdict_of}
 use Rattle.dap_message.specs.declared.fault.BodyRefusal.{BodyRefusal}
 

@@ -30,13 +30,13 @@ got key (string t) s = tt
 got key (array ds) s = tt
 got key (object ms) s = found key ms s
 
-if_kept : (b : Bool) (d : Data) → IsSound d → IsSoundTree (cond b (Some d) None)
-if_kept true d s = s
-if_kept false d s = tt
+sound_if : (b : Bool) (d : Data) → IsSound d → IsSoundTree (cond b (Some d) None)
+sound_if true d s = s
+sound_if false d s = tt
 
 present : (o : Option Data) → IsSoundTree o → IsSoundTree (unless_null o)
 present None s = tt
-present (Some d) s = if_kept (not (is_null d)) d s
+present (Some d) s = sound_if (not (is_null d)) d s
 
 as_text : (o : Option Data) → IsSoundTree o → IsSoundText (option_and_then as_str o)
 as_text None s = tt

@@ -1,19 +1,11 @@
 -- The nine refusals of a body, each a test on the JSON value that its bytes are, in their order.
 -- Which keys a message has: Specification, "ProtocolMessage", "Request", "Response", "Event". The order, the greatest seq and the greatest length of a command are this profile's choice.
-use Rattle.std.specs.Prelude.{◌≡◌, ℕ, List, [], ◌∷◌, length, codes, Bool, true, false, not, ◌&&◌, ◌||◌, nat_le, bytes_eq, Option, Some, None, is_some, is_none, find}
-use Rattle.serde_json.specs.Data.{Data, null, boolean, number, string, array, object}
-use Rattle.dap_json.specs.Field.{kept, whole_at, text_at, bool_at, tree_at}
+use Rattle.std.specs.Prelude.{◌≡◌, ℕ, List, [], ◌∷◌, length, codes, Bool, false, not, ◌&&◌, ◌||◌, nat_le, bytes_eq, Option, Some, None, is_some, is_none, find}
+use Rattle.serde_json.specs.Data.{Data}
+use Rattle.dap_json.specs.Field.{if_passes, is_object, whole_at, text_at, bool_at, tree_at}
 use Rattle.dap_json.specs.Read.{json_of}
 use Rattle.dap_message.specs.declared.fault.BodyRefusal.{BodyRefusal}
 use Rattle.dap_message.specs.declared.fault.BodyRefusal.TheVariants.{NotJson, NotObject, BadSeq, BadType, BadCommand, BadRequestSeq, BadSuccess, BadEvent, BadMessage}
-
-abbrev pub is_object : Data → Bool
-is_object null = false
-is_object (boolean b) = false
-is_object (number n) = false
-is_object (string s) = false
-is_object (array ds) = false
-is_object (object ms) = true
 
 abbrev pub is_the_text : List ℕ → Option (List ℕ) → Bool
 is_the_text wanted None = false
@@ -34,7 +26,7 @@ max_command = 64
 
 -- the text at `command`, unless it is too long
 abbrev pub command_at : Data → Option (List ℕ)
-command_at d = kept (λ name. nat_le (length name) max_command) (text_at (codes "command") d)
+command_at d = if_passes (λ name. nat_le (length name) max_command) (text_at (codes "command") d)
 
 -- the value is there and passes
 abbrev pub has : (Data → Bool) → Option Data → Bool

@@ -32,6 +32,8 @@ fn tells_the_first_refusal(rt: HostRuntime) {
         ("{\"seq\":1", BodyRefusal::NotJson),
         ("{\"seq\":1,}", BodyRefusal::NotJson),
         ("\"\\ud800\"", BodyRefusal::NotJson),
+        // No float is as great as this number, also where nothing asks for it.
+        ("{\"x\":1e999}", BodyRefusal::NotJson),
         ("[]", BodyRefusal::NotObject),
         ("null", BodyRefusal::NotObject),
         ("{}", BodyRefusal::BadSeq),

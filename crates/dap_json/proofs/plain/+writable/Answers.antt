@@ -2,12 +2,14 @@ use Rattle.std.proofs.Common.{◌≡◌, [], ◌∷◌, ◌++◌, string_cmp, st
 use Rattle.std.proofs.lemmas.Str.{IsUtf8-string_bytes}
 use Rattle.std.specs.List.Sorted.{IsStrictlySortedBy}
 use Rattle.std.specs.Map.{keys_of}
-use Rattle.serde_json.specs.Data.{null, boolean, string}
-use Rattle.serde_json.specs.View.{view, members_view}
+use Rattle.serde_json.specs.Data.{null, boolean, string, array, object}
+use Rattle.serde_json.specs.View.{view, items_view, members_view}
 use Rattle.serde_json.specs.declared.value.Value.{the_lemmas}
-use Rattle.serde_json.proofs.Views.{Entry}
+use Rattle.serde_json.proofs.Views.{Entry, view-Array, view-Object}
 use Rattle.dap_json.specs.Sound.{IsSound, HasSound}
-use Rattle.dap_json.specs.Writable.{members_writable}
+use Rattle.dap_json.specs.Walk.{members_writable}
+use Rattle.dap_json.specs.Writable.{is_writable}
+use Rattle.dap_json.proofs.WalkLemmas.{is_writable-array, is_writable-object}
 use Rattle.dap_json.proofs.SortedKeys.{IsBefore-members_view}
 use Rattle.dap_json.proofs.plain.+writable.Goals as goal
 
@@ -24,6 +26,16 @@ has_plain-loop-name-preserved t c =
       sound = λ rest. l.invariant.sound (subst (λ es. HasSound (members_view es)) (sym step) (IsUtf8-string_bytes e.0, before, c.is_plain.ensures.sound c.if-not-is_plain.false, rest));
       passed = (l.invariant.passed.0 ++ e ∷ [], all ∙ sym (append_assoc l.invariant.passed.0 (e ∷ []) left));
     }
+
+pub is_plain-returns-then-deep-gt0-clause-plain : goal.is_plain-returns-then-deep-gt0-clause-plain
+is_plain-returns-then-deep-gt0-clause-plain t c =
+    let seen : view c.args.value.now ≡ array (items_view c.in-Array.items.items) = rw c.in-Array.is (view-Array c.in-Array.items) in
+    c.are_plain.ensures.plain ∙ is_writable-array c.args.deep (items_view c.in-Array.items.items) c.if-deep-gt0.true ∙ ap (is_writable c.args.deep) (sym seen)
+
+pub is_plain-returns-then-deep-gt0-2-clause-plain : goal.is_plain-returns-then-deep-gt0-2-clause-plain
+is_plain-returns-then-deep-gt0-2-clause-plain t c =
+    let seen : view c.args.value.now ≡ object (members_view c.in-Object.members.entries) = rw c.in-Object.is (view-Object c.in-Object.members) in
+    c.has_plain.ensures.plain ∙ is_writable-object c.args.deep (members_view c.in-Object.members.entries) c.if-deep-gt0-2.true ∙ ap (is_writable c.args.deep) (sym seen)
 
 pub is_plain-returns-in-Null-3-clause-sound : goal.is_plain-returns-in-Null-3-clause-sound
 is_plain-returns-in-Null-3-clause-sound t c =
