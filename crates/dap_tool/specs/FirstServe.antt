@@ -1,6 +1,6 @@
 -- What is written for what is read, whatever pieces the reader gives. Overview, "Base Protocol", for the frames; that an
 -- end stops at the first refusal is this profile's choice.
-use Rattle.std.specs.Prelude.{◌≡◌, ℕ, ◌+◌, ◌*◌, ◌≤◌, List, [], ◌∷◌, ◌++◌, length, take, Option, Result, Ok, Err}
+use Rattle.std.specs.Prelude.{◌≡◌, ℕ, ◌*◌, ◌≤◌, List, [], ◌∷◌, ◌++◌, length, take, Option, Result, Ok, Err}
 use Rattle.std.specs.Io.KnownBytes.{Appends, Consumes, IsAtEnd}
 use Rattle.dap_frame.specs.declared.Cause.TheVariants.{Refused}
 use Rattle.dap_frame.specs.declared.Refusal.{Refusal}
