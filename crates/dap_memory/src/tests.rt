@@ -1,5 +1,7 @@
 //! Examples with their answers, or want of memory.
 
+ghost use Rattle.std.specs.Prelude.{◌≤◌};
+
 use dap_frame::{Cause, Fed, FrameFault, Frames, Limits, write_frame};
 use dap_message::{BodyFault, Kind, Message, Text, read_message, write_message};
 use dap_tables::{Entry, Outstanding, PutFault};
@@ -45,8 +47,6 @@ struct Kept {
 }
 
 impl Write for Kept {
-    ghost use Rattle.std.specs.Prelude.{◌≤◌};
-
     fn write(&mut self, buf: &[u8]) -> io::Result<usize> {
         let room = 1024 - self.len;
         let n = room.min(buf.len());
