@@ -83,6 +83,9 @@ fn limit_option<'a>(alloc: Global, option: &LimitOption, help: &'a str) -> Arg<'
         .value_parser(ValueParser::unsigned(option.limit.least(), option.limit.greatest()))
 }
 
+/// How many of the options bound a reader of frames alone: the first two.
+const FRAME_OPTIONS: usize = 2;
+
 fn serve<'a>(alloc: Global, limit_texts: &'a [String]) -> Result<Command<'a>, AllocError> {
     let recording = Arg::new(alloc, "recording")
         .value_name("RECORDING")
@@ -99,18 +102,60 @@ fn serve<'a>(alloc: Global, limit_texts: &'a [String]) -> Result<Command<'a>, Al
     Ok(serve)
 }
 
+/// A subcommand over a file, with the options that bound a frame.
+fn over_file<'a>(
+    alloc: Global,
+    name: &'static str,
+    about: &'static str,
+    file: &'static str,
+    limit_texts: &'a [String],
+) -> Result<Command<'a>, AllocError> {
+    let file = Arg::new(alloc, "file")
+        .value_name("FILE")
+        .help(file)
+        .required(true)
+        .action(ArgAction::Set);
+    let mut command = Command::new(alloc, name).about(about).arg(file)?;
+    for (option, help) in LIMIT_OPTIONS.iter().zip(limit_texts).take(FRAME_OPTIONS) {
+        command = command.arg(limit_option(alloc, option, help.as_str()))?;
+    }
+    Ok(command)
+}
+
+fn show<'a>(alloc: Global, limit_texts: &'a [String]) -> Result<Command<'a>, AllocError> {
+    over_file(
+        alloc,
+        "show",
+        "Lists the messages of a stream, one a line",
+        "The stream, as one side wrote it, of at most 67108864 bytes",
+        limit_texts,
+    )
+}
+
+fn wrap<'a>(alloc: Global, limit_texts: &'a [String]) -> Result<Command<'a>, AllocError> {
+    over_file(
+        alloc,
+        "wrap",
+        "Writes the messages of a file, one a line, as a stream of frames",
+        "The messages, as JSON, one a line, of at most 67108864 bytes",
+        limit_texts,
+    )
+}
+
 /// The command line of the program.
 pub fn command<'a>(alloc: Global, limit_texts: &'a [String]) -> Result<Command<'a>, AllocError> {
     Command::new(alloc, "dap")
-        .about("Serves streams of the Debug Adapter Protocol")
+        .about("Serves, lists and makes streams of the Debug Adapter Protocol")
         .version("0.1.0")
         .after_help("Statuses: 0 fine, 2 usage, 3 refused, 4 truncated, 5 read or write, 6 memory")
         .subcommand_required(true)
         .arg_required_else_help(true)
-        .subcommand(serve(alloc, limit_texts)?)
+        .subcommand(serve(alloc, limit_texts)?)?
+        .subcommand(show(alloc, limit_texts)?)?
+        .subcommand(wrap(alloc, limit_texts)?)
 }
 
-/// The limits that the options set, and the defaults for the others.
+/// The limits that the options set, and the defaults for the others and for those that the subcommand does not have.
 pub fn limits(matches: &ArgMatches<'_>) -> Result<Limits, LimitFault> {
     let usual = Limits::usual();
     let set = |option: &LimitOption| {

@@ -6,8 +6,9 @@ mod command_line;
 use clap::ArgMatches;
 use clap::error::ErrorKind;
 use dap_frame::End;
-use dap_tool::{FirstFault, ToolFault, fault_line, first_serve, status};
+use dap_tool::{FileFault, ToolFault, fault_line, first_serve, read_whole, status};
 use std::alloc::{AllocError, AllocFailed};
+use std::fs::File;
 use std::io;
 use std::io::Write;
 use std::process::ExitCode;
@@ -55,14 +56,8 @@ fn main(rt: HostRuntime) -> ExitCode {
     let (line, code) = match run(&rt) {
         Ok(code) => return ExitCode::from(code),
         Err(Failure::Words) => ("dap: a word of the command line is not UTF-8\n", USAGE),
-        Err(Failure::Memory) => (
-            "dap: OutOfMemory\n",
-            status(&ToolFault::First(FirstFault::OutOfMemory)),
-        ),
-        Err(Failure::Stream) => (
-            "dap: Write\n",
-            status(&ToolFault::First(FirstFault::Write { written: 0 })),
-        ),
+        Err(Failure::Memory) => ("dap: OutOfMemory\n", status(&ToolFault::OutOfMemory)),
+        Err(Failure::Stream) => ("dap: Write\n", status(&ToolFault::Write)),
     };
     // Where the line cannot be written either, the status still tells.
     let _ = rt.stderr().write_all(line.as_bytes());
@@ -92,6 +87,8 @@ fn run(rt: &HostRuntime) -> Result<u8, Failure> {
     };
     match matches.subcommand() {
         Some(("serve", matches)) => Ok(serve(rt, matches)),
+        Some(("show", matches)) => Ok(show(rt, matches)),
+        Some(("wrap", matches)) => Ok(wrap(rt, matches)),
         _ => Ok(USAGE),
     }
 }
@@ -109,6 +106,70 @@ fn serve(rt: &HostRuntime, matches: &ArgMatches<'_>) -> u8 {
         Ok(_) => 0,
         Err(fault) => tell(rt, &ToolFault::First(fault)),
     }
+}
+
+/// Lists the messages of a file on standard output, and answers the exit status. What was listed is printed before a
+/// fault is told.
+fn show(rt: &HostRuntime, matches: &ArgMatches<'_>) -> u8 {
+    let Ok(limits) = command_line::limits(matches) else {
+        return USAGE;
+    };
+    let bytes = match read_file(rt, matches) {
+        Ok(bytes) => bytes,
+        Err(fault) => return tell(rt, &ToolFault::File(fault)),
+    };
+    let mut listing = Vec::new(rt.alloc());
+    let shown = dap_tool::show(rt.alloc(), &bytes, limits, &mut listing);
+    if print(rt, &listing).is_err() {
+        return tell(rt, &ToolFault::Write);
+    }
+    match shown {
+        Ok(End::Truncated) => tell(rt, &ToolFault::Truncated),
+        Ok(_) => 0,
+        Err(fault) => tell(rt, &ToolFault::Show(fault)),
+    }
+}
+
+/// Writes the lines of a file as frames on standard output, and answers the exit status. At a fault nothing is written.
+fn wrap(rt: &HostRuntime, matches: &ArgMatches<'_>) -> u8 {
+    let Ok(limits) = command_line::limits(matches) else {
+        return USAGE;
+    };
+    let bytes = match read_file(rt, matches) {
+        Ok(bytes) => bytes,
+        Err(fault) => return tell(rt, &ToolFault::File(fault)),
+    };
+    let frames = match dap_tool::wrap(rt.alloc(), &bytes, limits) {
+        Ok(frames) => frames,
+        Err(fault) => return tell(rt, &ToolFault::Wrap(fault)),
+    };
+    match print(rt, &frames) {
+        Ok(()) => 0,
+        Err(_) => tell(rt, &ToolFault::Write),
+    }
+}
+
+/// The bytes of the file that the command line names.
+fn read_file(rt: &HostRuntime, matches: &ArgMatches<'_>) -> Result<Vec<u8>, FileFault> {
+    // The command line has this word, or it was refused.
+    let Some(path) = matches.get_str("file") else {
+        return Err(FileFault::Read);
+    };
+    let Ok(mut file) = File::open(rt, path) else {
+        return Err(FileFault::Read);
+    };
+    let expected = match file.metadata() {
+        Ok(metadata) => metadata.len(),
+        Err(_) => 0,
+    };
+    read_whole(rt.alloc(), &mut file, expected)
+}
+
+/// Writes all bytes to standard output.
+fn print(rt: &HostRuntime, bytes: &[u8]) -> io::Result<()> {
+    let mut output = io::writer(rt);
+    output.write_all(bytes)?;
+    output.flush()
 }
 
 /// Writes a fault's line on standard error, and answers its status, whether or not the line went out.

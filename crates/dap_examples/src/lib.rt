@@ -2,6 +2,8 @@
 #![tactic(auto)]
 
 #[cfg(test)]
+mod listings;
+#[cfg(test)]
 mod streams;
 #[cfg(test)]
 mod tests;

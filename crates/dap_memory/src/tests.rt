@@ -5,7 +5,7 @@ ghost use Rattle.std.specs.Prelude.{◌≤◌};
 use dap_frame::{Cause, Fed, FrameFault, Frames, Limits, write_frame};
 use dap_message::{BodyFault, Kind, Message, Text, read_message, write_message};
 use dap_tables::{Entry, Outstanding, PutFault};
-use dap_tool::{FirstFault, ToolFault, fault_line, first_serve};
+use dap_tool::{FirstFault, ToolFault, WrapFault, fault_line, first_serve, wrap};
 use std::alloc::Global;
 use std::io;
 use std::io::{Read, Write};
@@ -206,6 +206,23 @@ fn telling_a_fault(rt: HostRuntime) -> Result<(), Fail> {
     match fault_line(rt.alloc(), &ToolFault::First(fault)) {
         Ok(line) => assert_eq!(rt; line.as_slice(), b"dap: BadSeq at 103\n".as_slice()),
         Err(_) => note(&rt)?,
+    }
+    Ok(())
+}
+
+/// The bodies of `INPUT`, one a line.
+static FILE: &[u8; 130] =
+    b"{\"seq\":1,\"type\":\"request\",\"command\":\"initialize\",\"arguments\":{\"adapterID\":\"rec\"}}\n\r\n{\"seq\":1,\"type\":\"request\",\"command\":\"threads\"}";
+
+/// Two bodies are framed, or none is.
+#[test]
+fn wrapping(rt: HostRuntime) -> Result<(), Fail> {
+    match wrap(rt.alloc(), FILE, Limits::usual()) {
+        Ok(frames) => assert!(rt; frames.as_slice() == INPUT.as_slice()),
+        Err(fault) => {
+            assert_eq!(rt; fault, WrapFault::OutOfMemory);
+            note(&rt)?;
+        }
     }
     Ok(())
 }

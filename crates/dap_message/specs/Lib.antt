@@ -4,9 +4,11 @@ pub use Rattle.dap_json.specs.Writable
 pub use Rattle.dap_json.specs.Put
 pub use Rattle.dap_json.specs.Sound
 pub use Rattle.dap_json.specs.Read
+pub use Rattle.dap_json.specs.Skim
 pub mod Refusals
 pub mod Meaning
 pub mod Gives
+pub mod Heading
 pub mod Verdict
 pub mod Plain
 pub mod Canon

@@ -9,7 +9,13 @@ use Rattle.dap_message.specs.declared.fault.BodyRefusal.TheVariants.{NotJson, No
 use Rattle.dap_tool.specs.declared.fault.FirstFault.{FirstFault}
 use Rattle.dap_tool.specs.declared.fault.FirstFault.TheVariants.{Read, Write, Frame, Body, SeqExhausted, TooManyReads, OutOfMemory}
 use Rattle.dap_tool.specs.declared.fault.ToolFault.{ToolFault}
-use Rattle.dap_tool.specs.declared.fault.ToolFault.TheVariants.{First, Truncated}
+use Rattle.dap_tool.specs.declared.fault.ToolFault.TheVariants.{First, Show, Wrap, File, Truncated, Write as OutputFailed, OutOfMemory as NoMemoryAtAll}
+use Rattle.dap_tool.specs.declared.listing.ShowFault.{ShowFault}
+use Rattle.dap_tool.specs.declared.listing.ShowFault.TheVariants.{Frame as ShownFrame, Body as ShownBody, OutOfMemory as NoMemoryToShow}
+use Rattle.dap_tool.specs.declared.wrapping.WrapFault.{WrapFault}
+use Rattle.dap_tool.specs.declared.wrapping.WrapFault.TheVariants.{Body as WrappedBody, BodyTooLong as LongLine, OutOfMemory as NoMemoryToWrap}
+use Rattle.dap_tool.specs.declared.files.FileFault.{FileFault}
+use Rattle.dap_tool.specs.declared.files.FileFault.TheVariants.{Read as FileUnread, FileTooLong, OutOfMemory as NoMemoryForFile}
 
 -- ---- statuses: 3 refused, 4 truncated, 5 read or write, 6 memory
 
@@ -26,9 +32,29 @@ status_of_first SeqExhausted = 3
 status_of_first TooManyReads = 5
 status_of_first OutOfMemory = 6
 
+abbrev pub status_of_show : ShowFault → ℕ
+status_of_show (ShownFrame fault) = status_of_cause fault.cause
+status_of_show (ShownBody cause offset) = 3
+status_of_show NoMemoryToShow = 6
+
+abbrev pub status_of_wrap : WrapFault → ℕ
+status_of_wrap (WrappedBody cause line) = 3
+status_of_wrap (LongLine line) = 3
+status_of_wrap NoMemoryToWrap = 6
+
+abbrev pub status_of_file : FileFault → ℕ
+status_of_file FileUnread = 5
+status_of_file FileTooLong = 3
+status_of_file NoMemoryForFile = 6
+
 abbrev pub status_of : ToolFault → ℕ
 status_of (First fault) = status_of_first fault
+status_of (Show fault) = status_of_show fault
+status_of (Wrap fault) = status_of_wrap fault
+status_of (File fault) = status_of_file fault
 status_of Truncated = 4
+status_of OutputFailed = 5
+status_of NoMemoryAtAll = 6
 
 -- ---- lines
 
@@ -57,19 +83,42 @@ named_line name = codes "dap: " ++ name ++ codes "\n"
 abbrev pub line_at : List ℕ → ℕ → List ℕ
 line_at name offset = codes "dap: " ++ name ++ codes " at " ++ decimal offset ++ codes "\n"
 
-abbrev pub line_of_cause : Cause → ℕ → List ℕ
-line_of_cause (Refused refusal) offset = line_at (name_of_refusal refusal) offset
-line_of_cause NoMemory offset = line_at (codes "OutOfMemory") offset
+abbrev pub line_at_line : List ℕ → ℕ → List ℕ
+line_at_line name line = codes "dap: " ++ name ++ codes " at line " ++ decimal line ++ codes "\n"
+
+abbrev pub name_of_cause : Cause → List ℕ
+name_of_cause (Refused refusal) = name_of_refusal refusal
+name_of_cause NoMemory = codes "OutOfMemory"
 
 abbrev pub line_of_first : FirstFault → List ℕ
 line_of_first Read = named_line (codes "Read")
 line_of_first (Write written) = named_line (codes "Write")
-line_of_first (Frame fault) = line_of_cause fault.cause fault.offset
+line_of_first (Frame fault) = line_at (name_of_cause fault.cause) fault.offset
 line_of_first (Body cause offset) = line_at (name_of_body_refusal cause) offset
 line_of_first SeqExhausted = named_line (codes "SeqExhausted")
 line_of_first TooManyReads = named_line (codes "TooManyReads")
 line_of_first OutOfMemory = named_line (codes "OutOfMemory")
 
+abbrev pub line_of_show : ShowFault → List ℕ
+line_of_show (ShownFrame fault) = line_at (name_of_cause fault.cause) fault.offset
+line_of_show (ShownBody cause offset) = line_at (name_of_body_refusal cause) offset
+line_of_show NoMemoryToShow = named_line (codes "OutOfMemory")
+
+abbrev pub line_of_wrap : WrapFault → List ℕ
+line_of_wrap (WrappedBody cause line) = line_at_line (name_of_body_refusal cause) line
+line_of_wrap (LongLine line) = line_at_line (codes "BodyTooLong") line
+line_of_wrap NoMemoryToWrap = named_line (codes "OutOfMemory")
+
+abbrev pub line_of_file : FileFault → List ℕ
+line_of_file FileUnread = named_line (codes "Read")
+line_of_file FileTooLong = named_line (codes "FileTooLong")
+line_of_file NoMemoryForFile = named_line (codes "OutOfMemory")
+
 abbrev pub line_of : ToolFault → List ℕ
 line_of (First fault) = line_of_first fault
+line_of (Show fault) = line_of_show fault
+line_of (Wrap fault) = line_of_wrap fault
+line_of (File fault) = line_of_file fault
 line_of Truncated = named_line (codes "Truncated")
+line_of OutputFailed = named_line (codes "Write")
+line_of NoMemoryAtAll = named_line (codes "OutOfMemory")

@@ -6,8 +6,14 @@
 
 mod answerer;
 mod fault;
+mod files;
+mod listing;
 mod sending;
 mod serving;
+mod wrapping;
 
 pub use fault::{FirstFault, ToolFault, fault_line, status};
+pub use files::{FileFault, MAX_FILE, read_whole};
+pub use listing::{ShowFault, show};
 pub use serving::first_serve;
+pub use wrapping::{WrapFault, wrap};

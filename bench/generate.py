@@ -1,0 +1,450 @@
+#!/usr/bin/env python3
+"""Writes a stream of framed Debug Adapter Protocol messages to standard output.
+
+    generate.py KIND BYTES SEED > FILE
+
+KIND `large` is what an adapter sends where the debuggee is big: `stackTrace`, `variables`, `loadedSources` and
+`modules` responses and long `output` events, of some 4 KB to 170 KB each. KIND `small` is both ends of sessions
+that step and look around: requests, short responses and short events, of some 50 to 400 bytes each.
+
+The stream ends with the first frame that reaches BYTES. The same KIND, BYTES and SEED give the same bytes on
+every machine: of Python's generator only `random()` is used, whose sequence does not change between versions.
+
+A stream is sessions, one after the other. Each session has an adapter and a client, after the wire habits of
+real ones: the order of keys, blanks after colons, which characters are escaped, and how `seq` counts.
+"""
+
+import argparse
+import json
+import random
+import sys
+
+COMPACT = (",", ":")
+
+
+# ---- How the ends write JSON -------------------------------------------------------------------------------
+
+SORTED = json.JSONEncoder(ensure_ascii=False, sort_keys=True, separators=COMPACT)
+PLAIN = json.JSONEncoder(ensure_ascii=False, separators=COMPACT)
+SPACED = json.JSONEncoder()
+
+
+def go_text(message):
+    """Go escapes three characters more; in JSON text they stand within strings only."""
+    text = PLAIN.encode(message)
+    return text.replace("<", "\\u003c").replace(">", "\\u003e").replace("&", "\\u0026")
+
+
+# For each adapter: its writer, and whether its `seq` counts or is always 0.
+ADAPTERS = {
+    "lldb": (SORTED.encode, False),
+    "delve": (go_text, False),
+    "debugpy": (SPACED.encode, True),
+    "rdbg": (PLAIN.encode, True),
+}
+CLIENTS = {"editor": PLAIN.encode, "go": go_text, "python": SPACED.encode}
+
+
+def frame(text):
+    body = text.encode("utf-8")
+    return b"Content-Length: %d\r\n\r\n%s" % (len(body), body)
+
+
+# ---- What the messages speak of ----------------------------------------------------------------------------
+
+WORDS = """account address alias arena batch block bucket buffer builder cache chunk client column config
+context cursor decoder depth digest encoder entry epoch event factory field filter folder frame graph handler
+header index inner iterator journal kernel label layout ledger length limit listener lock lookup manifest mapper
+marker matrix method monitor node offset option order owner packet parent parser payload pending pool prefix
+query queue range reader record region registry request result retry root router row scanner schema scope
+segment selector server session shard signal slot snapshot source state store stream table target task ticket
+token total tracker tree update value vector version visitor watcher weight window worker writer""".split()
+NON_ASCII = ["café", "naïve", "Größe", "σύνολο", "данные", "日本語", "名前", "→", "✓", "“done”", "😀", "🚀", "—"]
+EXTENSIONS = {"lldb": [".cpp", ".c", ".h", ".rs"], "delve": [".go"], "debugpy": [".py"], "rdbg": [".rb"]}
+FOLDERS = {
+    "lldb": ["/home/user/project/src", "/usr/include/c++/12/bits", "/build/glibc-2.36/sysdeps/x86_64"],
+    "delve": ["/home/user/go/src/project", "/usr/lib/go-1.19/src/runtime", "/usr/lib/go-1.19/src/net/http"],
+    "debugpy": ["/home/user/project", "/usr/lib/python3.11/asyncio", "/home/user/venv/lib/python3.11/site-packages"],
+    "rdbg": ["/home/user/project/lib", "/usr/lib/ruby/3.1.0", "/var/lib/gems/3.1.0/gems/rack-2.2.6/lib/rack"],
+}
+TYPES = {
+    "lldb": ["int", "unsigned long", "const char *", "double", "bool", "std::string", "Node *",
+             "std::vector<int, std::allocator<int> >", "std::map<std::string, Entry>"],
+    "delve": ["int", "uint64", "string", "float64", "bool", "[]byte", "*main.node", "map[string]main.entry",
+              "chan<- error"],
+    "debugpy": ["int", "str", "float", "bool", "list", "dict", "NoneType", "Node"],
+    "rdbg": ["Integer", "String", "Float", "TrueClass", "Array", "Hash", "NilClass", "Node"],
+}
+
+
+class World:
+    """Draws what one session speaks of."""
+
+    def __init__(self, draw, adapter):
+        self.draw = draw
+        self.adapter = adapter
+
+    def below(self, count):
+        return int(self.draw() * count)
+
+    def between(self, low, high):
+        return low + int(self.draw() * (high - low + 1))
+
+    def pick(self, options):
+        return options[int(self.draw() * len(options))]
+
+    def chance(self, share):
+        return self.draw() < share
+
+    def word(self):
+        return self.pick(WORDS)
+
+    def name(self):
+        one, two = self.word(), self.word()
+        if self.adapter == "delve":
+            return one + two.capitalize()
+        return one if self.chance(0.4) else one + "_" + two
+
+    def function(self):
+        one, two = self.word(), self.name()
+        if self.adapter == "lldb":
+            return self.pick([two, one + "::" + two, "std::vector<%s, std::allocator<%s> >::%s" % (one, one, two),
+                              one.capitalize() + "::" + two + "(std::string const&, unsigned long)"])
+        if self.adapter == "delve":
+            return self.pick(["main." + two, "main.(*" + one + ")." + two, "runtime." + two, "net/http." + two])
+        if self.adapter == "debugpy":
+            return self.pick([two, "<module>", "<lambda>", one.capitalize() + "." + two])
+        return self.pick(["Object#" + two, one.capitalize() + "#" + two, "block in <main>", "[C] Array#each"])
+
+    def file(self):
+        return self.word() + "_" + self.word() + self.pick(EXTENSIONS[self.adapter])
+
+    def path(self, file):
+        return self.pick(FOLDERS[self.adapter]) + "/" + self.word() + "/" + file
+
+    def address(self):
+        return "0x%016x" % (0x7F0000000000 + self.below(1 << 40))
+
+    def source(self):
+        file = self.file()
+        path = self.path(file)
+        if self.adapter == "debugpy":
+            return {"path": path, "sourceReference": 0}
+        if self.adapter == "rdbg":
+            return {"name": file, "path": path, "sourceReference": None}
+        return {"name": file, "path": path}
+
+    def category(self):
+        return self.pick(["stdout", "stderr", "console"])
+
+    def words(self, count):
+        return " ".join(self.word() for _ in range(count))
+
+    def value(self, kind):
+        """The text of a value, as adapters show it; so with quotes and escapes in it."""
+        if kind in ("int", "unsigned long", "uint64", "Integer"):
+            return str(self.below(1 << self.between(1, 40)))
+        if kind in ("double", "float64", "float", "Float"):
+            return "%.6f" % (self.draw() * 1000)
+        if kind in ("bool", "TrueClass"):
+            return self.pick(["true", "false"]) if self.adapter != "debugpy" else self.pick(["True", "False"])
+        if kind in ("NoneType", "NilClass"):
+            return "None" if kind == "NoneType" else "nil"
+        if "char" in kind or kind in ("string", "str", "String", "std::string"):
+            text = '"' + self.words(self.between(1, 6)) + self.pick(["", "", "\\n", " \\\"x\\\"", "\\t"]) + '"'
+            if self.chance(0.08):
+                text = text[:-1] + " " + self.pick(NON_ASCII) + '"'
+            return self.address() + " " + text if "char" in kind else text
+        if self.chance(0.3):
+            return self.address()
+        if self.adapter == "debugpy":
+            return "<__main__.%s object at %s>" % (self.word().capitalize(), self.address())
+        if self.adapter == "rdbg":
+            return "#<%s:%s @%s=%d>" % (self.word().capitalize(), self.address(), self.word(), self.below(1000))
+        return "{%s: %d, %s: \"%s\"}" % (self.word(), self.below(1000), self.word(), self.name())
+
+    def variable(self):
+        kind = self.pick(TYPES[self.adapter])
+        name = "[%d]" % self.below(1000) if self.chance(0.15) else self.name()
+        value = self.value(kind)
+        held = value[:1] in "<#{0" and self.chance(0.8)
+        reference = self.between(1, 100000) if held else 0
+        made = {"name": name, "value": value, "type": kind}
+        if self.adapter == "delve":
+            made["presentationHint"] = {}
+        if self.chance(0.8):
+            made["evaluateName"] = name if self.chance(0.5) else self.name() + "." + name
+        made["variablesReference"] = reference
+        if reference and self.chance(0.4):
+            made["indexedVariables"] = self.below(1000)
+        if self.adapter == "rdbg":
+            made["namedVariables"] = self.below(10)
+        if self.adapter == "lldb":
+            made["id"] = self.between(1, 1000)
+        if reference and self.chance(0.3):
+            made["memoryReference"] = self.address()
+        if self.adapter == "debugpy" and self.chance(0.1):
+            made["presentationHint"] = {"attributes": ["readOnly"], "visibility": "private"}
+        return made
+
+    def stack_frame(self, number):
+        made = {"id": number, "name": self.function(), "source": self.source(), "line": self.between(1, 5000),
+                "column": self.between(0, 80)}
+        if self.adapter in ("lldb", "delve") or self.chance(0.3):
+            made["instructionPointerReference"] = self.address()
+        if self.chance(0.5):
+            made["moduleId"] = self.below(400) if self.chance(0.5) else self.word() + ".so.6"
+        if self.chance(0.3):
+            made["presentationHint"] = self.pick(["subtle", "label", "normal"])
+        return made
+
+    def loaded_source(self):
+        made = self.source()
+        if self.chance(0.2):
+            made["origin"] = self.words(3)
+        if self.chance(0.25):
+            digest = "".join("%08x" % self.below(1 << 32) for _ in range(8))
+            made["checksums"] = [{"algorithm": "SHA256", "checksum": digest}]
+        return made
+
+    def module(self, number):
+        file = "lib%s_%s.so.%d" % (self.word(), self.word(), self.below(20))
+        path = "/usr/lib/x86_64-linux-gnu/" + file
+        made = {"id": number if self.chance(0.5) else file, "name": file, "path": path, "isOptimized": self.chance(0.7),
+                "isUserCode": self.chance(0.2), "version": "%d.%d.%d" % (self.below(9), self.below(40), self.below(99)),
+                "symbolStatus": self.pick(["Symbols loaded.", "Symbols not found.", "Skipped loading symbols."])}
+        if self.chance(0.5):
+            made["symbolFilePath"] = "/usr/lib/debug/.build-id/%02x/%08x.debug" % (self.below(256), self.below(1 << 32))
+        made["addressRange"] = self.address()
+        return made
+
+    def breakpoint(self, number):
+        made = {"id": number, "verified": self.chance(0.9), "line": self.between(1, 3000)}
+        if self.chance(0.5):
+            made["source"] = self.source()
+        return made
+
+    def log(self, size):
+        """Lines of a log, of at least so many characters: quotes, colours, tabs and some letters past ASCII."""
+        lines, made = [], 0
+        while made < size:
+            kind = self.below(6)
+            if kind == 0:
+                line = "\x1b[3%dm%s\x1b[0m %s: %s" % (self.between(1, 6), self.pick(["INFO", "WARN", "DEBUG"]),
+                                                       self.name(), self.words(self.between(3, 12)))
+            elif kind == 1:
+                line = "%s: {\"%s\": \"%s\", \"%s\": %d}" % (self.name(), self.word(), self.name(), self.word(),
+                                                             self.below(100000))
+            elif kind == 2:
+                line = "\t" + self.function() + " (" + self.path(self.file()) + ":" + str(self.below(3000)) + ")"
+            elif kind == 3:
+                line = "%s %s %s" % (self.words(4), self.pick(NON_ASCII), self.words(3))
+            else:
+                line = "%02d:%02d:%02d.%03d %s" % (self.below(24), self.below(60), self.below(60), self.below(1000),
+                                                   self.words(self.between(4, 14)))
+            lines.append(line)
+            made += len(line) + 1
+        return "\n".join(lines) + "\n"
+
+
+# ---- Sessions ----------------------------------------------------------------------------------------------
+
+
+class Session:
+    """Two ends: what each of them writes, as frames in the order of the wire."""
+
+    def __init__(self, draw):
+        self.adapter = list(ADAPTERS)[int(draw() * len(ADAPTERS))]
+        self.client = list(CLIENTS)[int(draw() * len(CLIENTS))]
+        self.world = World(draw, self.adapter)
+        self.adapter_writer, self.counts = ADAPTERS[self.adapter]
+        self.client_writer = CLIENTS[self.client]
+        self.asked = 0
+        self.told = 0
+        self.frames = []
+
+    def take(self):
+        frames, self.frames = self.frames, []
+        return frames
+
+    def tell(self, message):
+        self.frames.append(frame(self.adapter_writer(message)))
+
+    def next_told(self):
+        self.told += 1
+        return self.told if self.counts else 0
+
+    def request(self, command, arguments=None):
+        self.asked += 1
+        if self.client == "editor":
+            message = {"command": command, "arguments": arguments, "type": "request", "seq": self.asked}
+        else:
+            message = {"seq": self.asked, "type": "request", "command": command, "arguments": arguments}
+        if arguments is None:
+            del message["arguments"]
+        self.frames.append(frame(self.client_writer(message)))
+
+    def respond(self, command, body=None, failure=None):
+        number = self.next_told()
+        if self.adapter == "rdbg":
+            message = {"type": "response", "command": command, "request_seq": self.asked, "success": failure is None,
+                       "message": failure or "Success"}
+        else:
+            message = {"seq": number, "type": "response", "request_seq": self.asked, "success": failure is None,
+                       "command": command}
+            if failure is not None:
+                message["message"] = failure
+        if body is not None:
+            message["body"] = body
+        if self.adapter == "rdbg":
+            message["seq"] = number
+        self.tell(message)
+
+    def event(self, name, body=None):
+        number = self.next_told()
+        if self.adapter == "rdbg":
+            message = {"type": "event", "event": name, "body": body, "seq": number}
+        else:
+            message = {"seq": number, "type": "event", "event": name, "body": body}
+        if body is None:
+            del message["body"]
+        self.tell(message)
+
+    # -- large messages
+
+    def large(self):
+        world = self.world
+        self.asked += world.between(1, 3)
+        kind = world.below(100)
+        if kind < 35:
+            count = world.between(20, 200)
+            first = world.between(1, 100000)
+            frames = [world.stack_frame(first + place) for place in range(count)]
+            self.respond("stackTrace", {"stackFrames": frames, "totalFrames": count})
+        elif kind < 70:
+            self.respond("variables", {"variables": [world.variable() for _ in range(world.between(50, 500))]})
+        elif kind < 76:
+            self.respond("loadedSources", {"sources": [world.loaded_source() for _ in range(world.between(50, 1300))]})
+        elif kind < 82:
+            count = world.between(20, 300)
+            self.respond("modules", {"modules": [world.module(place) for place in range(count)], "totalModules": count})
+        else:
+            body = {"category": world.category(), "output": world.log(world.between(4000, 40000))}
+            if world.chance(0.2):
+                body["source"], body["line"] = world.source(), world.between(1, 3000)
+            self.event("output", body)
+
+    # -- small messages: what follows one step or one look
+
+    def small(self):
+        world = self.world
+        thread = world.between(1, 9) if self.adapter != "lldb" else world.between(4000, 30000)
+        kind = world.below(100)
+        if kind < 22:
+            self.step(thread)
+        elif kind < 30:
+            self.request("threads")
+            self.respond("threads", {"threads": [{"id": thread + place, "name": world.name() if place else "main"}
+                                                 for place in range(world.between(1, 4))]})
+        elif kind < 42:
+            arguments = {"threadId": thread}
+            if world.chance(0.6):
+                arguments["startFrame"] = 0
+                arguments["levels"] = 1
+            self.request("stackTrace", arguments)
+            self.respond("stackTrace", {"stackFrames": [world.stack_frame(world.between(1, 600000))], "totalFrames": 1})
+        elif kind < 52:
+            self.request("scopes", {"frameId": world.between(1, 600000)})
+            reference = world.between(1, 10000)
+            scopes = [
+                {"name": "Locals", "presentationHint": "locals", "variablesReference": reference, "expensive": False},
+                {"name": "Globals", "variablesReference": reference + 1, "expensive": False},
+            ]
+            self.respond("scopes", {"scopes": scopes[:world.between(1, 2)]})
+        elif kind < 66:
+            self.request("variables", {"variablesReference": world.between(1, 100000)})
+            self.respond("variables", {"variables": [world.variable() for _ in range(world.below(3))]})
+        elif kind < 74:
+            self.evaluate()
+        elif kind < 80:
+            self.breakpoints()
+        elif kind < 94:
+            body = {"category": world.category(), "output": world.log(world.between(1, 80))[-240:]}
+            if self.adapter == "debugpy" and world.chance(0.05):
+                body = {"category": "telemetry", "output": world.word(), "data": {"seconds": world.below(10000) / 1000}}
+            self.event("output", body)
+        elif kind < 97:
+            self.event("thread", {"reason": world.pick(["started", "exited"]), "threadId": thread})
+        else:
+            self.event("breakpoint", {"reason": "changed", "breakpoint": world.breakpoint(world.between(1, 60))})
+
+    def step(self, thread):
+        world = self.world
+        command = world.pick(["next", "next", "continue", "stepIn", "stepOut", "pause"])
+        self.request(command, {"threadId": thread})
+        self.respond(command, {"allThreadsContinued": True} if command == "continue" else None)
+        if world.chance(0.6):
+            self.event("continued", {"threadId": thread, "allThreadsContinued": True})
+        reason = "pause" if command == "pause" else "breakpoint" if command == "continue" else "step"
+        body = {"reason": reason, "threadId": thread, "allThreadsStopped": True}
+        if self.adapter == "lldb":
+            body["description"], body["preserveFocusHint"] = reason + " 1.1", False
+        if reason == "breakpoint":
+            body["hitBreakpointIds"] = [world.between(1, 60)]
+        self.event("stopped", body)
+
+    def evaluate(self):
+        world = self.world
+        expression = world.pick(["%s", "%s + 1", "len(%s)", "%s[0]", "%s == \"x\" && true"]) % world.name()
+        self.request("evaluate", {"expression": expression, "frameId": world.between(1, 600000),
+                                  "context": world.pick(["watch", "hover", "repl"])})
+        if world.chance(0.25):
+            text = "could not find symbol value for " + world.name()
+            self.respond("evaluate", {"error": {"id": 2009, "format": text, "showUser": False}}, "Unable to evaluate")
+        else:
+            kind = world.pick(TYPES[self.adapter])
+            self.respond("evaluate", {"result": world.value(kind), "type": kind, "variablesReference": world.below(4)})
+
+    def breakpoints(self):
+        world = self.world
+        count = world.between(1, 3)
+        file = world.file()
+        lines = [world.between(1, 3000) for _ in range(count)]
+        asked = [{"line": line} for line in lines]
+        if world.chance(0.3):
+            asked[0]["condition"] = world.name() + " > " + str(world.below(100))
+        self.request("setBreakpoints", {"source": {"name": file, "path": world.path(file)}, "breakpoints": asked})
+        self.respond("setBreakpoints", {"breakpoints": [{"id": place + 1, "verified": True, "line": line}
+                                                        for place, line in enumerate(lines)]})
+
+
+def stream(kind, total, seed, write):
+    draw = random.Random(seed).random
+    written = 0
+    while written < total:
+        session = Session(draw)
+        steps = 10 + int(draw() * (40 if kind == "large" else 400))
+        for _ in range(steps):
+            if kind == "large":
+                session.large()
+            else:
+                session.small()
+            for made in session.take():
+                if written >= total:
+                    return
+                write(made)
+                written += len(made)
+
+
+def main():
+    words = argparse.ArgumentParser(description="Writes a stream of framed messages to standard output.")
+    words.add_argument("kind", choices=["large", "small"], metavar="KIND", help="large or small")
+    words.add_argument("bytes", type=int, metavar="BYTES", help="the stream ends with the frame that reaches them")
+    words.add_argument("seed", type=int, metavar="SEED", help="a whole number")
+    words = words.parse_args()
+    stream(words.kind, words.bytes, words.seed, sys.stdout.buffer.write)
+    sys.stdout.buffer.flush()
+
+
+if __name__ == "__main__":
+    main()

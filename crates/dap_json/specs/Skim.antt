@@ -1,0 +1,31 @@
+-- Reading an object member by member.
+use Rattle.std.specs.Prelude.{◌≡◌, ◌≤◌, ℕ, List, [], length, Some, None}
+use Rattle.json.specs.Token.{Token}
+use Rattle.json.specs.Json.{value, members}
+use Rattle.serde_json.specs.Data.{Num, unsigned, negative, float, Data, null, boolean, number, string, array, object, Members}
+use Rattle.serde_json.specs.Read.{of_members, converted}
+use Rattle.dap_json.specs.declared.skim.Skimmed.{Skimmed}
+use Rattle.dap_json.specs.declared.skim.Skimmed.TheVariants.{Null, Boolean, Whole, Text, Other}
+
+-- an array, an object or a number that is no whole one of 64 bits
+abbrev pub IsOther : Data → Type 0
+IsOther null = ⊥
+IsOther (boolean b) = ⊥
+IsOther (number (unsigned n)) = ⊥
+IsOther (number (negative z)) = Unit {0}
+IsOther (number (float x)) = Unit {0}
+IsOther (string s) = ⊥
+IsOther (array ds) = Unit {0}
+IsOther (object ms) = Unit {0}
+
+-- what is told of a value
+abbrev pub Skims : Skimmed → Data → Type 0
+Skims Null d = d ≡ null
+Skims (Boolean b) d = d ≡ boolean b
+Skims (Whole n) d = d ≡ number (unsigned n)
+Skims (Text text) d = d ≡ string text.now
+Skims Other d = IsOther d
+
+-- the tokens are the rest of an object, which ends with them: with the members that were found before, it has `all`
+abbrev pub IsRestOf : List Token → Members → Members → Type 0
+IsRestOf tokens found all = (n : ℕ) → length tokens ≤ n → converted (λ ms. of_members ms found) (members (value 126) n tokens) ≡ Some (all, [])

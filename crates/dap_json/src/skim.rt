@@ -1,0 +1,176 @@
+//! An object read member by member, with no tree: numbers, texts and truth values are told, all else is passed over.
+//!
+//! What is passed is checked as [`parse`](crate::parse) checks it. Where nothing is given here, `parse` tells why.
+ghost use Rattle.std.specs.Prelude.{◌≡◌, ◌<◌, length, Some, None, IfOk, IfSome, OnOk, IsTrue, Float, slice_index, ◌==◌};
+ghost use Rattle.json.specs.Json.{value as grammar_value, items as grammar_items, members as grammar_members};
+ghost use Rattle.serde_json.specs.Data.{Data, Num, Items, Members, number as number_data, object as object_data, float, no_members, put};
+ghost use Rattle.serde_json.specs.Read.{of_json, of_items, of_members, converted, number_of, float_of};
+ghost use Rattle.dap_json.specs.Read.{json_of};
+ghost use Rattle.dap_json.specs.Skim.{Skims, IsRestOf};
+
+use fast_float::Numeral;
+use json::{Reader, Token};
+pub use json::{Invalid, Scratch};
+use std::marker::Model;
+
+/// How deep arrays and objects may nest.
+const MAX_DEPTH: usize = 127;
+
+/// A value that was passed.
+#[derive(Clone, Copy, Debug, Drop)]
+pub enum Skimmed<'a> {
+    Null,
+    Boolean(bool),
+    /// A whole number of 0 to 18446744073709551615.
+    Whole(u64),
+    Text(&'a str),
+    /// An array, an object or another number.
+    Other,
+}
+
+/// The rest of an object.
+#[derive(Drop)]
+pub struct Skim<'a> {
+    reader: Reader<'a>,
+}
+
+impl<'a> Model for Skim<'a> {
+    ghost use Rattle.std.specs.Prelude.{List};
+    ghost use Rattle.json.specs.Token.{Token as SpecToken, tokens_code};
+
+    ghost Value = { List SpecToken };
+
+    ghost coded = { tokens_code };
+
+    ghost view = { λ s. s.reader };
+}
+
+impl<'a> Skim<'a> {
+    /// The members of the object that bytes are, all still to come. Unescaped texts go to `scratch`, which grows to the
+    /// length of the bytes, and is kept from object to object. It is an error where no object begins or memory is
+    /// refused.
+    pub fn open(bytes: &'a [u8], scratch: &'a mut Scratch) -> Result<Skim<'a>, Invalid>
+        ensures { IfOk result (λ skim. (all : Members) → IsRestOf skim no_members all → json_of bytes.now ≡ Some (object_data all)) }
+    {
+        let Ok(text) = simdutf8::basic::from_utf8(bytes) else {
+            return Err(Invalid);
+        };
+        let Ok(mut reader) = Reader::new(text, scratch) else {
+            return Err(Invalid);
+        };
+        match reader.next() {
+            Some(Token::BeginObject) => Ok(Skim { reader }),
+            _ => Err(Invalid),
+        }
+    }
+
+    /// The next member's key and value, or `None` at the end of the bytes. Of equal keys the last counts.
+    pub fn next(&mut self) -> Result<Option<(&'a str, Skimmed<'a>)>, Invalid>
+        ensures member { IfOk result (λ r. IfSome r (λ m. (d : Data) × Skims m.1 d
+            × ((found all : Members) → IsRestOf self.new (put m.0.now d found) all → IsRestOf self.old found all))) }
+        ensures end { IfOk result (λ r. r ≡ None → (found : Members) → IsRestOf self.old found found) }
+        ensures shorter { OnOk result (length self.new < length self.old) }
+    {
+        let Some(key) = self.reader.next_key()? else {
+            if self.reader.next().is_some() {
+                return Err(Invalid);
+            }
+            return Ok(None);
+        };
+        let value = value(&mut self.reader, MAX_DEPTH - 1)?;
+        Ok(Some((key, value)))
+    }
+}
+
+/// Passes a value.
+#[cycle(skim)]
+#[inline(always)]
+fn value<'a>(reader: &mut Reader<'a>, depth: usize) -> Result<Skimmed<'a>, Invalid>
+    ensures ok { IfOk result (λ s. (d : Data) × (converted of_json (grammar_value depth reader.old) ≡ Some (d, reader.new)) × Skims s d) }
+    ensures shorter { OnOk result (length reader.new < length reader.old) }
+{
+    match reader.next().ok_or(Invalid)? {
+        Token::String(text) => Ok(Skimmed::Text(text)),
+        Token::Number(text) => Ok(number(text)?),
+        Token::Bool(b) => Ok(Skimmed::Boolean(b)),
+        Token::Null => Ok(Skimmed::Null),
+        Token::EndObject | Token::EndArray | Token::Key(_) | Token::Bad => Err(Invalid),
+        Token::BeginArray => {
+            if depth == 0 {
+                return Err(Invalid);
+            }
+            items(reader, depth - 1)?;
+            Ok(Skimmed::Other)
+        }
+        Token::BeginObject => {
+            if depth == 0 {
+                return Err(Invalid);
+            }
+            members(reader, depth - 1)?;
+            Ok(Skimmed::Other)
+        }
+    }
+}
+
+/// Passes the items of an array and its end.
+#[cycle(skim)]
+#[inline(never)]
+fn items(reader: &mut Reader<'_>, depth: usize) -> Result<(), Invalid>
+    ensures ok { OnOk result ((ds : Items) × (converted of_items (grammar_items (grammar_value depth) (length reader.old) reader.old) ≡ Some (ds, reader.new))) }
+    ensures shorter { OnOk result (length reader.new < length reader.old) }
+{
+    'items: while !reader.take_end_array() {
+        let _ = value(reader, depth)?;
+    }
+    Ok(())
+}
+
+/// Passes the members of an object and its end.
+#[cycle(skim)]
+#[inline(never)]
+fn members(reader: &mut Reader<'_>, depth: usize) -> Result<(), Invalid>
+    ensures ok { OnOk result ((ms : Members) × (converted (λ ms. of_members ms no_members) (grammar_members (grammar_value depth) (length reader.old) reader.old) ≡ Some (ms, reader.new))) }
+    ensures shorter { OnOk result (length reader.new < length reader.old) }
+{
+    'members: while let Some(_) = reader.next_key()? {
+        let _ = value(reader, depth)?;
+    }
+    Ok(())
+}
+
+/// A number of JSON, where it is in range.
+#[inline(always)]
+fn number<'a>(text: &str) -> Result<Skimmed<'a>, Invalid>
+    ensures { IfOk result (λ s. (n : Num) × (number_of text.now ≡ Some n) × Skims s (number_data n)) }
+{
+    let bytes = text.as_bytes();
+    if has_minus(bytes) {
+        if is_near_a_float(true, &Numeral::scan(&bytes[1..])) {
+            return Ok(Skimmed::Other);
+        }
+        return Err(Invalid);
+    }
+    let numeral = Numeral::scan(bytes);
+    if let Some(n) = numeral.to_u64() {
+        return Ok(Skimmed::Whole(n));
+    }
+    if is_near_a_float(false, &numeral) {
+        return Ok(Skimmed::Other);
+    }
+    Err(Invalid)
+}
+
+#[inline(always)]
+fn has_minus(bytes: &[u8]) -> bool
+    ensures value { result ≡ (slice_index bytes.now 0 == 45) }
+    ensures some { IsTrue result → 0 < length bytes.now }
+{
+    !bytes.is_empty() && bytes[0] == b'-'
+}
+
+/// Whether a finite float comes near the number.
+fn is_near_a_float(negative: bool, numeral: &Numeral<'_>) -> bool
+    ensures { IsTrue result → (x : Float) × (float_of negative numeral.now ≡ Some (float x)) }
+{
+    numeral.to_float::<f64>(negative).is_finite()
+}

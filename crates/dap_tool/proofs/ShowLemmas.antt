@@ -1,0 +1,193 @@
+-- A listing that goes on.
+use Rattle.std.proofs.Common.{◌≡◌, ℕ, ◌+◌, ◌-◌, ◌<◌, ◌≤◌, ◌^◌, List, [], ◌∷◌, ◌++◌, length, take, drop, codes, decimal, Result, Ok, Err, refl, sym, ap, ◌∙◌, subst, arith}
+use Rattle.std.proofs.lemmas.List.{length-append, length-drop, append_assoc, append-nil, take_all, take-append-drop, append_cancel_right, length-take}
+use Rattle.std.proofs.Math.Seq.{take-add}
+use Rattle.dap_frame.specs.declared.Cause.{Cause}
+use Rattle.dap_frame.specs.declared.Cause.TheVariants.{Refused, OutOfMemory as NoMemory}
+use Rattle.dap_frame.specs.declared.frames.End.{End}
+use Rattle.dap_frame.specs.declared.frames.End.TheVariants.{Clean, Truncated, Refused as EndRefused}
+use Rattle.dap_frame.specs.declared.frames.FrameFault.{FrameFault}
+use Rattle.dap_frame.specs.Settings.{Settings, bounds_of}
+use Rattle.dap_frame.specs.Stream.{Frame, FramesThen, Split}
+use Rattle.dap_frame.specs.Verdict.{verdict, Part}
+use Rattle.dap_frame.specs.Intake.{Intake, IsUnderWay, IsReady, StandsFor, Shut, StartsAt, LastStartsAt, IsVerdict, counted}
+use Rattle.dap_frame.specs.Feeds.{Completes, Gathers, Closes}
+use Rattle.dap_frame.specs.Ends.{EndsWith}
+use Rattle.dap_message.specs.Meaning.{Msg}
+use Rattle.dap_message.specs.Refusals.{Bad}
+use Rattle.dap_message.specs.declared.fault.BodyRefusal.{BodyRefusal}
+use Rattle.dap_message.specs.declared.message.Message.{Message}
+use Rattle.dap_message.specs.declared.message.Kind.{Kind}
+use Rattle.dap_message.specs.declared.message.Kind.TheVariants as message
+use Rattle.dap_message.specs.declared.heading.Heading.{Heading}
+use Rattle.dap_message.specs.declared.heading.HeadingKind.{HeadingKind}
+use Rattle.dap_message.specs.declared.heading.HeadingKind.TheVariants.{Request, Response, Event, Other}
+use Rattle.dap_message.specs.Heading.{IsHeadingOf, IsKindOf}
+use Rattle.dap_tool.specs.FirstServe.{IsEndOf}
+use Rattle.dap_tool.specs.Listing.{Lists, none, one_more, Listed, ListsAll, ListsToFrame, ListsToBody, ListsSome, Shows, shown, kind_text, line_of_message}
+use Rattle.dap_tool.specs.ShowSteps.{kind_words, ListedTo, ListedBefore, shown_fault}
+use Rattle.dap_tool.specs.declared.listing.ShowFault.{ShowFault}
+use Rattle.dap_tool.specs.declared.listing.ShowFault.TheVariants.{Frame as BadFrame, Body, OutOfMemory}
+
+-- ---- the words of a heading are those of its message
+
+pub words_of : (k : HeadingKind) (kind : Kind) → IsKindOf k kind → kind_words k ≡ kind_text kind
+words_of (Request name) (message.Request command arguments) is = ap (λ c. codes " request " ++ shown c) is
+words_of (Request name) (message.Response request_seq success command reason body) is = absurd is
+words_of (Request name) (message.Event event body) is = absurd is
+words_of (Request name) (message.Other tag) is = absurd is
+words_of (Response n b name) (message.Request command arguments) is = absurd is
+words_of (Response n b name) (message.Response request_seq success command reason body) is = rw (is.0, is.1, is.2) refl
+words_of (Response n b name) (message.Event event body) is = absurd is
+words_of (Response n b name) (message.Other tag) is = absurd is
+words_of (Event name) (message.Request command arguments) is = absurd is
+words_of (Event name) (message.Response request_seq success command reason body) is = absurd is
+words_of (Event name) (message.Event event body) is = ap (λ c. codes " event " ++ shown c) is
+words_of (Event name) (message.Other tag) is = absurd is
+words_of (Other name) (message.Request command arguments) is = absurd is
+words_of (Other name) (message.Response request_seq success command reason body) is = absurd is
+words_of (Other name) (message.Event event body) is = absurd is
+words_of (Other name) (message.Other tag) is = ap (λ c. codes " other " ++ shown c) is
+
+pub line_of_heading : (offset : ℕ) (h : Heading) (m : Message) → IsHeadingOf h m → decimal offset ++ codes " " ++ decimal h.seq ++ kind_words h.kind ++ codes "\n" ≡ line_of_message offset m
+line_of_heading offset h m is = ap (λ n. decimal offset ++ codes " " ++ decimal n ++ kind_words h.kind ++ codes "\n") is.seq ∙ ap (λ words. decimal offset ++ codes " " ++ decimal m.seq ++ words ++ codes "\n") (words_of h.kind m.kind is.kind)
+
+-- ---- how far a listing has come
+
+taken : (bytes rest : List ℕ) (at n : ℕ) → rest ≡ drop at bytes → take at bytes ++ take n rest ≡ take (at + n) bytes
+taken bytes rest at n e = ap (λ r. take at bytes ++ take n r) e ∙ sym (take-add at n bytes)
+
+pub ListedTo-start : (limits : Settings) (frames : Intake) (bytes old : List ℕ) → frames.bounds ≡ bounds_of limits → StandsFor frames [] [] [] → ListedTo limits frames bytes 0 old old
+ListedTo-start limits frames bytes old bounds fresh = record {
+  bodies = [];
+  rest = [];
+  bounds = bounds;
+  stands = fresh;
+  listed = record { messages = []; text = []; lists = none; appended = sym (append-nil old) };
+}
+
+-- ---- a call of feed
+
+module _ (limits : Settings) (frames : Intake) (bytes rest : List ℕ) (at : ℕ) (old new : List ℕ) (cut : rest ≡ drop at bytes) (l : ListedTo limits frames bytes at old new) (after : Intake) (bounds : after.bounds ≡ frames.bounds) where
+  pub completed : (n : ℕ) → Completes frames after rest n → ListedBefore limits after bytes (at + n) old new
+  completed n done = record {
+    bodies = l.bodies;
+    bounds = bounds ∙ l.bounds;
+    stands = subst (λ z. StandsFor after z (l.bodies ++ after.held ∷ []) []) (taken bytes rest at n cut) (done.stands (take at bytes) l.bodies l.rest l.stands);
+    listed = l.listed;
+  }
+
+  pub gathered : (n : ℕ) → Gathers frames after rest n → ListedTo limits after bytes (at + n) old new
+  gathered n done =
+      let whole : take n rest ≡ rest = take_all n rest (omega (arith, done.all)) in
+      let e : take at bytes ++ rest ≡ take (at + n) bytes = ap (λ z. take at bytes ++ z) (sym whole) ∙ taken bytes rest at n cut in
+      record {
+        bodies = l.bodies;
+        rest = l.rest ++ rest;
+        bounds = bounds ∙ l.bounds;
+        stands = subst (λ z. StandsFor after z l.bodies (l.rest ++ rest)) e (done.stands (take at bytes) l.bodies l.rest l.stands);
+        listed = l.listed;
+      }
+
+  closed_by : (cause : Cause) (offset n : ℕ) (left : List ℕ) → StandsFor after (take n bytes) l.bodies left → Shut after (take n bytes) l.bodies left cause → offset ≡ after.start → Shows limits bytes old new (Err (shown_fault (record { cause = cause; offset = offset })))
+  closed_by (Refused refusal) offset n left f shut starts = record {
+    n = n;
+    bodies = l.bodies;
+    rest = left;
+    split = subst (λ b. Split b (take n bytes) l.bodies left) (bounds ∙ l.bounds) f.split;
+    listed = l.listed;
+    refusal = refusal;
+    cause = refl;
+    verdict_is = subst (λ b. IsVerdict b left (Refused refusal)) (bounds ∙ l.bounds) shut.verdict_is;
+    offset = subst (λ b. StartsAt b offset (take n bytes) l.bodies left) (bounds ∙ l.bounds) (subst (λ k. StartsAt after.bounds k (take n bytes) l.bodies left) (sym starts) shut.starts);
+  }
+  closed_by NoMemory offset n left f shut starts = record {
+    n = n;
+    bodies = l.bodies;
+    others = [];
+    rest = left;
+    split = subst (λ b. Split b (take n bytes) (l.bodies ++ []) left) (bounds ∙ l.bounds) (subst (λ xs. Split after.bounds (take n bytes) xs left) (sym (append-nil l.bodies)) f.split);
+    listed = l.listed;
+  }
+
+  pub closed : (fault : FrameFault) → Closes frames after rest fault → Shows limits bytes old new (Err (shown_fault fault))
+  closed fault done =
+      let f : StandsFor after (take (at + done.n) bytes) l.bodies (l.rest ++ take done.n rest) =
+      subst (λ z. StandsFor after z l.bodies (l.rest ++ take done.n rest)) (taken bytes rest at done.n cut) (done.stands (take at bytes) l.bodies l.rest l.stands) in
+      closed_by fault.cause fault.offset (at + done.n) _ f (f.closed fault.cause done.closed) done.offset
+
+-- ---- a ready body
+
+module _ (limits : Settings) (frames : Intake) (bytes : List ℕ) (at : ℕ) (old new : List ℕ) (l : ListedBefore limits frames bytes at old new) (ready : IsReady frames) where
+  split_here : Split (bounds_of limits) (take at bytes) (l.bodies ++ frames.held ∷ []) []
+  split_here = subst (λ b. Split b (take at bytes) (l.bodies ++ frames.held ∷ []) []) l.bounds l.stands.split
+
+  last_here : LastStartsAt frames.bounds frames.start (take at bytes) (l.bodies ++ frames.held ∷ []) frames.held
+  last_here = (l.stands.ready ready).last
+
+  pub interrupted : Shows limits bytes old new (Err OutOfMemory)
+  interrupted = record { n = at; bodies = l.bodies; others = frames.held ∷ []; rest = []; split = split_here; listed = l.listed }
+
+  pub refused_body : (cause : BodyRefusal) (offset : ℕ) → Bad frames.held cause → offset ≡ frames.start → Shows limits bytes old new (Err (Body cause offset))
+  refused_body cause offset bad starts = record {
+    n = at;
+    bodies = l.bodies;
+    body = frames.held;
+    split = split_here;
+    listed = l.listed;
+    bad = bad;
+    starts = subst (λ b. LastStartsAt b offset (take at bytes) (l.bodies ++ frames.held ∷ []) frames.held) l.bounds (subst (λ k. LastStartsAt frames.bounds k (take at bytes) (l.bodies ++ frames.held ∷ []) frames.held) (sym starts) last_here);
+  }
+
+  module _ (m : Message) (is : Msg frames.held m) (offset : ℕ) (starts : offset ≡ frames.start) (small : length bytes < 2 ^ 64) where
+    last : LastStartsAt (bounds_of limits) frames.start (take at bytes) (l.bodies ++ frames.held ∷ []) frames.held
+    last = subst (λ b. LastStartsAt b frames.start (take at bytes) (l.bodies ++ frames.held ∷ []) frames.held) l.bounds last_here
+
+    before_is : last.before ≡ l.bodies
+    before_is = sym (append_cancel_right l.bodies last.before (frames.held ∷ []) last.bodies)
+
+    whole : bytes ≡ last.starts.front ++ (last.frame ++ drop at bytes)
+    whole = sym (take-append-drop at bytes) ∙ ap (λ z. z ++ drop at bytes) last.starts.whole ∙ append_assoc last.starts.front last.frame (drop at bytes)
+
+    offset_is : offset ≡ length last.starts.front
+    offset_is = omega (arith, starts, last.starts.place, small, ap length whole, length-append last.starts.front (last.frame ++ drop at bytes))
+
+    pub listed_more : (line new' : List ℕ) → line ≡ line_of_message offset m → new' ≡ new ++ line → Listed limits bytes (l.bodies ++ frames.held ∷ []) old new'
+    listed_more line new' line_is more = record {
+      messages = l.listed.messages ++ m ∷ [];
+      text = l.listed.text ++ line_of_message (length last.starts.front) m;
+      lists = one_more l.bodies l.listed.messages l.listed.text frames.held m last.starts.front last.frame (drop at bytes) l.listed.lists whole (subst (λ xs. FramesThen (bounds_of limits) xs [] last.starts.front) before_is last.starts.frames) last.frame_is is;
+      appended =
+          let e : line ≡ line_of_message (length last.starts.front) m = line_is ∙ ap (λ k. line_of_message k m) offset_is in
+          more ∙ ap (λ z. z ++ line) l.listed.appended ∙ append_assoc old l.listed.text line ∙ ap (λ z. old ++ (l.listed.text ++ z)) e;
+    }
+
+    pub released : (after : Intake) → after.bounds ≡ frames.bounds → ((s : List ℕ) (xs : List (List ℕ)) (rest : List ℕ) → StandsFor frames s xs rest → StandsFor after s xs rest) → (line new' : List ℕ) → line ≡ line_of_message offset m → new' ≡ new ++ line → ListedTo limits after bytes at old new'
+    released after bounds stands line new' line_is more = record {
+      bodies = l.bodies ++ frames.held ∷ [];
+      rest = [];
+      bounds = bounds ∙ l.bounds;
+      stands = stands (take at bytes) (l.bodies ++ frames.held ∷ []) [] l.stands;
+      listed = listed_more line new' line_is more;
+    }
+
+-- ---- the end
+
+pub out_of_memory_first : (limits : Settings) (bytes old : List ℕ) (xs : List (List ℕ)) (rest : List ℕ) → Split (bounds_of limits) [] xs rest → Shows limits bytes old old (Err OutOfMemory)
+out_of_memory_first limits bytes old xs rest split = record { n = 0; bodies = []; others = xs; rest = rest; split = split; listed = record { messages = []; text = []; lists = none; appended = sym (append-nil old) } }
+
+ends_as : (limits : Settings) (frames : Intake) (rest : List ℕ) (end : End) → frames.bounds ≡ bounds_of limits → (end ≡ EndRefused → ⊥) → EndsWith frames rest end → IsEndOf limits rest end
+ends_as limits frames rest Clean bounds other e = e
+ends_as limits frames rest Truncated bounds other e = subst (λ b. verdict b rest ≡ Part) bounds e
+ends_as limits frames rest EndRefused bounds other e = absurd (other refl)
+
+pub ended : (limits : Settings) (frames : Intake) (bytes : List ℕ) (at : ℕ) (old new : List ℕ) (end : End) → length bytes ≤ at → ListedTo limits frames bytes at old new → (end ≡ EndRefused → ⊥) → ((s : List ℕ) (xs : List (List ℕ)) (rest : List ℕ) → StandsFor frames s xs rest → EndsWith frames rest end) → Shows limits bytes old new (Ok end)
+ended limits frames bytes at old new end past l other ends =
+    let whole : take at bytes ≡ bytes = take_all at bytes past in
+    record {
+      bodies = l.bodies;
+      rest = l.rest;
+      split = subst (λ b. Split b bytes l.bodies l.rest) l.bounds (subst (λ z. Split frames.bounds z l.bodies l.rest) whole l.stands.split);
+      listed = l.listed;
+      ends = ends_as limits frames l.rest end l.bounds other (ends (take at bytes) l.bodies l.rest l.stands);
+    }

@@ -1,0 +1,48 @@
+use Rattle.std.proofs.Common.{sym, subst, arith, [], Err}
+use Rattle.dap_frame.specs.Settings.{bounds_of}
+use Rattle.dap_tool.specs.Listing.{Shows}
+use Rattle.dap_tool.proofs.Bytes.{within_rest}
+use Rattle.dap_tool.proofs.Reaching.{gathers_within}
+use Rattle.dap_tool.proofs.ShowLemmas.{ListedTo-start, completed, gathered, closed, out_of_memory_first, ended}
+use Rattle.dap_tool.proofs.listing.show.Goals as goal
+
+pub returns-in_default : goal.returns-in_default
+returns-in_default c = let split = c.each_stream_has_one_split.ensures.some (bounds_of c.args.limits) [] in out_of_memory_first c.args.limits c.args.bytes.now _ split.0 split.1 split.2
+
+pub loop-at-init : goal.loop-at-init
+loop-at-init c = record {
+  within = omega arith;
+  under_way = c.in-Ok.ensures.under_way;
+  listed = ListedTo-start c.args.limits c.in-Ok.frames c.args.bytes.now _ c.in-Ok.ensures.bounds c.in-Ok.ensures.fresh;
+}
+
+pub returns-in-Err : goal.returns-in-Err
+returns-in-Err c =
+    subst (λ fault. Shows c.args.limits c.args.bytes.now c.args.out.now.items c.loop-at.out.items (Err fault)) (sym c.frame_fault.ensures)
+    (closed c.args.limits c.loop-at.frames c.args.bytes.now c.split_at.result.1.now c.loop-at.at _ _ c.split_at.ensures.back c.loop-at.invariant.listed c.feed.new.self c.in-Err.ensures.bounds
+    c.in-Err.fault (c.in-Err.ensures.closes c.loop-at.invariant.under_way))
+
+pub loop-at-preserved-in-Ok-list_body : goal.loop-at-preserved-in-Ok-list_body
+loop-at-preserved-in-Ok-list_body c =
+    let done = c.in-Ok-feed.ensures.completes c.if-fed.true c.loop-at.invariant.under_way in
+    record {
+      within = within_rest _ _ _ _ c.split_at.ensures.back c.loop-at.invariant.within done.within;
+      under_way = c.in-Ok-list_body.ensures.under_way;
+      listed = c.in-Ok-list_body.ensures.ok c.args.limits c.args.bytes.now _ _ (omega arith)
+          (completed c.args.limits c.loop-at.frames c.args.bytes.now c.split_at.result.1.now c.loop-at.at _ _ c.split_at.ensures.back c.loop-at.invariant.listed c.feed.new.self c.in-Ok-feed.ensures.bounds c.in-Ok-feed.fed.used done);
+    }
+
+pub returns-in-Err-list_body : goal.returns-in-Err-list_body
+returns-in-Err-list_body c =
+    let done = c.in-Ok-feed.ensures.completes c.if-fed.true c.loop-at.invariant.under_way in
+    c.in-Err-list_body.ensures.err c.args.limits c.args.bytes.now _ _
+    (completed c.args.limits c.loop-at.frames c.args.bytes.now c.split_at.result.1.now c.loop-at.at _ _ c.split_at.ensures.back c.loop-at.invariant.listed c.feed.new.self c.in-Ok-feed.ensures.bounds c.in-Ok-feed.fed.used done)
+
+pub loop-at-preserved : goal.loop-at-preserved
+loop-at-preserved c =
+    let done = c.in-Ok-feed.ensures.gathers c.if-fed.false c.loop-at.invariant.under_way in
+    record {
+      within = within_rest _ _ _ _ c.split_at.ensures.back c.loop-at.invariant.within (gathers_within _ _ _ _ done);
+      under_way = done.under_way;
+      listed = gathered c.args.limits c.loop-at.frames c.args.bytes.now c.split_at.result.1.now c.loop-at.at _ _ c.split_at.ensures.back c.loop-at.invariant.listed c.feed.new.self c.in-Ok-feed.ensures.bounds c.in-Ok-feed.fed.used done;
+    }

@@ -1,0 +1,14 @@
+use Rattle.std.proofs.Common.{ℕ, ◌-◌, ◌≤◌, length}
+use Rattle.dap_frame.specs.Intake.{IsUnderWay}
+use Rattle.dap_tool.specs.ShowSteps.{ListedTo}
+use Rattle.dap_tool.proofs.listing.show.Given as goal
+
+abbrev pub invariant-loop-at : goal.invariant-loop-at
+invariant-loop-at l = record {
+  within : l.at ≤ length l.bytes;
+  under_way : IsUnderWay l.frames;
+  listed : ListedTo l.fn.limits l.frames l.bytes l.at l.fn.out.items l.out.items;
+}
+
+abbrev pub decreases-loop-at : goal.decreases-loop-at
+decreases-loop-at l = length l.bytes - l.at

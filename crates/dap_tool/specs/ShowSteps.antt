@@ -1,0 +1,50 @@
+-- Words for the steps that listing is made of.
+use Rattle.std.specs.Prelude.{◌≡◌, ℕ, List, [], ◌∷◌, ◌++◌, length, take, codes, decimal}
+use Rattle.dap_frame.specs.Settings.{Settings, bounds_of}
+use Rattle.dap_frame.specs.Intake.{Intake, StandsFor}
+use Rattle.dap_frame.specs.declared.Cause.{Cause}
+use Rattle.dap_frame.specs.declared.Cause.TheVariants.{Refused, OutOfMemory as NoMemory}
+use Rattle.dap_frame.specs.declared.frames.FrameFault.{FrameFault}
+use Rattle.dap_message.specs.Refusals.{Bad}
+use Rattle.dap_message.specs.declared.fault.BodyFault.{BodyFault}
+use Rattle.dap_message.specs.declared.fault.BodyFault.TheVariants.{Refused as BodyRefused, OutOfMemory as NoMemoryForBody}
+use Rattle.dap_message.specs.declared.heading.HeadingKind.{HeadingKind}
+use Rattle.dap_message.specs.declared.heading.HeadingKind.TheVariants.{Request, Response, Event, Other}
+use Rattle.dap_tool.specs.Listing.{Listed, shown, outcome_text}
+use Rattle.dap_tool.specs.declared.listing.ShowFault.{ShowFault}
+use Rattle.dap_tool.specs.declared.listing.ShowFault.TheVariants.{Frame, Body, OutOfMemory}
+
+-- the words of a heading
+abbrev pub kind_words : HeadingKind → List ℕ
+kind_words (Request name) = codes " request " ++ shown name.now
+kind_words (Response request_seq success name) = codes " response " ++ shown name.now ++ codes " " ++ decimal request_seq ++ outcome_text success
+kind_words (Event name) = codes " event " ++ shown name.now
+kind_words (Other name) = codes " other " ++ shown name.now
+
+-- why a ready body is not read
+abbrev pub IsUnread : List ℕ → BodyFault → Type 0
+IsUnread body (BodyRefused cause) = Bad body cause
+IsUnread body NoMemoryForBody = Unit {0}
+
+-- the fault of a closed reader
+abbrev pub shown_cause : Cause → FrameFault → ShowFault
+shown_cause (Refused refusal) fault = Frame fault
+shown_cause NoMemory fault = OutOfMemory
+
+abbrev pub shown_fault : FrameFault → ShowFault
+shown_fault fault = shown_cause fault.cause fault
+
+-- the first `at` bytes were listed
+pub record ListedTo (limits : Settings) (frames : Intake) (bytes : List ℕ) (at : ℕ) (old new : List ℕ) : Type 0 where
+  pub bodies : List (List ℕ)
+  pub rest : List ℕ
+  pub bounds : frames.bounds ≡ bounds_of limits
+  pub stands : StandsFor frames (take at bytes) bodies rest
+  pub listed : Listed limits bytes bodies old new
+
+-- the same, save for the last body, which is ready
+pub record ListedBefore (limits : Settings) (frames : Intake) (bytes : List ℕ) (at : ℕ) (old new : List ℕ) : Type 0 where
+  pub bodies : List (List ℕ)
+  pub bounds : frames.bounds ≡ bounds_of limits
+  pub stands : StandsFor frames (take at bytes) (bodies ++ frames.held ∷ []) []
+  pub listed : Listed limits bytes bodies old new
