@@ -1,5 +1,5 @@
 -- The grammar's loops, a turn at a time, where what was read before is not kept.
-use Rattle.std.proofs.Common.{◌≡◌, ℕ, ◌-◌, ◌<◌, ◌≤◌, ◌^◌, ◌==◌, ◌&&◌, List, [], ◌∷◌, length, drop, slice_index, nat_lt, if◌then◌else◌, Bool, true, false, not, Float, Option, Some, None, option_map, option_and_then, refl, sym, ap, ◌∙◌, arith, lt-ltb, ltb-true, eqb-true}
+use Rattle.std.proofs.Common.{◌≡◌, ℕ, ◌-◌, ◌<◌, ◌≤◌, ◌^◌, ◌==◌, ◌&&◌, List, [], length, drop, slice_index, nat_lt, if◌then◌else◌, Bool, true, false, not, Float, Option, Some, None, option_map, option_and_then, refl, sym, ap, ◌∙◌, lt-ltb, ltb-true, eqb-true}
 use Rattle.std.proofs.lemmas.Bool.{and_parts}
 use Rattle.fast_float.specs.Text.{minus, Parts, scan, digits_of, IsInteger}
 use Rattle.json.specs.Token.{Token}

@@ -1,8 +1,8 @@
 -- Reading an object member by member.
-use Rattle.std.specs.Prelude.{◌≡◌, ◌≤◌, ℕ, List, [], length, Some, None}
+use Rattle.std.specs.Prelude.{◌≡◌, ◌≤◌, ℕ, List, [], length, Some}
 use Rattle.json.specs.Token.{Token}
 use Rattle.json.specs.Json.{value, members}
-use Rattle.serde_json.specs.Data.{Num, unsigned, negative, float, Data, null, boolean, number, string, array, object, Members}
+use Rattle.serde_json.specs.Data.{unsigned, negative, float, Data, null, boolean, number, string, array, object, Members}
 use Rattle.serde_json.specs.Read.{of_members, converted}
 use Rattle.dap_json.specs.declared.skim.Skimmed.{Skimmed}
 use Rattle.dap_json.specs.declared.skim.Skimmed.TheVariants.{Null, Boolean, Whole, Text, Other}

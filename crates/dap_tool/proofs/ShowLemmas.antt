@@ -1,6 +1,6 @@
 -- A listing that goes on.
-use Rattle.std.proofs.Common.{◌≡◌, ℕ, ◌+◌, ◌-◌, ◌<◌, ◌≤◌, ◌^◌, List, [], ◌∷◌, ◌++◌, length, take, drop, codes, decimal, Result, Ok, Err, refl, sym, ap, ◌∙◌, subst, arith}
-use Rattle.std.proofs.lemmas.List.{length-append, length-drop, append_assoc, append-nil, take_all, take-append-drop, append_cancel_right, length-take}
+use Rattle.std.proofs.Common.{◌≡◌, ℕ, ◌+◌, ◌<◌, ◌≤◌, ◌^◌, List, [], ◌∷◌, ◌++◌, length, take, drop, codes, decimal, Ok, Err, refl, sym, ap, ◌∙◌, subst, arith}
+use Rattle.std.proofs.lemmas.List.{length-append, append_assoc, append-nil, take_all, take-append-drop, append_cancel_right}
 use Rattle.std.proofs.Math.Seq.{take-add}
 use Rattle.dap_frame.specs.declared.Cause.{Cause}
 use Rattle.dap_frame.specs.declared.Cause.TheVariants.{Refused, OutOfMemory as NoMemory}
@@ -8,9 +8,9 @@ use Rattle.dap_frame.specs.declared.frames.End.{End}
 use Rattle.dap_frame.specs.declared.frames.End.TheVariants.{Clean, Truncated, Refused as EndRefused}
 use Rattle.dap_frame.specs.declared.frames.FrameFault.{FrameFault}
 use Rattle.dap_frame.specs.Settings.{Settings, bounds_of}
-use Rattle.dap_frame.specs.Stream.{Frame, FramesThen, Split}
+use Rattle.dap_frame.specs.Stream.{FramesThen, Split}
 use Rattle.dap_frame.specs.Verdict.{verdict, Part}
-use Rattle.dap_frame.specs.Intake.{Intake, IsUnderWay, IsReady, StandsFor, Shut, StartsAt, LastStartsAt, IsVerdict, counted}
+use Rattle.dap_frame.specs.Intake.{Intake, IsReady, StandsFor, Shut, StartsAt, LastStartsAt, IsVerdict}
 use Rattle.dap_frame.specs.Feeds.{Completes, Gathers, Closes}
 use Rattle.dap_frame.specs.Ends.{EndsWith}
 use Rattle.dap_message.specs.Meaning.{Msg}
@@ -24,10 +24,9 @@ use Rattle.dap_message.specs.declared.heading.HeadingKind.{HeadingKind}
 use Rattle.dap_message.specs.declared.heading.HeadingKind.TheVariants.{Request, Response, Event, Other}
 use Rattle.dap_message.specs.Heading.{IsHeadingOf, IsKindOf}
 use Rattle.dap_tool.specs.FirstServe.{IsEndOf}
-use Rattle.dap_tool.specs.Listing.{Lists, none, one_more, Listed, ListsAll, ListsToFrame, ListsToBody, ListsSome, Shows, shown, kind_text, line_of_message}
+use Rattle.dap_tool.specs.Listing.{none, one_more, Listed, Shows, shown, kind_text, line_of_message}
 use Rattle.dap_tool.specs.ShowSteps.{kind_words, ListedTo, ListedBefore, shown_fault}
-use Rattle.dap_tool.specs.declared.listing.ShowFault.{ShowFault}
-use Rattle.dap_tool.specs.declared.listing.ShowFault.TheVariants.{Frame as BadFrame, Body, OutOfMemory}
+use Rattle.dap_tool.specs.declared.listing.ShowFault.TheVariants.{Body, OutOfMemory}
 
 -- ---- the words of a heading are those of its message
 

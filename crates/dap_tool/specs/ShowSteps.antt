@@ -1,5 +1,5 @@
 -- Words for the steps that listing is made of.
-use Rattle.std.specs.Prelude.{◌≡◌, ℕ, List, [], ◌∷◌, ◌++◌, length, take, codes, decimal}
+use Rattle.std.specs.Prelude.{◌≡◌, ℕ, List, [], ◌∷◌, ◌++◌, take, codes, decimal}
 use Rattle.dap_frame.specs.Settings.{Settings, bounds_of}
 use Rattle.dap_frame.specs.Intake.{Intake, StandsFor}
 use Rattle.dap_frame.specs.declared.Cause.{Cause}
@@ -12,7 +12,7 @@ use Rattle.dap_message.specs.declared.heading.HeadingKind.{HeadingKind}
 use Rattle.dap_message.specs.declared.heading.HeadingKind.TheVariants.{Request, Response, Event, Other}
 use Rattle.dap_tool.specs.Listing.{Listed, shown, outcome_text}
 use Rattle.dap_tool.specs.declared.listing.ShowFault.{ShowFault}
-use Rattle.dap_tool.specs.declared.listing.ShowFault.TheVariants.{Frame, Body, OutOfMemory}
+use Rattle.dap_tool.specs.declared.listing.ShowFault.TheVariants.{Frame, OutOfMemory}
 
 -- the words of a heading
 abbrev pub kind_words : HeadingKind → List ℕ

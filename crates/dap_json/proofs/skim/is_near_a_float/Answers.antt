@@ -1,7 +1,6 @@
 use Rattle.std.proofs.Common.{true, refl, ◌≡◌, rules}
 use Rattle.std.specs.Float.{binary64, float_is_finite}
 use Rattle.fast_float.specs.Text.{nearest}
-use Rattle.serde_json.specs.Data.{float}
 use Rattle.dap_json.proofs.skim.is_near_a_float.Goals as goal
 
 pub returns : goal.returns

@@ -1,6 +1,6 @@
-use Rattle.std.proofs.Common.{◌≡◌, ◌==◌, ◌<◌, ◌^◌, true, false, drop, length, slice_index, sym, ap, ◌∙◌, arith, take_all, length-drop, subst, refl, Some}
+use Rattle.std.proofs.Common.{◌≡◌, ◌==◌, ◌<◌, ◌^◌, true, false, drop, slice_index, sym, ap, ◌∙◌, arith, take_all, length-drop, subst, refl, Some}
 use Rattle.fast_float.specs.Text.{scan, digits_of, IsInteger}
-use Rattle.serde_json.specs.Data.{unsigned, float, number}
+use Rattle.serde_json.specs.Data.{unsigned, float}
 use Rattle.serde_json.specs.Read.{number_of, float_of}
 use Rattle.dap_json.proofs.SkimLemmas.{below_zero, is_unsigned, is_float}
 use Rattle.dap_json.proofs.skim.number.Goals as goal

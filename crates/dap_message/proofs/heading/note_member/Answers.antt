@@ -1,4 +1,4 @@
-use Rattle.std.proofs.Common.{◌≡◌, List, ℕ, codes, Option, sym, subst}
+use Rattle.std.proofs.Common.{◌≡◌, List, ℕ, Option, sym, subst}
 use Rattle.serde_json.specs.Data.{put}
 use Rattle.serde_json.specs.Find.{get_member}
 use Rattle.dap_json.specs.declared.skim.Skimmed.{Skimmed}

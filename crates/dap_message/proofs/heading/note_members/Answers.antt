@@ -1,4 +1,3 @@
-use Rattle.std.proofs.Common.{refl, sym, subst, None}
 use Rattle.serde_json.specs.Data.{no_members, put}
 use Rattle.dap_message.proofs.heading.note_members.Goals as goal
 

@@ -1,4 +1,4 @@
-use Rattle.std.proofs.Common.{sym, refl, true}
+use Rattle.std.proofs.Common.{sym, refl}
 use Rattle.serde_json.specs.Data.{object}
 use Rattle.dap_message.proofs.heading.read_heading.Goals as goal
 

@@ -1,4 +1,4 @@
-use Rattle.std.proofs.Common.{ℕ, ◌-◌, ◌≤◌, length}
+use Rattle.std.proofs.Common.{◌-◌, ◌≤◌, length}
 use Rattle.dap_frame.specs.Intake.{IsUnderWay}
 use Rattle.dap_tool.specs.ShowSteps.{ListedTo}
 use Rattle.dap_tool.proofs.listing.show.Given as goal

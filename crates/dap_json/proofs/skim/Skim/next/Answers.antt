@@ -1,4 +1,4 @@
-use Rattle.std.proofs.Common.{◌≡◌, ◌≤◌, ℕ, ◌-◌, ◌<◌, [], ◌∷◌, length, Some, None, refl, sym, ap, ◌∙◌, arith, rules}
+use Rattle.std.proofs.Common.{◌≡◌, ◌-◌, [], Some, None, ap, ◌∙◌, arith}
 use Rattle.json.specs.Json.{read_key, value}
 use Rattle.json.proofs.Grammar.{read_key-shorter}
 use Rattle.dap_json.proofs.SkimLemmas.{member_read, members_over}

@@ -1,4 +1,4 @@
-use Rattle.std.proofs.Common.{◌≡◌, [], ◌∷◌, length, Some, ap, sym, ◌∙◌, arith, refl}
+use Rattle.std.proofs.Common.{◌≡◌, [], ◌∷◌, length, Some, ap, sym, ◌∙◌, arith}
 use Rattle.json.specs.Token.{Token}
 use Rattle.json.specs.Lex.{tokens}
 use Rattle.json.specs.Json.{members, value, parse_map}
@@ -6,7 +6,6 @@ use Rattle.json.specs.Reads.{token_of}
 use Rattle.json.proofs.Grammar.{value-begin_object}
 use Rattle.serde_json.specs.Data.{object}
 use Rattle.serde_json.specs.Read.{of_json, converted, read}
-use Rattle.dap_json.specs.Read.{json_of}
 use Rattle.dap_json.proofs.Parsed.{json_of-read}
 use Rattle.dap_json.proofs.SkimLemmas.{converted-object, whole_read}
 use Rattle.dap_json.proofs.skim.Skim.open.Goals as goal
