@@ -174,8 +174,14 @@ fn print(rt: &HostRuntime, bytes: &[u8]) -> io::Result<()> {
 
 /// Writes a fault's line on standard error, and answers its status, whether or not the line went out.
 fn tell(rt: &HostRuntime, fault: &ToolFault) -> u8 {
-    if let Ok(line) = fault_line(rt.alloc(), fault) {
-        let _ = rt.stderr().write_all(&line);
+    match fault_line(rt.alloc(), fault) {
+        Ok(line) => {
+            let _ = rt.stderr().write_all(&line);
+        }
+        // The line of the fault finds no memory.
+        Err(_) => {
+            let _ = rt.stderr().write_all(b"dap: OutOfMemory\n");
+        }
     }
     status(fault)
 }

@@ -3,8 +3,10 @@
 use crate::streams::Pieces;
 use crate::tests::framed;
 use dap_frame::{Cause, End, FrameFault, Limits, Refusal};
-use dap_message::BodyRefusal;
-use dap_tool::{FileFault, MAX_FILE, ShowFault, ToolFault, fault_line, read_whole, show, status};
+use dap_message::{BodyRefusal, Scratch, read_heading};
+use dap_tool::{
+    FileFault, MAX_FILE, ShowFault, ToolFault, WrapFault, fault_line, read_whole, show, status,
+};
 use std::test::Fail;
 
 static THREADS: &[u8; 46] = b"{\"seq\":1,\"type\":\"request\",\"command\":\"threads\"}";
@@ -57,7 +59,7 @@ fn each_kind_has_its_line(rt: HostRuntime) -> Result<(), Fail> {
 /// Bodies that a quick reader could take for others, with what they are.
 #[test]
 fn bodies_with_a_catch(rt: HostRuntime) -> Result<(), Fail> {
-    let cases: [(&[u8], &[u8]); 9] = [
+    let cases: [(&[u8], &[u8]); 10] = [
         // of equal keys the last counts
         (
             b"{\"seq\":1,\"type\":\"event\",\"event\":\"a\",\"event\":\"b\",\"seq\":2}",
@@ -87,6 +89,11 @@ fn bodies_with_a_catch(rt: HostRuntime) -> Result<(), Fail> {
             b"{\"message\":\"m\",\"seq\":1,\"type\":\"response\",\"request_seq\":5,\"success\":true,\"command\":\"c\"}",
             b"0 1 response c 5 ok\n",
         ),
+        // a command of 64 bytes
+        (
+            b"{\"seq\":1,\"type\":\"request\",\"command\":\"aaaaaaaaaaaaaaaaaaaaaaaaaaaaaaaaaaaaaaaaaaaaaaaaaaaaaaaaaaaaaaaa\"}",
+            b"0 1 request aaaaaaaaaaaaaaaaaaaaaaaaaaaaaaaaaaaaaaaaaaaaaaaaaaaaaaaaaaaaaaaa\n",
+        ),
         // the greatest seq
         (
             b"{\"seq\":9007199254740991,\"type\":\"request\",\"command\":\"c\",\"arguments\":null}",
@@ -103,7 +110,10 @@ fn bodies_with_a_catch(rt: HostRuntime) -> Result<(), Fail> {
             b"0 0 event \xf0\x9f\x98\x80\n",
         ),
     ];
+    let mut scratch = Scratch::new(rt.alloc());
     for (body, wanted) in &cases {
+        // None of them needs a tree.
+        assert!(rt; read_heading(&mut scratch, body).is_some());
         let input = framed(rt.alloc(), &[body])?;
         let mut listing = Vec::new(rt.alloc());
         let end = show(rt.alloc(), &input, Limits::usual(), &mut listing);
@@ -299,7 +309,7 @@ fn greatest_length_of_a_file(rt: HostRuntime) -> Result<(), Fail> {
     let read = read_whole(rt.alloc(), &mut reader, MAX_FILE as u64)
         .ok()
         .ok_or("refused")?;
-    assert_eq!(rt; read.len(), 67108864);
+    assert!(rt; read.as_slice() == most);
     let mut reader = Pieces {
         rest: &bytes,
         size: usize::MAX,
@@ -313,7 +323,25 @@ fn greatest_length_of_a_file(rt: HostRuntime) -> Result<(), Fail> {
 /// The other faults of tools, with their statuses and lines.
 #[test]
 fn faults_of_tools(rt: HostRuntime) -> Result<(), Fail> {
-    let cases: [(ToolFault, u8, &[u8]); 7] = [
+    let cases: [(ToolFault, u8, &[u8]); 10] = [
+        (
+            ToolFault::Wrap(WrapFault::Body {
+                cause: BodyRefusal::BadSeq,
+                line: 1,
+            }),
+            3,
+            b"dap: BadSeq at line 1\n",
+        ),
+        (
+            ToolFault::Wrap(WrapFault::BodyTooLong { line: 1000 }),
+            3,
+            b"dap: BodyTooLong at line 1000\n",
+        ),
+        (
+            ToolFault::Wrap(WrapFault::OutOfMemory),
+            6,
+            b"dap: OutOfMemory\n",
+        ),
         (ToolFault::File(FileFault::Read), 5, b"dap: Read\n"),
         (
             ToolFault::File(FileFault::FileTooLong),

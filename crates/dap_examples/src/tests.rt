@@ -407,7 +407,13 @@ fn reads_no_more_after_a_refusal(rt: HostRuntime) -> Result<(), Fail> {
         held: Vec::new(rt.alloc()),
     };
     let served = first_serve(rt.alloc(), &mut reader, &mut writer, Limits::usual(), 1000);
-    assert!(rt; served.is_err());
+    assert_eq!(rt;
+        served,
+        Err(FirstFault::Frame(FrameFault {
+            cause: Cause::Refused(Refusal::NoLength),
+            offset: 103
+        }))
+    );
     assert_eq!(rt; input.len() - reader.rest.len(), 111);
     assert_eq!(rt; writer.held.len(), 274);
     Ok(())

@@ -5,7 +5,10 @@ ghost use Rattle.std.specs.Prelude.{◌≤◌};
 use dap_frame::{Cause, Fed, FrameFault, Frames, Limits, write_frame};
 use dap_message::{BodyFault, Kind, Message, Text, read_message, write_message};
 use dap_tables::{Entry, Outstanding, PutFault};
-use dap_tool::{FirstFault, ToolFault, WrapFault, fault_line, first_serve, wrap};
+use dap_tool::{
+    FileFault, FirstFault, ShowFault, ToolFault, WrapFault, fault_line, first_serve, read_whole,
+    show, wrap,
+};
 use std::alloc::Global;
 use std::io;
 use std::io::{Read, Write};
@@ -191,6 +194,40 @@ fn keeping_requests(rt: HostRuntime) -> Result<(), Fail> {
             }
             Err(PutFault::Repeated(request)) => assert!(rt; request.seq == 9 && table.contains(9)),
             Err(PutFault::Full(request)) => assert!(rt; request.seq == 7 && before == 2),
+        }
+    }
+    Ok(())
+}
+
+/// Two messages are listed, or some whole lines in front of theirs.
+#[test]
+fn listing(rt: HostRuntime) -> Result<(), Fail> {
+    let mut out = Vec::new(rt.alloc());
+    let end = show(rt.alloc(), INPUT, Limits::usual(), &mut out);
+    let lines = b"0 1 request initialize\n103 1 request threads\n".as_slice();
+    match end {
+        Ok(_) => assert!(rt; out.as_slice() == lines),
+        Err(fault) => {
+            assert_eq!(rt; fault, ShowFault::OutOfMemory);
+            assert!(rt; lines.starts_with(&out));
+            assert!(rt; out.is_empty() || out.ends_with(b"\n"));
+            note(&rt)?;
+        }
+    }
+    Ok(())
+}
+
+/// A file is read whole, or not at all.
+#[test]
+fn reading_a_file(rt: HostRuntime) -> Result<(), Fail> {
+    for expected in [0, 1000] {
+        let mut reader = Whole { rest: INPUT };
+        match read_whole(rt.alloc(), &mut reader, expected) {
+            Ok(bytes) => assert!(rt; bytes.as_slice() == INPUT.as_slice()),
+            Err(fault) => {
+                assert_eq!(rt; fault, FileFault::OutOfMemory);
+                note(&rt)?;
+            }
         }
     }
     Ok(())

@@ -100,14 +100,7 @@ module _ (limits : Settings) (frames : Intake) (bytes rest : List ℕ) (at : ℕ
     verdict_is = subst (λ b. IsVerdict b left (Refused refusal)) (bounds ∙ l.bounds) shut.verdict_is;
     offset = subst (λ b. StartsAt b offset (take n bytes) l.bodies left) (bounds ∙ l.bounds) (subst (λ k. StartsAt after.bounds k (take n bytes) l.bodies left) (sym starts) shut.starts);
   }
-  closed_by NoMemory offset n left f shut starts = record {
-    n = n;
-    bodies = l.bodies;
-    others = [];
-    rest = left;
-    split = subst (λ b. Split b (take n bytes) (l.bodies ++ []) left) (bounds ∙ l.bounds) (subst (λ xs. Split after.bounds (take n bytes) xs left) (sym (append-nil l.bodies)) f.split);
-    listed = l.listed;
-  }
+  closed_by NoMemory offset n left f shut starts = record { bodies = l.bodies; listed = l.listed }
 
   pub closed : (fault : FrameFault) → Closes frames after rest fault → Shows limits bytes old new (Err (shown_fault fault))
   closed fault done =
@@ -125,7 +118,7 @@ module _ (limits : Settings) (frames : Intake) (bytes : List ℕ) (at : ℕ) (ol
   last_here = (l.stands.ready ready).last
 
   pub interrupted : Shows limits bytes old new (Err OutOfMemory)
-  interrupted = record { n = at; bodies = l.bodies; others = frames.held ∷ []; rest = []; split = split_here; listed = l.listed }
+  interrupted = record { bodies = l.bodies; listed = l.listed }
 
   pub refused_body : (cause : BodyRefusal) (offset : ℕ) → Bad frames.held cause → offset ≡ frames.start → Shows limits bytes old new (Err (Body cause offset))
   refused_body cause offset bad starts = record {
@@ -172,8 +165,8 @@ module _ (limits : Settings) (frames : Intake) (bytes : List ℕ) (at : ℕ) (ol
 
 -- ---- the end
 
-pub out_of_memory_first : (limits : Settings) (bytes old : List ℕ) (xs : List (List ℕ)) (rest : List ℕ) → Split (bounds_of limits) [] xs rest → Shows limits bytes old old (Err OutOfMemory)
-out_of_memory_first limits bytes old xs rest split = record { n = 0; bodies = []; others = xs; rest = rest; split = split; listed = record { messages = []; text = []; lists = none; appended = sym (append-nil old) } }
+pub out_of_memory_first : (limits : Settings) (bytes old : List ℕ) → Shows limits bytes old old (Err OutOfMemory)
+out_of_memory_first limits bytes old = record { bodies = []; listed = record { messages = []; text = []; lists = none; appended = sym (append-nil old) } }
 
 ends_as : (limits : Settings) (frames : Intake) (rest : List ℕ) (end : End) → frames.bounds ≡ bounds_of limits → (end ≡ EndRefused → ⊥) → EndsWith frames rest end → IsEndOf limits rest end
 ends_as limits frames rest Clean bounds other e = e

@@ -19,6 +19,7 @@ use Rattle.dap_tool.specs.declared.files.FileFault.TheVariants.{Read as FileUnre
 
 -- ---- statuses: 3 refused, 4 truncated, 5 read or write, 6 memory
 
+-- `FrameFault` can have want of memory as its cause, though no tool answers that
 abbrev pub status_of_cause : Cause → ℕ
 status_of_cause (Refused refusal) = 3
 status_of_cause NoMemory = 6

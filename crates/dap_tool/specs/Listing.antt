@@ -87,13 +87,9 @@ pub record ListsToBody (limits : Settings) (bytes old new : List ℕ) (cause : B
   pub bad : Bad body cause
   pub starts : LastStartsAt (bounds_of limits) offset (take n bytes) (bodies ++ body ∷ []) body
 
--- memory was refused, and some of the first frames are listed
+-- memory was refused, and what stands before some frame is listed
 pub record ListsSome (limits : Settings) (bytes old new : List ℕ) : Type 0 where
-  pub n : ℕ
   pub bodies : List (List ℕ)
-  pub others : List (List ℕ)
-  pub rest : List ℕ
-  pub split : Split (bounds_of limits) (take n bytes) (bodies ++ others) rest
   pub listed : Listed limits bytes bodies old new
 
 abbrev pub Shows : Settings → List ℕ → List ℕ → List ℕ → Result End ShowFault → Type 0

@@ -1,4 +1,4 @@
--- Words for the steps that listing is made of.
+-- Words for the steps that listing and wrapping are made of: they serve private functions alone.
 use Rattle.std.specs.Prelude.{◌≡◌, ℕ, List, [], ◌∷◌, ◌++◌, take, codes, decimal}
 use Rattle.dap_frame.specs.Settings.{Settings, bounds_of}
 use Rattle.dap_frame.specs.Intake.{Intake, StandsFor}

@@ -20,7 +20,7 @@ pub enum FirstFault {
     /// The writer failed or took nothing, after so many bytes in all; more than 18446744073709551615 are told as that.
     #[error("the output failed after {written} bytes")]
     Write { written: u64 },
-    /// The framing of the input is refused, or memory for a frame was.
+    /// The framing of the input is refused. The cause is never want of memory, which is `OutOfMemory` here.
     #[error("the frame at byte {} is refused", .0.offset)]
     Frame(FrameFault),
     /// A body is no message; the frame's first byte has this offset in the input.

@@ -36,8 +36,11 @@ impl From<AllocError> for FileFault {
     }
 }
 
-/// Reads all that a reader has left. Room for `expected` bytes is made at once, where the length is known before, and
-/// more is made where more comes. Of what is too long, little more is read than a file may have.
+/// Reads all that a reader has left, of which at most [`MAX_FILE`] bytes are taken. Room for `expected` bytes is made at
+/// once, where the length is known before, and more is made where more comes.
+///
+/// `Read` comes where the reader fails, also by an interruption; `FileTooLong` where it has more than 67108864 bytes, of
+/// which at most 65536 more were read; `OutOfMemory` where memory for the bytes is refused.
 pub fn read_whole<R: Read>(
     alloc: Global,
     reader: &mut R,

@@ -9,7 +9,7 @@ ghost use Rattle.dap_message.specs.declared.message.Message.{Message};
 ghost use Rattle.dap_tool.specs.Listing.{Shows, shown, shown_byte, outcome_text, line_of_message};
 ghost use Rattle.dap_tool.specs.ShowSteps.{kind_words, IsUnread, ListedBefore, ListedTo, shown_fault};
 
-use dap_frame::{Cause, End, FrameFault, Frames, Limits, each_stream_has_one_split};
+use dap_frame::{Cause, End, FrameFault, Frames, Limits};
 use dap_message::{
     BodyFault, BodyRefusal, Heading, HeadingKind, Scratch, read_heading, read_message,
 };
@@ -20,7 +20,7 @@ use thiserror::Error;
 /// Why a stream is not listed to its end.
 #[derive(Clone, Copy, Debug, PartialEq, Eq, Error)]
 pub enum ShowFault {
-    /// The framing is refused.
+    /// The framing is refused. The cause is never want of memory, which is `OutOfMemory` here.
     #[error("a frame is refused at byte {}", .0.offset)]
     Frame(FrameFault),
     /// A body is no message; the frame's first byte has this offset.
@@ -190,8 +190,10 @@ fn list_body(
 
 /// Appends a line for each message of a stream, up to the first refusal: `OFFSET SEQ request COMMAND`,
 /// `OFFSET SEQ response COMMAND REQUEST_SEQ ok` or `failed`, `OFFSET SEQ event EVENT`, `OFFSET SEQ other TAG`. Offsets
-/// count bytes from the stream's start; control characters are shown as `?`. The end is `Clean` or `Truncated`. What
-/// was appended stays at a fault.
+/// count bytes from the stream's start; control characters are shown as `?`. The end is `Clean` or `Truncated`.
+///
+/// At a fault the lines of all messages before it stay. At want of memory the lines of some first messages stay, each of
+/// them whole.
 pub fn show(
     alloc: Global,
     bytes: &[u8],
@@ -200,8 +202,6 @@ pub fn show(
 ) -> Result<End, ShowFault>
     ensures { Shows limits bytes.now out.old.items out.new.items result }
 {
-    // A law for the proof: also where memory is refused at once, no bytes are a stream with one split.
-    each_stream_has_one_split();
     let Ok(mut frames) = Frames::open(alloc, &limits) else {
         return Err(ShowFault::OutOfMemory);
     };

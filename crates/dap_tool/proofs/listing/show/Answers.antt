@@ -1,5 +1,4 @@
-use Rattle.std.proofs.Common.{sym, subst, arith, [], Err}
-use Rattle.dap_frame.specs.Settings.{bounds_of}
+use Rattle.std.proofs.Common.{sym, subst, arith, Err}
 use Rattle.dap_tool.specs.Listing.{Shows}
 use Rattle.dap_tool.proofs.Bytes.{within_rest}
 use Rattle.dap_tool.proofs.Reaching.{gathers_within}
@@ -7,7 +6,7 @@ use Rattle.dap_tool.proofs.ShowLemmas.{ListedTo-start, completed, gathered, clos
 use Rattle.dap_tool.proofs.listing.show.Goals as goal
 
 pub returns-in_default : goal.returns-in_default
-returns-in_default c = let split = c.each_stream_has_one_split.ensures.some (bounds_of c.args.limits) [] in out_of_memory_first c.args.limits c.args.bytes.now _ split.0 split.1 split.2
+returns-in_default c = out_of_memory_first c.args.limits c.args.bytes.now _
 
 pub loop-at-init : goal.loop-at-init
 loop-at-init c = record {
