@@ -3,7 +3,7 @@
 use crate::streams::Pieces;
 use crate::tests::framed;
 use dap_frame::{Cause, End, FrameFault, Limits, Refusal};
-use dap_message::{BodyRefusal, Scratch, read_heading};
+use dap_message::{BodyRefusal, Scratch, read_heading, read_message};
 use dap_tool::{
     FileFault, MAX_FILE, ShowFault, ToolFault, WrapFault, fault_line, read_whole, show, status,
 };
@@ -112,8 +112,9 @@ fn bodies_with_a_catch(rt: HostRuntime) -> Result<(), Fail> {
     ];
     let mut scratch = Scratch::new(rt.alloc());
     for (body, wanted) in &cases {
-        // None of them needs a tree.
-        assert!(rt; read_heading(&mut scratch, body).is_some());
+        // None of them needs a tree, and the tree says the same.
+        let message = read_message(rt.alloc(), body).ok().ok_or("refused")?;
+        assert_eq!(rt; read_heading(&mut scratch, body), Some(message.heading()));
         let input = framed(rt.alloc(), &[body])?;
         let mut listing = Vec::new(rt.alloc());
         let end = show(rt.alloc(), &input, Limits::usual(), &mut listing);

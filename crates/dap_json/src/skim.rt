@@ -47,8 +47,8 @@ impl<'a> Model for Skim<'a> {
 
 impl<'a> Skim<'a> {
     /// The members of the object that bytes are, all still to come. Unescaped texts go to `scratch`, which grows to the
-    /// length of the bytes, and is kept from object to object. It is an error where no object begins or memory is
-    /// refused.
+    /// length of the bytes, and is kept from object to object. It is an error where the bytes are not UTF-8, where no
+    /// object begins, and where memory is refused.
     pub fn open(bytes: &'a [u8], scratch: &'a mut Scratch) -> Result<Skim<'a>, Invalid>
         ensures { IfOk result (λ skim. (all : Members) → IsRestOf skim no_members all → json_of bytes.now ≡ Some (object_data all)) }
     {
@@ -64,7 +64,9 @@ impl<'a> Skim<'a> {
         }
     }
 
-    /// The next member's key and value, or `None` at the end of the bytes. Of equal keys the last counts.
+    /// The next member's key and value, or `None` at the end of the bytes; only then were the members those of an object.
+    /// Of equal keys the last counts. It is an error where the bytes are no JSON or go on after the object, where arrays
+    /// and objects nest deeper than 127, where a number is too great for a float, and after the end.
     pub fn next(&mut self) -> Result<Option<(&'a str, Skimmed<'a>)>, Invalid>
         ensures member { IfOk result (λ r. IfSome r (λ m. (d : Data) × Skims m.1 d
             × ((found all : Members) → IsRestOf self.new (put m.0.now d found) all → IsRestOf self.old found all))) }

@@ -18,7 +18,7 @@ use dap_json::field::MAX_SEQ;
 use dap_json::skim::{Invalid, Scratch, Skim, Skimmed};
 
 /// A message without its trees and its reason. The names are lent.
-#[derive(Clone, Copy, Debug, Drop)]
+#[derive(Clone, Copy, Debug, PartialEq, Eq, Drop)]
 pub struct Heading<'a> {
     /// 0 to 9007199254740991.
     pub seq: u64,
@@ -26,7 +26,7 @@ pub struct Heading<'a> {
 }
 
 /// What a message is, without its trees and its reason.
-#[derive(Clone, Copy, Debug, Drop)]
+#[derive(Clone, Copy, Debug, PartialEq, Eq, Drop)]
 pub enum HeadingKind<'a> {
     Request {
         command: &'a str,

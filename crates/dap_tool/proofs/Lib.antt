@@ -1,6 +1,7 @@
 pub mod AnswerLemmas
 pub mod Bytes
 pub mod Lines
+mod ListingExamples
 pub mod OneFault
 pub mod Reaching
 pub mod ShowLemmas
