@@ -1,0 +1,17 @@
+//! What a client asks and what an adapter offers: the thirty commands of this profile and the capabilities that gate
+//! some of them.
+//!
+//! Specification, "Requests" and "Capabilities". This crate knows names of commands and flags; it must not know the
+//! envelope of a message, nor header fields.
+#![tactic(auto)]
+
+mod capabilities;
+mod command;
+mod given;
+
+pub use capabilities::Capabilities;
+pub use command::{Command, Gate};
+pub use given::{FramesGiven, HoldersGiven, frames_given, holders_given};
+
+#[cfg(test)]
+mod tests;
