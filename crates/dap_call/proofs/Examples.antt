@@ -1,7 +1,7 @@
 -- Worked examples, each shown by computation.
 use Rattle.std.proofs.Common.{◌≡◌, [], ◌∷◌, codes, true, false, Some, None, refl}
 use Rattle.serde_json.specs.Data.{boolean, null, number, unsigned, array, object, no_items, item, no_members, put}
-use Rattle.dap_call.specs.Command.{name_of, gate_of, command_named, flag_of}
+use Rattle.dap_call.specs.Command.{gate_of, command_named, flag_of}
 use Rattle.dap_call.specs.Given.{frame_ids, holders_of}
 use Rattle.dap_call.specs.Capabilities.{is_flag, capabilities_of, updated_by, is_allowed, written}
 use Rattle.dap_call.specs.declared.capabilities.Capabilities.{Capabilities}

@@ -1,3 +1,6 @@
 pub mod Command
 pub mod Capabilities
 pub mod Given
+pub mod Key
+pub mod Argument
+pub mod Call

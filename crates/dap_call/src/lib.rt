@@ -5,13 +5,23 @@
 //! envelope of a message, nor header fields.
 #![tactic(auto)]
 
+mod argument;
+mod call;
+mod calls;
 mod capabilities;
 mod command;
 mod given;
+mod key;
 
+pub use call::{
+    BreakpointLocations, Call, CallFault, Completions, Evaluate, Initialize, Lines, Modules,
+    SetVariable, SourceKey, StackTrace, Texts, Variables,
+};
+pub use calls::read_call;
 pub use capabilities::Capabilities;
 pub use command::{Command, Gate};
 pub use given::{FramesGiven, HoldersGiven, frames_given, holders_given};
+pub use key::Key;
 
 #[cfg(test)]
 mod tests;

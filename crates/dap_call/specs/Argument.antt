@@ -1,0 +1,84 @@
+-- What stands at a key of a command's arguments, or the key that is bad.
+use Rattle.std.specs.Prelude.{ℕ, ◌&&◌, ℤ, pos, negsuc, Bool, nat_le, int_le, Option, Some, None, option_and_then, option_map, unwrap_or, Result, Ok, Err}
+use Rattle.serde_json.specs.Data.{Data, null, object}
+use Rattle.serde_json.specs.Find.{as_number, as_u64, as_i64}
+use Rattle.std.specs.Prelude.{◌≡◌}
+use Rattle.dap_json.specs.Field.{if_passes, max_seq, tree_at}
+use Rattle.dap_call.specs.Key.{text_of}
+use Rattle.dap_call.specs.declared.key.Key.{Key}
+use Rattle.dap_call.specs.declared.key.Key.TheVariants as key
+use Rattle.dap_call.specs.declared.call.CallFault.{CallFault}
+use Rattle.dap_call.specs.declared.call.CallFault.TheVariants.{BadArguments, OutOfMemory}
+
+-- a value, or the first bad key
+abbrev pub Read : Type 0 → Type 0
+Read A = Result A Key
+
+infixl 10 ◌>>=◌
+abbrev pub ◌>>=◌ : {A B : Type 0} → Read A → (A → Read B) → Read B
+(Ok x) >>= f = f x
+(Err e) >>= f = Err e
+
+-- What a function returned is what the rows read, unless memory ran out.
+abbrev pub Gives : {A : Type 0} → Result A CallFault → Read A → Type 0
+Gives (Ok x) read = read ≡ Ok x
+Gives (Err (BadArguments key)) read = read ≡ Err key
+Gives (Err OutOfMemory) read = Unit {0}
+
+-- ---- shapes of a value
+
+abbrev pub max_number : ℕ
+max_number = 2147483647
+
+abbrev pub is_int : ℤ → Bool
+is_int z = int_le (negsuc 9007199254740990) z && int_le z (pos 9007199254740991)
+
+abbrev pub int_of : Data → Option ℤ
+int_of d = if_passes is_int (option_and_then as_i64 (as_number d))
+
+abbrev pub number_of : Data → Option ℕ
+number_of d = if_passes (λ n. nat_le n max_number) (option_and_then as_u64 (as_number d))
+
+abbrev pub seq_of : Data → Option ℕ
+seq_of d = if_passes (λ n. nat_le n max_seq) (option_and_then as_u64 (as_number d))
+
+-- ---- keys
+
+-- null counts as absent
+abbrev pub value_at : Key → Option Data → Option Data
+value_at k arguments = option_and_then (tree_at (text_of k)) arguments
+
+abbrev pub or_bad : {A : Type 0} → Key → Option A → Read A
+or_bad k None = Err k
+or_bad k (Some x) = Ok x
+
+-- the value at a key, which has to be there in this shape
+abbrev pub required : {A : Type 0} → (Data → Option A) → Key → Option Data → Read A
+required shape k arguments = or_bad k (option_and_then shape (value_at k arguments))
+
+abbrev pub in_shape : {A : Type 0} → (Data → Option A) → Key → Option Data → Read (Option A)
+in_shape shape k None = Ok None
+in_shape shape k (Some d) = or_bad k (option_map Some (shape d))
+
+-- the value at a key, which may be absent, but has this shape where it is there
+abbrev pub optional : {A : Type 0} → (Data → Option A) → Key → Option Data → Read (Option A)
+optional shape k arguments = in_shape shape k (value_at k arguments)
+
+abbrev pub optional_or : {A : Type 0} → (Data → Option A) → A → Key → Option Data → Read A
+optional_or shape default k arguments = do
+  found ← optional shape k arguments
+  Ok (unwrap_or found default)
+
+-- ---- the whole
+
+-- an object, or absent
+abbrev pub may_be_absent : Option Data → Read (Option Data)
+may_be_absent None = Ok None
+may_be_absent (Some null) = Ok None
+may_be_absent (Some (object ms)) = Ok (Some (object ms))
+may_be_absent (Some _) = Err key.Arguments
+
+-- an object
+abbrev pub must_be_there : Option Data → Read (Option Data)
+must_be_there (Some (object ms)) = Ok (Some (object ms))
+must_be_there _ = Err key.Arguments

@@ -1,0 +1,35 @@
+-- The keys of arguments, by their names in the Specification.
+use Rattle.std.specs.Prelude.{List, ℕ, codes}
+use Rattle.dap_call.specs.declared.key.Key.{Key}
+use Rattle.dap_call.specs.declared.key.Key.TheVariants.{Arguments, AdapterId, LinesStartAt1, ColumnsStartAt1, SupportsVariablePaging, SupportsRunInTerminalRequest, RequestId, Source, Breakpoints, Lines, Line, Filters, ThreadId, StartFrame, Levels, FrameId, VariablesReference, Start, Count, Expression, SourceReference, Name, Value, StartModule, ModuleCount, EndLine, Text, Column, Path}
+
+abbrev pub text_of : Key → List ℕ
+text_of Arguments = codes "arguments"
+text_of AdapterId = codes "adapterID"
+text_of LinesStartAt1 = codes "linesStartAt1"
+text_of ColumnsStartAt1 = codes "columnsStartAt1"
+text_of SupportsVariablePaging = codes "supportsVariablePaging"
+text_of SupportsRunInTerminalRequest = codes "supportsRunInTerminalRequest"
+text_of RequestId = codes "requestId"
+text_of Source = codes "source"
+text_of Breakpoints = codes "breakpoints"
+text_of Lines = codes "lines"
+text_of Line = codes "line"
+text_of Filters = codes "filters"
+text_of ThreadId = codes "threadId"
+text_of StartFrame = codes "startFrame"
+text_of Levels = codes "levels"
+text_of FrameId = codes "frameId"
+text_of VariablesReference = codes "variablesReference"
+text_of Start = codes "start"
+text_of Count = codes "count"
+text_of Expression = codes "expression"
+text_of SourceReference = codes "sourceReference"
+text_of Name = codes "name"
+text_of Value = codes "value"
+text_of StartModule = codes "startModule"
+text_of ModuleCount = codes "moduleCount"
+text_of EndLine = codes "endLine"
+text_of Text = codes "text"
+text_of Column = codes "column"
+text_of Path = codes "path"

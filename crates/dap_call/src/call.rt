@@ -1,0 +1,231 @@
+//! Requests with their arguments, typed by the keys of each command.
+//!
+//! Specification, "Requests". A key that this profile does not list is not kept.
+use dap_json::{Text, Tree};
+use std::marker::Model;
+
+/// A request. Numbers of threads are -9007199254740991 to 9007199254740991; counts, references and lines 0 to
+/// 2147483647.
+#[derive(Drop)]
+pub enum Call {
+    Initialize(Initialize),
+    /// The whole object of the arguments, if there is one.
+    Launch(Option<Tree>),
+    /// Likewise.
+    Attach(Option<Tree>),
+    ConfigurationDone,
+    Disconnect,
+    Threads,
+    Terminate,
+    Cancel {
+        /// The `seq` of the request to cancel.
+        request_id: Option<u64>,
+    },
+    SetBreakpoints {
+        source: SourceKey,
+        lines: Lines,
+    },
+    SetFunctionBreakpoints {
+        names: Texts,
+    },
+    SetExceptionBreakpoints {
+        filters: Texts,
+    },
+    Continue {
+        thread_id: i64,
+    },
+    Next {
+        thread_id: i64,
+    },
+    StepIn {
+        thread_id: i64,
+    },
+    StepOut {
+        thread_id: i64,
+    },
+    Pause {
+        thread_id: i64,
+    },
+    StepBack {
+        thread_id: i64,
+    },
+    ReverseContinue {
+        thread_id: i64,
+    },
+    StackTrace(StackTrace),
+    Scopes {
+        frame_id: u32,
+    },
+    Variables(Variables),
+    Evaluate(Evaluate),
+    Source {
+        /// 0 where neither key names a source above 0.
+        source_reference: u32,
+    },
+    LoadedSources,
+    SetVariable(SetVariable),
+    Restart,
+    Modules(Modules),
+    ExceptionInfo {
+        thread_id: i64,
+    },
+    BreakpointLocations(BreakpointLocations),
+    Completions(Completions),
+}
+
+#[derive(Drop)]
+pub struct Initialize {
+    pub adapter_id: Text,
+    pub lines_start_at_1: bool,
+    pub columns_start_at_1: bool,
+    pub supports_variable_paging: bool,
+    pub supports_run_in_terminal_request: bool,
+}
+
+#[derive(Clone, Copy, Debug)]
+pub struct StackTrace {
+    pub thread_id: i64,
+    pub start_frame: u32,
+    /// At most so many frames; 0 means all.
+    pub levels: u32,
+}
+
+#[derive(Clone, Copy, Debug)]
+pub struct Variables {
+    pub variables_reference: u32,
+    pub start: u32,
+    /// At most so many variables; 0 means all.
+    pub count: u32,
+}
+
+#[derive(Drop)]
+pub struct Evaluate {
+    pub expression: Text,
+    pub frame_id: Option<u32>,
+}
+
+#[derive(Drop)]
+pub struct SetVariable {
+    pub variables_reference: u32,
+    pub name: Text,
+    pub value: Text,
+}
+
+#[derive(Clone, Copy, Debug)]
+pub struct Modules {
+    pub start_module: u32,
+    /// At most so many modules; 0 means all.
+    pub module_count: u32,
+}
+
+#[derive(Drop)]
+pub struct BreakpointLocations {
+    pub source: SourceKey,
+    pub line: u32,
+    pub end_line: Option<u32>,
+}
+
+#[derive(Drop)]
+pub struct Completions {
+    pub text: Text,
+    pub column: u32,
+    pub frame_id: Option<u32>,
+    pub line: Option<u32>,
+}
+
+/// How a source is named: by its path where it has one, also an empty one, else by its reference, 1 to 2147483647.
+#[derive(Drop)]
+pub enum SourceKey {
+    Path(Text),
+    Reference(u32),
+}
+
+/// Lines of a source. A contract sees the list.
+#[derive(Debug, Drop)]
+pub struct Lines {
+    lines: Vec<u32>,
+}
+
+impl Model for Lines {
+    ghost use Rattle.std.specs.Prelude.{List, ℕ};
+
+    ghost Value = { List ℕ };
+
+    ghost view = { λ l. l.lines.items };
+}
+
+impl Lines {
+    ghost use Rattle.std.specs.Prelude.{◌≡◌};
+
+    /// The lines of a `Vec`, without a copy.
+    pub fn new(lines: Vec<u32>) -> Lines
+        ensures { result ≡ lines.items }
+    {
+        Lines { lines }
+    }
+
+    /// The lines, lent.
+    pub fn as_slice(&self) -> &[u32]
+        ensures { result.now ≡ self.now }
+    {
+        self.lines.as_slice()
+    }
+
+    /// The `Vec` that it holds, without a copy.
+    pub fn into_vec(self) -> Vec<u32>
+        ensures { result.items ≡ self }
+    {
+        let Lines { lines } = self;
+        lines
+    }
+}
+
+/// Texts in order. A contract sees the list of their bytes.
+#[derive(Debug, Drop)]
+pub struct Texts {
+    texts: Vec<Text>,
+}
+
+impl Model for Texts {
+    ghost use Rattle.std.specs.Prelude.{List, ℕ};
+
+    ghost Value = { List (List ℕ) };
+
+    ghost view = { λ t. t.texts.items };
+}
+
+impl Texts {
+    ghost use Rattle.std.specs.Prelude.{◌≡◌};
+
+    /// The texts of a `Vec`, without a copy.
+    pub fn new(texts: Vec<Text>) -> Texts
+        ensures { result ≡ texts.items }
+    {
+        Texts { texts }
+    }
+
+    /// The texts, lent.
+    pub fn as_slice(&self) -> &[Text]
+        ensures { result.now ≡ self.now }
+    {
+        self.texts.as_slice()
+    }
+
+    /// The `Vec` that it holds, without a copy.
+    pub fn into_vec(self) -> Vec<Text>
+        ensures { result.items ≡ self }
+    {
+        let Texts { texts } = self;
+        texts
+    }
+}
+
+/// Why arguments were not read.
+#[derive(Clone, Copy, Debug, PartialEq, Eq)]
+pub enum CallFault {
+    /// The first bad key in the order of the command's row: one that is required and absent, or whose value is not of
+    /// its kind or range. `arguments` where they are no object, or absent while a key is required.
+    BadArguments { key: crate::key::Key },
+    /// Memory was refused.
+    OutOfMemory,
+}

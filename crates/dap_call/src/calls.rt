@@ -1,0 +1,454 @@
+//! From a command and its arguments to a call: a function for each row of keys.
+ghost use Rattle.std.specs.Prelude.{◌≡◌, IfOk, option_map};
+ghost use Rattle.serde_json.specs.View.{view};
+ghost use Rattle.dap_call.specs.Argument.{Gives, may_be_absent};
+ghost use Rattle.dap_call.specs.Capabilities.{seen};
+ghost use Rattle.dap_call.specs.Call.{lines_of, line_in, breakpoint_lines_of, name_in, names_of, filters_of, source_key_of, source_reference_of, source_parts as source_parts_of, initialize_of, cancel_of, set_breakpoints_of, set_function_breakpoints_of, set_exception_breakpoints_of, stack_trace_of, scopes_of, variables_of, evaluate_of, source_of, set_variable_of, modules_of, breakpoint_locations_of, completions_of, thread_of, tree_of, call_of};
+
+use crate::argument;
+use crate::argument::Arguments;
+use crate::call::{
+    BreakpointLocations, Call, CallFault, Completions, Evaluate, Initialize, Lines, Modules,
+    SetVariable, SourceKey, StackTrace, Texts, Variables,
+};
+use crate::command::Command;
+use crate::key::Key;
+use dap_json::{Text, Tree, field};
+use serde_json::Value;
+use std::alloc::{AllocError, Global};
+
+/// A source's path and its reference.
+#[tactic(auto, unfolding(crate::specs::Call::source_parts))]
+fn source_parts(alloc: Global, source: &Value) -> Result<(Option<Text>, u32), CallFault>
+    ensures { Gives result (source_parts_of (view source.now)) }
+{
+    let source = Arguments::required(Some(source))?;
+    let path = source.optional_text(alloc, Key::Path)?;
+    let reference = source.number_or(Key::SourceReference, 0)?;
+    Ok((path, reference))
+}
+
+/// How a source is named, if it is.
+fn source_key(alloc: Global, source: &Value) -> Result<Option<SourceKey>, AllocError>
+    ensures { IfOk result (λ o. o ≡ source_key_of (view source.now)) }
+{
+    match source_parts(alloc, source) {
+        Ok((Some(path), _)) => Ok(Some(SourceKey::Path(path))),
+        Ok((None, 0)) => Ok(None),
+        Ok((None, reference)) => Ok(Some(SourceKey::Reference(reference))),
+        Err(CallFault::BadArguments { .. }) => Ok(None),
+        Err(CallFault::OutOfMemory) => Err(AllocError),
+    }
+}
+
+/// The reference of a source, which may have a path too.
+fn source_reference(alloc: Global, source: &Value) -> Result<Option<u32>, AllocError>
+    ensures { IfOk result (λ o. o ≡ source_reference_of (view source.now)) }
+{
+    match source_parts(alloc, source) {
+        Ok((_, reference)) => Ok(Some(reference)),
+        Err(CallFault::BadArguments { .. }) => Ok(None),
+        Err(CallFault::OutOfMemory) => Err(AllocError),
+    }
+}
+
+fn lines(alloc: Global, lines: &Value) -> Result<Option<Lines>, AllocError>
+    ensures { IfOk result (λ o. o ≡ lines_of (view lines.now)) }
+{
+    let Some(items) = lines.as_array() else {
+        return Ok(None);
+    };
+    let mut found = Vec::new(alloc);
+    for item in items {
+        let Some(line) = argument::number(item) else {
+            return Ok(None);
+        };
+        found.push(line)?;
+    }
+    Ok(Some(Lines::new(found)))
+}
+
+fn line(breakpoint: &Value) -> Option<u32>
+    ensures { result ≡ line_in (view breakpoint.now) }
+{
+    breakpoint
+        .get(Key::Line.name())
+        .filter(|v| !v.is_null())
+        .and_then(argument::number)
+}
+
+fn breakpoint_lines(alloc: Global, breakpoints: &Value) -> Result<Option<Lines>, AllocError>
+    ensures { IfOk result (λ o. o ≡ breakpoint_lines_of (view breakpoints.now)) }
+{
+    let Some(items) = breakpoints.as_array() else {
+        return Ok(None);
+    };
+    let mut found = Vec::new(alloc);
+    for item in items {
+        let Some(line) = line(item) else {
+            return Ok(None);
+        };
+        found.push(line)?;
+    }
+    Ok(Some(Lines::new(found)))
+}
+
+/// The name of a function breakpoint.
+fn name(breakpoint: &Value) -> Option<&str>
+    ensures { option_map (λ s. s.now) result ≡ name_in (view breakpoint.now) }
+{
+    field::text(breakpoint, Key::Name.name())
+}
+
+fn names(alloc: Global, breakpoints: &Value) -> Result<Option<Texts>, AllocError>
+    ensures { IfOk result (λ o. o ≡ names_of (view breakpoints.now)) }
+{
+    let Some(items) = breakpoints.as_array() else {
+        return Ok(None);
+    };
+    let mut found = Vec::new(alloc);
+    for item in items {
+        let Some(name) = name(item) else {
+            return Ok(None);
+        };
+        found.push(Text::copied(alloc, name)?)?;
+    }
+    Ok(Some(Texts::new(found)))
+}
+
+fn filters(alloc: Global, filters: &Value) -> Result<Option<Texts>, AllocError>
+    ensures { IfOk result (λ o. o ≡ filters_of (view filters.now)) }
+{
+    let Some(items) = filters.as_array() else {
+        return Ok(None);
+    };
+    let mut found = Vec::new(alloc);
+    for item in items {
+        let Some(filter) = item.as_str() else {
+            return Ok(None);
+        };
+        found.push(Text::copied(alloc, filter)?)?;
+    }
+    Ok(Some(Texts::new(found)))
+}
+
+#[tactic(auto, unfolding(crate::specs::Call::initialize_of))]
+fn initialize(alloc: Global, given: Option<&Value>) -> Result<Call, CallFault>
+    ensures { Gives result (initialize_of (seen given.entry)) }
+{
+    let arguments = Arguments::optional(given)?;
+    let adapter_id = arguments.text_or_empty(alloc, Key::AdapterId)?;
+    let lines_start_at_1 = arguments.bool_or(Key::LinesStartAt1, true)?;
+    let columns_start_at_1 = arguments.bool_or(Key::ColumnsStartAt1, true)?;
+    let supports_variable_paging = arguments.bool_or(Key::SupportsVariablePaging, false)?;
+    let supports_run_in_terminal_request = arguments.bool_or(
+        Key::SupportsRunInTerminalRequest,
+        false,
+    )?;
+    Ok(Call::Initialize(Initialize {
+        adapter_id,
+        lines_start_at_1,
+        columns_start_at_1,
+        supports_variable_paging,
+        supports_run_in_terminal_request,
+    }))
+}
+
+#[tactic(auto, unfolding(crate::specs::Call::cancel_of))]
+fn cancel(given: Option<&Value>) -> Result<Call, CallFault>
+    ensures { Gives result (cancel_of (seen given.entry)) }
+{
+    let arguments = Arguments::optional(given)?;
+    let request_id = arguments.optional_seq(Key::RequestId)?;
+    Ok(Call::Cancel { request_id })
+}
+
+#[tactic(auto, unfolding(crate::specs::Call::set_breakpoints_of))]
+fn set_breakpoints(alloc: Global, given: Option<&Value>) -> Result<Call, CallFault>
+    ensures { Gives result (set_breakpoints_of (seen given.entry)) }
+{
+    let arguments = Arguments::required(given)?;
+    let source = arguments.required_source(alloc, Key::Source)?;
+    let breakpoints = arguments.optional_breakpoint_lines(alloc, Key::Breakpoints)?;
+    let lines = arguments.optional_lines(alloc, Key::Lines)?;
+    let lines = breakpoints.or(lines).unwrap_or(Lines::new(Vec::new(alloc)));
+    Ok(Call::SetBreakpoints { source, lines })
+}
+
+#[tactic(auto, unfolding(crate::specs::Call::set_function_breakpoints_of))]
+fn set_function_breakpoints(alloc: Global, given: Option<&Value>) -> Result<Call, CallFault>
+    ensures { Gives result (set_function_breakpoints_of (seen given.entry)) }
+{
+    let arguments = Arguments::required(given)?;
+    let names = arguments.required_names(alloc, Key::Breakpoints)?;
+    Ok(Call::SetFunctionBreakpoints { names })
+}
+
+#[tactic(auto, unfolding(crate::specs::Call::set_exception_breakpoints_of))]
+fn set_exception_breakpoints(alloc: Global, given: Option<&Value>) -> Result<Call, CallFault>
+    ensures { Gives result (set_exception_breakpoints_of (seen given.entry)) }
+{
+    let arguments = Arguments::required(given)?;
+    let filters = arguments.required_filters(alloc, Key::Filters)?;
+    Ok(Call::SetExceptionBreakpoints { filters })
+}
+
+impl Arguments<'_> {
+    ghost use Rattle.dap_call.specs.Argument.{required, optional};
+
+    fn required_source(&self, alloc: Global, key: Key) -> Result<SourceKey, CallFault>
+        ensures { Gives result (required source_key_of key self.now) }
+    {
+        match self.value(key) {
+            None => Err(argument::bad(key)),
+            Some(source) => source_key(alloc, source)?.ok_or(argument::bad(key)),
+        }
+    }
+
+    fn optional_source_reference(&self, alloc: Global, key: Key) -> Result<Option<u32>, CallFault>
+        ensures { Gives result (optional source_reference_of key self.now) }
+    {
+        match self.value(key) {
+            None => Ok(None),
+            Some(source) => Ok(Some(source_reference(alloc, source)?.ok_or(argument::bad(key))?)),
+        }
+    }
+
+    fn required_names(&self, alloc: Global, key: Key) -> Result<Texts, CallFault>
+        ensures { Gives result (required names_of key self.now) }
+    {
+        match self.value(key) {
+            None => Err(argument::bad(key)),
+            Some(value) => names(alloc, value)?.ok_or(argument::bad(key)),
+        }
+    }
+
+    fn required_filters(&self, alloc: Global, key: Key) -> Result<Texts, CallFault>
+        ensures { Gives result (required filters_of key self.now) }
+    {
+        match self.value(key) {
+            None => Err(argument::bad(key)),
+            Some(value) => filters(alloc, value)?.ok_or(argument::bad(key)),
+        }
+    }
+
+    fn optional_lines(&self, alloc: Global, key: Key) -> Result<Option<Lines>, CallFault>
+        ensures { Gives result (optional lines_of key self.now) }
+    {
+        match self.value(key) {
+            None => Ok(None),
+            Some(value) => Ok(Some(lines(alloc, value)?.ok_or(argument::bad(key))?)),
+        }
+    }
+
+    fn optional_breakpoint_lines(&self, alloc: Global, key: Key) -> Result<Option<Lines>, CallFault>
+        ensures { Gives result (optional breakpoint_lines_of key self.now) }
+    {
+        match self.value(key) {
+            None => Ok(None),
+            Some(value) => Ok(Some(breakpoint_lines(alloc, value)?.ok_or(argument::bad(key))?)),
+        }
+    }
+}
+
+#[tactic(auto, unfolding(crate::specs::Call::stack_trace_of))]
+fn stack_trace(given: Option<&Value>) -> Result<Call, CallFault>
+    ensures { Gives result (stack_trace_of (seen given.entry)) }
+{
+    let arguments = Arguments::required(given)?;
+    let thread_id = arguments.required_int(Key::ThreadId)?;
+    let start_frame = arguments.number_or(Key::StartFrame, 0)?;
+    let levels = arguments.number_or(Key::Levels, 0)?;
+    Ok(Call::StackTrace(StackTrace {
+        thread_id,
+        start_frame,
+        levels,
+    }))
+}
+
+#[tactic(auto, unfolding(crate::specs::Call::evaluate_of))]
+fn evaluate(alloc: Global, given: Option<&Value>) -> Result<Call, CallFault>
+    ensures { Gives result (evaluate_of (seen given.entry)) }
+{
+    let arguments = Arguments::required(given)?;
+    let expression = arguments.required_text(alloc, Key::Expression)?;
+    let frame_id = arguments.optional_number(Key::FrameId)?;
+    Ok(Call::Evaluate(Evaluate {
+        expression,
+        frame_id,
+    }))
+}
+
+#[tactic(auto, unfolding(crate::specs::Call::scopes_of))]
+fn scopes(given: Option<&Value>) -> Result<Call, CallFault>
+    ensures { Gives result (scopes_of (seen given.entry)) }
+{
+    let arguments = Arguments::required(given)?;
+    let frame_id = arguments.required_number(Key::FrameId)?;
+    Ok(Call::Scopes { frame_id })
+}
+
+#[tactic(auto, unfolding(crate::specs::Call::variables_of))]
+fn variables(given: Option<&Value>) -> Result<Call, CallFault>
+    ensures { Gives result (variables_of (seen given.entry)) }
+{
+    let arguments = Arguments::required(given)?;
+    let variables_reference = arguments.required_number(Key::VariablesReference)?;
+    let start = arguments.number_or(Key::Start, 0)?;
+    let count = arguments.number_or(Key::Count, 0)?;
+    Ok(Call::Variables(Variables {
+        variables_reference,
+        start,
+        count,
+    }))
+}
+
+/// A reference above 0 in the source counts before the one beside it; both are tested.
+#[tactic(auto, unfolding(crate::specs::Call::source_of))]
+fn source(alloc: Global, given: Option<&Value>) -> Result<Call, CallFault>
+    ensures { Gives result (source_of (seen given.entry)) }
+{
+    let arguments = Arguments::optional(given)?;
+    let inner = arguments
+        .optional_source_reference(alloc, Key::Source)?
+        .unwrap_or(0);
+    let outer = arguments.number_or(Key::SourceReference, 0)?;
+    let source_reference = if inner == 0 { outer } else { inner };
+    Ok(Call::Source { source_reference })
+}
+
+#[tactic(auto, unfolding(crate::specs::Call::set_variable_of))]
+fn set_variable(alloc: Global, given: Option<&Value>) -> Result<Call, CallFault>
+    ensures { Gives result (set_variable_of (seen given.entry)) }
+{
+    let arguments = Arguments::required(given)?;
+    let variables_reference = arguments.required_number(Key::VariablesReference)?;
+    let name = arguments.required_text(alloc, Key::Name)?;
+    let value = arguments.required_text(alloc, Key::Value)?;
+    Ok(Call::SetVariable(SetVariable {
+        variables_reference,
+        name,
+        value,
+    }))
+}
+
+#[tactic(auto, unfolding(crate::specs::Call::modules_of))]
+fn modules(given: Option<&Value>) -> Result<Call, CallFault>
+    ensures { Gives result (modules_of (seen given.entry)) }
+{
+    let arguments = Arguments::optional(given)?;
+    let start_module = arguments.number_or(Key::StartModule, 0)?;
+    let module_count = arguments.number_or(Key::ModuleCount, 0)?;
+    Ok(Call::Modules(Modules {
+        start_module,
+        module_count,
+    }))
+}
+
+#[tactic(auto, unfolding(crate::specs::Call::breakpoint_locations_of))]
+fn breakpoint_locations(alloc: Global, given: Option<&Value>) -> Result<Call, CallFault>
+    ensures { Gives result (breakpoint_locations_of (seen given.entry)) }
+{
+    let arguments = Arguments::required(given)?;
+    let source = arguments.required_source(alloc, Key::Source)?;
+    let line = arguments.required_number(Key::Line)?;
+    let end_line = arguments.optional_number(Key::EndLine)?;
+    Ok(Call::BreakpointLocations(BreakpointLocations {
+        source,
+        line,
+        end_line,
+    }))
+}
+
+#[tactic(auto, unfolding(crate::specs::Call::completions_of))]
+fn completions(alloc: Global, given: Option<&Value>) -> Result<Call, CallFault>
+    ensures { Gives result (completions_of (seen given.entry)) }
+{
+    let arguments = Arguments::required(given)?;
+    let text = arguments.required_text(alloc, Key::Text)?;
+    let column = arguments.required_number(Key::Column)?;
+    let frame_id = arguments.optional_number(Key::FrameId)?;
+    let line = arguments.optional_number(Key::Line)?;
+    Ok(Call::Completions(Completions {
+        text,
+        column,
+        frame_id,
+        line,
+    }))
+}
+
+#[tactic(auto, unfolding(crate::specs::Call::thread_of))]
+fn thread(given: Option<&Value>) -> Result<i64, CallFault>
+    ensures { Gives result (thread_of (seen given.entry)) }
+{
+    Arguments::required(given)?.required_int(Key::ThreadId)
+}
+
+fn tree(given: Option<&Value>) -> Result<Option<Tree>, CallFault>
+    ensures { Gives result (tree_of (seen given.entry)) }
+{
+    match given {
+        None | Some(Value::Null) => Ok(None),
+        Some(object) if object.is_object() => Ok(Some(Tree::new(object.clone()?))),
+        Some(_) => Err(argument::bad(Key::Arguments)),
+    }
+}
+
+/// The call that a command and its arguments are, or the first bad key. Where a command has no keys its arguments are
+/// ignored.
+pub fn read_call(
+    alloc: Global,
+    command: Command,
+    arguments: Option<&Value>,
+) -> Result<Call, CallFault>
+    ensures { Gives result (call_of command (seen arguments.entry)) }
+{
+    match command {
+        Command::Initialize => initialize(alloc, arguments),
+        Command::Launch => Ok(Call::Launch(tree(arguments)?)),
+        Command::Attach => Ok(Call::Attach(tree(arguments)?)),
+        Command::ConfigurationDone => Ok(Call::ConfigurationDone),
+        Command::Disconnect => Ok(Call::Disconnect),
+        Command::Threads => Ok(Call::Threads),
+        Command::Terminate => Ok(Call::Terminate),
+        Command::Cancel => cancel(arguments),
+        Command::SetBreakpoints => set_breakpoints(alloc, arguments),
+        Command::SetFunctionBreakpoints => set_function_breakpoints(alloc, arguments),
+        Command::SetExceptionBreakpoints => set_exception_breakpoints(alloc, arguments),
+        Command::Continue => Ok(Call::Continue {
+            thread_id: thread(arguments)?,
+        }),
+        Command::Next => Ok(Call::Next {
+            thread_id: thread(arguments)?,
+        }),
+        Command::StepIn => Ok(Call::StepIn {
+            thread_id: thread(arguments)?,
+        }),
+        Command::StepOut => Ok(Call::StepOut {
+            thread_id: thread(arguments)?,
+        }),
+        Command::Pause => Ok(Call::Pause {
+            thread_id: thread(arguments)?,
+        }),
+        Command::StepBack => Ok(Call::StepBack {
+            thread_id: thread(arguments)?,
+        }),
+        Command::ReverseContinue => Ok(Call::ReverseContinue {
+            thread_id: thread(arguments)?,
+        }),
+        Command::StackTrace => stack_trace(arguments),
+        Command::Scopes => scopes(arguments),
+        Command::Variables => variables(arguments),
+        Command::Evaluate => evaluate(alloc, arguments),
+        Command::Source => source(alloc, arguments),
+        Command::LoadedSources => Ok(Call::LoadedSources),
+        Command::SetVariable => set_variable(alloc, arguments),
+        Command::Restart => Ok(Call::Restart),
+        Command::Modules => modules(arguments),
+        Command::ExceptionInfo => Ok(Call::ExceptionInfo {
+            thread_id: thread(arguments)?,
+        }),
+        Command::BreakpointLocations => breakpoint_locations(alloc, arguments),
+        Command::Completions => completions(alloc, arguments),
+    }
+}
