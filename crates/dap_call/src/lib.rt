@@ -24,4 +24,8 @@ pub use given::{FramesGiven, HoldersGiven, frames_given, holders_given};
 pub use key::Key;
 
 #[cfg(test)]
+mod call_tests;
+#[cfg(test)]
+mod real_tests;
+#[cfg(test)]
 mod tests;
