@@ -1,11 +1,15 @@
 -- Worked examples, each shown by computation.
-use Rattle.std.proofs.Common.{◌≡◌, [], ◌∷◌, codes, true, false, Some, None, refl}
-use Rattle.serde_json.specs.Data.{boolean, null, number, unsigned, array, object, no_items, item, no_members, put}
+use Rattle.std.proofs.Common.{◌≡◌, [], ◌∷◌, codes, true, false, Some, None, Ok, Err, pos, refl}
+use Rattle.serde_json.specs.Data.{boolean, null, number, unsigned, string, array, object, no_items, item, no_members, put}
 use Rattle.dap_call.specs.Command.{gate_of, command_named, flag_of}
+use Rattle.dap_call.specs.Call.{call_of, set_breakpoints_of, source_parts, stack_trace_of, thread_of}
+use Rattle.dap_call.specs.declared.call.Call.TheVariants as call
+use Rattle.dap_call.specs.declared.call.SourceKey.TheVariants.{Path}
+use Rattle.dap_call.specs.declared.key.Key.TheVariants as key
 use Rattle.dap_call.specs.Given.{frame_ids, holders_of}
 use Rattle.dap_call.specs.Capabilities.{is_flag, capabilities_of, updated_by, is_allowed, written}
 use Rattle.dap_call.specs.declared.capabilities.Capabilities.{Capabilities}
-use Rattle.dap_call.specs.declared.command.Command.TheVariants.{StepBack, ReverseContinue, SetExceptionBreakpoints, SetFunctionBreakpoints, Threads, Terminate, Completions, Initialize, Scopes, Variables, Evaluate, SetVariable}
+use Rattle.dap_call.specs.declared.command.Command.TheVariants.{StepBack, ReverseContinue, SetExceptionBreakpoints, SetFunctionBreakpoints, Threads, Terminate, Completions, Initialize, Scopes, Variables, Evaluate, SetVariable, SetBreakpoints, StackTrace, Next, Launch}
 use Rattle.dap_call.specs.declared.command.Gate.TheVariants as gate
 use Rattle.serde_json.specs.Data.{Data}
 
@@ -61,8 +65,14 @@ updated_away = refl
 what_is_not_named_stays : is_allowed (updated_by (object (put (codes "supportsTerminateRequest") (boolean true) no_members)) offered) StepBack ≡ true
 what_is_not_named_stays = refl
 
-null_is_no_flag : is_allowed (updated_by (object (put (codes "supportsStepBack") null no_members)) offered) StepBack ≡ false
-null_is_no_flag = refl
+null_changes_nothing : is_allowed (updated_by (object (put (codes "supportsStepBack") null no_members)) offered) StepBack ≡ true
+null_changes_nothing = refl
+
+no_truth_value_is_false : is_allowed (updated_by (object (put (codes "supportsStepBack") (string (codes "true")) no_members)) offered) StepBack ≡ false
+no_truth_value_is_false = refl
+
+what_is_no_object_changes_nothing : is_allowed (updated_by (array no_items) offered) StepBack ≡ true
+what_is_no_object_changes_nothing = refl
 
 without_a_body : is_allowed (capabilities_of (λ g. is_flag g None)) Terminate ≡ false
 without_a_body = refl
@@ -95,3 +105,33 @@ none_of_others = (refl, refl)
 -- 0 says that there is nothing to ask for
 variables_with_children : holders_of Variables (object (put (codes "variables") (array (item (object (put (codes "variablesReference") (number (unsigned 0)) no_members)) (item result no_items))) no_members)) ≡ 3 ∷ []
 variables_with_children = refl
+
+-- ---- arguments
+
+abbrev named_source : Data
+named_source = object (put (codes "path") (string (codes "/a.c")) no_members)
+
+lines_alone : call_of SetBreakpoints (Some (object (put (codes "source") named_source (put (codes "lines") (array (item (number (unsigned 2)) no_items)) no_members)))) ≡ Ok (call.SetBreakpoints (Path (codes "/a.c")) (2 ∷ []))
+unfolding set_breakpoints_of source_parts
+lines_alone = refl
+
+source_without_a_name : call_of SetBreakpoints (Some (object (put (codes "source") (object no_members) no_members))) ≡ Err key.Source
+unfolding set_breakpoints_of source_parts
+source_without_a_name = refl
+
+-- no breakpoints count before lines, which are tested all the same
+lines_are_tested : call_of SetBreakpoints (Some (object (put (codes "source") named_source (put (codes "breakpoints") (array no_items) (put (codes "lines") (boolean true) no_members))))) ≡ Err key.Lines
+unfolding set_breakpoints_of source_parts
+lines_are_tested = refl
+
+thread_is_first : call_of StackTrace (Some (object (put (codes "levels") (number (unsigned 1)) no_members))) ≡ Err key.ThreadId
+unfolding stack_trace_of
+thread_is_first = refl
+
+null_is_absent : call_of StackTrace (Some (object (put (codes "threadId") (number (unsigned 1)) (put (codes "startFrame") null no_members)))) ≡ Ok (call.StackTrace (record { thread_id = pos 1; start_frame = 0; levels = 0 }))
+unfolding stack_trace_of
+null_is_absent = refl
+
+no_arguments : (call_of Next None ≡ Err key.Arguments) × (call_of Threads (Some null) ≡ Ok call.Threads) × (call_of Launch None ≡ Ok (call.Launch None))
+unfolding thread_of
+no_arguments = (refl, refl, refl)

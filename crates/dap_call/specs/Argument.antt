@@ -25,20 +25,25 @@ Gives (Ok x) read = read ≡ Ok x
 Gives (Err (BadArguments key)) read = read ≡ Err key
 Gives (Err OutOfMemory) read = Unit {0}
 
--- ---- shapes of a value
+-- ---- shapes of a value; the ranges are this profile's choice
 
+-- the greatest count, reference and line
 abbrev pub max_number : ℕ
 max_number = 2147483647
 
+-- -9007199254740991 to 9007199254740991
 abbrev pub is_int : ℤ → Bool
 is_int z = int_le (negsuc 9007199254740990) z && int_le z (pos 9007199254740991)
 
+-- a whole number of either sign
 abbrev pub int_of : Data → Option ℤ
 int_of d = if_passes is_int (option_and_then as_i64 (as_number d))
 
+-- a count, a reference or a line
 abbrev pub number_of : Data → Option ℕ
 number_of d = if_passes (λ n. nat_le n max_number) (option_and_then as_u64 (as_number d))
 
+-- a sequence number
 abbrev pub seq_of : Data → Option ℕ
 seq_of d = if_passes (λ n. nat_le n max_seq) (option_and_then as_u64 (as_number d))
 

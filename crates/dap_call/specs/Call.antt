@@ -2,8 +2,6 @@
 use Rattle.std.specs.Prelude.{ℕ, zero, suc, ℤ, List, [], ◌∷◌, true, false, Option, Some, None, option_and_then, option_map, unwrap_or, Ok, Err, ◌==◌, if◌then◌else◌}
 use Rattle.serde_json.specs.Data.{Data, Items, no_items, item}
 use Rattle.serde_json.specs.Find.{as_str, as_bool, as_array}
-use Rattle.dap_json.specs.Field.{text_at}
-use Rattle.dap_call.specs.Key.{text_of}
 use Rattle.dap_call.specs.Argument.{Read, ◌>>=◌, int_of, number_of, seq_of, value_at, required, optional, optional_or, may_be_absent, must_be_there}
 use Rattle.dap_call.specs.declared.key.Key.TheVariants as key
 use Rattle.dap_call.specs.declared.call.Call.{Call}
@@ -31,7 +29,7 @@ breakpoint_lines_of d = option_and_then (each line_in) (as_array d)
 
 -- the name of a function breakpoint
 abbrev pub name_in : Data → Option (List ℕ)
-name_in d = text_at (text_of key.Name) d
+name_in d = option_and_then as_str (value_at key.Name (Some d))
 
 abbrev pub names_of : Data → Option (List (List ℕ))
 names_of d = option_and_then (each name_in) (as_array d)

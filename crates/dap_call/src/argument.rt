@@ -29,7 +29,7 @@ impl From<AllocError> for CallFault {
     }
 }
 
-/// Whether every JSON reader keeps the whole number.
+/// Whether a whole number is -9007199254740991 to 9007199254740991, which every JSON reader keeps.
 pub(crate) fn is_int(n: i64) -> bool
     ensures { result ≡ is_int_number n }
 {

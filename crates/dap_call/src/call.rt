@@ -4,8 +4,8 @@
 use dap_json::{Text, Tree};
 use std::marker::Model;
 
-/// A request. Numbers of threads are -9007199254740991 to 9007199254740991; counts, references and lines 0 to
-/// 2147483647.
+/// A request. A number of a thread is -9007199254740991 to 9007199254740991; any other number, unless it says otherwise,
+/// is 0 to 2147483647. Lines and columns are counted as the client counts them, from 1 or from 0. `None` was absent.
 #[derive(Drop)]
 pub enum Call {
     Initialize(Initialize),
@@ -18,7 +18,7 @@ pub enum Call {
     Threads,
     Terminate,
     Cancel {
-        /// The `seq` of the request to cancel.
+        /// The `seq` of the request to cancel, 0 to 9007199254740991.
         request_id: Option<u64>,
     },
     SetBreakpoints {
@@ -59,7 +59,7 @@ pub enum Call {
     Variables(Variables),
     Evaluate(Evaluate),
     Source {
-        /// 0 where neither key names a source above 0.
+        /// That of `source` where it is above 0, else `sourceReference`; 0 where both are absent.
         source_reference: u32,
     },
     LoadedSources,
@@ -73,8 +73,11 @@ pub enum Call {
     Completions(Completions),
 }
 
+/// The arguments of `initialize`: absent flags are `true` for the two that say where lines and columns start, else
+/// `false`.
 #[derive(Drop)]
 pub struct Initialize {
+    /// Empty where it is absent, though the Specification requires it.
     pub adapter_id: Text,
     pub lines_start_at_1: bool,
     pub columns_start_at_1: bool,
@@ -85,6 +88,7 @@ pub struct Initialize {
 #[derive(Clone, Copy, Debug)]
 pub struct StackTrace {
     pub thread_id: i64,
+    /// The index of the first frame wanted, from 0.
     pub start_frame: u32,
     /// At most so many frames; 0 means all.
     pub levels: u32,
@@ -93,6 +97,7 @@ pub struct StackTrace {
 #[derive(Clone, Copy, Debug)]
 pub struct Variables {
     pub variables_reference: u32,
+    /// The index of the first variable wanted, from 0.
     pub start: u32,
     /// At most so many variables; 0 means all.
     pub count: u32,
@@ -113,6 +118,7 @@ pub struct SetVariable {
 
 #[derive(Clone, Copy, Debug)]
 pub struct Modules {
+    /// The index of the first module wanted, from 0.
     pub start_module: u32,
     /// At most so many modules; 0 means all.
     pub module_count: u32,
@@ -224,7 +230,8 @@ impl Texts {
 #[derive(Clone, Copy, Debug, PartialEq, Eq)]
 pub enum CallFault {
     /// The first bad key in the order of the command's row: one that is required and absent, or whose value is not of
-    /// its kind or range. `arguments` where they are no object, or absent while a key is required.
+    /// its kind or range. It is the row's own key also where the fault stands deeper, as in `source`. `arguments` where
+    /// they are no object, or absent while a key is required.
     BadArguments { key: crate::key::Key },
     /// Memory was refused.
     OutOfMemory,

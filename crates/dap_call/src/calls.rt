@@ -394,8 +394,11 @@ fn tree(given: Option<&Value>) -> Result<Option<Tree>, CallFault>
     }
 }
 
-/// The call that a command and its arguments are, or the first bad key. Where a command has no keys its arguments are
-/// ignored.
+/// The call that a command and its arguments are, or the first bad key in the order of the command's row. `null` counts
+/// as absent, and keys that the row does not list are ignored. A key is tested also where another one counts in its
+/// place. Where a command has no keys its arguments are ignored.
+///
+/// `OutOfMemory` comes where memory for a text, a list or a tree is refused.
 pub fn read_call(
     alloc: Global,
     command: Command,

@@ -39,7 +39,7 @@ fn flag(body: Option<&Value>, gate: Gate) -> bool
 fn updated(object: &Value, gate: Gate, before: bool) -> bool
     ensures { result ≡ updated_flag gate (view object.now) before }
 {
-    match object.get(gate.flag()) {
+    match field::present(object, gate.flag()) {
         None => before,
         Some(value) => value.as_bool().unwrap_or(false),
     }
@@ -84,8 +84,8 @@ impl Capabilities {
         }
     }
 
-    /// Replaces the flags that an object names: the one under `capabilities` in the body of a `capabilities` event. A
-    /// flag that is named and is no truth value becomes `false`.
+    /// Replaces the flags that an object names: the one under `capabilities` in the body of a `capabilities` event. One
+    /// that is `null` counts as absent, and stays; one that is no truth value becomes `false`.
     pub fn update(&mut self, object: &Value)
         ensures { self.new ≡ updated_by (view object.now) self.old }
     {

@@ -46,7 +46,8 @@ impl<'v> Model for HoldersGiven<'v> {
     ghost view = { λ g. references_of (codes "variablesReference") 1 g.holders.now };
 }
 
-/// The ids of frames that the body of a response to `stackTrace` gives, each of 0 to 2147483647.
+/// The ids of frames that the body of a successful response to `stackTrace` gives, each of 0 to 2147483647. Frames
+/// without such an id are passed over.
 pub fn frames_given(body: &Value) -> FramesGiven<'_>
     ensures { result ≡ frame_ids (view body.now) }
 {
@@ -55,8 +56,9 @@ pub fn frames_given(body: &Value) -> FramesGiven<'_>
     }
 }
 
-/// The numbers by which variables can be asked for that the body of a response gives, each of 1 to 2147483647: those of
-/// the scopes or the variables in it, or that of the result. A response to another command gives none.
+/// The numbers by which variables can be asked for that the body of a successful response gives, each of 1 to
+/// 2147483647: those of the scopes or the variables in it, or that of the result. What has no such number is passed
+/// over, and a response to another command gives none.
 pub fn holders_given(command: Command, body: &Value) -> HoldersGiven<'_>
     ensures { result ≡ holders_of command (view body.now) }
 {

@@ -100,6 +100,25 @@ fn capabilities(rt: HostRuntime) -> Result<(), Fail> {
     offered.update(&object);
     assert!(rt; !offered.allows(Command::StepBack));
     assert_eq!(rt; offered, Capabilities::read(None));
+    let object = Value::from_str(
+        rt.alloc(),
+        "{\"supportsStepBack\":true,\"supportsCancelRequest\":true}",
+    )?;
+    offered.update(&object);
+    for (text, step_back) in [
+        ("{\"supportsStepBack\":null}", true),
+        ("[]", true),
+        ("{\"supportsStepBack\":1}", false),
+        ("{\"supportsStepBack\":true}", true),
+        ("{\"supportsStepBack\":\"true\"}", false),
+    ] {
+        let object = Value::from_str(rt.alloc(), text)?;
+        offered.update(&object);
+        assert_eq!(rt; offered.has(Gate::StepBack), step_back);
+        assert!(rt; offered.allows(Command::Cancel));
+    }
+    let body = Value::from_str(rt.alloc(), "[true]")?;
+    assert_eq!(rt; Capabilities::read(Some(&body)), Capabilities::read(None));
     Ok(())
 }
 
