@@ -226,9 +226,10 @@ fn kind<'a>(noted: &Noted<'a>) -> Option<HeadingKind<'a>>
     }
 }
 
-/// The heading of the message that a body is, where it can be read without a tree: that is always so but for want of
-/// memory. A body that is no message has none; [`read_message`](crate::read_message) tells why. Unescaped names are lent
-/// from `scratch`, which grows to the length of the body and is kept from body to body.
+/// The heading of the message that a body is. There is none where the body is no message, for which
+/// [`read_message`](crate::read_message) tells why, and where memory is refused. That there is one everywhere else is no
+/// clause: tests show it, and whoever gets none asks `read_message`. Unescaped names are lent from `scratch`, which grows
+/// to the length of the body and is kept from body to body.
 pub fn read_heading<'a>(scratch: &'a mut Scratch, body: &'a [u8]) -> Option<Heading<'a>>
     ensures { IfSome result (λ heading. (m : Message) × Msg body.now m × IsHeadingOf heading m) }
 {
