@@ -1,1 +1,4 @@
 pub mod Examples
+pub mod ReadAgain
+pub mod PlainTree
+pub mod WritingExamples

@@ -4,3 +4,5 @@ pub mod Given
 pub mod Key
 pub mod Argument
 pub mod Call
+pub mod CallTree
+pub mod Plain

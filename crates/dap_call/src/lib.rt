@@ -12,6 +12,10 @@ mod capabilities;
 mod command;
 mod given;
 mod key;
+pub mod laws;
+mod members;
+mod plain;
+mod writing;
 
 pub use call::{
     BreakpointLocations, Call, CallFault, Completions, Evaluate, Initialize, Lines, Modules,
@@ -22,6 +26,8 @@ pub use capabilities::Capabilities;
 pub use command::{Command, Gate};
 pub use given::{FramesGiven, HoldersGiven, frames_given, holders_given};
 pub use key::Key;
+pub use plain::MAX_ARGUMENTS;
+pub use writing::write_call;
 
 #[cfg(test)]
 mod call_tests;
@@ -29,3 +35,5 @@ mod call_tests;
 mod real_tests;
 #[cfg(test)]
 mod tests;
+#[cfg(test)]
+mod writing_tests;
