@@ -1,0 +1,180 @@
+-- The laws that every debuggee keeps, over what it shows in a view and over the views that an act may leave.
+-- The states, and what each act does to them, are this profile's choice; what a stop, an exit and output are, and that the frames and variables of a stop last until the debuggee goes on, is told by the Overview, "Lifetime of Objects References", and the Specification, "StoppedEvent", "ContinuedEvent", "ExitedEvent", "OutputEvent".
+use Rattle.std.specs.Prelude.{◌≡◌, ◌≢◌, ℕ, ◌+◌, ◌%◌, ◌^◌, ◌≤◌, ℤ, pos, negsuc, int_le, Bool, true, false, ◌&&◌, nat_le, nat_lt, ◌==◌, bytes_eq, List, [], length, Option, Some, None, IsTrue, if◌then◌else◌, Result, Ok, Err}
+use Rattle.std.specs.List.{list_all, slice_get}
+use Rattle.dap_call.specs.Argument.{is_int}
+use Rattle.dap_call.specs.declared.call.SourceKey.{SourceKey}
+use Rattle.dap_call.specs.declared.call.SourceKey.TheVariants.{Path, Reference}
+use Rattle.dap_debuggee.specs.Shown.{Shown, Act, Reply, remembered, Last}
+use Rattle.dap_debuggee.specs.Shown.{to_start, to_resume, to_pause, to_poll, to_set_breakpoints, to_end, done, refused, happened}
+use Rattle.dap_debuggee.specs.declared.answers.State.{State}
+use Rattle.dap_debuggee.specs.declared.answers.State.TheVariants.{NotStarted, Running, Stopped, Gone}
+use Rattle.dap_debuggee.specs.declared.answers.Happening.{Happening}
+use Rattle.dap_debuggee.specs.declared.answers.Happening.TheVariants as happening
+use Rattle.dap_debuggee.specs.declared.answers.DebuggeeFault.{DebuggeeFault}
+use Rattle.dap_debuggee.specs.declared.answers.DebuggeeFault.TheVariants.{Refused, OutOfMemory}
+use Rattle.dap_debuggee.specs.declared.answers.Frame.{Frame}
+
+-- ---- what a call returned, want of memory aside
+
+-- an act was done or refused, and this holds of its reply
+abbrev pub Replies : Result (Unit {0}) DebuggeeFault → (Reply → Type 0) → Type 0
+Replies (Ok x) After = After done
+Replies (Err Refused) After = After refused
+Replies (Err OutOfMemory) After = Unit {0}
+
+-- a query was answered or refused
+abbrev pub Tells : {A B : Type 0} → Result A DebuggeeFault → (A → B) → Option B → Type 0
+Tells (Ok x) of answer = answer ≡ Some (of x)
+Tells (Err Refused) of answer = answer ≡ None
+Tells (Err OutOfMemory) of answer = Unit {0}
+
+-- ---- states
+
+-- what a poll may give in a state
+abbrev pub may_happen : State → Happening → Bool
+may_happen state happening.Nothing = true
+may_happen Running (happening.Output category text) = true
+may_happen Running (happening.Stopped reason thread) = true
+may_happen Running (happening.Exited code) = true
+may_happen Stopped (happening.Output category text) = true
+may_happen Stopped (happening.Continued thread) = true
+may_happen Stopped (happening.Exited code) = true
+may_happen _ _ = false
+
+-- what may be answered to an act in a state: only what is not started is started, and only what stopped goes on
+abbrev pub may_answer : State → Act → Reply → Bool
+may_answer NotStarted to_start done = true
+may_answer state to_start refused = true
+may_answer Stopped (to_resume how thread) done = true
+may_answer state (to_resume how thread) refused = true
+may_answer state to_pause done = true
+may_answer state to_pause refused = true
+may_answer state to_poll (happened h) = may_happen state h
+may_answer state (to_set_breakpoints source lines) done = true
+may_answer state to_end done = true
+may_answer _ _ _ = false
+
+abbrev pub state_after : State → Act → Reply → State
+state_after state to_start done = Running
+state_after state (to_resume how thread) done = Running
+state_after state to_poll (happened (happening.Stopped reason thread)) = Stopped
+state_after state to_poll (happened (happening.Continued thread)) = Running
+state_after state to_poll (happened (happening.Exited code)) = Gone
+state_after state to_end done = Gone
+state_after state _ _ = state
+
+-- ---- lines
+
+abbrev pub is_source : SourceKey → SourceKey → Bool
+is_source (Path p) (Path q) = bytes_eq p q
+is_source (Reference m) (Reference n) = m == n
+is_source _ _ = false
+
+-- the lines that are set for a source after an act
+abbrev pub lines_after : Act → (SourceKey → List ℕ) → SourceKey → List ℕ
+lines_after (to_set_breakpoints source lines) before key = if is_source source key then lines else before key
+lines_after _ before key = before key
+
+-- ---- what stays
+
+-- nothing but the count of acts and the last one changes, save the lines
+abbrev pub keeps_answers : Act → Reply → Bool
+keeps_answers to_start refused = true
+keeps_answers (to_resume how thread) refused = true
+keeps_answers to_pause reply = true
+keeps_answers (to_set_breakpoints source lines) reply = true
+keeps_answers _ _ = false
+
+-- no frame, scope or variable changes
+abbrev pub keeps_frames : Act → Reply → Bool
+keeps_frames to_poll (happened happening.Nothing) = true
+keeps_frames to_poll (happened (happening.Output category text)) = true
+keeps_frames a reply = keeps_answers a reply
+
+pub record SameFrames (v w : Shown) : Type 0 where
+  pub frames : (thread : ℤ) → w.frames thread ≡ v.frames thread
+  pub scopes : (frame : ℕ) → w.scopes frame ≡ v.scopes frame
+  pub children : (holder : ℕ) → w.children holder ≡ v.children holder
+  pub evaluate : (frame : Option ℕ) (text : List ℕ) → w.evaluate frame text ≡ v.evaluate frame text
+
+pub record SameSources (v w : Shown) : Type 0 where
+  pub sources : w.sources ≡ v.sources
+  pub content : (index : ℕ) → w.content index ≡ v.content index
+
+pub record SameAnswers (v w : Shown) : Type 0 where
+  pub threads : w.threads ≡ v.threads
+  pub frames : SameFrames v w
+  pub sources : SameSources v w
+  pub verify : (source : SourceKey) (lines : List ℕ) → w.verify source lines ≡ v.verify source lines
+
+-- ---- ranges
+
+abbrev pub is_code : ℤ → Bool
+is_code z = int_le (negsuc 2147483647) z && int_le z (pos 2147483647)
+
+abbrev pub is_short : Happening → Bool
+is_short happening.Nothing = true
+is_short (happening.Output category text) = nat_le (length text) 128
+is_short (happening.Stopped reason thread) = nat_le (length reason) 64 && is_int thread
+is_short (happening.Continued thread) = is_int thread
+is_short (happening.Exited code) = is_code code
+
+-- of so many sources
+abbrev pub is_frame : ℕ → Frame → Bool
+is_frame sources f = nat_le 1 f.line && (nat_le f.line 2147483647 && nat_lt f.source sources)
+
+-- ---- laws
+
+abbrev pub Follows : Type 0 → Type 1
+Follows View = View → Act → Reply → View → Type 0
+
+-- each act is counted
+abbrev pub Counts : {View : Type 0} → (View → Shown) → Follows View → Type 0
+Counts {View} shown follows = (v w : View) (a : Act) (r : Reply) → follows v a r w → (shown w).acts ≡ ((shown v).acts + 1) % 2 ^ 64
+
+-- each act is remembered, with its answer
+abbrev pub Remembers : {View : Type 0} → (View → Shown) → Follows View → Type 0
+Remembers {View} shown follows = (v w : View) (a : Act) (r : Reply) → follows v a r w → (shown w).last ≡ Some (record { asked = remembered a; reply = r })
+
+abbrev pub Answers : {View : Type 0} → (View → Shown) → Follows View → Type 0
+Answers {View} shown follows = (v w : View) (a : Act) (r : Reply) → follows v a r w → IsTrue (may_answer (shown v).state a r)
+
+abbrev pub Moves : {View : Type 0} → (View → Shown) → Follows View → Type 0
+Moves {View} shown follows = (v w : View) (a : Act) (r : Reply) → follows v a r w → (shown w).state ≡ state_after (shown v).state a r
+
+abbrev pub SetsLines : {View : Type 0} → (View → Shown) → Follows View → Type 0
+SetsLines {View} shown follows = (v w : View) (a : Act) (r : Reply) → follows v a r w → (key : SourceKey) → (shown w).lines key ≡ lines_after a (shown v).lines key
+
+abbrev pub KeepsAnswers : {View : Type 0} → (View → Shown) → Follows View → Type 0
+KeepsAnswers {View} shown follows = (v w : View) (a : Act) (r : Reply) → follows v a r w → IsTrue (keeps_answers a r) → SameAnswers (shown v) (shown w)
+
+abbrev pub KeepsFrames : {View : Type 0} → (View → Shown) → Follows View → Type 0
+KeepsFrames {View} shown follows = (v w : View) (a : Act) (r : Reply) → follows v a r w → IsTrue (keeps_frames a r) → SameFrames (shown v) (shown w)
+
+-- sources and their texts never change
+abbrev pub KeepsSources : {View : Type 0} → (View → Shown) → Follows View → Type 0
+KeepsSources {View} shown follows = (v w : View) (a : Act) (r : Reply) → follows v a r w → SameSources (shown v) (shown w)
+
+-- before the start and after the end there are no threads
+abbrev pub NoThreads : {View : Type 0} → (View → Shown) → Type 0
+NoThreads {View} shown = (v : View) → ((shown v).state ≡ NotStarted → (shown v).threads ≡ []) × ((shown v).state ≡ Gone → (shown v).threads ≡ [])
+
+-- one answer for each line asked
+abbrev pub VerifiesEach : {View : Type 0} → (View → Shown) → Type 0
+VerifiesEach {View} shown = (v : View) (source : SourceKey) (lines : List ℕ) (answers : List Bool) → (shown v).verify source lines ≡ Some answers → length answers ≡ length lines
+
+-- ---- of one view
+
+abbrev pub ThreadsInRange : Shown → Type 0
+ThreadsInRange v = IsTrue (list_all (λ thread. is_int thread.id) v.threads)
+
+abbrev pub FramesInRange : Shown → Type 0
+FramesInRange v = (thread : ℤ) (frames : List Frame) → v.frames thread ≡ Some frames → IsTrue (list_all (is_frame (length v.sources)) frames)
+
+-- an object number names one frame
+abbrev pub NamesOneFrame : Shown → Type 0
+NamesOneFrame v = (s t : ℤ) (fs gs : List Frame) (i j : ℕ) (f g : Frame) → v.frames s ≡ Some fs → v.frames t ≡ Some gs → slice_get fs i ≡ Some f → slice_get gs j ≡ Some g → f.object ≡ g.object → (s ≡ t) × (i ≡ j)
+
+abbrev pub SourcesInRange : Shown → Type 0
+SourcesInRange v = length v.sources ≤ 65536

@@ -1,0 +1,272 @@
+-- A recorded debuggee: what it is seen as, what it shows, and what each act does.
+-- This profile's choice.
+use Rattle.std.specs.Prelude.{◌≡◌, ℕ, zero, suc, ◌+◌, ◌-◌, ◌%◌, ◌^◌, ℤ, pos, Bool, true, false, ◌&&◌, ◌||◌, not, nat_le, nat_lt, nat_eq, bytes_eq, slice_index, List, [], ◌∷◌, ◌++◌, length, map, take, drop, codes, Option, Some, None, option_map, option_and_then, unwrap_or, if◌then◌else◌}
+use Rattle.std.specs.List.{list_any, slice_get, find}
+use Rattle.std.specs.Ordering.{int_eq}
+use Rattle.dap_call.specs.declared.call.SourceKey.{SourceKey}
+use Rattle.dap_call.specs.declared.call.SourceKey.TheVariants.{Path, Reference}
+use Rattle.dap_debuggee.specs.Shown.{Shown, Act, to_start, to_resume, to_pause, to_poll, to_set_breakpoints, to_end, Reply, done, refused, happened, remembered, Last}
+use Rattle.dap_debuggee.specs.Laws.{is_source}
+use Rattle.dap_debuggee.specs.Recording.{id_at}
+use Rattle.dap_debuggee.specs.Moves.{Lines, move_of, is_forward, reason_text}
+use Rattle.dap_debuggee.specs.declared.answers.State.{State}
+use Rattle.dap_debuggee.specs.declared.answers.State.TheVariants.{NotStarted, Running, Stopped, Gone}
+use Rattle.dap_debuggee.specs.declared.answers.How.{How}
+use Rattle.dap_debuggee.specs.declared.answers.Category.TheVariants.{Stdout}
+use Rattle.dap_debuggee.specs.declared.answers.Happening.{Happening}
+use Rattle.dap_debuggee.specs.declared.answers.Happening.TheVariants as happening
+use Rattle.dap_debuggee.specs.declared.answers.Thread.{Thread}
+use Rattle.dap_debuggee.specs.declared.answers.Frame.{Frame}
+use Rattle.dap_debuggee.specs.declared.answers.Scope.{Scope}
+use Rattle.dap_debuggee.specs.declared.answers.Variable.{Variable}
+use Rattle.dap_debuggee.specs.declared.answers.Evaluation.{Evaluation}
+use Rattle.dap_debuggee.specs.declared.answers.Source.{Source}
+use Rattle.dap_debuggee.specs.declared.recording.RecordedSource.{RecordedSource}
+use Rattle.dap_debuggee.specs.declared.recording.RecordedThread.{RecordedThread}
+use Rattle.dap_debuggee.specs.declared.recording.Moment.{Moment}
+use Rattle.dap_debuggee.specs.declared.recording.Recording.{Recording}
+use Rattle.dap_debuggee.specs.declared.moves.Reason.TheVariants.{Entry}
+use Rattle.dap_debuggee.specs.declared.moves.Move.{Move}
+use Rattle.dap_debuggee.specs.declared.lines.SetLines.{SetLines}
+
+-- ---- the view
+
+-- the rest of a run: what is still to be written, moment by moment, and how it ends
+pub record Run : Type 0 where
+  pub output : List (List ℕ)
+  pub move : Move
+  pub paused : Bool
+
+pub record Played : Type 0 where
+  pub recording : Recording
+  pub state : State
+  -- the moment that is shown
+  pub at : ℕ
+  pub run : Option Run
+  -- as they were set, a source once
+  pub set : List SetLines
+  pub acts : ℕ
+  pub last : Option Last
+
+-- ---- lines
+
+-- the lines of a source, none where none were set
+abbrev pub lines_in : List SetLines → SourceKey → List ℕ
+lines_in [] key = []
+lines_in (s ∷ set) key = if is_source s.source key then s.lines else lines_in set key
+
+-- ---- output
+
+-- a place of a text where a character ends or begins
+abbrev pub is_boundary : List ℕ → ℕ → Bool
+is_boundary text n = nat_le (length text) n || (nat_lt (slice_index text n) 128 || nat_le 192 (slice_index text n))
+
+-- the greatest such place up to n
+abbrev pub boundary_up_to : List ℕ → ℕ → ℕ
+boundary_up_to text zero = 0
+boundary_up_to text (suc n) = if is_boundary text (suc n) then suc n else boundary_up_to text n
+
+-- the length of the first piece: at most 128 bytes, whole characters
+abbrev pub piece_length : List ℕ → ℕ
+piece_length text = if nat_le (length text) 128 then length text else boundary_up_to text 128
+
+-- a piece and what is left after it
+abbrev pub first_piece : List (List ℕ) → Option (List ℕ × List (List ℕ))
+first_piece [] = None
+first_piece ([] ∷ texts) = first_piece texts
+first_piece ((c ∷ cs) ∷ texts) = Some (take (piece_length (c ∷ cs)) (c ∷ cs), drop (piece_length (c ∷ cs)) (c ∷ cs) ∷ texts)
+
+-- what is written on a forward move from before moment `from` to moment `to`, or to the exit
+abbrev pub output_of : List Moment → ℕ → ℕ → List (List ℕ)
+output_of moments from to = map (λ m. m.output) (take (suc to - from) (drop from moments))
+
+-- ---- acts
+
+abbrev pub asked : Act → Reply → Played → Played
+asked a r v = record {
+  recording = v.recording;
+  state = v.state;
+  at = v.at;
+  run = v.run;
+  set = v.set;
+  acts = (v.acts + 1) % 2 ^ 64;
+  last = Some (record { asked = remembered a; reply = r });
+}
+
+abbrev pub running : ℕ → List (List ℕ) → Move → Played → Played
+running at output move v = record {
+  recording = v.recording;
+  state = Running;
+  at = at;
+  run = Some (record { output = output; move = move; paused = false });
+  set = v.set;
+  acts = v.acts;
+  last = v.last;
+}
+
+abbrev pub resting : State → ℕ → Played → Played
+resting state at v = record {
+  recording = v.recording;
+  state = state;
+  at = at;
+  run = None;
+  set = v.set;
+  acts = v.acts;
+  last = v.last;
+}
+
+abbrev pub with_run : Run → Played → Played
+with_run run v = record {
+  recording = v.recording;
+  state = v.state;
+  at = v.at;
+  run = Some run;
+  set = v.set;
+  acts = v.acts;
+  last = v.last;
+}
+
+abbrev pub with_lines : List SetLines → Played → Played
+with_lines set v = record {
+  recording = v.recording;
+  state = v.state;
+  at = v.at;
+  run = v.run;
+  set = set;
+  acts = v.acts;
+  last = v.last;
+}
+
+-- to the first moment
+abbrev pub started : Played → Played
+started v = running 0 (output_of v.recording.moments 0 0) (record { to = 0; held = false; reason = Entry }) v
+
+-- what a move writes: forward the output of each moment that it comes by, backward nothing
+abbrev pub written_on : How → List Moment → ℕ → ℕ → List (List ℕ)
+written_on how moments i to = if is_forward how then output_of moments (suc i) to else []
+
+abbrev pub move_from : How → Played → Move
+move_from how v = move_of v.recording.sources v.recording.moments (lines_in v.set) how v.at
+
+abbrev pub resumed : How → Played → Played
+resumed how v = running v.at (written_on how v.recording.moments v.at (move_from how v).to) (move_from how v) v
+
+-- the end of a run
+abbrev pub arrived : Run → Played → Happening × Played
+arrived run v =
+    if run.move.held && not run.paused then (happening.Nothing, v)
+    else (if nat_lt run.move.to (length v.recording.moments)
+      then (happening.Stopped (reason_text run.move.reason) (unwrap_or (option_map id_at (slice_get v.recording.moments run.move.to)) (pos 0)), resting Stopped run.move.to v)
+      else (happening.Exited v.recording.exit, resting Gone v.at v))
+
+-- a piece of output, while there is one
+abbrev pub ran : Run → Option (List ℕ × List (List ℕ)) → Played → Happening × Played
+ran run None v = arrived run v
+ran run (Some (piece, rest)) v = (happening.Output Stdout piece, with_run (record { output = rest; move = run.move; paused = run.paused }) v)
+
+abbrev pub polled : State → Option Run → Played → Happening × Played
+polled Running (Some run) v = ran run (first_piece run.output) v
+polled _ _ v = (happening.Nothing, v)
+
+-- the lines of one source replaced
+abbrev pub replaced : SourceKey → List ℕ → List SetLines → List SetLines
+replaced key lines [] = record { source = key; lines = lines } ∷ []
+replaced key lines (s ∷ set) = if is_source s.source key then record { source = key; lines = lines } ∷ set else s ∷ replaced key lines set
+
+-- the answer to an act and the view after it, before the act is counted
+abbrev pub start_in : State → Played → Reply × Played
+start_in NotStarted v = (done, started v)
+start_in _ v = (refused, v)
+
+abbrev pub resume_in : State → How → Played → Reply × Played
+resume_in Stopped how v = (done, resumed how v)
+resume_in _ how v = (refused, v)
+
+abbrev pub pause_in : State → Option Run → Played → Reply × Played
+pause_in Running (Some run) v = (done, with_run (record { output = run.output; move = run.move; paused = true }) v)
+pause_in _ _ v = (refused, v)
+
+abbrev pub poll_in : Happening × Played → Reply × Played
+poll_in (h, v) = (happened h, v)
+
+abbrev pub act_on : Act → Played → Reply × Played
+act_on to_start v = start_in v.state v
+act_on (to_resume how thread) v = resume_in v.state how v
+act_on to_pause v = pause_in v.state v.run v
+act_on to_poll v = poll_in (polled v.state v.run v)
+act_on (to_set_breakpoints source lines) v = (done, with_lines (replaced source lines v.set) v)
+act_on to_end v = (done, resting Gone v.at v)
+
+-- the view that an act with an answer leaves
+pub record FollowsPlayed (v : Played) (a : Act) (r : Reply) (w : Played) : Type 0 where
+  pub reply : r ≡ (act_on a v).0
+  pub view : w ≡ asked a r (act_on a v).1
+
+-- ---- queries
+
+abbrev pub is_there : State → Bool
+is_there NotStarted = false
+is_there Running = true
+is_there Stopped = true
+is_there Gone = false
+
+abbrev pub threads_at : Played → List RecordedThread
+threads_at v = if is_there v.state then unwrap_or (option_map (λ m. m.threads) (slice_get v.recording.moments v.at)) [] else []
+
+abbrev pub thread_shown : RecordedThread → Thread
+thread_shown thread = record { id = thread.id; name = thread.name }
+
+abbrev pub frames_of : Played → ℤ → Option (List Frame)
+frames_of v id = option_map (λ thread. thread.frames) (find (λ thread. int_eq id thread.id) (threads_at v))
+
+-- the first of them with a name
+abbrev pub variable_named : List ℕ → List Variable → Option Variable
+variable_named name variables = find (λ variable. bytes_eq name variable.name) variables
+
+abbrev pub first_of : {A : Type 0} → Option A → Option A → Option A
+first_of None other = other
+first_of (Some x) other = Some x
+
+-- a value of the first scope that has one
+abbrev pub value_in : List (List Variable) → List ℕ → List Scope → Option Variable
+value_in variables name [] = None
+value_in variables name (scope ∷ scopes) = first_of (variable_named name (unwrap_or (slice_get variables scope.holder) [])) (value_in variables name scopes)
+
+abbrev pub evaluation : Variable → Evaluation
+evaluation variable = record { value = variable.value; holder = variable.holder }
+
+abbrev pub evaluate_in : Recording → Option ℕ → List ℕ → Option Evaluation
+evaluate_in r None name = None
+evaluate_in r (Some frame) name = option_map evaluation (option_and_then (value_in r.variables name) (slice_get r.scopes frame))
+
+abbrev pub source_shown : RecordedSource → Source
+source_shown source = record { name = source.name; path = source.path }
+
+-- a source of the path has the line
+abbrev pub path_has_line : List ℕ → ℕ → RecordedSource → Bool
+path_has_line path line source = unwrap_or (option_map (bytes_eq path) source.path) false && (nat_le 1 line && nat_le line source.lines)
+
+abbrev pub source_has_line : ℕ → RecordedSource → Bool
+source_has_line line source = nat_le 1 line && nat_le line source.lines
+
+-- sources are numbered from 1
+abbrev pub has_source_line : List RecordedSource → SourceKey → ℕ → Bool
+has_source_line sources (Path path) line = list_any (path_has_line path line) sources
+has_source_line sources (Reference zero) line = false
+has_source_line sources (Reference (suc n)) line = unwrap_or (option_map (source_has_line line) (slice_get sources n)) false
+
+abbrev pub shown_of : Played → Shown
+shown_of v = record {
+  state = v.state;
+  lines = lines_in v.set;
+  acts = v.acts;
+  last = v.last;
+  threads = map thread_shown (threads_at v);
+  frames = frames_of v;
+  scopes = λ frame. slice_get v.recording.scopes frame;
+  children = λ holder. slice_get v.recording.variables holder;
+  evaluate = evaluate_in v.recording;
+  sources = map source_shown v.recording.sources;
+  content = λ index. option_map (λ source. source.text) (slice_get v.recording.sources index);
+  verify = λ source lines. Some (map (has_source_line v.recording.sources source) lines);
+}

@@ -1,0 +1,378 @@
+-- A recorded debuggee keeps the laws of every debuggee.
+use Rattle.std.proofs.Common.{◌≡◌, ℕ, ◌+◌, ◌%◌, ◌^◌, ◌<◌, ℤ, Bool, true, false, ◌&&◌, not, nat_lt, nat_eq, bytes_eq, if◌then◌else◌, List, [], ◌∷◌, length, map, Option, Some, None, IsTrue, refl, sym, ap, subst, suc, option_map, unwrap_or, ◌∙◌, true≢false}
+use Rattle.std.proofs.lemmas.Bool.Decides.{Decides-eqb}
+use Rattle.std.proofs.lemmas.Slice.Eq.{bytes_eq-Decides}
+use Rattle.std.specs.List.{slice_get}
+use Rattle.dap_call.specs.declared.call.SourceKey.{SourceKey}
+use Rattle.dap_call.specs.declared.call.SourceKey.TheVariants.{Path, Reference}
+use Rattle.dap_debuggee.specs.Shown.{Shown, Act, to_start, to_resume, to_pause, to_poll, to_set_breakpoints, to_end, Reply, done, refused, happened, Last}
+use Rattle.dap_debuggee.specs.Laws.{may_answer, state_after, keeps_answers, keeps_frames, is_source, lines_after, Counts, Remembers, Answers, Moves, SetsLines, KeepsAnswers, KeepsFrames, KeepsSources, SameFrames, SameSources, SameAnswers, NoThreads, VerifiesEach}
+use Rattle.dap_debuggee.specs.Played.{Played, Run, act_on, asked, started, resumed, start_in, resume_in, pause_in, polled, ran, arrived, with_run, with_lines, resting, replaced, lines_in, first_piece, shown_of, threads_at, has_source_line, source_shown, FollowsPlayed}
+use Rattle.dap_debuggee.specs.declared.answers.State.{State}
+use Rattle.dap_debuggee.specs.declared.answers.State.TheVariants.{NotStarted, Running, Stopped, Gone}
+use Rattle.dap_debuggee.specs.declared.answers.How.{How}
+use Rattle.dap_debuggee.specs.declared.answers.Category.TheVariants.{Stdout}
+use Rattle.dap_debuggee.specs.declared.answers.Happening.{Happening}
+use Rattle.dap_debuggee.specs.declared.answers.Happening.TheVariants as happening
+use Rattle.dap_debuggee.specs.declared.lines.SetLines.{SetLines}
+
+-- ---- an act, a row for each answer
+
+data Row (v : Played) : Act → Reply → Played → Type 0 where
+  starts : v.state ≡ NotStarted → Row v to_start done (started v)
+  does_not_start : Row v to_start refused v
+  resumes : (how : How) (thread : ℤ) → v.state ≡ Stopped → Row v (to_resume how thread) done (resumed how v)
+  does_not_resume : (how : How) (thread : ℤ) → Row v (to_resume how thread) refused v
+  pauses : (run : Run) → v.state ≡ Running → Row v to_pause done (with_run run v)
+  does_not_pause : Row v to_pause refused v
+  gives_nothing : Row v to_poll (happened happening.Nothing) v
+  tells : (piece : List ℕ) (run : Run) → v.state ≡ Running → Row v to_poll (happened (happening.Output Stdout piece)) (with_run run v)
+  stops : (reason : List ℕ) (thread : ℤ) (at : ℕ) → v.state ≡ Running → Row v to_poll (happened (happening.Stopped reason thread)) (resting Stopped at v)
+  exits : (code : ℤ) → v.state ≡ Running → Row v to_poll (happened (happening.Exited code)) (resting Gone v.at v)
+  sets : (source : SourceKey) (lines : List ℕ) → Row v (to_set_breakpoints source lines) done (with_lines (replaced source lines v.set) v)
+  ends : Row v to_end done (resting Gone v.at v)
+
+start_row : (v : Played) (s : State) → v.state ≡ s → Row v to_start (start_in s v).0 (start_in s v).1
+start_row v NotStarted is = starts is
+start_row v Running is = does_not_start
+start_row v Stopped is = does_not_start
+start_row v Gone is = does_not_start
+
+resume_row : (v : Played) (how : How) (thread : ℤ) (s : State) → v.state ≡ s → Row v (to_resume how thread) (resume_in s how v).0 (resume_in s how v).1
+resume_row v how thread NotStarted is = does_not_resume how thread
+resume_row v how thread Running is = does_not_resume how thread
+resume_row v how thread Stopped is = resumes how thread is
+resume_row v how thread Gone is = does_not_resume how thread
+
+pause_row : (v : Played) (s : State) (run : Option Run) → v.state ≡ s → Row v to_pause (pause_in s run v).0 (pause_in s run v).1
+pause_row v NotStarted run is = does_not_pause
+pause_row v Running None is = does_not_pause
+pause_row v Running (Some run) is = pauses (record { output = run.output; move = run.move; paused = true }) is
+pause_row v Stopped run is = does_not_pause
+pause_row v Gone run is = does_not_pause
+
+abbrev IsPoll : Played → Happening × Played → Type 0
+IsPoll v p = Row v to_poll (happened p.0) p.1
+
+either : (v : Played) (b : Bool) (p q : Happening × Played) → IsPoll v p → IsPoll v q → IsPoll v (if b then p else q)
+either v true p q x y = x
+either v false p q x y = y
+
+arrived_row : (v : Played) (run : Run) → v.state ≡ Running → IsPoll v (arrived run v)
+arrived_row v run is = either v (run.move.held && not run.paused) _ _ gives_nothing (either v (nat_lt run.move.to (length v.recording.moments)) _ _ (stops _ _ run.move.to is) (exits v.recording.exit is))
+
+ran_row : (v : Played) (run : Run) (piece : Option (List ℕ × List (List ℕ))) → v.state ≡ Running → IsPoll v (ran run piece v)
+ran_row v run None is = arrived_row v run is
+ran_row v run (Some (piece, rest)) is = tells piece (record { output = rest; move = run.move; paused = run.paused }) is
+
+poll_row : (v : Played) (s : State) (run : Option Run) → v.state ≡ s → IsPoll v (polled s run v)
+poll_row v NotStarted run is = gives_nothing
+poll_row v Running None is = gives_nothing
+poll_row v Running (Some run) is = ran_row v run (first_piece run.output) is
+poll_row v Stopped run is = gives_nothing
+poll_row v Gone run is = gives_nothing
+
+act_row : (v : Played) (a : Act) → Row v a (act_on a v).0 (act_on a v).1
+act_row v to_start = start_row v v.state refl
+act_row v (to_resume how thread) = resume_row v how thread v.state refl
+act_row v to_pause = pause_row v v.state v.run refl
+act_row v to_poll = poll_row v v.state v.run refl
+act_row v (to_set_breakpoints source lines) = sets source lines
+act_row v to_end = ends
+
+-- ---- in each state
+
+refused_start : (s : State) → may_answer s to_start refused ≡ true
+refused_start NotStarted = refl
+refused_start Running = refl
+refused_start Stopped = refl
+refused_start Gone = refl
+
+refused_resume : (s : State) (how : How) (thread : ℤ) → may_answer s (to_resume how thread) refused ≡ true
+refused_resume NotStarted how thread = refl
+refused_resume Running how thread = refl
+refused_resume Stopped how thread = refl
+refused_resume Gone how thread = refl
+
+refused_pause : (s : State) → may_answer s to_pause refused ≡ true
+refused_pause NotStarted = refl
+refused_pause Running = refl
+refused_pause Stopped = refl
+refused_pause Gone = refl
+
+nothing_happens : (s : State) → may_answer s to_poll (happened happening.Nothing) ≡ true
+nothing_happens NotStarted = refl
+nothing_happens Running = refl
+nothing_happens Stopped = refl
+nothing_happens Gone = refl
+
+sets_always : (s : State) (source : SourceKey) (lines : List ℕ) → may_answer s (to_set_breakpoints source lines) done ≡ true
+sets_always NotStarted source lines = refl
+sets_always Running source lines = refl
+sets_always Stopped source lines = refl
+sets_always Gone source lines = refl
+
+ends_always : (s : State) → may_answer s to_end done ≡ true
+ends_always NotStarted = refl
+ends_always Running = refl
+ends_always Stopped = refl
+ends_always Gone = refl
+
+start_state : (s : State) → Running ≡ state_after s to_start done
+start_state NotStarted = refl
+start_state Running = refl
+start_state Stopped = refl
+start_state Gone = refl
+
+same_start : (s : State) → s ≡ state_after s to_start refused
+same_start NotStarted = refl
+same_start Running = refl
+same_start Stopped = refl
+same_start Gone = refl
+
+resume_state : (s : State) (how : How) (thread : ℤ) → Running ≡ state_after s (to_resume how thread) done
+resume_state NotStarted how thread = refl
+resume_state Running how thread = refl
+resume_state Stopped how thread = refl
+resume_state Gone how thread = refl
+
+same_resume : (s : State) (how : How) (thread : ℤ) → s ≡ state_after s (to_resume how thread) refused
+same_resume NotStarted how thread = refl
+same_resume Running how thread = refl
+same_resume Stopped how thread = refl
+same_resume Gone how thread = refl
+
+same_pause : (s : State) (r : Reply) → s ≡ state_after s to_pause r
+same_pause s r = refl
+
+same_nothing : (s : State) → s ≡ state_after s to_poll (happened happening.Nothing)
+same_nothing NotStarted = refl
+same_nothing Running = refl
+same_nothing Stopped = refl
+same_nothing Gone = refl
+
+same_output : (s : State) (piece : List ℕ) → s ≡ state_after s to_poll (happened (happening.Output Stdout piece))
+same_output NotStarted piece = refl
+same_output Running piece = refl
+same_output Stopped piece = refl
+same_output Gone piece = refl
+
+stop_state : (s : State) (reason : List ℕ) (thread : ℤ) → Stopped ≡ state_after s to_poll (happened (happening.Stopped reason thread))
+stop_state NotStarted reason thread = refl
+stop_state Running reason thread = refl
+stop_state Stopped reason thread = refl
+stop_state Gone reason thread = refl
+
+exit_state : (s : State) (code : ℤ) → Gone ≡ state_after s to_poll (happened (happening.Exited code))
+exit_state NotStarted code = refl
+exit_state Running code = refl
+exit_state Stopped code = refl
+exit_state Gone code = refl
+
+same_sets : (s : State) (source : SourceKey) (lines : List ℕ) → s ≡ state_after s (to_set_breakpoints source lines) done
+same_sets NotStarted source lines = refl
+same_sets Running source lines = refl
+same_sets Stopped source lines = refl
+same_sets Gone source lines = refl
+
+end_state : (s : State) → Gone ≡ state_after s to_end done
+end_state NotStarted = refl
+end_state Running = refl
+end_state Stopped = refl
+end_state Gone = refl
+
+-- ---- what every row keeps
+
+acts_row : (v w : Played) (a : Act) (r : Reply) → Row v a r w → w.acts ≡ v.acts
+acts_row v _ _ _ (starts is) = refl
+acts_row v _ _ _ does_not_start = refl
+acts_row v _ _ _ (resumes how thread is) = refl
+acts_row v _ _ _ (does_not_resume how thread) = refl
+acts_row v _ _ _ (pauses run is) = refl
+acts_row v _ _ _ does_not_pause = refl
+acts_row v _ _ _ gives_nothing = refl
+acts_row v _ _ _ (tells piece run is) = refl
+acts_row v _ _ _ (stops reason thread at is) = refl
+acts_row v _ _ _ (exits code is) = refl
+acts_row v _ _ _ (sets source lines) = refl
+acts_row v _ _ _ ends = refl
+
+answer_row : (v w : Played) (a : Act) (r : Reply) → Row v a r w → may_answer v.state a r ≡ true
+answer_row v _ _ _ (starts is) = rw is
+answer_row v _ _ _ does_not_start = refused_start v.state
+answer_row v _ _ _ (resumes how thread is) = rw is
+answer_row v _ _ _ (does_not_resume how thread) = refused_resume v.state how thread
+answer_row v _ _ _ (pauses run is) = rw is
+answer_row v _ _ _ does_not_pause = refused_pause v.state
+answer_row v _ _ _ gives_nothing = nothing_happens v.state
+answer_row v _ _ _ (tells piece run is) = rw is
+answer_row v _ _ _ (stops reason thread at is) = rw is
+answer_row v _ _ _ (exits code is) = rw is
+answer_row v _ _ _ (sets source lines) = sets_always v.state source lines
+answer_row v _ _ _ ends = ends_always v.state
+
+state_row : (v w : Played) (a : Act) (r : Reply) → Row v a r w → w.state ≡ state_after v.state a r
+state_row v _ _ _ (starts is) = start_state v.state
+state_row v _ _ _ does_not_start = same_start v.state
+state_row v _ _ _ (resumes how thread is) = resume_state v.state how thread
+state_row v _ _ _ (does_not_resume how thread) = same_resume v.state how thread
+state_row v _ _ _ (pauses run is) = same_pause v.state done
+state_row v _ _ _ does_not_pause = same_pause v.state refused
+state_row v _ _ _ gives_nothing = same_nothing v.state
+state_row v _ _ _ (tells piece run is) = same_output v.state piece
+state_row v _ _ _ (stops reason thread at is) = stop_state v.state reason thread
+state_row v _ _ _ (exits code is) = exit_state v.state code
+state_row v _ _ _ (sets source lines) = same_sets v.state source lines
+state_row v _ _ _ ends = end_state v.state
+
+frames_row : (v w : Played) (a : Act) (r : Reply) → Row v a r w → IsTrue (keeps_frames a r) → SameFrames (shown_of v) (shown_of w)
+frames_row v _ _ _ (starts is) keeps = absurd (true≢false (sym keeps))
+frames_row v _ _ _ does_not_start keeps = record { frames = λ t. refl; scopes = λ n. refl; children = λ n. refl; evaluate = λ f t. refl }
+frames_row v _ _ _ (resumes how thread is) keeps = absurd (true≢false (sym keeps))
+frames_row v _ _ _ (does_not_resume how thread) keeps = record { frames = λ t. refl; scopes = λ n. refl; children = λ n. refl; evaluate = λ f t. refl }
+frames_row v _ _ _ (pauses run is) keeps = record { frames = λ t. refl; scopes = λ n. refl; children = λ n. refl; evaluate = λ f t. refl }
+frames_row v _ _ _ does_not_pause keeps = record { frames = λ t. refl; scopes = λ n. refl; children = λ n. refl; evaluate = λ f t. refl }
+frames_row v _ _ _ gives_nothing keeps = record { frames = λ t. refl; scopes = λ n. refl; children = λ n. refl; evaluate = λ f t. refl }
+frames_row v _ _ _ (tells piece run is) keeps = record { frames = λ t. refl; scopes = λ n. refl; children = λ n. refl; evaluate = λ f t. refl }
+frames_row v _ _ _ (stops reason thread at is) keeps = absurd (true≢false (sym keeps))
+frames_row v _ _ _ (exits code is) keeps = absurd (true≢false (sym keeps))
+frames_row v _ _ _ (sets source lines) keeps = record { frames = λ t. refl; scopes = λ n. refl; children = λ n. refl; evaluate = λ f t. refl }
+frames_row v _ _ _ ends keeps = absurd (true≢false (sym keeps))
+
+recording_row : (v w : Played) (a : Act) (r : Reply) → Row v a r w → w.recording ≡ v.recording
+recording_row v _ _ _ (starts is) = refl
+recording_row v _ _ _ does_not_start = refl
+recording_row v _ _ _ (resumes how thread is) = refl
+recording_row v _ _ _ (does_not_resume how thread) = refl
+recording_row v _ _ _ (pauses run is) = refl
+recording_row v _ _ _ does_not_pause = refl
+recording_row v _ _ _ gives_nothing = refl
+recording_row v _ _ _ (tells piece run is) = refl
+recording_row v _ _ _ (stops reason thread at is) = refl
+recording_row v _ _ _ (exits code is) = refl
+recording_row v _ _ _ (sets source lines) = refl
+recording_row v _ _ _ ends = refl
+
+threads_row : (v w : Played) (a : Act) (r : Reply) → Row v a r w → IsTrue (keeps_answers a r) → (shown_of w).threads ≡ (shown_of v).threads
+threads_row v _ _ _ (starts is) keeps = absurd (true≢false (sym keeps))
+threads_row v _ _ _ does_not_start keeps = refl
+threads_row v _ _ _ (resumes how thread is) keeps = absurd (true≢false (sym keeps))
+threads_row v _ _ _ (does_not_resume how thread) keeps = refl
+threads_row v _ _ _ (pauses run is) keeps = refl
+threads_row v _ _ _ does_not_pause keeps = refl
+threads_row v _ _ _ gives_nothing keeps = absurd (true≢false (sym keeps))
+threads_row v _ _ _ (tells piece run is) keeps = absurd (true≢false (sym keeps))
+threads_row v _ _ _ (stops reason thread at is) keeps = absurd (true≢false (sym keeps))
+threads_row v _ _ _ (exits code is) keeps = absurd (true≢false (sym keeps))
+threads_row v _ _ _ (sets source lines) keeps = refl
+threads_row v _ _ _ ends keeps = absurd (true≢false (sym keeps))
+
+-- what keeps all answers keeps the frames
+keeps_too : (a : Act) (r : Reply) → IsTrue (keeps_answers a r) → IsTrue (keeps_frames a r)
+keeps_too to_start r keeps = keeps
+keeps_too (to_resume how thread) r keeps = keeps
+keeps_too to_pause r keeps = refl
+keeps_too to_poll r keeps = absurd (true≢false (sym keeps))
+keeps_too (to_set_breakpoints source lines) r keeps = refl
+keeps_too to_end r keeps = absurd (true≢false (sym keeps))
+
+-- ---- the laws
+
+-- a row with the answer that was given
+row : (v w : Played) (a : Act) (r : Reply) → FollowsPlayed v a r w → Row v a r (act_on a v).1
+row v w a r f = subst (λ q. Row v a q (act_on a v).1) (sym f.reply) (act_row v a)
+
+pub counts-played : Counts shown_of FollowsPlayed
+counts-played v w a r f = ap (λ (p : Played). p.acts) f.view ∙ ap (λ n. (n + 1) % 2 ^ 64) (acts_row v _ a r (row v w a r f))
+
+pub remembers-played : Remembers shown_of FollowsPlayed
+remembers-played v w a r f = ap (λ (p : Played). p.last) f.view
+
+pub answers-played : Answers shown_of FollowsPlayed
+answers-played v w a r f = answer_row v _ a r (row v w a r f)
+
+pub moves-played : Moves shown_of FollowsPlayed
+moves-played v w a r f = ap (λ (p : Played). p.state) f.view ∙ state_row v _ a r (row v w a r f)
+
+-- an act that is counted shows the same
+asked_same : (v u : Played) (a : Act) (r : Reply) → SameFrames (shown_of v) (shown_of u) → SameFrames (shown_of v) (shown_of (asked a r u))
+asked_same v u a r same = record { frames = same.frames; scopes = same.scopes; children = same.children; evaluate = same.evaluate }
+
+pub keeps_frames-played : KeepsFrames shown_of FollowsPlayed
+keeps_frames-played v w a r f keeps = subst (λ p. SameFrames (shown_of v) (shown_of p)) (sym f.view) (asked_same v (act_on a v).1 a r (frames_row v (act_on a v).1 a r (row v w a r f) keeps))
+
+pub no_threads-played : NoThreads shown_of
+no_threads-played v = (λ is. rw is, λ is. rw is)
+
+length_map : {A B : Type 0} (f : A → B) (xs : List A) → length (map f xs) ≡ length xs
+length_map f [] = refl
+length_map f (x ∷ xs) = ap suc (length_map f xs)
+
+pub verifies_each-played : VerifiesEach shown_of
+verifies_each-played v source lines answers is = sym (ap (λ o. length (unwrap_or o [])) is) ∙ length_map (has_source_line v.recording.sources source) lines
+
+sources_same : (v w : Played) → w.recording ≡ v.recording → SameSources (shown_of v) (shown_of w)
+sources_same v w is = record {
+  sources = ap (λ r. map source_shown r.sources) is;
+  content = λ index. ap (λ r. option_map (λ source. source.text) (slice_get r.sources index)) is;
+}
+
+pub keeps_sources-played : KeepsSources shown_of FollowsPlayed
+keeps_sources-played v w a r f = sources_same v w (ap (λ (p : Played). p.recording) f.view ∙ recording_row v _ a r (row v w a r f))
+
+pub keeps_answers-played : KeepsAnswers shown_of FollowsPlayed
+keeps_answers-played v w a r f keeps = record {
+  threads = ap (λ (p : Played). (shown_of p).threads) f.view ∙ threads_row v _ a r (row v w a r f) keeps;
+  frames = keeps_frames-played v w a r f (keeps_too a r keeps);
+  sources = keeps_sources-played v w a r f;
+  verify = λ source lines. ap (λ r. Some (map (has_source_line r.sources source) lines)) (ap (λ (p : Played). p.recording) f.view ∙ recording_row v _ a r (row v w a r f));
+}
+
+-- ---- lines
+
+same_source : (a b : SourceKey) → is_source a b ≡ true → a ≡ b
+same_source (Path p) (Path q) e = ap Path ((bytes_eq-Decides p q).0 e)
+same_source (Reference m) (Reference n) e = ap Reference ((Decides-eqb m n).0 e)
+same_source (Path p) (Reference n) e = absurd (true≢false (sym e))
+same_source (Reference m) (Path q) e = absurd (true≢false (sym e))
+
+-- the first entry is for the source that is set
+at_first : (b c : Bool) (new old before : List ℕ) → b ≡ c → (if b then new else before) ≡ (if b then new else (if c then old else before))
+at_first true c new old before is = refl
+at_first false true new old before is = absurd (true≢false (sym is))
+at_first false false new old before is = refl
+
+-- it is for another one
+further : (b c : Bool) (new old before : List ℕ) → (b ≡ true → c ≡ true → ⊥) → (if c then old else (if b then new else before)) ≡ (if b then new else (if c then old else before))
+further true true new old before apart = absurd (apart refl refl)
+further true false new old before apart = refl
+further false c new old before apart = refl
+
+lines_by : (b : Bool) (key source : SourceKey) (lines : List ℕ) (s : SetLines) (set : List SetLines) → is_source s.source source ≡ b
+    → lines_in (replaced source lines set) key ≡ (if is_source source key then lines else lines_in set key)
+    → lines_in (if b then record { source = source; lines = lines } ∷ set else s ∷ replaced source lines set) key ≡ (if is_source source key then lines else (if is_source s.source key then s.lines else lines_in set key))
+lines_by true key source lines s set is rest = at_first (is_source source key) (is_source s.source key) lines s.lines (lines_in set key) (ap (λ k. is_source k key) (sym (same_source s.source source is)))
+lines_by false key source lines s set is rest =
+    ap (λ t. if is_source s.source key then s.lines else t) rest
+    ∙ further (is_source source key) (is_source s.source key) lines s.lines (lines_in set key) (λ x y. true≢false (sym y ∙ sym (ap (is_source s.source) (same_source source key x)) ∙ is))
+
+lines_set : (key source : SourceKey) (lines : List ℕ) (set : List SetLines) → lines_in (replaced source lines set) key ≡ (if is_source source key then lines else lines_in set key)
+lines_set key source lines [] = refl
+lines_set key source lines (s ∷ set) = lines_by (is_source s.source source) key source lines s set refl (lines_set key source lines set)
+
+lines_row : (v w : Played) (a : Act) (r : Reply) → Row v a r w → (key : SourceKey) → lines_in w.set key ≡ lines_after a (lines_in v.set) key
+lines_row v _ _ _ (starts is) key = refl
+lines_row v _ _ _ does_not_start key = refl
+lines_row v _ _ _ (resumes how thread is) key = refl
+lines_row v _ _ _ (does_not_resume how thread) key = refl
+lines_row v _ _ _ (pauses run is) key = refl
+lines_row v _ _ _ does_not_pause key = refl
+lines_row v _ _ _ gives_nothing key = refl
+lines_row v _ _ _ (tells piece run is) key = refl
+lines_row v _ _ _ (stops reason thread at is) key = refl
+lines_row v _ _ _ (exits code is) key = refl
+lines_row v _ _ _ (sets source lines) key = lines_set key source lines v.set
+lines_row v _ _ _ ends key = refl
+
+pub sets_lines-played : SetsLines shown_of FollowsPlayed
+sets_lines-played v w a r f key = ap (λ (p : Played). lines_in p.set key) f.view ∙ lines_row v _ a r (row v w a r f) key

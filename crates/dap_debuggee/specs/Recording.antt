@@ -1,0 +1,67 @@
+-- What holds of every recording, and what a moment of it is.
+-- The format is this profile's own.
+use Rattle.std.specs.Prelude.{◌≡◌, ℕ, zero, suc, ◌+◌, ◌≤◌, ◌<◌, ℤ, pos, Bool, true, false, ◌&&◌, nat_le, nat_lt, nat_eq, not, List, [], ◌∷◌, ◌++◌, length, map, Option, Some, None, option_map, option_and_then, unwrap_or, IsTrue, if◌then◌else◌}
+use Rattle.std.specs.List.{list_all, slice_get, flat_map}
+use Rattle.std.specs.Ordering.{int_eq}
+use Rattle.dap_call.specs.Argument.{is_int}
+use Rattle.dap_debuggee.specs.Laws.{is_frame}
+use Rattle.dap_debuggee.specs.declared.answers.Frame.{Frame}
+use Rattle.dap_debuggee.specs.declared.recording.RecordedSource.{RecordedSource}
+use Rattle.dap_debuggee.specs.declared.recording.RecordedThread.{RecordedThread}
+use Rattle.dap_debuggee.specs.declared.recording.Moment.{Moment}
+use Rattle.dap_debuggee.specs.declared.recording.Recording.{Recording}
+
+-- ---- lines of a text
+
+-- the pieces ended by a line feed, and a last piece that is not empty
+abbrev pub line_count : List ℕ → ℕ
+line_count [] = 0
+line_count (c ∷ []) = 1
+line_count (c ∷ d ∷ cs) = if nat_eq c 10 then suc (line_count (d ∷ cs)) else line_count (d ∷ cs)
+
+-- ---- a moment
+
+abbrev pub thread_at : Moment → Option RecordedThread
+thread_at m = slice_get m.threads m.thread
+
+-- how many frames its thread has
+abbrev pub depth : Moment → ℕ
+depth m = unwrap_or (option_map (λ thread. length thread.frames) (thread_at m)) 0
+
+-- the newest frame of its thread
+abbrev pub top : Moment → Option Frame
+top m = option_and_then (λ thread. slice_get thread.frames 0) (thread_at m)
+
+abbrev pub id_at : Moment → ℤ
+id_at m = unwrap_or (option_map (λ thread. thread.id) (thread_at m)) (pos 0)
+
+abbrev pub objects : Moment → List ℕ
+objects m = flat_map (λ thread. map (λ frame. frame.object) thread.frames) m.threads
+
+-- ---- a recording
+
+-- each number is greater than the one before it
+abbrev pub is_rising : List ℕ → Bool
+is_rising [] = true
+is_rising (m ∷ []) = true
+is_rising (m ∷ n ∷ ns) = nat_lt m n && is_rising (n ∷ ns)
+
+-- the ids differ from each other
+abbrev pub are_distinct : List RecordedThread → Bool
+are_distinct [] = true
+are_distinct (thread ∷ threads) = list_all (λ other. not (int_eq thread.id other.id)) threads && are_distinct threads
+
+-- of so many sources
+abbrev pub is_thread : ℕ → RecordedThread → Bool
+is_thread sources thread = is_int thread.id && (nat_lt 0 (length thread.frames) && list_all (is_frame sources) thread.frames)
+
+-- one of its threads stands here; the ids of its threads differ, and so do the numbers of their frames
+abbrev pub is_moment : ℕ → Moment → Bool
+is_moment sources m = nat_lt m.thread (length m.threads) && (list_all (is_thread sources) m.threads && (are_distinct m.threads && is_rising (objects m)))
+
+-- what holds of every recording
+pub record IsRecording (r : Recording) : Type 0 where
+  pub sources : length r.sources ≤ 65536
+  pub lines : IsTrue (list_all (λ source. nat_eq source.lines (line_count source.text)) r.sources)
+  pub some : 0 < length r.moments
+  pub moments : IsTrue (list_all (is_moment (length r.sources)) r.moments)

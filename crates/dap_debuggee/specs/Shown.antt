@@ -1,0 +1,73 @@
+-- What a debuggee shows in a view: where it stands, what it was last asked, and what it answers to each query.
+use Rattle.std.specs.Prelude.{ℕ, ℤ, Bool, List, codes, Option}
+use Rattle.dap_call.specs.declared.call.SourceKey.{SourceKey}
+use Rattle.dap_debuggee.specs.declared.answers.State.{State}
+use Rattle.dap_debuggee.specs.declared.answers.How.{How}
+use Rattle.dap_debuggee.specs.declared.answers.Asked.{Asked}
+use Rattle.dap_debuggee.specs.declared.answers.Asked.TheVariants.{Start, Resume, Pause, Poll, SetBreakpoints, End}
+use Rattle.dap_debuggee.specs.declared.answers.Category.{Category}
+use Rattle.dap_debuggee.specs.declared.answers.Category.TheVariants.{Console, Stdout, Stderr}
+use Rattle.dap_debuggee.specs.declared.answers.Happening.{Happening}
+use Rattle.dap_debuggee.specs.declared.answers.Thread.{Thread}
+use Rattle.dap_debuggee.specs.declared.answers.Frame.{Frame}
+use Rattle.dap_debuggee.specs.declared.answers.Scope.{Scope}
+use Rattle.dap_debuggee.specs.declared.answers.Variable.{Variable}
+use Rattle.dap_debuggee.specs.declared.answers.Evaluation.{Evaluation}
+use Rattle.dap_debuggee.specs.declared.answers.Source.{Source}
+
+abbrev pub category_name : Category → List ℕ
+category_name Console = codes "console"
+category_name Stdout = codes "stdout"
+category_name Stderr = codes "stderr"
+
+-- what a debuggee is asked to do
+pub data Act : Type 0 where
+  to_start : Act
+  to_resume : How → ℤ → Act
+  to_pause : Act
+  to_poll : Act
+  to_set_breakpoints : SourceKey → List ℕ → Act
+  to_end : Act
+
+-- what it answers to an act
+pub data Reply : Type 0 where
+  done : Reply
+  refused : Reply
+  happened : Happening → Reply
+
+-- an act as it is remembered: with its how and its thread
+abbrev pub remembered : Act → Asked
+remembered to_start = Start
+remembered (to_resume how thread) = Resume how thread
+remembered to_pause = Pause
+remembered to_poll = Poll
+remembered (to_set_breakpoints source lines) = SetBreakpoints
+remembered to_end = End
+
+-- the last act, with its answer
+pub record Last : Type 0 where
+  pub asked : Asked
+  pub reply : Reply
+
+-- A query that is refused has no answer.
+pub record Shown : Type 0 where
+  pub state : State
+  -- last set, by source
+  pub lines : SourceKey → List ℕ
+  -- how many acts were asked, modulo 2^64
+  pub acts : ℕ
+  pub last : Option Last
+  pub threads : List Thread
+  -- of a thread, by its id
+  pub frames : ℤ → Option (List Frame)
+  -- of a frame, by its object number
+  pub scopes : ℕ → Option (List Scope)
+  -- of a holder, by its object number
+  pub children : ℕ → Option (List Variable)
+  -- in a frame or in none
+  pub evaluate : Option ℕ → List ℕ → Option Evaluation
+  pub sources : List Source
+  -- the text of a source, by its index
+  pub content : ℕ → Option (List ℕ)
+  -- of each line asked whether a breakpoint can stand there
+  pub verify : SourceKey → List ℕ → Option (List Bool)

@@ -1,0 +1,138 @@
+//! What a debuggee tells: threads, frames, scopes, variables, sources, and what happened.
+//!
+//! Specification, "Thread", "StackFrame", "Scope", "Variable", "Source", and the events "output", "stopped", "continued"
+//! and "exited". An object number is the debuggee's own name of a frame, or of a holder: what holds variables.
+ghost use Rattle.std.specs.Prelude.{◌≡◌};
+
+use dap_json::Text;
+
+/// Where a debuggee stands.
+#[derive(Clone, Copy, Debug, PartialEq, Eq)]
+pub enum State {
+    NotStarted,
+    Running,
+    Stopped,
+    /// It exited, or was ended.
+    Gone,
+}
+
+/// How a stopped debuggee is to go on.
+#[derive(Clone, Copy, Debug, PartialEq, Eq)]
+pub enum How {
+    StepIn,
+    Next,
+    StepOut,
+    Continue,
+    StepBack,
+    ReverseContinue,
+}
+
+/// What a debuggee was asked to do.
+#[derive(Clone, Copy, Debug, PartialEq, Eq)]
+pub enum Asked {
+    Start,
+    Resume { how: How, thread: i64 },
+    Pause,
+    Poll,
+    SetBreakpoints,
+    End,
+}
+
+/// Where output belongs: Specification, "OutputEvent".
+#[derive(Clone, Copy, Debug, PartialEq, Eq)]
+pub enum Category {
+    Console,
+    Stdout,
+    Stderr,
+}
+
+/// What a poll gives.
+#[derive(Debug, Drop)]
+pub enum Happening {
+    Nothing,
+    Output {
+        category: Category,
+        /// At most 128 bytes.
+        text: Text,
+    },
+    Stopped {
+        /// At most 64 bytes.
+        reason: Text,
+        /// The id of the thread that stopped.
+        thread: i64,
+    },
+    /// It went on by itself.
+    Continued {
+        thread: i64,
+    },
+    Exited {
+        code: i32,
+    },
+}
+
+/// Why a debuggee did not do or tell what it was asked.
+#[derive(Clone, Copy, Debug, PartialEq, Eq)]
+pub enum DebuggeeFault {
+    Refused,
+    /// Memory was refused.
+    OutOfMemory,
+}
+
+#[derive(Debug, Drop)]
+pub struct Thread {
+    /// -9007199254740991 to 9007199254740991.
+    pub id: i64,
+    pub name: Text,
+}
+
+#[derive(Debug, Drop)]
+pub struct Frame {
+    pub object: u64,
+    pub name: Text,
+    /// The index of its source, from 0.
+    pub source: u32,
+    /// 1 to 2147483647.
+    pub line: u32,
+}
+
+#[derive(Debug, Drop)]
+pub struct Scope {
+    pub name: Text,
+    pub holder: u64,
+}
+
+#[derive(Debug, Drop)]
+pub struct Variable {
+    pub name: Text,
+    pub value: Text,
+    /// What holds its children; `None` where it has none.
+    pub holder: Option<u64>,
+}
+
+#[derive(Debug, Drop)]
+pub struct Evaluation {
+    pub value: Text,
+    /// What holds its children; `None` where it has none.
+    pub holder: Option<u64>,
+}
+
+#[derive(Debug, Drop)]
+pub struct Source {
+    pub name: Text,
+    pub path: Option<Text>,
+}
+
+impl Category {
+    ghost use Rattle.dap_debuggee.specs.Shown.{category_name};
+
+    /// Its name in the protocol.
+    pub fn name(self) -> &'static str
+        ensures { result.now ≡ category_name self }
+    {
+        match self {
+            Category::Console => "console",
+            Category::Stdout => "stdout",
+            Category::Stderr => "stderr",
+        }
+    }
+}

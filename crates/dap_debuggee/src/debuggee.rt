@@ -1,0 +1,132 @@
+//! What an adapter asks of a debugger: acts, queries, and the laws that both rest on.
+//!
+//! The debuggee's own value is its view. `shown` tells what a view shows, and `follows` which views an act may leave with
+//! which answer; the laws below the last method tie the two together. An act that is added later adds a case to `Act` and
+//! touches no other.
+ghost use Rattle.std.specs.Prelude.{◌≡◌, IfOk, OnOk};
+
+use crate::answers::{DebuggeeFault, Evaluation, Frame, Happening, How, Scope, Source, Thread, Variable};
+use dap_call::SourceKey;
+use dap_json::Text;
+use std::alloc::{AllocError, Global};
+
+/// A debugger with what it debugs.
+///
+/// Each act is counted and remembered, a refused one too. After want of memory nothing is said of the view.
+pub trait Debuggee {
+    ghost use Rattle.std.specs.Prelude.{◌≡◌, IfOk, OnOk, IsTrue};
+    ghost use Rattle.dap_debuggee.specs.Shown.{Shown, Act, Reply, to_start, to_resume, to_pause, to_poll, to_set_breakpoints, to_end, done, happened};
+    ghost use Rattle.dap_debuggee.specs.Laws.{Replies, Tells, Counts, Remembers, Answers, Moves, SetsLines, KeepsAnswers, KeepsFrames, KeepsSources, is_short, NoThreads, ThreadsInRange, FramesInRange, NamesOneFrame, SourcesInRange, VerifiesEach};
+
+    /// What a view shows.
+    ghost shown: { Self → Shown };
+
+    /// The views that an act with an answer may leave.
+    ghost follows: { Self → Act → Reply → Self → Type 0 };
+
+    /// Starts what is not started, or refuses.
+    fn start(&mut self, alloc: Global) -> Result<(), DebuggeeFault>
+        ensures { Replies result (λ reply. follows self.old to_start reply self.new) };
+
+    /// Lets what is stopped go on, or refuses. `thread` is the one that was asked for; all threads run.
+    fn resume(&mut self, alloc: Global, how: How, thread: i64) -> Result<(), DebuggeeFault>
+        ensures { Replies result (λ reply. follows self.old (to_resume how thread) reply self.new) };
+
+    /// Asks what runs to stop. That it has stopped is told by a poll.
+    fn pause(&mut self, alloc: Global) -> Result<(), DebuggeeFault>
+        ensures { Replies result (λ reply. follows self.old to_pause reply self.new) };
+
+    /// What happened next, without waiting.
+    fn poll(&mut self, alloc: Global) -> Result<Happening, AllocError>
+        ensures follows { IfOk result (λ h. follows self.old to_poll (happened h) self.new) }
+        ensures in_range { IfOk result (λ h. IsTrue (is_short h)) };
+
+    /// Replaces the breakpoints of a source. Lines are counted from 1, and may be any.
+    fn set_breakpoints(
+        &mut self,
+        alloc: Global,
+        source: &SourceKey,
+        lines: &[u32],
+    ) -> Result<(), AllocError>
+        ensures { OnOk result (follows self.old (to_set_breakpoints source.now lines.now) done self.new) };
+
+    /// Ends the debuggee.
+    fn end(&mut self)
+        ensures { follows self.old to_end done self.new };
+
+    /// The threads, in order.
+    fn threads(&self, alloc: Global) -> Result<Vec<Thread>, AllocError>
+        ensures threads { IfOk result (λ threads. threads.items ≡ (shown self.now).threads) }
+        ensures in_range { ThreadsInRange (shown self.now) };
+
+    /// The frames of a thread, the newest first.
+    fn frames(&self, alloc: Global, thread: i64) -> Result<Vec<Frame>, DebuggeeFault>
+        ensures frames { Tells result (λ frames. frames.items) ((shown self.now).frames thread) }
+        ensures in_range { FramesInRange (shown self.now) }
+        ensures one_name { NamesOneFrame (shown self.now) };
+
+    /// The scopes of a frame.
+    fn scopes(&self, alloc: Global, frame: u64) -> Result<Vec<Scope>, DebuggeeFault>
+        ensures { Tells result (λ scopes. scopes.items) ((shown self.now).scopes frame) };
+
+    /// The variables of a holder.
+    fn children(&self, alloc: Global, holder: u64) -> Result<Vec<Variable>, DebuggeeFault>
+        ensures { Tells result (λ children. children.items) ((shown self.now).children holder) };
+
+    /// The value of a text, in a frame or in none.
+    fn evaluate(
+        &self,
+        alloc: Global,
+        frame: Option<u64>,
+        text: &str,
+    ) -> Result<Evaluation, DebuggeeFault>
+        ensures { Tells result (λ value. value) ((shown self.now).evaluate frame text.now) };
+
+    /// The sources, in order.
+    fn sources(&self, alloc: Global) -> Result<Vec<Source>, AllocError>
+        ensures sources { IfOk result (λ sources. sources.items ≡ (shown self.now).sources) }
+        ensures in_range { SourcesInRange (shown self.now) };
+
+    /// The text of a source, by its index from 0.
+    fn content(&self, alloc: Global, index: u32) -> Result<Text, DebuggeeFault>
+        ensures { Tells result (λ text. text) ((shown self.now).content index) };
+
+    /// Of each line whether a breakpoint can stand there.
+    fn verify(
+        &self,
+        alloc: Global,
+        source: &SourceKey,
+        lines: &[u32],
+    ) -> Result<Vec<bool>, DebuggeeFault>
+        ensures { Tells result (λ answers. answers.items) ((shown self.now).verify source.now lines.now) };
+
+    /// Each act is counted, modulo 18446744073709551616.
+    ghost counts: { Counts shown follows };
+
+    /// Each act is remembered, with its answer.
+    ghost remembers: { Remembers shown follows };
+
+    /// Only what may be answered in a state is answered.
+    ghost answers: { Answers shown follows };
+
+    /// What an act does to the state.
+    ghost moves: { Moves shown follows };
+
+    /// Lines change by being set.
+    ghost sets_lines: { SetsLines shown follows };
+
+    /// A refused act, a pause and the setting of breakpoints change no answer.
+    ghost keeps_answers: { KeepsAnswers shown follows };
+
+    /// Frames, scopes and variables stay until the debuggee starts, goes on, stops or ends.
+    ghost keeps_frames: { KeepsFrames shown follows };
+
+    /// Sources and their texts never change.
+    ghost keeps_sources: { KeepsSources shown follows };
+
+    /// No threads before the start and after the end.
+    ghost no_threads: { NoThreads shown };
+
+    /// One answer for each line asked.
+    ghost verifies_each: { VerifiesEach shown };
+}

@@ -1,0 +1,17 @@
+//! What is debugged.
+#![tactic(auto)]
+
+mod answers;
+mod debuggee;
+mod lines;
+mod list;
+mod moves;
+mod recorded;
+mod recording;
+
+pub use answers::{
+    Asked, Category, DebuggeeFault, Evaluation, Frame, Happening, How, Scope, Source, State, Thread, Variable,
+};
+pub use debuggee::Debuggee;
+pub use list::List;
+pub use recorded::Recorded;
