@@ -13,6 +13,8 @@ use Rattle.dap_debuggee.specs.declared.recording.Moment.{Moment}
 use Rattle.dap_debuggee.specs.declared.moves.Reason.{Reason}
 use Rattle.dap_debuggee.specs.declared.moves.Reason.TheVariants.{Entry, Step, Breakpoint, Pause}
 use Rattle.dap_debuggee.specs.declared.moves.Move.{Move}
+use Rattle.dap_debuggee.specs.declared.moves.Wanted.{Wanted}
+use Rattle.dap_debuggee.specs.declared.moves.Wanted.TheVariants.{Waiting, NoDeeper, Shallower, AtBreakpoint}
 
 abbrev pub reason_text : Reason → List ℕ
 reason_text Entry = codes "entry"
@@ -98,3 +100,11 @@ move_to moments how i to reason = held_before to reason (waiting_after i moments
 -- the move from moment i, with the lines that are set
 abbrev pub move_of : List RecordedSource → List Moment → Lines → How → ℕ → Move
 move_of sources moments lines how i = move_to moments how i (target sources moments lines how i (unwrap_or (option_map depth (slice_get moments i)) 0)) (reason_of sources moments lines how i)
+
+-- ---- words of the walk over the moments
+
+abbrev pub passes : List RecordedSource → Lines → Wanted → Moment → Bool
+passes sources lines Waiting = λ m. m.waits
+passes sources lines (NoDeeper deep) = λ m. nat_le (depth m) deep
+passes sources lines (Shallower deep) = λ m. nat_lt (depth m) deep
+passes sources lines AtBreakpoint = is_at_breakpoint lines sources
