@@ -1,7 +1,7 @@
 //! Where a run of a recording goes: a walk over its moments.
-ghost use Rattle.std.specs.Prelude.{◌≡◌, ◌<◌, ◌++◌, length, map, option_map};
+ghost use Rattle.std.specs.Prelude.{◌≡◌, ◌<◌, length, option_map};
 ghost use Rattle.dap_debuggee.specs.Recording.{depth as depth_of, top as top_of};
-ghost use Rattle.dap_debuggee.specs.Moves.{reason_text, passes as passes_test, first_place, least_after as least_place_after, last_place, greatest_before as greatest_place_before, has_line as has_line_in, is_at_breakpoint as stands_at_breakpoint, move_of};
+ghost use Rattle.dap_debuggee.specs.Moves.{reason_text, has_line as has_line_in, is_at_breakpoint as stands_at_breakpoint, is_forward as goes_forward};
 ghost use Rattle.dap_debuggee.specs.Played.{lines_in};
 
 use crate::answers::{Frame, How};
@@ -93,4 +93,119 @@ fn is_at_breakpoint(moment: &Moment, sources: &[RecordedSource], set: &[SetLines
         return true;
     }
     has_line(frame.line, lines::of_reference(set, frame.source as u64 + 1))
+}
+
+/// What a move is decided by.
+#[derive(Clone, Copy, Drop)]
+pub(crate) struct Plan<'r> {
+    pub(crate) sources: &'r [RecordedSource],
+    pub(crate) moments: &'r [Moment],
+    /// The lines that are set.
+    pub(crate) set: &'r [SetLines],
+}
+
+impl Plan<'_> {
+    ghost use Rattle.dap_debuggee.specs.Moves.{passes as passes_test, first_place, least_after as least_place_after, last_place, greatest_before as greatest_place_before, target as target_of, reason_of, move_of};
+    ghost use Rattle.dap_debuggee.specs.Played.{lines_in};
+
+    fn passes(&self, wanted: Wanted, moment: &Moment) -> bool
+        ensures { result ≡ passes_test self.now.sources.now (lines_in self.now.set.now) wanted moment.now }
+    {
+        match wanted {
+            Wanted::Waiting => moment.waits,
+            Wanted::NoDeeper(deep) => depth(moment) <= deep,
+            Wanted::Shallower(deep) => depth(moment) < deep,
+            Wanted::AtBreakpoint => is_at_breakpoint(moment, self.sources, self.set),
+        }
+    }
+
+    /// The least place after `i` of a moment that is wanted, or how many moments there are.
+    fn least_after(&self, wanted: Wanted, i: usize) -> usize
+        requires { i < length self.now.moments.now }
+        ensures { result ≡ least_place_after (passes_test self.now.sources.now (lines_in self.now.set.now) wanted) i self.now.moments.now }
+    {
+        let mut k = i + 1;
+        while let Some(moment) = self.moments.get(k) {
+            if self.passes(wanted, moment) {
+                return k;
+            }
+            k += 1;
+        }
+        k
+    }
+
+    /// The greatest place before `i` of a moment that is wanted.
+    fn greatest_before(&self, wanted: Wanted, i: usize) -> Option<usize>
+        requires { i < length self.now.moments.now }
+        ensures { result ≡ greatest_place_before (passes_test self.now.sources.now (lines_in self.now.set.now) wanted) i self.now.moments.now }
+    {
+        let mut k = i;
+        while k > 0 {
+            k -= 1;
+            if self.passes(wanted, &self.moments[k]) {
+                return Some(k);
+            }
+        }
+        None
+    }
+
+    fn target(&self, how: How, i: usize, deep: usize) -> usize
+        requires { i < length self.now.moments.now }
+        ensures { result ≡ target_of self.now.sources.now self.now.moments.now (lines_in self.now.set.now) how i deep }
+    {
+        match how {
+            How::StepIn => i + 1,
+            How::Next => self.least_after(Wanted::NoDeeper(deep), i),
+            How::StepOut => self.least_after(Wanted::Shallower(deep), i),
+            How::Continue => self.least_after(Wanted::AtBreakpoint, i),
+            How::StepBack => i.saturating_sub(1),
+            How::ReverseContinue => self.greatest_before(Wanted::AtBreakpoint, i).unwrap_or(0),
+        }
+    }
+
+    fn reason(&self, how: How, i: usize) -> Reason
+        requires { i < length self.now.moments.now }
+        ensures { result ≡ reason_of self.now.sources.now self.now.moments.now (lines_in self.now.set.now) how i }
+    {
+        match how {
+            How::Continue => Reason::Breakpoint,
+            How::ReverseContinue => match self.greatest_before(Wanted::AtBreakpoint, i) {
+                None => Reason::Entry,
+                Some(_) => Reason::Breakpoint,
+            },
+            _ => Reason::Step,
+        }
+    }
+
+    /// Where a run from moment `i` goes: a forward one is held at the first waiting moment that it would pass.
+    pub(crate) fn movement(&self, how: How, i: usize) -> Move
+        requires { i < length self.now.moments.now }
+        ensures { result ≡ move_of self.now.sources.now self.now.moments.now (lines_in self.now.set.now) how i }
+    {
+        let deep = self.moments.get(i).map_or(0, depth);
+        let to = self.target(how, i, deep);
+        let reason = self.reason(how, i);
+        let waiting = self.least_after(Wanted::Waiting, i);
+        if is_forward(how) && waiting < to {
+            return Move {
+                to: waiting,
+                held: true,
+                reason: Reason::Pause,
+            };
+        }
+        Move {
+            to,
+            held: false,
+            reason,
+        }
+    }
+}
+
+pub(crate) fn is_forward(how: How) -> bool
+    ensures { result ≡ goes_forward how }
+{
+    match how {
+        How::StepBack | How::ReverseContinue => false,
+        _ => true,
+    }
 }
