@@ -14,7 +14,7 @@ use Rattle.dap_debuggee.specs.declared.moves.Reason.{Reason}
 use Rattle.dap_debuggee.specs.declared.moves.Reason.TheVariants.{Entry, Step, Breakpoint, Pause}
 use Rattle.dap_debuggee.specs.declared.moves.Move.{Move}
 use Rattle.dap_debuggee.specs.declared.moves.Wanted.{Wanted}
-use Rattle.dap_debuggee.specs.declared.moves.Wanted.TheVariants.{Waiting, NoDeeper, Shallower, AtBreakpoint}
+use Rattle.dap_debuggee.specs.declared.moves.Wanted.TheVariants.{NoDeeper, Shallower, AtBreakpoint}
 
 abbrev pub reason_text : Reason → List ℕ
 reason_text Entry = codes "entry"
@@ -85,26 +85,28 @@ reason_of sources moments lines Continue i = Breakpoint
 reason_of sources moments lines ReverseContinue i = unwrap_or (option_map (λ k. Breakpoint) (greatest_before (is_at_breakpoint lines sources) i moments)) Entry
 reason_of sources moments lines how i = Step
 
--- the least waiting moment after i
-abbrev pub waiting_after : ℕ → List Moment → ℕ
-waiting_after i moments = least_after (λ m. m.waits) i moments
+-- the least waiting moment after i, where it comes before `to`
+abbrev pub waiting_within : ℕ → ℕ → List Moment → Option ℕ
+waiting_within i to moments = if nat_lt (least_after (λ m. m.waits) i moments) to then Some (least_after (λ m. m.waits) i moments) else None
 
 -- a forward move is held at the first waiting moment that it would pass
-abbrev pub held_before : ℕ → Reason → ℕ → Bool → Move
-held_before to reason waiting true = record { to = waiting; held = true; reason = Pause }
-held_before to reason waiting false = record { to = to; held = false; reason = reason }
+abbrev pub held_at : Option ℕ → ℕ → Reason → Move
+held_at None to reason = record { to = to; held = false; reason = reason }
+held_at (Some waiting) to reason = record { to = waiting; held = true; reason = Pause }
 
 abbrev pub move_to : List Moment → How → ℕ → ℕ → Reason → Move
-move_to moments how i to reason = held_before to reason (waiting_after i moments) (is_forward how && nat_lt (waiting_after i moments) to)
+move_to moments how i to reason = held_at (if is_forward how then waiting_within i to moments else None) to reason
+
+abbrev pub depth_at : ℕ → List Moment → ℕ
+depth_at i moments = unwrap_or (option_map depth (slice_get moments i)) 0
 
 -- the move from moment i, with the lines that are set
 abbrev pub move_of : List RecordedSource → List Moment → Lines → How → ℕ → Move
-move_of sources moments lines how i = move_to moments how i (target sources moments lines how i (unwrap_or (option_map depth (slice_get moments i)) 0)) (reason_of sources moments lines how i)
+move_of sources moments lines how i = move_to moments how i (target sources moments lines how i (depth_at i moments)) (reason_of sources moments lines how i)
 
 -- ---- words of the walk over the moments
 
 abbrev pub passes : List RecordedSource → Lines → Wanted → Moment → Bool
-passes sources lines Waiting = λ m. m.waits
 passes sources lines (NoDeeper deep) = λ m. nat_le (depth m) deep
 passes sources lines (Shallower deep) = λ m. nat_lt (depth m) deep
 passes sources lines AtBreakpoint = is_at_breakpoint lines sources

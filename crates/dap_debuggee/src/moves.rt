@@ -1,5 +1,5 @@
 //! Where a run of a recording goes: a walk over its moments.
-ghost use Rattle.std.specs.Prelude.{◌≡◌, ◌<◌, length, option_map};
+ghost use Rattle.std.specs.Prelude.{◌≡◌, ◌<◌, ◌≤◌, length, option_map, IfSome};
 ghost use Rattle.dap_debuggee.specs.Recording.{depth as depth_of, top as top_of};
 ghost use Rattle.dap_debuggee.specs.Moves.{reason_text, has_line as has_line_in, is_at_breakpoint as stands_at_breakpoint, is_forward as goes_forward};
 ghost use Rattle.dap_debuggee.specs.Played.{lines_in};
@@ -31,7 +31,6 @@ pub(crate) struct Move {
 /// A moment that is looked for.
 #[derive(Clone, Copy, Debug)]
 pub(crate) enum Wanted {
-    Waiting,
     /// At most so many frames.
     NoDeeper(usize),
     /// Fewer frames.
@@ -105,14 +104,13 @@ pub(crate) struct Plan<'r> {
 }
 
 impl Plan<'_> {
-    ghost use Rattle.dap_debuggee.specs.Moves.{passes as passes_test, first_place, least_after as least_place_after, last_place, greatest_before as greatest_place_before, target as target_of, reason_of, move_of};
+    ghost use Rattle.dap_debuggee.specs.Moves.{passes as passes_test, first_place, least_after as least_place_after, last_place, greatest_before as greatest_place_before, target as target_of, reason_of, depth_at, waiting_within, move_of};
     ghost use Rattle.dap_debuggee.specs.Played.{lines_in};
 
     fn passes(&self, wanted: Wanted, moment: &Moment) -> bool
         ensures { result ≡ passes_test self.now.sources.now (lines_in self.now.set.now) wanted moment.now }
     {
         match wanted {
-            Wanted::Waiting => moment.waits,
             Wanted::NoDeeper(deep) => depth(moment) <= deep,
             Wanted::Shallower(deep) => depth(moment) < deep,
             Wanted::AtBreakpoint => is_at_breakpoint(moment, self.sources, self.set),
@@ -122,7 +120,8 @@ impl Plan<'_> {
     /// The least place after `i` of a moment that is wanted, or how many moments there are.
     fn least_after(&self, wanted: Wanted, i: usize) -> usize
         requires { i < length self.now.moments.now }
-        ensures { result ≡ least_place_after (passes_test self.now.sources.now (lines_in self.now.set.now) wanted) i self.now.moments.now }
+        ensures place { result ≡ least_place_after (passes_test self.now.sources.now (lines_in self.now.set.now) wanted) i self.now.moments.now }
+        ensures within { result ≤ length self.now.moments.now }
     {
         let mut k = i + 1;
         while let Some(moment) = self.moments.get(k) {
@@ -137,7 +136,8 @@ impl Plan<'_> {
     /// The greatest place before `i` of a moment that is wanted.
     fn greatest_before(&self, wanted: Wanted, i: usize) -> Option<usize>
         requires { i < length self.now.moments.now }
-        ensures { result ≡ greatest_place_before (passes_test self.now.sources.now (lines_in self.now.set.now) wanted) i self.now.moments.now }
+        ensures place { result ≡ greatest_place_before (passes_test self.now.sources.now (lines_in self.now.set.now) wanted) i self.now.moments.now }
+        ensures within { IfSome result (λ k. k < i) }
     {
         let mut k = i;
         while k > 0 {
@@ -149,31 +149,39 @@ impl Plan<'_> {
         None
     }
 
-    fn target(&self, how: How, i: usize, deep: usize) -> usize
-        requires { i < length self.now.moments.now }
-        ensures { result ≡ target_of self.now.sources.now self.now.moments.now (lines_in self.now.set.now) how i deep }
+    /// The least place after `i` and before `to` of a moment that waits.
+    fn waiting_before(&self, i: usize, to: usize) -> Option<usize>
+        requires after { i < length self.now.moments.now }
+        requires within { to ≤ length self.now.moments.now }
+        ensures { result ≡ waiting_within i to self.now.moments.now }
     {
-        match how {
-            How::StepIn => i + 1,
-            How::Next => self.least_after(Wanted::NoDeeper(deep), i),
-            How::StepOut => self.least_after(Wanted::Shallower(deep), i),
-            How::Continue => self.least_after(Wanted::AtBreakpoint, i),
-            How::StepBack => i.saturating_sub(1),
-            How::ReverseContinue => self.greatest_before(Wanted::AtBreakpoint, i).unwrap_or(0),
+        let mut k = i + 1;
+        while k < to {
+            if self.moments[k].waits {
+                return Some(k);
+            }
+            k += 1;
         }
+        None
     }
 
-    fn reason(&self, how: How, i: usize) -> Reason
+    /// Where a run from moment `i` goes that is not held, and why it stops there.
+    fn unheld(&self, how: How, i: usize) -> (usize, Reason)
         requires { i < length self.now.moments.now }
-        ensures { result ≡ reason_of self.now.sources.now self.now.moments.now (lines_in self.now.set.now) how i }
+        ensures within { result.0 ≤ length self.now.moments.now }
+        ensures goal { result ≡ (target_of self.now.sources.now self.now.moments.now (lines_in self.now.set.now) how i (depth_at i self.now.moments.now), reason_of self.now.sources.now self.now.moments.now (lines_in self.now.set.now) how i) }
     {
+        let deep = self.moments.get(i).map_or(0, depth);
         match how {
-            How::Continue => Reason::Breakpoint,
+            How::StepIn => (i + 1, Reason::Step),
+            How::Next => (self.least_after(Wanted::NoDeeper(deep), i), Reason::Step),
+            How::StepOut => (self.least_after(Wanted::Shallower(deep), i), Reason::Step),
+            How::Continue => (self.least_after(Wanted::AtBreakpoint, i), Reason::Breakpoint),
+            How::StepBack => (i.saturating_sub(1), Reason::Step),
             How::ReverseContinue => match self.greatest_before(Wanted::AtBreakpoint, i) {
-                None => Reason::Entry,
-                Some(_) => Reason::Breakpoint,
+                None => (0, Reason::Entry),
+                Some(k) => (k, Reason::Breakpoint),
             },
-            _ => Reason::Step,
         }
     }
 
@@ -182,11 +190,10 @@ impl Plan<'_> {
         requires { i < length self.now.moments.now }
         ensures { result ≡ move_of self.now.sources.now self.now.moments.now (lines_in self.now.set.now) how i }
     {
-        let deep = self.moments.get(i).map_or(0, depth);
-        let to = self.target(how, i, deep);
-        let reason = self.reason(how, i);
-        let waiting = self.least_after(Wanted::Waiting, i);
-        if is_forward(how) && waiting < to {
+        let (to, reason) = self.unheld(how, i);
+        if is_forward(how)
+            && let Some(waiting) = self.waiting_before(i, to)
+        {
             return Move {
                 to: waiting,
                 held: true,

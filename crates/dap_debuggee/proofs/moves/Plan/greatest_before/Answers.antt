@@ -4,8 +4,8 @@ use Rattle.dap_debuggee.specs.Played.{lines_in}
 use Rattle.dap_debuggee.proofs.Places.{last_before, last_is, last_is_not}
 use Rattle.dap_debuggee.proofs.moves.Plan.greatest_before.Goals as goal
 
-pub returns-then-passes : goal.returns-then-passes
-returns-then-passes c =
+pub returns-then-passes-clause-place : goal.returns-then-passes-clause-place
+returns-then-passes-clause-place c =
     let test = passes c.args.self.now.sources.now (lines_in c.args.self.now.set.now) c.args.wanted in
     let some : 0 < c.loop-k.k = omega (arith, c.loop-k-test.true) in
     let here = last_before test c.loop-k.k c.args.self.now.moments.now c.index-self-k.result some (omega (arith, some, c.loop-k.invariant)) c.index-self-k.is in
