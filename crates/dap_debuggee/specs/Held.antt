@@ -1,11 +1,12 @@
 -- How the code holds a run and the last act, and what that amounts to.
 -- Only private clauses, invariants and proofs cite this file.
-use Rattle.std.specs.Prelude.{ℕ, ◌-◌, List, [], ◌∷◌, map, take, drop, Option, Some, None, option_map, unwrap_or, pos}
+use Rattle.std.specs.Prelude.{◌+◌, ◌%◌, ◌^◌, ℕ, suc, ◌-◌, ◌<◌, length, List, [], ◌∷◌, map, take, drop, Option, Some, None, option_map, unwrap_or, pos}
 use Rattle.std.specs.List.{slice_get}
+use Rattle.std.specs.Str.{IsCharBoundary}
 use Rattle.dap_debuggee.specs.Shown.{Reply, done, refused, happened, Last}
 use Rattle.dap_debuggee.specs.Recording.{id_at}
 use Rattle.dap_debuggee.specs.Moves.{reason_text}
-use Rattle.dap_debuggee.specs.Played.{Run}
+use Rattle.dap_debuggee.specs.Played.{Played, Run}
 use Rattle.dap_debuggee.specs.declared.answers.Asked.TheVariants.{Poll}
 use Rattle.dap_debuggee.specs.declared.answers.Category.TheVariants.{Stdout}
 use Rattle.dap_debuggee.specs.declared.answers.Happening.{Happening}
@@ -23,20 +24,20 @@ abbrev pub without : ℕ → List (List ℕ) → List (List ℕ)
 without n [] = []
 without n (text ∷ texts) = drop n text ∷ texts
 
+-- what is still to be written
+abbrev pub output_left : List Moment → Going → List (List ℕ)
+output_left moments g = without g.told (map (λ m. m.output) (take (suc g.last - g.moment) (drop g.moment moments)))
+
 abbrev pub run_of : List Moment → Option Going → Option Run
 run_of moments None = None
-run_of moments (Some g) = Some (record {
-  output = without g.told (map (λ m. m.output) (take (g.end - g.moment) (drop g.moment moments)));
-  move = g.to;
-  paused = g.paused;
-})
+run_of moments (Some g) = Some (record { output = output_left moments g; move = g.to; paused = g.paused })
 
-abbrev pub output_at : Recording → ℕ → List ℕ
-output_at r i = unwrap_or (option_map (λ m. m.output) (slice_get r.moments i)) []
+abbrev pub output_in : List Moment → ℕ → List ℕ
+output_in moments i = unwrap_or (option_map (λ m. m.output) (slice_get moments i)) []
 
 abbrev pub given_of : Recording → Given → Happening
 given_of r given.Nothing = happening.Nothing
-given_of r (given.Output moment from to) = happening.Output Stdout (take (to - from) (drop from (output_at r moment)))
+given_of r (given.Output moment from to) = happening.Output Stdout (take (to - from) (drop from (output_in r.moments moment)))
 given_of r (given.Stopped reason moment) = happening.Stopped (reason_text reason) (unwrap_or (option_map id_at (slice_get r.moments moment)) (pos 0))
 given_of r given.Exited = happening.Exited r.exit
 
@@ -45,3 +46,20 @@ last_of r last.Never = None
 last_of r (last.Done asked) = Some (record { asked = asked; reply = done })
 last_of r (last.Refused asked) = Some (record { asked = asked; reply = refused })
 last_of r (last.Polled g) = Some (record { asked = Poll; reply = happened (given_of r g) })
+
+-- what is told of a moment's output ends a character
+abbrev pub IsToldWhole : List Moment → Option Going → Type 0
+IsToldWhole moments None = Unit {0}
+IsToldWhole moments (Some g) = IsCharBoundary (output_in moments g.moment) g.told
+
+-- an act counted and remembered
+abbrev pub noted : Option Last → Played → Played
+noted last v = record {
+  recording = v.recording;
+  state = v.state;
+  at = v.at;
+  run = v.run;
+  set = v.set;
+  acts = (v.acts + 1) % 2 ^ 64;
+  last = last;
+}

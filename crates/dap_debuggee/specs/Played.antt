@@ -151,10 +151,10 @@ move_from how v = move_of v.recording.sources v.recording.moments (lines_in v.se
 abbrev pub resumed : How → Played → Played
 resumed how v = running v.at (written_on how v.recording.moments v.at (move_from how v).to) (move_from how v) v
 
--- the end of a run
+-- the end of a run, once all is written: held, stopped or gone
 abbrev pub arrived : Run → Played → Happening × Played
 arrived run v =
-    if run.move.held && not run.paused then (happening.Nothing, v)
+    if run.move.held && not run.paused then (happening.Nothing, with_run (record { output = []; move = run.move; paused = run.paused }) v)
     else (if nat_lt run.move.to (length v.recording.moments)
       then (happening.Stopped (reason_text run.move.reason) (unwrap_or (option_map id_at (slice_get v.recording.moments run.move.to)) (pos 0)), resting Stopped run.move.to v)
       else (happening.Exited v.recording.exit, resting Gone v.at v))
@@ -269,4 +269,18 @@ shown_of v = record {
   sources = map source_shown v.recording.sources;
   content = λ index. option_map (λ source. source.text) (slice_get v.recording.sources index);
   verify = λ source lines. Some (map (has_source_line v.recording.sources source) lines);
+}
+
+-- ---- as it begins
+
+-- a recording that is not started
+abbrev pub unplayed : Recording → Played
+unplayed r = record {
+  recording = r;
+  state = NotStarted;
+  at = 0;
+  run = None;
+  set = [];
+  acts = 0;
+  last = None;
 }

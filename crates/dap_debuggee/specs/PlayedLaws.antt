@@ -26,6 +26,7 @@ data Row (v : Played) : Act → Reply → Played → Type 0 where
   pauses : (run : Run) → v.state ≡ Running → Row v to_pause done (with_run run v)
   does_not_pause : Row v to_pause refused v
   gives_nothing : Row v to_poll (happened happening.Nothing) v
+  holds : (run : Run) → Row v to_poll (happened happening.Nothing) (with_run run v)
   tells : (piece : List ℕ) (run : Run) → v.state ≡ Running → Row v to_poll (happened (happening.Output Stdout piece)) (with_run run v)
   stops : (reason : List ℕ) (thread : ℤ) (at : ℕ) → v.state ≡ Running → Row v to_poll (happened (happening.Stopped reason thread)) (resting Stopped at v)
   exits : (code : ℤ) → v.state ≡ Running → Row v to_poll (happened (happening.Exited code)) (resting Gone v.at v)
@@ -59,7 +60,7 @@ either v true p q x y = x
 either v false p q x y = y
 
 arrived_row : (v : Played) (run : Run) → v.state ≡ Running → IsPoll v (arrived run v)
-arrived_row v run is = either v (run.move.held && not run.paused) _ _ gives_nothing (either v (nat_lt run.move.to (length v.recording.moments)) _ _ (stops _ _ run.move.to is) (exits v.recording.exit is))
+arrived_row v run is = either v (run.move.held && not run.paused) _ _ (holds (record { output = []; move = run.move; paused = run.paused })) (either v (nat_lt run.move.to (length v.recording.moments)) _ _ (stops _ _ run.move.to is) (exits v.recording.exit is))
 
 ran_row : (v : Played) (run : Run) (piece : Option (List ℕ × List (List ℕ))) → v.state ≡ Running → IsPoll v (ran run piece v)
 ran_row v run None is = arrived_row v run is
@@ -191,6 +192,7 @@ acts_row v _ _ _ (does_not_resume how thread) = refl
 acts_row v _ _ _ (pauses run is) = refl
 acts_row v _ _ _ does_not_pause = refl
 acts_row v _ _ _ gives_nothing = refl
+acts_row v _ _ _ (holds run) = refl
 acts_row v _ _ _ (tells piece run is) = refl
 acts_row v _ _ _ (stops reason thread at is) = refl
 acts_row v _ _ _ (exits code is) = refl
@@ -205,6 +207,7 @@ answer_row v _ _ _ (does_not_resume how thread) = refused_resume v.state how thr
 answer_row v _ _ _ (pauses run is) = rw is
 answer_row v _ _ _ does_not_pause = refused_pause v.state
 answer_row v _ _ _ gives_nothing = nothing_happens v.state
+answer_row v _ _ _ (holds run) = nothing_happens v.state
 answer_row v _ _ _ (tells piece run is) = rw is
 answer_row v _ _ _ (stops reason thread at is) = rw is
 answer_row v _ _ _ (exits code is) = rw is
@@ -219,6 +222,7 @@ state_row v _ _ _ (does_not_resume how thread) = same_resume v.state how thread
 state_row v _ _ _ (pauses run is) = same_pause v.state done
 state_row v _ _ _ does_not_pause = same_pause v.state refused
 state_row v _ _ _ gives_nothing = same_nothing v.state
+state_row v _ _ _ (holds run) = same_nothing v.state
 state_row v _ _ _ (tells piece run is) = same_output v.state piece
 state_row v _ _ _ (stops reason thread at is) = stop_state v.state reason thread
 state_row v _ _ _ (exits code is) = exit_state v.state code
@@ -233,6 +237,7 @@ frames_row v _ _ _ (does_not_resume how thread) keeps = record { frames = λ t. 
 frames_row v _ _ _ (pauses run is) keeps = record { frames = λ t. refl; scopes = λ n. refl; children = λ n. refl; evaluate = λ f t. refl }
 frames_row v _ _ _ does_not_pause keeps = record { frames = λ t. refl; scopes = λ n. refl; children = λ n. refl; evaluate = λ f t. refl }
 frames_row v _ _ _ gives_nothing keeps = record { frames = λ t. refl; scopes = λ n. refl; children = λ n. refl; evaluate = λ f t. refl }
+frames_row v _ _ _ (holds run) keeps = record { frames = λ t. refl; scopes = λ n. refl; children = λ n. refl; evaluate = λ f t. refl }
 frames_row v _ _ _ (tells piece run is) keeps = record { frames = λ t. refl; scopes = λ n. refl; children = λ n. refl; evaluate = λ f t. refl }
 frames_row v _ _ _ (stops reason thread at is) keeps = absurd (true≢false (sym keeps))
 frames_row v _ _ _ (exits code is) keeps = absurd (true≢false (sym keeps))
@@ -247,6 +252,7 @@ recording_row v _ _ _ (does_not_resume how thread) = refl
 recording_row v _ _ _ (pauses run is) = refl
 recording_row v _ _ _ does_not_pause = refl
 recording_row v _ _ _ gives_nothing = refl
+recording_row v _ _ _ (holds run) = refl
 recording_row v _ _ _ (tells piece run is) = refl
 recording_row v _ _ _ (stops reason thread at is) = refl
 recording_row v _ _ _ (exits code is) = refl
@@ -261,6 +267,7 @@ threads_row v _ _ _ (does_not_resume how thread) keeps = refl
 threads_row v _ _ _ (pauses run is) keeps = refl
 threads_row v _ _ _ does_not_pause keeps = refl
 threads_row v _ _ _ gives_nothing keeps = absurd (true≢false (sym keeps))
+threads_row v _ _ _ (holds run) keeps = absurd (true≢false (sym keeps))
 threads_row v _ _ _ (tells piece run is) keeps = absurd (true≢false (sym keeps))
 threads_row v _ _ _ (stops reason thread at is) keeps = absurd (true≢false (sym keeps))
 threads_row v _ _ _ (exits code is) keeps = absurd (true≢false (sym keeps))
@@ -368,6 +375,7 @@ lines_row v _ _ _ (does_not_resume how thread) key = refl
 lines_row v _ _ _ (pauses run is) key = refl
 lines_row v _ _ _ does_not_pause key = refl
 lines_row v _ _ _ gives_nothing key = refl
+lines_row v _ _ _ (holds run) key = refl
 lines_row v _ _ _ (tells piece run is) key = refl
 lines_row v _ _ _ (stops reason thread at is) key = refl
 lines_row v _ _ _ (exits code is) key = refl

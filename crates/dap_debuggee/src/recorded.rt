@@ -1,9 +1,13 @@
 //! A debuggee that plays a recorded run.
+ghost use Rattle.std.specs.Prelude.{◌≡◌, ◌<◌, length};
+ghost use Rattle.dap_debuggee.specs.Held.{last_of};
+ghost use Rattle.dap_debuggee.specs.Recording.{IsRecording};
+
 use crate::answers::{Asked, State};
 use crate::lines::SetLines;
 use crate::moves::{Move, Reason};
 use crate::recording::Recording;
-
+use std::alloc::Global;
 use std::marker::Model;
 
 /// The rest of a run.
@@ -13,8 +17,8 @@ pub(crate) struct Going {
     pub(crate) moment: usize,
     /// How many bytes of that were told.
     pub(crate) told: usize,
-    /// The place after the last moment whose output is told.
-    pub(crate) end: usize,
+    /// The place of the last moment whose output is told.
+    pub(crate) last: usize,
     pub(crate) to: Move,
     pub(crate) paused: bool,
 }
@@ -24,8 +28,15 @@ pub(crate) struct Going {
 pub(crate) enum Given {
     Nothing,
     /// Bytes of a moment's output.
-    Output { moment: usize, from: usize, to: usize },
-    Stopped { reason: Reason, moment: usize },
+    Output {
+        moment: usize,
+        from: usize,
+        to: usize,
+    },
+    Stopped {
+        reason: Reason,
+        moment: usize,
+    },
     Exited,
 }
 
@@ -41,18 +52,21 @@ pub(crate) enum LastAsked {
 /// A recorded debuggee.
 #[derive(Drop)]
 pub struct Recorded {
-    recording: Recording,
-    state: State,
-    at: usize,
-    going: Option<Going>,
-    set: Vec<SetLines>,
-    acts: u64,
-    last: LastAsked,
+    pub(crate) recording: Recording,
+    pub(crate) state: State,
+    /// The place of the moment that is shown.
+    pub(crate) at: usize,
+    pub(crate) going: Option<Going>,
+    pub(crate) set: Vec<SetLines>,
+    pub(crate) acts: u64,
+    pub(crate) last: LastAsked,
 }
 
 impl Model for Recorded {
+    ghost use Rattle.std.specs.Prelude.{◌<◌, length};
     ghost use Rattle.dap_debuggee.specs.Played.{Played};
-    ghost use Rattle.dap_debuggee.specs.Held.{run_of, last_of};
+    ghost use Rattle.dap_debuggee.specs.Held.{run_of, last_of, IsToldWhole};
+    ghost use Rattle.dap_debuggee.specs.Recording.{IsRecording};
 
     ghost Value = { Played };
 
@@ -65,4 +79,36 @@ impl Model for Recorded {
         acts = r.acts;
         last = last_of r.recording r.last;
     } };
+
+    ghost invariant = { λ r. IsRecording r.recording × (r.at < length r.recording.moments) × IsToldWhole r.recording.moments r.going };
+}
+
+impl Recorded {
+    ghost use Rattle.dap_debuggee.specs.Played.{unplayed};
+    ghost use Rattle.dap_debuggee.specs.Recording.{IsRecording};
+    ghost use Rattle.dap_debuggee.specs.Held.{noted};
+
+    /// A recording that is not started.
+    pub(crate) fn of_recording(alloc: Global, recording: Recording) -> Recorded
+        requires { IsRecording recording }
+        ensures { result ≡ unplayed recording }
+    {
+        Recorded {
+            recording,
+            state: State::NotStarted,
+            at: 0,
+            going: None,
+            set: Vec::new(alloc),
+            acts: 0,
+            last: LastAsked::Never,
+        }
+    }
+
+    /// Counts and remembers an act.
+    fn note(&mut self, last: LastAsked)
+        ensures { self.new ≡ noted (last_of self.old.recording last) self.old }
+    {
+        self.acts = self.acts.wrapping_add(1);
+        self.last = last;
+    }
 }
