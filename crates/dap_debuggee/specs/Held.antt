@@ -1,6 +1,6 @@
 -- How the code holds a run and the last act, and what that amounts to.
 -- Only private clauses, invariants and proofs cite this file.
-use Rattle.std.specs.Prelude.{◌+◌, ◌%◌, ◌^◌, ℕ, suc, ◌-◌, ◌<◌, length, List, [], ◌∷◌, map, take, drop, Option, Some, None, option_map, unwrap_or, pos}
+use Rattle.std.specs.Prelude.{◌≡◌, ◌⊎◌, ◌≤◌, ◌+◌, ◌%◌, ◌^◌, ℕ, suc, ◌-◌, ◌<◌, length, List, [], ◌∷◌, map, take, drop, Option, Some, None, option_map, unwrap_or, pos}
 use Rattle.std.specs.List.{slice_get}
 use Rattle.std.specs.Str.{IsCharBoundary}
 use Rattle.dap_debuggee.specs.Shown.{Reply, done, refused, happened, Last}
@@ -63,3 +63,7 @@ noted last v = record {
   acts = (v.acts + 1) % 2 ^ 64;
   last = last;
 }
+
+-- nothing is left, or the output of its moment is not used up
+abbrev pub IsReady : List Moment → Going → Type 0
+IsReady moments g = (output_left moments g ≡ []) ⊎ ((g.moment ≤ g.last) × (m : Moment) × (slice_get moments g.moment ≡ Some m) × (g.told < length m.output))

@@ -8,6 +8,7 @@ mod list;
 mod moves;
 mod recorded;
 mod recording;
+mod run;
 
 pub use answers::{
     Asked, Category, DebuggeeFault, Evaluation, Frame, Happening, How, Scope, Source, State, Thread, Variable,

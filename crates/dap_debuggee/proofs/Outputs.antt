@@ -1,0 +1,47 @@
+-- What is still to be written, as the code walks over the moments.
+use Rattle.std.proofs.Common.{◌≡◌, ℕ, zero, suc, ◌+◌, ◌-◌, ◌≤◌, ◌<◌, List, [], ◌∷◌, map, take, drop, length, Option, Some, None, option_map, unwrap_or, refl, sym, ap, ◌∙◌, arith}
+use Rattle.std.specs.List.{slice_get}
+use Rattle.dap_debuggee.specs.Held.{without, output_left}
+use Rattle.dap_debuggee.specs.Played.{output_of, first_piece, piece_length}
+use Rattle.dap_debuggee.specs.declared.recording.Moment.{Moment}
+use Rattle.dap_debuggee.specs.declared.recorded.Going.{Going}
+
+pub without_none : (texts : List (List ℕ)) → without 0 texts ≡ texts
+without_none [] = refl
+without_none (text ∷ texts) = refl
+
+some_same : {A : Type 0} (x y : A) → Some x ≡ Some y → x ≡ y
+some_same x y e = ap (λ o. unwrap_or o x) e
+
+take_none : (n : ℕ) → take {A = Moment} n [] ≡ []
+take_none zero = refl
+take_none (suc n) = refl
+
+-- from a moment that is there
+pub take_here : (n k : ℕ) (ms : List Moment) (m : Moment) → slice_get ms k ≡ Some m → take (suc n) (drop k ms) ≡ m ∷ take n (drop (suc k) ms)
+take_here n k [] m e = absurd (cc e)
+take_here n zero (x ∷ xs) m e = ap (λ y. y ∷ take n xs) (some_same x m e)
+take_here n (suc k) (x ∷ xs) m e = take_here n k xs m e
+
+pub take_nothing : (n k : ℕ) (ms : List Moment) → slice_get ms k ≡ None → take n (drop k ms) ≡ []
+take_nothing n zero [] e = take_none n
+take_nothing n (suc k) [] e = take_none n
+take_nothing n zero (x ∷ xs) e = absurd (cc e)
+take_nothing n (suc k) (x ∷ xs) e = take_nothing n k xs e
+
+-- what is left begins with the rest of the moment's output
+pub left_here : (moments : List Moment) (g : Going) (m : Moment) → g.moment ≤ g.last → slice_get moments g.moment ≡ Some m
+    → output_left moments g ≡ drop g.told m.output ∷ map (λ m. m.output) (take (g.last - g.moment) (drop (suc g.moment) moments))
+left_here moments g m within is =
+    let count : suc g.last - g.moment ≡ suc (g.last - g.moment) = omega (arith, within) in
+    ap (λ n. without g.told (map (λ m. m.output) (take n (drop g.moment moments)))) count
+    ∙ ap (λ ms. without g.told (map (λ (m : Moment). m.output) ms)) (take_here (g.last - g.moment) g.moment moments m is)
+
+-- nothing is left after the last moment, and after the end of the moments
+pub left_after : (moments : List Moment) (g : Going) → g.last < g.moment → output_left moments g ≡ []
+left_after moments g past =
+    let count : suc g.last - g.moment ≡ 0 = omega (arith, past) in
+    ap (λ n. without g.told (map (λ m. m.output) (take n (drop g.moment moments)))) count
+
+pub left_beyond : (moments : List Moment) (g : Going) → slice_get moments g.moment ≡ None → output_left moments g ≡ []
+left_beyond moments g is = ap (λ ms. without g.told (map (λ (m : Moment). m.output) ms)) (take_nothing (suc g.last - g.moment) g.moment moments is)
