@@ -45,3 +45,21 @@ left_after moments g past =
 
 pub left_beyond : (moments : List Moment) (g : Going) → slice_get moments g.moment ≡ None → output_left moments g ≡ []
 left_beyond moments g is = ap (λ ms. without g.told (map (λ (m : Moment). m.output) ms)) (take_nothing (suc g.last - g.moment) g.moment moments is)
+
+drop_past : (n : ℕ) (text : List ℕ) → length text ≤ n → drop n text ≡ []
+drop_past zero [] past = refl
+drop_past (suc n) [] past = refl
+drop_past zero (c ∷ cs) past = absurd (omega (arith, past))
+drop_past (suc n) (c ∷ cs) past = drop_past n cs (omega (arith, past))
+
+-- the next moment, once the output of this one is used up
+pub left_next : (moments : List Moment) (g : Going) (m : Moment) → g.moment ≤ g.last → slice_get moments g.moment ≡ Some m → length m.output ≤ g.told
+    → first_piece (output_left moments (record { moment = g.moment + 1; told = 0; last = g.last; to = g.to; paused = g.paused })) ≡ first_piece (output_left moments g)
+left_next moments g m within is past =
+    let next : g.moment + 1 ≡ suc g.moment = omega arith in
+    let count : suc g.last - suc g.moment ≡ g.last - g.moment = omega arith in
+    ap first_piece (without_none (map (λ m. m.output) (take (suc g.last - (g.moment + 1)) (drop (g.moment + 1) moments))))
+    ∙ ap (λ k. first_piece (map (λ (m : Moment). m.output) (take (suc g.last - k) (drop k moments)))) next
+    ∙ ap (λ n. first_piece (map (λ (m : Moment). m.output) (take n (drop (suc g.moment) moments)))) count
+    ∙ ap (λ text. first_piece (text ∷ map (λ (m : Moment). m.output) (take (g.last - g.moment) (drop (suc g.moment) moments)))) (sym (drop_past g.told m.output past))
+    ∙ ap first_piece (sym (left_here moments g m within is))

@@ -1,5 +1,5 @@
 -- The first piece of a text: the greatest place up to 128 at which a character ends.
-use Rattle.std.proofs.Common.{◌≡◌, ℕ, zero, suc, ◌≤◌, ◌<◌, ◌||◌, Bool, true, false, nat_le, nat_lt, if◌then◌else◌, List, length, slice_index, refl, sym, ap, ◌∙◌, arith, true≢false}
+use Rattle.std.proofs.Common.{◌≡◌, ℕ, zero, suc, ◌≤◌, ◌<◌, ◌||◌, Bool, true, false, nat_le, nat_lt, if◌then◌else◌, List, length, slice_index, refl, sym, subst, ◌∙◌, arith, true≢false}
 use Rattle.std.proofs.lemmas.Bool.{leb-true, le-leb, lt-ltb}
 use Rattle.std.proofs.lemmas.Bool.Decides.{nat_tests}
 use Rattle.std.specs.Str.{IsCharBoundary}
@@ -29,10 +29,34 @@ from_test text k within e =
     let short : nat_le (length text) k ≡ false = grind (arith, nat_tests, within) in
     (omega (arith, within), λ in_text. from_byte (slice_index text k) (sym (or_false _ _ short) ∙ e))
 
-mutual
-  up_to : (text : List ℕ) (k n : ℕ) → n ≤ k → k < length text → IsCharBoundary text n → ((i : ℕ) → n < i → i ≤ k → ¬ (IsCharBoundary text i)) → boundary_up_to text k ≡ n
-  up_to text zero n below within is nearest = omega (arith, below)
-  up_to text (suc k) n below within is nearest = up_by (is_boundary text (suc k)) text k n refl below within is nearest
+at_last : (b : Bool) (text : List ℕ) (k n : ℕ) → nat_lt n (suc k) ≡ b → n ≤ suc k → IsCharBoundary text (suc k) → ((i : ℕ) → n < i → i ≤ suc k → ¬ (IsCharBoundary text i)) → suc k ≡ n
+at_last true text k n is below at nearest = absurd (nearest (suc k) (grind (arith, nat_tests, is)) (omega arith) at)
+at_last false text k n is below at nearest = grind (arith, nat_tests, is, below)
 
-  up_by : (b : Bool) (text : List ℕ) (k n : ℕ) → is_boundary text (suc k) ≡ b → n ≤ suc k → suc k < length text → IsCharBoundary text n → ((i : ℕ) → n < i → i ≤ suc k → ¬ (IsCharBoundary text i)) → (if b then suc k else boundary_up_to text k) ≡ n
-  up_by b text k n e below within is nearest = ?
+not_last : (b : Bool) (text : List ℕ) (k n : ℕ) → nat_lt n (suc k) ≡ b → is_boundary text (suc k) ≡ false → n ≤ suc k → suc k < length text → IsCharBoundary text n → n ≤ k
+not_last true text k n is other below within at = grind (arith, nat_tests, is)
+not_last false text k n is other below within at =
+    let same : n ≡ suc k = grind (arith, nat_tests, is, below) in
+    absurd (true≢false (sym (to_test text (suc k) within (subst (λ m. IsCharBoundary text m) same at)) ∙ other))
+
+up_by : (b : Bool) (text : List ℕ) (k n : ℕ) → is_boundary text (suc k) ≡ b → n ≤ suc k → suc k < length text → IsCharBoundary text n → ((i : ℕ) → n < i → i ≤ suc k → ¬ (IsCharBoundary text i))
+    → (n ≤ k → boundary_up_to text k ≡ n) → (if b then suc k else boundary_up_to text k) ≡ n
+up_by true text k n is below within at nearest rest = at_last (nat_lt n (suc k)) text k n refl below (from_test text (suc k) within is) nearest
+up_by false text k n is below within at nearest rest = rest (not_last (nat_lt n (suc k)) text k n refl is below within at)
+
+up_to : (text : List ℕ) (k n : ℕ) → n ≤ k → k < length text → IsCharBoundary text n → ((i : ℕ) → n < i → i ≤ k → ¬ (IsCharBoundary text i)) → boundary_up_to text k ≡ n
+up_to text zero n below within at nearest = omega (arith, below)
+up_to text (suc k) n below within at nearest =
+    up_by (is_boundary text (suc k)) text k n refl below within at nearest
+      (λ less. up_to text k n less (omega (arith, within)) at (λ i more up. nearest i more (omega (arith, up))))
+
+whole_by : (b : Bool) (text : List ℕ) (n : ℕ) → nat_lt n (length text) ≡ b → length text ≤ 128 → IsCharBoundary text n → ((i : ℕ) → n < i → i ≤ 128 → ¬ (IsCharBoundary text i)) → length text ≡ n
+whole_by true text n is short at nearest = absurd (nearest (length text) (grind (arith, nat_tests, is)) short (omega arith, λ less. absurd (omega (arith, less))))
+whole_by false text n is short at nearest = let within : n ≤ length text = at.0 in grind (arith, nat_tests, is, within)
+
+piece_by : (b : Bool) (text : List ℕ) (n : ℕ) → nat_le (length text) 128 ≡ b → n ≤ 128 → IsCharBoundary text n → ((i : ℕ) → n < i → i ≤ 128 → ¬ (IsCharBoundary text i)) → (if b then length text else boundary_up_to text 128) ≡ n
+piece_by true text n is below at nearest = whole_by (nat_lt n (length text)) text n refl (leb-true (length text) 128 is) at nearest
+piece_by false text n is below at nearest = up_to text 128 n below (grind (arith, nat_tests, is)) at nearest
+
+pub piece_is : (text : List ℕ) (n : ℕ) → n ≤ 128 → IsCharBoundary text n → ((i : ℕ) → n < i → i ≤ 128 → ¬ (IsCharBoundary text i)) → n ≡ piece_length text
+piece_is text n below at nearest = sym (piece_by (nat_le (length text) 128) text n refl below at nearest)

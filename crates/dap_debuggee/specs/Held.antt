@@ -47,10 +47,10 @@ last_of r (last.Done asked) = Some (record { asked = asked; reply = done })
 last_of r (last.Refused asked) = Some (record { asked = asked; reply = refused })
 last_of r (last.Polled g) = Some (record { asked = Poll; reply = happened (given_of r g) })
 
--- what is told of a moment's output ends a character
+-- what is told of a moment's output is nothing, or ends a character
 abbrev pub IsToldWhole : List Moment → Option Going → Type 0
 IsToldWhole moments None = Unit {0}
-IsToldWhole moments (Some g) = IsCharBoundary (output_in moments g.moment) g.told
+IsToldWhole moments (Some g) = (g.told ≡ 0) ⊎ IsCharBoundary (output_in moments g.moment) g.told
 
 -- an act counted and remembered
 abbrev pub noted : Option Last → Played → Played
