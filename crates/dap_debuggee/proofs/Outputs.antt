@@ -1,7 +1,9 @@
 -- What is still to be written, as the code walks over the moments.
-use Rattle.std.proofs.Common.{◌≡◌, ℕ, zero, suc, ◌+◌, ◌-◌, ◌≤◌, ◌<◌, List, [], ◌∷◌, map, take, drop, length, Option, Some, None, option_map, unwrap_or, refl, sym, ap, ◌∙◌, arith}
+use Rattle.std.proofs.Common.{◌≡◌, ℕ, zero, suc, ◌+◌, ◌-◌, ◌≤◌, ◌<◌, List, [], ◌∷◌, map, take, drop, length, Option, Some, None, option_map, unwrap_or, refl, sym, ap, subst, inl, inr, length-drop, ◌∙◌, arith}
 use Rattle.std.specs.List.{slice_get}
-use Rattle.dap_debuggee.specs.Held.{without, output_left}
+use Rattle.std.specs.Str.{IsCharBoundary}
+use Rattle.std.proofs.lemmas.List.{drop-drop, get_or-drop}
+use Rattle.dap_debuggee.specs.Held.{without, output_left, output_in, IsReady}
 use Rattle.dap_debuggee.specs.Played.{output_of, first_piece, piece_length}
 use Rattle.dap_debuggee.specs.declared.recording.Moment.{Moment}
 use Rattle.dap_debuggee.specs.declared.recorded.Going.{Going}
@@ -63,3 +65,32 @@ left_next moments g m within is past =
     ∙ ap (λ n. first_piece (map (λ (m : Moment). m.output) (take n (drop (suc g.moment) moments)))) count
     ∙ ap (λ text. first_piece (text ∷ map (λ (m : Moment). m.output) (take (g.last - g.moment) (drop (suc g.moment) moments)))) (sym (drop_past g.told m.output past))
     ∙ ap first_piece (sym (left_here moments g m within is))
+
+-- ---- a piece
+
+first_of_some : (text : List ℕ) (others : List (List ℕ)) → 0 < length text → first_piece (text ∷ others) ≡ Some (take (piece_length text) text, drop (piece_length text) text ∷ others)
+first_of_some [] others some = absurd (omega (arith, some))
+first_of_some (c ∷ cs) others some = refl
+
+pub ready_told : (moments : List Moment) (g : Going) (m : Moment) → IsReady moments g → g.moment ≤ g.last → slice_get moments g.moment ≡ Some m → g.told < length m.output
+ready_told moments g m (inl none) within is = let never = sym (left_here moments g m within is) ∙ none in absurd (cc never)
+ready_told moments g m (inr (within, n, at, told)) w is = subst (λ (x : Moment). g.told < length x.output) (some_same n m (sym at ∙ is)) told
+
+pub told_piece : (moments : List Moment) (g : Going) (m : Moment) (n : ℕ) → g.moment ≤ g.last → slice_get moments g.moment ≡ Some m → g.told < length m.output → n ≡ piece_length (drop g.told m.output)
+    → first_piece (output_left moments g) ≡ Some (take n (drop g.told m.output), output_left moments (record { moment = g.moment; told = g.told + n; last = g.last; to = g.to; paused = g.paused }))
+told_piece moments g m n within is told long =
+    let others = map (λ (m : Moment). m.output) (take (g.last - g.moment) (drop (suc g.moment) moments)) in
+    let some : 0 < length (drop g.told m.output) = rw (length-drop g.told m.output) (omega (arith, told)) in
+    ap first_piece (left_here moments g m within is)
+    ∙ first_of_some (drop g.told m.output) others some
+    ∙ ap (λ k. Some (take k (drop g.told m.output), drop k (drop g.told m.output) ∷ others)) (sym long)
+    ∙ ap (λ text. Some (take n (drop g.told m.output), text ∷ others)) (drop-drop n g.told m.output)
+    ∙ ap (λ left. Some (take n (drop g.told m.output), left)) (sym (left_here moments (record { moment = g.moment; told = g.told + n; last = g.last; to = g.to; paused = g.paused }) m within is))
+
+pub told_whole : (text : List ℕ) (told n : ℕ) → told < length text → IsCharBoundary (drop told text) n → IsCharBoundary text (told + n)
+told_whole text told n within at =
+    let long : length (drop told text) ≡ length text - told = length-drop told text in
+    (omega (arith, within, long, at.0), λ inside high. subst (λ c. 192 ≤ c) (get_or-drop told text n 0) (at.1 (omega (arith, within, long, inside)) (subst (λ c. 128 ≤ c) (sym (get_or-drop told text n 0)) high)))
+
+pub output_is : (moments : List Moment) (i : ℕ) (m : Moment) → slice_get moments i ≡ Some m → output_in moments i ≡ m.output
+output_is moments i m is = ap (λ o. unwrap_or (option_map (λ (m : Moment). m.output) o) []) is
