@@ -1,10 +1,13 @@
 -- What is still to be written, as the code walks over the moments.
-use Rattle.std.proofs.Common.{◌≡◌, ℕ, zero, suc, ◌+◌, ◌-◌, ◌≤◌, ◌<◌, List, [], ◌∷◌, map, take, drop, length, Option, Some, None, option_map, unwrap_or, refl, sym, ap, subst, inl, inr, length-drop, ◌∙◌, arith}
+use Rattle.std.proofs.Common.{Bool, true, false, if◌then◌else◌, ◌≡◌, ℕ, zero, suc, ◌+◌, ◌-◌, ◌≤◌, ◌<◌, List, [], ◌∷◌, map, take, drop, length, Option, Some, None, option_map, unwrap_or, refl, sym, ap, subst, inl, inr, length-drop, ◌∙◌, arith}
 use Rattle.std.specs.List.{slice_get}
 use Rattle.std.specs.Str.{IsCharBoundary}
 use Rattle.std.proofs.lemmas.List.{drop-drop, get_or-drop}
 use Rattle.dap_debuggee.specs.Held.{without, output_left, output_in, IsReady}
-use Rattle.dap_debuggee.specs.Played.{output_of, first_piece, piece_length}
+use Rattle.dap_debuggee.specs.Moves.{is_forward}
+use Rattle.dap_debuggee.specs.Played.{Played, running, resumed, move_from, output_of, written_on, first_piece, piece_length}
+use Rattle.dap_debuggee.specs.declared.answers.How.{How}
+use Rattle.dap_debuggee.specs.declared.moves.Move.{Move}
 use Rattle.dap_debuggee.specs.declared.recording.Moment.{Moment}
 use Rattle.dap_debuggee.specs.declared.recorded.Going.{Going}
 
@@ -94,3 +97,23 @@ told_whole text told n within at =
 
 pub output_is : (moments : List Moment) (i : ℕ) (m : Moment) → slice_get moments i ≡ Some m → output_in moments i ≡ m.output
 output_is moments i m is = ap (λ o. unwrap_or (option_map (λ (m : Moment). m.output) o) []) is
+
+-- ---- the beginning of a run
+
+by_way : (b : Bool) (moments : List Moment) (at to last : ℕ) (move : Move) → last ≡ (if b then to else at)
+    → output_left moments (record { moment = at + 1; told = 0; last = last; to = move; paused = false }) ≡ (if b then output_of moments (suc at) to else [])
+by_way true moments at to last move is =
+    let next : at + 1 ≡ suc at = omega arith in
+    without_none _ ∙ ap (λ k. map (λ (m : Moment). m.output) (take (suc last - k) (drop k moments))) next ∙ ap (λ n. map (λ (m : Moment). m.output) (take (suc n - suc at) (drop (suc at) moments))) is
+by_way false moments at to last move is = left_after moments (record { moment = at + 1; told = 0; last = last; to = move; paused = false }) (omega (arith, is))
+
+pub fresh_output : (how : How) (moments : List Moment) (at to last : ℕ) (move : Move) → last ≡ (if is_forward how then to else at)
+    → output_left moments (record { moment = at + 1; told = 0; last = last; to = move; paused = false }) ≡ written_on how moments at to
+fresh_output how moments at to last move is = by_way (is_forward how) moments at to last move is
+
+-- what goes on from the moment that is shown
+pub goes : (v : Played) (how : How) (move : Move) (last : ℕ) → move ≡ move_from how v → last ≡ (if is_forward how then move.to else v.at)
+    → running v.at (output_left v.recording.moments (record { moment = v.at + 1; told = 0; last = last; to = move; paused = false })) move v ≡ resumed how v
+goes v how move last is far =
+    ap (λ output. running v.at output move v) (fresh_output how v.recording.moments v.at move.to last move far)
+    ∙ ap (λ (m : Move). running v.at (written_on how v.recording.moments v.at m.to) m v) is

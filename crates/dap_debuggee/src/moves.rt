@@ -1,6 +1,6 @@
 //! Where a run of a recording goes: a walk over its moments.
 ghost use Rattle.std.specs.Prelude.{◌≡◌, ◌<◌, ◌≤◌, length, option_map, IfSome};
-ghost use Rattle.dap_debuggee.specs.Recording.{depth as depth_of, top as top_of};
+ghost use Rattle.dap_debuggee.specs.Recording.{depth as depth_of, top as top_of, id_at as thread_id_at};
 ghost use Rattle.dap_debuggee.specs.Moves.{reason_text, has_line as has_line_in, is_at_breakpoint as stands_at_breakpoint, is_forward as goes_forward};
 ghost use Rattle.dap_debuggee.specs.Played.{lines_in};
 
@@ -214,5 +214,15 @@ pub(crate) fn is_forward(how: How) -> bool
     match how {
         How::StepBack | How::ReverseContinue => false,
         _ => true,
+    }
+}
+
+/// The id of the thread that stands at a moment.
+pub(crate) fn id_at(moment: &Moment) -> i64
+    ensures { result ≡ thread_id_at moment.now }
+{
+    match moment.threads.as_slice().get(moment.thread) {
+        None => 0,
+        Some(thread) => thread.id,
     }
 }

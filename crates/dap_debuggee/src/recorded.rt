@@ -1,11 +1,14 @@
 //! A debuggee that plays a recorded run.
 ghost use Rattle.std.specs.Prelude.{◌≡◌, ◌<◌, length};
 ghost use Rattle.dap_debuggee.specs.Held.{last_of};
+ghost use Rattle.std.specs.Prelude.{if◌then◌else◌};
+ghost use Rattle.dap_debuggee.specs.Moves.{is_forward};
 ghost use Rattle.dap_debuggee.specs.Recording.{IsRecording};
 
-use crate::answers::{Asked, State};
+use crate::answers::{Asked, How, State};
 use crate::lines::SetLines;
-use crate::moves::{Move, Reason};
+use crate::moves;
+use crate::moves::{Move, Plan, Reason};
 use crate::recording::Recording;
 use std::alloc::Global;
 use std::marker::Model;
@@ -84,7 +87,7 @@ impl Model for Recorded {
 }
 
 impl Recorded {
-    ghost use Rattle.dap_debuggee.specs.Played.{unplayed};
+    ghost use Rattle.dap_debuggee.specs.Played.{unplayed, started, resumed};
     ghost use Rattle.dap_debuggee.specs.Recording.{IsRecording};
     ghost use Rattle.dap_debuggee.specs.Held.{noted};
 
@@ -111,4 +114,59 @@ impl Recorded {
         self.acts = self.acts.wrapping_add(1);
         self.last = last;
     }
+
+    /// What a move is decided by.
+    fn plan(&self) -> Plan<'_>
+        ensures sources { result.sources.now ≡ self.now.recording.sources }
+        ensures moments { result.moments.now ≡ self.now.recording.moments }
+        ensures set { result.set.now ≡ self.now.set }
+    {
+        Plan {
+            sources: self.recording.sources.as_slice(),
+            moments: self.recording.moments.as_slice(),
+            set: self.set.as_slice(),
+        }
+    }
+
+    /// Goes on from the moment that is shown.
+    fn go(&mut self, how: How)
+        ensures { self.new ≡ resumed how self.old }
+    {
+        let to = self.plan().movement(how, self.at);
+        let last = last_told(how, self.at, to.to);
+        self.going = Some(Going {
+            moment: self.at + 1,
+            told: 0,
+            last,
+            to,
+            paused: false,
+        });
+        self.state = State::Running;
+    }
+
+    /// Goes to the first moment.
+    fn begin(&mut self)
+        ensures { self.new ≡ started self.old }
+    {
+        self.going = Some(Going {
+            moment: 0,
+            told: 0,
+            last: 0,
+            to: Move {
+                to: 0,
+                held: false,
+                reason: Reason::Entry,
+            },
+            paused: false,
+        });
+        self.state = State::Running;
+        self.at = 0;
+    }
+}
+
+/// The last moment whose output is told on the way.
+fn last_told(how: How, at: usize, to: usize) -> usize
+    ensures { result ≡ (if is_forward how then to else at) }
+{
+    if moves::is_forward(how) { to } else { at }
 }
