@@ -1,6 +1,7 @@
 //! What is debugged.
 #![tactic(auto)]
 
+mod acts;
 mod answers;
 mod debuggee;
 mod lines;

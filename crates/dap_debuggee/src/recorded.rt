@@ -108,7 +108,7 @@ impl Recorded {
     }
 
     /// Counts and remembers an act.
-    fn note(&mut self, last: LastAsked)
+    pub(crate) fn note(&mut self, last: LastAsked)
         ensures { self.new ≡ noted (last_of self.old.recording last) self.old }
     {
         self.acts = self.acts.wrapping_add(1);
@@ -129,7 +129,7 @@ impl Recorded {
     }
 
     /// Goes on from the moment that is shown.
-    fn go(&mut self, how: How)
+    pub(crate) fn go(&mut self, how: How)
         ensures { self.new ≡ resumed how self.old }
     {
         let to = self.plan().movement(how, self.at);
@@ -145,7 +145,7 @@ impl Recorded {
     }
 
     /// Goes to the first moment.
-    fn begin(&mut self)
+    pub(crate) fn begin(&mut self)
         ensures { self.new ≡ started self.old }
     {
         self.going = Some(Going {

@@ -1,0 +1,84 @@
+//! What a recorded debuggee does when it is asked.
+ghost use Rattle.std.specs.Prelude.{◌≡◌, IfOk, OnOk, IsTrue};
+ghost use Rattle.dap_debuggee.specs.Shown.{to_start, to_resume, to_pause, to_poll, to_set_breakpoints, to_end, done, happened};
+ghost use Rattle.dap_debuggee.specs.Laws.{Replies, is_short};
+ghost use Rattle.dap_debuggee.specs.Played.{FollowsPlayed};
+
+use crate::answers::{Asked, DebuggeeFault, How, State};
+use crate::recorded::{Going, LastAsked, Recorded};
+use std::alloc::AllocError;
+
+impl Recorded {
+    ghost use Rattle.std.specs.Prelude.{◌≡◌, ◌<◌, length, IfOk, OnOk, IsTrue};
+    ghost use Rattle.dap_debuggee.specs.Shown.{to_start, to_resume, to_pause, to_poll, to_set_breakpoints, to_end, done, happened};
+    ghost use Rattle.dap_debuggee.specs.Laws.{Replies, is_short};
+    ghost use Rattle.dap_debuggee.specs.Played.{FollowsPlayed, resting};
+
+    pub(crate) fn to_start(&mut self) -> Result<(), DebuggeeFault>
+        ensures { Replies result (λ reply. FollowsPlayed self.old to_start reply self.new) }
+    {
+        match self.state {
+            State::NotStarted => {
+                self.begin();
+                self.note(LastAsked::Done(Asked::Start));
+                Ok(())
+            }
+            State::Running | State::Stopped | State::Gone => {
+                self.note(LastAsked::Refused(Asked::Start));
+                Err(DebuggeeFault::Refused)
+            }
+        }
+    }
+
+    pub(crate) fn to_resume(&mut self, how: How, thread: i64) -> Result<(), DebuggeeFault>
+        ensures { Replies result (λ reply. FollowsPlayed self.old (to_resume how thread) reply self.new) }
+    {
+        match self.state {
+            State::Stopped => {
+                self.go(how);
+                self.note(LastAsked::Done(Asked::Resume { how, thread }));
+                Ok(())
+            }
+            State::NotStarted | State::Running | State::Gone => {
+                self.note(LastAsked::Refused(Asked::Resume { how, thread }));
+                Err(DebuggeeFault::Refused)
+            }
+        }
+    }
+
+    pub(crate) fn to_pause(&mut self) -> Result<(), DebuggeeFault>
+        ensures { Replies result (λ reply. FollowsPlayed self.old to_pause reply self.new) }
+    {
+        match (self.state, self.going) {
+            (State::Running, Some(going)) => {
+                self.going = Some(Going {
+                    paused: true,
+                    ..going
+                });
+                self.note(LastAsked::Done(Asked::Pause));
+                Ok(())
+            }
+            _ => {
+                self.note(LastAsked::Refused(Asked::Pause));
+                Err(DebuggeeFault::Refused)
+            }
+        }
+    }
+
+    /// Rests at a moment, or is gone.
+    fn rest(&mut self, state: State, at: usize)
+        requires { at < length self.old.recording.moments }
+        ensures { self.new ≡ resting state at self.old }
+    {
+        self.state = state;
+        self.at = at;
+        self.going = None;
+    }
+
+    pub(crate) fn to_end(&mut self)
+        ensures { FollowsPlayed self.old to_end done self.new }
+    {
+        self.rest(State::Gone, self.at);
+        self.note(LastAsked::Done(Asked::End));
+    }
+}
