@@ -67,3 +67,7 @@ noted last v = record {
 -- nothing is left, or the output of its moment is not used up
 abbrev pub IsReady : List Moment → Going → Type 0
 IsReady moments g = (output_left moments g ≡ []) ⊎ ((g.moment ≤ g.last) × (m : Moment) × (slice_get moments g.moment ≡ Some m) × (g.told < length m.output))
+
+-- a run whose output is all told
+abbrev pub rest_of : Going → Run
+rest_of g = record { output = []; move = g.to; paused = g.paused }

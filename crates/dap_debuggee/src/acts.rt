@@ -66,7 +66,7 @@ impl Recorded {
     }
 
     /// Rests at a moment, or is gone.
-    fn rest(&mut self, state: State, at: usize)
+    pub(crate) fn rest(&mut self, state: State, at: usize)
         requires { at < length self.old.recording.moments }
         ensures { self.new ≡ resting state at self.old }
     {

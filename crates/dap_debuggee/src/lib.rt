@@ -7,6 +7,7 @@ mod debuggee;
 mod lines;
 mod list;
 mod moves;
+mod polls;
 mod recorded;
 mod recording;
 mod run;
