@@ -5,8 +5,13 @@ use Rattle.std.specs.Str.{IsCharBoundary}
 use Rattle.std.proofs.lemmas.List.{drop-drop, get_or-drop}
 use Rattle.dap_debuggee.specs.Held.{without, output_left, output_in, IsReady}
 use Rattle.dap_debuggee.specs.Moves.{is_forward}
-use Rattle.dap_debuggee.specs.Played.{Played, running, resumed, move_from, output_of, written_on, first_piece, piece_length}
+use Rattle.dap_debuggee.specs.Played.{FollowsPlayed, Run, asked, polled, ran, arrived, with_run, Played, running, resumed, move_from, output_of, written_on, first_piece, piece_length}
 use Rattle.dap_debuggee.specs.declared.answers.How.{How}
+use Rattle.dap_debuggee.specs.Shown.{to_poll, happened}
+use Rattle.dap_debuggee.specs.declared.answers.State.TheVariants.{Running}
+use Rattle.dap_debuggee.specs.declared.answers.Category.TheVariants.{Stdout}
+use Rattle.dap_debuggee.specs.declared.answers.Happening.{Happening}
+use Rattle.dap_debuggee.specs.declared.answers.Happening.TheVariants as happening
 use Rattle.dap_debuggee.specs.declared.moves.Move.{Move}
 use Rattle.dap_debuggee.specs.declared.recording.Moment.{Moment}
 use Rattle.dap_debuggee.specs.declared.recorded.Going.{Going}
@@ -117,3 +122,26 @@ pub goes : (v : Played) (how : How) (move : Move) (last : ℕ) → move ≡ move
 goes v how move last is far =
     ap (λ output. running v.at output move v) (fresh_output how v.recording.moments v.at move.to last move far)
     ∙ ap (λ (m : Move). running v.at (written_on how v.recording.moments v.at m.to) m v) is
+
+-- ---- a poll
+
+pub ready_none : (moments : List Moment) (g : Going) → IsReady moments g → first_piece (output_left moments g) ≡ None → output_left moments g ≡ []
+ready_none moments g (inl none) no_piece = none
+ready_none moments g (inr (within, m, at, told)) no_piece =
+    let never = sym (told_piece moments g m (piece_length (drop g.told m.output)) within at told refl) ∙ no_piece in absurd (cc never)
+
+pub poll_tells : (v w : Played) (run : Run) (piece : List ℕ) (rest : List (List ℕ)) → v.state ≡ Running → v.run ≡ Some run → first_piece run.output ≡ Some (piece, rest)
+    → w ≡ asked to_poll (happened (happening.Output Stdout piece)) (with_run (record { output = rest; move = run.move; paused = run.paused }) v)
+    → FollowsPlayed v to_poll (happened (happening.Output Stdout piece)) w
+poll_tells v w run piece rest runs going is after =
+    let given : polled v.state v.run v ≡ (happening.Output Stdout piece, with_run (record { output = rest; move = run.move; paused = run.paused }) v) =
+      ap (λ s. polled s v.run v) runs ∙ ap (λ r. polled Running r v) going ∙ ap (λ p. ran run p v) is in
+    record { reply = sym (ap (λ p. happened p.0) given); view = after ∙ sym (ap (λ p. asked to_poll (happened (happening.Output Stdout piece)) p.1) given) }
+
+pub poll_ends : (v w : Played) (run : Run) (h : Happening) → v.state ≡ Running → v.run ≡ Some run → first_piece run.output ≡ None
+    → h ≡ (arrived run v).0 → w ≡ asked to_poll (happened h) (arrived run v).1
+    → FollowsPlayed v to_poll (happened h) w
+poll_ends v w run h runs going is what after =
+    let given : polled v.state v.run v ≡ arrived run v =
+      ap (λ s. polled s v.run v) runs ∙ ap (λ r. polled Running r v) going ∙ ap (λ p. ran run p v) is in
+    record { reply = ap happened what ∙ sym (ap (λ p. happened p.0) given); view = after ∙ sym (ap (λ p. asked to_poll (happened h) p.1) given) }

@@ -13,7 +13,7 @@ impl Recorded {
     ghost use Rattle.std.specs.Prelude.{◌≡◌, [], Some, IfOk, IsTrue};
     ghost use Rattle.dap_debuggee.specs.Shown.{to_poll, happened};
     ghost use Rattle.dap_debuggee.specs.Laws.{is_short};
-    ghost use Rattle.dap_debuggee.specs.Held.{output_left, rest_of, IsToldWhole};
+    ghost use Rattle.dap_debuggee.specs.Held.{output_left, run_of, rest_of, IsToldWhole};
     ghost use Rattle.dap_debuggee.specs.Played.{FollowsPlayed, asked, arrived};
 
     /// How a run ends whose output is all told: it is held, or stops, or exits.
@@ -44,5 +44,44 @@ impl Recorded {
             moment: to.to,
         }));
         Ok(Happening::Stopped { reason, thread })
+    }
+
+    pub(crate) fn to_poll(&mut self, alloc: Global) -> Result<Happening, AllocError>
+        ensures follows { IfOk result (λ h. FollowsPlayed self.old to_poll (happened h) self.new) }
+        ensures in_range { IfOk result (λ h. IsTrue (is_short h)) }
+    {
+        match (self.state, self.going) {
+            (State::Running, Some(going)) => self.tell(alloc, going),
+            _ => {
+                self.note(LastAsked::Polled(Given::Nothing));
+                Ok(Happening::Nothing)
+            }
+        }
+    }
+
+    /// The next piece of output of a run, or how it ends.
+    fn tell(&mut self, alloc: Global, going: Going) -> Result<Happening, AllocError>
+        requires whole { IsToldWhole self.old.recording.moments (Some going) }
+        requires runs { self.old.state ≡ State.Running }
+        requires going { self.old.run ≡ run_of self.old.recording.moments (Some going) }
+        ensures follows { IfOk result (λ h. FollowsPlayed self.old to_poll (happened h) self.new) }
+        ensures in_range { IfOk result (λ h. IsTrue (is_short h)) }
+    {
+        let moments = self.recording.moments.as_slice();
+        let going = run::skipped(moments, going);
+        let Some((piece, after)) = run::next_piece(moments, going) else {
+            return self.arrive(alloc, going);
+        };
+        let text = Text::copied(alloc, piece)?;
+        self.going = Some(after);
+        self.note(LastAsked::Polled(Given::Output {
+            moment: going.moment,
+            from: going.told,
+            to: after.told,
+        }));
+        Ok(Happening::Output {
+            category: Category::Stdout,
+            text,
+        })
     }
 }
