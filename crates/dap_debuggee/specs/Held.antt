@@ -1,10 +1,13 @@
 -- How the code holds a run and the last act, and what that amounts to.
 -- Only private clauses, invariants and proofs cite this file.
-use Rattle.std.specs.Prelude.{◌≡◌, ◌⊎◌, ◌≤◌, ◌+◌, ◌%◌, ◌^◌, ℕ, suc, ◌-◌, ◌<◌, length, List, [], ◌∷◌, map, take, drop, Option, Some, None, option_map, unwrap_or, pos}
+use Rattle.std.specs.Prelude.{if◌then◌else◌, ◌≡◌, ◌⊎◌, ◌≤◌, ◌+◌, ◌%◌, ◌^◌, ℕ, suc, ◌-◌, ◌<◌, length, List, [], ◌∷◌, map, take, drop, Option, Some, None, option_map, unwrap_or, pos}
 use Rattle.std.specs.List.{slice_get}
 use Rattle.std.specs.Str.{IsCharBoundary}
 use Rattle.dap_debuggee.specs.Shown.{Reply, done, refused, happened, Last}
+use Rattle.dap_call.specs.declared.call.SourceKey.{SourceKey}
+use Rattle.dap_debuggee.specs.Laws.{is_source}
 use Rattle.dap_debuggee.specs.Recording.{id_at}
+use Rattle.dap_debuggee.specs.declared.lines.SetLines.{SetLines}
 use Rattle.dap_debuggee.specs.Moves.{reason_text}
 use Rattle.dap_debuggee.specs.Played.{Played, Run}
 use Rattle.dap_debuggee.specs.declared.answers.Asked.TheVariants.{Poll}
@@ -71,3 +74,8 @@ IsReady moments g = (output_left moments g ≡ []) ⊎ ((g.moment ≤ g.last) ×
 -- a run whose output is all told
 abbrev pub rest_of : Going → Run
 rest_of g = record { output = []; move = g.to; paused = g.paused }
+
+-- the place of a source's lines, or the length
+abbrev pub place_in : List SetLines → SourceKey → ℕ
+place_in [] key = 0
+place_in (s ∷ set) key = if is_source s.source key then 0 else suc (place_in set key)

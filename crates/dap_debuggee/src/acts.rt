@@ -6,7 +6,9 @@ ghost use Rattle.dap_debuggee.specs.Played.{FollowsPlayed};
 
 use crate::answers::{Asked, DebuggeeFault, How, State};
 use crate::recorded::{Going, LastAsked, Recorded};
-use std::alloc::AllocError;
+use crate::lines;
+use dap_call::SourceKey;
+use std::alloc::{AllocError, Global};
 
 impl Recorded {
     ghost use Rattle.std.specs.Prelude.{◌≡◌, ◌<◌, length, IfOk, OnOk, IsTrue};
@@ -80,5 +82,25 @@ impl Recorded {
     {
         self.rest(State::Gone, self.at);
         self.note(LastAsked::Done(Asked::End));
+    }
+
+    #[tactic(auto, using(crate::proofs::Setting::replaced_there, crate::proofs::Setting::replaced_new))]
+    pub(crate) fn to_set(
+        &mut self,
+        alloc: Global,
+        source: &SourceKey,
+        lines: &[u32],
+    ) -> Result<(), AllocError>
+        ensures { OnOk result (FollowsPlayed self.old (to_set_breakpoints source.now lines.now) done self.new) }
+    {
+        let entry = lines::entry(alloc, source, lines)?;
+        let place = lines::place(self.set.as_slice(), source);
+        if place < self.set.len() {
+            self.set[place] = entry;
+        } else {
+            self.set.push(entry)?;
+        }
+        self.note(LastAsked::Done(Asked::SetBreakpoints));
+        Ok(())
     }
 }
