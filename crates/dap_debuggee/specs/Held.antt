@@ -1,7 +1,10 @@
 -- How the code holds a run and the last act, and what that amounts to.
 -- Only private clauses, invariants and proofs cite this file.
-use Rattle.std.specs.Prelude.{if◌then◌else◌, ◌≡◌, ◌⊎◌, ◌≤◌, ◌+◌, ◌%◌, ◌^◌, ℕ, suc, ◌-◌, ◌<◌, length, List, [], ◌∷◌, map, take, drop, Option, Some, None, option_map, unwrap_or, pos}
-use Rattle.std.specs.List.{slice_get}
+use Rattle.std.specs.Prelude.{ℤ, Bool, zero, max, false, bytes_eq, if◌then◌else◌, ◌≡◌, ◌⊎◌, ◌≤◌, ◌+◌, ◌%◌, ◌^◌, ℕ, suc, ◌-◌, ◌<◌, length, List, [], ◌∷◌, map, take, drop, Option, Some, None, option_map, unwrap_or, pos}
+use Rattle.std.specs.List.{slice_get, find}
+use Rattle.std.specs.Ordering.{int_eq}
+use Rattle.dap_debuggee.specs.declared.answers.Variable.{Variable}
+use Rattle.dap_debuggee.specs.declared.recording.RecordedThread.{RecordedThread}
 use Rattle.std.specs.Str.{IsCharBoundary}
 use Rattle.dap_debuggee.specs.Shown.{Reply, done, refused, happened, Last}
 use Rattle.dap_call.specs.declared.call.SourceKey.{SourceKey}
@@ -14,6 +17,8 @@ use Rattle.dap_debuggee.specs.declared.answers.Asked.TheVariants.{Poll}
 use Rattle.dap_debuggee.specs.declared.answers.Category.TheVariants.{Stdout}
 use Rattle.dap_debuggee.specs.declared.answers.Happening.{Happening}
 use Rattle.dap_debuggee.specs.declared.answers.Happening.TheVariants as happening
+use Rattle.dap_call.specs.declared.call.SourceKey.TheVariants.{Path, Reference}
+use Rattle.dap_debuggee.specs.declared.recording.RecordedSource.{RecordedSource}
 use Rattle.dap_debuggee.specs.declared.recording.Moment.{Moment}
 use Rattle.dap_debuggee.specs.declared.recording.Recording.{Recording}
 use Rattle.dap_debuggee.specs.declared.recorded.Going.{Going}
@@ -79,3 +84,25 @@ rest_of g = record { output = []; move = g.to; paused = g.paused }
 abbrev pub place_in : List SetLines → SourceKey → ℕ
 place_in [] key = 0
 place_in (s ∷ set) key = if is_source s.source key then 0 else suc (place_in set key)
+
+-- how many lines the longest source of a path has
+abbrev pub is_of_path : List ℕ → RecordedSource → Bool
+is_of_path path source = unwrap_or (option_map (bytes_eq path) source.path) false
+
+abbrev pub path_lines_of : List ℕ → RecordedSource → ℕ
+path_lines_of path source = if is_of_path path source then source.lines else 0
+
+abbrev pub most_lines : List ℕ → List RecordedSource → ℕ
+most_lines path [] = 0
+most_lines path (source ∷ sources) = max (path_lines_of path source) (most_lines path sources)
+
+abbrev pub lines_of_key : List RecordedSource → SourceKey → ℕ
+lines_of_key sources (Path path) = most_lines path sources
+lines_of_key sources (Reference zero) = 0
+lines_of_key sources (Reference (suc n)) = unwrap_or (option_map (λ source. source.lines) (slice_get sources n)) 0
+
+abbrev pub held_by : List (List Variable) → ℕ → List Variable
+held_by variables holder = unwrap_or (slice_get variables holder) []
+
+abbrev pub thread_with : ℤ → List RecordedThread → Option RecordedThread
+thread_with id threads = find (λ thread. int_eq id thread.id) threads

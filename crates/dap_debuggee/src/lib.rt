@@ -8,6 +8,7 @@ mod lines;
 mod list;
 mod moves;
 mod polls;
+mod queries;
 mod recorded;
 mod recording;
 mod run;

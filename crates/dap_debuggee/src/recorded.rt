@@ -5,12 +5,15 @@ ghost use Rattle.std.specs.Prelude.{if◌then◌else◌};
 ghost use Rattle.dap_debuggee.specs.Moves.{is_forward};
 ghost use Rattle.dap_debuggee.specs.Recording.{IsRecording};
 
-use crate::answers::{Asked, How, State};
+use crate::answers::{Asked, DebuggeeFault, Evaluation, Frame, Happening, How, Scope, Source, State, Thread, Variable};
+use crate::debuggee::Debuggee;
 use crate::lines::SetLines;
 use crate::moves;
 use crate::moves::{Move, Plan, Reason};
 use crate::recording::Recording;
-use std::alloc::Global;
+use dap_call::SourceKey;
+use dap_json::Text;
+use std::alloc::{AllocError, Global};
 use std::marker::Model;
 
 /// The rest of a run.
@@ -169,4 +172,104 @@ fn last_told(how: How, at: usize, to: usize) -> usize
     ensures { result ≡ (if is_forward how then to else at) }
 {
     if moves::is_forward(how) { to } else { at }
+}
+
+impl Debuggee for Recorded {
+    ghost use Rattle.dap_debuggee.specs.Played.{shown_of, FollowsPlayed};
+    ghost use Rattle.dap_debuggee.specs.PlayedLaws.{counts-played, remembers-played, answers-played, moves-played, sets_lines-played, keeps_answers-played, keeps_frames-played, keeps_sources-played, no_threads-played, verifies_each-played};
+
+    ghost shown = { shown_of };
+
+    ghost follows = { FollowsPlayed };
+
+    fn start(&mut self, _alloc: Global) -> Result<(), DebuggeeFault> {
+        self.to_start()
+    }
+
+    fn resume(&mut self, _alloc: Global, how: How, thread: i64) -> Result<(), DebuggeeFault> {
+        self.to_resume(how, thread)
+    }
+
+    fn pause(&mut self, _alloc: Global) -> Result<(), DebuggeeFault> {
+        self.to_pause()
+    }
+
+    fn poll(&mut self, alloc: Global) -> Result<Happening, AllocError> {
+        self.to_poll(alloc)
+    }
+
+    fn set_breakpoints(
+        &mut self,
+        alloc: Global,
+        source: &SourceKey,
+        lines: &[u32],
+    ) -> Result<(), AllocError> {
+        self.to_set(alloc, source, lines)
+    }
+
+    fn end(&mut self) {
+        self.to_end()
+    }
+
+    fn threads(&self, alloc: Global) -> Result<Vec<Thread>, AllocError> {
+        self.all_threads(alloc)
+    }
+
+    fn frames(&self, alloc: Global, thread: i64) -> Result<Vec<Frame>, DebuggeeFault> {
+        self.frames_of(alloc, thread)
+    }
+
+    fn scopes(&self, alloc: Global, frame: u64) -> Result<Vec<Scope>, DebuggeeFault> {
+        self.scopes_of(alloc, frame)
+    }
+
+    fn children(&self, alloc: Global, holder: u64) -> Result<Vec<Variable>, DebuggeeFault> {
+        self.children_of(alloc, holder)
+    }
+
+    fn evaluate(
+        &self,
+        _alloc: Global,
+        frame: Option<u64>,
+        text: &str,
+    ) -> Result<Evaluation, DebuggeeFault> {
+        self.value_of(frame, text)
+    }
+
+    fn sources(&self, alloc: Global) -> Result<Vec<Source>, AllocError> {
+        self.all_sources(alloc)
+    }
+
+    fn content(&self, _alloc: Global, index: u32) -> Result<Text, DebuggeeFault> {
+        self.text_of(index)
+    }
+
+    fn verify(
+        &self,
+        alloc: Global,
+        source: &SourceKey,
+        lines: &[u32],
+    ) -> Result<Vec<bool>, DebuggeeFault> {
+        self.verify_all(alloc, source, lines)
+    }
+
+    ghost counts = { counts-played };
+
+    ghost remembers = { remembers-played };
+
+    ghost answers = { answers-played };
+
+    ghost moves = { moves-played };
+
+    ghost sets_lines = { sets_lines-played };
+
+    ghost keeps_answers = { keeps_answers-played };
+
+    ghost keeps_frames = { keeps_frames-played };
+
+    ghost keeps_sources = { keeps_sources-played };
+
+    ghost no_threads = { no_threads-played };
+
+    ghost verifies_each = { verifies_each-played };
 }

@@ -1,0 +1,304 @@
+//! What a recorded debuggee tells of the moment that it shows.
+ghost use Rattle.std.specs.Prelude.{◌≡◌, ◌&&◌, nat_le, IfOk, map, option_map};
+ghost use Rattle.dap_debuggee.specs.Held.{most_lines as most_lines_of, lines_of_key, is_of_path, held_by, thread_with};
+ghost use Rattle.dap_debuggee.specs.Played.{variable_named, value_in as value_within, source_shown, thread_shown};
+
+use crate::answers::{DebuggeeFault, Evaluation, Frame, Scope, Source, State, Thread, Variable};
+use crate::list::List;
+use crate::recorded::Recorded;
+use crate::recording::{RecordedSource, RecordedThread};
+use dap_call::SourceKey;
+use dap_json::Text;
+use std::alloc::{AllocError, Global};
+
+impl From<AllocError> for DebuggeeFault {
+    ghost use Rattle.dap_debuggee.specs.declared.answers.DebuggeeFault.TheVariants.{OutOfMemory};
+
+    ghost from_gives = { λ _ e. e ≡ OutOfMemory };
+
+    fn from(_e: AllocError) -> DebuggeeFault {
+        DebuggeeFault::OutOfMemory
+    }
+}
+
+fn threads(alloc: Global, threads: &[RecordedThread]) -> Result<Vec<Thread>, AllocError>
+    ensures { IfOk result (λ shown. shown.items ≡ map thread_shown threads.now) }
+{
+    let mut shown = Vec::new(alloc);
+    for thread in threads {
+        shown.push(Thread {
+            id: thread.id,
+            name: thread.name.clone()?,
+        })?;
+    }
+    Ok(shown)
+}
+
+fn frames(alloc: Global, frames: &[Frame]) -> Result<Vec<Frame>, AllocError>
+    ensures { IfOk result (λ copy. copy.items ≡ frames.now) }
+{
+    let mut copy = Vec::new(alloc);
+    for frame in frames {
+        copy.push(Frame {
+            object: frame.object,
+            name: frame.name.clone()?,
+            source: frame.source,
+            line: frame.line,
+        })?;
+    }
+    Ok(copy)
+}
+
+fn scopes(alloc: Global, scopes: &[Scope]) -> Result<Vec<Scope>, AllocError>
+    ensures { IfOk result (λ copy. copy.items ≡ scopes.now) }
+{
+    let mut copy = Vec::new(alloc);
+    for scope in scopes {
+        copy.push(Scope {
+            name: scope.name.clone()?,
+            holder: scope.holder,
+        })?;
+    }
+    Ok(copy)
+}
+
+fn variables(alloc: Global, variables: &[Variable]) -> Result<Vec<Variable>, AllocError>
+    ensures { IfOk result (λ copy. copy.items ≡ variables.now) }
+{
+    let mut copy = Vec::new(alloc);
+    for variable in variables {
+        copy.push(Variable {
+            name: variable.name.clone()?,
+            value: variable.value.clone()?,
+            holder: variable.holder,
+        })?;
+    }
+    Ok(copy)
+}
+
+fn copied_path(path: &Option<Text>) -> Result<Option<Text>, AllocError>
+    ensures { IfOk result (λ copy. copy ≡ path.now) }
+{
+    match path {
+        None => Ok(None),
+        Some(path) => Ok(Some(path.clone()?)),
+    }
+}
+
+fn sources(alloc: Global, sources: &[RecordedSource]) -> Result<Vec<Source>, AllocError>
+    ensures { IfOk result (λ shown. shown.items ≡ map source_shown sources.now) }
+{
+    let mut shown = Vec::new(alloc);
+    for source in sources {
+        shown.push(Source {
+            name: source.name.clone()?,
+            path: copied_path(&source.path)?,
+        })?;
+    }
+    Ok(shown)
+}
+
+/// The first variable with a name.
+fn named<'v>(variables: &'v [Variable], name: &str) -> Option<&'v Variable>
+    ensures { option_map (λ v. v.now) result ≡ variable_named name.now variables.now }
+{
+    for variable in variables {
+        if name == variable.name.as_str() {
+            return Some(variable);
+        }
+    }
+    None
+}
+
+/// The first variable with a name in a scope.
+fn value_of<'r>(
+    variables: &'r [List<Variable>],
+    name: &str,
+    scope: &Scope,
+) -> Option<&'r Variable>
+    ensures { option_map (λ v. v.now) result ≡ variable_named name.now (held_by variables.now scope.now.holder) }
+{
+    named(variables.get(scope.holder as usize)?.as_slice(), name)
+}
+
+/// The first variable with a name directly in one of the scopes, in order.
+fn value_in<'r>(
+    variables: &'r [List<Variable>],
+    name: &str,
+    scopes: &[Scope],
+) -> Option<&'r Variable>
+    ensures { option_map (λ v. v.now) result ≡ value_within variables.now name.now scopes.now }
+{
+    for scope in scopes {
+        if let Some(variable) = value_of(variables, name, scope) {
+            return Some(variable);
+        }
+    }
+    None
+}
+
+fn is_path(source: &RecordedSource, path: &str) -> bool
+    ensures { result ≡ is_of_path path.now source.now }
+{
+    match &source.path {
+        None => false,
+        Some(p) => path == p.as_str(),
+    }
+}
+
+/// How many lines the longest source with a path has.
+fn most_lines(sources: &[RecordedSource], path: &str) -> u64
+    ensures { result ≡ most_lines_of path.now sources.now }
+{
+    let mut most = 0;
+    for source in sources {
+        if is_path(source, path) && source.lines > most {
+            most = source.lines;
+        }
+    }
+    most
+}
+
+/// How many lines a source has; the longest one where several have its path.
+fn lines_of(sources: &[RecordedSource], source: &SourceKey) -> u64
+    ensures { result ≡ lines_of_key sources.now source.now }
+{
+    match source {
+        SourceKey::Path(path) => most_lines(sources, path.as_str()),
+        SourceKey::Reference(0) => 0,
+        SourceKey::Reference(n) => match sources.get(*n as usize - 1) {
+            None => 0,
+            Some(source) => source.lines,
+        },
+    }
+}
+
+fn verified(alloc: Global, most: u64, lines: &[u32]) -> Result<Vec<bool>, AllocError>
+    ensures { IfOk result (λ answers. answers.items ≡ map (λ line. nat_le 1 line && nat_le line most) lines.now) }
+{
+    let mut answers = Vec::new(alloc);
+    for line in lines {
+        answers.push(1 <= *line && *line as u64 <= most)?;
+    }
+    Ok(answers)
+}
+
+impl Recorded {
+    ghost use Rattle.std.specs.Prelude.{◌≡◌, IfOk, map, option_map};
+    ghost use Rattle.dap_debuggee.specs.Laws.{Tells};
+    ghost use Rattle.dap_debuggee.specs.Played.{threads_at, thread_shown, shown_of};
+
+    /// The threads of the moment that is shown; none before the start and after the end.
+    fn here(&self) -> &[RecordedThread]
+        ensures { result.now ≡ threads_at self.now }
+    {
+        match self.state {
+            State::NotStarted | State::Gone => &[],
+            State::Running | State::Stopped => {
+                match self.recording.moments.as_slice().get(self.at) {
+                    None => &[],
+                    Some(moment) => moment.threads.as_slice(),
+                }
+            }
+        }
+    }
+
+    pub(crate) fn all_threads(&self, alloc: Global) -> Result<Vec<Thread>, AllocError>
+        ensures { IfOk result (λ threads. threads.items ≡ (shown_of self.now).threads) }
+    {
+        threads(alloc, self.here())
+    }
+
+    pub(crate) fn all_sources(&self, alloc: Global) -> Result<Vec<Source>, AllocError>
+        ensures { IfOk result (λ sources. sources.items ≡ (shown_of self.now).sources) }
+    {
+        sources(alloc, self.recording.sources.as_slice())
+    }
+
+    pub(crate) fn frames_of(&self, alloc: Global, id: i64) -> Result<Vec<Frame>, DebuggeeFault>
+        ensures { Tells result (λ frames. frames.items) ((shown_of self.now).frames id) }
+    {
+        match thread_of(self.here(), id) {
+            None => Err(DebuggeeFault::Refused),
+            Some(thread) => Ok(frames(alloc, thread.frames.as_slice())?),
+        }
+    }
+
+    pub(crate) fn scopes_of(&self, alloc: Global, frame: u64) -> Result<Vec<Scope>, DebuggeeFault>
+        ensures { Tells result (λ scopes. scopes.items) ((shown_of self.now).scopes frame) }
+    {
+        match self.recording.scopes.as_slice().get(frame as usize) {
+            None => Err(DebuggeeFault::Refused),
+            Some(found) => Ok(scopes(alloc, found.as_slice())?),
+        }
+    }
+
+    pub(crate) fn children_of(
+        &self,
+        alloc: Global,
+        holder: u64,
+    ) -> Result<Vec<Variable>, DebuggeeFault>
+        ensures { Tells result (λ children. children.items) ((shown_of self.now).children holder) }
+    {
+        match self.recording.variables.as_slice().get(holder as usize) {
+            None => Err(DebuggeeFault::Refused),
+            Some(found) => Ok(variables(alloc, found.as_slice())?),
+        }
+    }
+
+    pub(crate) fn text_of(&self, index: u32) -> Result<Text, DebuggeeFault>
+        ensures { Tells result (λ text. text) ((shown_of self.now).content index) }
+    {
+        match self.recording.sources.as_slice().get(index as usize) {
+            None => Err(DebuggeeFault::Refused),
+            Some(source) => Ok(source.text.clone()?),
+        }
+    }
+
+    pub(crate) fn value_of(
+        &self,
+        frame: Option<u64>,
+        name: &str,
+    ) -> Result<Evaluation, DebuggeeFault>
+        ensures { Tells result (λ value. value) ((shown_of self.now).evaluate frame name.now) }
+    {
+        let Some(frame) = frame else {
+            return Err(DebuggeeFault::Refused);
+        };
+        let Some(scopes) = self.recording.scopes.as_slice().get(frame as usize) else {
+            return Err(DebuggeeFault::Refused);
+        };
+        let variables = self.recording.variables.as_slice();
+        match value_in(variables, name, scopes.as_slice()) {
+            None => Err(DebuggeeFault::Refused),
+            Some(variable) => Ok(Evaluation {
+                value: variable.value.clone()?,
+                holder: variable.holder,
+            }),
+        }
+    }
+
+    pub(crate) fn verify_all(
+        &self,
+        alloc: Global,
+        source: &SourceKey,
+        lines: &[u32],
+    ) -> Result<Vec<bool>, DebuggeeFault>
+        ensures { Tells result (λ answers. answers.items) ((shown_of self.now).verify source.now lines.now) }
+    {
+        let most = lines_of(self.recording.sources.as_slice(), source);
+        Ok(verified(alloc, most, lines)?)
+    }
+}
+
+/// The first thread with an id.
+fn thread_of(threads: &[RecordedThread], id: i64) -> Option<&RecordedThread>
+    ensures { option_map (λ t. t.now) result ≡ thread_with id threads.now }
+{
+    for thread in threads {
+        if id == thread.id {
+            return Some(thread);
+        }
+    }
+    None
+}
