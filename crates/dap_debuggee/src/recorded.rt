@@ -118,6 +118,14 @@ impl Recorded {
         self.last = last;
     }
 
+    /// What holds of the recording. There is nothing to run.
+    #[inline(always)]
+    fn is_recording(&self)
+        ensures { IsRecording self.now.recording }
+    {
+        let _ = &self.recording;
+    }
+
     /// What a move is decided by.
     fn plan(&self) -> Plan<'_>
         ensures sources { result.sources.now ≡ self.now.recording.sources }
@@ -212,10 +220,12 @@ impl Debuggee for Recorded {
     }
 
     fn threads(&self, alloc: Global) -> Result<Vec<Thread>, AllocError> {
+        self.is_recording();
         self.all_threads(alloc)
     }
 
     fn frames(&self, alloc: Global, thread: i64) -> Result<Vec<Frame>, DebuggeeFault> {
+        self.is_recording();
         self.frames_of(alloc, thread)
     }
 
@@ -237,6 +247,7 @@ impl Debuggee for Recorded {
     }
 
     fn sources(&self, alloc: Global) -> Result<Vec<Source>, AllocError> {
+        self.is_recording();
         self.all_sources(alloc)
     }
 
