@@ -5,3 +5,4 @@ pub mod Moves
 pub mod Played
 pub mod Held
 pub mod PlayedLaws
+pub mod Stubborn

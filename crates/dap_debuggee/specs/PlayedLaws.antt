@@ -83,7 +83,7 @@ act_row v to_end = ends
 
 -- ---- in each state
 
-refused_start : (s : State) → may_answer s to_start refused ≡ true
+pub refused_start : (s : State) → may_answer s to_start refused ≡ true
 refused_start NotStarted = refl
 refused_start Running = refl
 refused_start Stopped = refl
@@ -125,7 +125,7 @@ start_state Running = refl
 start_state Stopped = refl
 start_state Gone = refl
 
-same_start : (s : State) → s ≡ state_after s to_start refused
+pub same_start : (s : State) → s ≡ state_after s to_start refused
 same_start NotStarted = refl
 same_start Running = refl
 same_start Stopped = refl

@@ -19,3 +19,6 @@ pub use answers::{
 pub use debuggee::Debuggee;
 pub use list::List;
 pub use recorded::Recorded;
+
+#[cfg(test)]
+mod stubborn;
