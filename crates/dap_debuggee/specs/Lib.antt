@@ -5,3 +5,5 @@ pub mod Moves
 pub mod Played
 pub mod Held
 pub mod PlayedLaws
+pub mod RecordingKey
+pub mod Reading

@@ -7,7 +7,9 @@ mod lines;
 mod list;
 mod moves;
 mod recorded;
+mod reading;
 mod recording;
+mod rows;
 mod run;
 
 pub use answers::{
@@ -15,4 +17,5 @@ pub use answers::{
 };
 pub use debuggee::Debuggee;
 pub use list::List;
+pub use reading::{RecordingFault, RecordingKey};
 pub use recorded::Recorded;
