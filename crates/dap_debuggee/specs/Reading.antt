@@ -1,6 +1,6 @@
 -- Which recording JSON data is, or the first bad key in the order of the format's keys.
 -- The format is this profile's own. An absent key is absent; `null` is a value like any other.
-use Rattle.std.specs.Prelude.{◌≡◌, ℕ, zero, suc, ◌≤◌, ◌&&◌, ℤ, pos, negsuc, int_le, Bool, true, false, not, nat_le, List, [], ◌∷◌, ◌++◌, length, Option, Some, None, is_some, option_and_then, option_map, unwrap_or, Result, Ok, Err, IsTrue, if◌then◌else◌, Vec}
+use Rattle.std.specs.Prelude.{◌≡◌, ℕ, zero, suc, ◌≤◌, ◌&&◌, ℤ, pos, negsuc, int_le, Bool, true, false, not, nat_le, nat_lt, List, [], ◌∷◌, ◌++◌, length, Option, Some, None, is_some, option_and_then, option_map, unwrap_or, Result, Ok, Err, IsTrue, if◌then◌else◌, Vec}
 use Rattle.std.specs.Borrow.{Bor}
 use Rattle.std.specs.declared.alloc.Global.{Global}
 use Rattle.std.specs.List.{slice_get}
@@ -74,6 +74,13 @@ GivesListWith (Err OutOfMemory) s read = Unit {0}
 GivesListWith (Err NotJson) s read = ⊥
 GivesListWith (Err NotObject) s read = ⊥
 
+abbrev pub GivesList : {A : Type 0} → Result (Vec A Global) RecordingFault → Read (List A) → Type 0
+GivesList (Ok v) read = read ≡ Ok v.items
+GivesList (Err (BadKey key)) read = read ≡ Err key
+GivesList (Err OutOfMemory) read = Unit {0}
+GivesList (Err NotJson) read = ⊥
+GivesList (Err NotObject) read = ⊥
+
 -- ---- keys
 
 abbrev pub value_at : RecordingKey → Data → Option Data
@@ -131,7 +138,7 @@ line_of lines d = if_passes (λ n. nat_le 1 n && nat_le n lines) (number_of d)
 
 -- the place of one of the sources
 abbrev pub source_place : List RecordedSource → Data → Option ℕ
-source_place sources d = if_passes (λ n. is_some (slice_get sources n)) (number_of d)
+source_place sources d = if_passes (λ n. nat_lt n (length sources)) (number_of d)
 
 abbrev pub lines_at : List RecordedSource → ℕ → ℕ
 lines_at sources n = unwrap_or (option_map (λ source. source.lines) (slice_get sources n)) 0
@@ -216,8 +223,8 @@ each one (item d ds) found s = do
   each one ds (found ++ next.0 ∷ []) next.1
 
 -- a scope always has a number, which comes after those of its variables
-unfoldable pub scope_of : List Scope → Data → Holders → Read (Scope × Holders)
-scope_of earlier d holders = do
+unfoldable pub scope_of : Data → Holders → Read (Scope × Holders)
+scope_of d holders = do
   element key.Scopes d
   name ← required as_str key.Name d
   inner ← listed (value_at key.Variables d) holders
@@ -226,11 +233,11 @@ scope_of earlier d holders = do
 unfoldable pub scopes_of : Data → Holders → Read (List Scope × Holders)
 scopes_of d holders = do
   given ← optional_or as_array no_items key.Scopes d
-  each scope_of given [] holders
+  each (λ earlier. scope_of) given [] holders
 
 -- a frame's number is the count of frames before it
-unfoldable pub frame_of : List RecordedSource → List Frame → Data → Numbered → Read (Frame × Numbered)
-frame_of sources earlier d numbered = do
+unfoldable pub frame_of : List RecordedSource → Data → Numbered → Read (Frame × Numbered)
+frame_of sources d numbered = do
   element key.Frames d
   name ← required as_str key.Name d
   source ← required (source_place sources) key.Source d
@@ -244,13 +251,13 @@ thread_of sources earlier d numbered = do
   id ← required (new_id earlier) key.Id d
   name ← required as_str key.Name d
   given ← some_items key.Frames d
-  frames ← each (frame_of sources) given [] numbered
+  frames ← each (λ earlier. frame_of sources) given [] numbered
   Ok (record { id = id; name = name; frames = frames.0 }, frames.1)
 
 -- ---- the whole
 
-unfoldable pub moment_of : List RecordedSource → List Moment → Data → Numbered → Read (Moment × Numbered)
-moment_of sources earlier d numbered = do
+unfoldable pub moment_of : List RecordedSource → Data → Numbered → Read (Moment × Numbered)
+moment_of sources d numbered = do
   element key.Moments d
   given ← required as_array key.Threads d
   threads ← each (thread_of sources) given [] numbered
@@ -258,6 +265,9 @@ moment_of sources earlier d numbered = do
   output ← optional_or as_str [] key.Output d
   waits ← optional_or as_bool false key.Waits d
   Ok (record { threads = threads.0; thread = thread; output = output; waits = waits }, threads.1)
+
+unfoldable pub moments_of : List RecordedSource → Items → Numbered → Read (List Moment × Numbered)
+moments_of sources ds numbered = each (λ earlier. moment_of sources) ds [] numbered
 
 unfoldable pub source_of : Data → Read RecordedSource
 source_of d = do
@@ -279,7 +289,7 @@ recording_of d = do
   texts ← few_items key.Sources d
   sources ← each_source texts []
   given ← some_items key.Moments d
-  moments ← each (moment_of sources) given [] (record { scopes = []; variables = [] })
+  moments ← moments_of sources given (record { scopes = []; variables = [] })
   Ok (record { exit = exit; sources = sources; moments = moments.0; scopes = moments.1.scopes; variables = moments.1.variables })
 
 -- What reading bytes gives: a recording that is not started, or why the bytes are none. Want of memory aside.

@@ -7,6 +7,7 @@ mod lines;
 mod list;
 mod moves;
 mod recorded;
+mod read;
 mod reading;
 mod recording;
 mod rows;
