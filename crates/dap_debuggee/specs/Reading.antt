@@ -292,10 +292,19 @@ recording_of d = do
   moments ← moments_of sources given (record { scopes = []; variables = [] })
   Ok (record { exit = exit; sources = sources; moments = moments.0; scopes = moments.1.scopes; variables = moments.1.variables })
 
--- What reading bytes gives: a recording that is not started, or why the bytes are none. Want of memory aside.
-abbrev pub Reads : Result Played RecordingFault → List ℕ → Type 0
-Reads (Ok played) bytes = (d : Data) × (r : Recording) × (json_of bytes ≡ Some d) × (is_object d ≡ true) × (recording_of d ≡ Ok r) × (played ≡ unplayed r)
-Reads (Err NotJson) bytes = json_of bytes ≡ None
-Reads (Err NotObject) bytes = (d : Data) × (json_of bytes ≡ Some d) × (is_object d ≡ false)
-Reads (Err (BadKey k)) bytes = (d : Data) × (json_of bytes ≡ Some d) × (is_object d ≡ true) × (recording_of d ≡ Err k)
-Reads (Err OutOfMemory) bytes = Unit {0}
+abbrev pub or_fault : Read Recording → Result Recording RecordingFault
+or_fault (Ok r) = Ok r
+or_fault (Err k) = Err (BadKey k)
+
+-- the recording that bytes are, once they were read as JSON, or why they are none
+abbrev pub verdict_of : Option Data → Result Recording RecordingFault
+verdict_of None = Err NotJson
+verdict_of (Some d) = if is_object d then or_fault (recording_of d) else Err NotObject
+
+-- What was read is the verdict, not started, unless memory ran out.
+abbrev pub Reads : Result Played RecordingFault → Result Recording RecordingFault → Type 0
+Reads (Ok played) verdict = (verdict ≡ Ok played.recording) × (played ≡ unplayed played.recording)
+Reads (Err NotJson) verdict = verdict ≡ Err NotJson
+Reads (Err NotObject) verdict = verdict ≡ Err NotObject
+Reads (Err (BadKey k)) verdict = verdict ≡ Err (BadKey k)
+Reads (Err OutOfMemory) verdict = Unit {0}

@@ -20,3 +20,6 @@ pub use debuggee::Debuggee;
 pub use list::List;
 pub use reading::{RecordingFault, RecordingKey};
 pub use recorded::Recorded;
+
+#[cfg(test)]
+mod reading_tests;
