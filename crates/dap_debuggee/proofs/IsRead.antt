@@ -149,9 +149,9 @@ frame_added : (sources : ℕ) (before : List ℕ) (found : List Frame) (s t : Nu
     → FramesHold sources before (found, s) → FramesHold sources before (found ++ frame ∷ [], t)
 frame_added sources before found s t frame numbered more fits p =
     let list : (before ++ numbers_of found) ++ length s.scopes ∷ [] ≡ before ++ numbers_of (found ++ frame ∷ []) =
-        append_assoc before (numbers_of found) (length s.scopes ∷ [])
-        ∙ ap (λ n. before ++ (numbers_of found ++ n ∷ [])) (sym numbered)
-        ∙ ap (λ ns. before ++ ns) (sym (map-append (λ (f : Frame). f.object) found (frame ∷ []))) in
+    append_assoc before (numbers_of found) (length s.scopes ∷ [])
+    ∙ ap (λ n. before ++ (numbers_of found ++ n ∷ [])) (sym numbered)
+    ∙ ap (λ ns. before ++ ns) (sym (map-append (λ (f : Frame). f.object) found (frame ∷ []))) in
     record {
       frames = all_more (is_frame sources) found frame p.frames fits;
       numbers = subst (λ n. Rises n (before ++ numbers_of (found ++ frame ∷ []))) (sym more) (subst (Rises (suc (length s.scopes))) list (rises_more (length s.scopes) (before ++ numbers_of found) p.numbers));
@@ -177,13 +177,13 @@ frame_holds sources before found s d next e p =
     with_ok (required (source_place sources) key.Source d) _ next e1 (λ source placed e2.
     with_ok (required (line_of (lines_at sources source)) key.Line d) _ next e2 (λ line lined e3.
     with_ok (scopes_of d s.variables) _ next e3 (λ scopes scoped e4.
-        let frame : Frame = record { object = length s.scopes; name = name; source = source; line = line } in
-        let after : Numbered = record { scopes = s.scopes ++ scopes.0 ∷ []; variables = scopes.1 } in
-        let more = length-append s.scopes (scopes.0 ∷ []) in
-        let fits = line_fits (lines_at sources source) d line lined in
-        subst (λ n. FramesHold (length sources) before (found ++ n.0 ∷ [], n.1)) (ok_same (frame, after) next e4)
-            (frame_added (length sources) before found s after frame refl (omega (arith, more))
-                (both (nat_le 1 line) (nat_le line 2147483647 && nat_lt source (length sources)) fits.0 (both (nat_le line 2147483647) (nat_lt source (length sources)) fits.1 (source_fits sources d source placed))) p)))))
+    let frame : Frame = record { object = length s.scopes; name = name; source = source; line = line } in
+    let after : Numbered = record { scopes = s.scopes ++ scopes.0 ∷ []; variables = scopes.1 } in
+    let more = length-append s.scopes (scopes.0 ∷ []) in
+    let fits = line_fits (lines_at sources source) d line lined in
+    subst (λ n. FramesHold (length sources) before (found ++ n.0 ∷ [], n.1)) (ok_same (frame, after) next e4)
+    (frame_added (length sources) before found s after frame refl (omega (arith, more))
+    (both (nat_le 1 line) (nat_le line 2147483647 && nat_lt source (length sources)) fits.0 (both (nat_le line 2147483647) (nat_lt source (length sources)) fits.1 (source_fits sources d source placed))) p)))))
 
 -- ---- threads
 
@@ -211,7 +211,7 @@ distinct_more (first ∷ found) thread e none =
     let p = first_of_two (list_all (λ other. not (int_eq first.id other.id)) found) (are_distinct found) e in
     let q = none_by (int_eq first.id thread.id) (place_of thread.id found) none in
     both (list_all (λ other. not (int_eq first.id other.id)) (found ++ thread ∷ [])) (are_distinct (found ++ thread ∷ []))
-        (all_more (λ other. not (int_eq first.id other.id)) found thread p.0 (ap not q.0)) (distinct_more found thread p.1 q.1)
+    (all_more (λ other. not (int_eq first.id other.id)) found thread p.0 (ap not q.0)) (distinct_more found thread p.1 q.1)
 
 new_id_is : (found : List RecordedThread) (d : Data) (id : ℤ) → required (new_id found) key.Id d ≡ Ok id → (is_int id ≡ true) × (is_some (place_of id found) ≡ false)
 new_id_is found d id e =
@@ -225,7 +225,7 @@ thread_added : (sources : ℕ) (found : List RecordedThread) (s : Numbered) (id 
 thread_added sources found s id name r int new some frames p =
     let thread : RecordedThread = record { id = id; name = name; frames = r.0 } in
     let list : numbers_in found ++ numbers_of r.0 ≡ numbers_in (found ++ thread ∷ []) =
-        sym (flat_map-append (λ (t : RecordedThread). map (λ (f : Frame). f.object) t.frames) found (thread ∷ []) ∙ ap (λ ns. numbers_in found ++ ns) (append-nil (numbers_of r.0))) in
+    sym (flat_map-append (λ (t : RecordedThread). map (λ (f : Frame). f.object) t.frames) found (thread ∷ []) ∙ ap (λ ns. numbers_in found ++ ns) (append-nil (numbers_of r.0))) in
     record {
       threads = all_more (is_thread sources) found thread p.threads (both (is_int id) (nat_lt 0 (length r.0) && list_all (is_frame sources) r.0) int (both (nat_lt 0 (length r.0)) (list_all (is_frame sources) r.0) (lt-ltb 0 (length r.0) some) frames.frames));
       distinct = distinct_more found thread p.distinct new;
@@ -240,13 +240,13 @@ thread_holds sources found s d next e p =
     with_ok (required as_str key.Name d) _ next e1 (λ name named e2.
     with_ok (some_items key.Frames d) _ next e2 (λ given some e3.
     with_ok (each (λ earlier. frame_of sources) given [] s) _ next e3 (λ frames read e4.
-        let is_new = new_id_is found d id new in
-        let count = each_count (λ earlier. frame_of sources) given [] s frames read in
-        let least = some_count key.Frames d given some in
-        let first : FramesHold (length sources) (numbers_in found) ([], s) = record { frames = refl; numbers = subst (Rises (length s.scopes)) (sym (append-nil (numbers_in found))) p.numbers } in
-        let held = each_holds (λ earlier. frame_of sources) (FramesHold (length sources) (numbers_in found)) (frame_holds sources (numbers_in found)) given [] s frames read first in
-        subst (λ n. ThreadsHold (length sources) (found ++ n.0 ∷ [], n.1)) (ok_same (record { id = id; name = name; frames = frames.0 }, frames.1) next e4)
-            (thread_added (length sources) found s id name frames is_new.0 is_new.1 (omega (arith, count, least)) held p)))))
+    let is_new = new_id_is found d id new in
+    let count = each_count (λ earlier. frame_of sources) given [] s frames read in
+    let least = some_count key.Frames d given some in
+    let first : FramesHold (length sources) (numbers_in found) ([], s) = record { frames = refl; numbers = subst (Rises (length s.scopes)) (sym (append-nil (numbers_in found))) p.numbers } in
+    let held = each_holds (λ earlier. frame_of sources) (FramesHold (length sources) (numbers_in found)) (frame_holds sources (numbers_in found)) given [] s frames read first in
+    subst (λ n. ThreadsHold (length sources) (found ++ n.0 ∷ [], n.1)) (ok_same (record { id = id; name = name; frames = frames.0 }, frames.1) next e4)
+    (thread_added (length sources) found s id name frames is_new.0 is_new.1 (omega (arith, count, least)) held p)))))
 
 -- ---- moments
 
@@ -276,12 +276,12 @@ moment_holds sources d s next e =
     with_ok (required (thread_place threads.0) key.Thread d) _ next e2 (λ thread placed e3.
     with_ok (optional_or as_str [] key.Output d) _ next e3 (λ output written e4.
     with_ok (optional_or as_bool false key.Waits d) _ next e4 (λ waits held e5.
-        let first : ThreadsHold (length sources) ([], s) = record { threads = refl; distinct = refl; numbers = record { rises = refl; below = refl } } in
-        let all = each_holds (thread_of sources) (ThreadsHold (length sources)) (thread_holds sources) given [] s threads read first in
-        subst (λ n. is_moment (length sources) n.0 ≡ true) (ok_same (record { threads = threads.0; thread = thread; output = output; waits = waits }, threads.1) next e5)
-            (both (nat_lt thread (length threads.0)) (list_all (is_thread (length sources)) threads.0 && (are_distinct threads.0 && is_rising (numbers_in threads.0)))
-                (lt-ltb thread (length threads.0) (thread_within threads.0 d thread placed))
-                (both (list_all (is_thread (length sources)) threads.0) (are_distinct threads.0 && is_rising (numbers_in threads.0)) all.threads (both (are_distinct threads.0) (is_rising (numbers_in threads.0)) all.distinct all.numbers.rises))))))))
+    let first : ThreadsHold (length sources) ([], s) = record { threads = refl; distinct = refl; numbers = record { rises = refl; below = refl } } in
+    let all = each_holds (thread_of sources) (ThreadsHold (length sources)) (thread_holds sources) given [] s threads read first in
+    subst (λ n. is_moment (length sources) n.0 ≡ true) (ok_same (record { threads = threads.0; thread = thread; output = output; waits = waits }, threads.1) next e5)
+    (both (nat_lt thread (length threads.0)) (list_all (is_thread (length sources)) threads.0 && (are_distinct threads.0 && is_rising (numbers_in threads.0)))
+    (lt-ltb thread (length threads.0) (thread_within threads.0 d thread placed))
+    (both (list_all (is_thread (length sources)) threads.0) (are_distinct threads.0 && is_rising (numbers_in threads.0)) all.threads (both (are_distinct threads.0) (is_rising (numbers_in threads.0)) all.distinct all.numbers.rises))))))))
 
 -- ---- the whole
 
@@ -294,7 +294,7 @@ source_holds d source e =
     with_ok (required as_str key.Name d) _ source (then_ok (element key.Sources d) _ source e) (λ name named e1.
     with_ok (optional as_str key.Path d) _ source e1 (λ path at e2.
     with_ok (required as_str key.Text d) _ source e2 (λ text is e3.
-        subst (λ x. is_counted x ≡ true) (ok_same (record { name = name; path = path; text = text; lines = line_count text }) source e3) (eq-eqb (line_count text) (line_count text) refl))))
+    subst (λ x. is_counted x ≡ true) (ok_same (record { name = name; path = path; text = text; lines = line_count text }) source e3) (eq-eqb (line_count text) (line_count text) refl))))
 
 sources_hold : (ds : Items) (found all : List RecordedSource) → each_source ds found ≡ Ok all → list_all is_counted found ≡ true → (list_all is_counted all ≡ true) × (length all ≡ length found + items_len ds)
 sources_hold no_items found all e p =
@@ -303,10 +303,10 @@ sources_hold no_items found all e p =
     (subst (λ xs. list_all is_counted xs ≡ true) same p, omega (arith, count))
 sources_hold (item d ds) found all e p =
     with_ok (source_of d) _ all e (λ source is e1.
-        let rest = sources_hold ds (found ++ source ∷ []) all e1 (all_more is_counted found source p (source_holds d source is)) in
-        let more = length-append found (source ∷ []) in
-        let count : length all ≡ length found + suc (items_len ds) = omega (arith, rest.1, more) in
-        (rest.0, count))
+    let rest = sources_hold ds (found ++ source ∷ []) all e1 (all_more is_counted found source p (source_holds d source is)) in
+    let more = length-append found (source ∷ []) in
+    let count : length all ≡ length found + suc (items_len ds) = omega (arith, rest.1, more) in
+    (rest.0, count))
 
 abbrev MomentsHold : ℕ → List Moment × Numbered → Type 0
 MomentsHold sources r = list_all (is_moment sources) r.0 ≡ true
@@ -319,15 +319,15 @@ is_read d r e =
     with_ok (each_source texts []) _ r e2 (λ sources told e3.
     with_ok (some_items key.Moments d) _ r e3 (λ given some e4.
     with_ok (moments_of sources given (record { scopes = []; variables = [] })) _ r e4 (λ moments read e5.
-        let counted = sources_hold texts [] sources told refl in
-        let most = few_count key.Sources d texts few in
-        let count = each_count (λ earlier. moment_of sources) given [] (record { scopes = []; variables = [] }) moments read in
-        let least = some_count key.Moments d given some in
-        let all = each_holds (λ earlier. moment_of sources) (MomentsHold (length sources)) (λ found s x next is p. all_more (is_moment (length sources)) found next.0 p (moment_holds sources x s next is)) given [] (record { scopes = []; variables = [] }) moments read refl in
-        subst IsRecording (ok_same (record { exit = exit; sources = sources; moments = moments.0; scopes = moments.1.scopes; variables = moments.1.variables }) r e5)
-            (record {
-              sources = omega (arith, counted.1, most);
-              lines = counted.0;
-              some = omega (arith, count, least);
-              moments = all;
-            }))))))
+    let counted = sources_hold texts [] sources told refl in
+    let most = few_count key.Sources d texts few in
+    let count = each_count (λ earlier. moment_of sources) given [] (record { scopes = []; variables = [] }) moments read in
+    let least = some_count key.Moments d given some in
+    let all = each_holds (λ earlier. moment_of sources) (MomentsHold (length sources)) (λ found s x next is p. all_more (is_moment (length sources)) found next.0 p (moment_holds sources x s next is)) given [] (record { scopes = []; variables = [] }) moments read refl in
+    subst IsRecording (ok_same (record { exit = exit; sources = sources; moments = moments.0; scopes = moments.1.scopes; variables = moments.1.variables }) r e5)
+    (record {
+      sources = omega (arith, counted.1, most);
+      lines = counted.0;
+      some = omega (arith, count, least);
+      moments = all;
+    }))))))

@@ -61,19 +61,19 @@ abbrev with_parts : Data → Data → Data → Data
 with_parts exit sources moments = object (put (codes "exit") exit (put (codes "sources") sources (put (codes "moments") moments no_members)))
 
 recording_a_is_read : recording_of (with_parts (whole 0) (one source_a) (array (item moment_0 (item moment_1 (item moment_2 no_items))))) ≡ Ok (record {
-    exit = pos 0;
-    sources = record { name = codes "a.c"; path = Some (codes "/a.c"); text = codes "one\ntwo\nthree\n"; lines = 3 } ∷ [];
-    moments =
-        record { threads = record { id = pos 1; name = codes "main"; frames = record { object = 0; name = codes "main"; source = 0; line = 1 } ∷ [] } ∷ []; thread = 0; output = codes "go\n"; waits = false }
-        ∷ record { threads = record { id = pos 1; name = codes "main"; frames = record { object = 1; name = codes "f"; source = 0; line = 3 } ∷ record { object = 2; name = codes "main"; source = 0; line = 1 } ∷ [] } ∷ []; thread = 0; output = []; waits = false }
-        ∷ record { threads = record { id = pos 1; name = codes "main"; frames = record { object = 3; name = codes "main"; source = 0; line = 2 } ∷ [] } ∷ []; thread = 0; output = []; waits = true }
-        ∷ [];
-    scopes = (record { name = codes "Locals"; holder = 1 } ∷ []) ∷ [] ∷ [] ∷ [] ∷ [];
-    variables =
-        (record { name = codes "a"; value = codes "7"; holder = None } ∷ [])
-        ∷ (record { name = codes "x"; value = codes "1"; holder = None } ∷ record { name = codes "p"; value = codes "P"; holder = Some 0 } ∷ [])
-        ∷ [];
-  })
+  exit = pos 0;
+  sources = record { name = codes "a.c"; path = Some (codes "/a.c"); text = codes "one\ntwo\nthree\n"; lines = 3 } ∷ [];
+  moments =
+      record { threads = record { id = pos 1; name = codes "main"; frames = record { object = 0; name = codes "main"; source = 0; line = 1 } ∷ [] } ∷ []; thread = 0; output = codes "go\n"; waits = false }
+      ∷ record { threads = record { id = pos 1; name = codes "main"; frames = record { object = 1; name = codes "f"; source = 0; line = 3 } ∷ record { object = 2; name = codes "main"; source = 0; line = 1 } ∷ [] } ∷ []; thread = 0; output = []; waits = false }
+      ∷ record { threads = record { id = pos 1; name = codes "main"; frames = record { object = 3; name = codes "main"; source = 0; line = 2 } ∷ [] } ∷ []; thread = 0; output = []; waits = true }
+      ∷ [];
+  scopes = (record { name = codes "Locals"; holder = 1 } ∷ []) ∷ [] ∷ [] ∷ [] ∷ [];
+  variables =
+      (record { name = codes "a"; value = codes "7"; holder = None } ∷ [])
+      ∷ (record { name = codes "x"; value = codes "1"; holder = None } ∷ record { name = codes "p"; value = codes "P"; holder = Some 0 } ∷ [])
+      ∷ [];
+})
 unfolding recording_of source_of moments_of moment_of thread_of frame_of scopes_of scope_of
 recording_a_is_read = refl
 

@@ -6,15 +6,16 @@ mod debuggee;
 mod lines;
 mod list;
 mod moves;
-mod recorded;
 mod read;
 mod reading;
+mod recorded;
 mod recording;
 mod rows;
 mod run;
 
 pub use answers::{
-    Asked, Category, DebuggeeFault, Evaluation, Frame, Happening, How, Scope, Source, State, Thread, Variable,
+    Asked, Category, DebuggeeFault, Evaluation, Frame, Happening, How, Scope, Source, State,
+    Thread, Variable,
 };
 pub use debuggee::Debuggee;
 pub use list::List;

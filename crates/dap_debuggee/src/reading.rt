@@ -104,7 +104,11 @@ pub(crate) fn bad(key: RecordingKey) -> RecordingFault
 pub(crate) fn element(value: &Value, key: RecordingKey) -> Result<(), RecordingFault>
     ensures { Gives result (element_of key (view value.now)) }
 {
-    if value.is_object() { Ok(()) } else { Err(bad(key)) }
+    if value.is_object() {
+        Ok(())
+    } else {
+        Err(bad(key))
+    }
 }
 
 pub(crate) fn text(alloc: Global, value: &Value, key: RecordingKey) -> Result<Text, RecordingFault>

@@ -2,10 +2,12 @@ use crate::{Recorded, RecordingFault, RecordingKey};
 use std::alloc::Global;
 use std::test::Fail;
 
-const RECORDING_A: &str = "{\"exit\":0,\"sources\":[{\"name\":\"a.c\",\"path\":\"/a.c\",\"text\":\"one\\ntwo\\nthree\\n\"}],\"moments\":[{\"thread\":1,\"output\":\"go\\n\",\"threads\":[{\"id\":1,\"name\":\"main\",\"frames\":[{\"name\":\"main\",\"source\":0,\"line\":1,\"scopes\":[{\"name\":\"Locals\",\"variables\":[{\"name\":\"x\",\"value\":\"1\"},{\"name\":\"p\",\"value\":\"P\",\"variables\":[{\"name\":\"a\",\"value\":\"7\"}]}]}]}]}]},{\"thread\":1,\"threads\":[{\"id\":1,\"name\":\"main\",\"frames\":[{\"name\":\"f\",\"source\":0,\"line\":3},{\"name\":\"main\",\"source\":0,\"line\":1}]}]},{\"thread\":1,\"waits\":true,\"threads\":[{\"id\":1,\"name\":\"main\",\"frames\":[{\"name\":\"main\",\"source\":0,\"line\":2}]}]}]}";
+const RECORDING_A: &str =
+    "{\"exit\":0,\"sources\":[{\"name\":\"a.c\",\"path\":\"/a.c\",\"text\":\"one\\ntwo\\nthree\\n\"}],\"moments\":[{\"thread\":1,\"output\":\"go\\n\",\"threads\":[{\"id\":1,\"name\":\"main\",\"frames\":[{\"name\":\"main\",\"source\":0,\"line\":1,\"scopes\":[{\"name\":\"Locals\",\"variables\":[{\"name\":\"x\",\"value\":\"1\"},{\"name\":\"p\",\"value\":\"P\",\"variables\":[{\"name\":\"a\",\"value\":\"7\"}]}]}]}]}]},{\"thread\":1,\"threads\":[{\"id\":1,\"name\":\"main\",\"frames\":[{\"name\":\"f\",\"source\":0,\"line\":3},{\"name\":\"main\",\"source\":0,\"line\":1}]}]},{\"thread\":1,\"waits\":true,\"threads\":[{\"id\":1,\"name\":\"main\",\"frames\":[{\"name\":\"main\",\"source\":0,\"line\":2}]}]}]}";
 
 /// Every key of the format, each name once.
-const WHOLE: &str = "{\"exit\":3,\"sources\":[{\"name\":\"a\",\"path\":\"/a\",\"text\":\"x\\ny\"}],\"moments\":[{\"threads\":[{\"id\":1,\"name\":\"m\",\"frames\":[{\"name\":\"f\",\"source\":0,\"line\":2,\"scopes\":[{\"name\":\"s\",\"variables\":[{\"name\":\"v\",\"value\":\"1\",\"variables\":[{\"name\":\"w\",\"value\":\"2\"}]}]}]}]}],\"thread\":1,\"output\":\"o\",\"waits\":true}]}";
+const WHOLE: &str =
+    "{\"exit\":3,\"sources\":[{\"name\":\"a\",\"path\":\"/a\",\"text\":\"x\\ny\"}],\"moments\":[{\"threads\":[{\"id\":1,\"name\":\"m\",\"frames\":[{\"name\":\"f\",\"source\":0,\"line\":2,\"scopes\":[{\"name\":\"s\",\"variables\":[{\"name\":\"v\",\"value\":\"1\",\"variables\":[{\"name\":\"w\",\"value\":\"2\"}]}]}]}]}],\"thread\":1,\"output\":\"o\",\"waits\":true}]}";
 
 /// The bad key, where bytes are no recording; `None` where they are one.
 fn refusal(alloc: Global, bytes: &[u8]) -> Option<RecordingFault> {
@@ -22,7 +24,12 @@ fn reads_a_recording(rt: HostRuntime) -> Result<(), Fail> {
     let sources = recording.sources.as_slice();
     assert_eq!(rt; sources.len(), 1);
     assert_eq!(rt; sources[0].name.as_str(), "a.c");
-    assert!(rt; sources[0].path.as_ref().is_some_and(|p| p.as_str() == "/a.c"));
+    assert!(rt;
+        sources[0]
+            .path
+            .as_ref()
+            .is_some_and(|p| p.as_str() == "/a.c")
+    );
     assert_eq!(rt; sources[0].text.as_str(), "one\ntwo\nthree\n");
     assert_eq!(rt; sources[0].lines, 3);
     let moments = recording.moments.as_slice();
@@ -75,9 +82,16 @@ fn refuses_what_is_no_object(rt: HostRuntime) -> Result<(), Fail> {
         ),
     ];
     for (bytes, fault) in rows {
-        assert_eq!(rt; refusal(rt.alloc(), bytes.as_bytes()), Some(fault), "{bytes}");
+        assert_eq!(rt;
+            refusal(rt.alloc(), bytes.as_bytes()),
+            Some(fault),
+            "{bytes}"
+        );
     }
-    assert_eq!(rt; refusal(rt.alloc(), b"\"\xff\""), Some(RecordingFault::NotJson));
+    assert_eq!(rt;
+        refusal(rt.alloc(), b"\"\xff\""),
+        Some(RecordingFault::NotJson)
+    );
     Ok(())
 }
 
@@ -86,21 +100,9 @@ fn refuses_what_is_no_object(rt: HostRuntime) -> Result<(), Fail> {
 fn names_the_first_bad_key(rt: HostRuntime) -> Result<(), Fail> {
     assert_eq!(rt; refusal(rt.alloc(), WHOLE.as_bytes()), None);
     let rows: [(&str, &str, Option<RecordingKey>); 115] = [
-        (
-            "\"exit\":3,",
-            "",
-            Some(RecordingKey::Exit),
-        ),
-        (
-            "\"exit\":3",
-            "\"exit\":2147483647",
-            None,
-        ),
-        (
-            "\"exit\":3",
-            "\"exit\":-2147483648",
-            None,
-        ),
+        ("\"exit\":3,", "", Some(RecordingKey::Exit)),
+        ("\"exit\":3", "\"exit\":2147483647", None),
+        ("\"exit\":3", "\"exit\":-2147483648", None),
         (
             "\"exit\":3",
             "\"exit\":2147483648",
@@ -111,21 +113,9 @@ fn names_the_first_bad_key(rt: HostRuntime) -> Result<(), Fail> {
             "\"exit\":-2147483649",
             Some(RecordingKey::Exit),
         ),
-        (
-            "\"exit\":3",
-            "\"exit\":null",
-            Some(RecordingKey::Exit),
-        ),
-        (
-            "\"exit\":3",
-            "\"exit\":3.0",
-            Some(RecordingKey::Exit),
-        ),
-        (
-            "\"exit\":3",
-            "\"exit\":\"3\"",
-            Some(RecordingKey::Exit),
-        ),
+        ("\"exit\":3", "\"exit\":null", Some(RecordingKey::Exit)),
+        ("\"exit\":3", "\"exit\":3.0", Some(RecordingKey::Exit)),
+        ("\"exit\":3", "\"exit\":\"3\"", Some(RecordingKey::Exit)),
         (
             "\"sources\":[{\"name\":\"a\",\"path\":\"/a\",\"text\":\"x\\ny\"}],",
             "",
@@ -161,41 +151,13 @@ fn names_the_first_bad_key(rt: HostRuntime) -> Result<(), Fail> {
             "\"sources\":[]",
             Some(RecordingKey::Source),
         ),
-        (
-            "\"name\":\"a\",",
-            "",
-            Some(RecordingKey::Name),
-        ),
-        (
-            "\"name\":\"a\"",
-            "\"name\":null",
-            Some(RecordingKey::Name),
-        ),
-        (
-            "\"name\":\"a\"",
-            "\"name\":\"\"",
-            None,
-        ),
-        (
-            "\"path\":\"/a\",",
-            "",
-            None,
-        ),
-        (
-            "\"path\":\"/a\"",
-            "\"path\":null",
-            Some(RecordingKey::Path),
-        ),
-        (
-            "\"path\":\"/a\"",
-            "\"path\":5",
-            Some(RecordingKey::Path),
-        ),
-        (
-            ",\"text\":\"x\\ny\"",
-            "",
-            Some(RecordingKey::Text),
-        ),
+        ("\"name\":\"a\",", "", Some(RecordingKey::Name)),
+        ("\"name\":\"a\"", "\"name\":null", Some(RecordingKey::Name)),
+        ("\"name\":\"a\"", "\"name\":\"\"", None),
+        ("\"path\":\"/a\",", "", None),
+        ("\"path\":\"/a\"", "\"path\":null", Some(RecordingKey::Path)),
+        ("\"path\":\"/a\"", "\"path\":5", Some(RecordingKey::Path)),
+        (",\"text\":\"x\\ny\"", "", Some(RecordingKey::Text)),
         (
             "\"text\":\"x\\ny\"",
             "\"text\":null",
@@ -211,16 +173,8 @@ fn names_the_first_bad_key(rt: HostRuntime) -> Result<(), Fail> {
             "\"text\":\"x\\n\"",
             Some(RecordingKey::Line),
         ),
-        (
-            "\"text\":\"x\\ny\"",
-            "\"text\":\"\\n\\n\"",
-            None,
-        ),
-        (
-            "\"text\":\"x\\ny\"",
-            "\"text\":\"\\r\\n\\r\"",
-            None,
-        ),
+        ("\"text\":\"x\\ny\"", "\"text\":\"\\n\\n\"", None),
+        ("\"text\":\"x\\ny\"", "\"text\":\"\\r\\n\\r\"", None),
         (
             ",\"moments\":[{\"threads\":[{\"id\":1,\"name\":\"m\",\"frames\":[{\"name\":\"f\",\"source\":0,\"line\":2,\"scopes\":[{\"name\":\"s\",\"variables\":[{\"name\":\"v\",\"value\":\"1\",\"variables\":[{\"name\":\"w\",\"value\":\"2\"}]}]}]}]}],\"thread\":1,\"output\":\"o\",\"waits\":true}]",
             "",
@@ -291,26 +245,10 @@ fn names_the_first_bad_key(rt: HostRuntime) -> Result<(), Fail> {
             "\"threads\":[]",
             Some(RecordingKey::Thread),
         ),
-        (
-            "\"id\":1,",
-            "",
-            Some(RecordingKey::Id),
-        ),
-        (
-            "\"id\":1",
-            "\"id\":null",
-            Some(RecordingKey::Id),
-        ),
-        (
-            "\"id\":1",
-            "\"id\":\"1\"",
-            Some(RecordingKey::Id),
-        ),
-        (
-            "\"id\":1",
-            "\"id\":1.0",
-            Some(RecordingKey::Id),
-        ),
+        ("\"id\":1,", "", Some(RecordingKey::Id)),
+        ("\"id\":1", "\"id\":null", Some(RecordingKey::Id)),
+        ("\"id\":1", "\"id\":\"1\"", Some(RecordingKey::Id)),
+        ("\"id\":1", "\"id\":1.0", Some(RecordingKey::Id)),
         (
             "\"id\":1",
             "\"id\":9007199254740992",
@@ -351,16 +289,8 @@ fn names_the_first_bad_key(rt: HostRuntime) -> Result<(), Fail> {
             "\"threads\":[{\"id\":2,\"name\":\"n\",\"frames\":[]},",
             Some(RecordingKey::Frames),
         ),
-        (
-            "\"name\":\"m\",",
-            "",
-            Some(RecordingKey::Name),
-        ),
-        (
-            "\"name\":\"m\"",
-            "\"name\":null",
-            Some(RecordingKey::Name),
-        ),
+        ("\"name\":\"m\",", "", Some(RecordingKey::Name)),
+        ("\"name\":\"m\"", "\"name\":null", Some(RecordingKey::Name)),
         (
             ",\"frames\":[{\"name\":\"f\",\"source\":0,\"line\":2,\"scopes\":[{\"name\":\"s\",\"variables\":[{\"name\":\"v\",\"value\":\"1\",\"variables\":[{\"name\":\"w\",\"value\":\"2\"}]}]}]}]",
             "",
@@ -391,71 +321,27 @@ fn names_the_first_bad_key(rt: HostRuntime) -> Result<(), Fail> {
             "\"frames\":[true]",
             Some(RecordingKey::Frames),
         ),
-        (
-            "\"name\":\"f\",",
-            "",
-            Some(RecordingKey::Name),
-        ),
-        (
-            "\"name\":\"f\"",
-            "\"name\":1",
-            Some(RecordingKey::Name),
-        ),
-        (
-            "\"source\":0,",
-            "",
-            Some(RecordingKey::Source),
-        ),
-        (
-            "\"source\":0",
-            "\"source\":1",
-            Some(RecordingKey::Source),
-        ),
-        (
-            "\"source\":0",
-            "\"source\":-1",
-            Some(RecordingKey::Source),
-        ),
+        ("\"name\":\"f\",", "", Some(RecordingKey::Name)),
+        ("\"name\":\"f\"", "\"name\":1", Some(RecordingKey::Name)),
+        ("\"source\":0,", "", Some(RecordingKey::Source)),
+        ("\"source\":0", "\"source\":1", Some(RecordingKey::Source)),
+        ("\"source\":0", "\"source\":-1", Some(RecordingKey::Source)),
         (
             "\"source\":0",
             "\"source\":null",
             Some(RecordingKey::Source),
         ),
-        (
-            "\"source\":0",
-            "\"source\":0.0",
-            Some(RecordingKey::Source),
-        ),
+        ("\"source\":0", "\"source\":0.0", Some(RecordingKey::Source)),
         (
             "\"source\":0",
             "\"source\":\"0\"",
             Some(RecordingKey::Source),
         ),
-        (
-            "\"line\":2,",
-            "",
-            Some(RecordingKey::Line),
-        ),
-        (
-            "\"line\":2",
-            "\"line\":0",
-            Some(RecordingKey::Line),
-        ),
-        (
-            "\"line\":2",
-            "\"line\":3",
-            Some(RecordingKey::Line),
-        ),
-        (
-            "\"line\":2",
-            "\"line\":1",
-            None,
-        ),
-        (
-            "\"line\":2",
-            "\"line\":null",
-            Some(RecordingKey::Line),
-        ),
+        ("\"line\":2,", "", Some(RecordingKey::Line)),
+        ("\"line\":2", "\"line\":0", Some(RecordingKey::Line)),
+        ("\"line\":2", "\"line\":3", Some(RecordingKey::Line)),
+        ("\"line\":2", "\"line\":1", None),
+        ("\"line\":2", "\"line\":null", Some(RecordingKey::Line)),
         (
             "\"line\":2",
             "\"line\":2147483648",
@@ -491,16 +377,8 @@ fn names_the_first_bad_key(rt: HostRuntime) -> Result<(), Fail> {
             "\"scopes\":[[]]",
             Some(RecordingKey::Scopes),
         ),
-        (
-            "\"name\":\"s\",",
-            "",
-            Some(RecordingKey::Name),
-        ),
-        (
-            "\"name\":\"s\"",
-            "\"name\":null",
-            Some(RecordingKey::Name),
-        ),
+        ("\"name\":\"s\",", "", Some(RecordingKey::Name)),
+        ("\"name\":\"s\"", "\"name\":null", Some(RecordingKey::Name)),
         (
             ",\"variables\":[{\"name\":\"v\",\"value\":\"1\",\"variables\":[{\"name\":\"w\",\"value\":\"2\"}]}]",
             "",
@@ -531,21 +409,9 @@ fn names_the_first_bad_key(rt: HostRuntime) -> Result<(), Fail> {
             "\"variables\":[3]",
             Some(RecordingKey::Variables),
         ),
-        (
-            "\"name\":\"v\",",
-            "",
-            Some(RecordingKey::Name),
-        ),
-        (
-            "\"value\":\"1\",",
-            "",
-            Some(RecordingKey::Value),
-        ),
-        (
-            "\"value\":\"1\"",
-            "\"value\":1",
-            Some(RecordingKey::Value),
-        ),
+        ("\"name\":\"v\",", "", Some(RecordingKey::Name)),
+        ("\"value\":\"1\",", "", Some(RecordingKey::Value)),
+        ("\"value\":\"1\"", "\"value\":1", Some(RecordingKey::Value)),
         (
             ",\"variables\":[{\"name\":\"w\",\"value\":\"2\"}]",
             "",
@@ -566,51 +432,27 @@ fn names_the_first_bad_key(rt: HostRuntime) -> Result<(), Fail> {
             "\"variables\":[null]",
             Some(RecordingKey::Variables),
         ),
-        (
-            "\"name\":\"w\",",
-            "",
-            Some(RecordingKey::Name),
-        ),
-        (
-            ",\"value\":\"2\"",
-            "",
-            Some(RecordingKey::Value),
-        ),
+        ("\"name\":\"w\",", "", Some(RecordingKey::Name)),
+        (",\"value\":\"2\"", "", Some(RecordingKey::Value)),
         (
             "\"value\":\"2\"",
             "\"value\":null",
             Some(RecordingKey::Value),
         ),
-        (
-            "\"thread\":1,",
-            "",
-            Some(RecordingKey::Thread),
-        ),
-        (
-            "\"thread\":1",
-            "\"thread\":2",
-            Some(RecordingKey::Thread),
-        ),
+        ("\"thread\":1,", "", Some(RecordingKey::Thread)),
+        ("\"thread\":1", "\"thread\":2", Some(RecordingKey::Thread)),
         (
             "\"thread\":1",
             "\"thread\":null",
             Some(RecordingKey::Thread),
         ),
-        (
-            "\"thread\":1",
-            "\"thread\":1.0",
-            Some(RecordingKey::Thread),
-        ),
+        ("\"thread\":1", "\"thread\":1.0", Some(RecordingKey::Thread)),
         (
             "\"thread\":1",
             "\"thread\":\"1\"",
             Some(RecordingKey::Thread),
         ),
-        (
-            "\"output\":\"o\",",
-            "",
-            None,
-        ),
+        ("\"output\":\"o\",", "", None),
         (
             "\"output\":\"o\"",
             "\"output\":null",
@@ -621,11 +463,7 @@ fn names_the_first_bad_key(rt: HostRuntime) -> Result<(), Fail> {
             "\"output\":5",
             Some(RecordingKey::Output),
         ),
-        (
-            ",\"waits\":true",
-            "",
-            None,
-        ),
+        (",\"waits\":true", "", None),
         (
             "\"waits\":true",
             "\"waits\":null",
@@ -636,21 +474,13 @@ fn names_the_first_bad_key(rt: HostRuntime) -> Result<(), Fail> {
             "\"waits\":\"true\"",
             Some(RecordingKey::Waits),
         ),
-        (
-            "\"waits\":true",
-            "\"waits\":false",
-            None,
-        ),
+        ("\"waits\":true", "\"waits\":false", None),
         (
             "\"exit\":3,\"sources\":",
             "\"x\":null,\"exit\":null,\"sources\":",
             Some(RecordingKey::Exit),
         ),
-        (
-            "\"exit\":3",
-            "\"other\":[1],\"exit\":3",
-            None,
-        ),
+        ("\"exit\":3", "\"other\":[1],\"exit\":3", None),
         (
             "\"thread\":1,\"output\":\"o\",\"waits\":true",
             "\"waits\":null,\"output\":null,\"thread\":null",

@@ -17,7 +17,10 @@ use std::marker::Model;
 // ---- variables
 
 /// The number of variables, where there are some.
-fn holder(inner: Vec<Variable>, holders: &mut Vec<List<Variable>>) -> Result<Option<u64>, AllocError>
+fn holder(
+    inner: Vec<Variable>,
+    holders: &mut Vec<List<Variable>>,
+) -> Result<Option<u64>, AllocError>
     ensures holder { IfOk result (λ o. o ≡ holder_of inner.items holders.old.items) }
     ensures holders { IfOk result (λ _. holders.new.items ≡ with_holder inner.items holders.old.items) }
 {
@@ -31,7 +34,11 @@ fn holder(inner: Vec<Variable>, holders: &mut Vec<List<Variable>>) -> Result<Opt
 
 /// A variable, whose children get their numbers before it.
 #[cycle(variables)]
-fn variable(alloc: Global, value: &Value, holders: &mut Vec<List<Variable>>) -> Result<Variable, RecordingFault>
+fn variable(
+    alloc: Global,
+    value: &Value,
+    holders: &mut Vec<List<Variable>>,
+) -> Result<Variable, RecordingFault>
     ensures { GivesWith result holders.new.items (variable_row (view value.now) holders.old.items) }
 {
     reading::element(value, RecordingKey::Variables)?;
@@ -48,7 +55,11 @@ fn variable(alloc: Global, value: &Value, holders: &mut Vec<List<Variable>>) -> 
 
 /// The variables at the key for them.
 #[cycle(variables)]
-fn children(alloc: Global, value: &Value, holders: &mut Vec<List<Variable>>) -> Result<Vec<Variable>, RecordingFault>
+fn children(
+    alloc: Global,
+    value: &Value,
+    holders: &mut Vec<List<Variable>>,
+) -> Result<Vec<Variable>, RecordingFault>
     ensures { GivesListWith result holders.new.items (listed (value_at key.Variables (view value.now)) holders.old.items) }
 {
     match value.get(RecordingKey::Variables.name()) {
@@ -58,7 +69,11 @@ fn children(alloc: Global, value: &Value, holders: &mut Vec<List<Variable>>) -> 
 }
 
 #[cycle(variables)]
-fn variables(alloc: Global, value: &Value, holders: &mut Vec<List<Variable>>) -> Result<Vec<Variable>, RecordingFault>
+fn variables(
+    alloc: Global,
+    value: &Value,
+    holders: &mut Vec<List<Variable>>,
+) -> Result<Vec<Variable>, RecordingFault>
     ensures { GivesListWith result holders.new.items (variables_of (view value.now) holders.old.items) }
 {
     let Some(items) = value.as_array() else {
@@ -74,7 +89,11 @@ fn variables(alloc: Global, value: &Value, holders: &mut Vec<List<Variable>>) ->
 // ---- scopes, frames and threads
 
 #[tactic(auto, unfolding(crate::specs::Reading::scope_of))]
-fn scope(alloc: Global, value: &Value, holders: &mut Vec<List<Variable>>) -> Result<Scope, RecordingFault>
+fn scope(
+    alloc: Global,
+    value: &Value,
+    holders: &mut Vec<List<Variable>>,
+) -> Result<Scope, RecordingFault>
     ensures { GivesWith result holders.new.items (scope_of (view value.now) holders.old.items) }
 {
     reading::element(value, RecordingKey::Scopes)?;
@@ -85,7 +104,11 @@ fn scope(alloc: Global, value: &Value, holders: &mut Vec<List<Variable>>) -> Res
     Ok(Scope { name, holder })
 }
 
-fn each_scope(alloc: Global, items: &[Value], holders: &mut Vec<List<Variable>>) -> Result<Vec<Scope>, RecordingFault>
+fn each_scope(
+    alloc: Global,
+    items: &[Value],
+    holders: &mut Vec<List<Variable>>,
+) -> Result<Vec<Scope>, RecordingFault>
     ensures { GivesListWith result holders.new.items (each (λ earlier. scope_of) (items_view items.now) [] holders.old.items) }
 {
     let mut found = Vec::new(alloc);
@@ -97,7 +120,11 @@ fn each_scope(alloc: Global, items: &[Value], holders: &mut Vec<List<Variable>>)
 
 /// The scopes of a frame, where it has some.
 #[tactic(auto, unfolding(crate::specs::Reading::scopes_of))]
-fn scopes(alloc: Global, value: &Value, holders: &mut Vec<List<Variable>>) -> Result<Vec<Scope>, RecordingFault>
+fn scopes(
+    alloc: Global,
+    value: &Value,
+    holders: &mut Vec<List<Variable>>,
+) -> Result<Vec<Scope>, RecordingFault>
     ensures { GivesListWith result holders.new.items (scopes_of (view value.now) holders.old.items) }
 {
     let items = reading::items_if_any(value, RecordingKey::Scopes)?;
@@ -123,7 +150,10 @@ impl Model for Numbers {
 fn source_place(sources: &[RecordedSource], value: &Value) -> Result<u32, RecordingFault>
     ensures { Gives result (required (source_place_of sources.now) key.Source (view value.now)) }
 {
-    match value.get(RecordingKey::Source.name()).and_then(reading::number) {
+    match value
+        .get(RecordingKey::Source.name())
+        .and_then(reading::number)
+    {
         Some(place) if (place as usize) < sources.len() => Ok(place),
         _ => Err(bad(RecordingKey::Source)),
     }
@@ -133,7 +163,10 @@ fn source_place(sources: &[RecordedSource], value: &Value) -> Result<u32, Record
 fn line(lines: u64, value: &Value) -> Result<u32, RecordingFault>
     ensures { Gives result (required (line_of lines) key.Line (view value.now)) }
 {
-    match value.get(RecordingKey::Line.name()).and_then(reading::number) {
+    match value
+        .get(RecordingKey::Line.name())
+        .and_then(reading::number)
+    {
         Some(line) if 1 <= line && line as u64 <= lines => Ok(line),
         _ => Err(bad(RecordingKey::Line)),
     }
@@ -150,7 +183,12 @@ fn lines_of(sources: &[RecordedSource], place: u32) -> u64
 
 /// A frame, whose number is the count of those before it.
 #[tactic(auto, unfolding(crate::specs::Reading::frame_of))]
-fn frame(alloc: Global, sources: &[RecordedSource], value: &Value, numbers: &mut Numbers) -> Result<Frame, RecordingFault>
+fn frame(
+    alloc: Global,
+    sources: &[RecordedSource],
+    value: &Value,
+    numbers: &mut Numbers,
+) -> Result<Frame, RecordingFault>
     ensures { GivesWith result numbers.new (frame_of sources.now (view value.now) numbers.old) }
 {
     reading::element(value, RecordingKey::Frames)?;
@@ -168,7 +206,12 @@ fn frame(alloc: Global, sources: &[RecordedSource], value: &Value, numbers: &mut
     })
 }
 
-fn frames(alloc: Global, sources: &[RecordedSource], items: &[Value], numbers: &mut Numbers) -> Result<Vec<Frame>, RecordingFault>
+fn frames(
+    alloc: Global,
+    sources: &[RecordedSource],
+    items: &[Value],
+    numbers: &mut Numbers,
+) -> Result<Vec<Frame>, RecordingFault>
     ensures { GivesListWith result numbers.new (each (λ earlier. frame_of sources.now) (items_view items.now) [] numbers.old) }
 {
     let mut found = Vec::new(alloc);
@@ -203,14 +246,23 @@ fn new_id(earlier: &[RecordedThread], value: &Value) -> Result<i64, RecordingFau
 fn thread_place(threads: &[RecordedThread], value: &Value) -> Result<usize, RecordingFault>
     ensures { Gives result (required (thread_place_of threads.now) key.Thread (view value.now)) }
 {
-    match value.get(RecordingKey::Thread.name()).and_then(reading::int) {
+    match value
+        .get(RecordingKey::Thread.name())
+        .and_then(reading::int)
+    {
         Some(id) => place(id, threads).ok_or(bad(RecordingKey::Thread)),
         None => Err(bad(RecordingKey::Thread)),
     }
 }
 
 #[tactic(auto, unfolding(crate::specs::Reading::thread_of))]
-fn thread(alloc: Global, sources: &[RecordedSource], earlier: &[RecordedThread], value: &Value, numbers: &mut Numbers) -> Result<RecordedThread, RecordingFault>
+fn thread(
+    alloc: Global,
+    sources: &[RecordedSource],
+    earlier: &[RecordedThread],
+    value: &Value,
+    numbers: &mut Numbers,
+) -> Result<RecordedThread, RecordingFault>
     ensures { GivesWith result numbers.new (thread_of sources.now earlier.now (view value.now) numbers.old) }
 {
     reading::element(value, RecordingKey::Threads)?;
@@ -225,7 +277,12 @@ fn thread(alloc: Global, sources: &[RecordedSource], earlier: &[RecordedThread],
     })
 }
 
-fn threads(alloc: Global, sources: &[RecordedSource], items: &[Value], numbers: &mut Numbers) -> Result<Vec<RecordedThread>, RecordingFault>
+fn threads(
+    alloc: Global,
+    sources: &[RecordedSource],
+    items: &[Value],
+    numbers: &mut Numbers,
+) -> Result<Vec<RecordedThread>, RecordingFault>
     ensures { GivesListWith result numbers.new (each (thread_of sources.now) (items_view items.now) [] numbers.old) }
 {
     let mut found = Vec::new(alloc);
@@ -238,7 +295,12 @@ fn threads(alloc: Global, sources: &[RecordedSource], items: &[Value], numbers: 
 // ---- the whole
 
 #[tactic(auto, unfolding(crate::specs::Reading::moment_of))]
-fn moment(alloc: Global, sources: &[RecordedSource], value: &Value, numbers: &mut Numbers) -> Result<Moment, RecordingFault>
+fn moment(
+    alloc: Global,
+    sources: &[RecordedSource],
+    value: &Value,
+    numbers: &mut Numbers,
+) -> Result<Moment, RecordingFault>
     ensures { GivesWith result numbers.new (moment_of sources.now (view value.now) numbers.old) }
 {
     reading::element(value, RecordingKey::Moments)?;
@@ -256,7 +318,12 @@ fn moment(alloc: Global, sources: &[RecordedSource], value: &Value, numbers: &mu
 }
 
 #[tactic(auto, unfolding(crate::specs::Reading::moments_of))]
-fn moments(alloc: Global, sources: &[RecordedSource], items: &[Value], numbers: &mut Numbers) -> Result<Vec<Moment>, RecordingFault>
+fn moments(
+    alloc: Global,
+    sources: &[RecordedSource],
+    items: &[Value],
+    numbers: &mut Numbers,
+) -> Result<Vec<Moment>, RecordingFault>
     ensures { GivesListWith result numbers.new (moments_of sources.now (items_view items.now) numbers.old) }
 {
     let mut found = Vec::new(alloc);
@@ -320,7 +387,12 @@ impl Numbers {
         }
     }
 
-    fn into_recording(self, exit: i32, sources: Vec<RecordedSource>, moments: Vec<Moment>) -> Recording
+    fn into_recording(
+        self,
+        exit: i32,
+        sources: Vec<RecordedSource>,
+        moments: Vec<Moment>,
+    ) -> Recording
         ensures { result ≡ record { exit = exit; sources = sources.items; moments = moments.items; scopes = self.scopes; variables = self.variables } }
     {
         let Numbers { scopes, variables } = self;
