@@ -135,7 +135,7 @@ pub poll_tells : (v w : Played) (run : Run) (piece : List ℕ) (rest : List (Lis
     → FollowsPlayed v to_poll (happened (happening.Output Stdout piece)) w
 poll_tells v w run piece rest runs going is after =
     let given : polled v.state v.run v ≡ (happening.Output Stdout piece, with_run (record { output = rest; move = run.move; paused = run.paused }) v) =
-      ap (λ s. polled s v.run v) runs ∙ ap (λ r. polled Running r v) going ∙ ap (λ p. ran run p v) is in
+    ap (λ s. polled s v.run v) runs ∙ ap (λ r. polled Running r v) going ∙ ap (λ p. ran run p v) is in
     record { reply = sym (ap (λ p. happened p.0) given); view = after ∙ sym (ap (λ p. asked to_poll (happened (happening.Output Stdout piece)) p.1) given) }
 
 pub poll_ends : (v w : Played) (run : Run) (h : Happening) → v.state ≡ Running → v.run ≡ Some run → first_piece run.output ≡ None
@@ -143,5 +143,5 @@ pub poll_ends : (v w : Played) (run : Run) (h : Happening) → v.state ≡ Runni
     → FollowsPlayed v to_poll (happened h) w
 poll_ends v w run h runs going is what after =
     let given : polled v.state v.run v ≡ arrived run v =
-      ap (λ s. polled s v.run v) runs ∙ ap (λ r. polled Running r v) going ∙ ap (λ p. ran run p v) is in
+    ap (λ s. polled s v.run v) runs ∙ ap (λ r. polled Running r v) going ∙ ap (λ p. ran run p v) is in
     record { reply = ap happened what ∙ sym (ap (λ p. happened p.0) given); view = after ∙ sym (ap (λ p. asked to_poll (happened h) p.1) given) }

@@ -48,7 +48,7 @@ up_to : (text : List ℕ) (k n : ℕ) → n ≤ k → k < length text → IsChar
 up_to text zero n below within at nearest = omega (arith, below)
 up_to text (suc k) n below within at nearest =
     up_by (is_boundary text (suc k)) text k n refl below within at nearest
-      (λ less. up_to text k n less (omega (arith, within)) at (λ i more up. nearest i more (omega (arith, up))))
+    (λ less. up_to text k n less (omega (arith, within)) at (λ i more up. nearest i more (omega (arith, up))))
 
 whole_by : (b : Bool) (text : List ℕ) (n : ℕ) → nat_lt n (length text) ≡ b → length text ≤ 128 → IsCharBoundary text n → ((i : ℕ) → n < i → i ≤ 128 → ¬ (IsCharBoundary text i)) → length text ≡ n
 whole_by true text n is short at nearest = absurd (nearest (length text) (grind (arith, nat_tests, is)) short (omega arith, λ less. absurd (omega (arith, less))))

@@ -65,7 +65,7 @@ there_by false n threads good = refl
 threads_good : (v : Played) → IsRecording v.recording → list_all (is_thread (length v.recording.sources)) (threads_at v) ≡ true
 threads_good v good =
     there_by (is_there v.state) (length v.recording.sources) _
-      (threads_by (length v.recording.sources) (slice_get v.recording.moments v.at) (λ m is. all_at (is_moment (length v.recording.sources)) v.recording.moments v.at m good.moments is))
+    (threads_by (length v.recording.sources) (slice_get v.recording.moments v.at) (λ m is. all_at (is_moment (length v.recording.sources)) v.recording.moments v.at m good.moments is))
 
 and_true : (a b : Bool) → a ≡ true → b ≡ true → (a && b) ≡ true
 and_true a b e f = rw (e, f)
@@ -92,13 +92,13 @@ frames_by : (n : ℕ) (o : Option RecordedThread) (frames : List Frame) → ((th
 frames_by n None frames good is = absurd (cc is)
 frames_by n (Some thread) frames good is =
     subst (λ fs. list_all (is_frame n) fs ≡ true) (some_same thread.frames frames is)
-      (both (nat_lt 0 (length thread.frames)) _ (both (is_int thread.id) _ (good thread refl)).1).1
+    (both (nat_lt 0 (length thread.frames)) _ (both (is_int thread.id) _ (good thread refl)).1).1
 
 pub frames_in_range : (v : Played) → IsRecording v.recording → FramesInRange (shown_of v)
 frames_in_range v good id frames is =
     subst (λ n. list_all (is_frame n) frames ≡ true) (sym (length_map source_shown v.recording.sources))
-      (frames_by (length v.recording.sources) (find (λ thread. int_eq id thread.id) (threads_at v)) frames
-        (λ thread found. find_good (λ thread. int_eq id thread.id) (is_thread (length v.recording.sources)) (threads_at v) thread (threads_good v good) found) is)
+    (frames_by (length v.recording.sources) (find (λ thread. int_eq id thread.id) (threads_at v)) frames
+    (λ thread found. find_good (λ thread. int_eq id thread.id) (is_thread (length v.recording.sources)) (threads_at v) thread (threads_good v good) found) is)
 
 -- ---- one name
 
@@ -181,9 +181,10 @@ one_step : (p q : Bool) (x a b : RecordedThread) (xs : List RecordedThread) (s t
 one_step true true x a b xs s t i j f g r u is_s is_t rising found_a found_b at_f at_g same in_f in_g rest =
     let front = map (λ (frame : Frame). frame.object) x.frames in
     let here = object_at x.frames i f (subst (λ (y : RecordedThread). slice_get y.frames i ≡ Some f) (sym (some_same x a found_a)) at_f) in
-    let there = object_at x.frames j g (subst (λ (y : RecordedThread). slice_get y.frames j ≡ Some g) (sym (some_same x b found_b)) at_g) in
-    ((Decides-int_eq s x.id).0 is_s ∙ sym ((Decides-int_eq t x.id).0 is_t),
-      one_place (front ++ objects_of xs) i j f.object g.object rising (get_front front (objects_of xs) i f.object here) (get_front front (objects_of xs) j g.object there) same)
+    let there = object_at x.frames j g (subst (λ (y : RecordedThread). slice_get y.frames j ≡ Some g) (sym (some_same x b found_b)) at_g) in (
+      (Decides-int_eq s x.id).0 is_s ∙ sym ((Decides-int_eq t x.id).0 is_t),
+      one_place (front ++ objects_of xs) i j f.object g.object rising (get_front front (objects_of xs) i f.object here) (get_front front (objects_of xs) j g.object there) same,
+    )
 one_step true false x a b xs s t i j f g r u is_s is_t rising found_a found_b at_f at_g same in_f in_g rest =
     absurd (apart x xs i f g.object rising (subst (λ (y : RecordedThread). slice_get y.frames i ≡ Some f) (sym (some_same x a found_a)) at_f) (in_g found_b) same)
 one_step false true x a b xs s t i j f g r u is_s is_t rising found_a found_b at_f at_g same in_f in_g rest =
@@ -196,8 +197,8 @@ one_name : (threads : List RecordedThread) (s t : ℤ) (a b : RecordedThread) (i
 one_name [] s t a b i j f g rising found_a found_b at_f at_g same = absurd (cc found_a)
 one_name (x ∷ xs) s t a b i j f g rising found_a found_b at_f at_g same =
     one_step (int_eq s x.id) (int_eq t x.id) x a b xs s t i j f g (find (λ thread. int_eq s thread.id) xs) (find (λ thread. int_eq t thread.id) xs) refl refl rising found_a found_b at_f at_g same
-      (λ later. among (λ thread. int_eq s thread.id) xs a i f later at_f) (λ later. among (λ thread. int_eq t thread.id) xs b j g later at_g)
-      (λ later_a later_b. one_name xs s t a b i j f g (rising_after (map (λ frame. frame.object) x.frames) (objects_of xs) rising) later_a later_b at_f at_g same)
+    (λ later. among (λ thread. int_eq s thread.id) xs a i f later at_f) (λ later. among (λ thread. int_eq t thread.id) xs b j g later at_g)
+    (λ later_a later_b. one_name xs s t a b i j f g (rising_after (map (λ frame. frame.object) x.frames) (objects_of xs) rising) later_a later_b at_f at_g same)
 
 rising_by : (n : ℕ) (o : Option Moment) → ((m : Moment) → o ≡ Some m → is_moment n m ≡ true) → is_rising (objects_of (unwrap_or (option_map (λ m. m.threads) o) [])) ≡ true
 rising_by n None good = refl
@@ -213,7 +214,7 @@ rising_there false threads rising = refl
 rising_at : (v : Played) → IsRecording v.recording → is_rising (objects_of (threads_at v)) ≡ true
 rising_at v good =
     rising_there (is_there v.state) _
-      (rising_by (length v.recording.sources) (slice_get v.recording.moments v.at) (λ m is. all_at (is_moment (length v.recording.sources)) v.recording.moments v.at m good.moments is))
+    (rising_by (length v.recording.sources) (slice_get v.recording.moments v.at) (λ m is. all_at (is_moment (length v.recording.sources)) v.recording.moments v.at m good.moments is))
 
 -- the thread whose frames were told
 thread_told : (o : Option RecordedThread) (frames : List Frame) → option_map (λ thread. thread.frames) o ≡ Some frames → (thread : RecordedThread) × (o ≡ Some thread) × (thread.frames ≡ frames)
@@ -225,4 +226,4 @@ names_one v good s t fs gs i j f g of_s of_t at_f at_g same =
     let a = thread_told (find (λ thread. int_eq s thread.id) (threads_at v)) fs of_s in
     let b = thread_told (find (λ thread. int_eq t thread.id) (threads_at v)) gs of_t in
     one_name (threads_at v) s t a.0 b.0 i j f g (rising_at v good) a.1 b.1
-      (subst (λ frames. slice_get frames i ≡ Some f) (sym a.2) at_f) (subst (λ frames. slice_get frames j ≡ Some g) (sym b.2) at_g) same
+    (subst (λ frames. slice_get frames i ≡ Some f) (sym a.2) at_f) (subst (λ frames. slice_get frames j ≡ Some g) (sym b.2) at_g) same

@@ -1,6 +1,8 @@
 pub mod Shown
 pub mod Laws
 pub mod Recording
+pub mod RecordingKey
+pub mod Reading
 pub mod Moves
 pub mod Played
 pub mod Held

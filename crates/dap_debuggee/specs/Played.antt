@@ -156,8 +156,8 @@ abbrev pub arrived : Run → Played → Happening × Played
 arrived run v =
     if run.move.held && not run.paused then (happening.Nothing, with_run (record { output = []; move = run.move; paused = run.paused }) v)
     else (if nat_lt run.move.to (length v.recording.moments)
-      then (happening.Stopped (reason_text run.move.reason) (unwrap_or (option_map id_at (slice_get v.recording.moments run.move.to)) (pos 0)), resting Stopped run.move.to v)
-      else (happening.Exited v.recording.exit, resting Gone v.at v))
+    then (happening.Stopped (reason_text run.move.reason) (unwrap_or (option_map id_at (slice_get v.recording.moments run.move.to)) (pos 0)), resting Stopped run.move.to v)
+    else (happening.Exited v.recording.exit, resting Gone v.at v))
 
 -- a piece of output, while there is one
 abbrev pub ran : Run → Option (List ℕ × List (List ℕ)) → Played → Happening × Played

@@ -5,8 +5,8 @@ ghost use Rattle.dap_debuggee.specs.Laws.{Replies, is_short};
 ghost use Rattle.dap_debuggee.specs.Played.{FollowsPlayed};
 
 use crate::answers::{Asked, DebuggeeFault, How, State};
-use crate::recorded::{Going, LastAsked, Recorded};
 use crate::lines;
+use crate::recorded::{Going, LastAsked, Recorded};
 use dap_call::SourceKey;
 use std::alloc::{AllocError, Global};
 

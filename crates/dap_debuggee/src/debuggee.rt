@@ -5,7 +5,9 @@
 //! touches no other.
 ghost use Rattle.std.specs.Prelude.{◌≡◌, IfOk, OnOk};
 
-use crate::answers::{DebuggeeFault, Evaluation, Frame, Happening, How, Scope, Source, Thread, Variable};
+use crate::answers::{
+    DebuggeeFault, Evaluation, Frame, Happening, How, Scope, Source, Thread, Variable,
+};
 use dap_call::SourceKey;
 use dap_json::Text;
 use std::alloc::{AllocError, Global};

@@ -1,4 +1,8 @@
-//! What is debugged.
+//! What is debugged: the interface that an adapter rests on, and a debuggee that plays a recorded run.
+//!
+//! An adapter asks acts and queries of a [`Debuggee`], and rests on its laws alone. [`Recorded`] reads a recording and
+//! plays it. This crate knows sources, lines and object numbers; it must not know messages, references nor phases of a
+//! session.
 #![tactic(auto)]
 
 mod acts;
@@ -9,16 +13,25 @@ mod list;
 mod moves;
 mod polls;
 mod queries;
+mod read;
+mod reading;
 mod recorded;
 mod recording;
+mod rows;
 mod run;
 
 pub use answers::{
-    Asked, Category, DebuggeeFault, Evaluation, Frame, Happening, How, Scope, Source, State, Thread, Variable,
+    Asked, Category, DebuggeeFault, Evaluation, Frame, Happening, How, Scope, Source, State,
+    Thread, Variable,
 };
 pub use debuggee::Debuggee;
 pub use list::List;
+pub use reading::{RecordingFault, RecordingKey};
 pub use recorded::Recorded;
 
 #[cfg(test)]
+mod reading_tests;
+#[cfg(test)]
 mod stubborn;
+#[cfg(test)]
+mod tests;

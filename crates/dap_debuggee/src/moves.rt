@@ -91,7 +91,10 @@ fn is_at_breakpoint(moment: &Moment, sources: &[RecordedSource], set: &[SetLines
     {
         return true;
     }
-    has_line(frame.line, lines::of_reference(set, frame.source as u64 + 1))
+    has_line(
+        frame.line,
+        lines::of_reference(set, frame.source as u64 + 1),
+    )
 }
 
 /// What a move is decided by.
@@ -176,7 +179,10 @@ impl Plan<'_> {
             How::StepIn => (i + 1, Reason::Step),
             How::Next => (self.least_after(Wanted::NoDeeper(deep), i), Reason::Step),
             How::StepOut => (self.least_after(Wanted::Shallower(deep), i), Reason::Step),
-            How::Continue => (self.least_after(Wanted::AtBreakpoint, i), Reason::Breakpoint),
+            How::Continue => (
+                self.least_after(Wanted::AtBreakpoint, i),
+                Reason::Breakpoint,
+            ),
             How::StepBack => (i.saturating_sub(1), Reason::Step),
             How::ReverseContinue => match self.greatest_before(Wanted::AtBreakpoint, i) {
                 None => (0, Reason::Entry),

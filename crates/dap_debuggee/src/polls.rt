@@ -3,9 +3,8 @@
 ghost use Rattle.std.specs.Prelude.{◌≡◌};
 
 use crate::answers::{Category, Happening, State};
-use crate::moves;
 use crate::recorded::{Given, Going, LastAsked, Recorded};
-use crate::run;
+use crate::{moves, run};
 use dap_json::Text;
 use std::alloc::{AllocError, Global};
 

@@ -111,11 +111,7 @@ fn named<'v>(variables: &'v [Variable], name: &str) -> Option<&'v Variable>
 }
 
 /// The first variable with a name in a scope.
-fn value_of<'r>(
-    variables: &'r [List<Variable>],
-    name: &str,
-    scope: &Scope,
-) -> Option<&'r Variable>
+fn value_of<'r>(variables: &'r [List<Variable>], name: &str, scope: &Scope) -> Option<&'r Variable>
     ensures { option_map (λ v. v.now) result ≡ variable_named name.now (held_by variables.now scope.now.holder) }
 {
     named(variables.get(scope.holder as usize)?.as_slice(), name)

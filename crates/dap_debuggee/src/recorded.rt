@@ -5,7 +5,9 @@ ghost use Rattle.std.specs.Prelude.{if◌then◌else◌};
 ghost use Rattle.dap_debuggee.specs.Moves.{is_forward};
 ghost use Rattle.dap_debuggee.specs.Recording.{IsRecording};
 
-use crate::answers::{Asked, DebuggeeFault, Evaluation, Frame, Happening, How, Scope, Source, State, Thread, Variable};
+use crate::answers::{
+    Asked, DebuggeeFault, Evaluation, Frame, Happening, How, Scope, Source, State, Thread, Variable,
+};
 use crate::debuggee::Debuggee;
 use crate::lines::SetLines;
 use crate::moves;
@@ -77,13 +79,13 @@ impl Model for Recorded {
     ghost Value = { Played };
 
     ghost view = { λ r. record {
-        recording = r.recording;
-        state = r.state;
-        at = r.at;
-        run = run_of r.recording.moments r.going;
-        set = r.set.items;
-        acts = r.acts;
-        last = last_of r.recording r.last;
+      recording = r.recording;
+      state = r.state;
+      at = r.at;
+      run = run_of r.recording.moments r.going;
+      set = r.set.items;
+      acts = r.acts;
+      last = last_of r.recording r.last;
     } };
 
     ghost invariant = { λ r. IsRecording r.recording × (r.at < length r.recording.moments) × IsToldWhole r.recording.moments r.going };

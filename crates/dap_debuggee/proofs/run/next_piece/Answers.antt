@@ -30,7 +30,7 @@ returns-clause-whole c =
     let told = ready_told moments g m c.requires.ready within is in
     let text : c.rest-rest.result.now ≡ drop g.told m.output = c.rest-rest.ensures ∙ ap (drop g.told) c.as_str.ensures in
     inr (subst (λ t. IsCharBoundary t (g.told + c.piece-n.result)) (sym (output_is moments g.moment m is))
-      (told_whole m.output g.told c.piece-n.result told (subst (λ t. IsCharBoundary t c.piece-n.result) text c.piece-n.ensures.boundary)))
+    (told_whole m.output g.told c.piece-n.result told (subst (λ t. IsCharBoundary t c.piece-n.result) text c.piece-n.ensures.boundary)))
 
 pub returns-clause-text : goal.returns-clause-text
 returns-clause-text c =

@@ -8,7 +8,7 @@ abbrev pub invariant-loop-k : goal.invariant-loop-k
 invariant-loop-k l =
     (l.k ≤ l.i) × (l.i < length l.self.moments.now)
     × (last_place (passes l.self.sources.now (lines_in l.self.set.now) l.wanted) (take l.k l.self.moments.now)
-        ≡ greatest_before (passes l.self.sources.now (lines_in l.self.set.now) l.wanted) l.i l.self.moments.now)
+    ≡ greatest_before (passes l.self.sources.now (lines_in l.self.set.now) l.wanted) l.i l.self.moments.now)
 
 abbrev pub decreases-loop-k : goal.decreases-loop-k
 decreases-loop-k l = l.k

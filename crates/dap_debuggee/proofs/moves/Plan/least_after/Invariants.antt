@@ -8,7 +8,7 @@ abbrev pub invariant-loop-moment : goal.invariant-loop-moment
 invariant-loop-moment l =
     (l.k ≤ length l.self.moments.now)
     × (l.k + first_place (passes l.self.sources.now (lines_in l.self.set.now) l.wanted) (drop l.k l.self.moments.now)
-        ≡ least_after (passes l.self.sources.now (lines_in l.self.set.now) l.wanted) l.i l.self.moments.now)
+    ≡ least_after (passes l.self.sources.now (lines_in l.self.set.now) l.wanted) l.i l.self.moments.now)
 
 abbrev pub decreases-loop-moment : goal.decreases-loop-moment
 decreases-loop-moment l = length l.self.moments.now - l.k

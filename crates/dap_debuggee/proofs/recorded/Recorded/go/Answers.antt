@@ -12,10 +12,10 @@ returns c =
     let move = c.movement-to.result in
     let last = c.last_told-last.result in
     let is : move ≡ move_from how v =
-        c.movement-to.ensures
-        ∙ ap (λ sources. move_of sources c.plan.result.moments.now (lines_in c.plan.result.set.now) how c.self.inside.at) c.plan.ensures.sources
-        ∙ ap (λ moments. move_of v.recording.sources moments (lines_in c.plan.result.set.now) how c.self.inside.at) c.plan.ensures.moments
-        ∙ ap (λ set. move_of v.recording.sources v.recording.moments (lines_in set) how c.self.inside.at) c.plan.ensures.set
-        ∙ ap (λ (w : Played). move_of v.recording.sources v.recording.moments (lines_in v.set) how w.at) c.self.view_is in
+    c.movement-to.ensures
+    ∙ ap (λ sources. move_of sources c.plan.result.moments.now (lines_in c.plan.result.set.now) how c.self.inside.at) c.plan.ensures.sources
+    ∙ ap (λ moments. move_of v.recording.sources moments (lines_in c.plan.result.set.now) how c.self.inside.at) c.plan.ensures.moments
+    ∙ ap (λ set. move_of v.recording.sources v.recording.moments (lines_in set) how c.self.inside.at) c.plan.ensures.set
+    ∙ ap (λ (w : Played). move_of v.recording.sources v.recording.moments (lines_in v.set) how w.at) c.self.view_is in
     ap (λ (w : Played). running w.at (output_left w.recording.moments (record { moment = w.at + 1; told = 0; last = last; to = move; paused = false })) move w) c.self.view_is
     ∙ goes v how move last is (c.last_told-last.ensures ∙ ap (λ (w : Played). if is_forward how then move.to else w.at) c.self.view_is)

@@ -1,0 +1,526 @@
+use crate::{Recorded, RecordingFault, RecordingKey};
+use std::alloc::Global;
+use std::test::Fail;
+
+const RECORDING_A: &str =
+    "{\"exit\":0,\"sources\":[{\"name\":\"a.c\",\"path\":\"/a.c\",\"text\":\"one\\ntwo\\nthree\\n\"}],\"moments\":[{\"thread\":1,\"output\":\"go\\n\",\"threads\":[{\"id\":1,\"name\":\"main\",\"frames\":[{\"name\":\"main\",\"source\":0,\"line\":1,\"scopes\":[{\"name\":\"Locals\",\"variables\":[{\"name\":\"x\",\"value\":\"1\"},{\"name\":\"p\",\"value\":\"P\",\"variables\":[{\"name\":\"a\",\"value\":\"7\"}]}]}]}]}]},{\"thread\":1,\"threads\":[{\"id\":1,\"name\":\"main\",\"frames\":[{\"name\":\"f\",\"source\":0,\"line\":3},{\"name\":\"main\",\"source\":0,\"line\":1}]}]},{\"thread\":1,\"waits\":true,\"threads\":[{\"id\":1,\"name\":\"main\",\"frames\":[{\"name\":\"main\",\"source\":0,\"line\":2}]}]}]}";
+
+/// Every key of the format, each name once.
+const WHOLE: &str =
+    "{\"exit\":3,\"sources\":[{\"name\":\"a\",\"path\":\"/a\",\"text\":\"x\\ny\"}],\"moments\":[{\"threads\":[{\"id\":1,\"name\":\"m\",\"frames\":[{\"name\":\"f\",\"source\":0,\"line\":2,\"scopes\":[{\"name\":\"s\",\"variables\":[{\"name\":\"v\",\"value\":\"1\",\"variables\":[{\"name\":\"w\",\"value\":\"2\"}]}]}]}]}],\"thread\":1,\"output\":\"o\",\"waits\":true}]}";
+
+/// The bad key, where bytes are no recording; `None` where they are one.
+fn refusal(alloc: Global, bytes: &[u8]) -> Option<RecordingFault> {
+    Recorded::read(alloc, bytes).err()
+}
+
+#[test]
+fn reads_a_recording(rt: HostRuntime) -> Result<(), Fail> {
+    let Ok(recorded) = Recorded::read(rt.alloc(), RECORDING_A.as_bytes()) else {
+        return Err("not read")?;
+    };
+    let recording = &recorded.recording;
+    assert_eq!(rt; recording.exit, 0);
+    let sources = recording.sources.as_slice();
+    assert_eq!(rt; sources.len(), 1);
+    assert_eq!(rt; sources[0].name.as_str(), "a.c");
+    assert!(rt;
+        sources[0]
+            .path
+            .as_ref()
+            .is_some_and(|p| p.as_str() == "/a.c")
+    );
+    assert_eq!(rt; sources[0].text.as_str(), "one\ntwo\nthree\n");
+    assert_eq!(rt; sources[0].lines, 3);
+    let moments = recording.moments.as_slice();
+    assert_eq!(rt; moments.len(), 3);
+    assert_eq!(rt; moments[0].output.as_str(), "go\n");
+    assert_eq!(rt; moments[1].output.as_str(), "");
+    assert!(rt; !moments[1].waits && moments[2].waits);
+    let frames = moments[1].threads.as_slice()[0].frames.as_slice();
+    assert_eq!(rt; frames.len(), 2);
+    assert_eq!(rt; frames[0].name.as_str(), "f");
+    assert_eq!(rt; (frames[0].object, frames[0].line), (1, 3));
+    assert_eq!(rt; (frames[1].object, frames[1].line), (2, 1));
+    let scopes = recording.scopes.as_slice();
+    assert_eq!(rt; scopes.len(), 4);
+    let locals = scopes[0].as_slice();
+    assert_eq!(rt; locals.len(), 1);
+    assert!(rt; scopes[1].as_slice().is_empty());
+    let holders = recording.variables.as_slice();
+    assert_eq!(rt; holders.len(), 2);
+    let variables = holders[locals[0].holder as usize].as_slice();
+    assert_eq!(rt; variables.len(), 2);
+    assert_eq!(rt; variables[0].value.as_str(), "1");
+    assert_eq!(rt; variables[0].holder, None);
+    let Some(inner) = variables[1].holder else {
+        return Err("no children")?;
+    };
+    assert_eq!(rt; holders[inner as usize].as_slice()[0].value.as_str(), "7");
+    Ok(())
+}
+
+#[test]
+fn refuses_what_is_no_object(rt: HostRuntime) -> Result<(), Fail> {
+    let rows: [(&str, RecordingFault); 7] = [
+        ("{", RecordingFault::NotJson),
+        ("", RecordingFault::NotJson),
+        ("{\"exit\":1e999}", RecordingFault::NotJson),
+        ("[]", RecordingFault::NotObject),
+        ("null", RecordingFault::NotObject),
+        (
+            "{\"exit\":0,\"sources\":[],\"moments\":[]}",
+            RecordingFault::BadKey {
+                key: RecordingKey::Moments,
+            },
+        ),
+        (
+            "{}",
+            RecordingFault::BadKey {
+                key: RecordingKey::Exit,
+            },
+        ),
+    ];
+    for (bytes, fault) in rows {
+        assert_eq!(rt;
+            refusal(rt.alloc(), bytes.as_bytes()),
+            Some(fault),
+            "{bytes}"
+        );
+    }
+    assert_eq!(rt;
+        refusal(rt.alloc(), b"\"\xff\""),
+        Some(RecordingFault::NotJson)
+    );
+    Ok(())
+}
+
+/// The whole recording with one place changed: from what, to what, and the key that is bad then, if one is.
+#[test]
+fn names_the_first_bad_key(rt: HostRuntime) -> Result<(), Fail> {
+    assert_eq!(rt; refusal(rt.alloc(), WHOLE.as_bytes()), None);
+    let rows: [(&str, &str, Option<RecordingKey>); 115] = [
+        ("\"exit\":3,", "", Some(RecordingKey::Exit)),
+        ("\"exit\":3", "\"exit\":2147483647", None),
+        ("\"exit\":3", "\"exit\":-2147483648", None),
+        (
+            "\"exit\":3",
+            "\"exit\":2147483648",
+            Some(RecordingKey::Exit),
+        ),
+        (
+            "\"exit\":3",
+            "\"exit\":-2147483649",
+            Some(RecordingKey::Exit),
+        ),
+        ("\"exit\":3", "\"exit\":null", Some(RecordingKey::Exit)),
+        ("\"exit\":3", "\"exit\":3.0", Some(RecordingKey::Exit)),
+        ("\"exit\":3", "\"exit\":\"3\"", Some(RecordingKey::Exit)),
+        (
+            "\"sources\":[{\"name\":\"a\",\"path\":\"/a\",\"text\":\"x\\ny\"}],",
+            "",
+            Some(RecordingKey::Sources),
+        ),
+        (
+            "\"sources\":[{\"name\":\"a\",\"path\":\"/a\",\"text\":\"x\\ny\"}]",
+            "\"sources\":null",
+            Some(RecordingKey::Sources),
+        ),
+        (
+            "\"sources\":[{\"name\":\"a\",\"path\":\"/a\",\"text\":\"x\\ny\"}]",
+            "\"sources\":{}",
+            Some(RecordingKey::Sources),
+        ),
+        (
+            "\"sources\":[{\"name\":\"a\",\"path\":\"/a\",\"text\":\"x\\ny\"}]",
+            "\"sources\":[7]",
+            Some(RecordingKey::Sources),
+        ),
+        (
+            "\"sources\":[{\"name\":\"a\",\"path\":\"/a\",\"text\":\"x\\ny\"}]",
+            "\"sources\":[null]",
+            Some(RecordingKey::Sources),
+        ),
+        (
+            "\"sources\":[{\"name\":\"a\",\"path\":\"/a\",\"text\":\"x\\ny\"}]",
+            "\"sources\":[[]]",
+            Some(RecordingKey::Sources),
+        ),
+        (
+            "\"sources\":[{\"name\":\"a\",\"path\":\"/a\",\"text\":\"x\\ny\"}]",
+            "\"sources\":[]",
+            Some(RecordingKey::Source),
+        ),
+        ("\"name\":\"a\",", "", Some(RecordingKey::Name)),
+        ("\"name\":\"a\"", "\"name\":null", Some(RecordingKey::Name)),
+        ("\"name\":\"a\"", "\"name\":\"\"", None),
+        ("\"path\":\"/a\",", "", None),
+        ("\"path\":\"/a\"", "\"path\":null", Some(RecordingKey::Path)),
+        ("\"path\":\"/a\"", "\"path\":5", Some(RecordingKey::Path)),
+        (",\"text\":\"x\\ny\"", "", Some(RecordingKey::Text)),
+        (
+            "\"text\":\"x\\ny\"",
+            "\"text\":null",
+            Some(RecordingKey::Text),
+        ),
+        (
+            "\"text\":\"x\\ny\"",
+            "\"text\":\"\"",
+            Some(RecordingKey::Line),
+        ),
+        (
+            "\"text\":\"x\\ny\"",
+            "\"text\":\"x\\n\"",
+            Some(RecordingKey::Line),
+        ),
+        ("\"text\":\"x\\ny\"", "\"text\":\"\\n\\n\"", None),
+        ("\"text\":\"x\\ny\"", "\"text\":\"\\r\\n\\r\"", None),
+        (
+            ",\"moments\":[{\"threads\":[{\"id\":1,\"name\":\"m\",\"frames\":[{\"name\":\"f\",\"source\":0,\"line\":2,\"scopes\":[{\"name\":\"s\",\"variables\":[{\"name\":\"v\",\"value\":\"1\",\"variables\":[{\"name\":\"w\",\"value\":\"2\"}]}]}]}]}],\"thread\":1,\"output\":\"o\",\"waits\":true}]",
+            "",
+            Some(RecordingKey::Moments),
+        ),
+        (
+            "\"moments\":[{\"threads\":[{\"id\":1,\"name\":\"m\",\"frames\":[{\"name\":\"f\",\"source\":0,\"line\":2,\"scopes\":[{\"name\":\"s\",\"variables\":[{\"name\":\"v\",\"value\":\"1\",\"variables\":[{\"name\":\"w\",\"value\":\"2\"}]}]}]}]}],\"thread\":1,\"output\":\"o\",\"waits\":true}]",
+            "\"moments\":null",
+            Some(RecordingKey::Moments),
+        ),
+        (
+            "\"moments\":[{\"threads\":[{\"id\":1,\"name\":\"m\",\"frames\":[{\"name\":\"f\",\"source\":0,\"line\":2,\"scopes\":[{\"name\":\"s\",\"variables\":[{\"name\":\"v\",\"value\":\"1\",\"variables\":[{\"name\":\"w\",\"value\":\"2\"}]}]}]}]}],\"thread\":1,\"output\":\"o\",\"waits\":true}]",
+            "\"moments\":[]",
+            Some(RecordingKey::Moments),
+        ),
+        (
+            "\"moments\":[{\"threads\":[{\"id\":1,\"name\":\"m\",\"frames\":[{\"name\":\"f\",\"source\":0,\"line\":2,\"scopes\":[{\"name\":\"s\",\"variables\":[{\"name\":\"v\",\"value\":\"1\",\"variables\":[{\"name\":\"w\",\"value\":\"2\"}]}]}]}]}],\"thread\":1,\"output\":\"o\",\"waits\":true}]",
+            "\"moments\":{}",
+            Some(RecordingKey::Moments),
+        ),
+        (
+            "\"moments\":[{\"threads\":[{\"id\":1,\"name\":\"m\",\"frames\":[{\"name\":\"f\",\"source\":0,\"line\":2,\"scopes\":[{\"name\":\"s\",\"variables\":[{\"name\":\"v\",\"value\":\"1\",\"variables\":[{\"name\":\"w\",\"value\":\"2\"}]}]}]}]}],\"thread\":1,\"output\":\"o\",\"waits\":true}]",
+            "\"moments\":[null]",
+            Some(RecordingKey::Moments),
+        ),
+        (
+            "\"moments\":[{\"threads\":[{\"id\":1,\"name\":\"m\",\"frames\":[{\"name\":\"f\",\"source\":0,\"line\":2,\"scopes\":[{\"name\":\"s\",\"variables\":[{\"name\":\"v\",\"value\":\"1\",\"variables\":[{\"name\":\"w\",\"value\":\"2\"}]}]}]}]}],\"thread\":1,\"output\":\"o\",\"waits\":true}]",
+            "\"moments\":[[]]",
+            Some(RecordingKey::Moments),
+        ),
+        (
+            "\"moments\":[{\"threads\":[{\"id\":1,\"name\":\"m\",\"frames\":[{\"name\":\"f\",\"source\":0,\"line\":2,\"scopes\":[{\"name\":\"s\",\"variables\":[{\"name\":\"v\",\"value\":\"1\",\"variables\":[{\"name\":\"w\",\"value\":\"2\"}]}]}]}]}],\"thread\":1,\"output\":\"o\",\"waits\":true}]",
+            "\"moments\":[\"x\"]",
+            Some(RecordingKey::Moments),
+        ),
+        (
+            "\"threads\":[{\"id\":1,\"name\":\"m\",\"frames\":[{\"name\":\"f\",\"source\":0,\"line\":2,\"scopes\":[{\"name\":\"s\",\"variables\":[{\"name\":\"v\",\"value\":\"1\",\"variables\":[{\"name\":\"w\",\"value\":\"2\"}]}]}]}]}],",
+            "",
+            Some(RecordingKey::Threads),
+        ),
+        (
+            "\"threads\":[{\"id\":1,\"name\":\"m\",\"frames\":[{\"name\":\"f\",\"source\":0,\"line\":2,\"scopes\":[{\"name\":\"s\",\"variables\":[{\"name\":\"v\",\"value\":\"1\",\"variables\":[{\"name\":\"w\",\"value\":\"2\"}]}]}]}]}]",
+            "\"threads\":null",
+            Some(RecordingKey::Threads),
+        ),
+        (
+            "\"threads\":[{\"id\":1,\"name\":\"m\",\"frames\":[{\"name\":\"f\",\"source\":0,\"line\":2,\"scopes\":[{\"name\":\"s\",\"variables\":[{\"name\":\"v\",\"value\":\"1\",\"variables\":[{\"name\":\"w\",\"value\":\"2\"}]}]}]}]}]",
+            "\"threads\":{}",
+            Some(RecordingKey::Threads),
+        ),
+        (
+            "\"threads\":[{\"id\":1,\"name\":\"m\",\"frames\":[{\"name\":\"f\",\"source\":0,\"line\":2,\"scopes\":[{\"name\":\"s\",\"variables\":[{\"name\":\"v\",\"value\":\"1\",\"variables\":[{\"name\":\"w\",\"value\":\"2\"}]}]}]}]}]",
+            "\"threads\":[null]",
+            Some(RecordingKey::Threads),
+        ),
+        (
+            "\"threads\":[{\"id\":1,\"name\":\"m\",\"frames\":[{\"name\":\"f\",\"source\":0,\"line\":2,\"scopes\":[{\"name\":\"s\",\"variables\":[{\"name\":\"v\",\"value\":\"1\",\"variables\":[{\"name\":\"w\",\"value\":\"2\"}]}]}]}]}]",
+            "\"threads\":[[]]",
+            Some(RecordingKey::Threads),
+        ),
+        (
+            "\"threads\":[{\"id\":1,\"name\":\"m\",\"frames\":[{\"name\":\"f\",\"source\":0,\"line\":2,\"scopes\":[{\"name\":\"s\",\"variables\":[{\"name\":\"v\",\"value\":\"1\",\"variables\":[{\"name\":\"w\",\"value\":\"2\"}]}]}]}]}]",
+            "\"threads\":[0]",
+            Some(RecordingKey::Threads),
+        ),
+        (
+            "\"threads\":[{\"id\":1,\"name\":\"m\",\"frames\":[{\"name\":\"f\",\"source\":0,\"line\":2,\"scopes\":[{\"name\":\"s\",\"variables\":[{\"name\":\"v\",\"value\":\"1\",\"variables\":[{\"name\":\"w\",\"value\":\"2\"}]}]}]}]}]",
+            "\"threads\":[]",
+            Some(RecordingKey::Thread),
+        ),
+        ("\"id\":1,", "", Some(RecordingKey::Id)),
+        ("\"id\":1", "\"id\":null", Some(RecordingKey::Id)),
+        ("\"id\":1", "\"id\":\"1\"", Some(RecordingKey::Id)),
+        ("\"id\":1", "\"id\":1.0", Some(RecordingKey::Id)),
+        (
+            "\"id\":1",
+            "\"id\":9007199254740992",
+            Some(RecordingKey::Id),
+        ),
+        (
+            "\"id\":1",
+            "\"id\":-9007199254740992",
+            Some(RecordingKey::Id),
+        ),
+        (
+            "\"id\":1",
+            "\"id\":9007199254740991",
+            Some(RecordingKey::Thread),
+        ),
+        (
+            "\"id\":1",
+            "\"id\":-9007199254740991",
+            Some(RecordingKey::Thread),
+        ),
+        (
+            "\"threads\":[",
+            "\"threads\":[{\"id\":1,\"name\":\"n\",\"frames\":[{\"name\":\"g\",\"source\":0,\"line\":1}]},",
+            Some(RecordingKey::Id),
+        ),
+        (
+            "\"threads\":[",
+            "\"threads\":[{\"id\":2,\"name\":\"n\",\"frames\":[{\"name\":\"g\",\"source\":0,\"line\":1}]},",
+            None,
+        ),
+        (
+            "\"threads\":[",
+            "\"threads\":[{\"id\":2,\"name\":\"n\",\"frames\":[{\"name\":\"g\",\"source\":0,\"line\":1}]},{\"id\":2,\"name\":\"n\",\"frames\":[{\"name\":\"g\",\"source\":0,\"line\":1}]},",
+            Some(RecordingKey::Id),
+        ),
+        (
+            "\"threads\":[",
+            "\"threads\":[{\"id\":2,\"name\":\"n\",\"frames\":[]},",
+            Some(RecordingKey::Frames),
+        ),
+        ("\"name\":\"m\",", "", Some(RecordingKey::Name)),
+        ("\"name\":\"m\"", "\"name\":null", Some(RecordingKey::Name)),
+        (
+            ",\"frames\":[{\"name\":\"f\",\"source\":0,\"line\":2,\"scopes\":[{\"name\":\"s\",\"variables\":[{\"name\":\"v\",\"value\":\"1\",\"variables\":[{\"name\":\"w\",\"value\":\"2\"}]}]}]}]",
+            "",
+            Some(RecordingKey::Frames),
+        ),
+        (
+            "\"frames\":[{\"name\":\"f\",\"source\":0,\"line\":2,\"scopes\":[{\"name\":\"s\",\"variables\":[{\"name\":\"v\",\"value\":\"1\",\"variables\":[{\"name\":\"w\",\"value\":\"2\"}]}]}]}]",
+            "\"frames\":null",
+            Some(RecordingKey::Frames),
+        ),
+        (
+            "\"frames\":[{\"name\":\"f\",\"source\":0,\"line\":2,\"scopes\":[{\"name\":\"s\",\"variables\":[{\"name\":\"v\",\"value\":\"1\",\"variables\":[{\"name\":\"w\",\"value\":\"2\"}]}]}]}]",
+            "\"frames\":[]",
+            Some(RecordingKey::Frames),
+        ),
+        (
+            "\"frames\":[{\"name\":\"f\",\"source\":0,\"line\":2,\"scopes\":[{\"name\":\"s\",\"variables\":[{\"name\":\"v\",\"value\":\"1\",\"variables\":[{\"name\":\"w\",\"value\":\"2\"}]}]}]}]",
+            "\"frames\":{}",
+            Some(RecordingKey::Frames),
+        ),
+        (
+            "\"frames\":[{\"name\":\"f\",\"source\":0,\"line\":2,\"scopes\":[{\"name\":\"s\",\"variables\":[{\"name\":\"v\",\"value\":\"1\",\"variables\":[{\"name\":\"w\",\"value\":\"2\"}]}]}]}]",
+            "\"frames\":[null]",
+            Some(RecordingKey::Frames),
+        ),
+        (
+            "\"frames\":[{\"name\":\"f\",\"source\":0,\"line\":2,\"scopes\":[{\"name\":\"s\",\"variables\":[{\"name\":\"v\",\"value\":\"1\",\"variables\":[{\"name\":\"w\",\"value\":\"2\"}]}]}]}]",
+            "\"frames\":[true]",
+            Some(RecordingKey::Frames),
+        ),
+        ("\"name\":\"f\",", "", Some(RecordingKey::Name)),
+        ("\"name\":\"f\"", "\"name\":1", Some(RecordingKey::Name)),
+        ("\"source\":0,", "", Some(RecordingKey::Source)),
+        ("\"source\":0", "\"source\":1", Some(RecordingKey::Source)),
+        ("\"source\":0", "\"source\":-1", Some(RecordingKey::Source)),
+        (
+            "\"source\":0",
+            "\"source\":null",
+            Some(RecordingKey::Source),
+        ),
+        ("\"source\":0", "\"source\":0.0", Some(RecordingKey::Source)),
+        (
+            "\"source\":0",
+            "\"source\":\"0\"",
+            Some(RecordingKey::Source),
+        ),
+        ("\"line\":2,", "", Some(RecordingKey::Line)),
+        ("\"line\":2", "\"line\":0", Some(RecordingKey::Line)),
+        ("\"line\":2", "\"line\":3", Some(RecordingKey::Line)),
+        ("\"line\":2", "\"line\":1", None),
+        ("\"line\":2", "\"line\":null", Some(RecordingKey::Line)),
+        (
+            "\"line\":2",
+            "\"line\":2147483648",
+            Some(RecordingKey::Line),
+        ),
+        (
+            ",\"scopes\":[{\"name\":\"s\",\"variables\":[{\"name\":\"v\",\"value\":\"1\",\"variables\":[{\"name\":\"w\",\"value\":\"2\"}]}]}]",
+            "",
+            None,
+        ),
+        (
+            "\"scopes\":[{\"name\":\"s\",\"variables\":[{\"name\":\"v\",\"value\":\"1\",\"variables\":[{\"name\":\"w\",\"value\":\"2\"}]}]}]",
+            "\"scopes\":[]",
+            None,
+        ),
+        (
+            "\"scopes\":[{\"name\":\"s\",\"variables\":[{\"name\":\"v\",\"value\":\"1\",\"variables\":[{\"name\":\"w\",\"value\":\"2\"}]}]}]",
+            "\"scopes\":null",
+            Some(RecordingKey::Scopes),
+        ),
+        (
+            "\"scopes\":[{\"name\":\"s\",\"variables\":[{\"name\":\"v\",\"value\":\"1\",\"variables\":[{\"name\":\"w\",\"value\":\"2\"}]}]}]",
+            "\"scopes\":{}",
+            Some(RecordingKey::Scopes),
+        ),
+        (
+            "\"scopes\":[{\"name\":\"s\",\"variables\":[{\"name\":\"v\",\"value\":\"1\",\"variables\":[{\"name\":\"w\",\"value\":\"2\"}]}]}]",
+            "\"scopes\":[null]",
+            Some(RecordingKey::Scopes),
+        ),
+        (
+            "\"scopes\":[{\"name\":\"s\",\"variables\":[{\"name\":\"v\",\"value\":\"1\",\"variables\":[{\"name\":\"w\",\"value\":\"2\"}]}]}]",
+            "\"scopes\":[[]]",
+            Some(RecordingKey::Scopes),
+        ),
+        ("\"name\":\"s\",", "", Some(RecordingKey::Name)),
+        ("\"name\":\"s\"", "\"name\":null", Some(RecordingKey::Name)),
+        (
+            ",\"variables\":[{\"name\":\"v\",\"value\":\"1\",\"variables\":[{\"name\":\"w\",\"value\":\"2\"}]}]",
+            "",
+            None,
+        ),
+        (
+            "\"variables\":[{\"name\":\"v\",\"value\":\"1\",\"variables\":[{\"name\":\"w\",\"value\":\"2\"}]}]",
+            "\"variables\":[]",
+            None,
+        ),
+        (
+            "\"variables\":[{\"name\":\"v\",\"value\":\"1\",\"variables\":[{\"name\":\"w\",\"value\":\"2\"}]}]",
+            "\"variables\":null",
+            Some(RecordingKey::Variables),
+        ),
+        (
+            "\"variables\":[{\"name\":\"v\",\"value\":\"1\",\"variables\":[{\"name\":\"w\",\"value\":\"2\"}]}]",
+            "\"variables\":{}",
+            Some(RecordingKey::Variables),
+        ),
+        (
+            "\"variables\":[{\"name\":\"v\",\"value\":\"1\",\"variables\":[{\"name\":\"w\",\"value\":\"2\"}]}]",
+            "\"variables\":[null]",
+            Some(RecordingKey::Variables),
+        ),
+        (
+            "\"variables\":[{\"name\":\"v\",\"value\":\"1\",\"variables\":[{\"name\":\"w\",\"value\":\"2\"}]}]",
+            "\"variables\":[3]",
+            Some(RecordingKey::Variables),
+        ),
+        ("\"name\":\"v\",", "", Some(RecordingKey::Name)),
+        ("\"value\":\"1\",", "", Some(RecordingKey::Value)),
+        ("\"value\":\"1\"", "\"value\":1", Some(RecordingKey::Value)),
+        (
+            ",\"variables\":[{\"name\":\"w\",\"value\":\"2\"}]",
+            "",
+            None,
+        ),
+        (
+            "\"variables\":[{\"name\":\"w\",\"value\":\"2\"}]",
+            "\"variables\":[]",
+            None,
+        ),
+        (
+            "\"variables\":[{\"name\":\"w\",\"value\":\"2\"}]",
+            "\"variables\":null",
+            Some(RecordingKey::Variables),
+        ),
+        (
+            "\"variables\":[{\"name\":\"w\",\"value\":\"2\"}]",
+            "\"variables\":[null]",
+            Some(RecordingKey::Variables),
+        ),
+        ("\"name\":\"w\",", "", Some(RecordingKey::Name)),
+        (",\"value\":\"2\"", "", Some(RecordingKey::Value)),
+        (
+            "\"value\":\"2\"",
+            "\"value\":null",
+            Some(RecordingKey::Value),
+        ),
+        ("\"thread\":1,", "", Some(RecordingKey::Thread)),
+        ("\"thread\":1", "\"thread\":2", Some(RecordingKey::Thread)),
+        (
+            "\"thread\":1",
+            "\"thread\":null",
+            Some(RecordingKey::Thread),
+        ),
+        ("\"thread\":1", "\"thread\":1.0", Some(RecordingKey::Thread)),
+        (
+            "\"thread\":1",
+            "\"thread\":\"1\"",
+            Some(RecordingKey::Thread),
+        ),
+        ("\"output\":\"o\",", "", None),
+        (
+            "\"output\":\"o\"",
+            "\"output\":null",
+            Some(RecordingKey::Output),
+        ),
+        (
+            "\"output\":\"o\"",
+            "\"output\":5",
+            Some(RecordingKey::Output),
+        ),
+        (",\"waits\":true", "", None),
+        (
+            "\"waits\":true",
+            "\"waits\":null",
+            Some(RecordingKey::Waits),
+        ),
+        (
+            "\"waits\":true",
+            "\"waits\":\"true\"",
+            Some(RecordingKey::Waits),
+        ),
+        ("\"waits\":true", "\"waits\":false", None),
+        (
+            "\"exit\":3,\"sources\":",
+            "\"x\":null,\"exit\":null,\"sources\":",
+            Some(RecordingKey::Exit),
+        ),
+        ("\"exit\":3", "\"other\":[1],\"exit\":3", None),
+        (
+            "\"thread\":1,\"output\":\"o\",\"waits\":true",
+            "\"waits\":null,\"output\":null,\"thread\":null",
+            Some(RecordingKey::Thread),
+        ),
+        (
+            "\"name\":\"v\",\"value\":\"1\"",
+            "\"value\":1,\"name\":1",
+            Some(RecordingKey::Name),
+        ),
+    ];
+    for (from, to, key) in rows {
+        let Some((before, after)) = WHOLE.split_once(from) else {
+            return Err("a row that changes nothing")?;
+        };
+        let bytes = format!(in rt.alloc(); "{before}{to}{after}")?;
+        let fault = key.map(|key| RecordingFault::BadKey { key });
+        assert_eq!(rt; refusal(rt.alloc(), bytes.as_bytes()), fault, "{bytes}");
+    }
+    Ok(())
+}
+
+/// At most 65536 sources.
+#[test]
+fn counts_the_sources(rt: HostRuntime) -> Result<(), Fail> {
+    let source = "{\"name\":\"\",\"text\":\"\"}";
+    let mut sources = String::from_str(rt.alloc(), source)?;
+    for _ in 0..65535 {
+        sources.push(',')?;
+        sources.push_str(source)?;
+    }
+    let most = format!(in rt.alloc(); "{{\"exit\":0,\"sources\":[{sources}]}}")?;
+    let moments = RecordingFault::BadKey {
+        key: RecordingKey::Moments,
+    };
+    assert_eq!(rt; refusal(rt.alloc(), most.as_bytes()), Some(moments));
+    let more = format!(in rt.alloc(); "{{\"exit\":0,\"sources\":[{sources},{source}]}}")?;
+    let too_many = RecordingFault::BadKey {
+        key: RecordingKey::Sources,
+    };
+    assert_eq!(rt; refusal(rt.alloc(), more.as_bytes()), Some(too_many));
+    Ok(())
+}

@@ -1,0 +1,320 @@
+//! Runs of recordings, poll by poll, and what is told at each stop.
+
+use crate::stubborn::Stubborn;
+use crate::{Category, Debuggee, DebuggeeFault, Happening, How, Recorded};
+use dap_call::SourceKey;
+use dap_json::Text;
+use std::alloc::Global;
+use std::test::Fail;
+
+/// Three moments of one thread: in `main`, in `f` below it, and in `main` again, where it waits.
+const THREE_MOMENTS: &str =
+    "{\"exit\":0,\"sources\":[{\"name\":\"a.c\",\"path\":\"/a.c\",\"text\":\"one\\ntwo\\nthree\\n\"}],\"moments\":[{\"thread\":1,\"output\":\"go\\n\",\"threads\":[{\"id\":1,\"name\":\"main\",\"frames\":[{\"name\":\"main\",\"source\":0,\"line\":1,\"scopes\":[{\"name\":\"Locals\",\"variables\":[{\"name\":\"x\",\"value\":\"1\"},{\"name\":\"p\",\"value\":\"P\",\"variables\":[{\"name\":\"a\",\"value\":\"7\"}]}]}]}]}]},{\"thread\":1,\"threads\":[{\"id\":1,\"name\":\"main\",\"frames\":[{\"name\":\"f\",\"source\":0,\"line\":3},{\"name\":\"main\",\"source\":0,\"line\":1}]}]},{\"thread\":1,\"waits\":true,\"threads\":[{\"id\":1,\"name\":\"main\",\"frames\":[{\"name\":\"main\",\"source\":0,\"line\":2}]}]}]}";
+
+fn three_moments(alloc: Global) -> Result<Recorded, Fail> {
+    read(alloc, THREE_MOMENTS)
+}
+
+fn read(alloc: Global, text: &str) -> Result<Recorded, Fail> {
+    match Recorded::read(alloc, text.as_bytes()) {
+        Ok(recorded) => Ok(recorded),
+        Err(_) => Err(Fail::from("no recording")),
+    }
+}
+
+fn answered(done: Result<(), DebuggeeFault>) -> &'static str {
+    match done {
+        Ok(()) => "done",
+        Err(DebuggeeFault::Refused) => "refused",
+        Err(DebuggeeFault::OutOfMemory) => "memory",
+    }
+}
+
+/// What a poll gave, in short; the place that is shown then by its newest frame.
+fn polled<D: Debuggee>(alloc: Global, debuggee: &mut D) -> Result<String, Fail> {
+    Ok(match debuggee.poll(alloc)? {
+        Happening::Nothing => String::from_str(alloc, "nothing")?,
+        Happening::Output { category, text } => {
+            let name = category.name();
+            let length = text.len();
+            let text = if length > 20 { "long" } else { text.as_str() };
+            format!(in alloc; "{name} {length} {text}")?
+        }
+        Happening::Stopped { reason, thread } => {
+            let reason = reason.as_str();
+            let frames = match debuggee.frames(alloc, thread) {
+                Ok(frames) => frames,
+                Err(_) => return Err(Fail::from("no frames")),
+            };
+            let line = frames.first().map_or(0, |f| f.line);
+            format!(in alloc; "{reason} {thread} line {line}")?
+        }
+        Happening::Continued { thread } => format!(in alloc; "continued {thread}")?,
+        Happening::Exited { code } => format!(in alloc; "exited {code}")?,
+    })
+}
+
+/// What is asked, a word each, and what is answered, a line each.
+fn played<D: Debuggee>(alloc: Global, debuggee: &mut D, words: &[&str]) -> Result<String, Fail> {
+    let mut told = String::new(alloc);
+    for word in words {
+        let answer = match *word {
+            "start" => String::from_str(alloc, answered(debuggee.start(alloc)))?,
+            "stepIn" => resumed(alloc, debuggee, How::StepIn)?,
+            "next" => resumed(alloc, debuggee, How::Next)?,
+            "stepOut" => resumed(alloc, debuggee, How::StepOut)?,
+            "continue" => resumed(alloc, debuggee, How::Continue)?,
+            "stepBack" => resumed(alloc, debuggee, How::StepBack)?,
+            "reverseContinue" => resumed(alloc, debuggee, How::ReverseContinue)?,
+            "pause" => String::from_str(alloc, answered(debuggee.pause(alloc)))?,
+            "end" => {
+                debuggee.end();
+                String::from_str(alloc, "ended")?
+            }
+            "line 1" => set(alloc, debuggee, &[1])?,
+            "no line" => set(alloc, debuggee, &[])?,
+            _ => polled(alloc, debuggee)?,
+        };
+        told.push_str(answer.as_str())?;
+        told.push_str("; ")?;
+    }
+    Ok(told)
+}
+
+fn resumed<D: Debuggee>(alloc: Global, debuggee: &mut D, how: How) -> Result<String, Fail> {
+    Ok(String::from_str(alloc, answered(debuggee.resume(alloc, how, 1)))?)
+}
+
+fn set<D: Debuggee>(alloc: Global, debuggee: &mut D, lines: &[u32]) -> Result<String, Fail> {
+    let source = SourceKey::Path(Text::copied(alloc, "/a.c")?);
+    debuggee.set_breakpoints(alloc, &source, lines)?;
+    Ok(String::from_str(alloc, "set")?)
+}
+
+#[test]
+fn moves(rt: HostRuntime) -> Result<(), Fail> {
+    let alloc = rt.alloc();
+    let cases: [(&[&str], &str); 11] = [
+        (
+            &["start", "poll", "poll", "poll"],
+            "done; stdout 3 go\n; entry 1 line 1; nothing; ",
+        ),
+        (
+            &["start", "poll", "poll", "next", "poll", "poll"],
+            "done; stdout 3 go\n; entry 1 line 1; done; step 1 line 2; nothing; ",
+        ),
+        (
+            &["start", "poll", "poll", "stepIn", "poll", "stepOut", "poll"],
+            "done; stdout 3 go\n; entry 1 line 1; done; step 1 line 3; done; step 1 line 2; ",
+        ),
+        (
+            &[
+                "start", "poll", "poll", "stepIn", "poll", "stepBack", "poll", "stepBack", "poll",
+            ],
+            "done; stdout 3 go\n; entry 1 line 1; done; step 1 line 3; done; step 1 line 1; done; step 1 line 1; ",
+        ),
+        (
+            &[
+                "start",
+                "poll",
+                "poll",
+                "next",
+                "poll",
+                "line 1",
+                "reverseContinue",
+                "poll",
+            ],
+            "done; stdout 3 go\n; entry 1 line 1; done; step 1 line 2; set; done; breakpoint 1 line 1; ",
+        ),
+        (
+            &[
+                "start",
+                "poll",
+                "poll",
+                "next",
+                "poll",
+                "line 1",
+                "no line",
+                "reverseContinue",
+                "poll",
+            ],
+            "done; stdout 3 go\n; entry 1 line 1; done; step 1 line 2; set; set; done; entry 1 line 1; ",
+        ),
+        (
+            &[
+                "start", "poll", "poll", "continue", "poll", "poll", "pause", "poll", "continue",
+                "poll", "poll",
+            ],
+            "done; stdout 3 go\n; entry 1 line 1; done; nothing; nothing; done; pause 1 line 2; done; exited 0; nothing; ",
+        ),
+        (
+            &["start", "pause", "poll", "poll", "poll"],
+            "done; done; stdout 3 go\n; entry 1 line 1; nothing; ",
+        ),
+        (
+            &["next", "pause", "poll", "start", "start"],
+            "refused; refused; nothing; done; refused; ",
+        ),
+        (
+            &[
+                "start", "poll", "poll", "pause", "end", "poll", "start", "next",
+            ],
+            "done; stdout 3 go\n; entry 1 line 1; refused; ended; nothing; refused; refused; ",
+        ),
+        (
+            &[
+                "start", "poll", "poll", "next", "line 1", "poll", "stepOut", "poll",
+            ],
+            "done; stdout 3 go\n; entry 1 line 1; done; set; step 1 line 2; done; exited 0; ",
+        ),
+    ];
+    for (words, wanted) in &cases {
+        let mut recorded = three_moments(alloc)?;
+        let told = played(alloc, &mut recorded, words)?;
+        assert_eq!(rt; told.as_str(), *wanted);
+    }
+    Ok(())
+}
+
+#[test]
+fn answers_at_a_stop(rt: HostRuntime) -> Result<(), Fail> {
+    let alloc = rt.alloc();
+    let mut recorded = three_moments(alloc)?;
+    assert!(rt; recorded.threads(alloc)?.is_empty());
+    assert!(rt; recorded.frames(alloc, 1).is_err());
+    let told = played(alloc, &mut recorded, &["start", "poll", "poll"])?;
+    assert_eq!(rt; told.as_str(), "done; stdout 3 go\n; entry 1 line 1; ");
+    let threads = recorded.threads(alloc)?;
+    assert_eq!(rt; threads.len(), 1);
+    assert_eq!(rt; (threads[0].id, threads[0].name.as_str()), (1, "main"));
+    let Ok(frames) = recorded.frames(alloc, 1) else {
+        return Err(Fail::from("frames"));
+    };
+    assert_eq!(rt; frames.len(), 1);
+    let frame = frames[0].object;
+    assert_eq!(rt;
+        (frames[0].name.as_str(), frames[0].source, frames[0].line),
+        ("main", 0, 1)
+    );
+    let Ok(scopes) = recorded.scopes(alloc, frame) else {
+        return Err(Fail::from("scopes"));
+    };
+    assert_eq!(rt; scopes.len(), 1);
+    assert_eq!(rt; scopes[0].name.as_str(), "Locals");
+    let Ok(variables) = recorded.children(alloc, scopes[0].holder) else {
+        return Err(Fail::from("children"));
+    };
+    assert_eq!(rt; variables.len(), 2);
+    assert_eq!(rt;
+        (variables[0].name.as_str(), variables[0].value.as_str()),
+        ("x", "1")
+    );
+    assert!(rt; variables[0].holder.is_none());
+    let Ok(value) = recorded.evaluate(alloc, Some(frame), "p") else {
+        return Err(Fail::from("evaluate"));
+    };
+    assert_eq!(rt; value.value.as_str(), "P");
+    assert_eq!(rt; value.holder, variables[1].holder);
+    let Some(inner) = value.holder else {
+        return Err(Fail::from("children of p"));
+    };
+    let Ok(children) = recorded.children(alloc, inner) else {
+        return Err(Fail::from("children of p"));
+    };
+    assert_eq!(rt;
+        (
+            children.len(),
+            children[0].name.as_str(),
+            children[0].value.as_str()
+        ),
+        (1, "a", "7")
+    );
+    assert!(rt; recorded.evaluate(alloc, Some(frame), "q").is_err());
+    assert!(rt; recorded.evaluate(alloc, None, "p").is_err());
+    assert!(rt; recorded.frames(alloc, 2).is_err());
+    assert!(rt; recorded.scopes(alloc, 9).is_err());
+    assert!(rt; recorded.children(alloc, 9).is_err());
+    Ok(())
+}
+
+#[test]
+fn sources_and_lines(rt: HostRuntime) -> Result<(), Fail> {
+    let alloc = rt.alloc();
+    let recorded = three_moments(alloc)?;
+    let sources = recorded.sources(alloc)?;
+    assert_eq!(rt; (sources.len(), sources[0].name.as_str()), (1, "a.c"));
+    let Ok(text) = recorded.content(alloc, 0) else {
+        return Err(Fail::from("content"));
+    };
+    assert_eq!(rt; text.as_str(), "one\ntwo\nthree\n");
+    assert!(rt; recorded.content(alloc, 1).is_err());
+    let path = SourceKey::Path(Text::copied(alloc, "/a.c")?);
+    let Ok(answers) = recorded.verify(alloc, &path, &[3, 4, 0, 1, 4294967295]) else {
+        return Err(Fail::from("verify"));
+    };
+    assert_eq!(rt;
+        answers.as_slice(),
+        [true, false, false, true, false].as_slice()
+    );
+    let Ok(answers) = recorded.verify(alloc, &SourceKey::Reference(1), &[3, 4]) else {
+        return Err(Fail::from("verify"));
+    };
+    assert_eq!(rt; answers.as_slice(), [true, false].as_slice());
+    let Ok(answers) = recorded.verify(alloc, &SourceKey::Reference(2), &[1]) else {
+        return Err(Fail::from("verify"));
+    };
+    assert_eq!(rt; answers.as_slice(), [false].as_slice());
+    Ok(())
+}
+
+/// One moment that writes a byte and then a hundred characters of two bytes each.
+#[test]
+fn pieces_end_a_character(rt: HostRuntime) -> Result<(), Fail> {
+    let alloc = rt.alloc();
+    let mut text = String::from_str(
+        alloc,
+        "{\"exit\":-1,\"sources\":[{\"name\":\"a\",\"text\":\"x\"}],\"moments\":[{\"thread\":1,\"threads\":[{\"id\":1,\"name\":\"m\",\"frames\":[{\"name\":\"f\",\"source\":0,\"line\":1}]}],\"output\":\"a",
+    )?;
+    for _ in 0..100 {
+        text.push_str("é")?;
+    }
+    text.push_str("\"}]}")?;
+    let mut recorded = read(alloc, text.as_str())?;
+    let told = played(
+        alloc,
+        &mut recorded,
+        &["start", "poll", "poll", "poll", "stepIn", "poll"],
+    )?;
+    assert_eq!(rt;
+        told.as_str(),
+        "done; stdout 127 long; stdout 74 long; entry 1 line 1; done; exited -1; "
+    );
+    Ok(())
+}
+
+#[test]
+fn names(rt: HostRuntime) -> Result<(), Fail> {
+    assert_eq!(rt; Category::Console.name(), "console");
+    assert_eq!(rt; Category::Stdout.name(), "stdout");
+    assert_eq!(rt; Category::Stderr.name(), "stderr");
+    Ok(())
+}
+
+/// A second debuggee keeps the laws: it refuses once, and then is as the recording.
+#[test]
+fn refuses_its_first_start(rt: HostRuntime) -> Result<(), Fail> {
+    let alloc = rt.alloc();
+    let mut stubborn = Stubborn::new(three_moments(alloc)?);
+    let told = played(
+        alloc,
+        &mut stubborn,
+        &[
+            "start", "poll", "line 1", "start", "poll", "poll", "next", "poll", "end",
+        ],
+    )?;
+    assert_eq!(rt;
+        told.as_str(),
+        "refused; nothing; set; done; stdout 3 go\n; entry 1 line 1; done; step 1 line 2; ended; "
+    );
+    Ok(())
+}
