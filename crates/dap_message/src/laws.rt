@@ -1,5 +1,6 @@
 //! Laws of the definitions, each on a function with nothing to run.
 ghost use Rattle.dap_message.specs.Laws.{EachBodyIsOne, WrittenIsReadAgain, ReadIsSound};
+ghost use Rattle.dap_message.specs.Lengths.{EventsAreShort, FailuresAreShort, FixedResponsesAreShort};
 
 use dap_json::laws::{put_is_sound, text_is_read_again, what_is_read_is_sound};
 
@@ -23,3 +24,11 @@ pub fn read_is_sound()
 {
     what_is_read_is_sound();
 }
+
+/// What an adapter writes of a fixed shape has at most 1024 bytes: each failure, each response
+/// without a body or with one of a fixed shape, and each event.
+pub fn fixed_messages_are_short()
+    ensures failures { FailuresAreShort }
+    ensures responses { FixedResponsesAreShort }
+    ensures events { EventsAreShort }
+{}
