@@ -8,3 +8,4 @@ pub mod Examples
 pub mod SoundReading
 pub mod Sizes
 pub mod Lengths
+pub mod PlainBodies

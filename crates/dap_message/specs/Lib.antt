@@ -25,3 +25,4 @@ pub mod Canon
 pub mod SoundMessage
 pub mod Laws
 pub mod Lengths
+pub mod PlainBodies
