@@ -11,6 +11,17 @@ mod message;
 mod reading;
 mod writing;
 
+pub use dap_body::{
+    Breakpoint, Failure, Scope, Source, StackFrame, Thread, Variable, body_continue,
+    body_continued, body_evaluate, body_exited, body_failure, body_loaded_sources, body_output,
+    body_scopes, body_set_breakpoints, body_source, body_stack_trace, body_stopped, body_threads,
+    body_variables,
+};
+pub use dap_call::{
+    BreakpointLocations, Call, CallFault, Capabilities, Command, Completions, Evaluate,
+    FramesGiven, Gate, HoldersGiven, Initialize, Key, Lines, Modules, SetVariable, SourceKey,
+    StackTrace, Texts, Variables, frames_given, holders_given, read_call,
+};
 pub use dap_json::skim::Scratch;
 pub use dap_json::{Text, Tree};
 pub use fault::{BodyFault, BodyRefusal};
