@@ -1,1 +1,6 @@
-pub mod Examples
+mod ArgumentExamples
+mod CallExamples
+mod CapabilitiesExamples
+mod CommandExamples
+mod GivenExamples
+mod KeyExamples
