@@ -278,12 +278,10 @@ fn reading_lines(rt: HostRuntime) -> Result<(), Fail> {
     };
     for _ in 0..2 {
         match read_call(rt.alloc(), Command::SetBreakpoints, Some(&arguments)) {
-            Ok(
-                Call::SetBreakpoints {
-                    source: SourceKey::Path(path),
-                    lines,
-                },
-            ) => {
+            Ok(Call::SetBreakpoints { source, lines }) => {
+                let SourceKey::Path(path) = source else {
+                    return Err(Fail::from("a source without its path"));
+                };
                 assert_eq!(rt; path.as_str(), "/a.c");
                 assert_eq!(rt; lines.as_slice(), [2, 9].as_slice());
             }
