@@ -3,6 +3,7 @@ ghost use Rattle.dap_message.specs.Laws.{EachBodyIsOne, WrittenIsReadAgain, Read
 ghost use Rattle.dap_message.specs.PlainBodies.{EventBodiesArePlain, FailureBodiesArePlain, ResponseBodiesArePlain};
 ghost use Rattle.dap_message.specs.Lengths.{EventsAreShort, FailuresAreShort, FixedResponsesAreShort};
 
+pub use dap_call::laws::{written_call_is_plain, written_call_is_read_again};
 use dap_json::laws::{put_is_sound, text_is_read_again, what_is_read_is_sound};
 
 /// Each body is one message, or has one first refusal: never both, never two.
