@@ -1,5 +1,5 @@
 -- Worked examples, each shown by computation.
-use Rattle.std.proofs.Common.{◌≡◌, [], ◌∷◌, codes, map, true, false, Some, None, pos, negsuc, refl}
+use Rattle.std.proofs.Common.{◌≡◌, [], ◌∷◌, codes, length, map, true, false, Some, None, pos, negsuc, refl}
 use Rattle.std.specs.Fmt.{digits}
 use Rattle.json.specs.Print.{escape_byte}
 use Rattle.serde_json.specs.Data.{boolean, negative, number, string, array, object, no_items, no_members, member}
@@ -9,7 +9,7 @@ use Rattle.dap_call.specs.declared.key.Key.TheVariants as key
 use Rattle.dap_body.specs.Failure.{row_of, in_order, failure_body}
 use Rattle.dap_body.specs.ResponseBody.{set_breakpoints_body, threads_body, continue_body, stack_trace_body, scopes_body, variables_body, evaluate_body, source_body, loaded_sources_body}
 use Rattle.dap_body.specs.EventBody.{output_body, stopped_body, continued_body, exited_body}
-use Rattle.dap_body.specs.declared.failure.Failure.TheVariants.{NotInitialized, BadArguments, NotStopped, TooLarge, Busy, Cancelled}
+use Rattle.dap_body.specs.declared.failure.Failure.TheVariants.{NotInitialized, BadArguments, NotStopped, Debuggee, TooLarge, Busy, Cancelled}
 use Rattle.dap_body.specs.declared.response.Source.{Source}
 
 -- ---- failures
@@ -45,6 +45,12 @@ text_of_an_error = refl
 text_of_a_bad_key : compact_text (failure_body (BadArguments key.ThreadId)) ≡ codes "{\"error\":{\"format\":\"The argument threadId is missing or malformed.\",\"id\":1005}}"
 unfolding escape_byte digits
 text_of_a_bad_key = refl
+
+fifteen_in_order : length (in_order key.Arguments) ≡ 15
+fifteen_in_order = refl
+
+a_refusal_of_the_debuggee : row_of Debuggee ≡ record { id = 1013; name = codes "debuggee"; format = codes "The debuggee refused." }
+a_refusal_of_the_debuggee = refl
 
 -- ---- responses
 
@@ -133,3 +139,18 @@ least_exit_code = refl
 
 exit_as_data : exited_body (pos 0) ≡ object (member (codes "exitCode") (whole 0) no_members)
 exit_as_data = refl
+
+a_quote_is_escaped : compact_text (output_body (codes "console") (codes "say \"a\"")) ≡ codes "{\"category\":\"console\",\"output\":\"say \\\"a\\\"\"}"
+unfolding escape_byte
+a_quote_is_escaped = refl
+
+a_stop_below_0 : compact_text (stopped_body (codes "entry") (negsuc 9007199254740990)) ≡ codes "{\"allThreadsStopped\":true,\"reason\":\"entry\",\"threadId\":-9007199254740991}"
+unfolding escape_byte digits
+a_stop_below_0 = refl
+
+thread_0_goes_on : continued_body (pos 0) ≡ object (member (codes "allThreadsContinued") (boolean true) (member (codes "threadId") (whole 0) no_members))
+thread_0_goes_on = refl
+
+greatest_exit_code : compact_text (exited_body (pos 2147483647)) ≡ codes "{\"exitCode\":2147483647}"
+unfolding escape_byte digits
+greatest_exit_code = refl

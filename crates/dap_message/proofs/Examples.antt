@@ -13,9 +13,12 @@ use Rattle.dap_call.specs.declared.capabilities.Capabilities.{Capabilities}
 use Rattle.dap_call.specs.declared.key.Key.TheVariants.{SupportsRunInTerminalRequest}
 use Rattle.dap_body.specs.declared.failure.Failure.TheVariants.{NotInitialized, Unsupported, BadArguments, Cancelled}
 use Rattle.dap_message.specs.Canon.{tree_of, canon, request_members, response_members, event_members}
-use Rattle.dap_message.specs.Lengths.{failed, succeeded, happened, none, offers, all_go_on, body_of, initialized, output, stopped, continued, event_name, event_body, is_exit_code, IsWithin}
+use Rattle.dap_message.specs.Lengths.{failed, succeeded, happened, none, offers, all_go_on, body_of, initialized, output, stopped, continued, exited, event_name, event_body, is_exit_code, IsWithin}
 use Rattle.dap_message.specs.Meaning.{Msg}
+use Rattle.dap_json.specs.Writable.{is_plain_tree}
+use Rattle.dap_body.specs.Failure.{failure_body}
 use Rattle.dap_message.specs.Plain.{is_plain}
+use Rattle.dap_message.specs.PlainBodies.{IsPlain}
 use Rattle.dap_message.specs.Refusals.{Bad, first_refusal}
 use Rattle.dap_message.specs.declared.fault.BodyRefusal.TheVariants.{NotJson, NotObject, BadSeq, BadType, BadCommand, BadRequestSeq, BadSuccess, BadEvent, BadMessage}
 use Rattle.dap_message.specs.declared.message.Kind.TheVariants.{Request, Response, Event, Other}
@@ -182,3 +185,21 @@ ends_of_exit_codes = (refl, refl)
 
 thread_past_the_greatest : IsWithin (continued (pos 9007199254740992)) → ⊥
 thread_past_the_greatest h = true≢false (sym h)
+
+-- ---- bodies that can stand in a plain message
+
+failure_is_plain : (IsPlain (failure_body Cancelled)) × (is_plain (failed 3 2 (codes "threads") Cancelled) ≡ true)
+failure_is_plain = (refl, refl)
+
+-- the body is plain, the command too long
+long_command_is_not_plain : is_plain (failed 3 2 (replicate 65 97) Cancelled) ≡ false
+long_command_is_not_plain = refl
+
+capabilities_are_plain : is_plain (succeeded 1 1 (codes "initialize") (body_of (offers every_flag))) ≡ true
+capabilities_are_plain = refl
+
+event_is_plain : is_plain (happened 5 (event_name (exited (negsuc 0))) (event_body (exited (negsuc 0)))) ≡ true
+event_is_plain = refl
+
+null_is_no_body : is_plain_tree (Some null) ≡ false
+null_is_no_body = refl
