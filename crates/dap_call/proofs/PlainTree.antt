@@ -6,7 +6,7 @@ use Rattle.serde_json.specs.Written.{has_float, items_have_float}
 use Rattle.dap_json.specs.Field.{is_object, is_null}
 use Rattle.dap_json.specs.Writable.{is_writable, is_plain_tree}
 use Rattle.dap_call.specs.CallTree.{if_any, breakpoint_items, function_items, text_items, call_tree, initialize_members, cancel_members, set_breakpoints_members, set_function_breakpoints_members, set_exception_breakpoints_members, thread_members, stack_trace_members, variables_members, evaluate_members, set_variable_members, modules_members, breakpoint_locations_members, completions_members}
-use Rattle.dap_call.specs.Plain.{is_plain_call, are_plain_arguments, max_arguments}
+use Rattle.dap_call.specs.PlainCall.{is_plain_call, are_plain_arguments, max_arguments}
 use Rattle.dap_call.specs.declared.call.Call.{Call}
 use Rattle.dap_call.specs.declared.call.Call.TheVariants as call
 use Rattle.dap_call.specs.declared.call.SourceKey.{SourceKey}

@@ -9,7 +9,7 @@ use Rattle.dap_json.specs.Writable.{is_writable}
 use Rattle.dap_call.specs.Argument.{is_int, int_of, may_be_absent}
 use Rattle.dap_call.specs.Call.{call_of, each, line_in, name_in, source_key_of, source_parts, initialize_of, cancel_of, set_breakpoints_of, set_function_breakpoints_of, set_exception_breakpoints_of, stack_trace_of, scopes_of, variables_of, evaluate_of, source_of, set_variable_of, modules_of, breakpoint_locations_of, completions_of, thread_of}
 use Rattle.dap_call.specs.CallTree.{int, if_any, source_tree, breakpoint_tree, breakpoint_items, function_items, text_items, call_tree, command_of, initialize_members, cancel_members, set_breakpoints_members, set_function_breakpoints_members, set_exception_breakpoints_members, thread_members, stack_trace_members, scopes_members, variables_members, evaluate_members, source_members, set_variable_members, modules_members, breakpoint_locations_members, completions_members}
-use Rattle.dap_call.specs.Plain.{is_plain_call, is_plain_source, are_plain_arguments, max_arguments, is_number, is_none_or}
+use Rattle.dap_call.specs.PlainCall.{is_plain_call, is_plain_source, are_plain_arguments, max_arguments, is_number, is_none_or}
 use Rattle.dap_call.specs.declared.call.Call.{Call}
 use Rattle.dap_call.specs.declared.call.Call.TheVariants as call
 use Rattle.dap_call.specs.declared.call.Initialize.{Initialize}

@@ -2,7 +2,7 @@
 use Rattle.std.proofs.Common.{◌≡◌, [], ◌∷◌, codes, true, false, Some, None, pos, negsuc, refl}
 use Rattle.serde_json.specs.Data.{boolean, null, number, unsigned, negative, string, array, object, no_items, item, no_members, member}
 use Rattle.dap_call.specs.CallTree.{call_tree, command_of, initialize_members, set_breakpoints_members, stack_trace_members, variables_members, evaluate_members, set_variable_members, modules_members}
-use Rattle.dap_call.specs.Plain.{is_plain_call}
+use Rattle.dap_call.specs.PlainCall.{is_plain_call}
 use Rattle.dap_call.specs.declared.call.Call.TheVariants as call
 use Rattle.dap_call.specs.declared.call.SourceKey.TheVariants.{Path, Reference}
 use Rattle.dap_call.specs.declared.command.Command.TheVariants as command

@@ -1,4 +1,7 @@
 -- What stands at a key of a command's arguments, or the key that is bad.
+-- Specification, the types whose names end in "Arguments": what type a property has, and whether it may be absent.
+-- This profile's choice: the ranges of numbers, that `null` counts as absent, and that one key is told, the first bad one
+-- in the order of the command's row.
 use Rattle.std.specs.Prelude.{ℕ, ◌&&◌, ℤ, pos, negsuc, Bool, nat_le, int_le, Option, Some, None, option_and_then, option_map, unwrap_or, Result, Ok, Err}
 use Rattle.serde_json.specs.Data.{Data, null, object}
 use Rattle.serde_json.specs.Find.{as_number, as_u64, as_i64}
@@ -18,6 +21,11 @@ infixl 10 ◌>>=◌
 abbrev pub ◌>>=◌ : {A B : Type 0} → Read A → (A → Read B) → Read B
 (Ok x) >>= f = f x
 (Err e) >>= f = Err e
+
+-- what was read, in another form
+abbrev pub read_map : {A B : Type 0} → (A → B) → Read A → Read B
+read_map form (Ok x) = Ok (form x)
+read_map form (Err e) = Err e
 
 -- What a function returned is what the rows read, unless memory ran out.
 abbrev pub Gives : {A : Type 0} → Result A CallFault → Read A → Type 0

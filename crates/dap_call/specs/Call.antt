@@ -1,5 +1,9 @@
--- Which call a command and its arguments are, or the first bad key. Each command's keys stand in the table's order.
-use Rattle.std.specs.Prelude.{ℕ, zero, suc, ℤ, List, [], ◌∷◌, true, false, Option, Some, None, option_and_then, option_map, unwrap_or, Ok, Err, ◌==◌, if◌then◌else◌}
+-- Which call a command and its arguments are, or the first bad key.
+-- Specification, "Requests", and the types whose names end in "Arguments", one for each command with keys; "Source",
+-- "SourceBreakpoint" and "FunctionBreakpoint" for what stands inside them. This profile's choice: which keys are read, and
+-- the order in which they are tested; that an absent `adapterID` reads as empty; that `breakpoints` counts before the
+-- deprecated `lines`, and a path before a reference; and that arguments of a command without keys are ignored.
+use Rattle.std.specs.Prelude.{ℕ, zero, suc, ℤ, List, [], ◌∷◌, Bool, true, false, Option, Some, None, option_and_then, option_map, unwrap_or, Ok, Err, ◌==◌, if◌then◌else◌}
 use Rattle.serde_json.specs.Data.{Data, Items, no_items, item}
 use Rattle.serde_json.specs.Find.{as_str, as_bool, as_array}
 use Rattle.dap_call.specs.Argument.{Read, ◌>>=◌, int_of, number_of, seq_of, value_at, required, optional, optional_or, may_be_absent, must_be_there}
@@ -222,3 +226,17 @@ call_of command.Modules given = modules_of given
 call_of command.ExceptionInfo given = called call.ExceptionInfo (thread_of given)
 call_of command.BreakpointLocations given = breakpoint_locations_of given
 call_of command.Completions given = completions_of given
+
+-- whether a call of the command may hold a text, a list or a tree
+abbrev pub takes_memory : Command → Bool
+takes_memory command.Initialize = true
+takes_memory command.Launch = true
+takes_memory command.Attach = true
+takes_memory command.SetBreakpoints = true
+takes_memory command.SetFunctionBreakpoints = true
+takes_memory command.SetExceptionBreakpoints = true
+takes_memory command.Evaluate = true
+takes_memory command.SetVariable = true
+takes_memory command.BreakpointLocations = true
+takes_memory command.Completions = true
+takes_memory _ = false

@@ -1,5 +1,5 @@
--- What a call is written as: the object of its arguments, or nothing where no key is written.
--- Specification, "Requests" and the types whose names end in "Arguments". That a key with its default value is left out is this profile's choice.
+-- What a call is written as: the object of its arguments; nothing where no key is written, save that `launch` and `attach` are written as their tree.
+-- Specification, "Requests" and the types whose names end in "Arguments". This profile's choice: a key with its default value is left out, save an empty `adapterID`, empty `breakpoints` and the `sourceReference` 0.
 use Rattle.std.specs.Prelude.{map, ℕ, zero, suc, ℤ, List, Bool, true, false, Option, Some, None, option_map}
 use Rattle.serde_json.specs.Data.{Data, boolean, number, string, array, object, Items, Members, no_members, member, put}
 use Rattle.serde_json.specs.Find.{of_integer}
@@ -78,15 +78,17 @@ text_items texts = items_of (map string texts)
 
 -- ---- rows
 
+-- an empty id is written too
 unfoldable pub initialize_members : Initialize → Members
 initialize_members a =
     with_true key.SupportsRunInTerminalRequest a.supports_run_in_terminal_request (with_true key.SupportsVariablePaging a.supports_variable_paging
     (with_false key.ColumnsStartAt1 a.columns_start_at_1 (with_false key.LinesStartAt1 a.lines_start_at_1 (with key.AdapterId (string a.adapter_id) no_members))))
 
--- in sequence numbers there is no default
+-- `requestId` has no default, so 0 is written, as it is for `frameId`, `line` and `endLine`
 abbrev pub cancel_members : Option ℕ → Members
 cancel_members request = with_optional key.RequestId request no_members
 
+-- an empty list is written too
 unfoldable pub set_breakpoints_members : SourceKey → List ℕ → Members
 set_breakpoints_members source lines = with key.Breakpoints (array (breakpoint_items lines)) (with key.Source (source_tree source) no_members)
 
@@ -127,7 +129,7 @@ breakpoint_locations_members a = with_optional key.EndLine a.end_line (with key.
 unfoldable pub completions_members : Completions → Members
 completions_members a = with_optional key.Line a.line (with_optional key.FrameId a.frame_id (with key.Column (whole a.column) (with key.Text (string a.text) no_members)))
 
--- the trees of `launch` and `attach` are kept whole; where a command has no keys, nothing is written
+-- the trees of `launch` and `attach` are kept whole; a command without keys, and one whose keys are all left out, writes nothing
 abbrev pub call_tree : Call → Option Data
 call_tree (call.Initialize a) = if_any (initialize_members a)
 call_tree (call.Launch tree) = tree

@@ -1,20 +1,15 @@
--- What an adapter offers: the flags of the Specification's "Capabilities" that gate a command.
-use Rattle.std.specs.Borrow.{Bor}
-use Rattle.std.specs.Prelude.{Bool, true, false, Option, Some, None, option_map, option_and_then, unwrap_or}
+-- What an adapter offers: the flags that gate a command.
+-- Specification, "Capabilities", and "CapabilitiesEvent" for updates. This profile's choice: that what is no truth value
+-- counts as `false`, and `null` as absent.
+use Rattle.std.specs.Prelude.{Bool, true, false, Option, Some, None, option_and_then, unwrap_or}
 use Rattle.serde_json.specs.Data.{Data, boolean, object, Members, no_members, put}
 use Rattle.serde_json.specs.Find.{as_bool}
-use Rattle.serde_json.specs.View.{view}
-use Rattle.serde_json.specs.declared.value.Value.{Value}
 use Rattle.dap_json.specs.Field.{bool_at, tree_at}
 use Rattle.dap_call.specs.Command.{flag_of, gate_of}
 use Rattle.dap_call.specs.declared.capabilities.Capabilities.{Capabilities}
 use Rattle.dap_call.specs.declared.command.Command.{Command}
 use Rattle.dap_call.specs.declared.command.Gate.{Gate}
 use Rattle.dap_call.specs.declared.command.Gate.TheVariants.{BreakpointLocations, Cancel, Completions, ConfigurationDone, ExceptionInfo, FunctionBreakpoints, LoadedSources, Modules, Restart, SetVariable, StepBack, Terminate}
-
--- the data of a value that may be absent
-abbrev pub seen : Option (Bor Value) → Option Data
-seen found = option_map (λ value. view value.now) found
 
 -- a flag counts where its key is `true`
 abbrev pub is_flag : Gate → Option Data → Bool
@@ -58,6 +53,10 @@ capabilities_of is_on = record {
   step_back = is_on StepBack;
   terminate = is_on Terminate;
 }
+
+-- the flags of a body, or none without one
+abbrev pub offered_by : Option Data → Capabilities
+offered_by body = capabilities_of (λ gate. is_flag gate body)
 
 -- the flags that the object names replace the old ones
 abbrev pub updated_by : Data → Capabilities → Capabilities

@@ -1,5 +1,6 @@
 -- The references that the body of a response gives, in order.
 -- Specification, "StackTraceResponse", "ScopesResponse", "VariablesResponse", "EvaluateResponse", "SetVariableResponse".
+-- This profile's choice: the ranges of numbers, and that what has no number in its range is passed over.
 use Rattle.std.specs.Prelude.{ℕ, List, [], codes, ◌&&◌, nat_le, Option, Some, None, option_and_then}
 use Rattle.std.specs.List.{cons_option}
 use Rattle.serde_json.specs.Data.{Data, Items, no_items, item}

@@ -2,7 +2,8 @@ pub mod Command
 pub mod Capabilities
 pub mod Given
 pub mod Key
+pub mod Lent
 pub mod Argument
 pub mod Call
 pub mod CallTree
-pub mod Plain
+pub mod PlainCall

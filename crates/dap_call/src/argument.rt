@@ -1,9 +1,9 @@
 //! What stands at the keys of a command's arguments. `null` counts as absent.
-ghost use Rattle.std.specs.Prelude.{◌≡◌, []};
+ghost use Rattle.std.specs.Prelude.{◌≡◌, [], option_map};
 ghost use Rattle.serde_json.specs.View.{view};
 ghost use Rattle.serde_json.specs.Find.{as_str, as_bool};
-ghost use Rattle.dap_call.specs.Argument.{Gives, is_int as is_int_number, value_at, required, optional, optional_or, int_of, number_of, seq_of, may_be_absent, must_be_there};
-ghost use Rattle.dap_call.specs.Capabilities.{seen};
+ghost use Rattle.dap_call.specs.Lent.{seen};
+ghost use Rattle.dap_call.specs.Argument.{Gives, is_int as is_int_number, read_map, value_at, required, optional, optional_or, int_of, number_of, seq_of, may_be_absent, must_be_there};
 
 use crate::call::CallFault;
 use crate::key::Key;
@@ -26,6 +26,16 @@ impl From<AllocError> for CallFault {
 
     fn from(_e: AllocError) -> CallFault {
         CallFault::OutOfMemory
+    }
+}
+
+impl From<Key> for CallFault {
+    ghost use Rattle.dap_call.specs.declared.call.CallFault.TheVariants.{BadArguments};
+
+    ghost from_gives = { λ key e. e ≡ BadArguments key };
+
+    fn from(key: Key) -> CallFault {
+        CallFault::BadArguments { key }
     }
 }
 
@@ -57,12 +67,6 @@ fn whole(value: &Value) -> Option<u64>
     value.as_u64().filter(|n| *n <= MAX_SEQ)
 }
 
-pub(crate) fn bad(key: Key) -> CallFault
-    ensures { result ≡ CallFault.BadArguments key }
-{
-    CallFault::BadArguments { key }
-}
-
 /// A command's arguments: an object, or nothing. A contract sees the data.
 #[derive(Drop)]
 pub(crate) struct Arguments<'v> {
@@ -74,7 +78,7 @@ impl<'v> Model for Arguments<'v> {
     ghost use Rattle.std.specs.Coded.{coded_option};
     ghost use Rattle.serde_json.specs.Data.{Data};
     ghost use Rattle.dap_json.specs.Stored.{coded_data};
-    ghost use Rattle.dap_call.specs.Capabilities.{seen};
+    ghost use Rattle.dap_call.specs.Lent.{seen};
 
     ghost Value = { Option Data };
 
@@ -85,27 +89,27 @@ impl<'v> Model for Arguments<'v> {
 
 impl<'v> Arguments<'v> {
     /// Arguments that are an object, or absent.
-    pub(crate) fn optional(given: Option<&'v Value>) -> Result<Arguments<'v>, CallFault>
-        ensures { Gives result (may_be_absent (seen given.entry)) }
+    pub(crate) fn optional(given: Option<&'v Value>) -> Result<Arguments<'v>, Key>
+        ensures { result ≡ may_be_absent (seen given.entry) }
     {
         match given {
             None | Some(Value::Null) => Ok(Arguments { object: None }),
             Some(object) if object.is_object() => Ok(Arguments {
                 object: Some(object),
             }),
-            Some(_) => Err(bad(Key::Arguments)),
+            Some(_) => Err(Key::Arguments),
         }
     }
 
     /// Arguments that are an object.
-    pub(crate) fn required(given: Option<&'v Value>) -> Result<Arguments<'v>, CallFault>
-        ensures { Gives result (must_be_there (seen given.entry)) }
+    pub(crate) fn required(given: Option<&'v Value>) -> Result<Arguments<'v>, Key>
+        ensures { result ≡ must_be_there (seen given.entry) }
     {
         match given {
             Some(object) if object.is_object() => Ok(Arguments {
                 object: Some(object),
             }),
-            _ => Err(bad(Key::Arguments)),
+            _ => Err(Key::Arguments),
         }
     }
 
@@ -115,80 +119,81 @@ impl<'v> Arguments<'v> {
         field::present(self.object?, key.name())
     }
 
-    pub(crate) fn required_int(&self, key: Key) -> Result<i64, CallFault>
-        ensures { Gives result (required int_of key self.now) }
+    pub(crate) fn required_int(&self, key: Key) -> Result<i64, Key>
+        ensures { result ≡ required int_of key self.now }
     {
-        self.value(key).and_then(int).ok_or(bad(key))
+        self.value(key).and_then(int).ok_or(key)
     }
 
-    pub(crate) fn required_number(&self, key: Key) -> Result<u32, CallFault>
-        ensures { Gives result (required number_of key self.now) }
+    pub(crate) fn required_number(&self, key: Key) -> Result<u32, Key>
+        ensures { result ≡ required number_of key self.now }
     {
-        self.value(key).and_then(number).ok_or(bad(key))
+        self.value(key).and_then(number).ok_or(key)
+    }
+
+    /// The text at a key, lent.
+    fn required_str(&self, key: Key) -> Result<&'v str, Key>
+        ensures { read_map (λ text. text.now) result ≡ required as_str key self.now }
+    {
+        self.value(key).and_then(Value::as_str).ok_or(key)
+    }
+
+    /// Likewise.
+    pub(crate) fn optional_str(&self, key: Key) -> Result<Option<&'v str>, Key>
+        ensures { read_map (option_map (λ text. text.now)) result ≡ optional as_str key self.now }
+    {
+        match self.value(key) {
+            None => Ok(None),
+            Some(value) => Ok(Some(value.as_str().ok_or(key)?)),
+        }
     }
 
     pub(crate) fn required_text(&self, alloc: Global, key: Key) -> Result<Text, CallFault>
         ensures { Gives result (required as_str key self.now) }
     {
-        let text = self.value(key).and_then(Value::as_str).ok_or(bad(key))?;
-        Ok(Text::copied(alloc, text)?)
+        Ok(Text::copied(alloc, self.required_str(key)?)?)
     }
 
-    pub(crate) fn optional_number(&self, key: Key) -> Result<Option<u32>, CallFault>
-        ensures { Gives result (optional number_of key self.now) }
+    pub(crate) fn optional_number(&self, key: Key) -> Result<Option<u32>, Key>
+        ensures { result ≡ optional number_of key self.now }
     {
         match self.value(key) {
             None => Ok(None),
-            Some(value) => Ok(Some(number(value).ok_or(bad(key))?)),
+            Some(value) => Ok(Some(number(value).ok_or(key)?)),
         }
     }
 
-    pub(crate) fn number_or(&self, key: Key, default: u32) -> Result<u32, CallFault>
-        ensures { Gives result (optional_or number_of default key self.now) }
+    pub(crate) fn number_or(&self, key: Key, default: u32) -> Result<u32, Key>
+        ensures { result ≡ optional_or number_of default key self.now }
     {
         match self.value(key) {
             None => Ok(default),
-            Some(value) => number(value).ok_or(bad(key)),
+            Some(value) => number(value).ok_or(key),
         }
     }
 
-    pub(crate) fn optional_seq(&self, key: Key) -> Result<Option<u64>, CallFault>
-        ensures { Gives result (optional seq_of key self.now) }
+    pub(crate) fn optional_seq(&self, key: Key) -> Result<Option<u64>, Key>
+        ensures { result ≡ optional seq_of key self.now }
     {
         match self.value(key) {
             None => Ok(None),
-            Some(value) => Ok(Some(whole(value).ok_or(bad(key))?)),
+            Some(value) => Ok(Some(whole(value).ok_or(key)?)),
         }
     }
 
-    pub(crate) fn bool_or(&self, key: Key, default: bool) -> Result<bool, CallFault>
-        ensures { Gives result (optional_or as_bool default key self.now) }
+    pub(crate) fn bool_or(&self, key: Key, default: bool) -> Result<bool, Key>
+        ensures { result ≡ optional_or as_bool default key self.now }
     {
         match self.value(key) {
             None => Ok(default),
-            Some(value) => value.as_bool().ok_or(bad(key)),
-        }
-    }
-
-    pub(crate) fn optional_text(&self, alloc: Global, key: Key) -> Result<Option<Text>, CallFault>
-        ensures { Gives result (optional as_str key self.now) }
-    {
-        match self.value(key) {
-            None => Ok(None),
-            Some(value) => {
-                let text = value.as_str().ok_or(bad(key))?;
-                Ok(Some(Text::copied(alloc, text)?))
-            }
+            Some(value) => value.as_bool().ok_or(key),
         }
     }
 
     pub(crate) fn text_or_empty(&self, alloc: Global, key: Key) -> Result<Text, CallFault>
         ensures { Gives result (optional_or as_str [] key self.now) }
     {
-        let text = match self.value(key) {
-            None => "",
-            Some(value) => value.as_str().ok_or(bad(key))?,
-        };
+        let text = self.optional_str(key)?.unwrap_or("");
         Ok(Text::copied(alloc, text)?)
     }
 }

@@ -1,11 +1,12 @@
 //! Requests with their arguments, typed by the keys of each command.
 //!
-//! Specification, "Requests". A key that this profile does not list is not kept.
+//! Specification, "Requests". A key that this profile does not list is not kept, save those of `launch` and `attach`.
 use dap_json::{Text, Tree};
 use std::marker::Model;
 
-/// A request. A number of a thread is -9007199254740991 to 9007199254740991; any other number, unless it says otherwise,
-/// is 0 to 2147483647. Lines and columns are counted as the client counts them, from 1 or from 0. `None` was absent.
+/// A request. In one that was read, or is plain, a number of a thread is -9007199254740991 to 9007199254740991, and any
+/// other number, unless it says otherwise, is 0 to 2147483647. Lines and columns are counted as the client counts them,
+/// from 1 or from 0. `None` was absent.
 #[derive(Drop)]
 pub enum Call {
     Initialize(Initialize),
@@ -59,7 +60,7 @@ pub enum Call {
     Variables(Variables),
     Evaluate(Evaluate),
     Source {
-        /// That of `source` where it is above 0, else `sourceReference`; 0 where both are absent.
+        /// That of `source` where it is above 0, else `sourceReference`; an absent one reads as 0.
         source_reference: u32,
     },
     LoadedSources,

@@ -1,9 +1,10 @@
 //! From a command and its arguments to a call: a function for each row of keys.
-ghost use Rattle.std.specs.Prelude.{◌≡◌, IfOk, option_map};
+ghost use Rattle.std.specs.Prelude.{◌≡◌, IfOk, IsErrOf, true, is_some, option_map};
 ghost use Rattle.serde_json.specs.View.{view};
-ghost use Rattle.dap_call.specs.Argument.{Gives, may_be_absent};
-ghost use Rattle.dap_call.specs.Capabilities.{seen};
-ghost use Rattle.dap_call.specs.Call.{lines_of, line_in, breakpoint_lines_of, name_in, names_of, filters_of, source_key_of, source_reference_of, source_parts as source_parts_of, initialize_of, cancel_of, set_breakpoints_of, set_function_breakpoints_of, set_exception_breakpoints_of, stack_trace_of, scopes_of, variables_of, evaluate_of, source_of, set_variable_of, modules_of, breakpoint_locations_of, completions_of, thread_of, tree_of, call_of};
+ghost use Rattle.dap_call.specs.Lent.{seen};
+ghost use Rattle.dap_call.specs.Argument.{Gives, read_map, may_be_absent};
+ghost use Rattle.dap_call.specs.Call.{lines_of, line_in, breakpoint_lines_of, name_in, names_of, filters_of, source_key_of, source_reference_of, source_parts as source_parts_of, initialize_of, cancel_of, set_breakpoints_of, set_function_breakpoints_of, set_exception_breakpoints_of, stack_trace_of, scopes_of, variables_of, evaluate_of, source_of, set_variable_of, modules_of, breakpoint_locations_of, completions_of, thread_of, tree_of, call_of, takes_memory};
+ghost use Rattle.dap_call.specs.declared.call.CallFault.TheVariants.{OutOfMemory};
 
 use crate::argument;
 use crate::argument::Arguments;
@@ -19,11 +20,12 @@ use std::alloc::{AllocError, Global};
 
 /// A source's path and its reference.
 #[tactic(auto, unfolding(crate::specs::Call::source_parts))]
-fn source_parts(alloc: Global, source: &Value) -> Result<(Option<Text>, u32), CallFault>
-    ensures { Gives result (source_parts_of (view source.now)) }
+fn source_parts(source: &Value) -> Result<(Option<&str>, u32), Key>
+    ensures { read_map (λ p. (option_map (λ text. text.now) p.0, p.1)) result
+        ≡ source_parts_of (view source.now) }
 {
     let source = Arguments::required(Some(source))?;
-    let path = source.optional_text(alloc, Key::Path)?;
+    let path = source.optional_str(Key::Path)?;
     let reference = source.number_or(Key::SourceReference, 0)?;
     Ok((path, reference))
 }
@@ -32,24 +34,19 @@ fn source_parts(alloc: Global, source: &Value) -> Result<(Option<Text>, u32), Ca
 fn source_key(alloc: Global, source: &Value) -> Result<Option<SourceKey>, AllocError>
     ensures { IfOk result (λ o. o ≡ source_key_of (view source.now)) }
 {
-    match source_parts(alloc, source) {
-        Ok((Some(path), _)) => Ok(Some(SourceKey::Path(path))),
-        Ok((None, 0)) => Ok(None),
-        Ok((None, reference)) => Ok(Some(SourceKey::Reference(reference))),
-        Err(CallFault::BadArguments { .. }) => Ok(None),
-        Err(CallFault::OutOfMemory) => Err(AllocError),
-    }
+    Ok(match source_parts(source) {
+        Ok((Some(path), _)) => Some(SourceKey::Path(Text::copied(alloc, path)?)),
+        Ok((None, 0)) | Err(_) => None,
+        Ok((None, reference)) => Some(SourceKey::Reference(reference)),
+    })
 }
 
 /// The reference of a source, which may have a path too.
-fn source_reference(alloc: Global, source: &Value) -> Result<Option<u32>, AllocError>
-    ensures { IfOk result (λ o. o ≡ source_reference_of (view source.now)) }
+fn source_reference(source: &Value) -> Option<u32>
+    ensures { result ≡ source_reference_of (view source.now) }
 {
-    match source_parts(alloc, source) {
-        Ok((_, reference)) => Ok(Some(reference)),
-        Err(CallFault::BadArguments { .. }) => Ok(None),
-        Err(CallFault::OutOfMemory) => Err(AllocError),
-    }
+    let (_, reference) = source_parts(source).ok()?;
+    Some(reference)
 }
 
 fn lines(alloc: Global, lines: &Value) -> Result<Option<Lines>, AllocError>
@@ -68,13 +65,25 @@ fn lines(alloc: Global, lines: &Value) -> Result<Option<Lines>, AllocError>
     Ok(Some(Lines::new(found)))
 }
 
+/// Whether a value is an array of lines, which are not kept.
+fn are_lines(lines: &Value) -> bool
+    ensures { result ≡ is_some (lines_of (view lines.now)) }
+{
+    let Some(items) = lines.as_array() else {
+        return false;
+    };
+    for item in items {
+        if argument::number(item).is_none() {
+            return false;
+        }
+    }
+    true
+}
+
 fn line(breakpoint: &Value) -> Option<u32>
     ensures { result ≡ line_in (view breakpoint.now) }
 {
-    breakpoint
-        .get(Key::Line.name())
-        .filter(|v| !v.is_null())
-        .and_then(argument::number)
+    breakpoint.get(Key::Line.name()).and_then(argument::number)
 }
 
 fn breakpoint_lines(alloc: Global, breakpoints: &Value) -> Result<Option<Lines>, AllocError>
@@ -155,8 +164,8 @@ fn initialize(alloc: Global, given: Option<&Value>) -> Result<Call, CallFault>
 }
 
 #[tactic(auto, unfolding(crate::specs::Call::cancel_of))]
-fn cancel(given: Option<&Value>) -> Result<Call, CallFault>
-    ensures { Gives result (cancel_of (seen given.entry)) }
+fn cancel(given: Option<&Value>) -> Result<Call, Key>
+    ensures { result ≡ cancel_of (seen given.entry) }
 {
     let arguments = Arguments::optional(given)?;
     let request_id = arguments.optional_seq(Key::RequestId)?;
@@ -169,9 +178,15 @@ fn set_breakpoints(alloc: Global, given: Option<&Value>) -> Result<Call, CallFau
 {
     let arguments = Arguments::required(given)?;
     let source = arguments.required_source(alloc, Key::Source)?;
-    let breakpoints = arguments.optional_breakpoint_lines(alloc, Key::Breakpoints)?;
-    let lines = arguments.optional_lines(alloc, Key::Lines)?;
-    let lines = breakpoints.or(lines).unwrap_or(Lines::new(Vec::new(alloc)));
+    let lines = match arguments.optional_breakpoint_lines(alloc, Key::Breakpoints)? {
+        Some(lines) => {
+            arguments.test_lines(Key::Lines)?;
+            lines
+        }
+        None => arguments
+            .optional_lines(alloc, Key::Lines)?
+            .unwrap_or(Lines::new(Vec::new(alloc))),
+    };
     Ok(Call::SetBreakpoints { source, lines })
 }
 
@@ -199,37 +214,31 @@ impl Arguments<'_> {
     fn required_source(&self, alloc: Global, key: Key) -> Result<SourceKey, CallFault>
         ensures { Gives result (required source_key_of key self.now) }
     {
-        match self.value(key) {
-            None => Err(argument::bad(key)),
-            Some(source) => source_key(alloc, source)?.ok_or(argument::bad(key)),
-        }
+        let source = self.value(key).ok_or(key)?;
+        Ok(source_key(alloc, source)?.ok_or(key)?)
     }
 
-    fn optional_source_reference(&self, alloc: Global, key: Key) -> Result<Option<u32>, CallFault>
-        ensures { Gives result (optional source_reference_of key self.now) }
+    fn optional_source_reference(&self, key: Key) -> Result<Option<u32>, Key>
+        ensures { result ≡ optional source_reference_of key self.now }
     {
         match self.value(key) {
             None => Ok(None),
-            Some(source) => Ok(Some(source_reference(alloc, source)?.ok_or(argument::bad(key))?)),
+            Some(source) => Ok(Some(source_reference(source).ok_or(key)?)),
         }
     }
 
     fn required_names(&self, alloc: Global, key: Key) -> Result<Texts, CallFault>
         ensures { Gives result (required names_of key self.now) }
     {
-        match self.value(key) {
-            None => Err(argument::bad(key)),
-            Some(value) => names(alloc, value)?.ok_or(argument::bad(key)),
-        }
+        let value = self.value(key).ok_or(key)?;
+        Ok(names(alloc, value)?.ok_or(key)?)
     }
 
     fn required_filters(&self, alloc: Global, key: Key) -> Result<Texts, CallFault>
         ensures { Gives result (required filters_of key self.now) }
     {
-        match self.value(key) {
-            None => Err(argument::bad(key)),
-            Some(value) => filters(alloc, value)?.ok_or(argument::bad(key)),
-        }
+        let value = self.value(key).ok_or(key)?;
+        Ok(filters(alloc, value)?.ok_or(key)?)
     }
 
     fn optional_lines(&self, alloc: Global, key: Key) -> Result<Option<Lines>, CallFault>
@@ -237,7 +246,17 @@ impl Arguments<'_> {
     {
         match self.value(key) {
             None => Ok(None),
-            Some(value) => Ok(Some(lines(alloc, value)?.ok_or(argument::bad(key))?)),
+            Some(value) => Ok(Some(lines(alloc, value)?.ok_or(key)?)),
+        }
+    }
+
+    /// Refuses a key whose value is there, but is no array of lines.
+    fn test_lines(&self, key: Key) -> Result<(), Key>
+        ensures { result ≡ read_map (λ _. tt) (optional lines_of key self.now) }
+    {
+        match self.value(key) {
+            Some(value) if !are_lines(value) => Err(key),
+            _ => Ok(()),
         }
     }
 
@@ -246,14 +265,14 @@ impl Arguments<'_> {
     {
         match self.value(key) {
             None => Ok(None),
-            Some(value) => Ok(Some(breakpoint_lines(alloc, value)?.ok_or(argument::bad(key))?)),
+            Some(value) => Ok(Some(breakpoint_lines(alloc, value)?.ok_or(key)?)),
         }
     }
 }
 
 #[tactic(auto, unfolding(crate::specs::Call::stack_trace_of))]
-fn stack_trace(given: Option<&Value>) -> Result<Call, CallFault>
-    ensures { Gives result (stack_trace_of (seen given.entry)) }
+fn stack_trace(given: Option<&Value>) -> Result<Call, Key>
+    ensures { result ≡ stack_trace_of (seen given.entry) }
 {
     let arguments = Arguments::required(given)?;
     let thread_id = arguments.required_int(Key::ThreadId)?;
@@ -280,8 +299,8 @@ fn evaluate(alloc: Global, given: Option<&Value>) -> Result<Call, CallFault>
 }
 
 #[tactic(auto, unfolding(crate::specs::Call::scopes_of))]
-fn scopes(given: Option<&Value>) -> Result<Call, CallFault>
-    ensures { Gives result (scopes_of (seen given.entry)) }
+fn scopes(given: Option<&Value>) -> Result<Call, Key>
+    ensures { result ≡ scopes_of (seen given.entry) }
 {
     let arguments = Arguments::required(given)?;
     let frame_id = arguments.required_number(Key::FrameId)?;
@@ -289,8 +308,8 @@ fn scopes(given: Option<&Value>) -> Result<Call, CallFault>
 }
 
 #[tactic(auto, unfolding(crate::specs::Call::variables_of))]
-fn variables(given: Option<&Value>) -> Result<Call, CallFault>
-    ensures { Gives result (variables_of (seen given.entry)) }
+fn variables(given: Option<&Value>) -> Result<Call, Key>
+    ensures { result ≡ variables_of (seen given.entry) }
 {
     let arguments = Arguments::required(given)?;
     let variables_reference = arguments.required_number(Key::VariablesReference)?;
@@ -305,12 +324,12 @@ fn variables(given: Option<&Value>) -> Result<Call, CallFault>
 
 /// A reference above 0 in the source counts before the one beside it; both are tested.
 #[tactic(auto, unfolding(crate::specs::Call::source_of))]
-fn source(alloc: Global, given: Option<&Value>) -> Result<Call, CallFault>
-    ensures { Gives result (source_of (seen given.entry)) }
+fn source(given: Option<&Value>) -> Result<Call, Key>
+    ensures { result ≡ source_of (seen given.entry) }
 {
     let arguments = Arguments::optional(given)?;
     let inner = arguments
-        .optional_source_reference(alloc, Key::Source)?
+        .optional_source_reference(Key::Source)?
         .unwrap_or(0);
     let outer = arguments.number_or(Key::SourceReference, 0)?;
     let source_reference = if inner == 0 { outer } else { inner };
@@ -333,8 +352,8 @@ fn set_variable(alloc: Global, given: Option<&Value>) -> Result<Call, CallFault>
 }
 
 #[tactic(auto, unfolding(crate::specs::Call::modules_of))]
-fn modules(given: Option<&Value>) -> Result<Call, CallFault>
-    ensures { Gives result (modules_of (seen given.entry)) }
+fn modules(given: Option<&Value>) -> Result<Call, Key>
+    ensures { result ≡ modules_of (seen given.entry) }
 {
     let arguments = Arguments::optional(given)?;
     let start_module = arguments.number_or(Key::StartModule, 0)?;
@@ -378,8 +397,8 @@ fn completions(alloc: Global, given: Option<&Value>) -> Result<Call, CallFault>
 }
 
 #[tactic(auto, unfolding(crate::specs::Call::thread_of))]
-fn thread(given: Option<&Value>) -> Result<i64, CallFault>
-    ensures { Gives result (thread_of (seen given.entry)) }
+fn thread(given: Option<&Value>) -> Result<i64, Key>
+    ensures { result ≡ thread_of (seen given.entry) }
 {
     Arguments::required(given)?.required_int(Key::ThreadId)
 }
@@ -390,7 +409,7 @@ fn tree(given: Option<&Value>) -> Result<Option<Tree>, CallFault>
     match given {
         None | Some(Value::Null) => Ok(None),
         Some(object) if object.is_object() => Ok(Some(Tree::new(object.clone()?))),
-        Some(_) => Err(argument::bad(Key::Arguments)),
+        Some(_) => Err(Key::Arguments.into()),
     }
 }
 
@@ -398,13 +417,14 @@ fn tree(given: Option<&Value>) -> Result<Option<Tree>, CallFault>
 /// as absent, and keys that the row does not list are ignored. A key is tested also where another one counts in its
 /// place. Where a command has no keys its arguments are ignored.
 ///
-/// `OutOfMemory` comes where memory for a text, a list or a tree is refused.
+/// `OutOfMemory` comes where memory for a text, a list or a tree of the call is refused.
 pub fn read_call(
     alloc: Global,
     command: Command,
     arguments: Option<&Value>,
 ) -> Result<Call, CallFault>
-    ensures { Gives result (call_of command (seen arguments.entry)) }
+    ensures call { Gives result (call_of command (seen arguments.entry)) }
+    ensures memory { IsErrOf result OutOfMemory → takes_memory command ≡ true }
 {
     match command {
         Command::Initialize => initialize(alloc, arguments),
@@ -414,7 +434,7 @@ pub fn read_call(
         Command::Disconnect => Ok(Call::Disconnect),
         Command::Threads => Ok(Call::Threads),
         Command::Terminate => Ok(Call::Terminate),
-        Command::Cancel => cancel(arguments),
+        Command::Cancel => Ok(cancel(arguments)?),
         Command::SetBreakpoints => set_breakpoints(alloc, arguments),
         Command::SetFunctionBreakpoints => set_function_breakpoints(alloc, arguments),
         Command::SetExceptionBreakpoints => set_exception_breakpoints(alloc, arguments),
@@ -439,15 +459,15 @@ pub fn read_call(
         Command::ReverseContinue => Ok(Call::ReverseContinue {
             thread_id: thread(arguments)?,
         }),
-        Command::StackTrace => stack_trace(arguments),
-        Command::Scopes => scopes(arguments),
-        Command::Variables => variables(arguments),
+        Command::StackTrace => Ok(stack_trace(arguments)?),
+        Command::Scopes => Ok(scopes(arguments)?),
+        Command::Variables => Ok(variables(arguments)?),
         Command::Evaluate => evaluate(alloc, arguments),
-        Command::Source => source(alloc, arguments),
+        Command::Source => Ok(source(arguments)?),
         Command::LoadedSources => Ok(Call::LoadedSources),
         Command::SetVariable => set_variable(alloc, arguments),
         Command::Restart => Ok(Call::Restart),
-        Command::Modules => modules(arguments),
+        Command::Modules => Ok(modules(arguments)?),
         Command::ExceptionInfo => Ok(Call::ExceptionInfo {
             thread_id: thread(arguments)?,
         }),

@@ -3,7 +3,8 @@
 //! Specification, "Capabilities", "InitializeResponse" and "CapabilitiesEvent".
 ghost use Rattle.std.specs.Prelude.{◌≡◌, IfOk, OnOk};
 ghost use Rattle.serde_json.specs.View.{view, members_view};
-ghost use Rattle.dap_call.specs.Capabilities.{seen, is_flag, updated_flag, with_flag};
+ghost use Rattle.dap_call.specs.Lent.{seen};
+ghost use Rattle.dap_call.specs.Capabilities.{is_flag, updated_flag, with_flag};
 
 use crate::command::{Command, Gate};
 use dap_json::field;
@@ -62,11 +63,11 @@ fn add(
 }
 
 impl Capabilities {
-    ghost use Rattle.dap_call.specs.Capabilities.{has, capabilities_of, updated_by, is_allowed, written};
+    ghost use Rattle.dap_call.specs.Capabilities.{has, offered_by, updated_by, is_allowed, written};
 
     /// The flags in the body of a response to `initialize`; without a body all are `false`.
     pub fn read(body: Option<&Value>) -> Capabilities
-        ensures { result ≡ capabilities_of (λ gate. is_flag gate (seen body.entry)) }
+        ensures { result ≡ offered_by (seen body.entry) }
     {
         Capabilities {
             breakpoint_locations: flag(body, Gate::BreakpointLocations),

@@ -1,12 +1,12 @@
 //! Laws of the definitions, each on a function with nothing to run.
-ghost use Rattle.dap_call.specs.Plain.{WrittenIsReadAgain, WrittenIsPlain};
+ghost use Rattle.dap_call.specs.PlainCall.{WrittenCallIsReadAgain, WrittenCallIsPlain};
 
 /// A plain call, once written, is read again as itself.
-pub fn written_is_read_again()
-    ensures { WrittenIsReadAgain }
+pub fn written_call_is_read_again()
+    ensures { WrittenCallIsReadAgain }
 {}
 
 /// What a plain call is written as can be the arguments of a message that is written.
-pub fn written_is_plain()
-    ensures { WrittenIsPlain }
+pub fn written_call_is_plain()
+    ensures { WrittenCallIsPlain }
 {}

@@ -5,7 +5,7 @@ ghost use Rattle.std.specs.Prelude.{◌≡◌, nat_le};
 ghost use Rattle.std.specs.List.{list_all};
 ghost use Rattle.dap_json.specs.Field.{max_seq};
 ghost use Rattle.dap_call.specs.CallTree.{command_of};
-ghost use Rattle.dap_call.specs.Plain.{is_plain_call, is_plain_source, are_plain_arguments, is_number as is_number_in_range, is_none_or};
+ghost use Rattle.dap_call.specs.PlainCall.{is_plain_call, is_plain_source, are_plain_arguments, is_number as is_number_in_range, is_none_or};
 
 use crate::argument::{MAX_NUMBER, is_int};
 use crate::call::{Call, SourceKey};

@@ -4,7 +4,7 @@ ghost use Rattle.serde_json.specs.View.{view, members_view, items_view};
 ghost use Rattle.dap_json.specs.Writable.{is_plain_tree};
 ghost use Rattle.dap_call.specs.Call.{call_of};
 ghost use Rattle.dap_call.specs.CallTree.{if_any, source_tree, breakpoint_tree, breakpoint_items, function_tree, function_items, text_items, initialize_members, cancel_members, set_breakpoints_members, set_function_breakpoints_members, set_exception_breakpoints_members, thread_members, stack_trace_members, scopes_members, variables_members, evaluate_members, source_members, set_variable_members, modules_members, breakpoint_locations_members, completions_members, call_tree, command_of};
-ghost use Rattle.dap_call.specs.Plain.{is_plain_call};
+ghost use Rattle.dap_call.specs.PlainCall.{is_plain_call};
 
 use crate::call::{
     BreakpointLocations, Call, Completions, Evaluate, Initialize, Modules, SetVariable, SourceKey,

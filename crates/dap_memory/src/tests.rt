@@ -2,7 +2,9 @@
 
 ghost use Rattle.std.specs.Prelude.{◌≤◌};
 
+use dap_call::{Call, CallFault, Capabilities, Command, SourceKey, read_call};
 use dap_frame::{Cause, Fed, FrameFault, Frames, Limits, write_frame};
+use dap_json::{parse, write};
 use dap_message::{BodyFault, Kind, Message, Text, read_message, write_message};
 use dap_tables::{Entry, Outstanding, PutFault};
 use dap_tool::{
@@ -259,6 +261,103 @@ fn wrapping(rt: HostRuntime) -> Result<(), Fail> {
         Err(fault) => {
             assert_eq!(rt; fault, WrapFault::OutOfMemory);
             note(&rt)?;
+        }
+    }
+    Ok(())
+}
+
+/// A call with a text and a list is read whole, or not at all, and then by the next try.
+#[test]
+fn reading_lines(rt: HostRuntime) -> Result<(), Fail> {
+    let Ok(arguments) = parse(
+        rt.alloc(),
+        b"{\"breakpoints\":[{\"line\":2},{\"line\":9}],\"source\":{\"path\":\"/a.c\"}}",
+    ) else {
+        note(&rt)?;
+        return Ok(());
+    };
+    for _ in 0..2 {
+        match read_call(rt.alloc(), Command::SetBreakpoints, Some(&arguments)) {
+            Ok(Call::SetBreakpoints { source, lines }) => {
+                let SourceKey::Path(path) = source else {
+                    return Err(Fail::from("a source without its path"));
+                };
+                assert_eq!(rt; path.as_str(), "/a.c");
+                assert_eq!(rt; lines.as_slice(), [2, 9].as_slice());
+            }
+            Err(CallFault::OutOfMemory) => note(&rt)?,
+            _ => return Err(Fail::from("another call")),
+        }
+    }
+    Ok(())
+}
+
+/// Likewise a list of texts.
+#[test]
+fn reading_names(rt: HostRuntime) -> Result<(), Fail> {
+    let Ok(arguments) = parse(
+        rt.alloc(),
+        b"{\"breakpoints\":[{\"name\":\"main\"},{\"name\":\"f\"}]}",
+    ) else {
+        note(&rt)?;
+        return Ok(());
+    };
+    for _ in 0..2 {
+        match read_call(
+            rt.alloc(),
+            Command::SetFunctionBreakpoints,
+            Some(&arguments),
+        ) {
+            Ok(Call::SetFunctionBreakpoints { names }) => {
+                assert_eq!(rt; names.as_slice().len(), 2);
+                for (name, wanted) in names.as_slice().iter().zip(["main", "f"].iter()) {
+                    assert_eq!(rt; name.as_str(), *wanted);
+                }
+            }
+            Err(CallFault::OutOfMemory) => note(&rt)?,
+            _ => return Err(Fail::from("another call")),
+        }
+    }
+    Ok(())
+}
+
+/// Likewise a tree.
+#[test]
+fn reading_a_launch(rt: HostRuntime) -> Result<(), Fail> {
+    let text = b"{\"args\":[\"-v\",7],\"env\":{\"A\":\"b\"},\"program\":\"/a\"}".as_slice();
+    let Ok(arguments) = parse(rt.alloc(), text) else {
+        note(&rt)?;
+        return Ok(());
+    };
+    for _ in 0..2 {
+        match read_call(rt.alloc(), Command::Launch, Some(&arguments)) {
+            Ok(Call::Launch(Some(tree))) => match write(rt.alloc(), tree.value()) {
+                Ok(written) => assert_eq!(rt; written.as_slice(), text),
+                Err(_) => note(&rt)?,
+            },
+            Err(CallFault::OutOfMemory) => note(&rt)?,
+            _ => return Err(Fail::from("another call")),
+        }
+    }
+    Ok(())
+}
+
+/// The object of the flags that are set, or none.
+#[test]
+fn writing_capabilities(rt: HostRuntime) -> Result<(), Fail> {
+    let text = b"{\"supportsCancelRequest\":true,\"supportsStepBack\":true}".as_slice();
+    let Ok(body) = parse(rt.alloc(), text) else {
+        note(&rt)?;
+        return Ok(());
+    };
+    let offered = Capabilities::read(Some(&body));
+    for _ in 0..2 {
+        match offered.write(rt.alloc()) {
+            Ok(object) => match write(rt.alloc(), &object) {
+                Ok(written) => assert_eq!(rt; written.as_slice(), text),
+                Err(_) => note(&rt)?,
+            },
+            Err(_) => note(&rt)?,
         }
     }
     Ok(())

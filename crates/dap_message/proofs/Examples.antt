@@ -1,15 +1,24 @@
 -- Worked examples, each shown by computation.
-use Rattle.std.proofs.Common.{◌≡◌, ℕ, List, length, nat_le, codes, true, false, Some, None, refl, arith}
+use Rattle.std.proofs.Common.{◌≡◌, ℕ, List, length, replicate, nat_le, codes, true, false, Some, None, pos, negsuc, refl, sym, true≢false, arith}
 use Rattle.std.specs.Fmt.{digits}
 use Rattle.std.specs.Str.{is_utf8, chars}
 use Rattle.json.specs.Print.{escape_byte}
 use Rattle.serde_json.specs.Data.{null, boolean, object, no_members, member, put}
 use Rattle.serde_json.proofs.OnLiterals.{serde_json_on_literals}
+use Rattle.dap_json.specs.Field.{max_seq}
 use Rattle.dap_json.specs.Put.{whole}
 use Rattle.dap_json.specs.Read.{json_of}
+use Rattle.dap_call.specs.Capabilities.{capabilities_of}
+use Rattle.dap_call.specs.declared.capabilities.Capabilities.{Capabilities}
+use Rattle.dap_call.specs.declared.key.Key.TheVariants.{SupportsRunInTerminalRequest}
+use Rattle.dap_body.specs.declared.failure.Failure.TheVariants.{NotInitialized, Unsupported, BadArguments, Cancelled}
 use Rattle.dap_message.specs.Canon.{tree_of, canon, request_members, response_members, event_members}
+use Rattle.dap_message.specs.Lengths.{failed, succeeded, happened, none, offers, all_go_on, body_of, initialized, output, stopped, continued, exited, event_name, event_body, is_exit_code, IsWithin}
 use Rattle.dap_message.specs.Meaning.{Msg}
+use Rattle.dap_json.specs.Writable.{is_plain_tree}
+use Rattle.dap_body.specs.Failure.{failure_body}
 use Rattle.dap_message.specs.Plain.{is_plain}
+use Rattle.dap_message.specs.PlainBodies.{IsPlain}
 use Rattle.dap_message.specs.Refusals.{Bad, first_refusal}
 use Rattle.dap_message.specs.declared.fault.BodyRefusal.TheVariants.{NotJson, NotObject, BadSeq, BadType, BadCommand, BadRequestSeq, BadSuccess, BadEvent, BadMessage}
 use Rattle.dap_message.specs.declared.message.Kind.TheVariants.{Request, Response, Event, Other}
@@ -124,3 +133,73 @@ a_response_with_a_body_is_plain seq request_seq command e f g = rw (e, f, g) ref
 
 a_type_is_no_tag : is_plain (record { seq = 1; kind = Other (codes "event") }) ≡ false
 a_type_is_no_tag = refl
+
+-- ---- what an adapter writes of a fixed shape
+
+a_cancelled_request : canon (failed 3 2 (codes "threads") Cancelled) ≡ codes "{\"body\":{\"error\":{\"format\":\"The request was cancelled.\",\"id\":1012}},\"command\":\"threads\",\"message\":\"cancelled\",\"request_seq\":2,\"seq\":3,\"success\":false,\"type\":\"response\"}"
+unfolding canon tree_of response_members escape_byte digits
+a_cancelled_request = refl
+
+bytes_of_failures : (length (canon (failed 1 1 (codes "threads") NotInitialized)) ≡ 178) × (length (canon (failed 1 1 (codes "threads") Unsupported)) ≡ 173)
+unfolding canon tree_of response_members escape_byte digits
+bytes_of_failures = (refl, refl)
+
+-- a command of 64 bytes that JSON has to escape, and the longest key
+longest_failure : length (canon (failed max_seq max_seq (replicate 64 1) (BadArguments SupportsRunInTerminalRequest))) ≡ 618
+unfolding canon tree_of response_members escape_byte digits
+longest_failure = refl
+
+nothing_to_say : canon (succeeded 4 3 (codes "cancel") (body_of none)) ≡ codes "{\"command\":\"cancel\",\"request_seq\":3,\"seq\":4,\"success\":true,\"type\":\"response\"}"
+unfolding canon tree_of response_members escape_byte digits
+nothing_to_say = refl
+
+all_threads_go_on : canon (succeeded 7 4 (codes "continue") (body_of all_go_on)) ≡ codes "{\"body\":{\"allThreadsContinued\":true},\"command\":\"continue\",\"request_seq\":4,\"seq\":7,\"success\":true,\"type\":\"response\"}"
+unfolding canon tree_of response_members escape_byte digits
+all_threads_go_on = refl
+
+abbrev every_flag : Capabilities
+every_flag = capabilities_of (λ gate. true)
+
+longest_response : length (canon (succeeded max_seq max_seq (replicate 64 1) (body_of (offers every_flag)))) ≡ 889
+unfolding canon tree_of response_members escape_byte digits
+longest_response = refl
+
+without_a_body : canon (happened 2 (event_name initialized) (event_body initialized)) ≡ codes "{\"event\":\"initialized\",\"seq\":2,\"type\":\"event\"}"
+unfolding canon tree_of event_members escape_byte digits
+without_a_body = refl
+
+a_stop : canon (happened 10 (event_name (stopped (codes "pause") (pos 1))) (event_body (stopped (codes "pause") (pos 1)))) ≡ codes "{\"body\":{\"allThreadsStopped\":true,\"reason\":\"pause\",\"threadId\":1},\"event\":\"stopped\",\"seq\":10,\"type\":\"event\"}"
+unfolding canon tree_of event_members escape_byte digits
+a_stop = refl
+
+-- texts at their limits, that JSON has to escape
+longest_output : length (canon (happened max_seq (event_name (output (replicate 7 1) (replicate 128 1))) (event_body (output (replicate 7 1) (replicate 128 1))))) ≡ 901
+unfolding canon tree_of event_members escape_byte digits
+longest_output = refl
+
+longest_reason : IsWithin (stopped (replicate 64 1) (negsuc 9007199254740990))
+longest_reason = (omega arith, refl)
+
+ends_of_exit_codes : (is_exit_code (negsuc 2147483647) ≡ true) × (is_exit_code (pos 2147483648) ≡ false)
+ends_of_exit_codes = (refl, refl)
+
+thread_past_the_greatest : IsWithin (continued (pos 9007199254740992)) → ⊥
+thread_past_the_greatest h = true≢false (sym h)
+
+-- ---- bodies that can stand in a plain message
+
+failure_is_plain : (IsPlain (failure_body Cancelled)) × (is_plain (failed 3 2 (codes "threads") Cancelled) ≡ true)
+failure_is_plain = (refl, refl)
+
+-- the body is plain, the command too long
+long_command_is_not_plain : is_plain (failed 3 2 (replicate 65 97) Cancelled) ≡ false
+long_command_is_not_plain = refl
+
+capabilities_are_plain : is_plain (succeeded 1 1 (codes "initialize") (body_of (offers every_flag))) ≡ true
+capabilities_are_plain = refl
+
+event_is_plain : is_plain (happened 5 (event_name (exited (negsuc 0))) (event_body (exited (negsuc 0)))) ≡ true
+event_is_plain = refl
+
+null_is_no_body : is_plain_tree (Some null) ≡ false
+null_is_no_body = refl

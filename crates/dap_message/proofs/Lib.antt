@@ -6,3 +6,6 @@ pub mod HeadingLemmas
 pub mod SoundTree
 pub mod Examples
 pub mod SoundReading
+pub mod Sizes
+pub mod Lengths
+pub mod PlainBodies

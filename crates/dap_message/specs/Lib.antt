@@ -5,6 +5,19 @@ pub use Rattle.dap_json.specs.Put
 pub use Rattle.dap_json.specs.Sound
 pub use Rattle.dap_json.specs.Read
 pub use Rattle.dap_json.specs.Skim
+pub use Rattle.dap_call.specs.Argument
+pub use Rattle.dap_call.specs.Call
+pub use Rattle.dap_call.specs.Capabilities
+pub use Rattle.dap_call.specs.Command
+pub use Rattle.dap_call.specs.Given
+pub use Rattle.dap_call.specs.Key
+pub use Rattle.dap_call.specs.Lent
+pub use Rattle.dap_call.specs.CallTree
+pub use Rattle.dap_call.specs.PlainCall
+pub use Rattle.dap_body.specs.EventBody
+pub use Rattle.dap_body.specs.Failure
+pub use Rattle.dap_body.specs.ResponseBody
+pub mod Types
 pub mod Refusals
 pub mod Meaning
 pub mod Gives
@@ -14,3 +27,5 @@ pub mod Plain
 pub mod Canon
 pub mod SoundMessage
 pub mod Laws
+pub mod Lengths
+pub mod PlainBodies

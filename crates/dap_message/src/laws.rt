@@ -1,6 +1,9 @@
 //! Laws of the definitions, each on a function with nothing to run.
 ghost use Rattle.dap_message.specs.Laws.{EachBodyIsOne, WrittenIsReadAgain, ReadIsSound};
+ghost use Rattle.dap_message.specs.PlainBodies.{EventBodiesArePlain, FailureBodiesArePlain, ResponseBodiesArePlain};
+ghost use Rattle.dap_message.specs.Lengths.{EventsAreShort, FailuresAreShort, FixedResponsesAreShort};
 
+pub use dap_call::laws::{written_call_is_plain, written_call_is_read_again};
 use dap_json::laws::{put_is_sound, text_is_read_again, what_is_read_is_sound};
 
 /// Each body is one message, or has one first refusal: never both, never two.
@@ -23,3 +26,19 @@ pub fn read_is_sound()
 {
     what_is_read_is_sound();
 }
+
+/// What an adapter writes of a fixed shape has at most 1024 bytes: each failure, each response
+/// without a body or with one of a fixed shape, and each event.
+pub fn fixed_messages_are_short()
+    ensures failures { FailuresAreShort }
+    ensures responses { FixedResponsesAreShort }
+    ensures events { EventsAreShort }
+{}
+
+/// What the builders of bodies give can stand in a message that is written, however long its lists
+/// and texts are: a message with such a body is plain where its numbers and its command are.
+pub fn bodies_are_plain()
+    ensures responses { ResponseBodiesArePlain }
+    ensures failures { FailureBodiesArePlain }
+    ensures events { EventBodiesArePlain }
+{}

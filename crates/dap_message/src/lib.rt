@@ -1,7 +1,8 @@
 //! Messages of the Debug Adapter Protocol: from bytes and back.
 //!
 //! Overview, "Base Protocol", of the content part; Specification, "ProtocolMessage", "Request",
-//! "Response", "Event". Header fields are a lower layer's, and what a command asks a higher one's.
+//! "Response", "Event". Header fields are a lower layer's. What commands ask and what an adapter answers is told by
+//! `dap_call` and `dap_body`, whose names are handed on here, so that a caller needs this crate alone.
 #![tactic(auto)]
 
 mod fault;
@@ -11,6 +12,17 @@ mod message;
 mod reading;
 mod writing;
 
+pub use dap_body::{
+    Breakpoint, Failure, Scope, Source, StackFrame, Thread, Variable, body_continue,
+    body_continued, body_evaluate, body_exited, body_failure, body_loaded_sources, body_output,
+    body_scopes, body_set_breakpoints, body_source, body_stack_trace, body_stopped, body_threads,
+    body_variables,
+};
+pub use dap_call::{
+    BreakpointLocations, Call, CallFault, Capabilities, Command, Completions, Evaluate,
+    FramesGiven, Gate, HoldersGiven, Initialize, Key, Lines, MAX_ARGUMENTS, Modules, SetVariable,
+    SourceKey, StackTrace, Texts, Variables, frames_given, holders_given, read_call, write_call,
+};
 pub use dap_json::skim::Scratch;
 pub use dap_json::{Text, Tree};
 pub use fault::{BodyFault, BodyRefusal};

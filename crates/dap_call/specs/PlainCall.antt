@@ -1,5 +1,5 @@
--- Which calls can be written and are read again as themselves.
--- The ranges, and that a tree nests at most 100 deep and has no floats, are this profile's choice.
+-- Which calls can be written; they are then read again as themselves.
+-- This profile's choice: the ranges, that a source without a path has a reference above 0, and that a tree is an object without floats, nested at most 100 deep.
 use Rattle.std.specs.Prelude.{◌≡◌, ℕ, ◌&&◌, Bool, true, nat_le, nat_lt, Option, Some, None, IsTrue, Ok}
 use Rattle.std.specs.List.{list_all}
 use Rattle.serde_json.specs.Data.{Data}
@@ -68,9 +68,9 @@ is_plain_call (call.Completions a) = is_number a.column && (is_none_or is_number
 -- ---- laws
 
 -- a plain call, once written, is read again as itself
-abbrev pub WrittenIsReadAgain : Type 0
-WrittenIsReadAgain = (c : Call) → IsTrue (is_plain_call c) → call_of (command_of c) (call_tree c) ≡ Ok c
+abbrev pub WrittenCallIsReadAgain : Type 0
+WrittenCallIsReadAgain = (c : Call) → IsTrue (is_plain_call c) → call_of (command_of c) (call_tree c) ≡ Ok c
 
 -- what a plain call is written as can be the arguments of a message that is written
-abbrev pub WrittenIsPlain : Type 0
-WrittenIsPlain = (c : Call) → IsTrue (is_plain_call c) → IsTrue (is_plain_tree (call_tree c))
+abbrev pub WrittenCallIsPlain : Type 0
+WrittenCallIsPlain = (c : Call) → IsTrue (is_plain_call c) → IsTrue (is_plain_tree (call_tree c))

@@ -1,0 +1,55 @@
+-- Why a request failed: Specification, "ErrorResponse" and "Message".
+-- The numbers, the short names, the texts and their one order are this profile's choice, but for the short names `cancelled` and `notStopped`, which are the standard's own ("Response").
+use Rattle.std.specs.Prelude.{ℕ, List, [], ◌∷◌, ◌++◌, codes}
+use Rattle.serde_json.specs.Data.{Data, string, object, no_members, member}
+use Rattle.dap_json.specs.Put.{whole}
+use Rattle.dap_call.specs.Key.{text_of}
+use Rattle.dap_call.specs.declared.key.Key.{Key}
+use Rattle.dap_body.specs.declared.failure.Failure.{Failure}
+use Rattle.dap_body.specs.declared.failure.Failure.TheVariants.{NotInitialized, AlreadyInitialized, UnknownCommand, Unsupported, BadArguments, WrongPhase, NotStopped, UnknownThread, StaleReference, UnknownSource, Debuggee, TooManyBreakpoints, TooManyReferences, ReferencesExhausted, TooLarge, Busy, Cancelled}
+
+-- a failure's number, its short name and its text
+pub record Row : Type 0 where
+  pub id : ℕ
+  pub name : List ℕ
+  pub format : List ℕ
+
+abbrev pub row : ℕ → List ℕ → List ℕ → Row
+row id name format = record { id = id; name = name; format = format }
+
+abbrev pub bad_argument_format : Key → List ℕ
+bad_argument_format key = codes "The argument " ++ (text_of key ++ codes " is missing or malformed.")
+
+abbrev pub row_of : Failure → Row
+row_of NotInitialized = row 1001 (codes "notInitialized") (codes "The session is not initialized.")
+row_of AlreadyInitialized = row 1002 (codes "alreadyInitialized") (codes "The session is already initialized.")
+row_of UnknownCommand = row 1003 (codes "unknownCommand") (codes "The command is not known.")
+row_of Unsupported = row 1004 (codes "unsupported") (codes "The command is not supported.")
+row_of (BadArguments key) = row 1005 (codes "badArguments") (bad_argument_format key)
+row_of WrongPhase = row 1007 (codes "wrongPhase") (codes "The request does not fit the state of the session.")
+row_of NotStopped = row 1006 (codes "notStopped") (codes "The debuggee is not stopped.")
+row_of UnknownThread = row 1008 (codes "unknownThread") (codes "The thread does not exist.")
+row_of StaleReference = row 1009 (codes "staleReference") (codes "The reference is not valid in this stop.")
+row_of UnknownSource = row 1014 (codes "unknownSource") (codes "The source does not exist.")
+row_of Debuggee = row 1013 (codes "debuggee") (codes "The debuggee refused.")
+row_of TooManyBreakpoints = row 1015 (codes "tooManyBreakpoints") (codes "Too many breakpoints are set.")
+row_of TooManyReferences = row 1010 (codes "tooManyReferences") (codes "Too many references are in use.")
+row_of ReferencesExhausted = row 1017 (codes "referencesExhausted") (codes "No reference numbers are left.")
+row_of TooLarge = row 1016 (codes "tooLarge") (codes "The response would be too large.")
+row_of Busy = row 1011 (codes "busy") (codes "Too many requests are waiting.")
+row_of Cancelled = row 1012 (codes "cancelled") (codes "The request was cancelled.")
+
+-- The order in which an adapter tests a request, where `key` is the first bad one: the first of these that holds is answered. Busy and Cancelled come outside it.
+abbrev pub in_order : Key → List Failure
+in_order key =
+    NotInitialized ∷ AlreadyInitialized ∷ UnknownCommand ∷ Unsupported ∷ BadArguments key ∷ WrongPhase ∷ NotStopped ∷ UnknownThread ∷ StaleReference ∷ UnknownSource
+    ∷ Debuggee ∷ TooManyBreakpoints ∷ TooManyReferences ∷ ReferencesExhausted ∷ TooLarge ∷ []
+
+-- the body of an ErrorResponse
+abbrev pub failure_body : Failure → Data
+failure_body failure = object (
+    member (codes "error") (object (
+    member (codes "format") (string (row_of failure).format) (
+    member (codes "id") (whole (row_of failure).id)
+    no_members)))
+    no_members)

@@ -1,0 +1,3 @@
+pub mod Failure
+pub mod ResponseBody
+pub mod EventBody

@@ -1,0 +1,21 @@
+//! The bodies that an adapter writes: those of its responses, of its events and of its failures.
+//!
+//! Specification, "Responses" under "Requests", "Events", "ErrorResponse" and "Types". The body of the response to
+//! `initialize` is written by `dap_call::Capabilities`. This crate must not know the envelope of a message, nor header
+//! fields.
+#![tactic(auto)]
+
+mod event;
+mod failure;
+mod response;
+
+pub use event::{body_continued, body_exited, body_output, body_stopped};
+pub use failure::{Failure, body_failure};
+pub use response::{
+    Breakpoint, Scope, Source, StackFrame, Thread, Variable, body_continue, body_evaluate,
+    body_loaded_sources, body_scopes, body_set_breakpoints, body_source, body_stack_trace,
+    body_threads, body_variables,
+};
+
+#[cfg(test)]
+mod tests;

@@ -1,0 +1,155 @@
+-- What an adapter writes of a fixed shape has 1024 bytes at most.
+use Rattle.std.proofs.Common.{◌≡◌, ℕ, suc, ◌+◌, ◌≤◌, ℤ, pos, negsuc, List, length, Bool, true, false, nat_le, IsTrue, Option, Some, None, decimal, arith}
+use Rattle.std.proofs.lemmas.Bool.{leb-true}
+use Rattle.std.proofs.lemmas.Fmt.{length-decimal-le}
+use Rattle.std.specs.Fmt.{digits}
+use Rattle.json.specs.Token as token
+use Rattle.json.specs.Print.{escape_byte, quoted, token_text}
+use Rattle.serde_json.specs.Data.{Data, boolean, object, Members, no_members}
+use Rattle.serde_json.specs.Find.{of_integer}
+use Rattle.serde_json.specs.Written.{number_text}
+use Rattle.dap_json.specs.Field.{max_seq}
+use Rattle.dap_call.specs.Argument.{is_int}
+use Rattle.dap_call.specs.Capabilities.{written, with_flag}
+use Rattle.dap_call.specs.Command.{flag_of}
+use Rattle.dap_call.specs.declared.capabilities.Capabilities.{Capabilities}
+use Rattle.dap_call.specs.declared.command.Gate.{Gate}
+use Rattle.dap_call.specs.declared.command.Gate.TheVariants as gate
+use Rattle.dap_call.specs.declared.key.Key.{Key}
+use Rattle.dap_call.specs.declared.key.Key.TheVariants as key
+use Rattle.dap_body.specs.Failure.{row_of, bad_argument_format, failure_body}
+use Rattle.dap_body.specs.declared.failure.Failure.{Failure}
+use Rattle.dap_body.specs.declared.failure.Failure.TheVariants.{NotInitialized, BadArguments}
+use Rattle.dap_message.specs.Canon.{canon, tree_of, members_of, response_members, event_members}
+use Rattle.dap_message.specs.Lengths.{failed, succeeded, happened, FixedBody, none, offers, all_go_on, body_of, AdapterEvent, initialized, output, stopped, continued, exited, terminated, event_name, event_body, is_exit_code, IsWithin, FailuresAreShort, FixedResponsesAreShort, EventsAreShort}
+use Rattle.dap_message.specs.Refusals.{max_command}
+use Rattle.dap_message.specs.declared.message.Message.{Message}
+use Rattle.dap_message.proofs.RoundTrip.{both}
+use Rattle.dap_message.proofs.Sizes.{quoted_le, size, members_size, length-compact_text, put_size}
+
+length-canon : (m : Message) → length (canon m) ≡ size (object (members_of m.seq m.kind))
+unfolding canon tree_of
+length-canon m = length-compact_text (object (members_of m.seq m.kind))
+
+-- ---- numbers
+
+seq_size : (n : ℕ) → n ≤ max_seq → length (decimal n) ≤ 16
+seq_size n h = length-decimal-le 16 n (omega arith) (omega arith) (omega arith)
+
+-- a sign, and sixteen digits
+int_size : (z : ℤ) → IsTrue (is_int z) → length (number_text (of_integer z)) ≤ 17
+int_size (pos n) h = let small : n ≤ 9007199254740991 = leb-true n 9007199254740991 h in omega (arith, seq_size n small)
+int_size (negsuc n) h =
+    let small : n ≤ 9007199254740990 = leb-true n 9007199254740990 (both (nat_le n 9007199254740990) true h).0 in
+    omega (arith, seq_size (suc n) (omega arith))
+
+code_size : (z : ℤ) → IsTrue (is_exit_code z) → length (number_text (of_integer z)) ≤ 17
+code_size (pos n) h = let small : n ≤ 2147483647 = leb-true n 2147483647 h in omega (arith, seq_size n (omega arith))
+code_size (negsuc n) h =
+    let small : n ≤ 2147483647 = leb-true n 2147483647 (both (nat_le n 2147483647) true h).0 in
+    omega (arith, seq_size (suc n) (omega arith))
+
+boolean_size : (b : Bool) → length (token_text (token.boolean b)) ≤ 5
+boolean_size true = omega arith
+boolean_size false = omega arith
+
+-- ---- around a body
+
+abbrev message_size : Option (List ℕ) → ℕ
+message_size None = 0
+message_size (Some m) = length (quoted m) + 11
+
+abbrev body_size : Option Data → ℕ
+body_size None = 0
+body_size (Some d) = size d + 8
+
+response_size : (seq r : ℕ) (ok : Bool) (c : List ℕ) (m : Option (List ℕ)) (b : Option Data) → seq ≤ max_seq → r ≤ max_seq → length c ≤ max_command
+    → size (object (response_members seq r ok c m b)) ≤ message_size m + body_size b + 500
+unfolding response_members escape_byte
+response_size seq r ok c None None s q h = omega (arith, seq_size seq s, seq_size r q, quoted_le c, boolean_size ok)
+response_size seq r ok c None (Some d) s q h = omega (arith, seq_size seq s, seq_size r q, quoted_le c, boolean_size ok)
+response_size seq r ok c (Some m) None s q h = omega (arith, seq_size seq s, seq_size r q, quoted_le c, boolean_size ok)
+response_size seq r ok c (Some m) (Some d) s q h = omega (arith, seq_size seq s, seq_size r q, quoted_le c, boolean_size ok)
+
+event_size : (seq : ℕ) (e : List ℕ) (b : Option Data) → seq ≤ max_seq → size (object (event_members seq e b)) ≤ length (quoted e) + body_size b + 60
+unfolding event_members escape_byte
+event_size seq e None s = omega (arith, seq_size seq s)
+event_size seq e (Some d) s = omega (arith, seq_size seq s)
+
+-- ---- failures
+
+bad_argument_size : (k : Key) → length (quoted (bad_argument_format k)) ≤ 70
+unfolding escape_byte
+bad_argument_size key.Arguments = omega arith
+bad_argument_size k = omega arith
+
+failure_size : (f : Failure) → size (failure_body f) ≤ 110
+unfolding escape_byte digits
+failure_size (BadArguments k) = omega (arith, bad_argument_size k)
+failure_size f = omega arith
+
+name_size : (f : Failure) → length (quoted (row_of f).name) ≤ 30
+unfolding escape_byte
+name_size NotInitialized = omega arith
+name_size f = omega arith
+
+pub failures_are_short : FailuresAreShort
+failures_are_short seq r c f s q h =
+    omega (arith, length-canon (failed seq r c f), response_size seq r false c (Some (row_of f).name) (Some (failure_body f)) s q h, name_size f, failure_size f)
+
+-- ---- responses
+
+flag_size : (g : Gate) (on : Bool) (ms : Members) → members_size false (with_flag g on ms) ≤ members_size false ms + (length (quoted (flag_of g)) + 6)
+flag_size g true ms = omega (arith, put_size false (flag_of g) (boolean true) ms)
+flag_size g false ms = omega arith
+
+capabilities_size : (c : Capabilities) → size (written c) ≤ 400
+unfolding escape_byte
+capabilities_size c =
+    let m1 = with_flag gate.BreakpointLocations c.breakpoint_locations no_members in
+    let m2 = with_flag gate.Cancel c.cancel m1 in
+    let m3 = with_flag gate.Completions c.completions m2 in
+    let m4 = with_flag gate.ConfigurationDone c.configuration_done m3 in
+    let m5 = with_flag gate.ExceptionInfo c.exception_info m4 in
+    let m6 = with_flag gate.FunctionBreakpoints c.function_breakpoints m5 in
+    let m7 = with_flag gate.LoadedSources c.loaded_sources m6 in
+    let m8 = with_flag gate.Modules c.modules m7 in
+    let m9 = with_flag gate.Restart c.restart m8 in
+    let m10 = with_flag gate.SetVariable c.set_variable m9 in
+    let m11 = with_flag gate.StepBack c.step_back m10 in
+    let s1 = flag_size gate.BreakpointLocations c.breakpoint_locations no_members in
+    let s2 = flag_size gate.Cancel c.cancel m1 in
+    let s3 = flag_size gate.Completions c.completions m2 in
+    let s4 = flag_size gate.ConfigurationDone c.configuration_done m3 in
+    let s5 = flag_size gate.ExceptionInfo c.exception_info m4 in
+    let s6 = flag_size gate.FunctionBreakpoints c.function_breakpoints m5 in
+    let s7 = flag_size gate.LoadedSources c.loaded_sources m6 in
+    let s8 = flag_size gate.Modules c.modules m7 in
+    let s9 = flag_size gate.Restart c.restart m8 in
+    let s10 = flag_size gate.SetVariable c.set_variable m9 in
+    let s11 = flag_size gate.StepBack c.step_back m10 in
+    let s12 = flag_size gate.Terminate c.terminate m11 in
+    omega arith
+
+fixed_size : (b : FixedBody) → body_size (body_of b) ≤ 410
+unfolding escape_byte
+fixed_size none = omega arith
+fixed_size (offers c) = omega (arith, capabilities_size c)
+fixed_size all_go_on = omega arith
+
+pub fixed_responses_are_short : FixedResponsesAreShort
+fixed_responses_are_short seq r c b s q h = omega (arith, length-canon (succeeded seq r c (body_of b)), response_size seq r true c None (body_of b) s q h, fixed_size b)
+
+-- ---- events
+
+event_body_size : (e : AdapterEvent) → IsWithin e → length (quoted (event_name e)) + body_size (event_body e) ≤ 900
+unfolding escape_byte
+event_body_size initialized h = omega arith
+event_body_size (output category text) h = omega (arith, quoted_le category, quoted_le text)
+event_body_size (stopped reason thread) h = omega (arith, quoted_le reason, int_size thread h.1)
+event_body_size (continued thread) h = omega (arith, int_size thread h)
+event_body_size (exited code) h = omega (arith, code_size code h)
+event_body_size terminated h = omega arith
+
+pub events_are_short : EventsAreShort
+events_are_short seq e s h = omega (arith, length-canon (happened seq (event_name e) (event_body e)), event_size seq (event_name e) (event_body e) s, event_body_size e h)

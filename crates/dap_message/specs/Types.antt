@@ -1,0 +1,23 @@
+-- The types of the crates below that definitions and clauses above name.
+pub use Rattle.dap_call.specs.declared.call.BreakpointLocations
+pub use Rattle.dap_call.specs.declared.call.Call
+pub use Rattle.dap_call.specs.declared.call.CallFault
+pub use Rattle.dap_call.specs.declared.call.Completions
+pub use Rattle.dap_call.specs.declared.call.Evaluate
+pub use Rattle.dap_call.specs.declared.call.Initialize
+pub use Rattle.dap_call.specs.declared.call.Modules
+pub use Rattle.dap_call.specs.declared.call.SetVariable
+pub use Rattle.dap_call.specs.declared.call.SourceKey
+pub use Rattle.dap_call.specs.declared.call.StackTrace
+pub use Rattle.dap_call.specs.declared.call.Variables
+pub use Rattle.dap_call.specs.declared.capabilities.Capabilities
+pub use Rattle.dap_call.specs.declared.command.Command
+pub use Rattle.dap_call.specs.declared.command.Gate
+pub use Rattle.dap_call.specs.declared.key.Key
+pub use Rattle.dap_body.specs.declared.failure.Failure
+pub use Rattle.dap_body.specs.declared.response.Breakpoint
+pub use Rattle.dap_body.specs.declared.response.Scope
+pub use Rattle.dap_body.specs.declared.response.Source
+pub use Rattle.dap_body.specs.declared.response.StackFrame
+pub use Rattle.dap_body.specs.declared.response.Thread
+pub use Rattle.dap_body.specs.declared.response.Variable
