@@ -1,6 +1,6 @@
 -- The least and the greatest place of a moment, one moment further.
-use Rattle.std.proofs.Common.{◌<◌, ◌-◌, length, slice_index_or, arith, ◌≡◌, ℕ, zero, suc, ◌+◌, Bool, true, false, if◌then◌else◌, List, [], ◌∷◌, take, drop, Option, Some, None, option_map, unwrap_or, refl, sym, ap, ◌∙◌}
-use Rattle.dap_debuggee.specs.Moves.{first_place, last_place}
+use Rattle.std.proofs.Common.{◌<◌, ◌-◌, length, slice_index_or, arith, ◌≡◌, ℕ, zero, suc, Bool, true, false, if◌then◌else◌, List, [], ◌∷◌, take, Option, Some, None, option_map, unwrap_or, refl, sym, ap, ◌∙◌}
+use Rattle.dap_debuggee.specs.Moves.{last_place}
 use Rattle.dap_debuggee.specs.declared.recording.Moment.{Moment}
 
 last_by : (b : Bool) (k : ℕ) (before : Option ℕ) (d : Option ℕ) → unwrap_or (option_map (λ n. Some (suc n)) (if b then Some k else before)) d ≡ (if b then Some (suc k) else unwrap_or (option_map (λ n. Some (suc n)) before) d)

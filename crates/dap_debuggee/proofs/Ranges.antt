@@ -1,5 +1,5 @@
 -- What the numbers of a recording are within.
-use Rattle.std.proofs.Common.{◌≡◌, ◌≤◌, ◌<◌, ◌+◌, ◌++◌, arith, if◌then◌else◌, map, ℕ, zero, suc, ◌&&◌, ℤ, pos, Bool, true, false, nat_le, nat_lt, List, [], ◌∷◌, length, Option, Some, None, option_map, unwrap_or, IsTrue, refl, sym, ap, ◌∙◌, subst, true≢false}
+use Rattle.std.proofs.Common.{◌≡◌, ◌≤◌, ◌<◌, ◌+◌, ◌++◌, arith, if◌then◌else◌, map, ℕ, zero, suc, ◌&&◌, ℤ, pos, Bool, true, false, nat_le, nat_lt, List, [], ◌∷◌, length, Option, Some, None, option_map, unwrap_or, refl, sym, ap, ◌∙◌, subst, true≢false}
 use Rattle.std.proofs.lemmas.Bool.Decides.{nat_tests, Decides-int_eq}
 use Rattle.std.specs.List.{list_all, slice_get, find, flat_map}
 use Rattle.std.specs.Ordering.{int_eq}
@@ -7,7 +7,7 @@ use Rattle.dap_debuggee.specs.declared.answers.Frame.{Frame}
 use Rattle.dap_call.specs.Argument.{is_int}
 use Rattle.dap_debuggee.specs.Recording.{is_moment, is_thread, are_distinct, is_rising, objects, thread_at, id_at, IsRecording}
 use Rattle.dap_debuggee.specs.Laws.{is_frame, SourcesInRange, ThreadsInRange, FramesInRange, NamesOneFrame}
-use Rattle.dap_debuggee.specs.Played.{Played, shown_of, source_shown, thread_shown, threads_at, frames_of, is_there}
+use Rattle.dap_debuggee.specs.Played.{Played, shown_of, source_shown, thread_shown, threads_at, is_there}
 use Rattle.dap_debuggee.specs.Moves.{reason_text}
 use Rattle.dap_debuggee.specs.declared.recording.Moment.{Moment}
 use Rattle.dap_debuggee.specs.declared.recording.RecordedThread.{RecordedThread}

@@ -6,7 +6,7 @@ use Rattle.std.specs.Ordering.{int_eq}
 use Rattle.dap_debuggee.specs.declared.answers.Variable.{Variable}
 use Rattle.dap_debuggee.specs.declared.recording.RecordedThread.{RecordedThread}
 use Rattle.std.specs.Str.{IsCharBoundary}
-use Rattle.dap_debuggee.specs.Shown.{Reply, done, refused, happened, Last}
+use Rattle.dap_debuggee.specs.Shown.{done, refused, happened, Last}
 use Rattle.dap_call.specs.declared.call.SourceKey.{SourceKey}
 use Rattle.dap_debuggee.specs.Laws.{is_source}
 use Rattle.dap_debuggee.specs.Recording.{id_at}

@@ -1,6 +1,6 @@
 -- A recorded debuggee: what it is seen as, what it shows, and what each act does.
 -- This profile's choice.
-use Rattle.std.specs.Prelude.{◌≡◌, ℕ, zero, suc, ◌+◌, ◌-◌, ◌%◌, ◌^◌, ℤ, pos, Bool, true, false, ◌&&◌, ◌||◌, not, nat_le, nat_lt, nat_eq, bytes_eq, slice_index, List, [], ◌∷◌, ◌++◌, length, map, take, drop, codes, Option, Some, None, option_map, option_and_then, unwrap_or, if◌then◌else◌}
+use Rattle.std.specs.Prelude.{◌≡◌, ℕ, zero, suc, ◌+◌, ◌-◌, ◌%◌, ◌^◌, ℤ, pos, Bool, true, false, ◌&&◌, ◌||◌, not, nat_le, nat_lt, bytes_eq, slice_index, List, [], ◌∷◌, length, map, take, drop, Option, Some, None, option_map, option_and_then, unwrap_or, if◌then◌else◌}
 use Rattle.std.specs.List.{list_any, slice_get, find}
 use Rattle.std.specs.Ordering.{int_eq}
 use Rattle.dap_call.specs.declared.call.SourceKey.{SourceKey}
@@ -8,7 +8,7 @@ use Rattle.dap_call.specs.declared.call.SourceKey.TheVariants.{Path, Reference}
 use Rattle.dap_debuggee.specs.Shown.{Shown, Act, to_start, to_resume, to_pause, to_poll, to_set_breakpoints, to_end, Reply, done, refused, happened, remembered, Last}
 use Rattle.dap_debuggee.specs.Laws.{is_source}
 use Rattle.dap_debuggee.specs.Recording.{id_at}
-use Rattle.dap_debuggee.specs.Moves.{Lines, move_of, is_forward, reason_text}
+use Rattle.dap_debuggee.specs.Moves.{move_of, is_forward, reason_text}
 use Rattle.dap_debuggee.specs.declared.answers.State.{State}
 use Rattle.dap_debuggee.specs.declared.answers.State.TheVariants.{NotStarted, Running, Stopped, Gone}
 use Rattle.dap_debuggee.specs.declared.answers.How.{How}

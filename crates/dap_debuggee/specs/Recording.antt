@@ -1,12 +1,11 @@
 -- What holds of every recording, and what a moment of it is.
 -- The format is this profile's own.
-use Rattle.std.specs.Prelude.{◌≡◌, ℕ, zero, suc, ◌+◌, ◌≤◌, ◌<◌, ℤ, pos, Bool, true, false, ◌&&◌, nat_le, nat_lt, nat_eq, not, List, [], ◌∷◌, ◌++◌, length, map, Option, Some, None, option_map, option_and_then, unwrap_or, IsTrue, if◌then◌else◌}
+use Rattle.std.specs.Prelude.{ℕ, suc, ◌≤◌, ◌<◌, ℤ, pos, Bool, true, ◌&&◌, nat_lt, nat_eq, not, List, [], ◌∷◌, length, map, Option, option_map, option_and_then, unwrap_or, IsTrue, if◌then◌else◌}
 use Rattle.std.specs.List.{list_all, slice_get, flat_map}
 use Rattle.std.specs.Ordering.{int_eq}
 use Rattle.dap_call.specs.Argument.{is_int}
 use Rattle.dap_debuggee.specs.Laws.{is_frame}
 use Rattle.dap_debuggee.specs.declared.answers.Frame.{Frame}
-use Rattle.dap_debuggee.specs.declared.recording.RecordedSource.{RecordedSource}
 use Rattle.dap_debuggee.specs.declared.recording.RecordedThread.{RecordedThread}
 use Rattle.dap_debuggee.specs.declared.recording.Moment.{Moment}
 use Rattle.dap_debuggee.specs.declared.recording.Recording.{Recording}

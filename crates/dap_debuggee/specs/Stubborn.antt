@@ -1,8 +1,8 @@
 -- A debuggee of the tests: a recording that refuses its first start, though it could start.
 -- It shows that the laws hold of more than one debuggee.
 use Rattle.std.proofs.Common.{◌≡◌, ◌⊎◌, inl, inr, Bool, Some, refl, sym, ap, subst, ◌∙◌}
-use Rattle.dap_debuggee.specs.Shown.{Shown, Act, to_start, Reply, refused, remembered, Last}
-use Rattle.dap_debuggee.specs.Laws.{may_answer, state_after, lines_after, Counts, Remembers, Answers, Moves, SetsLines, KeepsAnswers, KeepsFrames, KeepsSources, SameFrames, SameSources, SameAnswers, NoThreads, VerifiesEach}
+use Rattle.dap_debuggee.specs.Shown.{Shown, Act, to_start, Reply, refused, remembered}
+use Rattle.dap_debuggee.specs.Laws.{may_answer, state_after, lines_after, Counts, Remembers, Answers, Moves, SetsLines, KeepsAnswers, KeepsFrames, KeepsSources, SameAnswers, NoThreads, VerifiesEach}
 use Rattle.dap_debuggee.specs.Played.{Played, asked, lines_in, shown_of, FollowsPlayed}
 use Rattle.dap_debuggee.specs.PlayedLaws.{refused_start, same_start, counts-played, remembers-played, answers-played, moves-played, sets_lines-played, keeps_answers-played, keeps_frames-played, keeps_sources-played, no_threads-played, verifies_each-played}
 

@@ -1,5 +1,5 @@
 use Rattle.std.proofs.Common.{◌≡◌, drop}
-use Rattle.dap_call.specs.declared.call.SourceKey.TheVariants.{Path, Reference}
+use Rattle.dap_call.specs.declared.call.SourceKey.TheVariants.{Reference}
 use Rattle.dap_debuggee.specs.Played.{lines_in}
 use Rattle.dap_debuggee.proofs.lines.of_reference.Given as goal
 

@@ -1,4 +1,4 @@
-use Rattle.std.proofs.Common.{rules, ◌≡◌, Ok, Err, add-one, ap, ◌∙◌, sym, subst}
+use Rattle.std.proofs.Common.{rules, ◌≡◌, Err, add-one, ap, ◌∙◌, sym, subst}
 use Rattle.serde_json.specs.View.{view}
 use Rattle.dap_debuggee.specs.Reading.{thread_of, GivesWith}
 use Rattle.dap_debuggee.specs.declared.recording.RecordedThread.{RecordedThread}

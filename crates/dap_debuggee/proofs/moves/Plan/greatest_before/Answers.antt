@@ -1,4 +1,4 @@
-use Rattle.std.proofs.Common.{◌≡◌, ◌-◌, ◌<◌, ◌≤◌, length, take, Some, ◌∙◌, sym, ap, arith}
+use Rattle.std.proofs.Common.{◌-◌, ◌<◌, take, ◌∙◌, sym, ap, arith}
 use Rattle.dap_debuggee.specs.Moves.{passes, last_place}
 use Rattle.dap_debuggee.specs.Played.{lines_in}
 use Rattle.dap_debuggee.proofs.Places.{last_before, last_is, last_is_not}

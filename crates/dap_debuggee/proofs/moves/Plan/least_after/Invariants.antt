@@ -1,4 +1,4 @@
-use Rattle.std.proofs.Common.{◌≡◌, ◌<◌, ◌≤◌, ◌+◌, ◌-◌, length, drop}
+use Rattle.std.proofs.Common.{◌≡◌, ◌≤◌, ◌+◌, ◌-◌, length, drop}
 use Rattle.dap_debuggee.specs.Moves.{passes, first_place, least_after}
 use Rattle.dap_debuggee.specs.Played.{lines_in}
 use Rattle.dap_debuggee.proofs.moves.Plan.least_after.Given as goal

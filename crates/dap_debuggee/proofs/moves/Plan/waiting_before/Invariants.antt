@@ -1,4 +1,4 @@
-use Rattle.std.proofs.Common.{◌≡◌, ◌<◌, ◌≤◌, ◌+◌, ◌-◌, length, drop}
+use Rattle.std.proofs.Common.{◌≡◌, ◌≤◌, ◌+◌, ◌-◌, length, drop}
 use Rattle.dap_debuggee.specs.Moves.{first_place, least_after}
 use Rattle.dap_debuggee.proofs.moves.Plan.waiting_before.Given as goal
 

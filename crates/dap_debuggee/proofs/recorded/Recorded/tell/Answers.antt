@@ -1,7 +1,7 @@
-use Rattle.std.proofs.Common.{◌≡◌, [], Some, sym, ap, ◌∙◌}
+use Rattle.std.proofs.Common.{sym, ap, ◌∙◌}
 use Rattle.dap_debuggee.specs.Held.{output_left}
 use Rattle.dap_debuggee.specs.Played.{Played}
-use Rattle.dap_debuggee.proofs.Outputs.{ready_none, poll_tells, poll_ends}
+use Rattle.dap_debuggee.proofs.Outputs.{ready_none}
 use Rattle.dap_debuggee.proofs.recorded.Recorded.tell.Goals as goal
 
 pub arrive-requires-clause-told : goal.arrive-requires-clause-told
