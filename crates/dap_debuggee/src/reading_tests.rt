@@ -95,411 +95,469 @@ fn refuses_what_is_no_object(rt: HostRuntime) -> Result<(), Fail> {
     Ok(())
 }
 
-/// The whole recording with one place changed: from what, to what, and the key that is bad then, if one is.
-#[test]
-fn names_the_first_bad_key(rt: HostRuntime) -> Result<(), Fail> {
-    assert_eq!(rt; refusal(rt.alloc(), WHOLE.as_bytes()), None);
-    let rows: [(&str, &str, Option<RecordingKey>); 115] = [
-        ("\"exit\":3,", "", Some(RecordingKey::Exit)),
-        ("\"exit\":3", "\"exit\":2147483647", None),
-        ("\"exit\":3", "\"exit\":-2147483648", None),
-        (
-            "\"exit\":3",
-            "\"exit\":2147483648",
-            Some(RecordingKey::Exit),
-        ),
-        (
-            "\"exit\":3",
-            "\"exit\":-2147483649",
-            Some(RecordingKey::Exit),
-        ),
-        ("\"exit\":3", "\"exit\":null", Some(RecordingKey::Exit)),
-        ("\"exit\":3", "\"exit\":3.0", Some(RecordingKey::Exit)),
-        ("\"exit\":3", "\"exit\":\"3\"", Some(RecordingKey::Exit)),
-        (
-            "\"sources\":[{\"name\":\"a\",\"path\":\"/a\",\"text\":\"x\\ny\"}],",
-            "",
-            Some(RecordingKey::Sources),
-        ),
-        (
-            "\"sources\":[{\"name\":\"a\",\"path\":\"/a\",\"text\":\"x\\ny\"}]",
-            "\"sources\":null",
-            Some(RecordingKey::Sources),
-        ),
-        (
-            "\"sources\":[{\"name\":\"a\",\"path\":\"/a\",\"text\":\"x\\ny\"}]",
-            "\"sources\":{}",
-            Some(RecordingKey::Sources),
-        ),
-        (
-            "\"sources\":[{\"name\":\"a\",\"path\":\"/a\",\"text\":\"x\\ny\"}]",
-            "\"sources\":[7]",
-            Some(RecordingKey::Sources),
-        ),
-        (
-            "\"sources\":[{\"name\":\"a\",\"path\":\"/a\",\"text\":\"x\\ny\"}]",
-            "\"sources\":[null]",
-            Some(RecordingKey::Sources),
-        ),
-        (
-            "\"sources\":[{\"name\":\"a\",\"path\":\"/a\",\"text\":\"x\\ny\"}]",
-            "\"sources\":[[]]",
-            Some(RecordingKey::Sources),
-        ),
-        (
-            "\"sources\":[{\"name\":\"a\",\"path\":\"/a\",\"text\":\"x\\ny\"}]",
-            "\"sources\":[]",
-            Some(RecordingKey::Source),
-        ),
-        ("\"name\":\"a\",", "", Some(RecordingKey::Name)),
-        ("\"name\":\"a\"", "\"name\":null", Some(RecordingKey::Name)),
-        ("\"name\":\"a\"", "\"name\":\"\"", None),
-        ("\"path\":\"/a\",", "", None),
-        ("\"path\":\"/a\"", "\"path\":null", Some(RecordingKey::Path)),
-        ("\"path\":\"/a\"", "\"path\":5", Some(RecordingKey::Path)),
-        (",\"text\":\"x\\ny\"", "", Some(RecordingKey::Text)),
-        (
-            "\"text\":\"x\\ny\"",
-            "\"text\":null",
-            Some(RecordingKey::Text),
-        ),
-        (
-            "\"text\":\"x\\ny\"",
-            "\"text\":\"\"",
-            Some(RecordingKey::Line),
-        ),
-        (
-            "\"text\":\"x\\ny\"",
-            "\"text\":\"x\\n\"",
-            Some(RecordingKey::Line),
-        ),
-        ("\"text\":\"x\\ny\"", "\"text\":\"\\n\\n\"", None),
-        ("\"text\":\"x\\ny\"", "\"text\":\"\\r\\n\\r\"", None),
-        (
-            ",\"moments\":[{\"threads\":[{\"id\":1,\"name\":\"m\",\"frames\":[{\"name\":\"f\",\"source\":0,\"line\":2,\"scopes\":[{\"name\":\"s\",\"variables\":[{\"name\":\"v\",\"value\":\"1\",\"variables\":[{\"name\":\"w\",\"value\":\"2\"}]}]}]}]}],\"thread\":1,\"output\":\"o\",\"waits\":true}]",
-            "",
-            Some(RecordingKey::Moments),
-        ),
-        (
-            "\"moments\":[{\"threads\":[{\"id\":1,\"name\":\"m\",\"frames\":[{\"name\":\"f\",\"source\":0,\"line\":2,\"scopes\":[{\"name\":\"s\",\"variables\":[{\"name\":\"v\",\"value\":\"1\",\"variables\":[{\"name\":\"w\",\"value\":\"2\"}]}]}]}]}],\"thread\":1,\"output\":\"o\",\"waits\":true}]",
-            "\"moments\":null",
-            Some(RecordingKey::Moments),
-        ),
-        (
-            "\"moments\":[{\"threads\":[{\"id\":1,\"name\":\"m\",\"frames\":[{\"name\":\"f\",\"source\":0,\"line\":2,\"scopes\":[{\"name\":\"s\",\"variables\":[{\"name\":\"v\",\"value\":\"1\",\"variables\":[{\"name\":\"w\",\"value\":\"2\"}]}]}]}]}],\"thread\":1,\"output\":\"o\",\"waits\":true}]",
-            "\"moments\":[]",
-            Some(RecordingKey::Moments),
-        ),
-        (
-            "\"moments\":[{\"threads\":[{\"id\":1,\"name\":\"m\",\"frames\":[{\"name\":\"f\",\"source\":0,\"line\":2,\"scopes\":[{\"name\":\"s\",\"variables\":[{\"name\":\"v\",\"value\":\"1\",\"variables\":[{\"name\":\"w\",\"value\":\"2\"}]}]}]}]}],\"thread\":1,\"output\":\"o\",\"waits\":true}]",
-            "\"moments\":{}",
-            Some(RecordingKey::Moments),
-        ),
-        (
-            "\"moments\":[{\"threads\":[{\"id\":1,\"name\":\"m\",\"frames\":[{\"name\":\"f\",\"source\":0,\"line\":2,\"scopes\":[{\"name\":\"s\",\"variables\":[{\"name\":\"v\",\"value\":\"1\",\"variables\":[{\"name\":\"w\",\"value\":\"2\"}]}]}]}]}],\"thread\":1,\"output\":\"o\",\"waits\":true}]",
-            "\"moments\":[null]",
-            Some(RecordingKey::Moments),
-        ),
-        (
-            "\"moments\":[{\"threads\":[{\"id\":1,\"name\":\"m\",\"frames\":[{\"name\":\"f\",\"source\":0,\"line\":2,\"scopes\":[{\"name\":\"s\",\"variables\":[{\"name\":\"v\",\"value\":\"1\",\"variables\":[{\"name\":\"w\",\"value\":\"2\"}]}]}]}]}],\"thread\":1,\"output\":\"o\",\"waits\":true}]",
-            "\"moments\":[[]]",
-            Some(RecordingKey::Moments),
-        ),
-        (
-            "\"moments\":[{\"threads\":[{\"id\":1,\"name\":\"m\",\"frames\":[{\"name\":\"f\",\"source\":0,\"line\":2,\"scopes\":[{\"name\":\"s\",\"variables\":[{\"name\":\"v\",\"value\":\"1\",\"variables\":[{\"name\":\"w\",\"value\":\"2\"}]}]}]}]}],\"thread\":1,\"output\":\"o\",\"waits\":true}]",
-            "\"moments\":[\"x\"]",
-            Some(RecordingKey::Moments),
-        ),
-        (
-            "\"threads\":[{\"id\":1,\"name\":\"m\",\"frames\":[{\"name\":\"f\",\"source\":0,\"line\":2,\"scopes\":[{\"name\":\"s\",\"variables\":[{\"name\":\"v\",\"value\":\"1\",\"variables\":[{\"name\":\"w\",\"value\":\"2\"}]}]}]}]}],",
-            "",
-            Some(RecordingKey::Threads),
-        ),
-        (
-            "\"threads\":[{\"id\":1,\"name\":\"m\",\"frames\":[{\"name\":\"f\",\"source\":0,\"line\":2,\"scopes\":[{\"name\":\"s\",\"variables\":[{\"name\":\"v\",\"value\":\"1\",\"variables\":[{\"name\":\"w\",\"value\":\"2\"}]}]}]}]}]",
-            "\"threads\":null",
-            Some(RecordingKey::Threads),
-        ),
-        (
-            "\"threads\":[{\"id\":1,\"name\":\"m\",\"frames\":[{\"name\":\"f\",\"source\":0,\"line\":2,\"scopes\":[{\"name\":\"s\",\"variables\":[{\"name\":\"v\",\"value\":\"1\",\"variables\":[{\"name\":\"w\",\"value\":\"2\"}]}]}]}]}]",
-            "\"threads\":{}",
-            Some(RecordingKey::Threads),
-        ),
-        (
-            "\"threads\":[{\"id\":1,\"name\":\"m\",\"frames\":[{\"name\":\"f\",\"source\":0,\"line\":2,\"scopes\":[{\"name\":\"s\",\"variables\":[{\"name\":\"v\",\"value\":\"1\",\"variables\":[{\"name\":\"w\",\"value\":\"2\"}]}]}]}]}]",
-            "\"threads\":[null]",
-            Some(RecordingKey::Threads),
-        ),
-        (
-            "\"threads\":[{\"id\":1,\"name\":\"m\",\"frames\":[{\"name\":\"f\",\"source\":0,\"line\":2,\"scopes\":[{\"name\":\"s\",\"variables\":[{\"name\":\"v\",\"value\":\"1\",\"variables\":[{\"name\":\"w\",\"value\":\"2\"}]}]}]}]}]",
-            "\"threads\":[[]]",
-            Some(RecordingKey::Threads),
-        ),
-        (
-            "\"threads\":[{\"id\":1,\"name\":\"m\",\"frames\":[{\"name\":\"f\",\"source\":0,\"line\":2,\"scopes\":[{\"name\":\"s\",\"variables\":[{\"name\":\"v\",\"value\":\"1\",\"variables\":[{\"name\":\"w\",\"value\":\"2\"}]}]}]}]}]",
-            "\"threads\":[0]",
-            Some(RecordingKey::Threads),
-        ),
-        (
-            "\"threads\":[{\"id\":1,\"name\":\"m\",\"frames\":[{\"name\":\"f\",\"source\":0,\"line\":2,\"scopes\":[{\"name\":\"s\",\"variables\":[{\"name\":\"v\",\"value\":\"1\",\"variables\":[{\"name\":\"w\",\"value\":\"2\"}]}]}]}]}]",
-            "\"threads\":[]",
-            Some(RecordingKey::Thread),
-        ),
-        ("\"id\":1,", "", Some(RecordingKey::Id)),
-        ("\"id\":1", "\"id\":null", Some(RecordingKey::Id)),
-        ("\"id\":1", "\"id\":\"1\"", Some(RecordingKey::Id)),
-        ("\"id\":1", "\"id\":1.0", Some(RecordingKey::Id)),
-        (
-            "\"id\":1",
-            "\"id\":9007199254740992",
-            Some(RecordingKey::Id),
-        ),
-        (
-            "\"id\":1",
-            "\"id\":-9007199254740992",
-            Some(RecordingKey::Id),
-        ),
-        (
-            "\"id\":1",
-            "\"id\":9007199254740991",
-            Some(RecordingKey::Thread),
-        ),
-        (
-            "\"id\":1",
-            "\"id\":-9007199254740991",
-            Some(RecordingKey::Thread),
-        ),
-        (
-            "\"threads\":[",
-            "\"threads\":[{\"id\":1,\"name\":\"n\",\"frames\":[{\"name\":\"g\",\"source\":0,\"line\":1}]},",
-            Some(RecordingKey::Id),
-        ),
-        (
-            "\"threads\":[",
-            "\"threads\":[{\"id\":2,\"name\":\"n\",\"frames\":[{\"name\":\"g\",\"source\":0,\"line\":1}]},",
-            None,
-        ),
-        (
-            "\"threads\":[",
-            "\"threads\":[{\"id\":2,\"name\":\"n\",\"frames\":[{\"name\":\"g\",\"source\":0,\"line\":1}]},{\"id\":2,\"name\":\"n\",\"frames\":[{\"name\":\"g\",\"source\":0,\"line\":1}]},",
-            Some(RecordingKey::Id),
-        ),
-        (
-            "\"threads\":[",
-            "\"threads\":[{\"id\":2,\"name\":\"n\",\"frames\":[]},",
-            Some(RecordingKey::Frames),
-        ),
-        ("\"name\":\"m\",", "", Some(RecordingKey::Name)),
-        ("\"name\":\"m\"", "\"name\":null", Some(RecordingKey::Name)),
-        (
-            ",\"frames\":[{\"name\":\"f\",\"source\":0,\"line\":2,\"scopes\":[{\"name\":\"s\",\"variables\":[{\"name\":\"v\",\"value\":\"1\",\"variables\":[{\"name\":\"w\",\"value\":\"2\"}]}]}]}]",
-            "",
-            Some(RecordingKey::Frames),
-        ),
-        (
-            "\"frames\":[{\"name\":\"f\",\"source\":0,\"line\":2,\"scopes\":[{\"name\":\"s\",\"variables\":[{\"name\":\"v\",\"value\":\"1\",\"variables\":[{\"name\":\"w\",\"value\":\"2\"}]}]}]}]",
-            "\"frames\":null",
-            Some(RecordingKey::Frames),
-        ),
-        (
-            "\"frames\":[{\"name\":\"f\",\"source\":0,\"line\":2,\"scopes\":[{\"name\":\"s\",\"variables\":[{\"name\":\"v\",\"value\":\"1\",\"variables\":[{\"name\":\"w\",\"value\":\"2\"}]}]}]}]",
-            "\"frames\":[]",
-            Some(RecordingKey::Frames),
-        ),
-        (
-            "\"frames\":[{\"name\":\"f\",\"source\":0,\"line\":2,\"scopes\":[{\"name\":\"s\",\"variables\":[{\"name\":\"v\",\"value\":\"1\",\"variables\":[{\"name\":\"w\",\"value\":\"2\"}]}]}]}]",
-            "\"frames\":{}",
-            Some(RecordingKey::Frames),
-        ),
-        (
-            "\"frames\":[{\"name\":\"f\",\"source\":0,\"line\":2,\"scopes\":[{\"name\":\"s\",\"variables\":[{\"name\":\"v\",\"value\":\"1\",\"variables\":[{\"name\":\"w\",\"value\":\"2\"}]}]}]}]",
-            "\"frames\":[null]",
-            Some(RecordingKey::Frames),
-        ),
-        (
-            "\"frames\":[{\"name\":\"f\",\"source\":0,\"line\":2,\"scopes\":[{\"name\":\"s\",\"variables\":[{\"name\":\"v\",\"value\":\"1\",\"variables\":[{\"name\":\"w\",\"value\":\"2\"}]}]}]}]",
-            "\"frames\":[true]",
-            Some(RecordingKey::Frames),
-        ),
-        ("\"name\":\"f\",", "", Some(RecordingKey::Name)),
-        ("\"name\":\"f\"", "\"name\":1", Some(RecordingKey::Name)),
-        ("\"source\":0,", "", Some(RecordingKey::Source)),
-        ("\"source\":0", "\"source\":1", Some(RecordingKey::Source)),
-        ("\"source\":0", "\"source\":-1", Some(RecordingKey::Source)),
-        (
-            "\"source\":0",
-            "\"source\":null",
-            Some(RecordingKey::Source),
-        ),
-        ("\"source\":0", "\"source\":0.0", Some(RecordingKey::Source)),
-        (
-            "\"source\":0",
-            "\"source\":\"0\"",
-            Some(RecordingKey::Source),
-        ),
-        ("\"line\":2,", "", Some(RecordingKey::Line)),
-        ("\"line\":2", "\"line\":0", Some(RecordingKey::Line)),
-        ("\"line\":2", "\"line\":3", Some(RecordingKey::Line)),
-        ("\"line\":2", "\"line\":1", None),
-        ("\"line\":2", "\"line\":null", Some(RecordingKey::Line)),
-        (
-            "\"line\":2",
-            "\"line\":2147483648",
-            Some(RecordingKey::Line),
-        ),
-        (
-            ",\"scopes\":[{\"name\":\"s\",\"variables\":[{\"name\":\"v\",\"value\":\"1\",\"variables\":[{\"name\":\"w\",\"value\":\"2\"}]}]}]",
-            "",
-            None,
-        ),
-        (
-            "\"scopes\":[{\"name\":\"s\",\"variables\":[{\"name\":\"v\",\"value\":\"1\",\"variables\":[{\"name\":\"w\",\"value\":\"2\"}]}]}]",
-            "\"scopes\":[]",
-            None,
-        ),
-        (
-            "\"scopes\":[{\"name\":\"s\",\"variables\":[{\"name\":\"v\",\"value\":\"1\",\"variables\":[{\"name\":\"w\",\"value\":\"2\"}]}]}]",
-            "\"scopes\":null",
-            Some(RecordingKey::Scopes),
-        ),
-        (
-            "\"scopes\":[{\"name\":\"s\",\"variables\":[{\"name\":\"v\",\"value\":\"1\",\"variables\":[{\"name\":\"w\",\"value\":\"2\"}]}]}]",
-            "\"scopes\":{}",
-            Some(RecordingKey::Scopes),
-        ),
-        (
-            "\"scopes\":[{\"name\":\"s\",\"variables\":[{\"name\":\"v\",\"value\":\"1\",\"variables\":[{\"name\":\"w\",\"value\":\"2\"}]}]}]",
-            "\"scopes\":[null]",
-            Some(RecordingKey::Scopes),
-        ),
-        (
-            "\"scopes\":[{\"name\":\"s\",\"variables\":[{\"name\":\"v\",\"value\":\"1\",\"variables\":[{\"name\":\"w\",\"value\":\"2\"}]}]}]",
-            "\"scopes\":[[]]",
-            Some(RecordingKey::Scopes),
-        ),
-        ("\"name\":\"s\",", "", Some(RecordingKey::Name)),
-        ("\"name\":\"s\"", "\"name\":null", Some(RecordingKey::Name)),
-        (
-            ",\"variables\":[{\"name\":\"v\",\"value\":\"1\",\"variables\":[{\"name\":\"w\",\"value\":\"2\"}]}]",
-            "",
-            None,
-        ),
-        (
-            "\"variables\":[{\"name\":\"v\",\"value\":\"1\",\"variables\":[{\"name\":\"w\",\"value\":\"2\"}]}]",
-            "\"variables\":[]",
-            None,
-        ),
-        (
-            "\"variables\":[{\"name\":\"v\",\"value\":\"1\",\"variables\":[{\"name\":\"w\",\"value\":\"2\"}]}]",
-            "\"variables\":null",
-            Some(RecordingKey::Variables),
-        ),
-        (
-            "\"variables\":[{\"name\":\"v\",\"value\":\"1\",\"variables\":[{\"name\":\"w\",\"value\":\"2\"}]}]",
-            "\"variables\":{}",
-            Some(RecordingKey::Variables),
-        ),
-        (
-            "\"variables\":[{\"name\":\"v\",\"value\":\"1\",\"variables\":[{\"name\":\"w\",\"value\":\"2\"}]}]",
-            "\"variables\":[null]",
-            Some(RecordingKey::Variables),
-        ),
-        (
-            "\"variables\":[{\"name\":\"v\",\"value\":\"1\",\"variables\":[{\"name\":\"w\",\"value\":\"2\"}]}]",
-            "\"variables\":[3]",
-            Some(RecordingKey::Variables),
-        ),
-        ("\"name\":\"v\",", "", Some(RecordingKey::Name)),
-        ("\"value\":\"1\",", "", Some(RecordingKey::Value)),
-        ("\"value\":\"1\"", "\"value\":1", Some(RecordingKey::Value)),
-        (
-            ",\"variables\":[{\"name\":\"w\",\"value\":\"2\"}]",
-            "",
-            None,
-        ),
-        (
-            "\"variables\":[{\"name\":\"w\",\"value\":\"2\"}]",
-            "\"variables\":[]",
-            None,
-        ),
-        (
-            "\"variables\":[{\"name\":\"w\",\"value\":\"2\"}]",
-            "\"variables\":null",
-            Some(RecordingKey::Variables),
-        ),
-        (
-            "\"variables\":[{\"name\":\"w\",\"value\":\"2\"}]",
-            "\"variables\":[null]",
-            Some(RecordingKey::Variables),
-        ),
-        ("\"name\":\"w\",", "", Some(RecordingKey::Name)),
-        (",\"value\":\"2\"", "", Some(RecordingKey::Value)),
-        (
-            "\"value\":\"2\"",
-            "\"value\":null",
-            Some(RecordingKey::Value),
-        ),
-        ("\"thread\":1,", "", Some(RecordingKey::Thread)),
-        ("\"thread\":1", "\"thread\":2", Some(RecordingKey::Thread)),
-        (
-            "\"thread\":1",
-            "\"thread\":null",
-            Some(RecordingKey::Thread),
-        ),
-        ("\"thread\":1", "\"thread\":1.0", Some(RecordingKey::Thread)),
-        (
-            "\"thread\":1",
-            "\"thread\":\"1\"",
-            Some(RecordingKey::Thread),
-        ),
-        ("\"output\":\"o\",", "", None),
-        (
-            "\"output\":\"o\"",
-            "\"output\":null",
-            Some(RecordingKey::Output),
-        ),
-        (
-            "\"output\":\"o\"",
-            "\"output\":5",
-            Some(RecordingKey::Output),
-        ),
-        (",\"waits\":true", "", None),
-        (
-            "\"waits\":true",
-            "\"waits\":null",
-            Some(RecordingKey::Waits),
-        ),
-        (
-            "\"waits\":true",
-            "\"waits\":\"true\"",
-            Some(RecordingKey::Waits),
-        ),
-        ("\"waits\":true", "\"waits\":false", None),
-        (
-            "\"exit\":3,\"sources\":",
-            "\"x\":null,\"exit\":null,\"sources\":",
-            Some(RecordingKey::Exit),
-        ),
-        ("\"exit\":3", "\"other\":[1],\"exit\":3", None),
-        (
-            "\"thread\":1,\"output\":\"o\",\"waits\":true",
-            "\"waits\":null,\"output\":null,\"thread\":null",
-            Some(RecordingKey::Thread),
-        ),
-        (
-            "\"name\":\"v\",\"value\":\"1\"",
-            "\"value\":1,\"name\":1",
-            Some(RecordingKey::Name),
-        ),
-    ];
+/// A place of the whole recording, what it is changed to, and the key that is bad then, if one is.
+type Row = (&'static str, &'static str, Option<RecordingKey>);
+
+/// The first row whose recording is refused otherwise.
+fn first_wrong(alloc: Global, rows: &[Row]) -> Result<String, Fail> {
     for (from, to, key) in rows {
-        let Some((before, after)) = WHOLE.split_once(from) else {
-            return Err("a row that changes nothing")?;
+        let Some((before, after)) = WHOLE.split_once(*from) else {
+            return Ok(String::from_str(alloc, "a row that changes nothing")?);
         };
-        let bytes = format!(in rt.alloc(); "{before}{to}{after}")?;
-        let fault = key.map(|key| RecordingFault::BadKey { key });
-        assert_eq!(rt; refusal(rt.alloc(), bytes.as_bytes()), fault, "{bytes}");
+        let bytes = format!(in alloc; "{before}{to}{after}")?;
+        let fault = match key {
+            None => None,
+            Some(key) => Some(RecordingFault::BadKey { key: *key }),
+        };
+        if refusal(alloc, bytes.as_bytes()) != fault {
+            return Ok(bytes);
+        }
     }
+    Ok(String::new(alloc))
+}
+
+#[test]
+fn takes_the_whole(rt: HostRuntime) -> Result<(), Fail> {
+    assert_eq!(rt; refusal(rt.alloc(), WHOLE.as_bytes()), None);
+    Ok(())
+}
+
+/// The exit code and the sources.
+#[test]
+fn exit_and_sources(rt: HostRuntime) -> Result<(), Fail> {
+    let wrong = first_wrong(
+        rt.alloc(),
+        &[
+            ("\"exit\":3,", "", Some(RecordingKey::Exit)),
+            ("\"exit\":3", "\"exit\":2147483647", None),
+            ("\"exit\":3", "\"exit\":-2147483648", None),
+            (
+                "\"exit\":3",
+                "\"exit\":2147483648",
+                Some(RecordingKey::Exit),
+            ),
+            (
+                "\"exit\":3",
+                "\"exit\":-2147483649",
+                Some(RecordingKey::Exit),
+            ),
+            ("\"exit\":3", "\"exit\":null", Some(RecordingKey::Exit)),
+            ("\"exit\":3", "\"exit\":3.0", Some(RecordingKey::Exit)),
+            ("\"exit\":3", "\"exit\":\"3\"", Some(RecordingKey::Exit)),
+            (
+                "\"sources\":[{\"name\":\"a\",\"path\":\"/a\",\"text\":\"x\\ny\"}],",
+                "",
+                Some(RecordingKey::Sources),
+            ),
+            (
+                "\"sources\":[{\"name\":\"a\",\"path\":\"/a\",\"text\":\"x\\ny\"}]",
+                "\"sources\":null",
+                Some(RecordingKey::Sources),
+            ),
+            (
+                "\"sources\":[{\"name\":\"a\",\"path\":\"/a\",\"text\":\"x\\ny\"}]",
+                "\"sources\":{}",
+                Some(RecordingKey::Sources),
+            ),
+            (
+                "\"sources\":[{\"name\":\"a\",\"path\":\"/a\",\"text\":\"x\\ny\"}]",
+                "\"sources\":[7]",
+                Some(RecordingKey::Sources),
+            ),
+            (
+                "\"sources\":[{\"name\":\"a\",\"path\":\"/a\",\"text\":\"x\\ny\"}]",
+                "\"sources\":[null]",
+                Some(RecordingKey::Sources),
+            ),
+            (
+                "\"sources\":[{\"name\":\"a\",\"path\":\"/a\",\"text\":\"x\\ny\"}]",
+                "\"sources\":[[]]",
+                Some(RecordingKey::Sources),
+            ),
+            (
+                "\"sources\":[{\"name\":\"a\",\"path\":\"/a\",\"text\":\"x\\ny\"}]",
+                "\"sources\":[]",
+                Some(RecordingKey::Source),
+            ),
+            ("\"name\":\"a\",", "", Some(RecordingKey::Name)),
+            ("\"name\":\"a\"", "\"name\":null", Some(RecordingKey::Name)),
+            ("\"name\":\"a\"", "\"name\":\"\"", None),
+            ("\"path\":\"/a\",", "", None),
+            ("\"path\":\"/a\"", "\"path\":null", Some(RecordingKey::Path)),
+            ("\"path\":\"/a\"", "\"path\":5", Some(RecordingKey::Path)),
+            (",\"text\":\"x\\ny\"", "", Some(RecordingKey::Text)),
+            (
+                "\"text\":\"x\\ny\"",
+                "\"text\":null",
+                Some(RecordingKey::Text),
+            ),
+            (
+                "\"text\":\"x\\ny\"",
+                "\"text\":\"\"",
+                Some(RecordingKey::Line),
+            ),
+            (
+                "\"text\":\"x\\ny\"",
+                "\"text\":\"x\\n\"",
+                Some(RecordingKey::Line),
+            ),
+            ("\"text\":\"x\\ny\"", "\"text\":\"\\n\\n\"", None),
+            ("\"text\":\"x\\ny\"", "\"text\":\"\\r\\n\\r\"", None),
+        ],
+    )?;
+    assert_eq!(rt; wrong.as_str(), "");
+    Ok(())
+}
+
+/// Moments, threads and their ids.
+#[test]
+fn moments_and_threads(rt: HostRuntime) -> Result<(), Fail> {
+    let wrong = first_wrong(
+        rt.alloc(),
+        &[
+            (
+                ",\"moments\":[{\"threads\":[{\"id\":1,\"name\":\"m\",\"frames\":[{\"name\":\"f\",\"source\":0,\"line\":2,\"scopes\":[{\"name\":\"s\",\"variables\":[{\"name\":\"v\",\"value\":\"1\",\"variables\":[{\"name\":\"w\",\"value\":\"2\"}]}]}]}]}],\"thread\":1,\"output\":\"o\",\"waits\":true}]",
+                "",
+                Some(RecordingKey::Moments),
+            ),
+            (
+                "\"moments\":[{\"threads\":[{\"id\":1,\"name\":\"m\",\"frames\":[{\"name\":\"f\",\"source\":0,\"line\":2,\"scopes\":[{\"name\":\"s\",\"variables\":[{\"name\":\"v\",\"value\":\"1\",\"variables\":[{\"name\":\"w\",\"value\":\"2\"}]}]}]}]}],\"thread\":1,\"output\":\"o\",\"waits\":true}]",
+                "\"moments\":null",
+                Some(RecordingKey::Moments),
+            ),
+            (
+                "\"moments\":[{\"threads\":[{\"id\":1,\"name\":\"m\",\"frames\":[{\"name\":\"f\",\"source\":0,\"line\":2,\"scopes\":[{\"name\":\"s\",\"variables\":[{\"name\":\"v\",\"value\":\"1\",\"variables\":[{\"name\":\"w\",\"value\":\"2\"}]}]}]}]}],\"thread\":1,\"output\":\"o\",\"waits\":true}]",
+                "\"moments\":[]",
+                Some(RecordingKey::Moments),
+            ),
+            (
+                "\"moments\":[{\"threads\":[{\"id\":1,\"name\":\"m\",\"frames\":[{\"name\":\"f\",\"source\":0,\"line\":2,\"scopes\":[{\"name\":\"s\",\"variables\":[{\"name\":\"v\",\"value\":\"1\",\"variables\":[{\"name\":\"w\",\"value\":\"2\"}]}]}]}]}],\"thread\":1,\"output\":\"o\",\"waits\":true}]",
+                "\"moments\":{}",
+                Some(RecordingKey::Moments),
+            ),
+            (
+                "\"moments\":[{\"threads\":[{\"id\":1,\"name\":\"m\",\"frames\":[{\"name\":\"f\",\"source\":0,\"line\":2,\"scopes\":[{\"name\":\"s\",\"variables\":[{\"name\":\"v\",\"value\":\"1\",\"variables\":[{\"name\":\"w\",\"value\":\"2\"}]}]}]}]}],\"thread\":1,\"output\":\"o\",\"waits\":true}]",
+                "\"moments\":[null]",
+                Some(RecordingKey::Moments),
+            ),
+            (
+                "\"moments\":[{\"threads\":[{\"id\":1,\"name\":\"m\",\"frames\":[{\"name\":\"f\",\"source\":0,\"line\":2,\"scopes\":[{\"name\":\"s\",\"variables\":[{\"name\":\"v\",\"value\":\"1\",\"variables\":[{\"name\":\"w\",\"value\":\"2\"}]}]}]}]}],\"thread\":1,\"output\":\"o\",\"waits\":true}]",
+                "\"moments\":[[]]",
+                Some(RecordingKey::Moments),
+            ),
+            (
+                "\"moments\":[{\"threads\":[{\"id\":1,\"name\":\"m\",\"frames\":[{\"name\":\"f\",\"source\":0,\"line\":2,\"scopes\":[{\"name\":\"s\",\"variables\":[{\"name\":\"v\",\"value\":\"1\",\"variables\":[{\"name\":\"w\",\"value\":\"2\"}]}]}]}]}],\"thread\":1,\"output\":\"o\",\"waits\":true}]",
+                "\"moments\":[\"x\"]",
+                Some(RecordingKey::Moments),
+            ),
+            (
+                "\"threads\":[{\"id\":1,\"name\":\"m\",\"frames\":[{\"name\":\"f\",\"source\":0,\"line\":2,\"scopes\":[{\"name\":\"s\",\"variables\":[{\"name\":\"v\",\"value\":\"1\",\"variables\":[{\"name\":\"w\",\"value\":\"2\"}]}]}]}]}],",
+                "",
+                Some(RecordingKey::Threads),
+            ),
+            (
+                "\"threads\":[{\"id\":1,\"name\":\"m\",\"frames\":[{\"name\":\"f\",\"source\":0,\"line\":2,\"scopes\":[{\"name\":\"s\",\"variables\":[{\"name\":\"v\",\"value\":\"1\",\"variables\":[{\"name\":\"w\",\"value\":\"2\"}]}]}]}]}]",
+                "\"threads\":null",
+                Some(RecordingKey::Threads),
+            ),
+            (
+                "\"threads\":[{\"id\":1,\"name\":\"m\",\"frames\":[{\"name\":\"f\",\"source\":0,\"line\":2,\"scopes\":[{\"name\":\"s\",\"variables\":[{\"name\":\"v\",\"value\":\"1\",\"variables\":[{\"name\":\"w\",\"value\":\"2\"}]}]}]}]}]",
+                "\"threads\":{}",
+                Some(RecordingKey::Threads),
+            ),
+            (
+                "\"threads\":[{\"id\":1,\"name\":\"m\",\"frames\":[{\"name\":\"f\",\"source\":0,\"line\":2,\"scopes\":[{\"name\":\"s\",\"variables\":[{\"name\":\"v\",\"value\":\"1\",\"variables\":[{\"name\":\"w\",\"value\":\"2\"}]}]}]}]}]",
+                "\"threads\":[null]",
+                Some(RecordingKey::Threads),
+            ),
+            (
+                "\"threads\":[{\"id\":1,\"name\":\"m\",\"frames\":[{\"name\":\"f\",\"source\":0,\"line\":2,\"scopes\":[{\"name\":\"s\",\"variables\":[{\"name\":\"v\",\"value\":\"1\",\"variables\":[{\"name\":\"w\",\"value\":\"2\"}]}]}]}]}]",
+                "\"threads\":[[]]",
+                Some(RecordingKey::Threads),
+            ),
+            (
+                "\"threads\":[{\"id\":1,\"name\":\"m\",\"frames\":[{\"name\":\"f\",\"source\":0,\"line\":2,\"scopes\":[{\"name\":\"s\",\"variables\":[{\"name\":\"v\",\"value\":\"1\",\"variables\":[{\"name\":\"w\",\"value\":\"2\"}]}]}]}]}]",
+                "\"threads\":[0]",
+                Some(RecordingKey::Threads),
+            ),
+            (
+                "\"threads\":[{\"id\":1,\"name\":\"m\",\"frames\":[{\"name\":\"f\",\"source\":0,\"line\":2,\"scopes\":[{\"name\":\"s\",\"variables\":[{\"name\":\"v\",\"value\":\"1\",\"variables\":[{\"name\":\"w\",\"value\":\"2\"}]}]}]}]}]",
+                "\"threads\":[]",
+                Some(RecordingKey::Thread),
+            ),
+            ("\"id\":1,", "", Some(RecordingKey::Id)),
+            ("\"id\":1", "\"id\":null", Some(RecordingKey::Id)),
+            ("\"id\":1", "\"id\":\"1\"", Some(RecordingKey::Id)),
+            ("\"id\":1", "\"id\":1.0", Some(RecordingKey::Id)),
+            (
+                "\"id\":1",
+                "\"id\":9007199254740992",
+                Some(RecordingKey::Id),
+            ),
+            (
+                "\"id\":1",
+                "\"id\":-9007199254740992",
+                Some(RecordingKey::Id),
+            ),
+            (
+                "\"id\":1",
+                "\"id\":9007199254740991",
+                Some(RecordingKey::Thread),
+            ),
+            (
+                "\"id\":1",
+                "\"id\":-9007199254740991",
+                Some(RecordingKey::Thread),
+            ),
+            (
+                "\"threads\":[",
+                "\"threads\":[{\"id\":1,\"name\":\"n\",\"frames\":[{\"name\":\"g\",\"source\":0,\"line\":1}]},",
+                Some(RecordingKey::Id),
+            ),
+            (
+                "\"threads\":[",
+                "\"threads\":[{\"id\":2,\"name\":\"n\",\"frames\":[{\"name\":\"g\",\"source\":0,\"line\":1}]},",
+                None,
+            ),
+            (
+                "\"threads\":[",
+                "\"threads\":[{\"id\":2,\"name\":\"n\",\"frames\":[{\"name\":\"g\",\"source\":0,\"line\":1}]},{\"id\":2,\"name\":\"n\",\"frames\":[{\"name\":\"g\",\"source\":0,\"line\":1}]},",
+                Some(RecordingKey::Id),
+            ),
+            (
+                "\"threads\":[",
+                "\"threads\":[{\"id\":2,\"name\":\"n\",\"frames\":[]},",
+                Some(RecordingKey::Frames),
+            ),
+            ("\"name\":\"m\",", "", Some(RecordingKey::Name)),
+            ("\"name\":\"m\"", "\"name\":null", Some(RecordingKey::Name)),
+        ],
+    )?;
+    assert_eq!(rt; wrong.as_str(), "");
+    Ok(())
+}
+
+/// Frames and scopes.
+#[test]
+fn frames_and_scopes(rt: HostRuntime) -> Result<(), Fail> {
+    let wrong = first_wrong(
+        rt.alloc(),
+        &[
+            (
+                ",\"frames\":[{\"name\":\"f\",\"source\":0,\"line\":2,\"scopes\":[{\"name\":\"s\",\"variables\":[{\"name\":\"v\",\"value\":\"1\",\"variables\":[{\"name\":\"w\",\"value\":\"2\"}]}]}]}]",
+                "",
+                Some(RecordingKey::Frames),
+            ),
+            (
+                "\"frames\":[{\"name\":\"f\",\"source\":0,\"line\":2,\"scopes\":[{\"name\":\"s\",\"variables\":[{\"name\":\"v\",\"value\":\"1\",\"variables\":[{\"name\":\"w\",\"value\":\"2\"}]}]}]}]",
+                "\"frames\":null",
+                Some(RecordingKey::Frames),
+            ),
+            (
+                "\"frames\":[{\"name\":\"f\",\"source\":0,\"line\":2,\"scopes\":[{\"name\":\"s\",\"variables\":[{\"name\":\"v\",\"value\":\"1\",\"variables\":[{\"name\":\"w\",\"value\":\"2\"}]}]}]}]",
+                "\"frames\":[]",
+                Some(RecordingKey::Frames),
+            ),
+            (
+                "\"frames\":[{\"name\":\"f\",\"source\":0,\"line\":2,\"scopes\":[{\"name\":\"s\",\"variables\":[{\"name\":\"v\",\"value\":\"1\",\"variables\":[{\"name\":\"w\",\"value\":\"2\"}]}]}]}]",
+                "\"frames\":{}",
+                Some(RecordingKey::Frames),
+            ),
+            (
+                "\"frames\":[{\"name\":\"f\",\"source\":0,\"line\":2,\"scopes\":[{\"name\":\"s\",\"variables\":[{\"name\":\"v\",\"value\":\"1\",\"variables\":[{\"name\":\"w\",\"value\":\"2\"}]}]}]}]",
+                "\"frames\":[null]",
+                Some(RecordingKey::Frames),
+            ),
+            (
+                "\"frames\":[{\"name\":\"f\",\"source\":0,\"line\":2,\"scopes\":[{\"name\":\"s\",\"variables\":[{\"name\":\"v\",\"value\":\"1\",\"variables\":[{\"name\":\"w\",\"value\":\"2\"}]}]}]}]",
+                "\"frames\":[true]",
+                Some(RecordingKey::Frames),
+            ),
+            ("\"name\":\"f\",", "", Some(RecordingKey::Name)),
+            ("\"name\":\"f\"", "\"name\":1", Some(RecordingKey::Name)),
+            ("\"source\":0,", "", Some(RecordingKey::Source)),
+            ("\"source\":0", "\"source\":1", Some(RecordingKey::Source)),
+            ("\"source\":0", "\"source\":-1", Some(RecordingKey::Source)),
+            (
+                "\"source\":0",
+                "\"source\":null",
+                Some(RecordingKey::Source),
+            ),
+            ("\"source\":0", "\"source\":0.0", Some(RecordingKey::Source)),
+            (
+                "\"source\":0",
+                "\"source\":\"0\"",
+                Some(RecordingKey::Source),
+            ),
+            ("\"line\":2,", "", Some(RecordingKey::Line)),
+            ("\"line\":2", "\"line\":0", Some(RecordingKey::Line)),
+            ("\"line\":2", "\"line\":3", Some(RecordingKey::Line)),
+            ("\"line\":2", "\"line\":1", None),
+            ("\"line\":2", "\"line\":null", Some(RecordingKey::Line)),
+            (
+                "\"line\":2",
+                "\"line\":2147483648",
+                Some(RecordingKey::Line),
+            ),
+            (
+                ",\"scopes\":[{\"name\":\"s\",\"variables\":[{\"name\":\"v\",\"value\":\"1\",\"variables\":[{\"name\":\"w\",\"value\":\"2\"}]}]}]",
+                "",
+                None,
+            ),
+            (
+                "\"scopes\":[{\"name\":\"s\",\"variables\":[{\"name\":\"v\",\"value\":\"1\",\"variables\":[{\"name\":\"w\",\"value\":\"2\"}]}]}]",
+                "\"scopes\":[]",
+                None,
+            ),
+            (
+                "\"scopes\":[{\"name\":\"s\",\"variables\":[{\"name\":\"v\",\"value\":\"1\",\"variables\":[{\"name\":\"w\",\"value\":\"2\"}]}]}]",
+                "\"scopes\":null",
+                Some(RecordingKey::Scopes),
+            ),
+            (
+                "\"scopes\":[{\"name\":\"s\",\"variables\":[{\"name\":\"v\",\"value\":\"1\",\"variables\":[{\"name\":\"w\",\"value\":\"2\"}]}]}]",
+                "\"scopes\":{}",
+                Some(RecordingKey::Scopes),
+            ),
+            (
+                "\"scopes\":[{\"name\":\"s\",\"variables\":[{\"name\":\"v\",\"value\":\"1\",\"variables\":[{\"name\":\"w\",\"value\":\"2\"}]}]}]",
+                "\"scopes\":[null]",
+                Some(RecordingKey::Scopes),
+            ),
+            (
+                "\"scopes\":[{\"name\":\"s\",\"variables\":[{\"name\":\"v\",\"value\":\"1\",\"variables\":[{\"name\":\"w\",\"value\":\"2\"}]}]}]",
+                "\"scopes\":[[]]",
+                Some(RecordingKey::Scopes),
+            ),
+            ("\"name\":\"s\",", "", Some(RecordingKey::Name)),
+            ("\"name\":\"s\"", "\"name\":null", Some(RecordingKey::Name)),
+        ],
+    )?;
+    assert_eq!(rt; wrong.as_str(), "");
+    Ok(())
+}
+
+/// Variables, the rest of a moment, and the order of keys.
+#[test]
+fn variables_and_the_rest(rt: HostRuntime) -> Result<(), Fail> {
+    let wrong = first_wrong(
+        rt.alloc(),
+        &[
+            (
+                ",\"variables\":[{\"name\":\"v\",\"value\":\"1\",\"variables\":[{\"name\":\"w\",\"value\":\"2\"}]}]",
+                "",
+                None,
+            ),
+            (
+                "\"variables\":[{\"name\":\"v\",\"value\":\"1\",\"variables\":[{\"name\":\"w\",\"value\":\"2\"}]}]",
+                "\"variables\":[]",
+                None,
+            ),
+            (
+                "\"variables\":[{\"name\":\"v\",\"value\":\"1\",\"variables\":[{\"name\":\"w\",\"value\":\"2\"}]}]",
+                "\"variables\":null",
+                Some(RecordingKey::Variables),
+            ),
+            (
+                "\"variables\":[{\"name\":\"v\",\"value\":\"1\",\"variables\":[{\"name\":\"w\",\"value\":\"2\"}]}]",
+                "\"variables\":{}",
+                Some(RecordingKey::Variables),
+            ),
+            (
+                "\"variables\":[{\"name\":\"v\",\"value\":\"1\",\"variables\":[{\"name\":\"w\",\"value\":\"2\"}]}]",
+                "\"variables\":[null]",
+                Some(RecordingKey::Variables),
+            ),
+            (
+                "\"variables\":[{\"name\":\"v\",\"value\":\"1\",\"variables\":[{\"name\":\"w\",\"value\":\"2\"}]}]",
+                "\"variables\":[3]",
+                Some(RecordingKey::Variables),
+            ),
+            ("\"name\":\"v\",", "", Some(RecordingKey::Name)),
+            ("\"value\":\"1\",", "", Some(RecordingKey::Value)),
+            ("\"value\":\"1\"", "\"value\":1", Some(RecordingKey::Value)),
+            (
+                ",\"variables\":[{\"name\":\"w\",\"value\":\"2\"}]",
+                "",
+                None,
+            ),
+            (
+                "\"variables\":[{\"name\":\"w\",\"value\":\"2\"}]",
+                "\"variables\":[]",
+                None,
+            ),
+            (
+                "\"variables\":[{\"name\":\"w\",\"value\":\"2\"}]",
+                "\"variables\":null",
+                Some(RecordingKey::Variables),
+            ),
+            (
+                "\"variables\":[{\"name\":\"w\",\"value\":\"2\"}]",
+                "\"variables\":[null]",
+                Some(RecordingKey::Variables),
+            ),
+            ("\"name\":\"w\",", "", Some(RecordingKey::Name)),
+            (",\"value\":\"2\"", "", Some(RecordingKey::Value)),
+            (
+                "\"value\":\"2\"",
+                "\"value\":null",
+                Some(RecordingKey::Value),
+            ),
+            ("\"thread\":1,", "", Some(RecordingKey::Thread)),
+            ("\"thread\":1", "\"thread\":2", Some(RecordingKey::Thread)),
+            (
+                "\"thread\":1",
+                "\"thread\":null",
+                Some(RecordingKey::Thread),
+            ),
+            ("\"thread\":1", "\"thread\":1.0", Some(RecordingKey::Thread)),
+            (
+                "\"thread\":1",
+                "\"thread\":\"1\"",
+                Some(RecordingKey::Thread),
+            ),
+            ("\"output\":\"o\",", "", None),
+            (
+                "\"output\":\"o\"",
+                "\"output\":null",
+                Some(RecordingKey::Output),
+            ),
+            (
+                "\"output\":\"o\"",
+                "\"output\":5",
+                Some(RecordingKey::Output),
+            ),
+            (",\"waits\":true", "", None),
+            (
+                "\"waits\":true",
+                "\"waits\":null",
+                Some(RecordingKey::Waits),
+            ),
+            (
+                "\"waits\":true",
+                "\"waits\":\"true\"",
+                Some(RecordingKey::Waits),
+            ),
+            ("\"waits\":true", "\"waits\":false", None),
+            (
+                "\"exit\":3,\"sources\":",
+                "\"x\":null,\"exit\":null,\"sources\":",
+                Some(RecordingKey::Exit),
+            ),
+            ("\"exit\":3", "\"other\":[1],\"exit\":3", None),
+            (
+                "\"thread\":1,\"output\":\"o\",\"waits\":true",
+                "\"waits\":null,\"output\":null,\"thread\":null",
+                Some(RecordingKey::Thread),
+            ),
+            (
+                "\"name\":\"v\",\"value\":\"1\"",
+                "\"value\":1,\"name\":1",
+                Some(RecordingKey::Name),
+            ),
+        ],
+    )?;
+    assert_eq!(rt; wrong.as_str(), "");
     Ok(())
 }
 
