@@ -7,3 +7,4 @@ pub mod Held
 pub mod PlayedLaws
 pub mod RecordingKey
 pub mod Reading
+pub mod ReadThreads

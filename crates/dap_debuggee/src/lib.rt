@@ -7,6 +7,7 @@ mod lines;
 mod list;
 mod moves;
 mod read;
+mod read_threads;
 mod reading;
 mod recorded;
 mod recording;
