@@ -1,12 +1,12 @@
 -- The variables of a variable stand at its key for them, and nest less deep than it.
-use Rattle.std.proofs.Common.{◌≡◌, ℕ, zero, suc, ◌+◌, ◌*◌, ◌<◌, ◌≤◌, max, List, [], ◌∷◌, length, get_or, Ordering, Less, Equal, Greater, Option, Some, None, Ok, Err, drop, ◌++◌, drop-cons, refl, sym, ap, ◌∙◌, arith}
+use Rattle.std.proofs.Common.{◌≡◌, ℕ, zero, suc, ◌+◌, ◌<◌, ◌≤◌, max, List, [], ◌∷◌, length, get_or, Ordering, Less, Equal, Greater, Option, Some, Err, drop, ◌++◌, drop-cons, refl, sym, ap, ◌∙◌, arith}
 use Rattle.std.specs.Ordering.{nat_cmp, match_ordering}
 use Rattle.std.specs.Cmp.Lexicographic.{slice_cmp}
-use Rattle.serde_json.specs.Data.{Data, null, boolean, number, string, array, object, Items, no_items, item, Members, no_members, member, depth, items_depth, members_depth}
+use Rattle.serde_json.specs.Data.{Data, null, boolean, number, string, array, object, Items, Members, no_members, member, depth, items_depth, members_depth}
 use Rattle.serde_json.specs.Find.{get, get_member, as_array}
 use Rattle.serde_json.specs.View.{view, items_view}
 use Rattle.serde_json.specs.declared.value.Value.{Value}
-use Rattle.dap_debuggee.specs.Reading.{Read, Holders, value_at, ◌>>=◌, GivesWith, GivesListWith, listed, variable_of, variables_of, each_variable, variables_within, variable_row}
+use Rattle.dap_debuggee.specs.Reading.{Read, Holders, ◌>>=◌, GivesWith, GivesListWith, listed, variable_of, variables_of, each_variable, variables_within, variable_row}
 use Rattle.dap_debuggee.specs.RecordingKey.{name_of}
 use Rattle.dap_debuggee.specs.declared.answers.Variable.{Variable}
 use Rattle.dap_debuggee.specs.declared.reading.RecordingFault.{RecordingFault}

@@ -9,7 +9,6 @@ use Rattle.dap_debuggee.specs.Reading.{Read, ◌>>=◌, each, each_source, sourc
 use Rattle.dap_debuggee.specs.declared.recording.RecordedSource.{RecordedSource}
 use Rattle.dap_debuggee.specs.declared.reading.RecordingFault.{RecordingFault}
 use Rattle.dap_debuggee.specs.declared.reading.RecordingFault.TheVariants as fault
-use Rattle.dap_debuggee.specs.declared.reading.RecordingKey.{RecordingKey}
 
 pub count_is_length : (vs : List Value) → items_len (items_view vs) ≡ length vs
 count_is_length vs = items_len-items_view vs

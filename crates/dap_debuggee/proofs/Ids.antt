@@ -1,6 +1,6 @@
 -- The ids of threads, one thread more.
 use Rattle.std.proofs.Common.{◌≡◌, ℕ, suc, ℤ, Bool, true, false, cond, if◌then◌else◌, List, [], ◌∷◌, ◌++◌, Option, Some, None, is_some, option_map, refl, sym, ap, ◌∙◌}
-use Rattle.std.specs.BTreeSet.{BTreeSet, contains, Updates}
+use Rattle.std.specs.BTreeSet.{BTreeSet, Updates}
 use Rattle.std.specs.Ordering.{int_cmp, int_eq}
 use Rattle.dap_debuggee.specs.Reading.{place_of}
 use Rattle.dap_debuggee.specs.ReadThreads.{HasIds}

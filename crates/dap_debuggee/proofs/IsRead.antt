@@ -1,7 +1,6 @@
 -- What is read of a recording holds of every recording.
-use Rattle.std.proofs.Common.{◌≡◌, ℕ, zero, suc, ◌+◌, ◌<◌, ◌≤◌, ◌&&◌, ℤ, Bool, true, false, not, nat_le, nat_lt, nat_eq, if◌then◌else◌, List, [], ◌∷◌, ◌++◌, length, map, Option, Some, None, is_some, option_and_then, option_map, Ok, Err, IsTrue, length-append, append_assoc, append-nil, eq-eqb, refl, sym, ap, subst, ◌∙◌, arith, true≢false}
-use Rattle.std.proofs.lemmas.Bool.{leb-true, ltb-true, lt-ltb, le-leb}
-use Rattle.std.proofs.lemmas.Cmp.{int_eq_equiv}
+use Rattle.std.proofs.Common.{◌≡◌, ℕ, suc, ◌+◌, ◌<◌, ◌≤◌, ◌&&◌, ℤ, Bool, true, false, not, nat_le, nat_lt, nat_eq, if◌then◌else◌, List, [], ◌∷◌, ◌++◌, length, map, Option, Some, None, is_some, option_and_then, option_map, Ok, Err, length-append, append_assoc, append-nil, eq-eqb, refl, sym, ap, subst, ◌∙◌, arith, true≢false}
+use Rattle.std.proofs.lemmas.Bool.{leb-true, ltb-true, lt-ltb}
 use Rattle.std.proofs.lemmas.Grind.{flat_map-append}
 use Rattle.std.proofs.lemmas.List.{map-append}
 use Rattle.std.proofs.lemmas.List.Folds.{list_all-append}
@@ -14,7 +13,7 @@ use Rattle.dap_json.specs.Field.{if_passes}
 use Rattle.dap_call.specs.Argument.{is_int, int_of, number_of}
 use Rattle.dap_debuggee.specs.Laws.{is_frame}
 use Rattle.dap_debuggee.specs.Reading.{Read, ◌>>=◌, ◌>>◌, or_bad, required, optional, optional_or, element, value_at, some_items, few_items, exit_of, line_of, source_place, lines_at, place_of, new_id, thread_place, Numbered, each, each_source, scopes_of, frame_of, thread_of, moment_of, moments_of, source_of, recording_of}
-use Rattle.dap_debuggee.specs.Recording.{IsRecording, line_count, is_thread, is_moment, is_rising, are_distinct, objects}
+use Rattle.dap_debuggee.specs.Recording.{IsRecording, line_count, is_thread, is_moment, is_rising, are_distinct}
 use Rattle.dap_debuggee.specs.declared.answers.Frame.{Frame}
 use Rattle.dap_debuggee.specs.declared.reading.RecordingKey.{RecordingKey}
 use Rattle.dap_debuggee.specs.declared.reading.RecordingKey.TheVariants as key

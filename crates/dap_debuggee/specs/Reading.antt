@@ -1,18 +1,17 @@
 -- Which recording JSON data is, or the first bad key in the order of the format's keys.
 -- The format is this profile's own. An absent key is absent; `null` is a value like any other.
-use Rattle.std.specs.Prelude.{◌≡◌, ℕ, zero, suc, ◌≤◌, ◌&&◌, ℤ, pos, negsuc, int_le, Bool, true, false, not, nat_le, nat_lt, List, [], ◌∷◌, ◌++◌, length, Option, Some, None, is_some, option_and_then, option_map, unwrap_or, Result, Ok, Err, IsTrue, if◌then◌else◌, Vec}
+use Rattle.std.specs.Prelude.{◌≡◌, ℕ, suc, ◌&&◌, ℤ, pos, negsuc, int_le, Bool, false, not, nat_le, nat_lt, List, [], ◌∷◌, ◌++◌, length, Option, Some, None, is_some, option_and_then, option_map, unwrap_or, Result, Ok, Err, if◌then◌else◌, Vec}
 use Rattle.std.specs.Borrow.{Bor}
 use Rattle.std.specs.declared.alloc.Global.{Global}
 use Rattle.std.specs.List.{slice_get}
 use Rattle.std.specs.Ordering.{int_eq, nat_cmp, match_ordering}
 use Rattle.std.specs.Cmp.Lexicographic.{slice_cmp}
-use Rattle.serde_json.specs.Data.{Data, null, boolean, number, string, array, object, Items, no_items, item, Members, no_members, member}
+use Rattle.serde_json.specs.Data.{Data, array, object, Items, no_items, item, Members, no_members, member}
 use Rattle.serde_json.specs.Events.{items_len}
 use Rattle.serde_json.specs.Find.{get, as_number, as_i64, as_str, as_bool, as_array}
 use Rattle.serde_json.specs.View.{items_view}
 use Rattle.serde_json.specs.declared.value.Value.{Value}
 use Rattle.dap_json.specs.Field.{if_passes, is_object}
-use Rattle.dap_json.specs.Read.{json_of}
 use Rattle.dap_call.specs.Argument.{int_of, number_of}
 use Rattle.dap_debuggee.specs.Played.{Played, unplayed}
 use Rattle.dap_debuggee.specs.Recording.{line_count}

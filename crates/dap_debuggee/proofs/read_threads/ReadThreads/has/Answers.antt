@@ -1,4 +1,4 @@
-use Rattle.std.proofs.Common.{◌≡◌, ap, ◌∙◌, is_some, int_cmp, w64}
+use Rattle.std.proofs.Common.{ap, ◌∙◌, is_some, int_cmp, w64}
 use Rattle.std.proofs.lemmas.Int.{to_z-of_z}
 use Rattle.std.specs.BTreeSet.{contains_by}
 use Rattle.dap_debuggee.specs.Reading.{place_of}

@@ -1,4 +1,4 @@
-use Rattle.std.proofs.Common.{◌≡◌, ap, ◌∙◌, is_some, rules, ◌++◌, ◌∷◌, [], sym, subst, int_cmp, true}
+use Rattle.std.proofs.Common.{rules, sym, subst, int_cmp, true}
 use Rattle.std.specs.BTreeSet.{Updates}
 use Rattle.dap_debuggee.specs.ReadThreads.{HasIds}
 use Rattle.dap_debuggee.proofs.Ids.{ids_more}
