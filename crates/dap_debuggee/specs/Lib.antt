@@ -3,6 +3,7 @@ pub mod Laws
 pub mod Recording
 pub mod RecordingKey
 pub mod Reading
+pub mod ReadThreads
 pub mod Moves
 pub mod Played
 pub mod Held

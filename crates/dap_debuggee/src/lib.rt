@@ -14,6 +14,7 @@ mod moves;
 mod polls;
 mod queries;
 mod read;
+mod read_threads;
 mod reading;
 mod recorded;
 mod recording;

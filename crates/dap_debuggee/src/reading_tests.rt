@@ -582,3 +582,12 @@ fn counts_the_sources(rt: HostRuntime) -> Result<(), Fail> {
     assert_eq!(rt; refusal(rt.alloc(), more.as_bytes()), Some(too_many));
     Ok(())
 }
+
+/// For `rt try --test --fail-alloc N`: the recording, or want of memory.
+#[test]
+fn reads_or_runs_out_of_memory(rt: HostRuntime) {
+    match Recorded::read(rt.alloc(), RECORDING_A.as_bytes()) {
+        Err(fault) => assert_eq!(rt; fault, RecordingFault::OutOfMemory),
+        Ok(recorded) => assert_eq!(rt; recorded.recording.moments.as_slice().len(), 3),
+    }
+}

@@ -7,6 +7,7 @@ ghost use Rattle.dap_debuggee.specs.Reading.{Numbered, GivesListWith, GivesList,
 
 use crate::answers::{Frame, Scope, Variable};
 use crate::list::List;
+use crate::read_threads::ReadThreads;
 use crate::reading;
 use crate::reading::{RecordingFault, RecordingKey, bad};
 use crate::recording::{Moment, RecordedSource, RecordedThread, Recording};
@@ -234,11 +235,11 @@ fn place(id: i64, threads: &[RecordedThread]) -> Option<usize>
 }
 
 /// An id that no earlier thread has.
-fn new_id(earlier: &[RecordedThread], value: &Value) -> Result<i64, RecordingFault>
+fn new_id(earlier: &ReadThreads, value: &Value) -> Result<i64, RecordingFault>
     ensures { Gives result (required (new_id_of earlier.now) key.Id (view value.now)) }
 {
     match value.get(RecordingKey::Id.name()).and_then(reading::int) {
-        Some(id) if place(id, earlier).is_none() => Ok(id),
+        Some(id) if !earlier.has(id) => Ok(id),
         _ => Err(bad(RecordingKey::Id)),
     }
 }
@@ -259,7 +260,7 @@ fn thread_place(threads: &[RecordedThread], value: &Value) -> Result<usize, Reco
 fn thread(
     alloc: Global,
     sources: &[RecordedSource],
-    earlier: &[RecordedThread],
+    earlier: &ReadThreads,
     value: &Value,
     numbers: &mut Numbers,
 ) -> Result<RecordedThread, RecordingFault>
@@ -285,11 +286,12 @@ fn threads(
 ) -> Result<Vec<RecordedThread>, RecordingFault>
     ensures { GivesListWith result numbers.new (each (thread_of sources.now) (items_view items.now) [] numbers.old) }
 {
-    let mut found = Vec::new(alloc);
+    let mut found = ReadThreads::new(alloc);
     for item in items {
-        found.push(thread(alloc, sources, &found, item, numbers)?)?;
+        let thread = thread(alloc, sources, &found, item, numbers)?;
+        found = found.with(thread)?;
     }
-    Ok(found)
+    Ok(found.into_vec())
 }
 
 // ---- the whole
