@@ -55,30 +55,34 @@ fn polled<D: Debuggee>(alloc: Global, debuggee: &mut D) -> Result<String, Fail> 
 }
 
 /// What is asked, a word each, and what is answered, a line each.
-fn played<D: Debuggee>(alloc: Global, debuggee: &mut D, words: &[&str]) -> Result<String, Fail> {
+fn played<D: Debuggee>(alloc: Global, debuggee: &mut D, words: &str) -> Result<String, Fail> {
     let mut told = String::new(alloc);
-    for word in words {
-        let answer = match *word {
-            "start" => String::from_str(alloc, answered(debuggee.start(alloc)))?,
-            "stepIn" => resumed(alloc, debuggee, How::StepIn)?,
-            "next" => resumed(alloc, debuggee, How::Next)?,
-            "stepOut" => resumed(alloc, debuggee, How::StepOut)?,
-            "continue" => resumed(alloc, debuggee, How::Continue)?,
-            "stepBack" => resumed(alloc, debuggee, How::StepBack)?,
-            "reverseContinue" => resumed(alloc, debuggee, How::ReverseContinue)?,
-            "pause" => String::from_str(alloc, answered(debuggee.pause(alloc)))?,
-            "end" => {
-                debuggee.end();
-                String::from_str(alloc, "ended")?
-            }
-            "line 1" => set(alloc, debuggee, &[1])?,
-            "no line" => set(alloc, debuggee, &[])?,
-            _ => polled(alloc, debuggee)?,
-        };
+    for word in words.split(' ') {
+        let answer = answer(alloc, debuggee, word)?;
         told.push_str(answer.as_str())?;
         told.push_str("; ")?;
     }
     Ok(told)
+}
+
+fn answer<D: Debuggee>(alloc: Global, debuggee: &mut D, word: &str) -> Result<String, Fail> {
+    match word {
+        "start" => Ok(String::from_str(alloc, answered(debuggee.start(alloc)))?),
+        "stepIn" => resumed(alloc, debuggee, How::StepIn),
+        "next" => resumed(alloc, debuggee, How::Next),
+        "stepOut" => resumed(alloc, debuggee, How::StepOut),
+        "continue" => resumed(alloc, debuggee, How::Continue),
+        "stepBack" => resumed(alloc, debuggee, How::StepBack),
+        "reverseContinue" => resumed(alloc, debuggee, How::ReverseContinue),
+        "pause" => Ok(String::from_str(alloc, answered(debuggee.pause(alloc)))?),
+        "end" => {
+            debuggee.end();
+            Ok(String::from_str(alloc, "ended")?)
+        }
+        "line" => set(alloc, debuggee, &[1]),
+        "clear" => set(alloc, debuggee, &[]),
+        _ => polled(alloc, debuggee),
+    }
 }
 
 fn resumed<D: Debuggee>(alloc: Global, debuggee: &mut D, how: How) -> Result<String, Fail> {
@@ -94,77 +98,49 @@ fn set<D: Debuggee>(alloc: Global, debuggee: &mut D, lines: &[u32]) -> Result<St
 #[test]
 fn moves(rt: HostRuntime) -> Result<(), Fail> {
     let alloc = rt.alloc();
-    let cases: [(&[&str], &str); 11] = [
+    let cases: [(&str, &str); 11] = [
         (
-            &["start", "poll", "poll", "poll"],
+            "start poll poll poll",
             "done; stdout 3 go\n; entry 1 line 1; nothing; ",
         ),
         (
-            &["start", "poll", "poll", "next", "poll", "poll"],
+            "start poll poll next poll poll",
             "done; stdout 3 go\n; entry 1 line 1; done; step 1 line 2; nothing; ",
         ),
         (
-            &["start", "poll", "poll", "stepIn", "poll", "stepOut", "poll"],
+            "start poll poll stepIn poll stepOut poll",
             "done; stdout 3 go\n; entry 1 line 1; done; step 1 line 3; done; step 1 line 2; ",
         ),
         (
-            &[
-                "start", "poll", "poll", "stepIn", "poll", "stepBack", "poll", "stepBack", "poll",
-            ],
+            "start poll poll stepIn poll stepBack poll stepBack poll",
             "done; stdout 3 go\n; entry 1 line 1; done; step 1 line 3; done; step 1 line 1; done; step 1 line 1; ",
         ),
         (
-            &[
-                "start",
-                "poll",
-                "poll",
-                "next",
-                "poll",
-                "line 1",
-                "reverseContinue",
-                "poll",
-            ],
+            "start poll poll next poll line reverseContinue poll",
             "done; stdout 3 go\n; entry 1 line 1; done; step 1 line 2; set; done; breakpoint 1 line 1; ",
         ),
         (
-            &[
-                "start",
-                "poll",
-                "poll",
-                "next",
-                "poll",
-                "line 1",
-                "no line",
-                "reverseContinue",
-                "poll",
-            ],
+            "start poll poll next poll line clear reverseContinue poll",
             "done; stdout 3 go\n; entry 1 line 1; done; step 1 line 2; set; set; done; entry 1 line 1; ",
         ),
         (
-            &[
-                "start", "poll", "poll", "continue", "poll", "poll", "pause", "poll", "continue",
-                "poll", "poll",
-            ],
+            "start poll poll continue poll poll pause poll continue poll poll",
             "done; stdout 3 go\n; entry 1 line 1; done; nothing; nothing; done; pause 1 line 2; done; exited 0; nothing; ",
         ),
         (
-            &["start", "pause", "poll", "poll", "poll"],
+            "start pause poll poll poll",
             "done; done; stdout 3 go\n; entry 1 line 1; nothing; ",
         ),
         (
-            &["next", "pause", "poll", "start", "start"],
+            "next pause poll start start",
             "refused; refused; nothing; done; refused; ",
         ),
         (
-            &[
-                "start", "poll", "poll", "pause", "end", "poll", "start", "next",
-            ],
+            "start poll poll pause end poll start next",
             "done; stdout 3 go\n; entry 1 line 1; refused; ended; nothing; refused; refused; ",
         ),
         (
-            &[
-                "start", "poll", "poll", "next", "line 1", "poll", "stepOut", "poll",
-            ],
+            "start poll poll next line poll stepOut poll",
             "done; stdout 3 go\n; entry 1 line 1; done; set; step 1 line 2; done; exited 0; ",
         ),
     ];
@@ -176,51 +152,76 @@ fn moves(rt: HostRuntime) -> Result<(), Fail> {
     Ok(())
 }
 
-#[test]
-fn answers_at_a_stop(rt: HostRuntime) -> Result<(), Fail> {
-    let alloc = rt.alloc();
+/// The recording stopped at its first moment.
+fn at_the_first(alloc: Global) -> Result<Recorded, Fail> {
     let mut recorded = three_moments(alloc)?;
-    assert!(rt; recorded.threads(alloc)?.is_empty());
-    assert!(rt; recorded.frames(alloc, 1).is_err());
-    let told = played(alloc, &mut recorded, &["start", "poll", "poll"])?;
-    assert_eq!(rt; told.as_str(), "done; stdout 3 go\n; entry 1 line 1; ");
-    let threads = recorded.threads(alloc)?;
+    let told = played(alloc, &mut recorded, "start poll poll")?;
+    if told.as_str() == "done; stdout 3 go\n; entry 1 line 1; " {
+        Ok(recorded)
+    } else {
+        Err(Fail::from("not at the first moment"))
+    }
+}
+
+fn told<T>(answer: Result<T, DebuggeeFault>) -> Result<T, Fail> {
+    match answer {
+        Ok(told) => Ok(told),
+        Err(_) => Err(Fail::from("refused")),
+    }
+}
+
+#[test]
+fn nothing_before_the_start(rt: HostRuntime) -> Result<(), Fail> {
+    let recorded = three_moments(rt.alloc())?;
+    assert!(rt; recorded.threads(rt.alloc())?.is_empty());
+    assert!(rt; recorded.frames(rt.alloc(), 1).is_err());
+    Ok(())
+}
+
+#[test]
+fn threads_and_frames(rt: HostRuntime) -> Result<(), Fail> {
+    let recorded = at_the_first(rt.alloc())?;
+    let threads = recorded.threads(rt.alloc())?;
     assert_eq!(rt; threads.len(), 1);
     assert_eq!(rt; (threads[0].id, threads[0].name.as_str()), (1, "main"));
-    let Ok(frames) = recorded.frames(alloc, 1) else {
-        return Err(Fail::from("frames"));
-    };
+    let frames = told(recorded.frames(rt.alloc(), 1))?;
     assert_eq!(rt; frames.len(), 1);
-    let frame = frames[0].object;
     assert_eq!(rt;
-        (frames[0].name.as_str(), frames[0].source, frames[0].line),
-        ("main", 0, 1)
+        (
+            frames[0].object,
+            frames[0].name.as_str(),
+            frames[0].source,
+            frames[0].line
+        ),
+        (0, "main", 0, 1)
     );
-    let Ok(scopes) = recorded.scopes(alloc, frame) else {
-        return Err(Fail::from("scopes"));
-    };
-    assert_eq!(rt; scopes.len(), 1);
-    assert_eq!(rt; scopes[0].name.as_str(), "Locals");
-    let Ok(variables) = recorded.children(alloc, scopes[0].holder) else {
-        return Err(Fail::from("children"));
-    };
+    assert!(rt; recorded.frames(rt.alloc(), 2).is_err());
+    Ok(())
+}
+
+#[test]
+fn scopes_and_variables(rt: HostRuntime) -> Result<(), Fail> {
+    let recorded = at_the_first(rt.alloc())?;
+    let scopes = told(recorded.scopes(rt.alloc(), 0))?;
+    assert_eq!(rt; (scopes.len(), scopes[0].name.as_str()), (1, "Locals"));
+    let variables = told(recorded.children(rt.alloc(), scopes[0].holder))?;
     assert_eq!(rt; variables.len(), 2);
     assert_eq!(rt;
         (variables[0].name.as_str(), variables[0].value.as_str()),
         ("x", "1")
     );
-    assert!(rt; variables[0].holder.is_none());
-    let Ok(value) = recorded.evaluate(alloc, Some(frame), "p") else {
-        return Err(Fail::from("evaluate"));
-    };
+    assert!(rt; variables[0].holder.is_none() && variables[1].holder.is_some());
+    assert!(rt; recorded.scopes(rt.alloc(), 9).is_err());
+    assert!(rt; recorded.children(rt.alloc(), 9).is_err());
+    Ok(())
+}
+
+#[test]
+fn values(rt: HostRuntime) -> Result<(), Fail> {
+    let recorded = at_the_first(rt.alloc())?;
+    let value = told(recorded.evaluate(rt.alloc(), Some(0), "p"))?;
     assert_eq!(rt; value.value.as_str(), "P");
-    assert_eq!(rt; value.holder, variables[1].holder);
-    let Some(inner) = value.holder else {
-        return Err(Fail::from("children of p"));
-    };
-    let Ok(children) = recorded.children(alloc, inner) else {
-        return Err(Fail::from("children of p"));
-    };
+    let children = told(recorded.children(rt.alloc(), value.holder.unwrap_or(9)))?;
     assert_eq!(rt;
         (
             children.len(),
@@ -229,40 +230,34 @@ fn answers_at_a_stop(rt: HostRuntime) -> Result<(), Fail> {
         ),
         (1, "a", "7")
     );
-    assert!(rt; recorded.evaluate(alloc, Some(frame), "q").is_err());
-    assert!(rt; recorded.evaluate(alloc, None, "p").is_err());
-    assert!(rt; recorded.frames(alloc, 2).is_err());
-    assert!(rt; recorded.scopes(alloc, 9).is_err());
-    assert!(rt; recorded.children(alloc, 9).is_err());
+    assert!(rt; recorded.evaluate(rt.alloc(), Some(0), "q").is_err());
+    assert!(rt; recorded.evaluate(rt.alloc(), None, "p").is_err());
     Ok(())
 }
 
 #[test]
-fn sources_and_lines(rt: HostRuntime) -> Result<(), Fail> {
-    let alloc = rt.alloc();
-    let recorded = three_moments(alloc)?;
-    let sources = recorded.sources(alloc)?;
+fn sources(rt: HostRuntime) -> Result<(), Fail> {
+    let recorded = three_moments(rt.alloc())?;
+    let sources = recorded.sources(rt.alloc())?;
     assert_eq!(rt; (sources.len(), sources[0].name.as_str()), (1, "a.c"));
-    let Ok(text) = recorded.content(alloc, 0) else {
-        return Err(Fail::from("content"));
-    };
+    let text = told(recorded.content(rt.alloc(), 0))?;
     assert_eq!(rt; text.as_str(), "one\ntwo\nthree\n");
-    assert!(rt; recorded.content(alloc, 1).is_err());
-    let path = SourceKey::Path(Text::copied(alloc, "/a.c")?);
-    let Ok(answers) = recorded.verify(alloc, &path, &[3, 4, 0, 1, 4294967295]) else {
-        return Err(Fail::from("verify"));
-    };
+    assert!(rt; recorded.content(rt.alloc(), 1).is_err());
+    Ok(())
+}
+
+#[test]
+fn lines(rt: HostRuntime) -> Result<(), Fail> {
+    let recorded = three_moments(rt.alloc())?;
+    let path = SourceKey::Path(Text::copied(rt.alloc(), "/a.c")?);
+    let answers = told(recorded.verify(rt.alloc(), &path, &[3, 4, 0, 1, 4294967295]))?;
     assert_eq!(rt;
         answers.as_slice(),
         [true, false, false, true, false].as_slice()
     );
-    let Ok(answers) = recorded.verify(alloc, &SourceKey::Reference(1), &[3, 4]) else {
-        return Err(Fail::from("verify"));
-    };
+    let answers = told(recorded.verify(rt.alloc(), &SourceKey::Reference(1), &[3, 4]))?;
     assert_eq!(rt; answers.as_slice(), [true, false].as_slice());
-    let Ok(answers) = recorded.verify(alloc, &SourceKey::Reference(2), &[1]) else {
-        return Err(Fail::from("verify"));
-    };
+    let answers = told(recorded.verify(rt.alloc(), &SourceKey::Reference(2), &[1]))?;
     assert_eq!(rt; answers.as_slice(), [false].as_slice());
     Ok(())
 }
@@ -280,11 +275,7 @@ fn pieces_end_a_character(rt: HostRuntime) -> Result<(), Fail> {
     }
     text.push_str("\"}]}")?;
     let mut recorded = read(alloc, text.as_str())?;
-    let told = played(
-        alloc,
-        &mut recorded,
-        &["start", "poll", "poll", "poll", "stepIn", "poll"],
-    )?;
+    let told = played(alloc, &mut recorded, "start poll poll poll stepIn poll")?;
     assert_eq!(rt;
         told.as_str(),
         "done; stdout 127 long; stdout 74 long; entry 1 line 1; done; exited -1; "
@@ -308,9 +299,7 @@ fn refuses_its_first_start(rt: HostRuntime) -> Result<(), Fail> {
     let told = played(
         alloc,
         &mut stubborn,
-        &[
-            "start", "poll", "line 1", "start", "poll", "poll", "next", "poll", "end",
-        ],
+        "start poll line start poll poll next poll end",
     )?;
     assert_eq!(rt;
         told.as_str(),
