@@ -14,30 +14,30 @@ pub record Row : Type 0 where
   pub name : List ℕ
   pub format : List ℕ
 
-abbrev pub row : ℕ → List ℕ → List ℕ → Row
-row id name format = record { id = id; name = name; format = format }
+abbrev pub numbered : ℕ → List ℕ → List ℕ → Row
+numbered id name format = record { id = id; name = name; format = format }
 
 abbrev pub bad_argument_format : Key → List ℕ
 bad_argument_format key = codes "The argument " ++ (text_of key ++ codes " is missing or malformed.")
 
 abbrev pub row_of : Failure → Row
-row_of NotInitialized = row 1001 (codes "notInitialized") (codes "The session is not initialized.")
-row_of AlreadyInitialized = row 1002 (codes "alreadyInitialized") (codes "The session is already initialized.")
-row_of UnknownCommand = row 1003 (codes "unknownCommand") (codes "The command is not known.")
-row_of Unsupported = row 1004 (codes "unsupported") (codes "The command is not supported.")
-row_of (BadArguments key) = row 1005 (codes "badArguments") (bad_argument_format key)
-row_of WrongPhase = row 1007 (codes "wrongPhase") (codes "The request does not fit the state of the session.")
-row_of NotStopped = row 1006 (codes "notStopped") (codes "The debuggee is not stopped.")
-row_of UnknownThread = row 1008 (codes "unknownThread") (codes "The thread does not exist.")
-row_of StaleReference = row 1009 (codes "staleReference") (codes "The reference is not valid in this stop.")
-row_of UnknownSource = row 1014 (codes "unknownSource") (codes "The source does not exist.")
-row_of Debuggee = row 1013 (codes "debuggee") (codes "The debuggee refused.")
-row_of TooManyBreakpoints = row 1015 (codes "tooManyBreakpoints") (codes "Too many breakpoints are set.")
-row_of TooManyReferences = row 1010 (codes "tooManyReferences") (codes "Too many references are in use.")
-row_of ReferencesExhausted = row 1017 (codes "referencesExhausted") (codes "No reference numbers are left.")
-row_of TooLarge = row 1016 (codes "tooLarge") (codes "The response would be too large.")
-row_of Busy = row 1011 (codes "busy") (codes "Too many requests are waiting.")
-row_of Cancelled = row 1012 (codes "cancelled") (codes "The request was cancelled.")
+row_of NotInitialized = numbered 1001 (codes "notInitialized") (codes "The session is not initialized.")
+row_of AlreadyInitialized = numbered 1002 (codes "alreadyInitialized") (codes "The session is already initialized.")
+row_of UnknownCommand = numbered 1003 (codes "unknownCommand") (codes "The command is not known.")
+row_of Unsupported = numbered 1004 (codes "unsupported") (codes "The command is not supported.")
+row_of (BadArguments key) = numbered 1005 (codes "badArguments") (bad_argument_format key)
+row_of WrongPhase = numbered 1007 (codes "wrongPhase") (codes "The request does not fit the state of the session.")
+row_of NotStopped = numbered 1006 (codes "notStopped") (codes "The debuggee is not stopped.")
+row_of UnknownThread = numbered 1008 (codes "unknownThread") (codes "The thread does not exist.")
+row_of StaleReference = numbered 1009 (codes "staleReference") (codes "The reference is not valid in this stop.")
+row_of UnknownSource = numbered 1014 (codes "unknownSource") (codes "The source does not exist.")
+row_of Debuggee = numbered 1013 (codes "debuggee") (codes "The debuggee refused.")
+row_of TooManyBreakpoints = numbered 1015 (codes "tooManyBreakpoints") (codes "Too many breakpoints are set.")
+row_of TooManyReferences = numbered 1010 (codes "tooManyReferences") (codes "Too many references are in use.")
+row_of ReferencesExhausted = numbered 1017 (codes "referencesExhausted") (codes "No reference numbers are left.")
+row_of TooLarge = numbered 1016 (codes "tooLarge") (codes "The response would be too large.")
+row_of Busy = numbered 1011 (codes "busy") (codes "Too many requests are waiting.")
+row_of Cancelled = numbered 1012 (codes "cancelled") (codes "The request was cancelled.")
 
 -- The order in which an adapter tests a request, where `key` is the first bad one: the first of these that holds is answered. Busy and Cancelled come outside it.
 abbrev pub in_order : Key → List Failure
