@@ -1,6 +1,7 @@
 -- Worked examples of reading a recording, each shown by computation.
-use Rattle.std.proofs.Common.{◌≡◌, List, ℕ, [], ◌∷◌, codes, true, false, Some, None, Ok, Err, pos, negsuc, refl}
+use Rattle.std.proofs.Common.{◌≡◌, List, ℕ, [], ◌∷◌, codes, true, Some, None, Ok, Err, negsuc, refl}
 use Rattle.serde_json.specs.Data.{Data, boolean, null, number, unsigned, negative, string, array, object, Items, no_items, item, Members, no_members, put}
+use Rattle.dap_debuggee.proofs.ThreeMoments.{three_moments}
 use Rattle.dap_debuggee.specs.Reading.{recording_of, verdict_of, variables_of, source_of, moments_of, moment_of, thread_of, frame_of, scopes_of, scope_of}
 use Rattle.dap_debuggee.specs.declared.reading.RecordingFault.TheVariants.{NotJson, NotObject, BadKey}
 use Rattle.dap_debuggee.specs.declared.reading.RecordingKey.TheVariants as key
@@ -60,20 +61,7 @@ moment_2 = object (put (codes "waits") (boolean true) (moment_members (item (thr
 abbrev with_parts : Data → Data → Data → Data
 with_parts exit sources moments = object (put (codes "exit") exit (put (codes "sources") sources (put (codes "moments") moments no_members)))
 
-recording_a_is_read : recording_of (with_parts (whole 0) (one source_a) (array (item moment_0 (item moment_1 (item moment_2 no_items))))) ≡ Ok (record {
-  exit = pos 0;
-  sources = record { name = codes "a.c"; path = Some (codes "/a.c"); text = codes "one\ntwo\nthree\n"; lines = 3 } ∷ [];
-  moments =
-      record { threads = record { id = pos 1; name = codes "main"; frames = record { object = 0; name = codes "main"; source = 0; line = 1 } ∷ [] } ∷ []; thread = 0; output = codes "go\n"; waits = false }
-      ∷ record { threads = record { id = pos 1; name = codes "main"; frames = record { object = 1; name = codes "f"; source = 0; line = 3 } ∷ record { object = 2; name = codes "main"; source = 0; line = 1 } ∷ [] } ∷ []; thread = 0; output = []; waits = false }
-      ∷ record { threads = record { id = pos 1; name = codes "main"; frames = record { object = 3; name = codes "main"; source = 0; line = 2 } ∷ [] } ∷ []; thread = 0; output = []; waits = true }
-      ∷ [];
-  scopes = (record { name = codes "Locals"; holder = 1 } ∷ []) ∷ [] ∷ [] ∷ [] ∷ [];
-  variables =
-      (record { name = codes "a"; value = codes "7"; holder = None } ∷ [])
-      ∷ (record { name = codes "x"; value = codes "1"; holder = None } ∷ record { name = codes "p"; value = codes "P"; holder = Some 0 } ∷ [])
-      ∷ [];
-})
+recording_a_is_read : recording_of (with_parts (whole 0) (one source_a) (array (item moment_0 (item moment_1 (item moment_2 no_items))))) ≡ Ok three_moments
 unfolding recording_of source_of moments_of moment_of thread_of frame_of scopes_of scope_of
 recording_a_is_read = refl
 

@@ -1,0 +1,118 @@
+-- Worked examples of the laws' tables and of what holds of recordings, each shown by computation.
+use Rattle.std.proofs.Common.{◌≡◌, List, ℕ, [], ◌∷◌, codes, replicate, true, false, Some, pos, negsuc, refl}
+use Rattle.dap_call.specs.declared.call.SourceKey.{SourceKey}
+use Rattle.dap_call.specs.declared.call.SourceKey.TheVariants.{Path, Reference}
+use Rattle.dap_debuggee.specs.Shown.{Reply, to_start, to_resume, to_pause, to_poll, to_set_breakpoints, to_end, done, refused, happened, category_name, remembered}
+use Rattle.dap_debuggee.specs.Laws.{may_answer, state_after, lines_after, is_source, keeps_answers, keeps_frames, is_code, is_short, is_frame}
+use Rattle.dap_debuggee.specs.Recording.{line_count, is_rising, are_distinct, is_moment, depth, top, id_at, objects}
+use Rattle.dap_debuggee.specs.declared.answers.State.TheVariants.{NotStarted, Running, Stopped, Gone}
+use Rattle.dap_debuggee.specs.declared.answers.How.TheVariants.{Next, Continue}
+use Rattle.dap_debuggee.specs.declared.answers.Asked.TheVariants as remembers
+use Rattle.dap_debuggee.specs.declared.answers.Category.TheVariants.{Console, Stdout, Stderr}
+use Rattle.dap_debuggee.specs.declared.answers.Frame.{Frame}
+use Rattle.dap_debuggee.specs.declared.answers.Happening.TheVariants.{Nothing, Output, Stopped as StoppedBy, Continued, Exited}
+use Rattle.dap_debuggee.specs.declared.recording.Moment.{Moment}
+use Rattle.dap_debuggee.specs.declared.recording.RecordedThread.{RecordedThread}
+
+abbrev wrote : Reply
+wrote = happened (Output Stdout (codes "x"))
+
+abbrev stopped : Reply
+stopped = happened (StoppedBy (codes "step") (pos 1))
+
+abbrev continued : Reply
+continued = happened (Continued (pos 1))
+
+abbrev exited : Reply
+exited = happened (Exited (pos 0))
+
+-- ---- states
+
+start : (may_answer NotStarted to_start done ≡ true) × (may_answer NotStarted to_start refused ≡ true) × (may_answer Running to_start done ≡ false) × (may_answer Stopped to_start done ≡ false) × (may_answer Gone to_start done ≡ false) × (may_answer Gone to_start refused ≡ true)
+start = (refl, refl, refl, refl, refl, refl)
+
+resume : (may_answer Stopped (to_resume Next (pos 1)) done ≡ true) × (may_answer Stopped (to_resume Next (pos 1)) refused ≡ true) × (may_answer Running (to_resume Next (pos 1)) done ≡ false) × (may_answer NotStarted (to_resume Next (pos 1)) done ≡ false) × (may_answer Gone (to_resume Next (pos 1)) refused ≡ true)
+resume = (refl, refl, refl, refl, refl)
+
+-- an act is answered as its kind is
+answers_of_the_kind : (may_answer Running to_poll done ≡ false) × (may_answer Running to_poll refused ≡ false) × (may_answer Running to_pause (happened Nothing) ≡ false) × (may_answer Stopped (to_set_breakpoints (Reference 1) []) refused ≡ false) × (may_answer Gone to_end refused ≡ false)
+answers_of_the_kind = (refl, refl, refl, refl, refl)
+
+polls_while_running : (may_answer Running to_poll (happened Nothing) ≡ true) × (may_answer Running to_poll wrote ≡ true) × (may_answer Running to_poll stopped ≡ true) × (may_answer Running to_poll exited ≡ true) × (may_answer Running to_poll continued ≡ false)
+polls_while_running = (refl, refl, refl, refl, refl)
+
+polls_while_stopped : (may_answer Stopped to_poll (happened Nothing) ≡ true) × (may_answer Stopped to_poll wrote ≡ true) × (may_answer Stopped to_poll continued ≡ true) × (may_answer Stopped to_poll exited ≡ true) × (may_answer Stopped to_poll stopped ≡ false)
+polls_while_stopped = (refl, refl, refl, refl, refl)
+
+polls_of_what_is_not_there : (may_answer NotStarted to_poll (happened Nothing) ≡ true) × (may_answer NotStarted to_poll wrote ≡ false) × (may_answer Gone to_poll (happened Nothing) ≡ true) × (may_answer Gone to_poll exited ≡ false)
+polls_of_what_is_not_there = (refl, refl, refl, refl)
+
+states : (state_after NotStarted to_start done ≡ Running) × (state_after NotStarted to_start refused ≡ NotStarted) × (state_after Stopped (to_resume Continue (pos 1)) done ≡ Running) × (state_after Stopped (to_resume Continue (pos 1)) refused ≡ Stopped) × (state_after Running to_pause done ≡ Running) × (state_after Running to_poll stopped ≡ Stopped) × (state_after Stopped to_poll continued ≡ Running) × (state_after Stopped to_poll exited ≡ Gone) × (state_after Running to_poll wrote ≡ Running) × (state_after NotStarted to_end done ≡ Gone) × (state_after Stopped (to_set_breakpoints (Reference 1) []) done ≡ Stopped)
+states = (refl, refl, refl, refl, refl, refl, refl, refl, refl, refl, refl)
+
+-- ---- what an act changes
+
+abbrev line_1_of_all : SourceKey → List ℕ
+line_1_of_all key = 1 ∷ []
+
+lines : (lines_after (to_set_breakpoints (Path (codes "a")) (2 ∷ 3 ∷ [])) line_1_of_all (Path (codes "a")) ≡ 2 ∷ 3 ∷ []) × (lines_after (to_set_breakpoints (Path (codes "a")) (2 ∷ [])) line_1_of_all (Path (codes "b")) ≡ 1 ∷ []) × (lines_after (to_set_breakpoints (Path (codes "a")) (2 ∷ [])) line_1_of_all (Reference 1) ≡ 1 ∷ []) × (lines_after to_end line_1_of_all (Path (codes "a")) ≡ 1 ∷ [])
+lines = (refl, refl, refl, refl)
+
+keys : (is_source (Path (codes "a")) (Path (codes "a")) ≡ true) × (is_source (Path (codes "a")) (Path (codes "A")) ≡ false) × (is_source (Reference 1) (Reference 1) ≡ true) × (is_source (Reference 1) (Reference 2) ≡ false) × (is_source (Reference 49) (Path (codes "1")) ≡ false)
+keys = (refl, refl, refl, refl, refl)
+
+all_answers_stay : (keeps_answers to_start refused ≡ true) × (keeps_answers (to_resume Next (pos 1)) refused ≡ true) × (keeps_answers to_pause done ≡ true) × (keeps_answers (to_set_breakpoints (Reference 1) []) done ≡ true) × (keeps_answers to_poll wrote ≡ false) × (keeps_answers to_start done ≡ false)
+all_answers_stay = (refl, refl, refl, refl, refl, refl)
+
+frames_stay : (keeps_frames to_poll wrote ≡ true) × (keeps_frames to_poll (happened Nothing) ≡ true) × (keeps_frames to_pause done ≡ true) × (keeps_frames to_poll stopped ≡ false) × (keeps_frames to_poll continued ≡ false) × (keeps_frames to_poll exited ≡ false) × (keeps_frames (to_resume Next (pos 1)) done ≡ false) × (keeps_frames to_end done ≡ false)
+frames_stay = (refl, refl, refl, refl, refl, refl, refl, refl)
+
+memory_of_acts : (remembered (to_resume Next (pos 7)) ≡ remembers.Resume Next (pos 7)) × (remembered (to_set_breakpoints (Reference 1) (2 ∷ [])) ≡ remembers.SetBreakpoints) × (remembered to_end ≡ remembers.End)
+memory_of_acts = (refl, refl, refl)
+
+-- ---- ranges
+
+codes_of_an_exit : (is_code (pos 2147483647) ≡ true) × (is_code (pos 2147483648) ≡ false) × (is_code (negsuc 2147483647) ≡ true) × (is_code (negsuc 2147483648) ≡ false)
+codes_of_an_exit = (refl, refl, refl, refl)
+
+lengths : (is_short (Output Stderr (replicate 128 97)) ≡ true) × (is_short (Output Stderr (replicate 129 97)) ≡ false) × (is_short (StoppedBy (replicate 64 97) (pos 1)) ≡ true) × (is_short (StoppedBy (replicate 65 97) (pos 1)) ≡ false)
+lengths = (refl, refl, refl, refl)
+
+thread_ids : (is_short (StoppedBy [] (negsuc 9007199254740990)) ≡ true) × (is_short (StoppedBy [] (negsuc 9007199254740991)) ≡ false) × (is_short (Continued (pos 9007199254740991)) ≡ true) × (is_short (Continued (pos 9007199254740992)) ≡ false)
+thread_ids = (refl, refl, refl, refl)
+
+abbrev frame : ℕ → ℕ → ℕ → Frame
+frame object source line = record { object = object; name = codes "f"; source = source; line = line }
+
+frames : (is_frame 1 (frame 0 0 1) ≡ true) × (is_frame 1 (frame 0 0 0) ≡ false) × (is_frame 1 (frame 0 0 2147483647) ≡ true) × (is_frame 1 (frame 0 0 2147483648) ≡ false) × (is_frame 1 (frame 0 1 1) ≡ false) × (is_frame 0 (frame 0 0 1) ≡ false)
+frames = (refl, refl, refl, refl, refl, refl)
+
+categories : (category_name Console ≡ codes "console") × (category_name Stdout ≡ codes "stdout") × (category_name Stderr ≡ codes "stderr")
+categories = (refl, refl, refl)
+
+-- ---- recordings
+
+line_counts : (line_count [] ≡ 0) × (line_count (codes "\n") ≡ 1) × (line_count (codes "x") ≡ 1) × (line_count (codes "one\ntwo\nthree\n") ≡ 3) × (line_count (codes "one\ntwo\nthree") ≡ 3) × (line_count (codes "\n\n") ≡ 2) × (line_count (codes "\nx") ≡ 2) × (line_count (codes "a\r\nb\r\n") ≡ 2)
+line_counts = (refl, refl, refl, refl, refl, refl, refl, refl)
+
+rising : (is_rising [] ≡ true) × (is_rising (0 ∷ 1 ∷ 5 ∷ []) ≡ true) × (is_rising (0 ∷ 0 ∷ []) ≡ false) × (is_rising (2 ∷ 1 ∷ []) ≡ false)
+rising = (refl, refl, refl, refl)
+
+abbrev thread : ℕ → List Frame → RecordedThread
+thread id frames = record { id = pos id; name = codes "t"; frames = frames }
+
+distinct : (are_distinct (thread 1 [] ∷ thread 2 [] ∷ []) ≡ true) × (are_distinct (thread 1 [] ∷ thread 2 [] ∷ thread 1 [] ∷ []) ≡ false)
+distinct = (refl, refl)
+
+abbrev moment : ℕ → List RecordedThread → Moment
+moment place threads = record { threads = threads; thread = place; output = []; waits = false }
+
+-- two threads, and the second one stands here
+abbrev two : Moment
+two = moment 1 (thread 7 (frame 3 0 1 ∷ []) ∷ thread 9 (frame 4 0 5 ∷ frame 6 0 2 ∷ []) ∷ [])
+
+parts : (depth two ≡ 2) × (top two ≡ Some (frame 4 0 5)) × (id_at two ≡ pos 9) × (objects two ≡ 3 ∷ 4 ∷ 6 ∷ [])
+parts = (refl, refl, refl, refl)
+
+moments : (is_moment 1 two ≡ true) × (is_moment 0 two ≡ false) × (is_moment 1 (moment 2 two.threads) ≡ false) × (is_moment 1 (moment 0 (thread 7 [] ∷ [])) ≡ false) × (is_moment 1 (moment 0 (thread 7 (frame 3 0 1 ∷ []) ∷ thread 8 (frame 3 0 1 ∷ []) ∷ [])) ≡ false) × (is_moment 1 (moment 0 []) ≡ false)
+moments = (refl, refl, refl, refl, refl, refl)
