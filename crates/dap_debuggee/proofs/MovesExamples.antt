@@ -103,6 +103,24 @@ two_threads = record { threads = record { id = pos 7; name = codes "a"; frames =
 of_two_threads : (move_of sources (two_threads ∷ moment false (1 ∷ 1 ∷ []) ∷ []) (lines_in []) Next 0 ≡ to 1 Step) × (move_of sources (moment false (1 ∷ []) ∷ two_threads ∷ []) (lines_in []) Next 0 ≡ to 2 Step) × (move_of sources (moment false (1 ∷ []) ∷ two_threads ∷ []) (lines_in (by_path (4 ∷ []))) Continue 0 ≡ to 1 Breakpoint) × (move_of sources (moment false (1 ∷ []) ∷ two_threads ∷ []) (lines_in (by_path (1 ∷ []))) Continue 0 ≡ to 2 Breakpoint)
 of_two_threads = (refl, refl, refl, refl)
 
+-- ---- two sources of one path
+
+abbrev in_second : Moment
+in_second = record { threads = record { id = pos 1; name = codes "main"; frames = record { object = 0; name = codes "f"; source = 1; line = 4 } ∷ [] } ∷ []; thread = 0; output = []; waits = false }
+
+abbrev from_first : List SetLines → Move
+from_first set = move_of (record { name = codes "a"; path = Some (codes "/a.c"); text = codes "\n\n\n"; lines = 3 } ∷ record { name = codes "b"; path = Some (codes "/a.c"); text = codes "\n\n\n\n"; lines = 4 } ∷ []) (moment false (1 ∷ []) ∷ in_second ∷ []) (lines_in set) Continue 0
+
+-- by their path both stop, by its number the second alone
+of_two_sources : (from_first (by_path (4 ∷ [])) ≡ to 1 Breakpoint) × (from_first (by_number 2 (4 ∷ [])) ≡ to 1 Breakpoint) × (from_first (by_number 1 (4 ∷ [])) ≡ to 2 Breakpoint)
+of_two_sources = (refl, refl, refl)
+
+abbrev unnamed : List SetLines → Move
+unnamed set = move_of (record { name = codes "a"; path = None; text = codes "\n"; lines = 1 } ∷ []) (moment false (1 ∷ []) ∷ moment false (1 ∷ []) ∷ []) (lines_in set) Continue 0
+
+without_a_path : (unnamed (by_number 1 (1 ∷ [])) ≡ to 1 Breakpoint) × (unnamed (by_path (1 ∷ [])) ≡ to 2 Breakpoint) × (unnamed (record { source = Path []; lines = 1 ∷ [] } ∷ []) ≡ to 2 Breakpoint)
+without_a_path = (refl, refl, refl)
+
 -- ---- lines
 
 lines : (has_line 3 (1 ∷ 3 ∷ 3 ∷ []) ≡ true) × (has_line 2 (1 ∷ 3 ∷ []) ≡ false) × (has_line 0 [] ≡ false)

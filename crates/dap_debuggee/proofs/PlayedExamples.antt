@@ -1,5 +1,5 @@
 -- Worked examples of a recorded debuggee, act by act and query by query, each shown by computation.
-use Rattle.std.proofs.Common.{◌≡◌, List, ℕ, [], ◌∷◌, ◌++◌, codes, replicate, true, false, Some, None, pos, refl}
+use Rattle.std.proofs.Common.{◌≡◌, Bool, List, ℕ, [], ◌∷◌, ◌++◌, codes, replicate, true, false, Some, None, pos, refl}
 use Rattle.dap_call.specs.declared.call.SourceKey.TheVariants.{Path, Reference}
 use Rattle.dap_debuggee.proofs.ThreeMoments.{three_moments}
 use Rattle.dap_debuggee.specs.Shown.{Act, to_start, to_resume, to_pause, to_poll, to_set_breakpoints, to_end, Reply, done, refused, happened}
@@ -10,6 +10,10 @@ use Rattle.dap_debuggee.specs.declared.answers.How.TheVariants.{StepIn, Next, St
 use Rattle.dap_debuggee.specs.declared.answers.Asked.TheVariants as remembers
 use Rattle.dap_debuggee.specs.declared.answers.Category.TheVariants.{Stdout}
 use Rattle.dap_debuggee.specs.declared.answers.Happening.TheVariants as happening
+use Rattle.dap_debuggee.specs.declared.answers.Scope.{Scope}
+use Rattle.dap_debuggee.specs.declared.answers.Variable.{Variable}
+use Rattle.dap_debuggee.specs.declared.recording.Moment.{Moment}
+use Rattle.dap_debuggee.specs.declared.recording.RecordedSource.{RecordedSource}
 
 -- ---- histories
 
@@ -137,3 +141,45 @@ pieces = (refl, refl, refl)
 -- from a place to a place, the last one included; to the exit all of them
 outputs : (output_of three_moments.moments 0 0 ≡ codes "go\n" ∷ []) × (output_of three_moments.moments 1 2 ≡ [] ∷ [] ∷ []) × (output_of three_moments.moments 1 3 ≡ [] ∷ [] ∷ []) × (output_of three_moments.moments 3 3 ≡ [])
 outputs = (refl, refl, refl, refl)
+
+-- ---- more than one
+
+abbrev with_moments : List Moment → Played
+with_moments moments = unplayed (record { exit = pos 3; sources = three_moments.sources; moments = moments; scopes = []; variables = [] })
+
+abbrev writing : Bool → List ℕ → Moment
+writing waits output = record { threads = record { id = pos 1; name = codes "main"; frames = record { object = 0; name = codes "main"; source = 0; line = 1 } ∷ [] } ∷ []; thread = 0; output = output; waits = waits }
+
+-- a run writes up to the moment that holds it, and the next one the rest
+output_before_a_hold : replies (view_after (with_moments (writing false [] ∷ writing true (codes "a") ∷ writing false (codes "b") ∷ writing false [] ∷ writing false (codes "c") ∷ [])) (to_start ∷ to_poll ∷ []))
+    (go Continue ∷ to_poll ∷ to_poll ∷ to_pause ∷ to_poll ∷ go Continue ∷ to_poll ∷ to_poll ∷ to_poll ∷ [])
+    ≡ done ∷ wrote (codes "a") ∷ nothing ∷ done ∷ stopped (codes "pause") ∷ done ∷ wrote (codes "b") ∷ wrote (codes "c") ∷ happened (happening.Exited (pos 3)) ∷ []
+output_before_a_hold = refl
+
+pause_between_pieces : replies (view_after (with_moments (writing false [] ∷ writing true (replicate 130 97) ∷ writing false [] ∷ [])) (to_start ∷ to_poll ∷ []))
+    (go Continue ∷ to_poll ∷ to_pause ∷ to_poll ∷ to_poll ∷ [])
+    ≡ done ∷ wrote (replicate 128 97) ∷ done ∷ wrote (replicate 2 97) ∷ stopped (codes "pause") ∷ []
+pause_between_pieces = refl
+
+abbrev with_scopes : List Scope → List (List Variable) → Played
+with_scopes scopes variables = unplayed (record { exit = pos 0; sources = []; moments = three_moments.moments; scopes = scopes ∷ []; variables = variables })
+
+abbrev valued : List ℕ → List ℕ → Variable
+valued name value = record { name = name; value = value; holder = None }
+
+abbrev two_scopes : Played
+two_scopes = with_scopes (record { name = codes "Locals"; holder = 0 } ∷ record { name = codes "Globals"; holder = 1 } ∷ []) ((valued (codes "x") (codes "1") ∷ valued (codes "x") (codes "2") ∷ []) ∷ (valued (codes "x") (codes "3") ∷ valued (codes "y") (codes "4") ∷ []) ∷ [])
+
+-- of one name the first variable in the first scope
+one_name : ((shown_of two_scopes).evaluate (Some 0) (codes "x") ≡ Some (record { value = codes "1"; holder = None })) × ((shown_of two_scopes).evaluate (Some 0) (codes "y") ≡ Some (record { value = codes "4"; holder = None })) × ((shown_of two_scopes).evaluate (Some 0) [] ≡ None)
+one_name = (refl, refl, refl)
+
+abbrev named : ℕ → RecordedSource
+named lines = record { name = codes "a.c"; path = Some (codes "/a.c"); text = replicate lines 10; lines = lines }
+
+abbrev one_path : Played
+one_path = unplayed (record { exit = pos 0; sources = named 3 ∷ named 5 ∷ []; moments = three_moments.moments; scopes = []; variables = [] })
+
+-- two sources of one path: by the path both count, by a number one
+path_of_two : ((shown_of one_path).verify (Path (codes "/a.c")) (3 ∷ 5 ∷ 6 ∷ []) ≡ Some (true ∷ true ∷ false ∷ [])) × ((shown_of one_path).verify (Reference 1) (3 ∷ 5 ∷ []) ≡ Some (true ∷ false ∷ [])) × ((shown_of one_path).verify (Reference 2) (3 ∷ 5 ∷ []) ≡ Some (true ∷ true ∷ []))
+path_of_two = (refl, refl, refl)

@@ -1,8 +1,9 @@
 -- How the code holds a run and the last act, and what that amounts to.
 -- Only private clauses, invariants and proofs cite this file.
-use Rattle.std.specs.Prelude.{ℤ, Bool, zero, max, false, bytes_eq, if◌then◌else◌, ◌≡◌, ◌⊎◌, ◌≤◌, ◌+◌, ◌%◌, ◌^◌, ℕ, suc, ◌-◌, ◌<◌, length, List, [], ◌∷◌, map, take, drop, Option, Some, None, option_map, unwrap_or, pos}
+use Rattle.std.specs.Prelude.{ℤ, Bool, zero, max, false, bytes_eq, if◌then◌else◌, ◌≡◌, ◌⊎◌, ◌≤◌, ◌+◌, ◌%◌, ◌^◌, ℕ, suc, ◌-◌, ◌<◌, length, List, [], ◌∷◌, ◌++◌, slice_set, String, map, take, drop, Option, Some, None, option_map, unwrap_or, pos}
 use Rattle.std.specs.List.{slice_get, find}
-use Rattle.std.specs.Ordering.{int_eq}
+use Rattle.std.specs.BTreeMap.{BTreeMap, get, get_by_text}
+use Rattle.std.specs.Ordering.{int_eq, nat_cmp}
 use Rattle.dap_debuggee.specs.declared.answers.Variable.{Variable}
 use Rattle.dap_debuggee.specs.declared.recording.RecordedThread.{RecordedThread}
 use Rattle.std.specs.Str.{IsCharBoundary}
@@ -80,10 +81,24 @@ IsReady moments g = (output_left moments g ≡ []) ⊎ ((g.moment ≤ g.last) ×
 abbrev pub rest_of : Going → Run
 rest_of g = record { output = []; move = g.to; paused = g.paused }
 
--- the place of a source's lines, or the length
-abbrev pub place_in : List SetLines → SourceKey → ℕ
-place_in [] key = 0
-place_in (s ∷ set) key = if is_source s.source key then 0 else suc (place_in set key)
+-- the place of a source's lines
+abbrev pub found_at : SourceKey → List SetLines → Option ℕ
+found_at key [] = None
+found_at key (s ∷ set) = if is_source s.source key then Some 0 else option_map (λ k. suc k) (found_at key set)
+
+abbrev pub lines_at : Option ℕ → List SetLines → List ℕ
+lines_at None set = []
+lines_at (Some k) set = unwrap_or (option_map (λ e. e.lines) (slice_get set k)) []
+
+-- at its place, or behind all
+abbrev pub put_at : Option ℕ → SetLines → List SetLines → List SetLines
+put_at None e set = set ++ e ∷ []
+put_at (Some k) e set = slice_set set k e
+
+-- the two tables have the places of the sources, and no others
+pub record HasPlaces {A : Type 0} (paths : BTreeMap (String A) ℕ) (numbers : BTreeMap ℕ ℕ) (set : List SetLines) : Type 0 where
+  pub by_path : (path : List ℕ) → get_by_text paths path ≡ found_at (Path path) set
+  pub by_number : (n : ℕ) → get nat_cmp numbers n ≡ found_at (Reference n) set
 
 -- how many lines the longest source of a path has
 abbrev pub is_of_path : List ℕ → RecordedSource → Bool

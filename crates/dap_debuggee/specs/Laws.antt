@@ -96,7 +96,6 @@ pub record SameFrames (v w : Shown) : Type 0 where
   pub frames : (thread : ℤ) → w.frames thread ≡ v.frames thread
   pub scopes : (frame : ℕ) → w.scopes frame ≡ v.scopes frame
   pub children : (holder : ℕ) → w.children holder ≡ v.children holder
-  pub evaluate : (frame : Option ℕ) (text : List ℕ) → w.evaluate frame text ≡ v.evaluate frame text
 
 pub record SameSources (v w : Shown) : Type 0 where
   pub sources : w.sources ≡ v.sources
@@ -105,6 +104,7 @@ pub record SameSources (v w : Shown) : Type 0 where
 pub record SameAnswers (v w : Shown) : Type 0 where
   pub threads : w.threads ≡ v.threads
   pub frames : SameFrames v w
+  pub evaluate : (frame : Option ℕ) (text : List ℕ) → w.evaluate frame text ≡ v.evaluate frame text
   pub sources : SameSources v w
   pub verify : (source : SourceKey) (lines : List ℕ) → w.verify source lines ≡ v.verify source lines
 

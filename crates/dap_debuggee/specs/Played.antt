@@ -126,6 +126,18 @@ with_run run v = record {
   last = v.last;
 }
 
+-- a pause is remembered by the run
+abbrev pub pausing : Option Run → Played → Played
+pausing run v = record {
+  recording = v.recording;
+  state = v.state;
+  at = v.at;
+  run = option_map (λ (r : Run). record { output = r.output; move = r.move; paused = true }) run;
+  set = v.set;
+  acts = v.acts;
+  last = v.last;
+}
+
 abbrev pub with_lines : List SetLines → Played → Played
 with_lines set v = record {
   recording = v.recording;
@@ -183,7 +195,7 @@ resume_in Stopped how v = (done, resumed how v)
 resume_in _ how v = (refused, v)
 
 abbrev pub pause_in : State → Option Run → Played → Reply × Played
-pause_in Running (Some run) v = (done, with_run (record { output = run.output; move = run.move; paused = true }) v)
+pause_in Running run v = (done, pausing run v)
 pause_in _ _ v = (refused, v)
 
 abbrev pub poll_in : Happening × Played → Reply × Played

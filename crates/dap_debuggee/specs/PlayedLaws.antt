@@ -7,7 +7,7 @@ use Rattle.dap_call.specs.declared.call.SourceKey.{SourceKey}
 use Rattle.dap_call.specs.declared.call.SourceKey.TheVariants.{Path, Reference}
 use Rattle.dap_debuggee.specs.Shown.{Act, to_start, to_resume, to_pause, to_poll, to_set_breakpoints, to_end, Reply, done, refused, happened}
 use Rattle.dap_debuggee.specs.Laws.{may_answer, state_after, keeps_answers, keeps_frames, is_source, lines_after, Counts, Remembers, Answers, Moves, SetsLines, KeepsAnswers, KeepsFrames, KeepsSources, SameFrames, SameSources, NoThreads, VerifiesEach}
-use Rattle.dap_debuggee.specs.Played.{Played, Run, act_on, asked, started, resumed, start_in, resume_in, pause_in, polled, ran, arrived, with_run, with_lines, resting, replaced, lines_in, first_piece, shown_of, has_source_line, source_shown, FollowsPlayed}
+use Rattle.dap_debuggee.specs.Played.{Played, Run, act_on, asked, started, resumed, start_in, resume_in, pause_in, polled, ran, arrived, with_run, pausing, with_lines, resting, replaced, lines_in, first_piece, shown_of, has_source_line, evaluate_in, source_shown, FollowsPlayed}
 use Rattle.dap_debuggee.specs.declared.answers.State.{State}
 use Rattle.dap_debuggee.specs.declared.answers.State.TheVariants.{NotStarted, Running, Stopped, Gone}
 use Rattle.dap_debuggee.specs.declared.answers.How.{How}
@@ -23,7 +23,7 @@ data Row (v : Played) : Act → Reply → Played → Type 0 where
   does_not_start : Row v to_start refused v
   resumes : (how : How) (thread : ℤ) → v.state ≡ Stopped → Row v (to_resume how thread) done (resumed how v)
   does_not_resume : (how : How) (thread : ℤ) → Row v (to_resume how thread) refused v
-  pauses : (run : Run) → v.state ≡ Running → Row v to_pause done (with_run run v)
+  pauses : (run : Option Run) → v.state ≡ Running → Row v to_pause done (pausing run v)
   does_not_pause : Row v to_pause refused v
   gives_nothing : Row v to_poll (happened happening.Nothing) v
   holds : (run : Run) → Row v to_poll (happened happening.Nothing) (with_run run v)
@@ -47,8 +47,7 @@ resume_row v how thread Gone is = does_not_resume how thread
 
 pause_row : (v : Played) (s : State) (run : Option Run) → v.state ≡ s → Row v to_pause (pause_in s run v).0 (pause_in s run v).1
 pause_row v NotStarted run is = does_not_pause
-pause_row v Running None is = does_not_pause
-pause_row v Running (Some run) is = pauses (record { output = run.output; move = run.move; paused = true }) is
+pause_row v Running run is = pauses run is
 pause_row v Stopped run is = does_not_pause
 pause_row v Gone run is = does_not_pause
 
@@ -231,17 +230,17 @@ state_row v _ _ _ ends = end_state v.state
 
 frames_row : (v w : Played) (a : Act) (r : Reply) → Row v a r w → IsTrue (keeps_frames a r) → SameFrames (shown_of v) (shown_of w)
 frames_row v _ _ _ (starts is) keeps = absurd (true≢false (sym keeps))
-frames_row v _ _ _ does_not_start keeps = record { frames = λ t. refl; scopes = λ n. refl; children = λ n. refl; evaluate = λ f t. refl }
+frames_row v _ _ _ does_not_start keeps = record { frames = λ t. refl; scopes = λ n. refl; children = λ n. refl }
 frames_row v _ _ _ (resumes how thread is) keeps = absurd (true≢false (sym keeps))
-frames_row v _ _ _ (does_not_resume how thread) keeps = record { frames = λ t. refl; scopes = λ n. refl; children = λ n. refl; evaluate = λ f t. refl }
-frames_row v _ _ _ (pauses run is) keeps = record { frames = λ t. refl; scopes = λ n. refl; children = λ n. refl; evaluate = λ f t. refl }
-frames_row v _ _ _ does_not_pause keeps = record { frames = λ t. refl; scopes = λ n. refl; children = λ n. refl; evaluate = λ f t. refl }
-frames_row v _ _ _ gives_nothing keeps = record { frames = λ t. refl; scopes = λ n. refl; children = λ n. refl; evaluate = λ f t. refl }
-frames_row v _ _ _ (holds run) keeps = record { frames = λ t. refl; scopes = λ n. refl; children = λ n. refl; evaluate = λ f t. refl }
-frames_row v _ _ _ (tells piece run is) keeps = record { frames = λ t. refl; scopes = λ n. refl; children = λ n. refl; evaluate = λ f t. refl }
+frames_row v _ _ _ (does_not_resume how thread) keeps = record { frames = λ t. refl; scopes = λ n. refl; children = λ n. refl }
+frames_row v _ _ _ (pauses run is) keeps = record { frames = λ t. refl; scopes = λ n. refl; children = λ n. refl }
+frames_row v _ _ _ does_not_pause keeps = record { frames = λ t. refl; scopes = λ n. refl; children = λ n. refl }
+frames_row v _ _ _ gives_nothing keeps = record { frames = λ t. refl; scopes = λ n. refl; children = λ n. refl }
+frames_row v _ _ _ (holds run) keeps = record { frames = λ t. refl; scopes = λ n. refl; children = λ n. refl }
+frames_row v _ _ _ (tells piece run is) keeps = record { frames = λ t. refl; scopes = λ n. refl; children = λ n. refl }
 frames_row v _ _ _ (stops reason thread at is) keeps = absurd (true≢false (sym keeps))
 frames_row v _ _ _ (exits code is) keeps = absurd (true≢false (sym keeps))
-frames_row v _ _ _ (sets source lines) keeps = record { frames = λ t. refl; scopes = λ n. refl; children = λ n. refl; evaluate = λ f t. refl }
+frames_row v _ _ _ (sets source lines) keeps = record { frames = λ t. refl; scopes = λ n. refl; children = λ n. refl }
 frames_row v _ _ _ ends keeps = absurd (true≢false (sym keeps))
 
 recording_row : (v w : Played) (a : Act) (r : Reply) → Row v a r w → w.recording ≡ v.recording
@@ -303,7 +302,7 @@ moves-played v w a r f = ap (λ (p : Played). p.state) f.view ∙ state_row v _ 
 
 -- an act that is counted shows the same
 asked_same : (v u : Played) (a : Act) (r : Reply) → SameFrames (shown_of v) (shown_of u) → SameFrames (shown_of v) (shown_of (asked a r u))
-asked_same v u a r same = record { frames = same.frames; scopes = same.scopes; children = same.children; evaluate = same.evaluate }
+asked_same v u a r same = record { frames = same.frames; scopes = same.scopes; children = same.children }
 
 pub keeps_frames-played : KeepsFrames shown_of FollowsPlayed
 keeps_frames-played v w a r f keeps = subst (λ p. SameFrames (shown_of v) (shown_of p)) (sym f.view) (asked_same v (act_on a v).1 a r (frames_row v (act_on a v).1 a r (row v w a r f) keeps))
@@ -331,13 +330,14 @@ pub keeps_answers-played : KeepsAnswers shown_of FollowsPlayed
 keeps_answers-played v w a r f keeps = record {
   threads = ap (λ (p : Played). (shown_of p).threads) f.view ∙ threads_row v _ a r (row v w a r f) keeps;
   frames = keeps_frames-played v w a r f (keeps_too a r keeps);
+  evaluate = λ frame text. ap (λ r. evaluate_in r frame text) (ap (λ (p : Played). p.recording) f.view ∙ recording_row v _ a r (row v w a r f));
   sources = keeps_sources-played v w a r f;
   verify = λ source lines. ap (λ r. Some (map (has_source_line r.sources source) lines)) (ap (λ (p : Played). p.recording) f.view ∙ recording_row v _ a r (row v w a r f));
 }
 
 -- ---- lines
 
-same_source : (a b : SourceKey) → is_source a b ≡ true → a ≡ b
+pub same_source : (a b : SourceKey) → is_source a b ≡ true → a ≡ b
 same_source (Path p) (Path q) e = ap Path ((bytes_eq-Decides p q).0 e)
 same_source (Reference m) (Reference n) e = ap Reference ((Decides-eqb m n).0 e)
 same_source (Path p) (Reference n) e = absurd (true≢false (sym e))

@@ -5,7 +5,6 @@ ghost use Rattle.dap_debuggee.specs.Laws.{Replies, is_short};
 ghost use Rattle.dap_debuggee.specs.Played.{FollowsPlayed};
 
 use crate::answers::{Asked, DebuggeeFault, How, State};
-use crate::lines;
 use crate::recorded::{Going, LastAsked, Recorded};
 use dap_call::SourceKey;
 use std::alloc::{AllocError, Global};
@@ -60,6 +59,10 @@ impl Recorded {
                 self.note(LastAsked::Done(Asked::Pause));
                 Ok(())
             }
+            (State::Running, None) => {
+                self.note(LastAsked::Done(Asked::Pause));
+                Ok(())
+            }
             _ => {
                 self.note(LastAsked::Refused(Asked::Pause));
                 Err(DebuggeeFault::Refused)
@@ -84,7 +87,6 @@ impl Recorded {
         self.note(LastAsked::Done(Asked::End));
     }
 
-    #[tactic(auto, using(crate::proofs::Setting::replaced_there, crate::proofs::Setting::replaced_new))]
     pub(crate) fn to_set(
         &mut self,
         alloc: Global,
@@ -93,13 +95,7 @@ impl Recorded {
     ) -> Result<(), AllocError>
         ensures { OnOk result (FollowsPlayed self.old (to_set_breakpoints source.now lines.now) done self.new) }
     {
-        let entry = lines::entry(alloc, source, lines)?;
-        let place = lines::place(self.set.as_slice(), source);
-        if place < self.set.len() {
-            self.set[place] = entry;
-        } else {
-            self.set.push(entry)?;
-        }
+        self.set.set(alloc, source, lines)?;
         self.note(LastAsked::Done(Asked::SetBreakpoints));
         Ok(())
     }

@@ -1,14 +1,12 @@
-//! The lines that are set for a source.
-ghost use Rattle.std.specs.Prelude.{◌≡◌, ◌≤◌, length, IfOk};
-ghost use Rattle.dap_debuggee.specs.Held.{place_in};
-ghost use Rattle.dap_call.specs.declared.call.SourceKey.TheVariants.{Path, Reference};
-ghost use Rattle.dap_debuggee.specs.Laws.{is_source};
-ghost use Rattle.dap_debuggee.specs.Played.{lines_in};
+//! The lines that are set for sources.
+ghost use Rattle.std.specs.Prelude.{◌≡◌, IfOk};
 
 use crate::list::List;
 use dap_call::SourceKey;
 use dap_json::Text;
 use std::alloc::{AllocError, Global};
+use std::collections::BTreeMap;
+use std::marker::Model;
 
 /// Lines of one source, as they were set last.
 #[derive(Drop)]
@@ -17,70 +15,132 @@ pub(crate) struct SetLines {
     pub(crate) lines: List<u32>,
 }
 
-fn is_path(source: &SourceKey, path: &str) -> bool
-    ensures { result ≡ is_source source.now (Path path.now) }
-{
-    match source {
-        SourceKey::Path(p) => p.as_str() == path,
-        SourceKey::Reference(_) => false,
-    }
+/// Lines by their source. A contract sees the entries in the order in which their sources were first set.
+#[derive(Drop)]
+pub(crate) struct LineTable {
+    entries: Vec<SetLines>,
+    /// The places of the entries by path.
+    paths: BTreeMap<String, usize>,
+    /// The places of the entries by number.
+    numbers: BTreeMap<u64, usize>,
 }
 
-fn is_reference(source: &SourceKey, reference: u64) -> bool
-    ensures { result ≡ is_source source.now (Reference reference) }
-{
-    match source {
-        SourceKey::Path(_) => false,
-        SourceKey::Reference(n) => *n as u64 == reference,
-    }
+impl Model for LineTable {
+    ghost use Rattle.std.specs.Prelude.{List as Items};
+    ghost use Rattle.dap_debuggee.specs.declared.lines.SetLines.{SetLines as Entry};
+    ghost use Rattle.dap_debuggee.specs.Held.{HasPlaces};
+
+    ghost Value = { Items Entry };
+
+    ghost view = { λ t. t.entries.items };
+
+    ghost invariant = { λ t. HasPlaces t.paths t.numbers t.entries.items };
 }
 
-/// The lines of the source with a path.
-pub(crate) fn of_path<'s>(set: &'s [SetLines], path: &str) -> &'s [u32]
-    ensures { result.now ≡ lines_in set.now (Path path.now) }
-{
-    for s in set {
-        if is_path(&s.source, path) {
-            return s.lines.as_slice();
+impl LineTable {
+    ghost use Rattle.std.specs.Prelude.{◌≡◌, [], ◌∷◌, ◌++◌, None, IfOk, OnOk};
+    ghost use Rattle.dap_call.specs.declared.call.SourceKey.TheVariants.{Path, Reference};
+    ghost use Rattle.dap_debuggee.specs.Held.{found_at, lines_at};
+    ghost use Rattle.dap_debuggee.specs.Played.{lines_in, replaced};
+
+    pub(crate) fn new(alloc: Global) -> LineTable
+        ensures { result ≡ [] }
+    {
+        LineTable {
+            entries: Vec::new(alloc),
+            paths: BTreeMap::new(alloc),
+            numbers: BTreeMap::new(alloc),
         }
     }
-    &[]
-}
 
-/// The lines of the source with a number.
-pub(crate) fn of_reference(set: &[SetLines], reference: u64) -> &[u32]
-    ensures { result.now ≡ lines_in set.now (Reference reference) }
-{
-    for s in set {
-        if is_reference(&s.source, reference) {
-            return s.lines.as_slice();
+    fn place_of_path(&self, path: &str) -> Option<usize>
+        ensures { result ≡ found_at (Path path.now) self.now }
+    {
+        self.paths.get(path).copied()
+    }
+
+    fn place_of_number(&self, reference: u64) -> Option<usize>
+        ensures { result ≡ found_at (Reference reference) self.now }
+    {
+        self.numbers.get(&reference).copied()
+    }
+
+    fn place(&self, source: &SourceKey) -> Option<usize>
+        ensures { result ≡ found_at source.now self.now }
+    {
+        match source {
+            SourceKey::Path(path) => self.place_of_path(path.as_str()),
+            SourceKey::Reference(n) => self.place_of_number(*n as u64),
         }
     }
-    &[]
-}
 
-fn is_same(one: &SourceKey, other: &SourceKey) -> bool
-    ensures { result ≡ is_source one.now other.now }
-{
-    match other {
-        SourceKey::Path(path) => is_path(one, path.as_str()),
-        SourceKey::Reference(n) => is_reference(one, *n as u64),
-    }
-}
-
-/// The place of a source's lines, or how many entries there are.
-pub(crate) fn place(set: &[SetLines], source: &SourceKey) -> usize
-    ensures place { result ≡ place_in set.now source.now }
-    ensures within { result ≤ length set.now }
-{
-    let mut k = 0;
-    while let Some(s) = set.get(k) {
-        if is_same(&s.source, source) {
-            return k;
+    fn lines_at(&self, place: Option<usize>) -> &[u32]
+        ensures { result.now ≡ lines_at place self.now }
+    {
+        match place {
+            None => &[],
+            Some(k) => match self.entries.get(k) {
+                None => &[],
+                Some(entry) => entry.lines.as_slice(),
+            },
         }
-        k += 1;
     }
-    k
+
+    /// The lines of the source with a path.
+    #[tactic(auto, using(crate::proofs::Setting::lines_found))]
+    pub(crate) fn of_path(&self, path: &str) -> &[u32]
+        ensures { result.now ≡ lines_in self.now (Path path.now) }
+    {
+        self.lines_at(self.place_of_path(path))
+    }
+
+    /// The lines of the source with a number.
+    #[tactic(auto, using(crate::proofs::Setting::lines_found))]
+    pub(crate) fn of_reference(&self, reference: u64) -> &[u32]
+        ensures { result.now ≡ lines_in self.now (Reference reference) }
+    {
+        self.lines_at(self.place_of_number(reference))
+    }
+
+    /// Puts an entry behind the others.
+    fn add(&mut self, alloc: Global, entry: SetLines) -> Result<(), AllocError>
+        requires { found_at entry.source self.old ≡ None }
+        ensures { OnOk result (self.new ≡ self.old ++ entry ∷ []) }
+    {
+        self.entries.reserve(1)?;
+        let place = self.entries.len();
+        match &entry.source {
+            SourceKey::Path(path) => {
+                let path = String::from_str(alloc, path.as_str())?;
+                self.paths.insert(path, place)?;
+            }
+            SourceKey::Reference(n) => {
+                self.numbers.insert(*n as u64, place)?;
+            }
+        }
+        self.entries.push(entry)?;
+        Ok(())
+    }
+
+    /// Replaces the lines of a source.
+    #[tactic(auto, using(crate::proofs::Setting::found_within, crate::proofs::Setting::replaced_at))]
+    pub(crate) fn set(
+        &mut self,
+        alloc: Global,
+        source: &SourceKey,
+        lines: &[u32],
+    ) -> Result<(), AllocError>
+        ensures { OnOk result (self.new ≡ replaced source.now lines.now self.old) }
+    {
+        let entry = entry(alloc, source, lines)?;
+        match self.place(source) {
+            None => self.add(alloc, entry),
+            Some(k) => {
+                self.entries[k] = entry;
+                Ok(())
+            }
+        }
+    }
 }
 
 fn copied_key(alloc: Global, source: &SourceKey) -> Result<SourceKey, AllocError>
@@ -93,11 +153,7 @@ fn copied_key(alloc: Global, source: &SourceKey) -> Result<SourceKey, AllocError
 }
 
 /// Lines of a source, copied.
-pub(crate) fn entry(
-    alloc: Global,
-    source: &SourceKey,
-    lines: &[u32],
-) -> Result<SetLines, AllocError>
+fn entry(alloc: Global, source: &SourceKey, lines: &[u32]) -> Result<SetLines, AllocError>
     ensures { IfOk result (λ e. e ≡ record { source = source.now; lines = lines.now }) }
 {
     let mut copy = Vec::new(alloc);

@@ -5,8 +5,7 @@ ghost use Rattle.dap_debuggee.specs.Moves.{reason_text, has_line as has_line_in,
 ghost use Rattle.dap_debuggee.specs.Played.{lines_in};
 
 use crate::answers::{Frame, How};
-use crate::lines;
-use crate::lines::SetLines;
+use crate::lines::LineTable;
 use crate::recording::{Moment, RecordedSource};
 
 /// Why a run stopped.
@@ -79,7 +78,7 @@ fn has_line(line: u32, lines: &[u32]) -> bool
 }
 
 /// Whether the line of the newest frame has a breakpoint, by the path of its source or by its number.
-fn is_at_breakpoint(moment: &Moment, sources: &[RecordedSource], set: &[SetLines]) -> bool
+fn is_at_breakpoint(moment: &Moment, sources: &[RecordedSource], set: &LineTable) -> bool
     ensures { result ≡ stands_at_breakpoint (lines_in set.now) sources.now moment.now }
 {
     let Some(frame) = top(moment) else {
@@ -87,14 +86,11 @@ fn is_at_breakpoint(moment: &Moment, sources: &[RecordedSource], set: &[SetLines
     };
     if let Some(source) = sources.get(frame.source as usize)
         && let Some(path) = &source.path
-        && has_line(frame.line, lines::of_path(set, path.as_str()))
+        && has_line(frame.line, set.of_path(path.as_str()))
     {
         return true;
     }
-    has_line(
-        frame.line,
-        lines::of_reference(set, frame.source as u64 + 1),
-    )
+    has_line(frame.line, set.of_reference(frame.source as u64 + 1))
 }
 
 /// What a move is decided by.
@@ -103,7 +99,7 @@ pub(crate) struct Plan<'r> {
     pub(crate) sources: &'r [RecordedSource],
     pub(crate) moments: &'r [Moment],
     /// The lines that are set.
-    pub(crate) set: &'r [SetLines],
+    pub(crate) set: &'r LineTable,
 }
 
 impl Plan<'_> {

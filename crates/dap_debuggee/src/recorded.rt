@@ -9,7 +9,7 @@ use crate::answers::{
     Asked, DebuggeeFault, Evaluation, Frame, Happening, How, Scope, Source, State, Thread, Variable,
 };
 use crate::debuggee::Debuggee;
-use crate::lines::SetLines;
+use crate::lines::LineTable;
 use crate::moves;
 use crate::moves::{Move, Plan, Reason};
 use crate::recording::Recording;
@@ -65,7 +65,7 @@ pub struct Recorded {
     /// The place of the moment that is shown.
     pub(crate) at: usize,
     pub(crate) going: Option<Going>,
-    pub(crate) set: Vec<SetLines>,
+    pub(crate) set: LineTable,
     pub(crate) acts: u64,
     pub(crate) last: LastAsked,
 }
@@ -83,7 +83,7 @@ impl Model for Recorded {
       state = r.state;
       at = r.at;
       run = run_of r.recording.moments r.going;
-      set = r.set.items;
+      set = r.set;
       acts = r.acts;
       last = last_of r.recording r.last;
     } };
@@ -106,7 +106,7 @@ impl Recorded {
             state: State::NotStarted,
             at: 0,
             going: None,
-            set: Vec::new(alloc),
+            set: LineTable::new(alloc),
             acts: 0,
             last: LastAsked::Never,
         }
@@ -137,7 +137,7 @@ impl Recorded {
         Plan {
             sources: self.recording.sources.as_slice(),
             moments: self.recording.moments.as_slice(),
-            set: self.set.as_slice(),
+            set: &self.set,
         }
     }
 

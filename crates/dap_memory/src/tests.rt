@@ -2,16 +2,23 @@
 
 ghost use Rattle.std.specs.Prelude.{◌≤◌};
 
-use dap_call::{Call, CallFault, Capabilities, Command, SourceKey, read_call};
+use dap_call::{Call, CallFault, Capabilities, Command, Key, SourceKey, read_call, write_call};
+use dap_debuggee::{Debuggee, DebuggeeFault, Happening, Recorded, RecordingFault};
 use dap_frame::{Cause, Fed, FrameFault, Frames, Limits, write_frame};
 use dap_json::{parse, write};
-use dap_message::{BodyFault, Kind, Message, Text, read_message, write_message};
+use dap_message::{
+    BodyFault, Breakpoint, Failure, Kind, Message, Scope, Source, StackFrame, Text, Thread,
+    Variable, body_evaluate, body_failure, body_loaded_sources, body_output, body_scopes,
+    body_set_breakpoints, body_source, body_stack_trace, body_stopped, body_threads,
+    body_variables, read_message, write_message,
+};
 use dap_tables::{Entry, Outstanding, PutFault};
 use dap_tool::{
     FileFault, FirstFault, ShowFault, ToolFault, WrapFault, fault_line, first_serve, read_whole,
     show, wrap,
 };
-use std::alloc::Global;
+use serde_json::Value;
+use std::alloc::{AllocError, Global};
 use std::io;
 use std::io::{Read, Write};
 use std::test::Fail;
@@ -359,6 +366,257 @@ fn writing_capabilities(rt: HostRuntime) -> Result<(), Fail> {
             },
             Err(_) => note(&rt)?,
         }
+    }
+    Ok(())
+}
+
+fn call(alloc: Global, command: Command, text: &[u8]) -> Option<Call> {
+    let arguments = parse(alloc, text).ok()?;
+    read_call(alloc, command, Some(&arguments)).ok()
+}
+
+/// Arguments are written as they stood, or not at all.
+#[test]
+fn writing_calls(rt: HostRuntime) -> Result<(), Fail> {
+    let rows: [(Command, &[u8]); 6] = [
+        (
+            Command::SetBreakpoints,
+            b"{\"breakpoints\":[{\"line\":2},{\"line\":9}],\"source\":{\"path\":\"/a.c\"}}",
+        ),
+        (
+            Command::SetFunctionBreakpoints,
+            b"{\"breakpoints\":[{\"name\":\"main\"},{\"name\":\"f\"}]}",
+        ),
+        (Command::Launch, b"{\"args\":[\"-v\",7],\"program\":\"/a\"}"),
+        (
+            Command::StackTrace,
+            b"{\"levels\":2,\"startFrame\":1,\"threadId\":7}",
+        ),
+        (Command::Evaluate, b"{\"expression\":\"x\",\"frameId\":3}"),
+        (Command::Next, b"{\"threadId\":1}"),
+    ];
+    for (command, text) in &rows {
+        let Some(call) = call(rt.alloc(), *command, *text) else {
+            note(&rt)?;
+            return Ok(());
+        };
+        if !call.plain() {
+            return Err(Fail::from("not plain"));
+        }
+        match write_call(rt.alloc(), &call) {
+            Ok(Some(object)) => match write(rt.alloc(), &object) {
+                Ok(written) => assert_eq!(rt; written.as_slice(), *text),
+                Err(_) => note(&rt)?,
+            },
+            Ok(None) => return Err(Fail::from("no arguments")),
+            Err(_) => note(&rt)?,
+        }
+    }
+    Ok(())
+}
+
+fn one<T>(alloc: Global, item: T) -> Result<Vec<T>, AllocError>
+where
+    T: Drop,
+{
+    let mut items = Vec::new(alloc);
+    items.push(item)?;
+    Ok(items)
+}
+
+fn source(alloc: Global) -> Result<Source, AllocError> {
+    Ok(Source {
+        name: Text::copied(alloc, "a.c")?,
+        path: Some(Text::copied(alloc, "/a.c")?),
+        source_reference: 1,
+    })
+}
+
+/// A body with one element or text, by its place among the texts below.
+fn body(alloc: Global, place: usize) -> Result<Value, AllocError> {
+    match place {
+        0 => {
+            let breakpoint = Breakpoint {
+                id: 1,
+                line: 2,
+                verified: true,
+            };
+            body_set_breakpoints(alloc, one(alloc, breakpoint)?)
+        }
+        1 => {
+            let name = Text::copied(alloc, "main")?;
+            body_threads(alloc, one(alloc, Thread { id: 1, name })?)
+        }
+        2 => {
+            let frame = StackFrame {
+                id: 1,
+                name: Text::copied(alloc, "f")?,
+                source: source(alloc)?,
+                line: 3,
+                column: 1,
+            };
+            body_stack_trace(alloc, one(alloc, frame)?, 5)
+        }
+        3 => {
+            let scope = Scope {
+                name: Text::copied(alloc, "Locals")?,
+                variables_reference: 2,
+            };
+            body_scopes(alloc, one(alloc, scope)?)
+        }
+        4 => {
+            let variable = Variable {
+                name: Text::copied(alloc, "x")?,
+                value: Text::copied(alloc, "1")?,
+                variables_reference: 0,
+            };
+            body_variables(alloc, one(alloc, variable)?)
+        }
+        5 => body_evaluate(alloc, Text::copied(alloc, "P")?, 3),
+        6 => body_source(alloc, Text::copied(alloc, "one\n")?),
+        7 => body_loaded_sources(alloc, one(alloc, source(alloc)?)?),
+        8 => body_output(
+            alloc,
+            Text::copied(alloc, "stdout")?,
+            Text::copied(alloc, "go\n")?,
+        ),
+        9 => body_stopped(alloc, Text::copied(alloc, "step")?, 1),
+        _ => body_failure(alloc, Failure::BadArguments { key: Key::ThreadId }),
+    }
+}
+
+/// A body is built whole, or not at all.
+#[test]
+fn building_bodies(rt: HostRuntime) -> Result<(), Fail> {
+    let texts = [
+        "{\"breakpoints\":[{\"id\":1,\"line\":2,\"verified\":true}]}",
+        "{\"threads\":[{\"id\":1,\"name\":\"main\"}]}",
+        "{\"stackFrames\":[{\"column\":1,\"id\":1,\"line\":3,\"name\":\"f\",\"source\":{\"name\":\"a.c\",\"path\":\"/a.c\",\"sourceReference\":1}}],\"totalFrames\":5}",
+        "{\"scopes\":[{\"expensive\":false,\"name\":\"Locals\",\"variablesReference\":2}]}",
+        "{\"variables\":[{\"name\":\"x\",\"value\":\"1\",\"variablesReference\":0}]}",
+        "{\"result\":\"P\",\"variablesReference\":3}",
+        "{\"content\":\"one\\n\"}",
+        "{\"sources\":[{\"name\":\"a.c\",\"path\":\"/a.c\",\"sourceReference\":1}]}",
+        "{\"category\":\"stdout\",\"output\":\"go\\n\"}",
+        "{\"allThreadsStopped\":true,\"reason\":\"step\",\"threadId\":1}",
+        "{\"error\":{\"format\":\"The argument threadId is missing or malformed.\",\"id\":1005}}",
+    ];
+    for (place, text) in texts.iter().enumerate() {
+        match body(rt.alloc(), place) {
+            Ok(body) => match write(rt.alloc(), &body) {
+                Ok(written) => assert_eq!(rt; written.as_slice(), text.as_bytes()),
+                Err(_) => note(&rt)?,
+            },
+            Err(_) => note(&rt)?,
+        }
+    }
+    Ok(())
+}
+
+static RECORDING: &[u8; 301] =
+    b"{\"exit\":0,\"sources\":[{\"name\":\"a.c\",\"path\":\"/a.c\",\"text\":\"one\\ntwo\\n\"}],\"moments\":[{\"thread\":1,\"output\":\"go\\n\",\"threads\":[{\"id\":1,\"name\":\"main\",\"frames\":[{\"name\":\"main\",\"source\":0,\"line\":1,\"scopes\":[{\"name\":\"Locals\",\"variables\":[{\"name\":\"p\",\"value\":\"P\",\"variables\":[{\"name\":\"a\",\"value\":\"7\"}]}]}]}]}]}]}";
+
+fn recorded(rt: &HostRuntime) -> Result<Option<Recorded>, Fail> {
+    match Recorded::read(rt.alloc(), RECORDING) {
+        Ok(recorded) => Ok(Some(recorded)),
+        Err(fault) => {
+            if fault != RecordingFault::OutOfMemory {
+                return Err(Fail::from("no recording"));
+            }
+            note(rt)?;
+            Ok(None)
+        }
+    }
+}
+
+/// What runs writes and stops, or a poll was refused memory; then no more is asked of it.
+#[test]
+fn playing(rt: HostRuntime) -> Result<(), Fail> {
+    let Some(mut debuggee) = recorded(&rt)? else {
+        return Ok(());
+    };
+    let source = SourceKey::Reference(1);
+    match debuggee.set_breakpoints(rt.alloc(), &source, &[1, 2]) {
+        Ok(()) => {}
+        Err(_) => {
+            note(&rt)?;
+            return Ok(());
+        }
+    }
+    assert_eq!(rt; debuggee.start(rt.alloc()), Ok(()));
+    for wanted in ["go\n", "entry"] {
+        match debuggee.poll(rt.alloc()) {
+            Ok(Happening::Output { text, .. }) => assert_eq!(rt; text.as_str(), wanted),
+            Ok(Happening::Stopped { reason, thread }) => {
+                assert_eq!(rt; (reason.as_str(), thread), (wanted, 1));
+            }
+            Ok(_) => return Err(Fail::from("something else happened")),
+            Err(_) => {
+                note(&rt)?;
+                return Ok(());
+            }
+        }
+    }
+    Ok(())
+}
+
+/// Notes want of memory; any other fault of a query fails the test.
+fn unanswered(rt: &HostRuntime, fault: DebuggeeFault) -> Result<(), Fail> {
+    match fault {
+        DebuggeeFault::OutOfMemory => Ok(note(rt)?),
+        DebuggeeFault::Refused => Err(Fail::from("refused")),
+    }
+}
+
+/// A query is answered whole, or not at all.
+#[test]
+fn asking_a_debuggee(rt: HostRuntime) -> Result<(), Fail> {
+    let alloc = rt.alloc();
+    let Some(debuggee) = recorded(&rt)? else {
+        return Ok(());
+    };
+    match debuggee.scopes(alloc, 0) {
+        Ok(scopes) => assert_eq!(rt; scopes.len(), 1),
+        Err(fault) => unanswered(&rt, fault)?,
+    }
+    match debuggee.children(alloc, 1) {
+        Ok(variables) => assert_eq!(rt; variables.len(), 1),
+        Err(fault) => unanswered(&rt, fault)?,
+    }
+    match debuggee.evaluate(alloc, Some(0), "p") {
+        Ok(value) => assert_eq!(rt; (value.value.as_str(), value.holder), ("P", Some(0))),
+        Err(fault) => unanswered(&rt, fault)?,
+    }
+    match debuggee.sources(alloc) {
+        Ok(sources) => assert_eq!(rt; sources.len(), 1),
+        Err(_) => note(&rt)?,
+    }
+    match debuggee.content(alloc, 0) {
+        Ok(text) => assert_eq!(rt; text.as_str(), "one\ntwo\n"),
+        Err(fault) => unanswered(&rt, fault)?,
+    }
+    match debuggee.verify(alloc, &SourceKey::Reference(1), &[2, 3]) {
+        Ok(answers) => assert_eq!(rt; answers.as_slice(), [true, false].as_slice()),
+        Err(fault) => unanswered(&rt, fault)?,
+    }
+    Ok(())
+}
+
+/// Threads and frames of what was started, or none.
+#[test]
+fn asking_for_threads(rt: HostRuntime) -> Result<(), Fail> {
+    let alloc = rt.alloc();
+    let Some(mut debuggee) = recorded(&rt)? else {
+        return Ok(());
+    };
+    assert_eq!(rt; debuggee.start(alloc), Ok(()));
+    match debuggee.threads(alloc) {
+        Ok(threads) => assert_eq!(rt; threads.len(), 1),
+        Err(_) => note(&rt)?,
+    }
+    match debuggee.frames(alloc, 1) {
+        Ok(frames) => assert_eq!(rt; frames.len(), 1),
+        Err(fault) => unanswered(&rt, fault)?,
     }
     Ok(())
 }
