@@ -9,3 +9,4 @@ pub mod Played
 pub mod Held
 pub mod PlayedLaws
 pub mod Stubborn
+pub mod Polls

@@ -61,9 +61,9 @@ lines_in (s ∷ set) key = if is_source s.source key then s.lines else lines_in 
 abbrev pub is_boundary : List ℕ → ℕ → Bool
 is_boundary text n = nat_le (length text) n || (nat_lt (slice_index text n) 128 || nat_le 192 (slice_index text n))
 
--- the greatest such place up to n
+-- the greatest such place from 1 to n; all 128 bytes where there is none, as in no text, whose characters have 4 at most
 abbrev pub boundary_up_to : List ℕ → ℕ → ℕ
-boundary_up_to text zero = 0
+boundary_up_to text zero = 128
 boundary_up_to text (suc n) = if is_boundary text (suc n) then suc n else boundary_up_to text n
 
 -- the length of the first piece: at most 128 bytes, whole characters

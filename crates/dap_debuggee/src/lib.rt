@@ -8,6 +8,7 @@
 mod acts;
 mod answers;
 mod debuggee;
+mod laws;
 mod lines;
 mod list;
 mod moves;
@@ -26,6 +27,7 @@ pub use answers::{
     Thread, Variable,
 };
 pub use debuggee::Debuggee;
+pub use laws::{held_gives_nothing, pieces_are_the_output, polls_tell_the_pieces};
 pub use list::List;
 pub use reading::{RecordingFault, RecordingKey};
 pub use recorded::Recorded;

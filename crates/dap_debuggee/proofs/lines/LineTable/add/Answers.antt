@@ -17,27 +17,27 @@ invariant_of-self-2 c =
     let place = c.len-place.result in
     let placed : place ≡ length set = search rules in
     elim c.match-entry-2.branch [
-      in-Path+in_ok-path-in-Path+in_ok-insert-in-Path w ↦
-        let path = w.in-Path.path in
-        let key = w.in_ok-path-in-Path.path in
-        let is : entry.source ≡ Path path = search rules in
-        let none : found_at (Path path) set ≡ None = search rules in
-        let bytes : string_bytes key ≡ path = search rules in
-        let inserted = btree_map_updates_text (string_bytes key) old.paths w.insert.new.self (Some place) w.in_ok-insert-in-Path.ensures.updates in
-        let updates : (other : List ℕ) → get_by_text w.insert.new.self other ≡ cond (bytes_eq path other) (Some (length set)) (get_by_text old.paths other) =
-        λ other. inserted other ∙ ap (λ bs. cond (bytes_eq bs other) (Some place) (get_by_text old.paths other)) bytes ∙ ap (λ n. cond (bytes_eq path other) (Some n) (get_by_text old.paths other)) placed in
-        let items : c.push.new.self.items ≡ set ++ entry ∷ [] = search rules in
-        let added = path_added old.paths w.insert.new.self old.numbers set path entry.lines c.self.invariant none updates in
-        subst (λ inside. HasPlaces inside.paths inside.numbers c.push.new.self.items) (sym w.self-inside-is)
-        (subst (HasPlaces w.insert.new.self old.numbers) (ap (λ source. set ++ record { source = source; lines = entry.lines } ∷ []) (sym is) ∙ sym items) added)
+      | in-Path+in_ok-path-in-Path+in_ok-insert-in-Path w ↦
+          let path = w.in-Path.path in
+          let key = w.in_ok-path-in-Path.path in
+          let is : entry.source ≡ Path path = search rules in
+          let none : found_at (Path path) set ≡ None = search rules in
+          let bytes : string_bytes key ≡ path = search rules in
+          let inserted = btree_map_updates_text (string_bytes key) old.paths w.insert.new.self (Some place) w.in_ok-insert-in-Path.ensures.updates in
+          let updates : (other : List ℕ) → get_by_text w.insert.new.self other ≡ cond (bytes_eq path other) (Some (length set)) (get_by_text old.paths other) =
+          λ other. inserted other ∙ ap (λ bs. cond (bytes_eq bs other) (Some place) (get_by_text old.paths other)) bytes ∙ ap (λ n. cond (bytes_eq path other) (Some n) (get_by_text old.paths other)) placed in
+          let items : c.push.new.self.items ≡ set ++ entry ∷ [] = search rules in
+          let added = path_added old.paths w.insert.new.self old.numbers set path entry.lines c.self.invariant none updates in
+          subst (λ inside. HasPlaces inside.paths inside.numbers c.push.new.self.items) (sym w.self-inside-is)
+          (subst (HasPlaces w.insert.new.self old.numbers) (ap (λ source. set ++ record { source = source; lines = entry.lines } ∷ []) (sym is) ∙ sym items) added)
       | in-Reference+in_ok-insert-in-Reference w ↦
-        let n = w.in-Reference.n in
-        let is : entry.source ≡ Reference n = search rules in
-        let none : found_at (Reference n) set ≡ None = search rules in
-        let updates : (other : ℕ) → get nat_cmp w.insert-in-Reference.new.self other ≡ cond (n == other) (Some (length set)) (get nat_cmp old.numbers other) =
-        λ other. w.in_ok-insert-in-Reference.ensures.updates.0 other ∙ ap (λ b. cond b (Some place) (get nat_cmp old.numbers other)) (unsigned_tied n other) ∙ ap (λ k. cond (n == other) (Some k) (get nat_cmp old.numbers other)) placed in
-        let items : c.push.new.self.items ≡ set ++ entry ∷ [] = search rules in
-        let added = number_added old.paths old.numbers w.insert-in-Reference.new.self set n entry.lines c.self.invariant none updates in
-        subst (λ inside. HasPlaces inside.paths inside.numbers c.push.new.self.items) (sym w.self-inside-is)
-        (subst (HasPlaces old.paths w.insert-in-Reference.new.self) (ap (λ source. set ++ record { source = source; lines = entry.lines } ∷ []) (sym is) ∙ sym items) added)
+          let n = w.in-Reference.n in
+          let is : entry.source ≡ Reference n = search rules in
+          let none : found_at (Reference n) set ≡ None = search rules in
+          let updates : (other : ℕ) → get nat_cmp w.insert-in-Reference.new.self other ≡ cond (n == other) (Some (length set)) (get nat_cmp old.numbers other) =
+          λ other. w.in_ok-insert-in-Reference.ensures.updates.0 other ∙ ap (λ b. cond b (Some place) (get nat_cmp old.numbers other)) (unsigned_tied n other) ∙ ap (λ k. cond (n == other) (Some k) (get nat_cmp old.numbers other)) placed in
+          let items : c.push.new.self.items ≡ set ++ entry ∷ [] = search rules in
+          let added = number_added old.paths old.numbers w.insert-in-Reference.new.self set n entry.lines c.self.invariant none updates in
+          subst (λ inside. HasPlaces inside.paths inside.numbers c.push.new.self.items) (sym w.self-inside-is)
+          (subst (HasPlaces old.paths w.insert-in-Reference.new.self) (ap (λ source. set ++ record { source = source; lines = entry.lines } ∷ []) (sym is) ∙ sym items) added)
     ]
