@@ -12,7 +12,7 @@ use Rattle.serde_json.specs.Find.{as_number, as_u64, as_i64, as_str, as_bool, as
 use Rattle.dap_json.specs.Field.{if_passes}
 use Rattle.dap_call.specs.Argument.{is_int, int_of, number_of}
 use Rattle.dap_debuggee.specs.Laws.{is_frame}
-use Rattle.dap_debuggee.specs.Reading.{Read, ◌>>=◌, ◌>>◌, or_bad, required, optional, optional_or, element, value_at, some_items, few_items, exit_of, line_of, source_place, lines_at, place_of, new_id, thread_place, Numbered, each, each_source, scopes_of, frame_of, thread_of, moment_of, moments_of, source_of, recording_of}
+use Rattle.dap_debuggee.specs.Reading.{Read, or_bad, required, optional, optional_or, element, value_at, some_items, few_items, exit_of, line_of, source_place, lines_at, place_of, new_id, thread_place, Numbered, each, each_source, scopes_of, frame_of, thread_of, moment_of, moments_of, source_of, recording_of}
 use Rattle.dap_debuggee.specs.Recording.{IsRecording, line_count, is_thread, is_moment, is_rising, are_distinct}
 use Rattle.dap_debuggee.specs.declared.answers.Frame.{Frame}
 use Rattle.dap_debuggee.specs.declared.reading.RecordingKey.{RecordingKey}
@@ -21,26 +21,13 @@ use Rattle.dap_debuggee.specs.declared.recording.RecordedSource.{RecordedSource}
 use Rattle.dap_debuggee.specs.declared.recording.RecordedThread.{RecordedThread}
 use Rattle.dap_debuggee.specs.declared.recording.Moment.{Moment}
 use Rattle.dap_debuggee.specs.declared.recording.Recording.{Recording}
+use Rattle.dap_debuggee.proofs.ReadSteps.{ok_same, then_ok, bind_ok, with_ok, each_holds}
+use Rattle.dap_debuggee.proofs.HoldersRead.{holders_once}
 
 -- ---- what was read, step by step
 
 some_same : {A : Type 0} (x y : A) → Some x ≡ Some y → x ≡ y
 some_same x y e = cc
-
-ok_same : {A : Type 0} (x y : A) → ◌≡◌ {A = Read A} (Ok x) (Ok y) → x ≡ y
-ok_same x y e = cc
-
-then_ok : {B : Type 0} (r : Read (Unit {0})) (next : Read B) (y : B) → (r >> next) ≡ Ok y → next ≡ Ok y
-then_ok (Ok x) next y e = e
-then_ok (Err k) next y e = absurd (cc e)
-
-bind_ok : {A B : Type 0} (r : Read A) (f : A → Read B) (y : B) → (r >>= f) ≡ Ok y → (x : A) × (r ≡ Ok x) × (f x ≡ Ok y)
-bind_ok (Ok x) f y e = (x, refl, e)
-bind_ok (Err k) f y e = absurd (cc e)
-
-with_ok : {A B : Type 0} {C : Type 0} (r : Read A) (f : A → Read B) (y : B) → (r >>= f) ≡ Ok y → ((x : A) → r ≡ Ok x → f x ≡ Ok y → C) → C
-with_ok (Ok x) f y e go = go x refl e
-with_ok (Err k) f y e go = absurd (cc e)
 
 bad_is : {A : Type 0} (k : RecordingKey) (o : Option A) (x : A) → or_bad k o ≡ Ok x → o ≡ Some x
 bad_is k None x e = absurd (cc e)
@@ -78,15 +65,6 @@ few_count k d ds e =
     subst (λ es. items_len es ≤ 65536) p.1 (leb-true (items_len b.0) 65536 p.0)
 
 -- ---- elements
-
--- what holds of those so far, and is kept by one more, holds of all
-each_holds : {A S : Type 0} (one : List A → Data → S → Read (A × S)) (P : List A × S → Type 0)
-    → ((found : List A) (s : S) (d : Data) (next : A × S) → one found d s ≡ Ok next → P (found, s) → P (found ++ next.0 ∷ [], next.1))
-    → (ds : Items) (found : List A) (s : S) (r : List A × S) → each one ds found s ≡ Ok r → P (found, s) → P r
-each_holds one P step no_items found s r e p = subst P (ok_same (found, s) r e) p
-each_holds one P step (item d ds) found s r e p =
-    let b = bind_ok (one found d s) (λ next. each one ds (found ++ next.0 ∷ []) next.1) r e in
-    each_holds one P step ds (found ++ b.0.0 ∷ []) b.0.1 r b.2 (step found s d b.0 b.1 p)
 
 each_count : {A S : Type 0} (one : List A → Data → S → Read (A × S)) (ds : Items) (found : List A) (s : S) (r : List A × S) → each one ds found s ≡ Ok r → length r.0 ≡ length found + items_len ds
 each_count one no_items found s r e = let same : length found ≡ length r.0 = ap (λ p. length p.0) (ok_same (found, s) r e) in omega (arith, same)
@@ -329,4 +307,5 @@ is_read d r e =
       lines = counted.0;
       some = omega (arith, count, least);
       moments = all;
+      holders = λ n. holders_once sources given moments read n;
     }))))))

@@ -4,7 +4,7 @@ use Rattle.dap_call.specs.declared.call.SourceKey.{SourceKey}
 use Rattle.dap_call.specs.declared.call.SourceKey.TheVariants.{Path, Reference}
 use Rattle.dap_debuggee.specs.Shown.{Reply, to_start, to_resume, to_pause, to_poll, to_set_breakpoints, to_end, done, refused, happened, category_name, remembered}
 use Rattle.dap_debuggee.specs.Laws.{may_answer, state_after, lines_after, is_source, keeps_answers, keeps_frames, is_code, is_short, is_frame}
-use Rattle.dap_debuggee.specs.Recording.{line_count, is_rising, are_distinct, is_moment, depth, top, id_at, objects}
+use Rattle.dap_debuggee.specs.Recording.{line_count, is_rising, are_distinct, is_moment, depth, top, id_at, objects, holders_of}
 use Rattle.dap_debuggee.specs.declared.answers.State.TheVariants.{NotStarted, Running, Stopped, Gone}
 use Rattle.dap_debuggee.specs.declared.answers.How.TheVariants.{Next, Continue}
 use Rattle.dap_debuggee.specs.declared.answers.Asked.TheVariants as remembers
@@ -13,6 +13,7 @@ use Rattle.dap_debuggee.specs.declared.answers.Frame.{Frame}
 use Rattle.dap_debuggee.specs.declared.answers.Happening.TheVariants.{Nothing, Output, Stopped as StoppedBy, Continued, Exited}
 use Rattle.dap_debuggee.specs.declared.recording.Moment.{Moment}
 use Rattle.dap_debuggee.specs.declared.recording.RecordedThread.{RecordedThread}
+use Rattle.dap_debuggee.proofs.ThreeMoments.{three_moments}
 
 abbrev wrote : Reply
 wrote = happened (Output Stdout (codes "x"))
@@ -116,3 +117,7 @@ parts = (refl, refl, refl, refl)
 
 moments : (is_moment 1 two ≡ true) × (is_moment 0 two ≡ false) × (is_moment 1 (moment 2 two.threads) ≡ false) × (is_moment 1 (moment 0 (thread 7 [] ∷ [])) ≡ false) × (is_moment 1 (moment 0 (thread 7 (frame 3 0 1 ∷ []) ∷ thread 8 (frame 3 0 1 ∷ []) ∷ [])) ≡ false) × (is_moment 1 (moment 0 []) ≡ false)
 moments = (refl, refl, refl, refl, refl, refl)
+
+-- the number of a scope, and then that of a variable
+holders : holders_of three_moments ≡ 1 ∷ 0 ∷ []
+holders = refl

@@ -1,11 +1,14 @@
 -- What holds of every recording, and what a moment of it is.
 -- The format is this profile's own.
-use Rattle.std.specs.Prelude.{ℕ, suc, ◌≤◌, ◌<◌, ℤ, pos, Bool, true, ◌&&◌, nat_lt, nat_eq, not, List, [], ◌∷◌, length, map, Option, option_map, option_and_then, unwrap_or, IsTrue, if◌then◌else◌}
-use Rattle.std.specs.List.{list_all, slice_get, flat_map}
+use Rattle.std.specs.Prelude.{ℕ, suc, ◌≤◌, ◌<◌, ℤ, pos, Bool, true, ◌&&◌, nat_lt, nat_eq, not, List, [], ◌∷◌, ◌++◌, length, map, Option, option_map, option_and_then, unwrap_or, IsTrue, if◌then◌else◌}
+use Rattle.std.specs.List.{list_all, slice_get, flat_map, count_by}
+use Rattle.std.specs.Option.{option_to_list}
 use Rattle.std.specs.Ordering.{int_eq}
 use Rattle.dap_call.specs.Argument.{is_int}
 use Rattle.dap_debuggee.specs.Laws.{is_frame}
 use Rattle.dap_debuggee.specs.declared.answers.Frame.{Frame}
+use Rattle.dap_debuggee.specs.declared.answers.Scope.{Scope}
+use Rattle.dap_debuggee.specs.declared.answers.Variable.{Variable}
 use Rattle.dap_debuggee.specs.declared.recording.RecordedThread.{RecordedThread}
 use Rattle.dap_debuggee.specs.declared.recording.Moment.{Moment}
 use Rattle.dap_debuggee.specs.declared.recording.Recording.{Recording}
@@ -58,9 +61,21 @@ is_thread sources thread = is_int thread.id && (nat_lt 0 (length thread.frames) 
 abbrev pub is_moment : ℕ → Moment → Bool
 is_moment sources m = nat_lt m.thread (length m.threads) && (list_all (is_thread sources) m.threads && (are_distinct m.threads && is_rising (objects m)))
 
+-- the numbers of holders: those of scopes, those of variables that have one, and both
+abbrev pub holders_of_scopes : List Scope → List ℕ
+holders_of_scopes scopes = map (λ scope. scope.holder) scopes
+
+abbrev pub holders_of_variables : List Variable → List ℕ
+holders_of_variables variables = flat_map (λ variable. option_to_list variable.holder) variables
+
+abbrev pub holders_of : Recording → List ℕ
+holders_of r = flat_map holders_of_scopes r.scopes ++ flat_map holders_of_variables r.variables
+
 -- what holds of every recording
 pub record IsRecording (r : Recording) : Type 0 where
   pub sources : length r.sources ≤ 65536
   pub lines : IsTrue (list_all (λ source. nat_eq source.lines (line_count source.text)) r.sources)
   pub some : 0 < length r.moments
   pub moments : IsTrue (list_all (is_moment (length r.sources)) r.moments)
+  -- no number is that of two scopes or variables
+  pub holders : (n : ℕ) → count_by (nat_eq n) (holders_of r) ≤ 1

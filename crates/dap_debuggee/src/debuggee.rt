@@ -18,7 +18,7 @@ use std::alloc::{AllocError, Global};
 pub trait Debuggee {
     ghost use Rattle.std.specs.Prelude.{◌≡◌, IfOk, OnOk, IsTrue};
     ghost use Rattle.dap_debuggee.specs.Shown.{Shown, Act, Reply, to_start, to_resume, to_pause, to_poll, to_set_breakpoints, to_end, done, happened};
-    ghost use Rattle.dap_debuggee.specs.Laws.{Replies, Tells, Counts, Remembers, Answers, Moves, SetsLines, KeepsAnswers, KeepsFrames, KeepsSources, is_short, NoThreads, ThreadsInRange, FramesInRange, NamesOneFrame, SourcesInRange, VerifiesEach};
+    ghost use Rattle.dap_debuggee.specs.Laws.{Replies, Tells, Counts, Remembers, Answers, Moves, SetsLines, KeepsAnswers, KeepsFrames, KeepsSources, is_short, NoThreads, ThreadsInRange, FramesInRange, NamesOneFrame, NamesOneHolder, SourcesInRange, VerifiesEach};
 
     /// What a view shows.
     ghost shown: { Self → Shown };
@@ -69,11 +69,13 @@ pub trait Debuggee {
 
     /// The scopes of a frame.
     fn scopes(&self, alloc: Global, frame: u64) -> Result<Vec<Scope>, DebuggeeFault>
-        ensures { Tells result (λ scopes. scopes.items) ((shown self.now).scopes frame) };
+        ensures scopes { Tells result (λ scopes. scopes.items) ((shown self.now).scopes frame) }
+        ensures one_name { NamesOneHolder (shown self.now) };
 
     /// The variables of a holder.
     fn children(&self, alloc: Global, holder: u64) -> Result<Vec<Variable>, DebuggeeFault>
-        ensures { Tells result (λ children. children.items) ((shown self.now).children holder) };
+        ensures children { Tells result (λ children. children.items) ((shown self.now).children holder) }
+        ensures one_name { NamesOneHolder (shown self.now) };
 
     /// The value of a text, in a frame or in none.
     fn evaluate(

@@ -232,10 +232,12 @@ impl Debuggee for Recorded {
     }
 
     fn scopes(&self, alloc: Global, frame: u64) -> Result<Vec<Scope>, DebuggeeFault> {
+        self.is_recording();
         self.scopes_of(alloc, frame)
     }
 
     fn children(&self, alloc: Global, holder: u64) -> Result<Vec<Variable>, DebuggeeFault> {
+        self.is_recording();
         self.children_of(alloc, holder)
     }
 
