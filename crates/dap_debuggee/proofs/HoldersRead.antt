@@ -201,7 +201,7 @@ moment_numbers n sources d s r e p =
     with_ok (required (thread_place threads.0) key.Thread d) _ r e2 (λ thread placed e3.
     with_ok (optional_or as_str [] key.Output d) _ r e3 (λ output written e4.
     with_ok (optional_or as_bool false key.Waits d) _ r e4 (λ waits held e5.
-    subst (λ (x : Moment × Numbered). NumbersAll n x.1) (ok_same (record { threads = threads.0; thread = thread; output = output; waits = waits }, threads.1) r e5)
+    subst (λ (x : Moment × Numbered). NumbersAll n x.1) (ok_same (record { threads = threads.0; thread = thread; output = output; waits = waits; frames = record { from = length s.scopes; to = length threads.1.scopes }; holders = record { from = length s.variables; to = length threads.1.variables } }, threads.1) r e5)
     (each_holds (thread_of sources) (λ x. NumbersAll n x.1) (λ found t x next is q. thread_numbers n sources found x t next is q) given [] s threads read p))))))
 
 all_once : (n : ℕ) (s : Numbered) → NumbersAll n s → count_by (nat_eq n) (flat_map holders_of_scopes s.scopes ++ flat_map holders_of_variables s.variables) ≤ 1

@@ -255,7 +255,7 @@ moment_holds sources d s next e =
     with_ok (optional_or as_bool false key.Waits d) _ next e4 (λ waits held e5.
     let first : ThreadsHold (length sources) ([], s) = record { threads = refl; distinct = refl; numbers = record { rises = refl; below = refl } } in
     let all = each_holds (thread_of sources) (ThreadsHold (length sources)) (thread_holds sources) given [] s threads read first in
-    subst (λ n. is_moment (length sources) n.0 ≡ true) (ok_same (record { threads = threads.0; thread = thread; output = output; waits = waits }, threads.1) next e5)
+    subst (λ n. is_moment (length sources) n.0 ≡ true) (ok_same (record { threads = threads.0; thread = thread; output = output; waits = waits; frames = record { from = length s.scopes; to = length threads.1.scopes }; holders = record { from = length s.variables; to = length threads.1.variables } }, threads.1) next e5)
     (both (nat_lt thread (length threads.0)) (list_all (is_thread (length sources)) threads.0 && (are_distinct threads.0 && is_rising (numbers_in threads.0)))
     (lt-ltb thread (length threads.0) (thread_within threads.0 d thread placed))
     (both (list_all (is_thread (length sources)) threads.0) (are_distinct threads.0 && is_rising (numbers_in threads.0)) all.threads (both (are_distinct threads.0) (is_rising (numbers_in threads.0)) all.distinct all.numbers.rises))))))))

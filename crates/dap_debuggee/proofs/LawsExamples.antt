@@ -106,7 +106,7 @@ distinct : (are_distinct (thread 1 [] ∷ thread 2 [] ∷ []) ≡ true) × (are_
 distinct = (refl, refl)
 
 abbrev moment : ℕ → List RecordedThread → Moment
-moment place threads = record { threads = threads; thread = place; output = []; waits = false }
+moment place threads = record { threads = threads; thread = place; output = []; waits = false; frames = record { from = 0; to = 0 }; holders = record { from = 0; to = 0 } }
 
 -- two threads, and the second one stands here
 abbrev two : Moment

@@ -21,7 +21,7 @@ frame line = record { object = 0; name = codes "f"; source = 0; line = line }
 
 -- the lines of its frames, the newest first
 abbrev moment : Bool → List ℕ → Moment
-moment waits lines = record { threads = record { id = pos 1; name = codes "main"; frames = map frame lines } ∷ []; thread = 0; output = []; waits = waits }
+moment waits lines = record { threads = record { id = pos 1; name = codes "main"; frames = map frame lines } ∷ []; thread = 0; output = []; waits = waits; frames = record { from = 0; to = 0 }; holders = record { from = 0; to = 0 } }
 
 abbrev moments : List Moment
 moments =
@@ -98,7 +98,7 @@ reverse_to_the_first = (refl, refl, refl)
 
 -- its second thread stands there, two frames deep
 abbrev two_threads : Moment
-two_threads = record { threads = record { id = pos 7; name = codes "a"; frames = map frame (1 ∷ []) } ∷ record { id = pos 9; name = codes "b"; frames = map frame (4 ∷ 3 ∷ []) } ∷ []; thread = 1; output = []; waits = false }
+two_threads = record { threads = record { id = pos 7; name = codes "a"; frames = map frame (1 ∷ []) } ∷ record { id = pos 9; name = codes "b"; frames = map frame (4 ∷ 3 ∷ []) } ∷ []; thread = 1; output = []; waits = false; frames = record { from = 0; to = 0 }; holders = record { from = 0; to = 0 } }
 
 of_two_threads : (move_of sources (two_threads ∷ moment false (1 ∷ 1 ∷ []) ∷ []) (lines_in []) Next 0 ≡ to 1 Step) × (move_of sources (moment false (1 ∷ []) ∷ two_threads ∷ []) (lines_in []) Next 0 ≡ to 2 Step) × (move_of sources (moment false (1 ∷ []) ∷ two_threads ∷ []) (lines_in (by_path (4 ∷ []))) Continue 0 ≡ to 1 Breakpoint) × (move_of sources (moment false (1 ∷ []) ∷ two_threads ∷ []) (lines_in (by_path (1 ∷ []))) Continue 0 ≡ to 2 Breakpoint)
 of_two_threads = (refl, refl, refl, refl)
@@ -106,7 +106,7 @@ of_two_threads = (refl, refl, refl, refl)
 -- ---- two sources of one path
 
 abbrev in_second : Moment
-in_second = record { threads = record { id = pos 1; name = codes "main"; frames = record { object = 0; name = codes "f"; source = 1; line = 4 } ∷ [] } ∷ []; thread = 0; output = []; waits = false }
+in_second = record { threads = record { id = pos 1; name = codes "main"; frames = record { object = 0; name = codes "f"; source = 1; line = 4 } ∷ [] } ∷ []; thread = 0; output = []; waits = false; frames = record { from = 0; to = 0 }; holders = record { from = 0; to = 0 } }
 
 abbrev from_first : List SetLines → Move
 from_first set = move_of (record { name = codes "a"; path = Some (codes "/a.c"); text = codes "\n\n\n"; lines = 3 } ∷ record { name = codes "b"; path = Some (codes "/a.c"); text = codes "\n\n\n\n"; lines = 4 } ∷ []) (moment false (1 ∷ []) ∷ in_second ∷ []) (lines_in set) Continue 0

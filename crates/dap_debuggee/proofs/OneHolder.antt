@@ -1,12 +1,14 @@
 -- Each number of a holder is that of one scope or of one variable of what a recording shows.
-use Rattle.std.proofs.Common.{◌≡◌, ◌≤◌, ◌+◌, ◌⊎◌, inl, inr, arith, map, cond, ℕ, zero, suc, nat_eq, List, [], ◌∷◌, Option, Some, eq-eqb, refl, sym, ap, ◌∙◌, subst}
+use Rattle.std.proofs.Common.{◌≡◌, ◌≤◌, ◌+◌, ◌⊎◌, inl, inr, arith, map, Bool, true, false, if◌then◌else◌, cond, ℕ, zero, suc, nat_eq, List, [], ◌∷◌, Option, Some, None, eq-eqb, refl, sym, ap, ◌∙◌, subst}
 use Rattle.std.proofs.lemmas.List.Sums.{sum_by-cons, sum_by-append}
 use Rattle.std.specs.List.{slice_get, flat_map, sum_by, count_by}
 use Rattle.std.specs.Option.{option_to_list}
 use Rattle.dap_debuggee.specs.declared.answers.Scope.{Scope}
 use Rattle.dap_debuggee.specs.declared.answers.Variable.{Variable}
 use Rattle.dap_debuggee.specs.Laws.{NamesOneHolder}
-use Rattle.dap_debuggee.specs.Played.{Played, shown_of}
+use Rattle.dap_debuggee.specs.Played.{Played, shown_of, moment_shown, is_in, within}
+use Rattle.dap_debuggee.specs.declared.recording.Moment.{Moment}
+use Rattle.dap_debuggee.specs.declared.recording.Span.{Span}
 use Rattle.dap_debuggee.specs.Recording.{IsRecording, holders_of_scopes, holders_of_variables}
 use Rattle.dap_debuggee.proofs.Ranges.{some_same}
 
@@ -92,14 +94,29 @@ one_place {A} g w n xss f k i j xs ys x y weighs once at_xs at_ys at_x at_y of_x
 count_both : (n : ℕ) (v : Played) → IsRecording v.recording → count_by (nat_eq n) (flat_map holders_of_scopes v.recording.scopes) + count_by (nat_eq n) (flat_map holders_of_variables v.recording.variables) ≤ 1
 count_both n v good = omega (arith, sum_by-append (is_it n) (flat_map holders_of_scopes v.recording.scopes) (flat_map holders_of_variables v.recording.variables), good.holders n)
 
+in_recording_by : {A : Type 0} (b : Bool) (found : Option A) (x : A) → (if b then found else None) ≡ Some x → found ≡ Some x
+in_recording_by true found x e = e
+in_recording_by false found x e = absurd (cc e)
+
+-- what is shown by a number stands in the recording by it
+in_recording : {A : Type 0} (span : Moment → Span) (m : Option Moment) (n : ℕ) (found : Option A) (x : A) → within span m n found ≡ Some x → found ≡ Some x
+in_recording span None n found x e = absurd (cc e)
+in_recording span (Some m) n found x e = in_recording_by (is_in (span m) n) found x e
+
+scopes_recorded : (v : Played) (f : ℕ) (ss : List Scope) → (shown_of v).scopes f ≡ Some ss → slice_get v.recording.scopes f ≡ Some ss
+scopes_recorded v f ss e = in_recording (λ m. m.frames) (moment_shown v) f (slice_get v.recording.scopes f) ss e
+
+children_recorded : (v : Played) (h : ℕ) (xs : List Variable) → (shown_of v).children h ≡ Some xs → slice_get v.recording.variables h ≡ Some xs
+children_recorded v h xs e = in_recording (λ m. m.holders) (moment_shown v) h (slice_get v.recording.variables h) xs e
+
 pub names_one_holder : (v : Played) → IsRecording v.recording → NamesOneHolder (shown_of v)
 names_one_holder v good = record {
   scopes = λ f g ss ts i j s t of_f of_g at_s at_t same.
-      one_place holders_of_scopes (λ (x : Scope). is_it t.holder x.holder) t.holder v.recording.scopes f g i j ss ts s t (count_in_scopes t.holder) (omega (arith, count_both t.holder v good)) of_f of_g at_s at_t (it_is t.holder s.holder same) (it_is t.holder t.holder refl);
+      one_place holders_of_scopes (λ (x : Scope). is_it t.holder x.holder) t.holder v.recording.scopes f g i j ss ts s t (count_in_scopes t.holder) (omega (arith, count_both t.holder v good)) (scopes_recorded v f ss of_f) (scopes_recorded v g ts of_g) at_s at_t (it_is t.holder s.holder same) (it_is t.holder t.holder refl);
   variables = λ h k xs ys i j x y n of_h of_k at_x at_y is_x is_y.
-      one_place holders_of_variables (λ (z : Variable). count_by (nat_eq n) (option_to_list z.holder)) n v.recording.variables h k i j xs ys x y (count_in_variables n) (omega (arith, count_both n v good)) of_h of_k at_x at_y (it_is_given n x.holder is_x) (it_is_given n y.holder is_y);
+      one_place holders_of_variables (λ (z : Variable). count_by (nat_eq n) (option_to_list z.holder)) n v.recording.variables h k i j xs ys x y (count_in_variables n) (omega (arith, count_both n v good)) (children_recorded v h xs of_h) (children_recorded v k ys of_k) at_x at_y (it_is_given n x.holder is_x) (it_is_given n y.holder is_y);
   apart = λ f h ss xs i j s x of_f of_h at_s at_x same.
-      let scope = among holders_of_scopes (λ (y : Scope). is_it s.holder y.holder) s.holder v.recording.scopes f i ss s (count_in_scopes s.holder) of_f at_s in
-      let variable = among holders_of_variables (λ (z : Variable). count_by (nat_eq s.holder) (option_to_list z.holder)) s.holder v.recording.variables h j xs x (count_in_variables s.holder) of_h at_x in
+      let scope = among holders_of_scopes (λ (y : Scope). is_it s.holder y.holder) s.holder v.recording.scopes f i ss s (count_in_scopes s.holder) (scopes_recorded v f ss of_f) at_s in
+      let variable = among holders_of_variables (λ (z : Variable). count_by (nat_eq s.holder) (option_to_list z.holder)) s.holder v.recording.variables h j xs x (count_in_variables s.holder) (children_recorded v h xs of_h) at_x in
       omega (arith, count_both s.holder v good, scope, variable, it_is s.holder s.holder refl, it_is_given s.holder x.holder same);
 }

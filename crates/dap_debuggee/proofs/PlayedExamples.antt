@@ -111,8 +111,15 @@ no_threads = (refl, refl, refl)
 threads : ((shown_of at_first).threads ≡ record { id = pos 1; name = codes "main" } ∷ []) × ((shown_of at_first).frames (pos 1) ≡ Some (record { object = 0; name = codes "main"; source = 0; line = 1 } ∷ [])) × ((shown_of at_first).frames (pos 2) ≡ None)
 threads = (refl, refl, refl)
 
-scopes : ((shown_of at_first).scopes 0 ≡ Some (record { name = codes "Locals"; holder = 1 } ∷ [])) × ((shown_of at_first).scopes 1 ≡ Some []) × ((shown_of at_first).scopes 4 ≡ None) × ((shown_of at_first).children 0 ≡ Some (record { name = codes "a"; value = codes "7"; holder = None } ∷ [])) × ((shown_of at_first).children 2 ≡ None)
+scopes : ((shown_of at_first).scopes 0 ≡ Some (record { name = codes "Locals"; holder = 1 } ∷ [])) × ((shown_of at_first).scopes 1 ≡ None) × ((shown_of at_first).scopes 4 ≡ None) × ((shown_of at_first).children 0 ≡ Some (record { name = codes "a"; value = codes "7"; holder = None } ∷ [])) × ((shown_of at_first).children 2 ≡ None)
 scopes = (refl, refl, refl, refl, refl)
+
+-- the numbers of a moment are those of its frames and holders alone
+scopes_elsewhere : ((shown_of (view_after at_first (go StepIn ∷ []))).scopes 0 ≡ Some (record { name = codes "Locals"; holder = 1 } ∷ [])) × ((shown_of (view_after at_first (go StepIn ∷ to_poll ∷ []))).scopes 0 ≡ None) × ((shown_of (view_after at_first (go StepIn ∷ to_poll ∷ []))).scopes 1 ≡ Some []) × ((shown_of (view_after at_first (go StepIn ∷ to_poll ∷ []))).scopes 2 ≡ Some []) × ((shown_of (view_after at_first (go StepIn ∷ to_poll ∷ []))).scopes 3 ≡ None) × ((shown_of (view_after at_first (go StepIn ∷ to_poll ∷ []))).children 0 ≡ None) × ((shown_of (view_after at_first (go StepIn ∷ to_poll ∷ []))).evaluate (Some 0) (codes "x") ≡ None)
+scopes_elsewhere = (refl, refl, refl, refl, refl, refl, refl)
+
+nothing_is_there : ((shown_of fresh).scopes 0 ≡ None) × ((shown_of fresh).children 0 ≡ None) × ((shown_of fresh).evaluate (Some 0) (codes "x") ≡ None) × ((shown_of (view_after at_first (to_end ∷ []))).scopes 0 ≡ None) × ((shown_of (view_after at_first (to_end ∷ []))).children 1 ≡ None)
+nothing_is_there = (refl, refl, refl, refl, refl)
 
 -- directly in a scope, and in a frame
 values : ((shown_of at_first).evaluate (Some 0) (codes "p") ≡ Some (record { value = codes "P"; holder = Some 0 })) × ((shown_of at_first).evaluate (Some 0) (codes "x") ≡ Some (record { value = codes "1"; holder = None })) × ((shown_of at_first).evaluate (Some 0) (codes "a") ≡ None) × ((shown_of at_first).evaluate None (codes "x") ≡ None) × ((shown_of at_first).evaluate (Some 1) (codes "x") ≡ None) × ((shown_of at_first).evaluate (Some 9) (codes "x") ≡ None)
@@ -148,7 +155,7 @@ abbrev with_moments : List Moment → Played
 with_moments moments = unplayed (record { exit = pos 3; sources = three_moments.sources; moments = moments; scopes = []; variables = [] })
 
 abbrev writing : Bool → List ℕ → Moment
-writing waits output = record { threads = record { id = pos 1; name = codes "main"; frames = record { object = 0; name = codes "main"; source = 0; line = 1 } ∷ [] } ∷ []; thread = 0; output = output; waits = waits }
+writing waits output = record { threads = record { id = pos 1; name = codes "main"; frames = record { object = 0; name = codes "main"; source = 0; line = 1 } ∷ [] } ∷ []; thread = 0; output = output; waits = waits; frames = record { from = 0; to = 0 }; holders = record { from = 0; to = 0 } }
 
 -- a run writes up to the moment that holds it, and the next one the rest
 output_before_a_hold : replies (view_after (with_moments (writing false [] ∷ writing true (codes "a") ∷ writing false (codes "b") ∷ writing false [] ∷ writing false (codes "c") ∷ [])) (to_start ∷ to_poll ∷ []))
@@ -168,7 +175,7 @@ abbrev valued : List ℕ → List ℕ → Variable
 valued name value = record { name = name; value = value; holder = None }
 
 abbrev two_scopes : Played
-two_scopes = with_scopes (record { name = codes "Locals"; holder = 0 } ∷ record { name = codes "Globals"; holder = 1 } ∷ []) ((valued (codes "x") (codes "1") ∷ valued (codes "x") (codes "2") ∷ []) ∷ (valued (codes "x") (codes "3") ∷ valued (codes "y") (codes "4") ∷ []) ∷ [])
+two_scopes = view_after (with_scopes (record { name = codes "Locals"; holder = 0 } ∷ record { name = codes "Globals"; holder = 1 } ∷ []) ((valued (codes "x") (codes "1") ∷ valued (codes "x") (codes "2") ∷ []) ∷ (valued (codes "x") (codes "3") ∷ valued (codes "y") (codes "4") ∷ []) ∷ [])) (to_start ∷ [])
 
 -- of one name the first variable in the first scope
 one_name : ((shown_of two_scopes).evaluate (Some 0) (codes "x") ≡ Some (record { value = codes "1"; holder = None })) × ((shown_of two_scopes).evaluate (Some 0) (codes "y") ≡ Some (record { value = codes "4"; holder = None })) × ((shown_of two_scopes).evaluate (Some 0) [] ≡ None)

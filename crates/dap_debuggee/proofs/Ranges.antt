@@ -7,7 +7,7 @@ use Rattle.dap_debuggee.specs.declared.answers.Frame.{Frame}
 use Rattle.dap_call.specs.Argument.{is_int}
 use Rattle.dap_debuggee.specs.Recording.{is_moment, is_thread, are_distinct, is_rising, objects, thread_at, id_at, IsRecording}
 use Rattle.dap_debuggee.specs.Laws.{is_frame, SourcesInRange, ThreadsInRange, FramesInRange, NamesOneFrame}
-use Rattle.dap_debuggee.specs.Played.{Played, shown_of, source_shown, thread_shown, threads_at, is_there}
+use Rattle.dap_debuggee.specs.Played.{Played, shown_of, source_shown, thread_shown, moment_shown, threads_at, is_there}
 use Rattle.dap_debuggee.specs.Moves.{reason_text}
 use Rattle.dap_debuggee.specs.declared.recording.Moment.{Moment}
 use Rattle.dap_debuggee.specs.declared.recording.RecordedThread.{RecordedThread}
@@ -58,14 +58,16 @@ threads_by : (n : ℕ) (o : Option Moment) → ((m : Moment) → o ≡ Some m �
 threads_by n None good = refl
 threads_by n (Some m) good = (both (list_all (is_thread n) m.threads) _ (both (nat_lt m.thread (length m.threads)) _ (good m refl)).1).0
 
-there_by : (b : Bool) (n : ℕ) (threads : List RecordedThread) → list_all (is_thread n) threads ≡ true → list_all (is_thread n) (if b then threads else []) ≡ true
-there_by true n threads good = good
-there_by false n threads good = refl
+there_by : (b : Bool) (o : Option Moment) (m : Moment) → (if b then o else None) ≡ Some m → o ≡ Some m
+there_by true o m is = is
+there_by false o m is = absurd (cc is)
+
+-- the moment that is shown is one of the recording's
+shown_good : (v : Played) → IsRecording v.recording → (m : Moment) → moment_shown v ≡ Some m → is_moment (length v.recording.sources) m ≡ true
+shown_good v good m is = all_at (is_moment (length v.recording.sources)) v.recording.moments v.at m good.moments (there_by (is_there v.state) (slice_get v.recording.moments v.at) m is)
 
 threads_good : (v : Played) → IsRecording v.recording → list_all (is_thread (length v.recording.sources)) (threads_at v) ≡ true
-threads_good v good =
-    there_by (is_there v.state) (length v.recording.sources) _
-    (threads_by (length v.recording.sources) (slice_get v.recording.moments v.at) (λ m is. all_at (is_moment (length v.recording.sources)) v.recording.moments v.at m good.moments is))
+threads_good v good = threads_by (length v.recording.sources) (moment_shown v) (shown_good v good)
 
 and_true : (a b : Bool) → a ≡ true → b ≡ true → (a && b) ≡ true
 and_true a b e f = rw (e, f)
@@ -207,14 +209,8 @@ rising_by n (Some m) good =
     let q = both (list_all (is_thread n) m.threads) _ p.1 in
     (both (are_distinct m.threads) (is_rising (objects m)) q.1).1
 
-rising_there : (b : Bool) (threads : List RecordedThread) → is_rising (objects_of threads) ≡ true → is_rising (objects_of (if b then threads else [])) ≡ true
-rising_there true threads rising = rising
-rising_there false threads rising = refl
-
 rising_at : (v : Played) → IsRecording v.recording → is_rising (objects_of (threads_at v)) ≡ true
-rising_at v good =
-    rising_there (is_there v.state) _
-    (rising_by (length v.recording.sources) (slice_get v.recording.moments v.at) (λ m is. all_at (is_moment (length v.recording.sources)) v.recording.moments v.at m good.moments is))
+rising_at v good = rising_by (length v.recording.sources) (moment_shown v) (shown_good v good)
 
 -- the thread whose frames were told
 thread_told : (o : Option RecordedThread) (frames : List Frame) → option_map (λ thread. thread.frames) o ≡ Some frames → (thread : RecordedThread) × (o ≡ Some thread) × (thread.frames ≡ frames)

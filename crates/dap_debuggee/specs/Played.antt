@@ -25,6 +25,7 @@ use Rattle.dap_debuggee.specs.declared.recording.RecordedSource.{RecordedSource}
 use Rattle.dap_debuggee.specs.declared.recording.RecordedThread.{RecordedThread}
 use Rattle.dap_debuggee.specs.declared.recording.Moment.{Moment}
 use Rattle.dap_debuggee.specs.declared.recording.Recording.{Recording}
+use Rattle.dap_debuggee.specs.declared.recording.Span.{Span}
 use Rattle.dap_debuggee.specs.declared.moves.Reason.TheVariants.{Entry}
 use Rattle.dap_debuggee.specs.declared.moves.Move.{Move}
 use Rattle.dap_debuggee.specs.declared.lines.SetLines.{SetLines}
@@ -222,8 +223,26 @@ is_there Running = true
 is_there Stopped = true
 is_there Gone = false
 
+-- the moment that is shown; none before the start and once gone
+abbrev pub moment_shown : Played → Option Moment
+moment_shown v = if is_there v.state then slice_get v.recording.moments v.at else None
+
 abbrev pub threads_at : Played → List RecordedThread
-threads_at v = if is_there v.state then unwrap_or (option_map (λ m. m.threads) (slice_get v.recording.moments v.at)) [] else []
+threads_at v = unwrap_or (option_map (λ m. m.threads) (moment_shown v)) []
+
+abbrev pub is_in : Span → ℕ → Bool
+is_in span n = nat_le span.from n && nat_lt n span.to
+
+-- what was found by a number, where it is one of the moment's
+abbrev pub within : {A : Type 0} → (Moment → Span) → Option Moment → ℕ → Option A → Option A
+within span None n found = None
+within span (Some m) n found = if is_in (span m) n then found else None
+
+abbrev pub scopes_shown : Played → ℕ → Option (List Scope)
+scopes_shown v frame = within (λ m. m.frames) (moment_shown v) frame (slice_get v.recording.scopes frame)
+
+abbrev pub children_shown : Played → ℕ → Option (List Variable)
+children_shown v holder = within (λ m. m.holders) (moment_shown v) holder (slice_get v.recording.variables holder)
 
 abbrev pub thread_shown : RecordedThread → Thread
 thread_shown thread = record { id = thread.id; name = thread.name }
@@ -247,9 +266,9 @@ value_in variables name (scope ∷ scopes) = first_of (variable_named name (unwr
 abbrev pub evaluation : Variable → Evaluation
 evaluation variable = record { value = variable.value; holder = variable.holder }
 
-abbrev pub evaluate_in : Recording → Option ℕ → List ℕ → Option Evaluation
-evaluate_in r None name = None
-evaluate_in r (Some frame) name = option_map evaluation (option_and_then (value_in r.variables name) (slice_get r.scopes frame))
+abbrev pub evaluated : Played → Option ℕ → List ℕ → Option Evaluation
+evaluated v None name = None
+evaluated v (Some frame) name = option_map evaluation (option_and_then (value_in v.recording.variables name) (scopes_shown v frame))
 
 abbrev pub source_shown : RecordedSource → Source
 source_shown source = record { name = source.name; path = source.path }
@@ -275,9 +294,9 @@ shown_of v = record {
   last = v.last;
   threads = map thread_shown (threads_at v);
   frames = frames_of v;
-  scopes = λ frame. slice_get v.recording.scopes frame;
-  children = λ holder. slice_get v.recording.variables holder;
-  evaluate = evaluate_in v.recording;
+  scopes = scopes_shown v;
+  children = children_shown v;
+  evaluate = evaluated v;
   sources = map source_shown v.recording.sources;
   content = λ index. option_map (λ source. source.text) (slice_get v.recording.sources index);
   verify = λ source lines. Some (map (has_source_line v.recording.sources source) lines);

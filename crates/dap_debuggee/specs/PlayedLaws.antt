@@ -7,7 +7,7 @@ use Rattle.dap_call.specs.declared.call.SourceKey.{SourceKey}
 use Rattle.dap_call.specs.declared.call.SourceKey.TheVariants.{Path, Reference}
 use Rattle.dap_debuggee.specs.Shown.{Act, to_start, to_resume, to_pause, to_poll, to_set_breakpoints, to_end, Reply, done, refused, happened}
 use Rattle.dap_debuggee.specs.Laws.{may_answer, state_after, keeps_answers, keeps_frames, is_source, lines_after, Counts, Remembers, Answers, Moves, SetsLines, KeepsAnswers, KeepsFrames, KeepsSources, SameFrames, SameSources, NoThreads, VerifiesEach}
-use Rattle.dap_debuggee.specs.Played.{Played, Run, act_on, asked, started, resumed, start_in, resume_in, pause_in, polled, ran, arrived, with_run, pausing, with_lines, resting, replaced, lines_in, first_piece, shown_of, has_source_line, evaluate_in, source_shown, FollowsPlayed}
+use Rattle.dap_debuggee.specs.Played.{Played, Run, act_on, asked, started, resumed, start_in, resume_in, pause_in, polled, ran, arrived, with_run, pausing, with_lines, resting, replaced, lines_in, first_piece, shown_of, has_source_line, source_shown, FollowsPlayed}
 use Rattle.dap_debuggee.specs.declared.answers.State.{State}
 use Rattle.dap_debuggee.specs.declared.answers.State.TheVariants.{NotStarted, Running, Stopped, Gone}
 use Rattle.dap_debuggee.specs.declared.answers.How.{How}
@@ -273,6 +273,23 @@ threads_row v _ _ _ (exits code is) keeps = absurd (true≢false (sym keeps))
 threads_row v _ _ _ (sets source lines) keeps = refl
 threads_row v _ _ _ ends keeps = absurd (true≢false (sym keeps))
 
+values_row : (v w : Played) (a : Act) (r : Reply) → Row v a r w → IsTrue (keeps_answers a r) → (frame : Option ℕ) (text : List ℕ) → (shown_of w).evaluate frame text ≡ (shown_of v).evaluate frame text
+values_row v _ _ _ (starts is) keeps frame text = absurd (true≢false (sym keeps))
+values_row v _ _ _ does_not_start keeps frame text = refl
+values_row v _ _ _ (resumes how thread is) keeps frame text = absurd (true≢false (sym keeps))
+values_row v _ _ _ (does_not_resume how thread) keeps frame text = refl
+values_row v _ _ _ (pauses run is) keeps None text = refl
+values_row v _ _ _ (pauses run is) keeps (Some frame) text = refl
+values_row v _ _ _ does_not_pause keeps frame text = refl
+values_row v _ _ _ gives_nothing keeps frame text = absurd (true≢false (sym keeps))
+values_row v _ _ _ (holds run) keeps frame text = absurd (true≢false (sym keeps))
+values_row v _ _ _ (tells piece run is) keeps frame text = absurd (true≢false (sym keeps))
+values_row v _ _ _ (stops reason thread at is) keeps frame text = absurd (true≢false (sym keeps))
+values_row v _ _ _ (exits code is) keeps frame text = absurd (true≢false (sym keeps))
+values_row v _ _ _ (sets source lines) keeps None text = refl
+values_row v _ _ _ (sets source lines) keeps (Some frame) text = refl
+values_row v _ _ _ ends keeps frame text = absurd (true≢false (sym keeps))
+
 -- what keeps all answers keeps the frames
 keeps_too : (a : Act) (r : Reply) → IsTrue (keeps_answers a r) → IsTrue (keeps_frames a r)
 keeps_too to_start r keeps = keeps
@@ -330,7 +347,7 @@ pub keeps_answers-played : KeepsAnswers shown_of FollowsPlayed
 keeps_answers-played v w a r f keeps = record {
   threads = ap (λ (p : Played). (shown_of p).threads) f.view ∙ threads_row v _ a r (row v w a r f) keeps;
   frames = keeps_frames-played v w a r f (keeps_too a r keeps);
-  evaluate = λ frame text. ap (λ r. evaluate_in r frame text) (ap (λ (p : Played). p.recording) f.view ∙ recording_row v _ a r (row v w a r f));
+  evaluate = λ frame text. ap (λ (p : Played). (shown_of p).evaluate frame text) f.view ∙ values_row v _ a r (row v w a r f) keeps frame text;
   sources = keeps_sources-played v w a r f;
   verify = λ source lines. ap (λ r. Some (map (has_source_line r.sources source) lines)) (ap (λ (p : Played). p.recording) f.view ∙ recording_row v _ a r (row v w a r f));
 }

@@ -263,7 +263,7 @@ moment_of sources d numbered = do
   thread ← required (thread_place threads.0) key.Thread d
   output ← optional_or as_str [] key.Output d
   waits ← optional_or as_bool false key.Waits d
-  Ok (record { threads = threads.0; thread = thread; output = output; waits = waits }, threads.1)
+  Ok (record { threads = threads.0; thread = thread; output = output; waits = waits; frames = record { from = length numbered.scopes; to = length threads.1.scopes }; holders = record { from = length numbered.variables; to = length threads.1.variables } }, threads.1)
 
 unfoldable pub moments_of : List RecordedSource → Items → Numbered → Read (List Moment × Numbered)
 moments_of sources ds numbered = each (λ earlier. moment_of sources) ds [] numbered

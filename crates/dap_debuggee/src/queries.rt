@@ -1,12 +1,12 @@
 //! What a recorded debuggee tells of the moment that it shows.
 ghost use Rattle.std.specs.Prelude.{◌≡◌, ◌&&◌, nat_le, IfOk, map, option_map};
 ghost use Rattle.dap_debuggee.specs.Held.{most_lines as most_lines_of, lines_of_key, is_of_path, held_by, thread_with};
-ghost use Rattle.dap_debuggee.specs.Played.{variable_named, value_in as value_within, source_shown, thread_shown};
+ghost use Rattle.dap_debuggee.specs.Played.{is_in as is_in_span, variable_named, value_in as value_within, source_shown, thread_shown};
 
 use crate::answers::{DebuggeeFault, Evaluation, Frame, Scope, Source, State, Thread, Variable};
 use crate::list::List;
 use crate::recorded::Recorded;
-use crate::recording::{RecordedSource, RecordedThread};
+use crate::recording::{Moment, RecordedSource, RecordedThread, Span};
 use dap_call::SourceKey;
 use dap_json::Text;
 use std::alloc::{AllocError, Global};
@@ -179,24 +179,59 @@ fn verified(alloc: Global, most: u64, lines: &[u32]) -> Result<Vec<bool>, AllocE
     Ok(answers)
 }
 
+fn is_in(span: Span, number: u64) -> bool
+    ensures { result ≡ is_in_span span number }
+{
+    span.from <= number && number < span.to
+}
+
 impl Recorded {
     ghost use Rattle.std.specs.Prelude.{◌≡◌, IfOk, map, option_map};
     ghost use Rattle.dap_debuggee.specs.Laws.{Tells};
-    ghost use Rattle.dap_debuggee.specs.Played.{threads_at, thread_shown, shown_of};
+    ghost use Rattle.dap_debuggee.specs.Played.{moment_shown, threads_at, scopes_shown, children_shown, thread_shown, shown_of};
 
-    /// The threads of the moment that is shown; none before the start and after the end.
+    /// The moment that is shown; none before the start and after the end.
+    fn moment(&self) -> Option<&Moment>
+        ensures { option_map (λ m. m.now) result ≡ moment_shown self.now }
+    {
+        match self.state {
+            State::NotStarted | State::Gone => None,
+            State::Running | State::Stopped => self.recording.moments.as_slice().get(self.at),
+        }
+    }
+
+    /// The threads of the moment that is shown.
     fn here(&self) -> &[RecordedThread]
         ensures { result.now ≡ threads_at self.now }
     {
-        match self.state {
-            State::NotStarted | State::Gone => &[],
-            State::Running | State::Stopped => {
-                match self.recording.moments.as_slice().get(self.at) {
-                    None => &[],
-                    Some(moment) => moment.threads.as_slice(),
-                }
-            }
+        match self.moment() {
+            None => &[],
+            Some(moment) => moment.threads.as_slice(),
         }
+    }
+
+    /// The scopes of a frame of the moment that is shown.
+    fn scopes_at(&self, frame: u64) -> Option<&[Scope]>
+        ensures { option_map (λ s. s.now) result ≡ scopes_shown self.now frame }
+    {
+        let moment = self.moment()?;
+        if !is_in(moment.frames, frame) {
+            return None;
+        }
+        let scopes = self.recording.scopes.as_slice().get(frame as usize)?;
+        Some(scopes.as_slice())
+    }
+
+    /// The variables of a holder of the moment that is shown.
+    fn children_at(&self, holder: u64) -> Option<&[Variable]>
+        ensures { option_map (λ v. v.now) result ≡ children_shown self.now holder }
+    {
+        let moment = self.moment()?;
+        if !is_in(moment.holders, holder) {
+            return None;
+        }
+        let variables = self.recording.variables.as_slice().get(holder as usize)?;
+        Some(variables.as_slice())
     }
 
     pub(crate) fn all_threads(&self, alloc: Global) -> Result<Vec<Thread>, AllocError>
@@ -223,9 +258,9 @@ impl Recorded {
     pub(crate) fn scopes_of(&self, alloc: Global, frame: u64) -> Result<Vec<Scope>, DebuggeeFault>
         ensures { Tells result (λ scopes. scopes.items) ((shown_of self.now).scopes frame) }
     {
-        match self.recording.scopes.as_slice().get(frame as usize) {
+        match self.scopes_at(frame) {
             None => Err(DebuggeeFault::Refused),
-            Some(found) => Ok(scopes(alloc, found.as_slice())?),
+            Some(found) => Ok(scopes(alloc, found)?),
         }
     }
 
@@ -236,9 +271,9 @@ impl Recorded {
     ) -> Result<Vec<Variable>, DebuggeeFault>
         ensures { Tells result (λ children. children.items) ((shown_of self.now).children holder) }
     {
-        match self.recording.variables.as_slice().get(holder as usize) {
+        match self.children_at(holder) {
             None => Err(DebuggeeFault::Refused),
-            Some(found) => Ok(variables(alloc, found.as_slice())?),
+            Some(found) => Ok(variables(alloc, found)?),
         }
     }
 
@@ -261,11 +296,11 @@ impl Recorded {
         let Some(frame) = frame else {
             return Err(DebuggeeFault::Refused);
         };
-        let Some(scopes) = self.recording.scopes.as_slice().get(frame as usize) else {
+        let Some(scopes) = self.scopes_at(frame) else {
             return Err(DebuggeeFault::Refused);
         };
         let variables = self.recording.variables.as_slice();
-        match value_in(variables, name, scopes.as_slice()) {
+        match value_in(variables, name, scopes) {
             None => Err(DebuggeeFault::Refused),
             Some(variable) => Ok(Evaluation {
                 value: variable.value.clone()?,

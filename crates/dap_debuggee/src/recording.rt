@@ -23,6 +23,13 @@ pub(crate) struct RecordedThread {
     pub(crate) frames: List<Frame>,
 }
 
+/// Object numbers, from the first one to before `to`.
+#[derive(Clone, Copy, Debug)]
+pub(crate) struct Span {
+    pub(crate) from: u64,
+    pub(crate) to: u64,
+}
+
 #[derive(Debug, Drop)]
 pub(crate) struct Moment {
     pub(crate) threads: List<RecordedThread>,
@@ -32,6 +39,10 @@ pub(crate) struct Moment {
     pub(crate) output: Text,
     /// Whether a run that comes by is held here.
     pub(crate) waits: bool,
+    /// The numbers of its frames.
+    pub(crate) frames: Span,
+    /// The numbers of its holders.
+    pub(crate) holders: Span,
 }
 
 #[derive(Debug, Drop)]

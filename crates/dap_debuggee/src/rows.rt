@@ -10,7 +10,7 @@ use crate::list::List;
 use crate::read_threads::ReadThreads;
 use crate::reading;
 use crate::reading::{RecordingFault, RecordingKey, bad};
-use crate::recording::{Moment, RecordedSource, RecordedThread, Recording};
+use crate::recording::{Moment, RecordedSource, RecordedThread, Recording, Span};
 use serde_json::Value;
 use std::alloc::{AllocError, Global};
 use std::marker::Model;
@@ -307,7 +307,17 @@ fn moment(
 {
     reading::element(value, RecordingKey::Moments)?;
     let items = reading::items(value, RecordingKey::Threads)?;
+    let frames_from = numbers.scopes.len() as u64;
+    let holders_from = numbers.variables.len() as u64;
     let threads = threads(alloc, sources, items, numbers)?;
+    let frames = Span {
+        from: frames_from,
+        to: numbers.scopes.len() as u64,
+    };
+    let holders = Span {
+        from: holders_from,
+        to: numbers.variables.len() as u64,
+    };
     let thread = thread_place(&threads, value)?;
     let output = reading::text_or_empty(alloc, value, RecordingKey::Output)?;
     let waits = reading::flag(value, RecordingKey::Waits)?;
@@ -316,6 +326,8 @@ fn moment(
         thread,
         output,
         waits,
+        frames,
+        holders,
     })
 }
 

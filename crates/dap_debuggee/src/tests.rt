@@ -175,6 +175,8 @@ fn nothing_before_the_start(rt: HostRuntime) -> Result<(), Fail> {
     let recorded = three_moments(rt.alloc())?;
     assert!(rt; recorded.threads(rt.alloc())?.is_empty());
     assert!(rt; recorded.frames(rt.alloc(), 1).is_err());
+    assert!(rt; recorded.scopes(rt.alloc(), 0).is_err());
+    assert!(rt; recorded.children(rt.alloc(), 0).is_err());
     Ok(())
 }
 

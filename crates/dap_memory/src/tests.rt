@@ -572,9 +572,10 @@ fn unanswered(rt: &HostRuntime, fault: DebuggeeFault) -> Result<(), Fail> {
 #[test]
 fn asking_a_debuggee(rt: HostRuntime) -> Result<(), Fail> {
     let alloc = rt.alloc();
-    let Some(debuggee) = recorded(&rt)? else {
+    let Some(mut debuggee) = recorded(&rt)? else {
         return Ok(());
     };
+    assert_eq!(rt; debuggee.start(alloc), Ok(()));
     match debuggee.scopes(alloc, 0) {
         Ok(scopes) => assert_eq!(rt; scopes.len(), 1),
         Err(fault) => unanswered(&rt, fault)?,
