@@ -1,6 +1,6 @@
 -- Which recording JSON data is, or the first bad key in the order of the format's keys.
 -- The format is this profile's own. An absent key is absent; `null` is a value like any other.
-use Rattle.std.specs.Prelude.{◌≡◌, ℕ, suc, ◌&&◌, ℤ, pos, negsuc, int_le, Bool, false, not, nat_le, nat_lt, List, [], ◌∷◌, ◌++◌, length, Option, Some, None, is_some, option_and_then, option_map, unwrap_or, Result, Ok, Err, if◌then◌else◌, Vec}
+use Rattle.std.specs.Prelude.{◌≡◌, ℕ, suc, ◌&&◌, ℤ, false, not, nat_le, nat_lt, List, [], ◌∷◌, ◌++◌, length, Option, Some, None, is_some, option_and_then, option_map, unwrap_or, Result, Ok, Err, if◌then◌else◌, Vec}
 use Rattle.std.specs.Borrow.{Bor}
 use Rattle.std.specs.declared.alloc.Global.{Global}
 use Rattle.std.specs.List.{slice_get}
@@ -13,6 +13,7 @@ use Rattle.serde_json.specs.View.{items_view}
 use Rattle.serde_json.specs.declared.value.Value.{Value}
 use Rattle.dap_json.specs.Field.{if_passes, is_object}
 use Rattle.dap_call.specs.Argument.{int_of, number_of}
+use Rattle.dap_debuggee.specs.Laws.{is_code}
 use Rattle.dap_debuggee.specs.Played.{Played, unplayed}
 use Rattle.dap_debuggee.specs.Recording.{line_count}
 use Rattle.dap_debuggee.specs.RecordingKey.{name_of}
@@ -124,12 +125,9 @@ few_items k d = do
 
 -- ---- shapes
 
-abbrev pub is_exit : ℤ → Bool
-is_exit z = int_le (negsuc 2147483647) z && int_le z (pos 2147483647)
-
 -- -2147483648 to 2147483647
 abbrev pub exit_of : Data → Option ℤ
-exit_of d = if_passes is_exit (option_and_then as_i64 (as_number d))
+exit_of d = if_passes is_code (option_and_then as_i64 (as_number d))
 
 -- of a text with so many lines
 abbrev pub line_of : ℕ → Data → Option ℕ
