@@ -111,6 +111,10 @@ abbrev pub most_lines : List ℕ → List RecordedSource → ℕ
 most_lines path [] = 0
 most_lines path (source ∷ sources) = max (path_lines_of path source) (most_lines path sources)
 
+-- the table has the most lines of each path
+abbrev pub HasMost : {A : Type 0} → BTreeMap (String A) ℕ → List RecordedSource → Type 0
+HasMost most sources = (path : List ℕ) → unwrap_or (get_by_text most path) 0 ≡ most_lines path sources
+
 abbrev pub lines_of_key : List RecordedSource → SourceKey → ℕ
 lines_of_key sources (Path path) = most_lines path sources
 lines_of_key sources (Reference zero) = 0

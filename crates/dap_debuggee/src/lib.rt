@@ -12,6 +12,7 @@ mod laws;
 mod lines;
 mod list;
 mod moves;
+mod paths;
 mod polls;
 mod queries;
 mod read;

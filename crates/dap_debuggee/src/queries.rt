@@ -1,6 +1,6 @@
 //! What a recorded debuggee tells of the moment that it shows.
 ghost use Rattle.std.specs.Prelude.{◌≡◌, ◌&&◌, nat_le, IfOk, map, option_map};
-ghost use Rattle.dap_debuggee.specs.Held.{most_lines as most_lines_of, lines_of_key, is_of_path, held_by, thread_with};
+ghost use Rattle.dap_debuggee.specs.Held.{held_by, thread_with};
 ghost use Rattle.dap_debuggee.specs.Played.{is_in as is_in_span, variable_named, value_in as value_within, source_shown, thread_shown};
 
 use crate::answers::{DebuggeeFault, Evaluation, Frame, Scope, Source, State, Thread, Variable};
@@ -133,42 +133,6 @@ fn value_in<'r>(
     None
 }
 
-fn is_path(source: &RecordedSource, path: &str) -> bool
-    ensures { result ≡ is_of_path path.now source.now }
-{
-    match &source.path {
-        None => false,
-        Some(p) => path == p.as_str(),
-    }
-}
-
-/// How many lines the longest source with a path has.
-fn most_lines(sources: &[RecordedSource], path: &str) -> u64
-    ensures { result ≡ most_lines_of path.now sources.now }
-{
-    let mut most = 0;
-    for source in sources {
-        if is_path(source, path) && source.lines > most {
-            most = source.lines;
-        }
-    }
-    most
-}
-
-/// How many lines a source has; the longest one where several have its path.
-fn lines_of(sources: &[RecordedSource], source: &SourceKey) -> u64
-    ensures { result ≡ lines_of_key sources.now source.now }
-{
-    match source {
-        SourceKey::Path(path) => most_lines(sources, path.as_str()),
-        SourceKey::Reference(0) => 0,
-        SourceKey::Reference(n) => match sources.get(*n as usize - 1) {
-            None => 0,
-            Some(source) => source.lines,
-        },
-    }
-}
-
 fn verified(alloc: Global, most: u64, lines: &[u32]) -> Result<Vec<bool>, AllocError>
     ensures { IfOk result (λ answers. answers.items ≡ map (λ line. nat_le 1 line && nat_le line most) lines.now) }
 {
@@ -188,6 +152,7 @@ fn is_in(span: Span, number: u64) -> bool
 impl Recorded {
     ghost use Rattle.std.specs.Prelude.{◌≡◌, IfOk, map, option_map};
     ghost use Rattle.dap_debuggee.specs.Laws.{Tells};
+    ghost use Rattle.dap_debuggee.specs.Held.{lines_of_key};
     ghost use Rattle.dap_debuggee.specs.Played.{moment_shown, threads_at, scopes_shown, children_shown, thread_shown, shown_of};
 
     /// The moment that is shown; none before the start and after the end.
@@ -309,6 +274,22 @@ impl Recorded {
         }
     }
 
+    /// How many lines a source has; the longest one where several have its path.
+    fn lines_of(&self, source: &SourceKey) -> u64
+        ensures { result ≡ lines_of_key self.now.recording.sources source.now }
+    {
+        match source {
+            SourceKey::Path(path) => self.paths.most_lines(path.as_str()),
+            SourceKey::Reference(0) => 0,
+            SourceKey::Reference(n) => {
+                match self.recording.sources.as_slice().get(*n as usize - 1) {
+                    None => 0,
+                    Some(source) => source.lines,
+                }
+            }
+        }
+    }
+
     pub(crate) fn verify_all(
         &self,
         alloc: Global,
@@ -317,7 +298,7 @@ impl Recorded {
     ) -> Result<Vec<bool>, DebuggeeFault>
         ensures { Tells result (λ answers. answers.items) ((shown_of self.now).verify source.now lines.now) }
     {
-        let most = lines_of(self.recording.sources.as_slice(), source);
+        let most = self.lines_of(source);
         Ok(verified(alloc, most, lines)?)
     }
 }

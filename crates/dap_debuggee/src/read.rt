@@ -24,6 +24,6 @@ impl Recorded {
             return Err(RecordingFault::NotObject);
         }
         let recording = rows::recording(alloc, &value)?;
-        Ok(Recorded::of_recording(alloc, recording))
+        Ok(Recorded::of_recording(alloc, recording)?)
     }
 }

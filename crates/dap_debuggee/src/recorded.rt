@@ -10,9 +10,10 @@ use crate::answers::{
 };
 use crate::debuggee::Debuggee;
 use crate::lines::LineTable;
-use crate::moves;
 use crate::moves::{Move, Plan, Reason};
+use crate::paths::Paths;
 use crate::recording::Recording;
+use crate::{moves, paths};
 use dap_call::SourceKey;
 use dap_json::Text;
 use std::alloc::{AllocError, Global};
@@ -61,6 +62,8 @@ pub(crate) enum LastAsked {
 #[derive(Drop)]
 pub struct Recorded {
     pub(crate) recording: Recording,
+    /// The lines under each path of its sources.
+    pub(crate) paths: Paths,
     pub(crate) state: State,
     /// The place of the moment that is shown.
     pub(crate) at: usize,
@@ -73,7 +76,7 @@ pub struct Recorded {
 impl Model for Recorded {
     ghost use Rattle.std.specs.Prelude.{◌<◌, length};
     ghost use Rattle.dap_debuggee.specs.Played.{Played};
-    ghost use Rattle.dap_debuggee.specs.Held.{run_of, last_of, IsToldWhole};
+    ghost use Rattle.dap_debuggee.specs.Held.{run_of, last_of, IsToldWhole, HasMost};
     ghost use Rattle.dap_debuggee.specs.Recording.{IsRecording};
 
     ghost Value = { Played };
@@ -88,28 +91,31 @@ impl Model for Recorded {
       last = last_of r.recording r.last;
     } };
 
-    ghost invariant = { λ r. IsRecording r.recording × (r.at < length r.recording.moments) × IsToldWhole r.recording.moments r.going };
+    ghost invariant = { λ r. IsRecording r.recording × (r.at < length r.recording.moments) × IsToldWhole r.recording.moments r.going × HasMost r.paths.most r.recording.sources };
 }
 
 impl Recorded {
+    ghost use Rattle.std.specs.Prelude.{IfOk};
     ghost use Rattle.dap_debuggee.specs.Played.{unplayed, started, resumed};
     ghost use Rattle.dap_debuggee.specs.Recording.{IsRecording};
     ghost use Rattle.dap_debuggee.specs.Held.{noted};
 
     /// A recording that is not started.
-    pub(crate) fn of_recording(alloc: Global, recording: Recording) -> Recorded
+    pub(crate) fn of_recording(alloc: Global, recording: Recording) -> Result<Recorded, AllocError>
         requires { IsRecording recording }
-        ensures { result ≡ unplayed recording }
+        ensures { IfOk result (λ r. r ≡ unplayed recording) }
     {
-        Recorded {
+        let paths = paths::of_sources(alloc, recording.sources.as_slice())?;
+        Ok(Recorded {
             recording,
+            paths,
             state: State::NotStarted,
             at: 0,
             going: None,
             set: LineTable::new(alloc),
             acts: 0,
             last: LastAsked::Never,
-        }
+        })
     }
 
     /// Counts and remembers an act.

@@ -1,6 +1,4 @@
-use Rattle.std.proofs.Common.{◌≡◌, ◌&&◌, nat_le, map, Some, sym, ap, ◌∙◌}
-use Rattle.dap_debuggee.specs.Held.{lines_of_key}
-use Rattle.dap_debuggee.specs.Played.{Played}
+use Rattle.std.proofs.Common.{◌&&◌, nat_le, map, Some, sym, ap, ◌∙◌}
 use Rattle.dap_debuggee.proofs.Verified.{has_line_by_most}
 use Rattle.dap_debuggee.proofs.recorded.Recorded.verify_all.Goals as goal
 
@@ -9,5 +7,4 @@ returns c =
     let key = c.args.source.now in
     let lines = c.args.lines.now in
     let sources = c.args.self.now.recording.sources in
-    let most : c.lines_of-most.result ≡ lines_of_key sources key = c.lines_of-most.ensures ∙ ap (λ ss. lines_of_key ss key) (c.as_slice.ensures ∙ ap (λ (v : Played). v.recording.sources) c.self.view_is) in
-    ap (λ answers. Some answers) (has_line_by_most sources key lines ∙ ap (λ n. map (λ line. nat_le 1 line && nat_le line n) lines) (sym most) ∙ sym c.in_ok-verified.ensures)
+    ap (λ answers. Some answers) (has_line_by_most sources key lines ∙ ap (λ n. map (λ line. nat_le 1 line && nat_le line n) lines) (sym c.lines_of-most.ensures) ∙ sym c.in_ok-verified.ensures)
