@@ -108,7 +108,7 @@ numbered_if_some : (n : ℕ) (inner : List Variable) (before after : Holders) �
 numbered_if_some n [] before after p = omega (arith, p, no_variables n, given_none n)
 numbered_if_some n (v ∷ vs) before after p = numbered n (v ∷ vs) before after p
 
-by_order : (o : Ordering) (one rest : Read (List Variable × Holders)) (r : List Variable × Holders) (P : Type 0) → match_ordering o rest one rest ≡ Ok r → (one ≡ Ok r → P) → (rest ≡ Ok r → P) → P
+pub by_order : (o : Ordering) (one rest : Read (List Variable × Holders)) (r : List Variable × Holders) (P : Type 0) → match_ordering o rest one rest ≡ Ok r → (one ≡ Ok r → P) → (rest ≡ Ok r → P) → P
 by_order Less one rest r P e of_one of_rest = of_rest e
 by_order Equal one rest r P e of_one of_rest = of_one e
 by_order Greater one rest r P e of_one of_rest = of_rest e

@@ -23,6 +23,7 @@ use Rattle.dap_debuggee.specs.declared.recording.Moment.{Moment}
 use Rattle.dap_debuggee.specs.declared.recording.Recording.{Recording}
 use Rattle.dap_debuggee.proofs.ReadSteps.{ok_same, then_ok, bind_ok, with_ok, each_holds}
 use Rattle.dap_debuggee.proofs.HoldersRead.{holders_once}
+use Rattle.dap_debuggee.proofs.SpansRead.{spans_read}
 
 -- ---- what was read, step by step
 
@@ -308,4 +309,5 @@ is_read d r e =
       some = omega (arith, count, least);
       moments = all;
       holders = λ n. holders_once sources given moments read n;
+      spans = spans_read sources given moments read;
     }))))))

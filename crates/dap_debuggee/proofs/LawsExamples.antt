@@ -1,16 +1,18 @@
 -- Worked examples of the laws' tables and of what holds of recordings, each shown by computation.
-use Rattle.std.proofs.Common.{◌≡◌, List, ℕ, [], ◌∷◌, codes, replicate, true, false, Some, pos, negsuc, refl}
+use Rattle.std.proofs.Common.{◌≡◌, List, ℕ, [], ◌∷◌, codes, replicate, true, false, Some, pos, negsuc, refl, arith}
 use Rattle.dap_call.specs.declared.call.SourceKey.{SourceKey}
 use Rattle.dap_call.specs.declared.call.SourceKey.TheVariants.{Path, Reference}
 use Rattle.dap_debuggee.specs.Shown.{Reply, to_start, to_resume, to_pause, to_poll, to_set_breakpoints, to_end, done, refused, happened, category_name, remembered}
 use Rattle.dap_debuggee.specs.Laws.{may_answer, state_after, lines_after, is_source, keeps_answers, keeps_frames, is_code, is_short, is_frame}
-use Rattle.dap_debuggee.specs.Recording.{line_count, is_rising, are_distinct, is_moment, depth, top, id_at, objects, holders_of}
+use Rattle.dap_debuggee.specs.Recording.{line_count, is_rising, are_distinct, is_moment, depth, top, id_at, objects, holders_of, HasOwnNumbers}
 use Rattle.dap_debuggee.specs.declared.answers.State.TheVariants.{NotStarted, Running, Stopped, Gone}
 use Rattle.dap_debuggee.specs.declared.answers.How.TheVariants.{Next, Continue}
 use Rattle.dap_debuggee.specs.declared.answers.Asked.TheVariants as remembers
 use Rattle.dap_debuggee.specs.declared.answers.Category.TheVariants.{Console, Stdout, Stderr}
 use Rattle.dap_debuggee.specs.declared.answers.Frame.{Frame}
 use Rattle.dap_debuggee.specs.declared.answers.Happening.TheVariants.{Nothing, Output, Stopped as StoppedBy, Continued, Exited}
+use Rattle.dap_debuggee.specs.declared.answers.Scope.{Scope}
+use Rattle.dap_debuggee.specs.declared.answers.Variable.{Variable}
 use Rattle.dap_debuggee.specs.declared.recording.Moment.{Moment}
 use Rattle.dap_debuggee.specs.declared.recording.RecordedThread.{RecordedThread}
 use Rattle.dap_debuggee.proofs.ThreeMoments.{three_moments}
@@ -121,3 +123,28 @@ moments = (refl, refl, refl, refl, refl, refl)
 -- the number of a scope, and then that of a variable
 holders : holders_of three_moments ≡ 1 ∷ 0 ∷ []
 holders = refl
+
+-- ---- numbers of a moment
+
+abbrev spanned : ℕ → ℕ → Moment
+spanned frames holders = record { threads = thread 7 (frame 0 0 1 ∷ []) ∷ []; thread = 0; output = []; waits = false; frames = record { from = 0; to = frames }; holders = record { from = 0; to = holders } }
+
+abbrev scope : ℕ → Scope
+scope holder = record { name = codes "s"; holder = holder }
+
+abbrev variable : ℕ → Variable
+variable holder = record { name = codes "v"; value = codes "1"; holder = Some holder }
+
+-- of a frame outside its span
+frame_elsewhere : HasOwnNumbers ([] ∷ []) [] (spanned 0 0) → ⊥
+frame_elsewhere p = let w = p.of_frames 0 0 (thread 7 (frame 0 0 1 ∷ [])) (frame 0 0 1) refl refl in absurd (omega (arith, w.to))
+
+-- without scopes of its frame
+no_scopes : HasOwnNumbers [] [] (spanned 1 0) → ⊥
+no_scopes p = absurd (omega (arith, p.frames_stand))
+
+scope_elsewhere : HasOwnNumbers ((scope 0 ∷ []) ∷ []) ([] ∷ []) (spanned 1 0) → ⊥
+scope_elsewhere p = let w = p.of_scopes 0 0 (scope 0 ∷ []) (scope 0) (record { from = omega arith; to = omega arith }) refl refl in absurd (omega (arith, w.to))
+
+variable_elsewhere : HasOwnNumbers ((scope 0 ∷ []) ∷ []) ((variable 1 ∷ []) ∷ [] ∷ []) (spanned 1 1) → ⊥
+variable_elsewhere p = let w = p.of_variables 0 0 (variable 1 ∷ []) (variable 1) 1 (record { from = omega arith; to = omega arith }) refl refl refl in absurd (omega (arith, w.to))

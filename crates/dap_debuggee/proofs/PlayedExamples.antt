@@ -1,15 +1,20 @@
 -- Worked examples of a recorded debuggee, act by act and query by query, each shown by computation.
 use Rattle.std.proofs.Common.{◌≡◌, Bool, List, ℕ, [], ◌∷◌, ◌++◌, codes, replicate, true, false, Some, None, pos, refl}
+use Rattle.std.specs.Option.{IsSome}
 use Rattle.dap_call.specs.declared.call.SourceKey.TheVariants.{Path, Reference}
+use Rattle.dap_debuggee.proofs.ReadingExamples.{three_moments_is_recording}
 use Rattle.dap_debuggee.proofs.ThreeMoments.{three_moments}
+use Rattle.dap_debuggee.proofs.Told.{told_can_be_asked}
 use Rattle.dap_debuggee.specs.Shown.{Act, to_start, to_resume, to_pause, to_poll, to_set_breakpoints, to_end, Reply, done, refused, happened}
 use Rattle.dap_debuggee.specs.Played.{Played, unplayed, act_on, asked, shown_of, piece_length, first_piece, output_of}
+use Rattle.dap_debuggee.specs.Told.{ToldCanBeAsked}
 use Rattle.dap_debuggee.specs.declared.answers.State.TheVariants.{NotStarted, Running, Stopped, Gone}
 use Rattle.dap_debuggee.specs.declared.answers.How.{How}
 use Rattle.dap_debuggee.specs.declared.answers.How.TheVariants.{StepIn, Next, StepOut, Continue, StepBack, ReverseContinue}
 use Rattle.dap_debuggee.specs.declared.answers.Asked.TheVariants as remembers
 use Rattle.dap_debuggee.specs.declared.answers.Category.TheVariants.{Stdout}
 use Rattle.dap_debuggee.specs.declared.answers.Happening.TheVariants as happening
+use Rattle.dap_debuggee.specs.declared.answers.Frame.{Frame}
 use Rattle.dap_debuggee.specs.declared.answers.Scope.{Scope}
 use Rattle.dap_debuggee.specs.declared.answers.Variable.{Variable}
 use Rattle.dap_debuggee.specs.declared.recording.Moment.{Moment}
@@ -124,6 +129,19 @@ nothing_is_there = (refl, refl, refl, refl, refl)
 -- directly in a scope, and in a frame
 values : ((shown_of at_first).evaluate (Some 0) (codes "p") ≡ Some (record { value = codes "P"; holder = Some 0 })) × ((shown_of at_first).evaluate (Some 0) (codes "x") ≡ Some (record { value = codes "1"; holder = None })) × ((shown_of at_first).evaluate (Some 0) (codes "a") ≡ None) × ((shown_of at_first).evaluate None (codes "x") ≡ None) × ((shown_of at_first).evaluate (Some 1) (codes "x") ≡ None) × ((shown_of at_first).evaluate (Some 9) (codes "x") ≡ None)
 values = (refl, refl, refl, refl, refl, refl)
+
+abbrev main_frame : Frame
+main_frame = record { object = 0; name = codes "main"; source = 0; line = 1 }
+
+abbrev locals : Scope
+locals = record { name = codes "Locals"; holder = 1 }
+
+told : ToldCanBeAsked (shown_of at_first)
+told = told_can_be_asked at_first three_moments_is_recording
+
+-- the frame has scopes, its scope has variables, and so have a variable and a value of it
+asked_for_what_it_holds : ((shown_of at_first).frames (pos 1) ≡ Some (main_frame ∷ [])) × IsSome ((shown_of at_first).scopes main_frame.object) × IsSome ((shown_of at_first).children 1) × IsSome ((shown_of at_first).children 0)
+asked_for_what_it_holds = (refl, told.frames (pos 1) (main_frame ∷ []) 0 main_frame refl refl, told.scopes 0 (locals ∷ []) 0 locals refl refl, told.values (Some 0) (codes "p") (record { value = codes "P"; holder = Some 0 }) 0 refl refl)
 
 sources : ((shown_of fresh).sources ≡ record { name = codes "a.c"; path = Some (codes "/a.c") } ∷ []) × ((shown_of fresh).content 0 ≡ Some (codes "one\ntwo\nthree\n")) × ((shown_of fresh).content 1 ≡ None)
 sources = (refl, refl, refl)

@@ -69,7 +69,7 @@ shown_good v good m is = all_at (is_moment (length v.recording.sources)) v.recor
 threads_good : (v : Played) → IsRecording v.recording → list_all (is_thread (length v.recording.sources)) (threads_at v) ≡ true
 threads_good v good = threads_by (length v.recording.sources) (moment_shown v) (shown_good v good)
 
-and_true : (a b : Bool) → a ≡ true → b ≡ true → (a && b) ≡ true
+pub and_true : (a b : Bool) → a ≡ true → b ≡ true → (a && b) ≡ true
 and_true a b e f = rw (e, f)
 
 ids_by : (n : ℕ) (threads : List RecordedThread) → list_all (is_thread n) threads ≡ true → list_all (λ thread. is_int thread.id) (map thread_shown threads) ≡ true

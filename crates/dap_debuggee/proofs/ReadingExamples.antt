@@ -1,8 +1,10 @@
 -- Worked examples of reading a recording, each shown by computation.
 use Rattle.std.proofs.Common.{◌≡◌, List, ℕ, [], ◌∷◌, codes, true, Some, None, Ok, Err, negsuc, refl}
 use Rattle.serde_json.specs.Data.{Data, boolean, null, number, unsigned, negative, string, array, object, Items, no_items, item, Members, no_members, put}
+use Rattle.dap_debuggee.proofs.IsRead.{is_read}
 use Rattle.dap_debuggee.proofs.ThreeMoments.{three_moments}
 use Rattle.dap_debuggee.specs.Reading.{recording_of, verdict_of, variables_of, source_of, moments_of, moment_of, thread_of, frame_of, scopes_of, scope_of}
+use Rattle.dap_debuggee.specs.Recording.{IsRecording}
 use Rattle.dap_debuggee.specs.declared.reading.RecordingFault.TheVariants.{NotJson, NotObject, BadKey}
 use Rattle.dap_debuggee.specs.declared.reading.RecordingKey.TheVariants as key
 
@@ -61,9 +63,16 @@ moment_2 = object (put (codes "waits") (boolean true) (moment_members (item (thr
 abbrev with_parts : Data → Data → Data → Data
 with_parts exit sources moments = object (put (codes "exit") exit (put (codes "sources") sources (put (codes "moments") moments no_members)))
 
-recording_a_is_read : recording_of (with_parts (whole 0) (one source_a) (array (item moment_0 (item moment_1 (item moment_2 no_items))))) ≡ Ok three_moments
+abbrev recording_a : Data
+recording_a = with_parts (whole 0) (one source_a) (array (item moment_0 (item moment_1 (item moment_2 no_items))))
+
+recording_a_is_read : recording_of recording_a ≡ Ok three_moments
 unfolding recording_of source_of moments_of moment_of thread_of frame_of scopes_of scope_of
 recording_a_is_read = refl
+
+-- so it is a recording
+pub three_moments_is_recording : IsRecording three_moments
+three_moments_is_recording = is_read recording_a three_moments recording_a_is_read
 
 -- ---- no recordings
 

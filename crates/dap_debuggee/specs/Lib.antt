@@ -10,3 +10,4 @@ pub mod Held
 pub mod PlayedLaws
 pub mod Stubborn
 pub mod Polls
+pub mod Told

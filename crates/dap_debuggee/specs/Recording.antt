@@ -1,6 +1,6 @@
 -- What holds of every recording, and what a moment of it is.
 -- The format is this profile's own.
-use Rattle.std.specs.Prelude.{ℕ, suc, ◌≤◌, ◌<◌, ℤ, pos, Bool, true, ◌&&◌, nat_lt, nat_eq, not, List, [], ◌∷◌, ◌++◌, length, map, Option, option_map, option_and_then, unwrap_or, IsTrue, if◌then◌else◌}
+use Rattle.std.specs.Prelude.{◌≡◌, ℕ, suc, ◌≤◌, ◌<◌, ℤ, pos, Bool, true, ◌&&◌, nat_lt, nat_eq, not, List, [], ◌∷◌, ◌++◌, length, map, Option, Some, option_map, option_and_then, unwrap_or, IsTrue, if◌then◌else◌}
 use Rattle.std.specs.List.{list_all, slice_get, flat_map, count_by}
 use Rattle.std.specs.Option.{option_to_list}
 use Rattle.std.specs.Ordering.{int_eq}
@@ -12,6 +12,7 @@ use Rattle.dap_debuggee.specs.declared.answers.Variable.{Variable}
 use Rattle.dap_debuggee.specs.declared.recording.RecordedThread.{RecordedThread}
 use Rattle.dap_debuggee.specs.declared.recording.Moment.{Moment}
 use Rattle.dap_debuggee.specs.declared.recording.Recording.{Recording}
+use Rattle.dap_debuggee.specs.declared.recording.Span.{Span}
 
 -- ---- lines of a text
 
@@ -71,6 +72,20 @@ holders_of_variables variables = flat_map (λ variable. option_to_list variable.
 abbrev pub holders_of : Recording → List ℕ
 holders_of r = flat_map holders_of_scopes r.scopes ++ flat_map holders_of_variables r.variables
 
+-- a number of a span
+pub record IsWithin (span : Span) (n : ℕ) : Type 0 where
+  pub from : span.from ≤ n
+  pub to : n < span.to
+
+-- a moment's spans hold the numbers of its frames, of their scopes, and of the variables of those, at every depth
+pub record HasOwnNumbers (scopes : List (List Scope)) (variables : List (List Variable)) (m : Moment) : Type 0 where
+  -- the scopes of its frames and the variables of its holders stand in the recording
+  pub frames_stand : m.frames.to ≤ length scopes
+  pub holders_stand : m.holders.to ≤ length variables
+  pub of_frames : (t i : ℕ) (thread : RecordedThread) (frame : Frame) → slice_get m.threads t ≡ Some thread → slice_get thread.frames i ≡ Some frame → IsWithin m.frames frame.object
+  pub of_scopes : (n i : ℕ) (ss : List Scope) (s : Scope) → IsWithin m.frames n → slice_get scopes n ≡ Some ss → slice_get ss i ≡ Some s → IsWithin m.holders s.holder
+  pub of_variables : (n i : ℕ) (xs : List Variable) (x : Variable) (k : ℕ) → IsWithin m.holders n → slice_get variables n ≡ Some xs → slice_get xs i ≡ Some x → x.holder ≡ Some k → IsWithin m.holders k
+
 -- what holds of every recording
 pub record IsRecording (r : Recording) : Type 0 where
   pub sources : length r.sources ≤ 65536
@@ -79,3 +94,5 @@ pub record IsRecording (r : Recording) : Type 0 where
   pub moments : IsTrue (list_all (is_moment (length r.sources)) r.moments)
   -- no number is that of two scopes or variables
   pub holders : (n : ℕ) → count_by (nat_eq n) (holders_of r) ≤ 1
+  -- what a moment tells has numbers of that moment
+  pub spans : (i : ℕ) (m : Moment) → slice_get r.moments i ≡ Some m → HasOwnNumbers r.scopes r.variables m

@@ -99,6 +99,8 @@ impl Recorded {
     ghost use Rattle.dap_debuggee.specs.Played.{unplayed, started, resumed};
     ghost use Rattle.dap_debuggee.specs.Recording.{IsRecording};
     ghost use Rattle.dap_debuggee.specs.Held.{noted};
+    ghost use Rattle.dap_debuggee.specs.Played.{shown_of};
+    ghost use Rattle.dap_debuggee.specs.Told.{ToldCanBeAsked};
 
     /// A recording that is not started.
     pub(crate) fn of_recording(alloc: Global, recording: Recording) -> Result<Recorded, AllocError>
@@ -132,6 +134,13 @@ impl Recorded {
         ensures { IsRecording self.now.recording }
     {
         let _ = &self.recording;
+    }
+
+    /// Each frame, scope, variable and value that is told can be asked for what it holds. There is nothing to run.
+    pub fn told_can_be_asked(&self)
+        ensures { ToldCanBeAsked (shown_of self.now) }
+    {
+        self.is_recording();
     }
 
     /// What a move is decided by.
