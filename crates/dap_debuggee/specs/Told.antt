@@ -1,5 +1,5 @@
 -- What a debuggee tells can be asked for what it holds.
--- The Specification, "StackFrame", "Scope", "Variable", "EvaluateResponse", says that scopes and variables can be retrieved by the numbers that are told. That they can be in each view is this profile's choice.
+-- The Specification, "StackFrame", "Scope", "Variable" and "Evaluate Request", says that scopes and variables can be retrieved by the numbers that are told. That they can be in each view is this profile's choice.
 use Rattle.std.specs.Prelude.{◌≡◌, ℕ, ℤ, List, Option, Some}
 use Rattle.std.specs.List.{slice_get}
 use Rattle.std.specs.Option.{IsSome}
