@@ -15,7 +15,7 @@ returns c =
     let bytes : string_bytes key ≡ path = search rules in
     let most : lines ≡ max (unwrap_or (get_by_text old path) 0) source.lines = search rules in
     λ other.
-      ap (λ o. unwrap_or o 0) (btree_map_updates_text (string_bytes key) old c.insert.new.self (Some lines) c.in_ok-insert.ensures.updates other)
-      ∙ ap (λ p. unwrap_or (cond (bytes_eq p other) (Some lines) (get_by_text old other)) 0) bytes
-      ∙ ap (λ n. unwrap_or (cond (bytes_eq path other) (Some n) (get_by_text old other)) 0) most
-      ∙ most_added (get_by_text old) path other source is
+    ap (λ o. unwrap_or o 0) (btree_map_updates_text (string_bytes key) old c.insert.new.self (Some lines) c.in_ok-insert.ensures.updates other)
+    ∙ ap (λ p. unwrap_or (cond (bytes_eq p other) (Some lines) (get_by_text old other)) 0) bytes
+    ∙ ap (λ n. unwrap_or (cond (bytes_eq path other) (Some n) (get_by_text old other)) 0) most
+    ∙ most_added (get_by_text old) path other source is
