@@ -5,7 +5,7 @@ use Rattle.std.specs.List.{slice_get, flat_map, sum_by, count_by}
 use Rattle.std.specs.Option.{option_to_list}
 use Rattle.dap_debuggee.specs.declared.answers.Scope.{Scope}
 use Rattle.dap_debuggee.specs.declared.answers.Variable.{Variable}
-use Rattle.dap_debuggee.specs.Laws.{NamesOneHolder}
+use Rattle.dap_debuggee.specs.Told.{NamesOneHolder}
 use Rattle.dap_debuggee.specs.Played.{Played, shown_of, moment_shown, is_in, within}
 use Rattle.dap_debuggee.specs.declared.recording.Moment.{Moment}
 use Rattle.dap_debuggee.specs.declared.recording.Span.{Span}

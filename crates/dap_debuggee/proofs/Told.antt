@@ -1,13 +1,18 @@
 -- What a recorded debuggee tells can be asked: the numbers that a moment tells are its own.
-use Rattle.std.proofs.Common.{◌≡◌, ◌<◌, if◌then◌else◌, ℕ, zero, suc, ℤ, Bool, true, false, nat_le, nat_lt, List, [], ◌∷◌, length, Option, Some, None, option_map, option_and_then, unwrap_or, refl, sym, ap, subst, ◌∙◌, arith}
+use Rattle.std.proofs.Common.{◌≡◌, ◌<◌, if◌then◌else◌, ℕ, zero, suc, ℤ, Bool, true, false, nat_le, nat_lt, List, [], ◌∷◌, length, Option, Some, None, map, option_map, option_and_then, unwrap_or, refl, sym, ap, subst, ◌∙◌, arith, true≢false}
 use Rattle.std.proofs.lemmas.Bool.{leb-true, ltb-true, le-leb, lt-ltb}
+use Rattle.std.proofs.lemmas.Bool.Decides.{Decides-int_eq}
 use Rattle.std.proofs.lemmas.List.Folds.{find_at}
 use Rattle.std.specs.List.{slice_get, find, position_or_len}
 use Rattle.std.specs.Option.{IsSome}
 use Rattle.std.specs.Ordering.{int_eq}
-use Rattle.dap_debuggee.specs.Played.{Played, shown_of, moment_shown, is_there, is_in, within, scopes_shown, variable_named, first_of, value_in, evaluation}
+use Rattle.dap_debuggee.specs.Played.{Played, shown_of, moment_shown, threads_at, thread_shown, source_shown, is_there, is_in, within, scopes_shown, variable_named, first_of, value_in, evaluation}
 use Rattle.dap_debuggee.specs.Recording.{IsRecording, IsWithin, HasOwnNumbers}
 use Rattle.dap_debuggee.specs.Told.{ToldCanBeAsked}
+use Rattle.dap_debuggee.specs.declared.answers.Thread.{Thread}
+use Rattle.dap_debuggee.specs.declared.answers.Source.{Source}
+use Rattle.dap_debuggee.specs.declared.recording.RecordedThread.{RecordedThread}
+use Rattle.dap_debuggee.specs.declared.recording.RecordedSource.{RecordedSource}
 use Rattle.dap_debuggee.specs.declared.answers.Frame.{Frame}
 use Rattle.dap_debuggee.specs.declared.answers.Scope.{Scope}
 use Rattle.dap_debuggee.specs.declared.answers.Variable.{Variable}
@@ -147,8 +152,29 @@ values_told v good (Some frame) text e n is has =
     let number : value.0.holder ≡ Some n = ap (λ (x : Evaluation). x.holder) value.2 ∙ has in
     holder_asked v good t.0 t.1 n (own.of_variables at.scope.holder at.place_in at.variables_of value.0 n of_scope at.at_holder at.at_variable number)
 
+-- ---- threads and sources
+
+frames_by : (b : Bool) (thread : RecordedThread) (rest : Option RecordedThread) → (b ≡ false → IsSome (option_map (λ t. t.frames) rest)) → IsSome (option_map (λ (t : RecordedThread). t.frames) (if b then Some thread else rest))
+frames_by true thread rest later = refl
+frames_by false thread rest later = later refl
+
+thread_asked : (threads : List RecordedThread) (i : ℕ) (thread : Thread) → slice_get (map thread_shown threads) i ≡ Some thread → IsSome (option_map (λ t. t.frames) (find (λ t. int_eq thread.id t.id) threads))
+thread_asked [] i thread e = absurd (cc e)
+thread_asked (t ∷ threads) zero thread e =
+    let same : thread.id ≡ t.id = sym (ap (λ (s : Thread). s.id) (some_same (thread_shown t) thread e)) in
+    let here : int_eq thread.id t.id ≡ true = (Decides-int_eq thread.id t.id).1 same in
+    frames_by (int_eq thread.id t.id) t (find (λ s. int_eq thread.id s.id) threads) (λ no. absurd (true≢false (sym here ∙ no)))
+thread_asked (t ∷ threads) (suc i) thread e = frames_by (int_eq thread.id t.id) t (find (λ s. int_eq thread.id s.id) threads) (λ no. thread_asked threads i thread e)
+
+source_asked : (sources : List RecordedSource) (i : ℕ) (source : Source) → slice_get (map source_shown sources) i ≡ Some source → IsSome (option_map (λ s. s.text) (slice_get sources i))
+source_asked [] i source e = absurd (cc e)
+source_asked (s ∷ sources) zero source e = refl
+source_asked (s ∷ sources) (suc i) source e = source_asked sources i source e
+
 pub told_can_be_asked : (v : Played) → IsRecording v.recording → ToldCanBeAsked (shown_of v)
 told_can_be_asked v good = record {
+  threads = thread_asked (threads_at v);
+  sources = source_asked v.recording.sources;
   frames = frames_told v good;
   scopes = scopes_told v good;
   variables = variables_told v good;

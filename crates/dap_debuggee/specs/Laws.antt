@@ -14,8 +14,6 @@ use Rattle.dap_debuggee.specs.declared.answers.Happening.TheVariants as happenin
 use Rattle.dap_debuggee.specs.declared.answers.DebuggeeFault.{DebuggeeFault}
 use Rattle.dap_debuggee.specs.declared.answers.DebuggeeFault.TheVariants.{Refused, OutOfMemory}
 use Rattle.dap_debuggee.specs.declared.answers.Frame.{Frame}
-use Rattle.dap_debuggee.specs.declared.answers.Scope.{Scope}
-use Rattle.dap_debuggee.specs.declared.answers.Variable.{Variable}
 
 -- ---- what a call returned, want of memory aside
 
@@ -158,7 +156,7 @@ KeepsFrames {View} shown follows = (v w : View) (a : Act) (r : Reply) → follow
 abbrev pub KeepsSources : {View : Type 0} → (View → Shown) → Follows View → Type 0
 KeepsSources {View} shown follows = (v w : View) (a : Act) (r : Reply) → follows v a r w → SameSources (shown v) (shown w)
 
--- before the start and after the end there are no threads
+-- before the start and once gone there are no threads
 abbrev pub NoThreads : {View : Type 0} → (View → Shown) → Type 0
 NoThreads {View} shown = (v : View) → ((shown v).state ≡ NotStarted → (shown v).threads ≡ []) × ((shown v).state ≡ Gone → (shown v).threads ≡ [])
 
@@ -177,15 +175,6 @@ FramesInRange v = (thread : ℤ) (frames : List Frame) → v.frames thread ≡ S
 -- an object number names one frame
 abbrev pub NamesOneFrame : Shown → Type 0
 NamesOneFrame v = (s t : ℤ) (fs gs : List Frame) (i j : ℕ) (f g : Frame) → v.frames s ≡ Some fs → v.frames t ≡ Some gs → slice_get fs i ≡ Some f → slice_get gs j ≡ Some g → f.object ≡ g.object → (s ≡ t) × (i ≡ j)
-
--- an object number names one holder, that of one scope or of one variable
-pub record NamesOneHolder (v : Shown) : Type 0 where
-  -- two scopes with one number are the same scope of the same frame
-  pub scopes : (f g : ℕ) (ss ts : List Scope) (i j : ℕ) (s t : Scope) → v.scopes f ≡ Some ss → v.scopes g ≡ Some ts → slice_get ss i ≡ Some s → slice_get ts j ≡ Some t → s.holder ≡ t.holder → (f ≡ g) × (i ≡ j)
-  -- two variables with one number are the same variable of the same holder
-  pub variables : (h k : ℕ) (xs ys : List Variable) (i j : ℕ) (x y : Variable) (n : ℕ) → v.children h ≡ Some xs → v.children k ≡ Some ys → slice_get xs i ≡ Some x → slice_get ys j ≡ Some y → x.holder ≡ Some n → y.holder ≡ Some n → (h ≡ k) × (i ≡ j)
-  -- a scope and a variable never have one number
-  pub apart : (f h : ℕ) (ss : List Scope) (xs : List Variable) (i j : ℕ) (s : Scope) (x : Variable) → v.scopes f ≡ Some ss → v.children h ≡ Some xs → slice_get ss i ≡ Some s → slice_get xs j ≡ Some x → x.holder ≡ Some s.holder → ⊥
 
 abbrev pub SourcesInRange : Shown → Type 0
 SourcesInRange v = length v.sources ≤ 65536

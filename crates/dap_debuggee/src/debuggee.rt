@@ -18,7 +18,7 @@ use std::alloc::{AllocError, Global};
 pub trait Debuggee {
     ghost use Rattle.std.specs.Prelude.{◌≡◌, IfOk, OnOk, IsTrue};
     ghost use Rattle.dap_debuggee.specs.Shown.{Shown, Act, Reply, to_start, to_resume, to_pause, to_poll, to_set_breakpoints, to_end, done, happened};
-    ghost use Rattle.dap_debuggee.specs.Laws.{Replies, Tells, Counts, Remembers, Answers, Moves, SetsLines, KeepsAnswers, KeepsFrames, KeepsSources, is_short, NoThreads, ThreadsInRange, FramesInRange, NamesOneFrame, NamesOneHolder, SourcesInRange, VerifiesEach};
+    ghost use Rattle.dap_debuggee.specs.Laws.{Replies, Tells, Counts, Remembers, Answers, Moves, SetsLines, KeepsAnswers, KeepsFrames, KeepsSources, is_short, NoThreads, ThreadsInRange, FramesInRange, NamesOneFrame, SourcesInRange, VerifiesEach};
 
     /// What a view shows.
     ghost shown: { Self → Shown };
@@ -56,28 +56,26 @@ pub trait Debuggee {
     fn end(&mut self)
         ensures { follows self.old to_end done self.new };
 
-    /// The threads, in order.
+    /// The threads, in order; none before the start and once gone.
     fn threads(&self, alloc: Global) -> Result<Vec<Thread>, AllocError>
         ensures threads { IfOk result (λ threads. threads.items ≡ (shown self.now).threads) }
         ensures in_range { ThreadsInRange (shown self.now) };
 
-    /// The frames of a thread, the newest first.
+    /// The frames of a thread, the newest first. `Refused` where there is no such thread.
     fn frames(&self, alloc: Global, thread: i64) -> Result<Vec<Frame>, DebuggeeFault>
         ensures frames { Tells result (λ frames. frames.items) ((shown self.now).frames thread) }
         ensures in_range { FramesInRange (shown self.now) }
         ensures one_name { NamesOneFrame (shown self.now) };
 
-    /// The scopes of a frame.
+    /// The scopes of a frame, by its object number. `Refused` where there is no such frame.
     fn scopes(&self, alloc: Global, frame: u64) -> Result<Vec<Scope>, DebuggeeFault>
-        ensures scopes { Tells result (λ scopes. scopes.items) ((shown self.now).scopes frame) }
-        ensures one_name { NamesOneHolder (shown self.now) };
+        ensures { Tells result (λ scopes. scopes.items) ((shown self.now).scopes frame) };
 
-    /// The variables of a holder.
+    /// The variables of a holder, by its object number. `Refused` where there is no such holder.
     fn children(&self, alloc: Global, holder: u64) -> Result<Vec<Variable>, DebuggeeFault>
-        ensures children { Tells result (λ children. children.items) ((shown self.now).children holder) }
-        ensures one_name { NamesOneHolder (shown self.now) };
+        ensures { Tells result (λ children. children.items) ((shown self.now).children holder) };
 
-    /// The value of a text, in a frame or in none.
+    /// The value of a text, in a frame by its object number or in none. `Refused` where it has none.
     fn evaluate(
         &self,
         alloc: Global,
@@ -91,11 +89,11 @@ pub trait Debuggee {
         ensures sources { IfOk result (λ sources. sources.items ≡ (shown self.now).sources) }
         ensures in_range { SourcesInRange (shown self.now) };
 
-    /// The text of a source, by its index from 0.
+    /// The text of a source, by its index from 0. `Refused` where there is none to tell.
     fn content(&self, alloc: Global, index: u32) -> Result<Text, DebuggeeFault>
         ensures { Tells result (λ text. text) ((shown self.now).content index) };
 
-    /// Of each line whether a breakpoint can stand there.
+    /// Of each line, counted from 1, whether a breakpoint can stand there. `Refused` where it cannot be told.
     fn verify(
         &self,
         alloc: Global,
@@ -122,13 +120,13 @@ pub trait Debuggee {
     /// A refused act, a pause and the setting of breakpoints change no answer.
     ghost keeps_answers: { KeepsAnswers shown follows };
 
-    /// Frames, scopes and variables stay until the debuggee starts, goes on, stops or ends.
+    /// Frames, scopes and variables stay until the debuggee starts, goes on, stops, exits or is ended.
     ghost keeps_frames: { KeepsFrames shown follows };
 
     /// Sources and their texts never change.
     ghost keeps_sources: { KeepsSources shown follows };
 
-    /// No threads before the start and after the end.
+    /// No threads before the start and once gone.
     ghost no_threads: { NoThreads shown };
 
     /// One answer for each line asked.

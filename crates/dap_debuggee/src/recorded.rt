@@ -100,7 +100,7 @@ impl Recorded {
     ghost use Rattle.dap_debuggee.specs.Recording.{IsRecording};
     ghost use Rattle.dap_debuggee.specs.Held.{noted};
     ghost use Rattle.dap_debuggee.specs.Played.{shown_of};
-    ghost use Rattle.dap_debuggee.specs.Told.{ToldCanBeAsked};
+    ghost use Rattle.dap_debuggee.specs.Told.{ToldCanBeAsked, NamesOneHolder};
 
     /// A recording that is not started.
     pub(crate) fn of_recording(alloc: Global, recording: Recording) -> Result<Recorded, AllocError>
@@ -136,9 +136,17 @@ impl Recorded {
         let _ = &self.recording;
     }
 
-    /// Each frame, scope, variable and value that is told can be asked for what it holds. There is nothing to run.
+    /// What is told can be asked for what it holds: each thread, source, frame, scope, variable and value. There is
+    /// nothing to run.
     pub fn told_can_be_asked(&self)
         ensures { ToldCanBeAsked (shown_of self.now) }
+    {
+        self.is_recording();
+    }
+
+    /// No two scopes or variables have one number of a holder. There is nothing to run.
+    pub fn holders_differ(&self)
+        ensures { NamesOneHolder (shown_of self.now) }
     {
         self.is_recording();
     }
@@ -247,12 +255,10 @@ impl Debuggee for Recorded {
     }
 
     fn scopes(&self, alloc: Global, frame: u64) -> Result<Vec<Scope>, DebuggeeFault> {
-        self.is_recording();
         self.scopes_of(alloc, frame)
     }
 
     fn children(&self, alloc: Global, holder: u64) -> Result<Vec<Variable>, DebuggeeFault> {
-        self.is_recording();
         self.children_of(alloc, holder)
     }
 
