@@ -14,6 +14,9 @@ use Rattle.dap_debuggee.specs.Recording.{id_at}
 use Rattle.dap_debuggee.specs.declared.lines.SetLines.{SetLines}
 use Rattle.dap_debuggee.specs.Moves.{reason_text}
 use Rattle.dap_debuggee.specs.Played.{Played, Run}
+use Rattle.std.specs.Option.{IsSome}
+use Rattle.dap_debuggee.specs.declared.answers.State.{State}
+use Rattle.dap_debuggee.specs.declared.answers.State.TheVariants.{Running}
 use Rattle.dap_debuggee.specs.declared.answers.Asked.TheVariants.{Poll}
 use Rattle.dap_debuggee.specs.declared.answers.Category.TheVariants.{Stdout}
 use Rattle.dap_debuggee.specs.declared.answers.Happening.{Happening}
@@ -60,6 +63,11 @@ last_of r (last.Polled g) = Some (record { asked = Poll; reply = happened (given
 abbrev pub IsToldWhole : List Moment → Option Going → Type 0
 IsToldWhole moments None = Unit {0}
 IsToldWhole moments (Some g) = (g.told ≡ 0) ⊎ IsCharBoundary (output_in moments g.moment) g.told
+
+-- what runs has a run
+abbrev pub HasRun : State → Option Going → Type 0
+HasRun Running going = IsSome going
+HasRun _ going = Unit {0}
 
 -- an act counted and remembered
 abbrev pub noted : Option Last → Played → Played

@@ -1,19 +1,15 @@
 //! What a recorded debuggee does when it is asked.
-ghost use Rattle.std.specs.Prelude.{◌≡◌, IfOk, OnOk, IsTrue};
-ghost use Rattle.dap_debuggee.specs.Shown.{to_start, to_resume, to_pause, to_poll, to_set_breakpoints, to_end, done, happened};
-ghost use Rattle.dap_debuggee.specs.Laws.{Replies, is_short};
-ghost use Rattle.dap_debuggee.specs.Played.{FollowsPlayed};
-
 use crate::answers::{Asked, DebuggeeFault, How, State};
 use crate::recorded::{Going, LastAsked, Recorded};
 use dap_call::SourceKey;
 use std::alloc::{AllocError, Global};
 
 impl Recorded {
-    ghost use Rattle.std.specs.Prelude.{◌≡◌, ◌<◌, length, IfOk, OnOk, IsTrue};
-    ghost use Rattle.dap_debuggee.specs.Shown.{to_start, to_resume, to_pause, to_poll, to_set_breakpoints, to_end, done, happened};
-    ghost use Rattle.dap_debuggee.specs.Laws.{Replies, is_short};
+    ghost use Rattle.std.specs.Prelude.{◌≡◌, ◌<◌, length, None, OnOk};
+    ghost use Rattle.dap_debuggee.specs.Shown.{to_start, to_resume, to_pause, to_set_breakpoints, to_end, done};
+    ghost use Rattle.dap_debuggee.specs.Laws.{Replies};
     ghost use Rattle.dap_debuggee.specs.Played.{FollowsPlayed, resting};
+    ghost use Rattle.dap_debuggee.specs.Held.{HasRun};
 
     pub(crate) fn to_start(&mut self) -> Result<(), DebuggeeFault>
         ensures { Replies result (λ reply. FollowsPlayed self.old to_start reply self.new) }
@@ -50,20 +46,18 @@ impl Recorded {
     pub(crate) fn to_pause(&mut self) -> Result<(), DebuggeeFault>
         ensures { Replies result (λ reply. FollowsPlayed self.old to_pause reply self.new) }
     {
-        match (self.state, self.going) {
-            (State::Running, Some(going)) => {
-                self.going = Some(Going {
-                    paused: true,
-                    ..going
-                });
+        match self.state {
+            State::Running => {
+                if let Some(going) = self.going {
+                    self.going = Some(Going {
+                        paused: true,
+                        ..going
+                    });
+                }
                 self.note(LastAsked::Done(Asked::Pause));
                 Ok(())
             }
-            (State::Running, None) => {
-                self.note(LastAsked::Done(Asked::Pause));
-                Ok(())
-            }
-            _ => {
+            State::NotStarted | State::Stopped | State::Gone => {
                 self.note(LastAsked::Refused(Asked::Pause));
                 Err(DebuggeeFault::Refused)
             }
@@ -72,7 +66,8 @@ impl Recorded {
 
     /// Rests at a moment, or is gone.
     pub(crate) fn rest(&mut self, state: State, at: usize)
-        requires { at < length self.old.recording.moments }
+        requires within { at < length self.old.recording.moments }
+        requires over { HasRun state None }
         ensures { self.new ≡ resting state at self.old }
     {
         self.state = state;

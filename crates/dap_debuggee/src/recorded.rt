@@ -76,7 +76,7 @@ pub struct Recorded {
 impl Model for Recorded {
     ghost use Rattle.std.specs.Prelude.{◌<◌, length};
     ghost use Rattle.dap_debuggee.specs.Played.{Played};
-    ghost use Rattle.dap_debuggee.specs.Held.{run_of, last_of, IsToldWhole, HasMost};
+    ghost use Rattle.dap_debuggee.specs.Held.{run_of, last_of, IsToldWhole, HasMost, HasRun};
     ghost use Rattle.dap_debuggee.specs.Recording.{IsRecording};
 
     ghost Value = { Played };
@@ -91,11 +91,12 @@ impl Model for Recorded {
       last = last_of r.recording r.last;
     } };
 
-    ghost invariant = { λ r. IsRecording r.recording × (r.at < length r.recording.moments) × IsToldWhole r.recording.moments r.going × HasMost r.paths.most r.recording.sources };
+    ghost invariant = { λ r. IsRecording r.recording × (r.at < length r.recording.moments) × IsToldWhole r.recording.moments r.going × HasMost r.paths.most r.recording.sources × HasRun r.state r.going };
 }
 
 impl Recorded {
     ghost use Rattle.std.specs.Prelude.{IfOk};
+    ghost use Rattle.std.specs.Option.{IsSome};
     ghost use Rattle.dap_debuggee.specs.Played.{unplayed, started, resumed};
     ghost use Rattle.dap_debuggee.specs.Recording.{IsRecording};
     ghost use Rattle.dap_debuggee.specs.Held.{noted};
@@ -142,6 +143,13 @@ impl Recorded {
         ensures { ToldCanBeAsked (shown_of self.now) }
     {
         self.is_recording();
+    }
+
+    /// What runs has a run under way, whose end polls tell. There is nothing to run.
+    pub fn a_run_is_under_way(&self)
+        ensures { self.now.state ≡ State.Running → IsSome self.now.run }
+    {
+        let _ = &self.going;
     }
 
     /// No two scopes or variables have one number of a holder. There is nothing to run.
