@@ -22,7 +22,7 @@ one d = array (item d no_items)
 abbrev none : Data
 none = array no_items
 
--- ---- recording A
+-- ---- three moments
 
 abbrev source_a : Data
 source_a = object (put (codes "name") (text (codes "a.c")) (put (codes "path") (text (codes "/a.c")) (put (codes "text") (text (codes "one\ntwo\nthree\n")) no_members)))
@@ -63,16 +63,16 @@ moment_2 = object (put (codes "waits") (boolean true) (moment_members (item (thr
 abbrev with_parts : Data → Data → Data → Data
 with_parts exit sources moments = object (put (codes "exit") exit (put (codes "sources") sources (put (codes "moments") moments no_members)))
 
-abbrev recording_a : Data
-recording_a = with_parts (whole 0) (one source_a) (array (item moment_0 (item moment_1 (item moment_2 no_items))))
+abbrev three_moments_json : Data
+three_moments_json = with_parts (whole 0) (one source_a) (array (item moment_0 (item moment_1 (item moment_2 no_items))))
 
-recording_a_is_read : recording_of recording_a ≡ Ok three_moments
+three_moments_are_read : recording_of three_moments_json ≡ Ok three_moments
 unfolding recording_of source_of moments_of moment_of thread_of frame_of scopes_of scope_of
-recording_a_is_read = refl
+three_moments_are_read = refl
 
 -- so it is a recording
 pub three_moments_is_recording : IsRecording three_moments
-three_moments_is_recording = is_read recording_a three_moments recording_a_is_read
+three_moments_is_recording = is_read three_moments_json three_moments three_moments_are_read
 
 -- ---- no recordings
 

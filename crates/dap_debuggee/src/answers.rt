@@ -73,11 +73,13 @@ pub enum Happening {
 /// Why a debuggee did not do or tell what it was asked.
 #[derive(Clone, Copy, Debug, PartialEq, Eq)]
 pub enum DebuggeeFault {
+    /// It was asked outside its state, or has no answer.
     Refused,
     /// Memory was refused.
     OutOfMemory,
 }
 
+/// Specification, "Thread".
 #[derive(Debug, Drop)]
 pub struct Thread {
     /// -9007199254740991 to 9007199254740991.
@@ -85,8 +87,10 @@ pub struct Thread {
     pub name: Text,
 }
 
+/// Specification, "StackFrame".
 #[derive(Debug, Drop)]
 pub struct Frame {
+    /// The debuggee's number of it, by which `scopes` and `evaluate` are asked.
     pub object: u64,
     pub name: Text,
     /// The index of its source, from 0.
@@ -95,12 +99,15 @@ pub struct Frame {
     pub line: u32,
 }
 
+/// Specification, "Scope".
 #[derive(Debug, Drop)]
 pub struct Scope {
     pub name: Text,
+    /// The number of what holds its variables, by which `children` is asked.
     pub holder: u64,
 }
 
+/// Specification, "Variable".
 #[derive(Debug, Drop)]
 pub struct Variable {
     pub name: Text,
@@ -109,6 +116,7 @@ pub struct Variable {
     pub holder: Option<u64>,
 }
 
+/// The value of an expression: Specification, "EvaluateResponse".
 #[derive(Debug, Drop)]
 pub struct Evaluation {
     pub value: Text,
@@ -116,9 +124,11 @@ pub struct Evaluation {
     pub holder: Option<u64>,
 }
 
+/// Specification, "Source".
 #[derive(Debug, Drop)]
 pub struct Source {
     pub name: Text,
+    /// `None` where it has none; then it is named by its number alone.
     pub path: Option<Text>,
 }
 

@@ -11,7 +11,7 @@ pub fn polls_tell_the_pieces()
     ensures { PollsTellThePieces }
 {}
 
-/// A recorded debuggee that is held gives nothing after its output, poll after poll.
+/// A recorded debuggee that is held, and was not asked to pause, gives nothing after its output, poll after poll.
 pub fn held_gives_nothing()
     ensures { HeldGivesNothing }
 {}

@@ -103,7 +103,7 @@ pub(crate) struct Plan<'r> {
 }
 
 impl Plan<'_> {
-    ghost use Rattle.dap_debuggee.specs.Moves.{passes as passes_test, first_place, least_after as least_place_after, last_place, greatest_before as greatest_place_before, target as target_of, reason_of, depth_at, waiting_within, move_of};
+    ghost use Rattle.dap_debuggee.specs.Moves.{passes as passes_test, least_after as least_place_after, greatest_before as greatest_place_before, target as target_of, reason_of, depth_at, waiting_within, move_of};
     ghost use Rattle.dap_debuggee.specs.Played.{lines_in};
 
     fn passes(&self, wanted: Wanted, moment: &Moment) -> bool

@@ -30,7 +30,7 @@ fn add(
     Ok(())
 }
 
-/// The lines under each path of the sources.
+/// How many lines there are under each path of the sources.
 pub(crate) fn of_sources(alloc: Global, sources: &[RecordedSource]) -> Result<Paths, AllocError>
     ensures { IfOk result (λ p. HasMost p.most sources.now) }
 {

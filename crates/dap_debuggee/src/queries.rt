@@ -111,7 +111,11 @@ fn named<'v>(variables: &'v [Variable], name: &str) -> Option<&'v Variable>
 }
 
 /// The first variable with a name in a scope.
-fn value_of<'r>(variables: &'r [List<Variable>], name: &str, scope: &Scope) -> Option<&'r Variable>
+fn value_in_scope<'r>(
+    variables: &'r [List<Variable>],
+    name: &str,
+    scope: &Scope,
+) -> Option<&'r Variable>
     ensures { option_map (λ v. v.now) result ≡ variable_named name.now (held_by variables.now scope.now.holder) }
 {
     named(variables.get(scope.holder as usize)?.as_slice(), name)
@@ -126,7 +130,7 @@ fn value_in<'r>(
     ensures { option_map (λ v. v.now) result ≡ value_within variables.now name.now scopes.now }
 {
     for scope in scopes {
-        if let Some(variable) = value_of(variables, name, scope) {
+        if let Some(variable) = value_in_scope(variables, name, scope) {
             return Some(variable);
         }
     }
@@ -155,7 +159,7 @@ impl Recorded {
     ghost use Rattle.dap_debuggee.specs.Held.{lines_of_key};
     ghost use Rattle.dap_debuggee.specs.Played.{moment_shown, threads_at, scopes_shown, children_shown, thread_shown, shown_of};
 
-    /// The moment that is shown; none before the start and after the end.
+    /// The moment that is shown; none before the start and once gone.
     fn moment(&self) -> Option<&Moment>
         ensures { option_map (λ m. m.now) result ≡ moment_shown self.now }
     {

@@ -11,7 +11,7 @@ impl Recorded {
 
     /// The recording that bytes are, not started.
     ///
-    /// `OutOfMemory` comes where memory for the JSON value, a text or a list is refused.
+    /// `OutOfMemory` comes where memory for the JSON value, a text, a list or a table is refused.
     pub fn read(alloc: Global, bytes: &[u8]) -> Result<Recorded, RecordingFault>
         ensures { Reads result (verdict_of (json_of bytes.now)) }
     {

@@ -160,14 +160,14 @@ pub(crate) fn flag(value: &Value, key: RecordingKey) -> Result<bool, RecordingFa
     }
 }
 
-/// The greatest line.
-const MAX_LINE: u64 = 2147483647;
+/// The greatest line, and the greatest place of a source.
+const MAX_NUMBER: u64 = 2147483647;
 
 /// The greatest id of a thread.
 const MAX_ID: i64 = 9007199254740991;
 
-/// The greatest count of few items.
-const MAX_FEW: usize = 65536;
+/// The most sources.
+const MAX_SOURCES: usize = 65536;
 
 pub(crate) fn int(value: &Value) -> Option<i64>
     ensures { result ≡ int_of (view value.now) }
@@ -179,7 +179,7 @@ pub(crate) fn number(value: &Value) -> Option<u32>
     ensures { result ≡ number_of (view value.now) }
 {
     match value.as_u64() {
-        Some(n) if n <= MAX_LINE => Some(n as u32),
+        Some(n) if n <= MAX_NUMBER => Some(n as u32),
         _ => None,
     }
 }
@@ -240,7 +240,7 @@ pub(crate) fn few_items(value: &Value, key: RecordingKey) -> Result<&[Value], Re
     ensures { GivesItems result (few_items_of key (view value.now)) }
 {
     let items = items(value, key)?;
-    if items.len() > MAX_FEW {
+    if items.len() > MAX_SOURCES {
         return Err(bad(key));
     }
     Ok(items)

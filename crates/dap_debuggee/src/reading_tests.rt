@@ -1,22 +1,21 @@
+//! Recordings that are read, and why others are not.
+use crate::tests::THREE_MOMENTS;
 use crate::{Recorded, RecordingFault, RecordingKey};
 use std::alloc::Global;
 use std::test::Fail;
 
-const RECORDING_A: &str =
-    "{\"exit\":0,\"sources\":[{\"name\":\"a.c\",\"path\":\"/a.c\",\"text\":\"one\\ntwo\\nthree\\n\"}],\"moments\":[{\"thread\":1,\"output\":\"go\\n\",\"threads\":[{\"id\":1,\"name\":\"main\",\"frames\":[{\"name\":\"main\",\"source\":0,\"line\":1,\"scopes\":[{\"name\":\"Locals\",\"variables\":[{\"name\":\"x\",\"value\":\"1\"},{\"name\":\"p\",\"value\":\"P\",\"variables\":[{\"name\":\"a\",\"value\":\"7\"}]}]}]}]}]},{\"thread\":1,\"threads\":[{\"id\":1,\"name\":\"main\",\"frames\":[{\"name\":\"f\",\"source\":0,\"line\":3},{\"name\":\"main\",\"source\":0,\"line\":1}]}]},{\"thread\":1,\"waits\":true,\"threads\":[{\"id\":1,\"name\":\"main\",\"frames\":[{\"name\":\"main\",\"source\":0,\"line\":2}]}]}]}";
-
-/// Every key of the format, each name once.
+/// Every key of the format, with no two names alike.
 const WHOLE: &str =
     "{\"exit\":3,\"sources\":[{\"name\":\"a\",\"path\":\"/a\",\"text\":\"x\\ny\"}],\"moments\":[{\"threads\":[{\"id\":1,\"name\":\"m\",\"frames\":[{\"name\":\"f\",\"source\":0,\"line\":2,\"scopes\":[{\"name\":\"s\",\"variables\":[{\"name\":\"v\",\"value\":\"1\",\"variables\":[{\"name\":\"w\",\"value\":\"2\"}]}]}]}]}],\"thread\":1,\"output\":\"o\",\"waits\":true}]}";
 
-/// The bad key, where bytes are no recording; `None` where they are one.
+/// Why bytes are no recording; `None` where they are one.
 fn refusal(alloc: Global, bytes: &[u8]) -> Option<RecordingFault> {
     Recorded::read(alloc, bytes).err()
 }
 
 #[test]
 fn reads_a_recording(rt: HostRuntime) -> Result<(), Fail> {
-    let Ok(recorded) = Recorded::read(rt.alloc(), RECORDING_A.as_bytes()) else {
+    let Ok(recorded) = Recorded::read(rt.alloc(), THREE_MOMENTS.as_bytes()) else {
         return Err("not read")?;
     };
     let recording = &recorded.recording;
@@ -33,7 +32,7 @@ fn reads_a_recording(rt: HostRuntime) -> Result<(), Fail> {
 /// Frames and holders count over the whole recording.
 #[test]
 fn numbers_frames(rt: HostRuntime) -> Result<(), Fail> {
-    let Ok(recorded) = Recorded::read(rt.alloc(), RECORDING_A.as_bytes()) else {
+    let Ok(recorded) = Recorded::read(rt.alloc(), THREE_MOMENTS.as_bytes()) else {
         return Err("not read")?;
     };
     let recording = &recorded.recording;
@@ -54,7 +53,7 @@ fn numbers_frames(rt: HostRuntime) -> Result<(), Fail> {
 }
 
 #[test]
-fn refuses_what_is_no_object(rt: HostRuntime) -> Result<(), Fail> {
+fn refuses_what_is_no_recording(rt: HostRuntime) -> Result<(), Fail> {
     let rows: [(&str, RecordingFault); 7] = [
         ("{", RecordingFault::NotJson),
         ("", RecordingFault::NotJson),
@@ -579,7 +578,7 @@ fn counts_the_sources(rt: HostRuntime) -> Result<(), Fail> {
 /// For `rt try --test --fail-alloc N`: the recording, or want of memory.
 #[test]
 fn reads_or_runs_out_of_memory(rt: HostRuntime) {
-    match Recorded::read(rt.alloc(), RECORDING_A.as_bytes()) {
+    match Recorded::read(rt.alloc(), THREE_MOMENTS.as_bytes()) {
         Err(fault) => assert_eq!(rt; fault, RecordingFault::OutOfMemory),
         Ok(recorded) => assert_eq!(rt; recorded.recording.moments.as_slice().len(), 3),
     }

@@ -62,7 +62,7 @@ pub(crate) enum LastAsked {
 #[derive(Drop)]
 pub struct Recorded {
     pub(crate) recording: Recording,
-    /// The lines under each path of its sources.
+    /// How many lines there are under each path of its sources.
     pub(crate) paths: Paths,
     pub(crate) state: State,
     /// The place of the moment that is shown.

@@ -17,7 +17,7 @@ use std::marker::Model;
 
 // ---- variables
 
-/// The number of variables, where there are some.
+/// Keeps variables under the next number, where there are some.
 fn holder(
     inner: Vec<Variable>,
     holders: &mut Vec<List<Variable>>,

@@ -1,6 +1,5 @@
 //! A run of a recording that is under way: what it writes, and how it ends.
 ghost use Rattle.std.specs.Prelude.{◌≡◌, ◌⊎◌, ◌≤◌, ◌-◌, length, take, drop, IfSome, Some, None};
-ghost use Rattle.std.specs.List.{slice_get};
 ghost use Rattle.std.specs.Str.{IsCharBoundary};
 ghost use Rattle.dap_debuggee.specs.Held.{output_left, output_in, IsToldWhole, IsReady};
 ghost use Rattle.dap_debuggee.specs.Played.{first_piece, piece_length};

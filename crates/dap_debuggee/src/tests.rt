@@ -8,7 +8,7 @@ use std::alloc::Global;
 use std::test::Fail;
 
 /// Three moments of one thread: in `main`, in `f` below it, and in `main` again, where it waits.
-const THREE_MOMENTS: &str =
+pub(crate) const THREE_MOMENTS: &str =
     "{\"exit\":0,\"sources\":[{\"name\":\"a.c\",\"path\":\"/a.c\",\"text\":\"one\\ntwo\\nthree\\n\"}],\"moments\":[{\"thread\":1,\"output\":\"go\\n\",\"threads\":[{\"id\":1,\"name\":\"main\",\"frames\":[{\"name\":\"main\",\"source\":0,\"line\":1,\"scopes\":[{\"name\":\"Locals\",\"variables\":[{\"name\":\"x\",\"value\":\"1\"},{\"name\":\"p\",\"value\":\"P\",\"variables\":[{\"name\":\"a\",\"value\":\"7\"}]}]}]}]}]},{\"thread\":1,\"threads\":[{\"id\":1,\"name\":\"main\",\"frames\":[{\"name\":\"f\",\"source\":0,\"line\":3},{\"name\":\"main\",\"source\":0,\"line\":1}]}]},{\"thread\":1,\"waits\":true,\"threads\":[{\"id\":1,\"name\":\"main\",\"frames\":[{\"name\":\"main\",\"source\":0,\"line\":2}]}]}]}";
 
 fn three_moments(alloc: Global) -> Result<Recorded, Fail> {
@@ -54,7 +54,7 @@ fn polled<D: Debuggee>(alloc: Global, debuggee: &mut D) -> Result<String, Fail> 
     })
 }
 
-/// What is asked, a word each, and what is answered, a line each.
+/// What is asked, a word each, and what is answered, `; ` after each answer.
 fn played<D: Debuggee>(alloc: Global, debuggee: &mut D, words: &str) -> Result<String, Fail> {
     let mut told = String::new(alloc);
     for word in words.split(' ') {
@@ -81,7 +81,8 @@ fn answer<D: Debuggee>(alloc: Global, debuggee: &mut D, word: &str) -> Result<St
         }
         "line" => set(alloc, debuggee, &[1]),
         "clear" => set(alloc, debuggee, &[]),
-        _ => polled(alloc, debuggee),
+        "poll" => polled(alloc, debuggee),
+        _ => Err(Fail::from("no such word")),
     }
 }
 
