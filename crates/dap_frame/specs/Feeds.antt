@@ -5,6 +5,7 @@ use Rattle.dap_frame.specs.Intake.{Intake, IsUnderWay, IsReady, IsClosed, Stands
 
 -- the first n bytes of the piece make the frame whole: its body is the next of the stream
 pub record Completes (old new : Intake) (piece : List ℕ) (n : ℕ) : Type 0 where
+  pub bounds : new.bounds ≡ old.bounds
   pub within : n ≤ length piece
   pub ready : IsReady new
   pub stands : (s : List ℕ) (xs : List (List ℕ)) (rest : List ℕ) → StandsFor old s xs rest
@@ -12,6 +13,7 @@ pub record Completes (old new : Intake) (piece : List ℕ) (n : ℕ) : Type 0 wh
 
 -- all n bytes of the piece go behind the rest, and the frame is still under way
 pub record Gathers (old new : Intake) (piece : List ℕ) (n : ℕ) : Type 0 where
+  pub bounds : new.bounds ≡ old.bounds
   pub all : n ≡ length piece
   pub under_way : IsUnderWay new
   pub stands : (s : List ℕ) (xs : List (List ℕ)) (rest : List ℕ) → StandsFor old s xs rest
@@ -20,6 +22,7 @@ pub record Gathers (old new : Intake) (piece : List ℕ) (n : ℕ) : Type 0 wher
 -- the first bytes of the piece, some n of them, go behind the rest, and the reader is closed with this fault:
 -- with a refusal, just as many as make it the verdict on the rest
 pub record Closes (old new : Intake) (piece : List ℕ) (fault : FrameFault) : Type 0 where
+  pub bounds : new.bounds ≡ old.bounds
   pub closed : IsClosed new fault.cause
   pub offset : fault.offset ≡ new.start
   pub n : ℕ

@@ -9,3 +9,4 @@ pub mod SoundReading
 pub mod Sizes
 pub mod Lengths
 pub mod PlainBodies
+pub mod Ranges

@@ -22,6 +22,7 @@ pub mod Refusals
 pub mod Meaning
 pub mod Gives
 pub mod Heading
+pub mod InRange
 pub mod Verdict
 pub mod Plain
 pub mod Canon

@@ -1,5 +1,6 @@
 //! Laws of the definitions, each on a function with nothing to run.
 ghost use Rattle.dap_message.specs.Laws.{EachBodyIsOne, WrittenIsReadAgain, ReadIsSound};
+ghost use Rattle.dap_message.specs.InRange.{ReadIsInRange};
 ghost use Rattle.dap_message.specs.PlainBodies.{EventBodiesArePlain, FailureBodiesArePlain, ResponseBodiesArePlain};
 ghost use Rattle.dap_message.specs.Lengths.{EventsAreShort, FailuresAreShort, FixedResponsesAreShort};
 
@@ -26,6 +27,11 @@ pub fn read_is_sound()
 {
     what_is_read_is_sound();
 }
+
+/// What is read has numbers of at most 9007199254740991, and a command of at most 64 bytes.
+pub fn read_is_in_range()
+    ensures { ReadIsInRange }
+{}
 
 /// What an adapter writes of a fixed shape has at most 1024 bytes: each failure, each response
 /// without a body or with one of a fixed shape, and each event.

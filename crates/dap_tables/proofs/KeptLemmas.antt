@@ -7,7 +7,7 @@ use Rattle.std.proofs.lemmas.List.Elements.{filter-append}
 use Rattle.std.proofs.lemmas.List.Folds.{list_any-append}
 use Rattle.std.proofs.lemmas.Bool.Decides.{nat_tests}
 use Rattle.dap_tables.specs.declared.entry.Entry.{Entry}
-use Rattle.dap_tables.specs.Outstanding.{Kept, marked, entries, contains_seq, entry_with, without, is_parked, with_mark, oldest_unparked, HasDistinctSeqs, IsOrderly}
+use Rattle.dap_tables.specs.Outstanding.{Kept, marked, entries, contains_seq, entry_with, without, is_parked, with_mark, oldest_unparked, unparked_ones, HasDistinctSeqs, IsOrderly}
 use Rattle.dap_tables.proofs.Lists.{or-false, or-left, or-right}
 
 pub eqb-flip : (a b : ℕ) → (a == b) ≡ (b == a)
@@ -82,7 +82,7 @@ cond-length : (b : Bool) (k : Kept) (ks : List Kept) (n : ℕ) → length ks ≤
 cond-length true k ks n h = omega arith
 cond-length false k ks n h = omega arith
 
-length-filter : (p : Kept → Bool) (ks : List Kept) → length (filter p ks) ≤ length ks
+pub length-filter : (p : Kept → Bool) (ks : List Kept) → length (filter p ks) ≤ length ks
 length-filter p [] = omega arith
 length-filter p (k ∷ ks) = let h = cond-length (p k) k (filter p ks) (length ks) (length-filter p ks) in omega arith
 
@@ -91,6 +91,12 @@ IsOrderly-without room seq ks o =
     let shorter = length-filter (λ (q : Kept). not (q.entry.seq == seq)) ks in
     let old = o.bound in
     record { bound = omega arith; distinct = HasDistinctSeqs-filter (λ (q : Kept). not (q.entry.seq == seq)) ks o.distinct }
+
+pub IsOrderly-unparked : (room : ℕ) (ks : List Kept) → IsOrderly (record { room = room; kept = ks }) → IsOrderly (record { room = room; kept = unparked_ones ks })
+IsOrderly-unparked room ks o =
+    let shorter = length-filter (λ (q : Kept). not q.parked) ks in
+    let old = o.bound in
+    record { bound = omega arith; distinct = HasDistinctSeqs-filter (λ (q : Kept). not q.parked) ks o.distinct }
 
 gone-cases : (seq : ℕ) (k : Kept) (ks : List Kept) (b : Bool) → (k.entry.seq == seq) ≡ b → contains_seq seq ks ≡ false → contains_seq seq (cond (not b) (k ∷ ks) ks) ≡ false
 gone-cases seq k ks true h e = e

@@ -1,16 +1,17 @@
 -- The stored requests and what a contract sees of them.
-use Rattle.std.proofs.Common.{length, ◌≡◌, ◌≢◌, ℕ, ◌+◌, List, [], ◌∷◌, ◌++◌, Bool, true, false, not, Option, Some, map, refl, sym, ap, ◌∙◌, cond, subst}
-use Rattle.std.specs.Prelude.{◌==◌, ◌&&◌, if◌then◌else◌, find}
-use Rattle.std.specs.List.{list_any, position_or_len, remove}
+use Rattle.std.proofs.Common.{length, arith, ◌≤◌, ◌≡◌, ◌≢◌, ℕ, ◌+◌, List, [], ◌∷◌, ◌++◌, Bool, true, false, not, Option, Some, map, refl, sym, ap, ◌∙◌, cond, subst}
+use Rattle.std.specs.Prelude.{◌==◌, ◌&&◌, if◌then◌else◌, find, filter}
+use Rattle.std.specs.List.{list_any, position_or_len, remove, count_by}
+use Rattle.std.proofs.lemmas.List.Recursion.{is_count_by}
 use Rattle.std.specs.Option.{option_map}
 use Rattle.std.proofs.Math.Numerals.{one-add}
 use Rattle.std.proofs.lemmas.List.{map-append, length-map}
 use Rattle.dap_tables.specs.declared.entry.Entry.{Entry}
 use Rattle.dap_tables.specs.declared.slot.Slot.{Slot}
 use Rattle.dap_tables.specs.Slot.{kept_of, table_of, slot_marked}
-use Rattle.dap_tables.specs.Outstanding.{Kept, KeptRequests, entries, contains_seq, entry_with, without, is_parked, with_mark, marked, unparked, oldest_unparked, HasDistinctSeqs, IsOrderly}
+use Rattle.dap_tables.specs.Outstanding.{Kept, KeptRequests, entries, contains_seq, entry_with, without, is_parked, with_mark, marked, unparked, oldest_unparked, parked_ones, unparked_ones, HasDistinctSeqs, IsOrderly}
 use Rattle.dap_tables.proofs.Lists.{list_any-map, map-map}
-use Rattle.dap_tables.proofs.KeptLemmas.{eqb-self, eqb-other, without-absent, without-none, same-seq, finding, contains_from_is_parked, contains_from_oldest, unparked_from_oldest, IsOrderly-push, contains_seq-push, entry_with-push, without-push, IsOrderly-without, contains_seq-without}
+use Rattle.dap_tables.proofs.KeptLemmas.{eqb-self, eqb-other, without-absent, without-none, same-seq, finding, contains_from_is_parked, contains_from_oldest, unparked_from_oldest, IsOrderly-push, contains_seq-push, entry_with-push, without-push, IsOrderly-without, IsOrderly-unparked, length-filter, contains_seq-without}
 
 pub contains_seq-slots : (seq : ℕ) (slots : List Slot) → list_any (λ slot. slot.entry.seq == seq) slots ≡ contains_seq seq (map kept_of slots)
 contains_seq-slots seq slots = sym (list_any-map kept_of (λ (k : Kept). k.entry.seq == seq) slots)
@@ -85,5 +86,30 @@ pub ruleset slots = (length-entries, entries-slots, oldest_unparked-slots)
 pub ruleset parking = (is_parked-slots, oldest_unparked-slots, contains_from_is_parked, contains_from_oldest, unparked_from_oldest)
 
 pub ruleset putting = (IsOrderly-push, contains_seq-push, entry_with-push, without-push)
+
+retain-cases : (b : Bool) (s : Slot) (slots : List Slot) (kept : List Kept) → map kept_of slots ≡ kept → map kept_of (if not b then s ∷ slots else slots) ≡ (if not b then kept_of s ∷ kept else kept)
+retain-cases true s slots kept h = h
+retain-cases false s slots kept h = ap (λ (ks : List Kept). kept_of s ∷ ks) h
+
+pub unparked_ones-slots : (slots : List Slot) → map kept_of (filter (λ slot. not slot.parked) slots) ≡ unparked_ones (map kept_of slots)
+unparked_ones-slots [] = refl
+unparked_ones-slots (s ∷ slots) = retain-cases s.parked s (filter (λ (t : Slot). not t.parked) slots) (unparked_ones (map kept_of slots)) (unparked_ones-slots slots)
+
+pub ruleset retaining = (unparked_ones-slots, IsOrderly-unparked)
+
+count-cases : (b : Bool) (s : Slot) (kept : List Kept) → length (if b then kept_of s ∷ kept else kept) ≡ cond b (1 + length kept) (length kept)
+count-cases true s kept = omega arith
+count-cases false s kept = refl
+
+parked-slots : (slots : List Slot) → length (parked_ones (map kept_of slots)) ≡ count_by (λ slot. slot.parked) slots
+parked-slots = is_count_by (λ (slots : List Slot). length (parked_ones (map kept_of slots))) (λ (slot : Slot). slot.parked) refl (λ s slots. count-cases s.parked s (parked_ones (map kept_of slots)))
+
+pub parked_ones-slots : (slots : List Slot) → count_by (λ slot. slot.parked) slots ≡ length (parked_ones (map kept_of slots))
+parked_ones-slots slots = sym (parked-slots slots)
+
+pub parked-few : (ks : List Kept) → length (parked_ones ks) ≤ length ks
+parked-few ks = length-filter (λ (k : Kept). k.parked) ks
+
+pub ruleset parked_count = (parked_ones-slots, parked-few)
 
 pub ruleset taking = (IsOrderly-without, contains_seq-without, without-none, finding)

@@ -49,6 +49,13 @@ marked mark k = record k { parked = mark }
 abbrev pub with_mark : ℕ → Bool → List Kept → List Kept
 with_mark seq mark kept = map (λ k. if k.entry.seq == seq then marked mark k else k) kept
 
+-- the requests that are parked, and the others
+abbrev pub parked_ones : List Kept → List Kept
+parked_ones kept = filter (λ k. k.parked) kept
+
+abbrev pub unparked_ones : List Kept → List Kept
+unparked_ones kept = filter (λ k. not k.parked) kept
+
 -- the number of the first request that is not parked
 abbrev pub oldest_unparked : List Kept → Option ℕ
 oldest_unparked kept = option_map (λ k. k.entry.seq) (find (λ k. not k.parked) kept)

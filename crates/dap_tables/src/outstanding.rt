@@ -1,7 +1,7 @@
 //! The requests that an end has still to answer.
-ghost use Rattle.std.specs.Prelude.{◌≡◌, ◌↔◌, [], ◌∷◌, ◌++◌, true, false, length, IsTrue, IsSome, IfOk, IfErr, IfSome, IfNone, OnOk, OnErr, Err, Some};
+ghost use Rattle.std.specs.Prelude.{◌≡◌, ◌≤◌, ◌↔◌, [], ◌∷◌, ◌++◌, true, false, length, IsTrue, IsSome, IfOk, IfErr, IfSome, IfNone, OnOk, OnErr, Err, Some};
 ghost use Rattle.std.specs.Option.{option_copied};
-ghost use Rattle.dap_tables.specs.Outstanding.{IsOrderly, IsRefusedForRoom, unparked, entries, contains_seq, entry_with, without, is_parked, with_mark, oldest_unparked};
+ghost use Rattle.dap_tables.specs.Outstanding.{IsOrderly, IsRefusedForRoom, unparked, entries, contains_seq, entry_with, without, is_parked, with_mark, oldest_unparked, parked_ones, unparked_ones};
 ghost use Rattle.dap_tables.specs.PutFault.{refused_entry};
 
 use crate::entry::Entry;
@@ -93,6 +93,23 @@ impl Outstanding {
         slot::take(&mut self.slots, seq)
     }
 
+    /// Gives all requests up.
+    pub fn clear(&mut self)
+        ensures none { self.new ≡ record self.old { kept = [] } }
+        ensures orderly { IsOrderly self.new }
+    {
+        self.slots.clear();
+    }
+
+    /// Gives up the requests that are parked.
+    #[tactic(auto, using(crate::proofs::SlotLemmas::retaining))]
+    pub fn clear_parked(&mut self)
+        ensures others { self.new ≡ record self.old { kept = unparked_ones self.old.kept } }
+        ensures orderly { IsOrderly self.new }
+    {
+        slot::retain_unparked(&mut self.slots);
+    }
+
     /// The seq of the request that came first of those that are not parked.
     #[tactic(auto, using(crate::proofs::SlotLemmas::parking))]
     pub fn oldest_unparked(&self) -> Option<u64>
@@ -161,6 +178,15 @@ impl Outstanding {
         ensures orderly { IsOrderly self.now }
     {
         self.slots.len()
+    }
+
+    /// How many requests are parked.
+    #[tactic(auto, using(crate::proofs::SlotLemmas::parked_count))]
+    pub fn parked(&self) -> usize
+        ensures parked { result ≡ length (parked_ones self.now.kept) }
+        ensures bound { result ≤ length self.now.kept }
+    {
+        slot::parked(&self.slots)
     }
 
     /// Whether no request is kept.

@@ -1,5 +1,5 @@
 //! How the table stores a request, and the walks over its store.
-ghost use Rattle.std.specs.Prelude.{◌≡◌, ◌==◌, ◌&&◌, not, map, find, position};
+ghost use Rattle.std.specs.Prelude.{◌≡◌, ◌==◌, ◌&&◌, not, map, find, filter, position, count_by};
 ghost use Rattle.std.specs.List.{list_any};
 ghost use Rattle.std.specs.Option.{option_map, option_copied};
 ghost use Rattle.dap_tables.specs.Outstanding.{HasDistinctSeqs, entry_with, without};
@@ -71,4 +71,22 @@ pub(crate) fn set_mark(slots: &mut [Slot], seq: u64, parked: bool)
             slot.parked = parked;
         }
     }
+}
+
+pub(crate) fn retain_unparked(slots: &mut Vec<Slot>)
+    ensures { slots.new.items ≡ filter (λ slot. not slot.parked) slots.old.items }
+{
+    slots.retain(|slot| !slot.parked);
+}
+
+pub(crate) fn parked(slots: &[Slot]) -> usize
+    ensures { result ≡ count_by (λ slot. slot.parked) slots.now }
+{
+    let mut count = 0;
+    for slot in slots {
+        if slot.parked {
+            count += 1;
+        }
+    }
+    count
 }

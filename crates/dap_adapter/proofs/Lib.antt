@@ -1,0 +1,2 @@
+pub mod Adapting
+pub mod Receiving

@@ -1,0 +1,143 @@
+-- What the calls of an adapter do, as their contracts say it.
+use Rattle.std.specs.Prelude.{◌≡◌, ℕ, ◌+◌, ◌<◌, ◌≤◌, List, [], ◌∷◌, ◌++◌, length, take, Option, Some, None, Ok, Err, ⊤, true}
+use Rattle.dap_frame.specs.Feeds.{Completes, Gathers, Closes}
+use Rattle.dap_frame.specs.Intake.{Intake, IsUnderWay}
+use Rattle.dap_frame.specs.Settings.{Settings, bounds_of}
+use Rattle.dap_frame.specs.declared.frames.FrameFault.{FrameFault}
+use Rattle.dap_frame.specs.declared.Cause.{Cause}
+use Rattle.dap_frame.specs.declared.Cause.TheVariants.{Refused, OutOfMemory as NoMemory}
+use Rattle.dap_history.specs.History.{Entry, In}
+use Rattle.dap_message.specs.Meaning.{Msg}
+use Rattle.dap_message.specs.Refusals.{Bad}
+use Rattle.dap_message.specs.declared.fault.BodyRefusal.{BodyRefusal}
+use Rattle.dap_message.specs.declared.message.Message.{Message}
+use Rattle.dap_debuggee.specs.Shown.{Shown}
+use Rattle.dap_session.specs.declared.fault.AdapterFault.{AdapterFault}
+use Rattle.dap_session.specs.declared.fault.AdapterFault.TheVariants.{Frame, Body, SeqExhausted, OutOfMemory}
+use Rattle.dap_adapter.specs.declared.taken.Taken.{Taken}
+use Rattle.dap_adapter.specs.declared.taken.Turned.{Turned}
+use Rattle.dap_adapter.specs.declared.taken.Turned.TheVariants.{Idle, Done}
+use Rattle.dap_session.specs.Carried.{Goes, CarriedOut}
+use Rattle.dap_session.specs.Handling.{turns}
+use Rattle.dap_session.specs.Plan.{Made, Plan, numbered, bytes_of, entries_of}
+use Rattle.dap_session.specs.Polling.{polls, has_debuggee}
+use Rattle.dap_session.specs.Session.{Session, oldest}
+use Rattle.dap_adapter.specs.End.{End}
+use Rattle.dap_adapter.specs.StandsFor.{GoesOn}
+use Rattle.dap_session.specs.Taking.{takes}
+
+-- the session went on by a plan, over these bytes of the client and what came with them
+pub record Step {D : Type 0} (follows : Goes D) (plan : Plan) (old new : End D) (used : List ℕ) (came : List Entry) (bytes : List ℕ) : Type 0 where
+  pub made : Made
+  pub carried : CarriedOut follows plan old.debuggee made new.debuggee
+  pub session : new.session ≡ made.after
+  pub bytes_are : bytes ≡ bytes_of (numbered old.session.used made.drafts)
+  pub goes_on : GoesOn old new used (came ++ entries_of old.session.used made)
+
+-- ---- take
+
+-- a body is whole, after the first n bytes of the piece
+pub record Whole (old : Intake) (piece : List ℕ) (n : ℕ) : Type 0 where
+  pub ready : Intake
+  pub completes : Completes old ready piece n
+
+-- a message came whole, and this was made of it
+pub record Delivers {D : Type 0} (follows : Goes D) (old : End D) (piece : List ℕ) (taken : Taken) (m : Message) (new : End D) : Type 0 where
+  pub whole : Whole old.intake piece taken.used
+  pub read : Msg whole.ready.held m
+  pub plan : Plan
+  pub is : takes m old.session ≡ Ok plan
+  pub step : Step follows plan old new (take taken.used piece) (In m ∷ []) taken.bytes.items
+
+-- the frame is still under way, and nothing else changed
+pub record Waits {D : Type 0} (old : End D) (piece : List ℕ) (taken : Taken) (new : End D) : Type 0 where
+  pub gathers : Gathers old.intake new.intake piece taken.used
+  pub none_written : taken.bytes.items ≡ []
+  pub session : new.session ≡ old.session
+  pub debuggee : new.debuggee ≡ old.debuggee
+  pub goes_on : GoesOn old new piece []
+
+abbrev pub Takes : {D : Type 0} → Goes D → End D → List ℕ → Taken → Option Message → End D → Type 0
+Takes follows old piece taken None new = Waits old piece taken new
+Takes follows old piece taken (Some m) new = Delivers follows old piece taken m new
+
+-- the framing of the piece is refused with this cause, after some of its first bytes
+pub record FrameClosed (old : Intake) (piece : List ℕ) (fault : FrameFault) : Type 0 where
+  pub closed : Intake
+  pub closes : Closes old closed piece fault
+
+-- a body came whole that is no message
+pub record BodyRefused (old : Intake) (piece : List ℕ) (cause : BodyRefusal) (offset : ℕ) : Type 0 where
+  pub n : ℕ
+  pub whole : Whole old piece n
+  pub bad : Bad whole.ready.held cause
+  pub starts : offset ≡ whole.ready.start
+
+-- a message came whole that closes the adapter
+pub record ClosedBy (old : Intake) (s : Session) (piece : List ℕ) (fault : AdapterFault) : Type 0 where
+  pub n : ℕ
+  pub whole : Whole old piece n
+  pub message : Message
+  pub read : Msg whole.ready.held message
+  pub closes : takes message s ≡ Err fault
+
+-- memory may be refused where bytes of a frame are held, and once a body is whole
+pub data NeedsMemory (old : Intake) (piece : List ℕ) : Type 0 where
+  to_hold : (offset : ℕ) → FrameClosed old piece (record { cause = NoMemory; offset = offset }) → NeedsMemory old piece
+  to_read : (n : ℕ) → Whole old piece n → NeedsMemory old piece
+
+abbrev pub IsRefusal : Cause → Type 0
+IsRefusal (Refused refusal) = ⊤
+IsRefusal NoMemory = ⊥
+
+-- why a call on a piece was refused
+abbrev pub TakeRefused : Intake → Session → List ℕ → AdapterFault → Type 0
+TakeRefused old s piece (Frame fault) = IsRefusal fault.cause × FrameClosed old piece fault
+TakeRefused old s piece (Body cause offset) = BodyRefused old piece cause offset
+TakeRefused old s piece OutOfMemory = NeedsMemory old piece
+TakeRefused old s piece fault = ClosedBy old s piece fault
+
+-- ---- turn
+
+pub record Handled {D : Type 0} (shown : D → Shown) (follows : Goes D) (old : End D) (bytes : List ℕ) (new : End D) : Type 0 where
+  pub plan : Plan
+  pub is : turns (shown old.debuggee) old.session ≡ Ok (Some plan)
+  pub intake : new.intake ≡ old.intake
+  pub step : Step follows plan old new [] [] bytes
+
+abbrev pub TurnGives : {D : Type 0} → (D → Shown) → Goes D → End D → Turned → End D → Type 0
+TurnGives shown follows old Idle new = (turns (shown old.debuggee) old.session ≡ Ok None) × (new ≡ old)
+TurnGives shown follows old (Done bytes) new = Handled shown follows old bytes.items new
+
+-- why a turn was refused: then the debuggee was not asked. Memory may be refused where a request is handled
+abbrev pub TurnRefused : {D : Type 0} → (D → Shown) → End D → AdapterFault → End D → Type 0
+TurnRefused shown old OutOfMemory new = oldest old.session.kept ≡ None → ⊥
+TurnRefused shown old fault new = (turns (shown old.debuggee) old.session ≡ Err fault) × (new.debuggee ≡ old.debuggee)
+
+-- ---- poll
+
+pub record Saw {D : Type 0} (follows : Goes D) (old : End D) (bytes : List ℕ) (new : End D) : Type 0 where
+  pub intake : new.intake ≡ old.intake
+  pub step : Step follows (polls old.session) old new [] [] bytes
+  pub within : new.session.used ≤ old.session.limits.seq
+
+-- the events of what happened were more than own numbers are left
+pub record TooManyEvents {D : Type 0} (follows : Goes D) (old new : End D) : Type 0 where
+  pub made : Made
+  pub carried : CarriedOut follows (polls old.session) old.debuggee made new.debuggee
+  pub short : old.session.limits.seq < old.session.used + length made.drafts
+
+-- why a poll was refused. Memory may be refused where there is a debuggee to ask
+abbrev pub PollRefused : {D : Type 0} → Goes D → End D → AdapterFault → End D → Type 0
+PollRefused follows old OutOfMemory new = has_debuggee old.session.phase ≡ true
+PollRefused follows old SeqExhausted new = TooManyEvents follows old new
+PollRefused follows old fault new = ⊥
+
+-- ---- what holds between calls
+
+-- what holds of every adapter
+pub record IsAdapter (limits : Settings) (intake : Intake) (fault : Option AdapterFault) : Type 0 where
+  pub bounds : intake.bounds ≡ bounds_of limits
+  pub under_way : fault ≡ None → IsUnderWay intake
+  -- after a fault nothing is held
+  pub given_up : (f : AdapterFault) → fault ≡ Some f → intake.held ≡ []

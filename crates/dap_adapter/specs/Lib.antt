@@ -1,0 +1,4 @@
+pub mod End
+pub mod StandsFor
+pub mod Calls
+pub mod Receives

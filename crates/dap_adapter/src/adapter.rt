@@ -1,0 +1,304 @@
+//! An adapter, call by call.
+ghost use Rattle.std.specs.Prelude.{◌≡◌, ◌≢◌, ℕ, List, ◌≤◌, [], length, max, IfOk, IfErr, OnOk, OnErr, IfSome, Some, None, Ok, Err, IsOk, false};
+ghost use Rattle.dap_debuggee.specs.declared.answers.State.{State};
+ghost use Rattle.dap_frame.specs.Ends.{EndsWith};
+ghost use Rattle.dap_frame.specs.Intake.{IsReady, IsUnderWay, StandsFor as StandsForStream};
+ghost use Rattle.dap_frame.specs.declared.frames.End.{End};
+ghost use Rattle.dap_message.specs.Meaning.{Msg};
+ghost use Rattle.dap_tables.specs.Outstanding.{HasDistinctSeqs};
+ghost use Rattle.dap_adapter.specs.Calls.{TakeRefused};
+ghost use Rattle.dap_adapter.specs.Receives.{HasReceived, IsUnread, fault_of_frame};
+ghost use Rattle.dap_session.specs.Breakpoints.{count};
+ghost use Rattle.dap_session.specs.Session.{fresh_session, oldest};
+
+use crate::taken::{Taken, Turned};
+use dap_debuggee::Debuggee;
+use dap_frame::{Cause, End, FrameFault, Frames, Limits};
+use dap_history::laws::histories_grow;
+use dap_message::{BodyFault, Message, read_message};
+use dap_session::laws::{each_step_goes_on, each_step_stays_within};
+use dap_session::{AdapterFault, Phase, Session};
+use std::alloc::{AllocError, Global};
+use std::marker::Model;
+
+/// The adapter's end of a session, over a debuggee.
+#[derive(Drop)]
+pub struct Adapter<D: Debuggee + Drop> {
+    session: Session<D>,
+    frames: Frames,
+    fault: Option<AdapterFault>,
+}
+
+impl<D: Debuggee + Drop> Model for Adapter<D> {
+    ghost use Rattle.std.specs.Coded.{codes};
+    ghost use Rattle.dap_json.specs.Stored.{coded_data};
+    ghost use Rattle.dap_adapter.specs.End.{End as AdapterEnd};
+    ghost use Rattle.dap_adapter.specs.Calls.{IsAdapter};
+
+    ghost Value = { AdapterEnd D };
+
+    ghost coded = { Prim.hlevel (codes, coded_data, D.code) };
+
+    ghost view = { λ a. record { session = a.session.session; intake = a.frames; fault = a.fault; debuggee = a.session.debuggee } };
+
+    ghost invariant = { λ a. IsAdapter a.session.session.limits a.frames a.fault };
+}
+
+impl<D: Debuggee + Drop> Adapter<D> {
+    ghost use Rattle.dap_adapter.specs.Calls.{Takes, TurnGives, TurnRefused, Saw, PollRefused};
+    ghost use Rattle.dap_session.specs.Polling.{has_debuggee};
+    ghost use Rattle.dap_adapter.specs.StandsFor.{StandsFor};
+    ghost use Rattle.dap_adapter.specs.declared.taken.Turned.{Turned};
+
+    /// A fresh end. The debuggee is not started.
+    pub fn open(alloc: Global, limits: Limits, debuggee: D) -> Result<Adapter<D>, AllocError>
+        requires { (D.shown debuggee).state ≡ State.NotStarted }
+        ensures session { IfOk result (λ a. a.session ≡ fresh_session limits) }
+        ensures debuggee { IfOk result (λ a. a.debuggee ≡ debuggee) }
+        ensures fault { IfOk result (λ a. a.fault ≡ None) }
+        ensures stands { IfOk result (λ a. StandsFor a [] []) }
+    {
+        histories_grow();
+        let frames = Frames::open(alloc, &limits)?;
+        let session = Session::open(alloc, limits, debuggee)?;
+        Ok(Adapter {
+            session,
+            frames,
+            fault: None,
+        })
+    }
+
+    /// How far the session is.
+    pub fn phase(&self) -> Phase
+        ensures { result ≡ self.now.session.phase }
+    {
+        self.session.phase()
+    }
+
+    /// How many requests are kept.
+    pub fn kept(&self) -> usize
+        ensures kept { result ≡ length self.now.session.kept }
+        ensures bound { result ≤ self.now.session.limits.requests }
+    {
+        self.session.len()
+    }
+
+    /// How many references are live.
+    pub fn references(&self) -> usize
+        ensures live { result ≡ length self.now.session.references.live }
+        ensures bound { result ≤ self.now.session.limits.references }
+    {
+        self.session.references()
+    }
+
+    /// How many breakpoints are set, those of all sources together.
+    pub fn breakpoints(&self) -> usize
+        ensures set { result ≡ count self.now.session.breakpoints }
+        ensures bound { result ≤ self.now.session.limits.breakpoints }
+    {
+        self.session.breakpoints()
+    }
+
+    /// The bytes held of the frame under way. After a fault there are none.
+    pub fn held(&self) -> usize
+        ensures held { result ≡ length self.now.intake.held }
+        ensures bounded { result ≤ max self.now.session.limits.header self.now.session.limits.body }
+        ensures closed { IfSome self.now.fault (λ fault. result ≡ 0) }
+    {
+        let _ = &self.fault;
+        self.frames.held()
+    }
+
+    /// Uses the bytes of a piece up to the end of one frame at most, and delivers the message that becomes whole.
+    ///
+    /// A request is kept, or answered at once: a `cancel`, with what it cancels, and `busy` where as many requests are kept
+    /// as may be. A response is refused, since no request of this end waits for one. Any other message has no effect.
+    ///
+    /// # Errors
+    /// `Frame` and `Body` where the framing or a body is refused, at the offset of the refused frame; `Ended` for a request
+    /// after `disconnect` was answered; `RepeatedSeq` for a request with the number of one that is kept; `Unmatched` for a
+    /// response; `SeqExhausted` where more answers are due at once than own numbers are left; `OutOfMemory` where memory is
+    /// refused for the bytes of a frame, or once a body is whole.
+    pub fn take(&mut self, alloc: Global, piece: &[u8]) -> Result<Taken, AdapterFault>
+        ensures takes { IfOk result (λ taken. Takes D.follows self.old piece.now taken taken.delivered self.new) }
+        ensures open { OnOk result (self.new.fault ≡ None) }
+        ensures limits { self.new.session.limits ≡ self.old.session.limits }
+
+        // Why it is refused; then the tables are as they were, and nothing is held.
+        ensures refused { IfErr result (λ fault. self.old.fault ≡ None → TakeRefused self.old.intake self.old.session piece.now fault) }
+        ensures tables { OnErr result (self.new.session ≡ self.old.session) }
+        ensures debuggee { OnErr result (self.new.debuggee ≡ self.old.debuggee) }
+        ensures held { OnErr result (self.new.intake.held ≡ []) }
+        ensures latches { IfErr result (λ fault. self.new.fault ≡ Some fault) }
+        ensures latched { IfSome self.old.fault (λ fault. (result ≡ Err fault) × (self.new ≡ self.old)) }
+    {
+        if let Some(fault) = self.fault {
+            return Err(fault);
+        }
+        each_step_goes_on();
+        each_step_stays_within();
+        match receive(alloc, &mut self.frames, &mut self.session, piece) {
+            Ok(taken) => Ok(taken),
+            Err(fault) => {
+                self.close(fault);
+                Err(fault)
+            }
+        }
+    }
+
+    /// Handles the request that came first of those that are not parked: one that is parked now is not answered yet, any
+    /// other is.
+    ///
+    /// # Errors
+    /// `SeqExhausted` where more messages are due than own numbers are left: then neither the session nor the debuggee has
+    /// changed. `OutOfMemory` where memory is refused; where no request waits, none is asked for.
+    pub fn turn(&mut self, alloc: Global) -> Result<Turned, AdapterFault>
+        ensures gives { IfOk result (λ turned. TurnGives D.shown D.follows self.old turned self.new) }
+        ensures open { OnOk result (self.new.fault ≡ None) }
+        ensures limits { self.new.session.limits ≡ self.old.session.limits }
+
+        // Why it is refused; then the tables are as they were, and nothing is held.
+        ensures refused { IfErr result (λ fault. self.old.fault ≡ None → TurnRefused D.shown self.old fault self.new) }
+        ensures tables { OnErr result (self.new.session ≡ self.old.session) }
+        ensures held { OnErr result (self.new.intake.held ≡ []) }
+        ensures latches { IfErr result (λ fault. self.new.fault ≡ Some fault) }
+        ensures latched { IfSome self.old.fault (λ fault. (result ≡ Err fault) × (self.new ≡ self.old)) }
+
+        // Where no request waits, memory is not asked for.
+        ensures idle { self.old.fault ≡ None → oldest self.old.session.kept ≡ None → result ≡ Ok Turned.Idle }
+    {
+        if let Some(fault) = self.fault {
+            return Err(fault);
+        }
+        each_step_goes_on();
+        each_step_stays_within();
+        match self.session.turn(alloc) {
+            Ok(Some(bytes)) => Ok(Turned::Done { bytes }),
+            Ok(None) => Ok(Turned::Idle),
+            Err(fault) => {
+                self.close(fault);
+                Err(fault)
+            }
+        }
+    }
+
+    /// Asks a debuggee that runs or is stopped what happened, once, and tells it. Where nothing happened, and in every
+    /// other phase, there are no bytes.
+    ///
+    /// # Errors
+    /// `SeqExhausted` where more events are due than own numbers are left: the debuggee was asked, and what happened is
+    /// lost. `OutOfMemory` where memory is refused; where there is no debuggee to ask, none is asked for.
+    pub fn poll(&mut self, alloc: Global) -> Result<Vec<u8>, AdapterFault>
+        ensures saw { IfOk result (λ bytes. Saw D.follows self.old bytes.items self.new) }
+        ensures open { OnOk result (self.new.fault ≡ None) }
+        ensures limits { self.new.session.limits ≡ self.old.session.limits }
+
+        // Why it is refused; then the tables are as they were, and nothing is held.
+        ensures refused { IfErr result (λ fault. self.old.fault ≡ None → PollRefused D.follows self.old fault self.new) }
+        ensures tables { OnErr result (self.new.session ≡ self.old.session) }
+        ensures held { OnErr result (self.new.intake.held ≡ []) }
+        ensures latches { IfErr result (λ fault. self.new.fault ≡ Some fault) }
+        ensures latched { IfSome self.old.fault (λ fault. (result ≡ Err fault) × (self.new ≡ self.old)) }
+
+        // Where there is no debuggee to ask, memory is not asked for.
+        ensures apart { self.old.fault ≡ None → has_debuggee self.old.session.phase ≡ false → IsOk result }
+    {
+        if let Some(fault) = self.fault {
+            return Err(fault);
+        }
+        each_step_goes_on();
+        each_step_stays_within();
+        match self.session.poll(alloc) {
+            Ok(bytes) => Ok(bytes),
+            Err(fault) => {
+                self.close(fault);
+                Err(fault)
+            }
+        }
+    }
+
+    /// How the client's bytes end, if no more come.
+    pub fn finish(&self) -> End
+        ensures ends { (s : List ℕ) (xs : List (List ℕ)) (rest : List ℕ) → StandsForStream self.now.intake s xs rest → EndsWith self.now.intake rest result }
+        ensures open { self.now.fault ≡ None → result ≢ End.Refused }
+    {
+        let _ = &self.fault;
+        self.frames.finish()
+    }
+
+    /// Nothing more is taken or handed out.
+    fn close(&mut self, fault: AdapterFault)
+        ensures session { self.new.session ≡ self.old.session }
+        ensures debuggee { self.new.debuggee ≡ self.old.debuggee }
+        ensures held { self.new.intake.held ≡ [] }
+        ensures fault { self.new.fault ≡ Some fault }
+    {
+        self.frames.close();
+        self.fault = Some(fault);
+    }
+}
+
+/// The message that the ready body is.
+fn read_body(alloc: Global, frames: &mut Frames) -> Result<Message, AdapterFault>
+    requires { IsReady frames.old }
+    ensures same { frames.new ≡ frames.old }
+    ensures read { IfOk result (Msg frames.old.held) }
+    ensures fault { IfErr result (IsUnread frames.old) }
+{
+    let offset = frames.offset();
+    let Some(body) = frames.body() else {
+        unreachable!()
+    };
+    match read_message(alloc, body) {
+        Ok(message) => Ok(message),
+        Err(BodyFault::Refused(cause)) => Err(AdapterFault::Body { cause, offset }),
+        Err(BodyFault::OutOfMemory) => Err(AdapterFault::OutOfMemory),
+    }
+}
+
+/// Why a stream is closed.
+fn frame_fault(fault: FrameFault) -> AdapterFault
+    ensures { result ≡ fault_of_frame fault }
+{
+    match fault.cause {
+        Cause::Refused(_) => AdapterFault::Frame(fault),
+        Cause::OutOfMemory => AdapterFault::OutOfMemory,
+    }
+}
+
+/// Takes bytes up to the end of a frame at most, and hands its message to the session.
+fn receive<D: Debuggee + Drop>(
+    alloc: Global,
+    frames: &mut Frames,
+    session: &mut Session<D>,
+    piece: &[u8],
+) -> Result<Taken, AdapterFault>
+    requires { IsUnderWay frames.old }
+    ensures bounds { frames.new.bounds ≡ frames.old.bounds }
+    ensures under_way { OnOk result (IsUnderWay frames.new) }
+    ensures received { IfOk result (λ taken. HasReceived frames.old frames.new session.old session.new piece.now taken taken.delivered) }
+    ensures refused { IfErr result (λ fault. TakeRefused frames.old session.old.session piece.now fault) }
+    ensures err { OnErr result (session.new ≡ session.old) }
+    ensures distinct { HasDistinctSeqs session.old.session.kept }
+    ensures limits { session.new.session.limits ≡ session.old.session.limits }
+{
+    let fed = match frames.feed(piece) {
+        Ok(fed) => fed,
+        Err(fault) => return Err(frame_fault(fault)),
+    };
+    if !fed.ready {
+        return Ok(Taken {
+            used: fed.used,
+            delivered: None,
+            bytes: Vec::new(alloc),
+        });
+    }
+    let message = read_body(alloc, frames)?;
+    frames.release();
+    let bytes = session.take(alloc, &message)?;
+    Ok(Taken {
+        used: fed.used,
+        delivered: Some(message),
+        bytes,
+    })
+}

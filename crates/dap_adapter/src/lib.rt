@@ -1,0 +1,13 @@
+//! The adapter's end of a Debug Adapter Protocol session, over a debuggee.
+//!
+//! Overview and Specification. Bytes of the client go in by `take`, in any pieces, requests are answered by `turn`, one a
+//! call, and what happens to the debuggee is told by `poll`; each call hands out the bytes that it writes. Nothing here reads,
+//! writes or waits.
+#![tactic(auto)]
+
+mod adapter;
+mod taken;
+
+pub use adapter::Adapter;
+pub use dap_session::{AdapterFault, Options, Phase};
+pub use taken::{Taken, Turned};

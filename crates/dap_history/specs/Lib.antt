@@ -1,0 +1,5 @@
+pub mod History
+pub mod Answers
+pub mod HistoryLaws
+pub mod Requests
+pub mod Received

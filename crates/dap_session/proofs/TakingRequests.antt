@@ -1,0 +1,65 @@
+-- What a request comes to when it is taken.
+use Rattle.std.proofs.Common.{◌≡◌, ℕ, ◌+◌, ◌<◌, ◌≤◌, List, Bool, true, false, Result, Ok, Err, IfOk, IfErr, OnOk, refl, sym, ap, ◌∙◌, arith, length}
+use Rattle.std.specs.Prelude.{nat_le, if◌then◌else◌}
+use Rattle.std.proofs.lemmas.Bool.Decides.{nat_tests}
+use Rattle.dap_tables.specs.Outstanding.{contains_seq}
+use Rattle.dap_tables.specs.declared.entry.Entry.{Entry}
+use Rattle.dap_session.specs.declared.fault.AdapterFault.{AdapterFault}
+use Rattle.dap_session.specs.declared.fault.AdapterFault.TheVariants.{SeqExhausted, OutOfMemory, Ended as EndedFault, RepeatedSeq}
+use Rattle.dap_session.specs.declared.phase.Phase.TheVariants.{Ended}
+use Rattle.dap_session.specs.Failures.{of_known, command_of}
+use Rattle.dap_session.specs.Plan.{Made, Plan, at_once, affordable, due}
+use Rattle.dap_session.specs.Seat.{LacksRoom, MadeBy, TakesRequest, TakesNoRequest}
+use Rattle.dap_session.specs.Session.{Session}
+use Rattle.dap_session.specs.Table.{is_phase}
+use Rattle.dap_session.specs.Taking.{takes_request, taken_in, cancels, keeps, is_cancel}
+
+-- a request that no name refuses
+pub record IsOpenTo (r : Entry) (s : Session) : Type 0 where
+  pub not_ended : is_phase Ended s.phase ≡ false
+  pub new : contains_seq r.seq s.kept ≡ false
+
+within : (a b : ℕ) → a ≤ b → nat_le a b ≡ true
+within a b h = grind (arith, nat_tests)
+
+beyond : (a b : ℕ) → b < a → nat_le a b ≡ false
+beyond a b h = grind (arith, nat_tests)
+
+open-as : (r : Entry) (s : Session) → IsOpenTo r s → takes_request r s ≡ affordable s (at_once (taken_in r s))
+open-as r s o = rw (o.not_ended, o.new) refl
+
+pub takes-made : (r : Entry) (old new : Session) (m : Made) (bytes : List ℕ) → IsOpenTo r old → taken_in r old ≡ m → old.used + length m.drafts ≤ old.limits.seq → MadeBy m old new bytes → TakesRequest r old new bytes
+takes-made r old new m bytes o e h by =
+    record {
+      made = m;
+      is = open-as r old o ∙ rw (e, within (old.used + length m.drafts) old.limits.seq h) refl;
+      by = by;
+    }
+
+exhausted-if : (b : Bool) (plan : Plan) (f : AdapterFault) → (if b then Ok plan else Err SeqExhausted) ≡ Err f → f ≡ SeqExhausted
+exhausted-if true plan f e = absurd (cc)
+exhausted-if false plan f e = cc
+
+-- memory may be refused where the request is open
+pub no-memory : (r : Entry) (s : Session) → IsOpenTo r s → TakesNoRequest OutOfMemory r s
+no-memory r s o f e = exhausted-if (nat_le (s.used + due (at_once (taken_in r s))) s.limits.seq) (at_once (taken_in r s)) f (sym (open-as r s o) ∙ e)
+
+pub takes-none : (fault : AdapterFault) (r : Entry) (s : Session) (m : Made) → IsOpenTo r s → taken_in r s ≡ m → LacksRoom fault s (length m.drafts) → TakesNoRequest fault r s
+takes-none SeqExhausted r s m o e h = open-as r s o ∙ rw (e, beyond (s.used + length m.drafts) s.limits.seq h) refl
+takes-none OutOfMemory r s m o e h = no-memory r s o
+takes-none _ r s m o e h = absurd h
+
+pub as-cancel : (r : Entry) (s : Session) → of_known is_cancel (command_of r) ≡ true → taken_in r s ≡ cancels r s
+as-cancel r s e = rw e refl
+
+pub as-other : (r : Entry) (s : Session) → of_known is_cancel (command_of r) ≡ false → taken_in r s ≡ keeps r s
+as-other r s e = rw e refl
+
+-- what a call answered, said otherwise
+pub ok-both : {T E : Type 0} (r : Result T E) (P Q : T → Type 0) (W : Type 0) → ((x : T) → P x → W → Q x) → IfOk r P → OnOk r W → IfOk r Q
+ok-both (Ok x) P Q W f h w = f x h w
+ok-both (Err e) P Q W f h w = tt
+
+pub err-then : {T E : Type 0} (r : Result T E) (P Q : E → Type 0) → ((e : E) → P e → Q e) → IfErr r P → IfErr r Q
+err-then (Ok x) P Q f h = tt
+err-then (Err e) P Q f h = f e h

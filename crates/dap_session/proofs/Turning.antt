@@ -1,0 +1,84 @@
+-- The request that a turn handles, and what the turn comes to.
+use Rattle.std.proofs.Common.{◌≡◌, ℕ, ◌+◌, ◌<◌, ◌≤◌, List, [], ◌∷◌, ◌++◌, Bool, true, false, Option, Some, None, Ok, Err, refl, sym, ap, ◌∙◌, subst, arith}
+use Rattle.std.specs.Prelude.{◌==◌, ◌||◌, not, if◌then◌else◌, nat_le, option_map}
+use Rattle.std.proofs.lemmas.Bool.Decides.{nat_tests}
+use Rattle.dap_tables.specs.Outstanding.{Kept, entry_with, contains_seq, oldest_unparked, HasDistinctSeqs}
+use Rattle.dap_tables.specs.declared.entry.Entry.{Entry}
+use Rattle.dap_debuggee.specs.Shown.{Shown}
+use Rattle.dap_session.specs.declared.fault.AdapterFault.TheVariants.{SeqExhausted, OutOfMemory}
+use Rattle.dap_session.specs.declared.fault.AdapterFault.{AdapterFault}
+use Rattle.dap_session.specs.Carried.{Goes}
+use Rattle.dap_session.specs.Seat.{Seat, AreAnswerable, IsRefusedFor, NotTurned, HasTurned, Carries}
+use Rattle.dap_session.specs.Handling.{plan, turn_of}
+use Rattle.dap_session.specs.Plan.{due}
+use Rattle.dap_session.specs.Session.{Session, oldest}
+use Rattle.dap_session.specs.Sheet.{IsAnswerable}
+use Rattle.dap_session.specs.Table.{is_put_off}
+use Rattle.dap_session.proofs.Kept.{IsKept, kept-found, apart}
+
+eqb-self : (n : ℕ) → (n == n) ≡ true
+eqb-self n = grind (arith, nat_tests)
+
+false-left : (a b : Bool) → (a || b) ≡ false → a ≡ false
+false-left true b e = e
+false-left false b e = refl
+
+false-right : (a b : Bool) → (a || b) ≡ false → b ≡ false
+false-right true b e = cc
+false-right false b e = e
+
+entry-middle : (before : List Kept) (k : Kept) (after : List Kept) → contains_seq k.entry.seq before ≡ false → entry_with k.entry.seq (before ++ k ∷ after) ≡ Some k.entry
+entry-middle [] k after h = rw (eqb-self k.entry.seq) refl
+entry-middle (x ∷ before) k after h =
+    rw (false-left (x.entry.seq == k.entry.seq) (contains_seq k.entry.seq before) h) (entry-middle before k after (false-right (x.entry.seq == k.entry.seq) (contains_seq k.entry.seq before) h))
+
+entry-kept : (kept : List Kept) (k : Kept) → HasDistinctSeqs kept → IsKept kept k → entry_with k.entry.seq kept ≡ Some k.entry
+entry-kept kept k d i =
+    rw i.split (entry-middle i.before k i.after (apart i.before k i.after (subst (λ (xs : List Kept). HasDistinctSeqs xs) i.split d)).not_before)
+
+oldest-as : (kept : List Kept) (o : Option Kept) (seq : ℕ) (r : Entry) → oldest kept ≡ o → HasDistinctSeqs kept → option_map (λ (k : Kept). k.entry.seq) o ≡ Some seq → entry_with seq kept ≡ Some r → option_map (λ (k : Kept). k.entry) o ≡ Some r
+oldest-as kept None seq r is d e f = cc
+oldest-as kept (Some k) seq r is d e f =
+    let same : k.entry.seq ≡ seq = cc in
+    sym (entry-kept kept k d (kept-found (λ (x : Kept). not x.parked) kept k is)) ∙ (ap (λ n. entry_with n kept) same ∙ f)
+
+-- the request with the oldest number is the oldest
+pub oldest-entry : (kept : List Kept) (seq : ℕ) (r : Entry) → HasDistinctSeqs kept → oldest_unparked kept ≡ Some seq → entry_with seq kept ≡ Some r → option_map (λ (k : Kept). k.entry) (oldest kept) ≡ Some r
+oldest-entry kept seq r d e f = oldest-as kept (oldest kept) seq r refl d e f
+
+answerable-if : (b : Bool) (k : Kept) (o : Option Entry) (r : Entry) → IsAnswerable k.entry → (o ≡ Some r → IsAnswerable r) → (if b then Some k.entry else o) ≡ Some r → IsAnswerable r
+answerable-if true k o r h ih e = let same : k.entry ≡ r = cc in subst (λ (x : Entry). IsAnswerable x) same h
+answerable-if false k o r h ih e = ih e
+
+pub answerable-found : (kept : List Kept) (seq : ℕ) (r : Entry) → AreAnswerable kept → entry_with seq kept ≡ Some r → IsAnswerable r
+answerable-found [] seq r a e = cc
+answerable-found (k ∷ kept) seq r a e = answerable-if (k.entry.seq == seq) k (entry_with seq kept) r a.0 (answerable-found kept seq r a.1) e
+
+-- ---- a turn
+
+within : (a b : ℕ) → a ≤ b → nat_le a b ≡ true
+within a b h = grind (arith, nat_tests)
+
+beyond : (a b : ℕ) → b < a → nat_le a b ≡ false
+beyond a b h = grind (arith, nat_tests)
+
+turn-within : (view : Shown) (s : Session) (o : Option Kept) (r : Entry) → option_map (λ (k : Kept). k.entry) o ≡ Some r → s.used + due (plan view s r) ≤ s.limits.seq → turn_of is_put_off view s o ≡ Ok (Some (plan view s r))
+turn-within view s None r e h = cc
+turn-within view s (Some k) r e h =
+    let same : k.entry ≡ r = cc in
+    rw same (rw (within (s.used + due (plan view s r)) s.limits.seq h) refl)
+
+turn-beyond : (view : Shown) (s : Session) (o : Option Kept) (r : Entry) → option_map (λ (k : Kept). k.entry) o ≡ Some r → s.limits.seq < s.used + due (plan view s r) → turn_of is_put_off view s o ≡ Err SeqExhausted
+turn-beyond view s None r e h = cc
+turn-beyond view s (Some k) r e h =
+    let same : k.entry ≡ r = cc in
+    rw same (rw (beyond (s.used + due (plan view s r)) s.limits.seq h) refl)
+
+pub turned : {D : Type 0} (shown : D → Shown) (follows : Goes D) (old new : Seat D) (bytes : List ℕ) (r : Entry) → Some r ≡ option_map (λ (k : Kept). k.entry) (oldest old.session.kept) → old.session.used + due (plan (shown old.debuggee) old.session r) ≤ old.session.limits.seq
+    → Carries follows (plan (shown old.debuggee) old.session r) old new bytes → HasTurned shown follows old new bytes
+turned shown follows old new bytes r e h c = record { plan = plan (shown old.debuggee) old.session r; is = turn-within (shown old.debuggee) old.session (oldest old.session.kept) r (sym e) h; carries = c }
+
+pub not_turned : {D : Type 0} (shown : D → Shown) (fault : AdapterFault) (old new : Seat D) (r : Entry) → Some r ≡ option_map (λ (k : Kept). k.entry) (oldest old.session.kept) → IsRefusedFor fault (plan (shown old.debuggee) old.session r) old new → NotTurned shown fault old new
+not_turned shown SeqExhausted old new r e h = (turn-beyond (shown old.debuggee) old.session (oldest old.session.kept) r (sym e) h.0, h.1)
+not_turned shown OutOfMemory old new r e h = tt
+not_turned shown _ old new r e h = h

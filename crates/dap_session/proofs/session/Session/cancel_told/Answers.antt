@@ -1,0 +1,37 @@
+use Rattle.std.proofs.Common.{◌≡◌, List, sym, ap, subst}
+use Rattle.dap_tables.specs.Outstanding.{Kept}
+use Rattle.dap_session.specs.Plan.{Draft}
+use Rattle.dap_session.specs.Seat.{Seat}
+use Rattle.dap_session.specs.Sheet.{Holds}
+use Rattle.dap_session.proofs.Cancels.{Finds, names-parked, names-absent, finds, cancelled-one, is-false}
+use Rattle.dap_session.proofs.Turning.{answerable-found}
+use Rattle.dap_session.proofs.session.Session.cancel_told.Goals as goal
+
+pub returns-then-is_parked-clause-none : goal.returns-then-is_parked-clause-none
+returns-then-is_parked-clause-none g c =
+    rw (← c.self.view_is) (names-parked c.args.id c.self.inside.kept.kept c.self.invariant.orderly.distinct (sym c.if-is_parked.ensures.parked))
+
+pub returns-in_default-clause-none : goal.returns-in_default-clause-none
+returns-in_default-clause-none g c =
+    rw (← c.self.view_is) (names-absent c.args.id c.self.inside.kept.kept (is-false _ (λ h. cc (c.in_default.ensures.found.1 h))))
+
+pub both_told-requires-clause-named : goal.both_told-requires-clause-named
+both_told-requires-clause-named g c = answerable-found c.self.inside.kept.kept c.args.id c.in-Some.named.now c.self.invariant.answerable (sym c.in-Some.ensures.entry)
+
+pub returns-in-Err-clause-named : goal.returns-in-Err-clause-named
+returns-in-Err-clause-named g c =
+    let found = finds c.args.id c.self.inside.kept.kept c.in-Some.named.now c.self.invariant.orderly.distinct (sym c.if-is_parked.ensures.parked) (sym c.in-Some.ensures.entry) in
+    rw (← c.self.view_is) found.names
+
+pub returns-in-Ok-clause-one : goal.returns-in-Ok-clause-one
+returns-in-Ok-clause-one g c =
+    let found = finds c.args.id c.self.inside.kept.kept c.in-Some.named.now c.self.invariant.orderly.distinct (sym c.if-is_parked.ensures.parked) (sym c.in-Some.ensures.entry) in
+    rw (← c.self.view_is) found.names
+
+pub returns-in-Ok-clause-holds : goal.returns-in-Ok-clause-holds
+returns-in-Ok-clause-holds g c =
+    let found = finds c.args.id c.self.inside.kept.kept c.in-Some.named.now c.self.invariant.orderly.distinct (sym c.if-is_parked.ensures.parked) (sym c.in-Some.ensures.entry) in
+    let kept_is : c.self.inside.kept.kept ≡ c.args.self.now.session.kept = ap (λ (x : Seat _). x.session.kept) c.self.view_is in
+    let here : Finds c.args.id c.args.self.now.session.kept c.in-Some.named.now = subst (λ (ks : List Kept). Finds c.args.id ks c.in-Some.named.now) kept_is found in
+    let drafts = cancelled-one c.args.id c.args.request.now c.in-Some.named.now c.args.self.now.session here in
+    subst (λ (ds : List Draft). Holds c.in-Ok.sheet c.args.self.now.session.used ds) (sym drafts) c.in-Ok.ensures.holds

@@ -1,0 +1,36 @@
+use Rattle.std.proofs.Common.{◌≡◌, ◌+◌, ◌≤◌, ℕ, true, length, arith, sym, ap, subst}
+use Rattle.std.specs.Prelude.{◌==◌, not}
+use Rattle.dap_message.specs.Types.Failure.TheVariants.{Cancelled}
+use Rattle.dap_tables.specs.Outstanding.{entries, contains_seq, HasDistinctSeqs}
+use Rattle.dap_tables.specs.Seq.{Numbers}
+use Rattle.dap_session.specs.Plan.{failure}
+use Rattle.dap_session.specs.Seat.{Seat}
+use Rattle.dap_session.specs.Several.{answer_where, WritesAll}
+use Rattle.dap_session.specs.Sheet.{Holds}
+use Rattle.dap_session.proofs.Leaves.{room-first, room-last, holds-left}
+use Rattle.dap_session.proofs.SeveralAnswers.{all-answerable}
+use Rattle.dap_session.proofs.session.Session.farewell.Goals as goal
+
+pub answer_chosen-requires-clause-answerable : goal.answer_chosen-requires-clause-answerable
+answer_chosen-requires-clause-answerable g c = all-answerable c.self.inside.kept.kept c.self.invariant.answerable
+
+pub answer_chosen-requires-clause-room : goal.answer_chosen-requires-clause-room
+answer_chosen-requires-clause-room g c =
+    let h : contains_seq c.args.request.now.seq c.self.inside.kept.kept ≡ true = subst (λ (x : Seat _). contains_seq c.args.request.now.seq x.session.kept ≡ true) (sym c.self.view_is) c.requires.kept in
+    let room : c.args.self.now.session.used + length c.self.inside.kept.kept ≤ c.args.self.now.session.limits.seq = subst (λ (x : Seat _). c.args.self.now.session.used + length x.session.kept ≤ c.args.self.now.session.limits.seq) (sym c.self.view_is) c.requires.room in
+    room-first c.args.request.now.seq c.self.inside.kept.kept _ c.args.self.now.session.used c.args.self.now.session.limits.seq c.self.invariant.orderly.distinct h
+    (rw c.numbers.ensures.numbers at c.open-sheet.ensures.holds) (rw c.numbers.ensures.numbers at c.open-sheet.ensures.last) room
+
+pub reply-requires-clause-left : goal.reply-requires-clause-left
+reply-requires-clause-left g c =
+    let h : contains_seq c.args.request.now.seq c.self.inside.kept.kept ≡ true = subst (λ (x : Seat _). contains_seq c.args.request.now.seq x.session.kept ≡ true) (sym c.self.view_is) c.requires.kept in
+    let room : c.args.self.now.session.used + length c.self.inside.kept.kept ≤ c.args.self.now.session.limits.seq = subst (λ (x : Seat _). c.args.self.now.session.used + length x.session.kept ≤ c.args.self.now.session.limits.seq) (sym c.self.view_is) c.requires.room in
+    room-last c.args.request.now.seq c.self.inside.kept.kept _ _ c.args.self.now.session.used c.args.self.now.session.limits.seq c.self.invariant.orderly.distinct h
+    (rw c.numbers.ensures.numbers at c.open-sheet.ensures.holds) (rw c.numbers.ensures.numbers at c.open-sheet.ensures.last) room c.in_ok-answer_chosen.ensures
+
+pub returns-clause-holds : goal.returns-clause-holds
+returns-clause-holds g c =
+    holds-left c.args.self.now.session c.args.request.now c.open-sheet.result c.answer_chosen.new.sheet _
+    (rw c.numbers.ensures.numbers at c.open-sheet.ensures.holds)
+    (subst (λ (x : Seat _). WritesAll c.open-sheet.result c.answer_chosen.new.sheet (answer_where (λ n. not (n == c.args.request.now.seq)) (failure Cancelled) (entries x.session.kept))) c.self.view_is c.in_ok-answer_chosen.ensures)
+    c.in_ok-reply.ensures

@@ -1,0 +1,15 @@
+use Rattle.std.proofs.Common.{refl}
+use Rattle.dap_debuggee.specs.Shown.{done}
+use Rattle.dap_session.proofs.session.Session.finish.Goals as goal
+
+pub returns-clause-carries : goal.returns-clause-carries
+returns-clause-carries g c =
+    record {
+      made = _;
+      carried = (done, rw (c.set_phase.ensures, c.clear_references.ensures, c.settle-bytes.ensures.session) c.end.ensures.follows, refl);
+      by =
+          record {
+            session = rw (c.set_phase.ensures, c.clear_references.ensures, c.settle-bytes.ensures.session, c.end.ensures.session, c.in_ok-sheet.ensures.holds.count) refl;
+            bytes_are = rw (c.settle-bytes.ensures.bytes, c.in_ok-sheet.ensures.holds.bytes) refl;
+          };
+    }

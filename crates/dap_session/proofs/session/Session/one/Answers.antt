@@ -1,0 +1,5 @@
+use Rattle.std.proofs.Common.{[]}
+use Rattle.dap_session.proofs.session.Session.one.Goals as goal
+
+pub returns-clause-holds : goal.returns-clause-holds
+returns-clause-holds g c = c.in_ok-reply.ensures.holds _ [] (rw c.numbers.ensures.numbers at c.open-sheet.ensures.holds)

@@ -1,0 +1,5 @@
+use Rattle.dap_session.proofs.Polls.{polls-none}
+use Rattle.dap_session.proofs.session.Session.poll.Goals as goal
+
+pub returns-clause-carries : goal.returns-clause-carries
+returns-clause-carries g c = polls-none g.D.Debuggee.follows _ _ (cc) c.new.ensures.items

@@ -1,0 +1,15 @@
+use Rattle.std.proofs.Common.{refl}
+use Rattle.dap_session.specs.Seat.{reply_of}
+use Rattle.dap_session.proofs.session.Session.start.Goals as goal
+
+pub returns-clause-carries : goal.returns-clause-carries
+returns-clause-carries g c =
+    record {
+      made = _;
+      carried = (reply_of c.in_ok-ok.ok, rw (c.set_phase.ensures, c.in_ok-bytes.ensures.debuggee) c.in_ok-ok.ensures.follows, refl);
+      by =
+          record {
+            session = rw (c.set_phase.ensures, c.in_ok-bytes.ensures.made.session, c.in_ok-ok.ensures.session, c.start_phase.ensures) refl;
+            bytes_are = rw (c.in_ok-bytes.ensures.made.bytes_are, c.in_ok-ok.ensures.session, c.by_reply.ensures.answer) refl;
+          };
+    }

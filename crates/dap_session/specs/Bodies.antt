@@ -1,0 +1,137 @@
+-- What the requests are answered that tell what the debuggee shows.
+-- Specification, "ThreadsResponse", "StackTraceResponse", "ScopesResponse", "VariablesResponse", "EvaluateResponse", "SourceResponse", "LoadedSourcesResponse" and "Types". Which of what they may tell is told, is this profile's choice.
+use Rattle.std.specs.Prelude.{ℕ, ◌+◌, ◌-◌, List, [], ◌∷◌, length, map, take, drop, nat_lt, Option, Some, None, option_map, option_and_then, unwrap_or, Result, Ok, Err, if◌then◌else◌}
+use Rattle.std.specs.List.{slice_get}
+use Rattle.serde_json.specs.Data.{Data}
+use Rattle.dap_history.specs.History.{Target}
+use Rattle.dap_message.specs.ResponseBody.{threads_body, stack_trace_body, scopes_body, variables_body, evaluate_body, source_body, loaded_sources_body}
+use Rattle.dap_message.specs.Types.Call.{Call}
+use Rattle.dap_message.specs.Types.Call.TheVariants as call
+use Rattle.dap_message.specs.Types.Failure.{Failure}
+use Rattle.dap_message.specs.Types.Failure.TheVariants.{Debuggee}
+use Rattle.dap_message.specs.Types.Thread.{Thread as ThreadBody}
+use Rattle.dap_message.specs.Types.StackFrame.{StackFrame}
+use Rattle.dap_message.specs.Types.Scope.{Scope as ScopeBody}
+use Rattle.dap_message.specs.Types.Variable.{Variable as VariableBody}
+use Rattle.dap_message.specs.Types.Source.{Source as SourceBody}
+use Rattle.dap_debuggee.specs.Shown.{Shown}
+use Rattle.dap_debuggee.specs.declared.answers.Thread.{Thread}
+use Rattle.dap_debuggee.specs.declared.answers.Frame.{Frame}
+use Rattle.dap_debuggee.specs.declared.answers.Scope.{Scope}
+use Rattle.dap_debuggee.specs.declared.answers.Variable.{Variable}
+use Rattle.dap_debuggee.specs.declared.answers.Evaluation.{Evaluation}
+use Rattle.dap_debuggee.specs.declared.answers.Source.{Source}
+use Rattle.dap_session.specs.declared.options.Options.{Options}
+use Rattle.dap_session.specs.References.{References, frame_of, holder_of, intern_each, named, target_of, and_then}
+use Rattle.dap_session.specs.Session.{Session}
+
+-- what is told: the body, what its references name, and the references that are live then
+pub record Told : Type 0 where
+  pub body : Option Data
+  pub names : List Target
+  pub references : References
+
+abbrev pub Telling : Type 0
+Telling = Result Told Failure
+
+-- a body without references
+abbrev pub tells_only : Session → Option Data → Telling
+tells_only s body = Ok (record { body = body; names = []; references = s.references })
+
+-- what the debuggee refuses to tell
+abbrev pub asked_for : {A : Type 0} → Option A → (A → Telling) → Telling
+asked_for None tell = Err Debuggee
+asked_for (Some x) tell = tell x
+
+-- a body with a number for each of these objects
+abbrev pub tells_with : Session → List (Option Target) → (List ℕ → Data) → Telling
+tells_with s objects body = and_then (intern_each s.limits objects s.references) (λ given. Ok (record { body = Some (body given.0); names = named objects; references = given.1 }))
+
+-- ---- lines, columns and parts of lists
+
+-- a line as the client counts it
+abbrev pub line_shown : Options → ℕ → ℕ
+line_shown options line = if options.lines_start_at_1 then line else line - 1
+
+abbrev pub column_shown : Options → ℕ
+column_shown options = if options.columns_start_at_1 then 1 else 0
+
+-- from `start` on, at most `count` where that is above 0
+abbrev pub window : {A : Type 0} → ℕ → ℕ → List A → List A
+window start count xs = if nat_lt 0 count then take count (drop start xs) else drop start xs
+
+-- ---- what bodies are made of
+
+abbrev pub thread_told : Thread → ThreadBody
+thread_told t = record { id = t.id; name = t.name }
+
+-- the source at this index
+abbrev pub source_told : ℕ → Source → SourceBody
+source_told index source = record { name = source.name; path = source.path; source_reference = index + 1 }
+
+abbrev pub sources_told : ℕ → List Source → List SourceBody
+sources_told index [] = []
+sources_told index (source ∷ sources) = source_told index source ∷ sources_told (index + 1) sources
+
+-- an index past the sources, which no frame has
+abbrev pub unknown_source : ℕ → SourceBody
+unknown_source index = record { name = []; path = None; source_reference = index + 1 }
+
+abbrev pub source_of_frame : List Source → ℕ → SourceBody
+source_of_frame sources index = unwrap_or (option_map (source_told index) (slice_get sources index)) (unknown_source index)
+
+abbrev pub frame_told : Options → List Source → ℕ → Frame → StackFrame
+frame_told options sources id f = record { id = id; name = f.name; source = source_of_frame sources f.source; line = line_shown options f.line; column = column_shown options }
+
+abbrev pub scope_told : ℕ → Scope → ScopeBody
+scope_told number scope = record { name = scope.name; variables_reference = number }
+
+abbrev pub variable_told : ℕ → Variable → VariableBody
+variable_told number variable = record { name = variable.name; value = variable.value; variables_reference = number }
+
+-- each with its number
+abbrev pub with_numbers : {A B : Type 0} → (ℕ → A → B) → List ℕ → List A → List B
+with_numbers told [] xs = []
+with_numbers told (n ∷ ns) [] = []
+with_numbers told (n ∷ ns) (x ∷ xs) = told n x ∷ with_numbers told ns xs
+
+abbrev pub number_in : List ℕ → ℕ
+number_in [] = 0
+number_in (n ∷ ns) = n
+
+-- ---- the answers
+
+abbrev pub frames_told : Shown → Session → ℕ → List Frame → Telling
+frames_told view s total shown_frames =
+    tells_with s (map (λ (f : Frame). Some (frame_of f.object)) shown_frames) (λ ids. stack_trace_body (with_numbers (frame_told s.options view.sources) ids shown_frames) total)
+
+abbrev pub scopes_told : Session → List Scope → Telling
+scopes_told s scopes = tells_with s (map (λ (x : Scope). Some (holder_of x.holder)) scopes) (λ numbers. scopes_body (with_numbers scope_told numbers scopes))
+
+abbrev pub variables_told : Session → List Variable → Telling
+variables_told s variables = tells_with s (map (λ (x : Variable). option_map holder_of x.holder) variables) (λ numbers. variables_body (with_numbers variable_told numbers variables))
+
+abbrev pub value_told : Session → Evaluation → Telling
+value_told s value = tells_with s (option_map holder_of value.holder ∷ []) (λ numbers. evaluate_body value.value (number_in numbers))
+
+-- the object of a live number
+abbrev pub object_of : References → ℕ → Option ℕ
+object_of refs number = option_map (λ t. t.object) (target_of refs number)
+
+-- only a client that pages variables gets a part of them
+abbrev pub page : Options → ℕ → ℕ → List Variable → List Variable
+page options start count variables = if options.supports_variable_paging then window start count variables else variables
+
+-- what a call is told; one that tells nothing succeeds without a body
+unfoldable pub telling : Shown → Session → Call → Telling
+telling view s call.Threads = tells_only s (Some (threads_body (map thread_told view.threads)))
+telling view s (call.StackTrace asked) =
+    asked_for (view.frames asked.thread_id) (λ frames. frames_told view s (length frames) (window asked.start_frame asked.levels frames))
+telling view s (call.Scopes number) = asked_for (option_and_then view.scopes (object_of s.references number)) (scopes_told s)
+telling view s (call.Variables asked) =
+    asked_for (option_and_then view.children (object_of s.references asked.variables_reference)) (λ variables. variables_told s (page s.options asked.start asked.count variables))
+telling view s (call.Evaluate asked) =
+    asked_for (view.evaluate (option_and_then (object_of s.references) asked.frame_id) asked.expression) (value_told s)
+telling view s (call.Source number) = asked_for (view.content (number - 1)) (λ text. tells_only s (Some (source_body text)))
+telling view s call.LoadedSources = tells_only s (Some (loaded_sources_body (sources_told 0 view.sources)))
+telling view s _ = tells_only s None

@@ -1,0 +1,150 @@
+-- Why a request fails before anything is asked or changed: the first test that holds, in the one order of failures.
+-- Specification, "ErrorResponse". The tests and their order are this profile's choice.
+use Rattle.std.specs.Prelude.{ℕ, ℤ, ◌==◌, ◌&&◌, ◌||◌, not, nat_lt, Bool, true, false, List, [], ◌∷◌, length, Option, Some, None, is_none, Ok, Err, option_map}
+use Rattle.std.specs.List.{list_any}
+use Rattle.std.specs.Ordering.{int_eq}
+use Rattle.dap_message.specs.Argument.{Read}
+use Rattle.dap_message.specs.Call.{call_of}
+use Rattle.dap_message.specs.Command.{command_named}
+use Rattle.dap_history.specs.History.{TargetKind, frame, holder}
+use Rattle.dap_message.specs.Types.Call.{Call}
+use Rattle.dap_message.specs.Types.Call.TheVariants as call
+use Rattle.dap_message.specs.Types.Command.{Command}
+use Rattle.dap_message.specs.Types.Command.TheVariants as command
+use Rattle.dap_message.specs.Types.Failure.{Failure}
+use Rattle.dap_message.specs.Types.Failure.TheVariants.{NotInitialized, AlreadyInitialized, UnknownCommand, Unsupported, BadArguments, WrongPhase, NotStopped, UnknownThread, StaleReference, UnknownSource}
+use Rattle.dap_debuggee.specs.Shown.{Shown}
+use Rattle.dap_tables.specs.declared.entry.Entry.{Entry}
+use Rattle.dap_session.specs.declared.phase.Phase.{Phase}
+use Rattle.dap_session.specs.declared.phase.Phase.TheVariants.{Fresh, Running}
+use Rattle.dap_session.specs.References.{References, target_of, is_of_kind}
+use Rattle.dap_session.specs.Session.{Session}
+use Rattle.dap_session.specs.Table.{is_phase, is_served, is_never_served, is_of_stops, is_put_off}
+
+abbrev pub command_of : Entry → Option Command
+command_of r = command_named r.command
+
+-- what is asked, or the first bad key
+abbrev pub call_in : Entry → Command → Read Call
+call_in r c = call_of c r.arguments
+
+-- ---- tests of a command
+
+-- of a command that is known
+abbrev pub of_known : (Command → Bool) → Option Command → Bool
+of_known test None = false
+of_known test (Some c) = test c
+
+abbrev pub is_initialize : Command → Bool
+is_initialize command.Initialize = true
+is_initialize _ = false
+
+-- may come before `initialize`
+abbrev pub is_early : Command → Bool
+is_early command.Initialize = true
+is_early command.Disconnect = true
+is_early _ = false
+
+-- served where the debuggee is stopped alone, and it runs
+abbrev pub waits_for_stop : Phase → Command → Bool
+waits_for_stop phase c = is_phase Running phase && is_of_stops c
+
+-- ---- tests of a call
+
+-- the thread that has to exist
+abbrev pub thread_named : Call → Option ℤ
+thread_named (call.Continue thread) = Some thread
+thread_named (call.Next thread) = Some thread
+thread_named (call.StepIn thread) = Some thread
+thread_named (call.StepOut thread) = Some thread
+thread_named (call.StepBack thread) = Some thread
+thread_named (call.ReverseContinue thread) = Some thread
+thread_named (call.StackTrace asked) = Some asked.thread_id
+thread_named _ = None
+
+-- the number that has to name something live of its kind
+abbrev pub reference_named : Call → Option (TargetKind × ℕ)
+reference_named (call.Scopes number) = Some (frame, number)
+reference_named (call.Variables asked) = Some (holder, asked.variables_reference)
+reference_named (call.Evaluate asked) = option_map (λ number. (frame, number)) asked.frame_id
+reference_named _ = None
+
+-- the number that has to name a source
+abbrev pub source_named : Call → Option ℕ
+source_named (call.Source number) = Some number
+source_named _ = None
+
+abbrev pub has_thread : Shown → ℤ → Bool
+has_thread view id = list_any (λ t. int_eq t.id id) view.threads
+
+abbrev pub lacks_thread : Shown → Option ℤ → Bool
+lacks_thread view None = false
+lacks_thread view (Some id) = not (has_thread view id)
+
+abbrev pub lacks_reference : References → Option (TargetKind × ℕ) → Bool
+lacks_reference refs None = false
+lacks_reference refs (Some n) = not (is_of_kind n.0 (target_of refs n.1))
+
+abbrev pub lacks_source : Shown → Option ℕ → Bool
+lacks_source view None = false
+lacks_source view (Some n) = (n == 0) || nat_lt (length view.sources) n
+
+-- ---- the tests in their order
+
+abbrev pub when : Bool → Failure → Option Failure
+when true f = Some f
+when false f = None
+
+abbrev pub or_else : Option Failure → Option Failure → Option Failure
+or_else (Some f) later = Some f
+or_else None later = later
+
+-- the first that holds
+abbrev pub first : List (Option Failure) → Option Failure
+first [] = None
+first (f ∷ later) = or_else f (first later)
+
+-- of a command's name alone, where these commands are put off
+abbrev pub name_refused : (Command → Bool) → Phase → Option Command → Option Failure
+name_refused put_off phase c = first (
+    when (is_phase Fresh phase && not (of_known is_early c)) NotInitialized
+    ∷ when (of_known is_initialize c && not (is_phase Fresh phase)) AlreadyInitialized
+    ∷ when (is_none c) UnknownCommand
+    ∷ when (of_known (λ x. is_never_served x || put_off x) c) Unsupported
+    ∷ [])
+
+-- of its arguments
+abbrev pub key_refused : Read Call → Option Failure
+key_refused (Err key) = Some (BadArguments key)
+key_refused (Ok asked) = None
+
+-- of the phase
+abbrev pub phase_refused : Phase → Command → Option Failure
+phase_refused phase c = first (
+    when (not (is_served c phase) && not (waits_for_stop phase c)) WrongPhase
+    ∷ when (not (is_served c phase)) NotStopped
+    ∷ [])
+
+-- of what the arguments name
+abbrev pub call_refused : Shown → References → Call → Option Failure
+call_refused view refs asked = first (
+    when (lacks_thread view (thread_named asked)) UnknownThread
+    ∷ when (lacks_reference refs (reference_named asked)) StaleReference
+    ∷ when (lacks_source view (source_named asked)) UnknownSource
+    ∷ [])
+
+abbrev pub read_refused : Shown → References → Read Call → Option Failure
+read_refused view refs (Err key) = None
+read_refused view refs (Ok asked) = call_refused view refs asked
+
+-- what the arguments are is looked at only where the command is known
+abbrev pub known_refused : Shown → Session → Entry → Option Command → Option Failure
+known_refused view s r None = None
+known_refused view s r (Some c) = first (key_refused (call_in r c) ∷ phase_refused s.phase c ∷ read_refused view s.references (call_in r c) ∷ [])
+
+-- why a request is refused before anything is asked, where these commands are put off
+abbrev pub refusal_but : (Command → Bool) → Shown → Session → Entry → Option Failure
+refusal_but put_off view s r = first (name_refused put_off s.phase (command_of r) ∷ known_refused view s r (command_of r) ∷ [])
+
+abbrev pub refusal : Shown → Session → Entry → Option Failure
+refusal view s r = refusal_but is_put_off view s r

@@ -1,0 +1,18 @@
+-- Which history a session follows.
+use Rattle.std.specs.Prelude.{◌≡◌, List, length}
+use Rattle.dap_history.specs.Answers.{Answers}
+use Rattle.dap_history.specs.History.{Entry, Came, waiting, outs_of, AreNumberedAfter}
+use Rattle.dap_history.specs.Requests.{asks}
+use Rattle.dap_session.specs.References.{references_of}
+use Rattle.dap_session.specs.Session.{Session}
+
+-- a session after this history
+pub record Follows (s : Session) (h : List Entry) : Type 0 where
+  -- a request is kept exactly while it is unanswered
+  pub kept : asks s.kept ≡ waiting Came h
+  -- each response answers exactly one request that was unanswered
+  pub answers : Answers Came h
+  pub references : s.references ≡ references_of h
+  pub used : s.used ≡ length (outs_of h)
+  -- the k-th message that went has the number k
+  pub numbered : AreNumberedAfter 0 (outs_of h)

@@ -1,0 +1,239 @@
+-- How a kept request is handled: what the debuggee is asked, what is written, what is left.
+-- Overview, "Initialization" to "Debug session end"; the responses of the Specification. What of this the protocol leaves open is this profile's choice.
+use Rattle.std.specs.Prelude.{ℕ, ℤ, pos, ◌+◌, List, [], ◌∷◌, ◌++◌, length, map, Bool, true, false, nat_le, Option, Some, None, unwrap_or, Result, Ok, Err, if◌then◌else◌}
+use Rattle.serde_json.specs.Data.{Data}
+use Rattle.dap_message.specs.Argument.{Read}
+use Rattle.dap_message.specs.Canon.{canon}
+use Rattle.dap_message.specs.Capabilities.{written}
+use Rattle.dap_message.specs.Lengths.{initialized, terminated, succeeded}
+use Rattle.dap_message.specs.ResponseBody.{continue_body, set_breakpoints_body}
+use Rattle.dap_message.specs.Types.Breakpoint.{Breakpoint as BreakpointBody}
+use Rattle.dap_message.specs.Types.Call.{Call}
+use Rattle.dap_message.specs.Types.Call.TheVariants as call
+use Rattle.dap_message.specs.Types.Capabilities.{Capabilities}
+use Rattle.dap_message.specs.Types.Command.{Command}
+use Rattle.dap_message.specs.Types.Failure.{Failure}
+use Rattle.dap_message.specs.Types.Failure.TheVariants.{Debuggee, TooManyBreakpoints, TooLarge, Cancelled}
+use Rattle.dap_message.specs.Types.SourceKey.{SourceKey}
+use Rattle.dap_tables.specs.Outstanding.{Kept, without, with_mark}
+use Rattle.dap_tables.specs.declared.entry.Entry.{Entry}
+use Rattle.dap_debuggee.specs.Shown.{Shown, to_start, to_resume, to_pause, to_set_breakpoints, to_end, Reply, done}
+use Rattle.dap_debuggee.specs.declared.answers.How.{How}
+use Rattle.dap_debuggee.specs.declared.answers.How.TheVariants as how
+use Rattle.dap_session.specs.declared.phase.Phase.{Phase}
+use Rattle.dap_session.specs.declared.phase.Phase.TheVariants.{Ready, Configured, Parked, Running, Exited, Ended}
+use Rattle.dap_session.specs.declared.effect.Effect.{Effect}
+use Rattle.dap_session.specs.declared.effect.Effect.TheVariants as effect
+use Rattle.dap_session.specs.declared.options.Options.{Options}
+use Rattle.dap_session.specs.declared.fault.AdapterFault.{AdapterFault}
+use Rattle.dap_session.specs.Bodies.{Telling, telling}
+use Rattle.dap_session.specs.Breakpoints.{replaced, are_too_many}
+use Rattle.dap_session.specs.Failures.{command_of, call_in, refusal_but, thread_named}
+use Rattle.dap_session.specs.Plan.{Answer, success, failure, plain_success, Draft, reply, tell, Made, Plan, at_once, asking, nothing, answered, affordable}
+use Rattle.dap_session.specs.References.{cleared}
+use Rattle.dap_session.specs.Session.{Session, usual_options, oldest}
+use Rattle.dap_tables.specs.Outstanding.{parked_ones, unparked_ones}
+use Rattle.dap_session.specs.Table.{effect_in, is_put_off}
+
+-- ---- initialize
+
+-- what this adapter offers
+abbrev pub offered : Capabilities
+offered = record {
+  breakpoint_locations = false;
+  cancel = true;
+  completions = false;
+  configuration_done = true;
+  exception_info = false;
+  function_breakpoints = false;
+  loaded_sources = true;
+  modules = false;
+  restart = false;
+  set_variable = false;
+  step_back = true;
+  terminate = true;
+}
+
+abbrev pub options_of : Call → Options
+options_of (call.Initialize asked) = record { lines_start_at_1 = asked.lines_start_at_1; columns_start_at_1 = asked.columns_start_at_1; supports_variable_paging = asked.supports_variable_paging }
+options_of _ = usual_options
+
+abbrev pub begun : Session → Entry → Call → Made
+begun s r asked = record {
+  drafts = reply r (success (Some (written offered)) []) ∷ tell initialized ∷ [];
+  drops = false;
+  after = record s { phase = Ready; options = options_of asked; kept = without r.seq s.kept; used = s.used + 2 };
+}
+
+-- ---- launch, attach and configurationDone
+
+-- a success with this body where the debuggee did what it was asked
+abbrev pub by_reply : Option Data → Reply → Answer
+by_reply body done = success body []
+by_reply body _ = failure Debuggee
+
+abbrev pub start_phase : Reply → Phase
+start_phase done = Running
+start_phase _ = Configured
+
+abbrev pub parked : Session → Entry → Made
+parked s r = record { drafts = []; drops = false; after = record s { phase = Parked; kept = with_mark r.seq true s.kept } }
+
+abbrev pub started : Session → Entry → Reply → Made
+started s r last = record {
+  drafts = reply r (by_reply None last) ∷ [];
+  drops = false;
+  after = record s { phase = start_phase last; kept = without r.seq s.kept; used = s.used + 1 };
+}
+
+abbrev pub configured : Session → Entry → Made
+configured s r = record { drafts = reply r plain_success ∷ []; drops = false; after = record s { phase = Configured; kept = without r.seq s.kept; used = s.used + 1 } }
+
+abbrev pub answer_each : Answer → List Kept → List Draft
+answer_each answer kept = map (λ k. reply k.entry answer) kept
+
+-- the request is answered, then what was parked
+abbrev pub started_parked : Session → Entry → Reply → Made
+started_parked s r last = record {
+  drafts = reply r plain_success ∷ answer_each (by_reply None last) (parked_ones (without r.seq s.kept));
+  drops = false;
+  after = record s { phase = start_phase last; kept = unparked_ones (without r.seq s.kept); used = s.used + (1 + length (parked_ones (without r.seq s.kept))) };
+}
+
+-- ---- disconnect and terminate
+
+-- every other request is cancelled, in order of arrival, then this one answered
+abbrev pub left : Session → Entry → Made
+left s r = record {
+  drafts = answer_each (failure Cancelled) (without r.seq s.kept) ++ reply r plain_success ∷ [];
+  drops = true;
+  after = record s { phase = Ended; kept = []; references = cleared s.references; used = s.used + (length (without r.seq s.kept) + 1) };
+}
+
+abbrev pub finished : Session → Entry → Made
+finished s r = record {
+  drafts = reply r plain_success ∷ tell terminated ∷ [];
+  drops = true;
+  after = record s { phase = Exited; kept = without r.seq s.kept; references = cleared s.references; used = s.used + 2 };
+}
+
+-- ---- the six ways to go on
+
+abbrev pub resume_body : How → Option Data
+resume_body how.Continue = Some continue_body
+resume_body _ = None
+
+abbrev pub resumed : How → Session → Entry → Reply → Made
+resumed h s r done = record {
+  drafts = reply r (success (resume_body h) []) ∷ [];
+  drops = true;
+  after = record s { phase = Running; kept = without r.seq s.kept; references = cleared s.references; used = s.used + 1 };
+}
+resumed h s r _ = answered r (failure Debuggee) s
+
+-- ---- what has to fit a message
+
+-- the response has at most as many bytes as a body may have
+abbrev pub fits : Session → Entry → Option Data → Bool
+fits s r body = nat_le (length (canon (succeeded (s.used + 1) r.seq r.command body))) s.limits.body
+
+-- nothing is given where it would be too large
+abbrev pub told : Session → Entry → Telling → Made
+told s r (Err f) = answered r (failure f) s
+told s r (Ok t) =
+    if fits s r t.body
+    then record { drafts = reply r (success t.body t.names) ∷ []; drops = false; after = record s { kept = without r.seq s.kept; references = t.references; used = s.used + 1 } }
+    else answered r (failure TooLarge) s
+
+-- ---- breakpoints
+
+-- lines as the debuggee counts them
+abbrev pub lines_asked : Options → List ℕ → List ℕ
+lines_asked options lines = if options.lines_start_at_1 then lines else map (λ n. n + 1) lines
+
+abbrev pub answers_to : ℕ → List ℕ → List Bool → List BreakpointBody
+answers_to id [] verified = []
+answers_to id (line ∷ lines) [] = []
+answers_to id (line ∷ lines) (v ∷ verified) = record { id = id; line = line; verified = v } ∷ answers_to (id + 1) lines verified
+
+abbrev pub breakpoints_set : Session → Entry → SourceKey → List ℕ → Option Data → Plan
+breakpoints_set s r key lines body = asking (to_set_breakpoints key lines)
+    (λ last. record {
+      drafts = reply r (success body []) ∷ [];
+      drops = false;
+      after = record s { kept = without r.seq s.kept; breakpoints = replaced key lines s.breakpoints; used = s.used + 1 };
+    })
+
+-- the answer is measured before anything changes
+abbrev pub breakpoints_answered : Session → Entry → SourceKey → List ℕ → Option Data → Plan
+breakpoints_answered s r key lines body = if fits s r body then breakpoints_set s r key lines body else at_once (answered r (failure TooLarge) s)
+
+abbrev pub breakpoints_verified : Session → Entry → SourceKey → List ℕ → Option (List Bool) → Plan
+breakpoints_verified s r key lines None = at_once (answered r (failure Debuggee) s)
+breakpoints_verified s r key lines (Some verified) =
+    if are_too_many s.limits key lines s.breakpoints
+    then at_once (answered r (failure TooManyBreakpoints) s)
+    else breakpoints_answered s r key (lines_asked s.options lines) (Some (set_breakpoints_body (answers_to s.breakpoints.next_id lines verified)))
+
+abbrev pub breakpoints_plan : Shown → Session → Entry → Call → Plan
+breakpoints_plan view s r (call.SetBreakpoints key lines) = breakpoints_verified s r key lines (view.verify key (lines_asked s.options lines))
+breakpoints_plan view s r _ = at_once (nothing s)
+
+-- ---- the effects of the table
+
+-- the thread that a call names
+abbrev pub thread_of : Call → ℤ
+thread_of asked = unwrap_or (thread_named asked) (pos 0)
+
+unfoldable pub plan_for : Effect → Shown → Session → Entry → Call → Plan
+plan_for effect.Begin view s r asked = at_once (begun s r asked)
+plan_for effect.Park view s r asked = at_once (parked s r)
+plan_for effect.Start view s r asked = asking to_start (started s r)
+plan_for effect.Configure view s r asked = at_once (configured s r)
+plan_for effect.StartParked view s r asked = asking to_start (started_parked s r)
+plan_for effect.Leave view s r asked = at_once (left s r)
+plan_for effect.EndAndLeave view s r asked = asking to_end (λ last. left s r)
+plan_for effect.Finish view s r asked = asking to_end (λ last. finished s r)
+plan_for effect.SetBreakpoints view s r asked = breakpoints_plan view s r asked
+plan_for (effect.Resume h) view s r asked = asking (to_resume h (thread_of asked)) (resumed h s r)
+plan_for effect.Pause view s r asked = asking to_pause (λ last. answered r (by_reply None last) s)
+plan_for effect.Tell view s r asked = at_once (told s r (telling view s asked))
+
+-- ---- a request, and a turn
+
+abbrev pub plan_of_call : Shown → Session → Entry → Option Effect → Read Call → Plan
+plan_of_call view s r (Some e) (Ok asked) = plan_for e view s r asked
+plan_of_call view s r _ _ = at_once (nothing s)
+
+abbrev pub plan_of_command : Shown → Session → Entry → Option Command → Plan
+plan_of_command view s r None = at_once (nothing s)
+plan_of_command view s r (Some c) = plan_of_call view s r (effect_in c s.phase) (call_in r c)
+
+-- the first failure that holds, or what the table says
+abbrev pub plan_unless : Option Failure → Shown → Session → Entry → Plan
+plan_unless (Some f) view s r = at_once (answered r (failure f) s)
+plan_unless None view s r = plan_of_command view s r (command_of r)
+
+abbrev pub plan_but : (Command → Bool) → Shown → Session → Entry → Plan
+plan_but put_off view s r = plan_unless (refusal_but put_off view s r) view s r
+
+-- how a request is handled
+abbrev pub plan : Shown → Session → Entry → Plan
+plan view s r = plan_but is_put_off view s r
+
+-- ---- a turn: None where no request waits to be handled
+
+abbrev pub some_plan : Result Plan AdapterFault → Result (Option Plan) AdapterFault
+some_plan (Ok p) = Ok (Some p)
+some_plan (Err fault) = Err fault
+
+abbrev pub turn_of : (Command → Bool) → Shown → Session → Option Kept → Result (Option Plan) AdapterFault
+turn_of put_off view s None = Ok None
+turn_of put_off view s (Some k) = some_plan (affordable s (plan_but put_off view s k.entry))
+
+abbrev pub turns_but : (Command → Bool) → Shown → Session → Result (Option Plan) AdapterFault
+turns_but put_off view s = turn_of put_off view s (oldest s.kept)
+
+-- the oldest request that is not parked is handled
+abbrev pub turns : Shown → Session → Result (Option Plan) AdapterFault
+turns view s = turns_but is_put_off view s

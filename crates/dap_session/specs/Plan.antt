@@ -1,0 +1,101 @@
+-- What a call comes to: what is written, what is left, and what the debuggee is asked before.
+-- Specification, "Response", "Event".
+use Rattle.std.specs.Prelude.{ℕ, ◌+◌, List, [], ◌∷◌, ◌++◌, length, Bool, true, false, nat_le, Option, None, Result, Ok, Err, if◌then◌else◌}
+use Rattle.std.specs.List.{flat_map}
+use Rattle.serde_json.specs.Data.{Data}
+use Rattle.dap_frame.specs.Written.{frame_of}
+use Rattle.dap_message.specs.Canon.{canon}
+use Rattle.dap_history.specs.History.{Target, Entry, Out, Drop}
+use Rattle.dap_message.specs.Lengths.{AdapterEvent, event_name, event_body, succeeded, failed, happened}
+use Rattle.dap_message.specs.Types.Failure.{Failure}
+use Rattle.dap_message.specs.declared.message.Message.{Message}
+use Rattle.dap_tables.specs.Outstanding.{without}
+use Rattle.dap_tables.specs.declared.entry.Entry.{Entry as Request}
+use Rattle.dap_debuggee.specs.Shown.{Act, Reply, done}
+use Rattle.dap_session.specs.declared.fault.AdapterFault.{AdapterFault}
+use Rattle.dap_session.specs.declared.fault.AdapterFault.TheVariants.{SeqExhausted}
+use Rattle.dap_session.specs.Session.{Session}
+
+-- how a request is answered: with a body, and what the references in it name, or with a failure
+pub data Answer : Type 0 where
+  success : Option Data → List Target → Answer
+  failure : Failure → Answer
+
+-- what is to be written, before it has its number
+pub data Draft : Type 0 where
+  reply : Request → Answer → Draft
+  tell : AdapterEvent → Draft
+
+-- without a body
+abbrev pub plain_success : Answer
+plain_success = success None []
+
+-- ---- messages
+
+abbrev pub answer_message : ℕ → Request → Answer → Message
+answer_message seq r (success body names) = succeeded seq r.seq r.command body
+answer_message seq r (failure f) = failed seq r.seq r.command f
+
+abbrev pub message_of : ℕ → Draft → Message
+message_of seq (reply r answer) = answer_message seq r answer
+message_of seq (tell event) = happened seq (event_name event) (event_body event)
+
+abbrev pub names_in : Answer → List Target
+names_in (success body names) = names
+names_in (failure f) = []
+
+abbrev pub names_of : Draft → List Target
+names_of (reply r answer) = names_in answer
+names_of (tell event) = []
+
+-- drafts with the own numbers after the last one used
+abbrev pub numbered : ℕ → List Draft → List Message
+numbered used [] = []
+numbered used (d ∷ ds) = message_of (used + 1) d ∷ numbered (used + 1) ds
+
+-- as they stand in a history
+abbrev pub outs : ℕ → List Draft → List Entry
+outs used [] = []
+outs used (d ∷ ds) = Out (message_of (used + 1) d) (names_of d) ∷ outs (used + 1) ds
+
+-- as they are handed out
+abbrev pub bytes_of : List Message → List ℕ
+bytes_of messages = flat_map (λ m. frame_of (canon m)) messages
+
+-- ---- what a call comes to
+
+-- what is written, whether all references die before, and the session afterwards
+pub record Made : Type 0 where
+  pub drafts : List Draft
+  pub drops : Bool
+  pub after : Session
+
+-- what is made at once, or what the debuggee is asked, and what is made of each reply
+pub data Plan : Type 0 where
+  at_once : Made → Plan
+  asking : Act → (Reply → Made) → Plan
+
+-- nothing is written and nothing changes
+abbrev pub nothing : Session → Made
+nothing s = record { drafts = []; drops = false; after = s }
+
+-- one request is answered, and kept no more
+abbrev pub answered : Request → Answer → Session → Made
+answered r answer s = record { drafts = reply r answer ∷ []; drops = false; after = record s { kept = without r.seq s.kept; used = s.used + 1 } }
+
+-- how many messages it takes, whatever the debuggee replies
+abbrev pub due : Plan → ℕ
+due (at_once m) = length m.drafts
+due (asking act makes) = length (makes done).drafts
+
+-- unless it takes more messages than own numbers are left
+abbrev pub affordable : Session → Plan → Result Plan AdapterFault
+affordable s plan = if nat_le (s.used + due plan) s.limits.seq then Ok plan else Err SeqExhausted
+
+abbrev pub dropping : Bool → List Entry
+dropping true = Drop ∷ []
+dropping false = []
+
+-- its entries in the history: the end of the references, then what is written
+abbrev pub entries_of : ℕ → Made → List Entry
+entries_of used m = dropping m.drops ++ outs used m.drafts

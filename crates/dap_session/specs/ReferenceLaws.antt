@@ -1,0 +1,42 @@
+-- References that live at different times stay apart, and the numbers of an answer name its objects.
+-- Overview, "Lifetime of Objects References".
+use Rattle.std.specs.Prelude.{◌≡◌, ℕ, ◌≤◌, List, Bool, true, false, Option, Some, None, Ok}
+use Rattle.std.specs.List.{AllZip}
+use Rattle.dap_frame.specs.Settings.{Settings}
+use Rattle.dap_history.specs.History.{Target}
+use Rattle.dap_message.specs.Types.Command.{Command}
+use Rattle.dap_message.specs.declared.message.Message.{Message}
+use Rattle.dap_debuggee.specs.Shown.{Shown}
+use Rattle.dap_session.specs.Handling.{turns_but}
+use Rattle.dap_session.specs.Laws.{CanMake}
+use Rattle.dap_session.specs.Plan.{Made, Plan}
+use Rattle.dap_session.specs.Polling.{polls}
+use Rattle.dap_session.specs.References.{References, target_of, intern_each}
+use Rattle.dap_session.specs.Session.{Session}
+use Rattle.dap_session.specs.Taking.{takes}
+
+-- the number of an object is a live reference to it, and 0 where there is no object
+abbrev pub IsNumberOf : References → Option Target → ℕ → Type 0
+IsNumberOf refs None n = n ≡ 0
+IsNumberOf refs (Some t) n = target_of refs n ≡ Some t
+
+-- a step keeps the references before it and after it apart
+pub record KeepsApart (s : Session) (made : Made) : Type 0 where
+  -- what is dead stays dead
+  pub base : s.references.base ≤ made.after.references.base
+  -- where all die, each number that was live is dead
+  pub dropped : made.drops ≡ true → (n : ℕ) (t : Target) → target_of s.references n ≡ Some t → n ≤ made.after.references.base
+  -- where none dies, each number names what it named
+  pub lasting : made.drops ≡ false → (n : ℕ) (t : Target) → target_of s.references n ≡ Some t → target_of made.after.references n ≡ Some t
+
+pub record ReferencesAreApart : Type 0 where
+  -- a number at or below the base is dead: it names nothing
+  pub dead : (refs : References) (n : ℕ) → n ≤ refs.base → target_of refs n ≡ None
+  pub take : (s : Session) (m : Message) (plan : Plan) (made : Made) → takes m s ≡ Ok plan → CanMake plan made → KeepsApart s made
+  pub turn : (put_off : Command → Bool) (view : Shown) (s : Session) (plan : Plan) (made : Made) → turns_but put_off view s ≡ Ok (Some plan) → CanMake plan made → KeepsApart s made
+  pub poll : (s : Session) (made : Made) → CanMake (polls s) made → KeepsApart s made
+  -- the numbers that an answer's objects are given name them, each in its place
+  pub named : (limits : Settings) (objects : List (Option Target)) (refs : References) (given : List ℕ × References) → intern_each limits objects refs ≡ Ok given → AllZip (IsNumberOf given.1) objects given.0
+  -- and a number that named something before names it still
+  pub kept : (limits : Settings) (objects : List (Option Target)) (refs : References) (given : List ℕ × References) → intern_each limits objects refs ≡ Ok given
+      → (n : ℕ) (t : Target) → target_of refs n ≡ Some t → target_of given.1 n ≡ Some t

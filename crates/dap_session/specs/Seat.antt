@@ -1,0 +1,138 @@
+-- The code's words for the session with its debuggee, and for the steps that the calls are made of.
+use Rattle.std.specs.Prelude.{◌≡◌, ℕ, ◌+◌, ◌≤◌, ◌<◌, ⊤, List, [], ◌∷◌, length, Bool, true, false, Some, None, Ok, Err}
+use Rattle.dap_frame.specs.Settings.{Settings}
+use Rattle.dap_json.specs.Field.{max_seq}
+use Rattle.dap_tables.specs.Outstanding.{Kept, KeptRequests, IsOrderly, without}
+use Rattle.dap_tables.specs.Seq.{Numbers}
+use Rattle.dap_tables.specs.declared.entry.Entry.{Entry}
+use Rattle.dap_debuggee.specs.Shown.{Shown, Reply, done, refused}
+use Rattle.dap_session.specs.declared.decision.Decision.{Decision}
+use Rattle.dap_session.specs.declared.decision.Decision.TheVariants.{Refuses, Serves}
+use Rattle.dap_session.specs.declared.fault.AdapterFault.{AdapterFault}
+use Rattle.dap_session.specs.declared.fault.AdapterFault.TheVariants.{SeqExhausted, OutOfMemory}
+use Rattle.dap_session.specs.Carried.{Goes, CarriedOut}
+use Rattle.dap_session.specs.Handling.{plan_for, turns}
+use Rattle.dap_session.specs.Plan.{Made, Plan, at_once, due, answered, failure, numbered, bytes_of}
+use Rattle.dap_session.specs.Session.{Session, cancelled_by, not_cancelled_by}
+use Rattle.dap_session.specs.Taking.{takes, takes_request}
+use Rattle.dap_message.specs.declared.message.Message.{Message}
+use Rattle.dap_session.specs.Sheet.{IsAnswerable}
+
+-- a session with its debuggee
+pub record Seat (D : Type 0) : Type 0 where
+  pub session : Session
+  pub debuggee : D
+
+-- a response to each can be written
+abbrev pub AreAnswerable : List Kept → Type 0
+AreAnswerable [] = Unit {0}
+AreAnswerable (k ∷ kept) = IsAnswerable k.entry × AreAnswerable kept
+
+-- what holds of every desk
+pub record IsSession (limits : Settings) (table : KeptRequests) (numbers : Numbers) : Type 0 where
+  pub room : table.room ≡ limits.requests
+  pub orderly : IsOrderly table
+  pub answerable : AreAnswerable table.kept
+  pub last : numbers.last ≡ limits.seq
+  pub used : numbers.used ≤ numbers.last
+  pub greatest : limits.seq ≤ max_seq
+
+-- the session went on, and these bytes say so
+pub record MadeBy (m : Made) (old new : Session) (bytes : List ℕ) : Type 0 where
+  pub session : new ≡ m.after
+  pub bytes_are : bytes ≡ bytes_of (numbered old.used m.drafts)
+
+-- what was decided of a request, as a plan
+abbrev pub decided : Decision → Shown → Session → Entry → Plan
+decided (Refuses f) view s r = at_once (answered r (failure f) s)
+decided (Serves e asked) view s r = plan_for e view s r asked
+
+-- the reply of an act that was done, or refused
+abbrev pub reply_of : Bool → Reply
+reply_of true = done
+reply_of false = refused
+
+-- a plan was carried out, and these bytes say so
+pub record Carries {D : Type 0} (follows : Goes D) (plan : Plan) (old new : Seat D) (bytes : List ℕ) : Type 0 where
+  pub made : Made
+  pub carried : CarriedOut follows plan old.debuggee made new.debuggee
+  pub by : MadeBy made old.session new.session bytes
+
+-- why a plan was not carried out: it takes more messages than own numbers are left, and nothing was asked, or memory was refused
+abbrev pub IsRefusedFor : {D : Type 0} → AdapterFault → Plan → Seat D → Seat D → Type 0
+IsRefusedFor SeqExhausted plan old new = (old.session.limits.seq < old.session.used + due plan) × (new ≡ old)
+IsRefusedFor OutOfMemory plan old new = ⊤
+IsRefusedFor fault plan old new = ⊥
+
+-- no request waits to be handled
+pub record IsIdle {D : Type 0} (view : Shown) (old new : Seat D) : Type 0 where
+  pub idle : turns view old.session ≡ Ok None
+  pub same : new ≡ old
+
+-- one was handled
+pub record HasTurned {D : Type 0} (shown : D → Shown) (follows : Goes D) (old new : Seat D) (bytes : List ℕ) : Type 0 where
+  pub plan : Plan
+  pub is : turns (shown old.debuggee) old.session ≡ Ok (Some plan)
+  pub carries : Carries follows plan old new bytes
+
+-- none was, for this reason
+abbrev pub NotTurned : {D : Type 0} → (D → Shown) → AdapterFault → Seat D → Seat D → Type 0
+NotTurned shown SeqExhausted old new = (turns (shown old.debuggee) old.session ≡ Err SeqExhausted) × (new ≡ old)
+NotTurned shown OutOfMemory old new = ⊤
+NotTurned shown fault old new = ⊥
+
+-- so many messages are more than own numbers are left; or there are enough, and memory was refused
+abbrev pub LacksRoom : AdapterFault → Session → ℕ → Type 0
+LacksRoom SeqExhausted s n = s.limits.seq < s.used + n
+LacksRoom OutOfMemory s n = s.used + n ≤ s.limits.seq
+LacksRoom fault s n = ⊥
+
+-- the same of what is made
+abbrev pub IsBeyond : AdapterFault → Session → Made → Type 0
+IsBeyond fault s m = LacksRoom fault s (length m.drafts)
+
+-- why a poll was refused: of what happened then, or of memory
+pub record HasTooMany {D : Type 0} (follows : Goes D) (plan : Plan) (old new : Seat D) : Type 0 where
+  pub made : Made
+  pub carried : CarriedOut follows plan old.debuggee made new.debuggee
+  pub short : old.session.limits.seq < old.session.used + length made.drafts
+
+abbrev pub IsRefusedPoll : {D : Type 0} → Goes D → AdapterFault → Plan → Seat D → Seat D → Type 0
+IsRefusedPoll follows SeqExhausted plan old new = HasTooMany follows plan old new
+IsRefusedPoll follows OutOfMemory plan old new = ⊤
+IsRefusedPoll follows fault plan old new = ⊥
+
+-- ---- a message that is delivered
+
+-- a cancel of that number answers no request
+pub record NamesNone (id : ℕ) (kept : List Kept) : Type 0 where
+  pub none : cancelled_by id kept ≡ []
+  pub others : not_cancelled_by id kept ≡ kept
+
+-- it answers the one that has it
+pub record NamesOne (id : ℕ) (kept : List Kept) : Type 0 where
+  pub one : Kept
+  pub named : cancelled_by id kept ≡ one ∷ []
+  pub others : not_cancelled_by id kept ≡ without id kept
+
+-- a request was taken: this was made, at once, and these bytes say so
+pub record TakesRequest (r : Entry) (old new : Session) (bytes : List ℕ) : Type 0 where
+  pub made : Made
+  pub is : takes_request r old ≡ Ok (at_once made)
+  pub by : MadeBy made old new bytes
+
+-- or it closes the adapter. Memory may be refused where no other name than want of numbers is its refusal
+abbrev pub TakesNoRequest : AdapterFault → Entry → Session → Type 0
+TakesNoRequest OutOfMemory r s = (f : AdapterFault) → takes_request r s ≡ Err f → f ≡ SeqExhausted
+TakesNoRequest fault r s = takes_request r s ≡ Err fault
+
+-- the session took the message: this was made, at once, and these bytes say so
+pub record HasTaken (m : Message) (old new : Session) (bytes : List ℕ) : Type 0 where
+  pub made : Made
+  pub is : takes m old ≡ Ok (at_once made)
+  pub by : MadeBy made old new bytes
+
+-- or it closes the adapter. Memory may be refused where no other name than want of numbers is its refusal
+abbrev pub NotTaken : AdapterFault → Message → Session → Type 0
+NotTaken OutOfMemory m s = (f : AdapterFault) → takes m s ≡ Err f → f ≡ SeqExhausted
+NotTaken fault m s = takes m s ≡ Err fault

@@ -1,0 +1,61 @@
+-- The state of a session at the adapter, without the bytes that come and without the debuggee.
+use Rattle.std.specs.Prelude.{ℕ, ◌==◌, ◌&&◌, not, List, [], filter, find, map, true, false, Option}
+use Rattle.dap_frame.specs.Settings.{Settings}
+use Rattle.dap_tables.specs.Outstanding.{Kept}
+use Rattle.dap_debuggee.specs.declared.answers.State.{State}
+use Rattle.dap_debuggee.specs.declared.answers.State.TheVariants as state
+use Rattle.dap_session.specs.declared.phase.Phase.{Phase}
+use Rattle.dap_session.specs.declared.phase.Phase.TheVariants.{Fresh, Running, Stopped, Exited, Ended}
+use Rattle.dap_session.specs.declared.options.Options.{Options}
+use Rattle.dap_session.specs.References.{References, no_references}
+use Rattle.dap_session.specs.Breakpoints.{Breakpoints, no_breakpoints}
+
+pub record Session : Type 0 where
+  pub limits : Settings
+  pub phase : Phase
+  pub options : Options
+  -- the requests to answer, by arrival
+  pub kept : List Kept
+  pub references : References
+  pub breakpoints : Breakpoints
+  -- own sequence numbers that were given
+  pub used : ℕ
+
+-- what holds before `initialize` said anything else
+abbrev pub usual_options : Options
+usual_options = record { lines_start_at_1 = true; columns_start_at_1 = true; supports_variable_paging = false }
+
+abbrev pub fresh_session : Settings → Session
+fresh_session limits = record {
+  limits = limits;
+  phase = Fresh;
+  options = usual_options;
+  kept = [];
+  references = no_references;
+  breakpoints = no_breakpoints;
+  used = 0;
+}
+
+-- ---- kept requests
+
+-- those that a cancel of that number answers
+abbrev pub cancelled_by : ℕ → List Kept → List Kept
+cancelled_by seq kept = filter (λ k. not k.parked && (k.entry.seq == seq)) kept
+
+-- and the others
+abbrev pub not_cancelled_by : ℕ → List Kept → List Kept
+not_cancelled_by seq kept = filter (λ k. not (not k.parked && (k.entry.seq == seq))) kept
+
+-- the request that came first of those that are not parked
+abbrev pub oldest : List Kept → Option Kept
+oldest kept = find (λ k. not k.parked) kept
+
+-- ---- phases and the debuggee
+
+-- where the debuggee stands, until the session has ended
+abbrev pub state_in : Phase → State
+state_in Running = state.Running
+state_in Stopped = state.Stopped
+state_in Exited = state.Gone
+state_in Ended = state.Gone
+state_in _ = state.NotStarted

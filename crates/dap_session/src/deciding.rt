@@ -1,0 +1,189 @@
+//! What is to be done with a request: the tests in their order, and the table.
+ghost use Rattle.std.specs.Prelude.{◌≡◌, IsErrOf, IfOk, OnOk, OnErr, IfErr, Some, None, ◌||◌, ◌&&◌, not, false, true};
+ghost use Rattle.std.specs.List.{list_any};
+ghost use Rattle.std.specs.Ordering.{int_eq};
+ghost use Rattle.dap_session.specs.Deciding.{name_refused_now};
+ghost use Rattle.dap_session.specs.Failures.{phase_refused, call_refused, call_in, lacks_thread, lacks_reference, lacks_source, thread_named, reference_named, source_named};
+ghost use Rattle.dap_message.specs.Argument.{Gives};
+ghost use Rattle.dap_message.specs.Call.{takes_memory};
+ghost use Rattle.dap_message.specs.Types.CallFault.{CallFault};
+ghost use Rattle.dap_session.specs.References.{no_references};
+ghost use Rattle.dap_session.specs.Seat.{decided};
+ghost use Rattle.dap_session.specs.Handling.{plan, thread_of};
+ghost use Rattle.dap_session.specs.Table.{is_put_off, is_never_served, effect_in};
+
+use crate::decision::Decision;
+use crate::effect::Effect;
+use crate::phase::Phase;
+use crate::session::Session;
+use crate::table::{effect_in, is_of_stops, is_unsupported};
+use dap_debuggee::{Debuggee, Thread};
+use dap_message::{Call, CallFault, Command, Failure, read_call};
+use dap_tables::Entry;
+use std::alloc::{AllocError, Global};
+
+/// Why a request fails by its name alone; else its command.
+fn by_name(phase: Phase, command: Option<Command>) -> Result<Command, Failure>
+    ensures refused { IfErr result (λ f. name_refused_now phase command ≡ Some f) }
+    ensures named { IfOk result (λ c. command ≡ Some c) }
+    ensures passed { OnOk result (name_refused_now phase command ≡ None) }
+    ensures served { IfOk result (λ c. (is_never_served c || is_put_off c) ≡ false) }
+{
+    let is_fresh = phase == Phase::Fresh;
+    let Some(command) = command else {
+        return Err(if is_fresh {
+            Failure::NotInitialized
+        } else {
+            Failure::UnknownCommand
+        });
+    };
+    if is_fresh && command != Command::Initialize && command != Command::Disconnect {
+        return Err(Failure::NotInitialized);
+    }
+    if command == Command::Initialize && !is_fresh {
+        return Err(Failure::AlreadyInitialized);
+    }
+    if is_unsupported(command) {
+        return Err(Failure::Unsupported);
+    }
+    Ok(command)
+}
+
+/// Why a request fails in a phase; else what it does there.
+fn by_phase(phase: Phase, command: Command) -> Result<Effect, Failure>
+    requires { is_never_served command ≡ false }
+    ensures refused { IfErr result (λ f. phase_refused phase command ≡ Some f) }
+    ensures passed { OnOk result (phase_refused phase command ≡ None) }
+    ensures served { IfOk result (λ e. effect_in command phase ≡ Some e) }
+{
+    if let Some(effect) = effect_in(command, phase) {
+        return Ok(effect);
+    }
+    if phase == Phase::Running && is_of_stops(command) {
+        return Err(Failure::NotStopped);
+    }
+    Err(Failure::WrongPhase)
+}
+
+/// The thread that has to exist.
+fn thread_named(call: &Call) -> Option<i64>
+    ensures { result ≡ thread_named call.now }
+{
+    match call {
+        Call::Continue { thread_id } => Some(*thread_id),
+        Call::Next { thread_id } => Some(*thread_id),
+        Call::StepIn { thread_id } => Some(*thread_id),
+        Call::StepOut { thread_id } => Some(*thread_id),
+        Call::StepBack { thread_id } => Some(*thread_id),
+        Call::ReverseContinue { thread_id } => Some(*thread_id),
+        Call::StackTrace(asked) => Some(asked.thread_id),
+        _ => None,
+    }
+}
+
+/// Whether a call names a reference. As long as none is given, none is live.
+fn names_reference(call: &Call) -> bool
+    ensures { result ≡ lacks_reference no_references (reference_named call.now) }
+{
+    match call {
+        Call::Scopes { .. } => true,
+        Call::Variables(_) => true,
+        Call::Evaluate(asked) => asked.frame_id.is_some(),
+        _ => false,
+    }
+}
+
+fn has_thread(threads: &[Thread], id: i64) -> bool
+    ensures { result ≡ list_any (λ t. int_eq t.id id) threads.now }
+{
+    threads.iter().any(|thread| thread.id == id)
+}
+
+impl<D: Debuggee + Drop> Session<D> {
+    fn lacks_thread(&self, alloc: Global, call: &Call) -> Result<bool, AllocError>
+        ensures { IfOk result (λ lacks. lacks ≡ lacks_thread (D.shown self.now.debuggee) (thread_named call.now)) }
+    {
+        let Some(id) = thread_named(call) else {
+            return Ok(false);
+        };
+        let threads = self.debuggee.threads(alloc)?;
+        Ok(!has_thread(&threads, id))
+    }
+
+    fn lacks_source(&self, alloc: Global, call: &Call) -> Result<bool, AllocError>
+        ensures { IfOk result (λ lacks. lacks ≡ lacks_source (D.shown self.now.debuggee) (source_named call.now)) }
+    {
+        let Call::Source { source_reference } = call else {
+            return Ok(false);
+        };
+        if *source_reference == 0 {
+            return Ok(true);
+        }
+        let sources = self.debuggee.sources(alloc)?;
+        Ok(sources.len() < *source_reference as usize)
+    }
+
+    /// Why a call fails by what it names.
+    fn by_call(&self, alloc: Global, call: &Call) -> Result<Option<Failure>, AllocError>
+        ensures { IfOk result (λ f. f ≡ call_refused (D.shown self.now.debuggee) self.now.session.references call.now) }
+    {
+        let _ = &self.limits;
+        if self.lacks_thread(alloc, call)? {
+            return Ok(Some(Failure::UnknownThread));
+        }
+        if names_reference(call) {
+            return Ok(Some(Failure::StaleReference));
+        }
+        if self.lacks_source(alloc, call)? {
+            return Ok(Some(Failure::UnknownSource));
+        }
+        Ok(None)
+    }
+
+    /// What is to be done with a request.
+    pub(crate) fn decide(&self, alloc: Global, request: &Entry) -> Result<Decision, AllocError>
+        ensures { IfOk result (λ d. plan (D.shown self.now.debuggee) self.now.session request.now ≡ decided d (D.shown self.now.debuggee) self.now.session request.now) }
+    {
+        let named = by_name(self.phase, Command::of_name(request.command.as_str()));
+        let command = match named {
+            Err(failure) => return Ok(Decision::Refuses(failure)),
+            Ok(command) => command,
+        };
+        let call = match call_in(alloc, request, command) {
+            Err(CallFault::BadArguments { key }) => {
+                return Ok(Decision::Refuses(Failure::BadArguments { key }));
+            }
+            Err(CallFault::OutOfMemory) => return Err(AllocError),
+            Ok(call) => call,
+        };
+        let effect = match by_phase(self.phase, command) {
+            Err(failure) => return Ok(Decision::Refuses(failure)),
+            Ok(effect) => effect,
+        };
+        if let Some(failure) = self.by_call(alloc, &call)? {
+            return Ok(Decision::Refuses(failure));
+        }
+        Ok(Decision::Serves(effect, call))
+    }
+}
+
+/// What a request asks.
+pub(crate) fn call_in(alloc: Global, request: &Entry, command: Command) -> Result<Call, CallFault>
+    ensures call { Gives result (call_in request.now command) }
+    ensures memory { IsErrOf result CallFault.OutOfMemory → takes_memory command ≡ true }
+{
+    match &request.arguments {
+        None => read_call(alloc, command, None),
+        Some(tree) => read_call(alloc, command, Some(tree.value())),
+    }
+}
+
+/// The thread that a call names.
+pub(crate) fn thread_of(call: &Call) -> i64
+    ensures { result ≡ thread_of call.now }
+{
+    match thread_named(call) {
+        Some(id) => id,
+        None => 0,
+    }
+}

@@ -1,0 +1,182 @@
+//! How a request is handled.
+ghost use Rattle.std.specs.Prelude.{◌≡◌, ◌+◌, ◌≤◌, ◌<◌, IfOk, IfErr, OnOk, OnErr, IsTrue, IfSome, IfNone, None, option_map, false};
+ghost use Rattle.dap_tables.specs.Outstanding.{contains_seq, is_parked, HasDistinctSeqs};
+ghost use Rattle.dap_session.specs.Seat.{Carries, IsRefusedFor, decided, IsIdle, HasTurned, NotTurned};
+ghost use Rattle.dap_session.specs.Session.{oldest};
+ghost use Rattle.dap_session.specs.Handling.{plan, plan_for};
+ghost use Rattle.dap_session.specs.Plan.{due};
+ghost use Rattle.dap_session.specs.Sheet.{IsAnswerable};
+
+use crate::deciding::thread_of;
+use crate::decision::Decision;
+use crate::effect::Effect;
+use crate::fault::AdapterFault;
+use crate::session::Session;
+use crate::sheet::Answer;
+use dap_debuggee::Debuggee;
+use dap_message::{Call, Failure};
+use dap_tables::Entry;
+use std::alloc::{AllocError, Global};
+
+fn copied(request: &Entry) -> Result<Entry, AllocError>
+    ensures { IfOk result (λ r. r ≡ request.now) }
+{
+    request.clone()
+}
+
+impl<D: Debuggee + Drop> Session<D> {
+    ghost use Rattle.dap_session.specs.declared.fault.AdapterFault.{AdapterFault};
+    ghost use Rattle.dap_session.specs.declared.decision.Decision.{Decision};
+
+    /// Whether there are own numbers for so many messages.
+    pub(crate) fn room(&self, messages: u64) -> Result<(), AdapterFault>
+        ensures ok { OnOk result (self.now.session.used + messages ≤ self.now.session.limits.seq) }
+        ensures err { IfErr result (λ fault. (fault ≡ AdapterFault.SeqExhausted) × (self.now.session.limits.seq < self.now.session.used + messages)) }
+    {
+        let numbers = self.numbers();
+        if numbers.left() < messages {
+            return Err(AdapterFault::SeqExhausted);
+        }
+        Ok(())
+    }
+
+    /// Does what the table says.
+    #[tactic(auto, unfolding(crate::specs::Handling::plan_for))]
+    fn serve(
+        &mut self,
+        alloc: Global,
+        request: &Entry,
+        effect: Effect,
+        call: &Call,
+    ) -> Result<Vec<u8>, AdapterFault>
+        requires request { IsAnswerable request.now }
+        requires kept { IsTrue (contains_seq request.now.seq self.old.session.kept) }
+        requires unparked { is_parked request.now.seq self.old.session.kept ≡ false }
+        ensures carries { IfOk result (λ bytes. Carries D.follows (plan_for effect (D.shown self.old.debuggee) self.old.session request.now call.now) self.old self.new bytes.items) }
+        ensures within { OnOk result (self.old.session.used + due (plan_for effect (D.shown self.old.debuggee) self.old.session request.now call.now) ≤ self.old.session.limits.seq) }
+        ensures refused { IfErr result (λ fault. IsRefusedFor fault (plan_for effect (D.shown self.old.debuggee) self.old.session request.now call.now) self.old self.new) }
+        ensures err { OnErr result (self.new.session ≡ self.old.session) }
+    {
+        match effect {
+            Effect::Begin => {
+                self.room(2)?;
+                Ok(self.begin(alloc, request, call)?)
+            }
+            Effect::Park => {
+                self.room(0)?;
+                Ok(self.park_request(alloc, request))
+            }
+            Effect::Start => {
+                self.room(1)?;
+                Ok(self.start(alloc, request)?)
+            }
+            Effect::Configure => {
+                self.room(1)?;
+                Ok(self.configure(alloc, request)?)
+            }
+            Effect::Finish => {
+                self.room(2)?;
+                Ok(self.finish(alloc, request)?)
+            }
+            Effect::Resume(how) => {
+                self.room(1)?;
+                Ok(self.resume(alloc, request, how, thread_of(call))?)
+            }
+            Effect::Pause => {
+                self.room(1)?;
+                Ok(self.pause(alloc, request)?)
+            }
+            Effect::Tell => {
+                self.room(1)?;
+                Ok(self.tell(alloc, request, call)?)
+            }
+            Effect::StartParked => self.start_parked(alloc, request),
+            Effect::Leave => self.leave(alloc, request),
+            Effect::EndAndLeave => self.end_and_leave(alloc, request),
+            Effect::SetBreakpoints => Err(AdapterFault::OutOfMemory),
+        }
+    }
+
+    /// Handles a request that is kept.
+    fn handle(&mut self, alloc: Global, request: &Entry) -> Result<Vec<u8>, AdapterFault>
+        requires request { IsAnswerable request.now }
+        requires kept { IsTrue (contains_seq request.now.seq self.old.session.kept) }
+        requires unparked { is_parked request.now.seq self.old.session.kept ≡ false }
+        ensures carries { IfOk result (λ bytes. Carries D.follows (plan (D.shown self.old.debuggee) self.old.session request.now) self.old self.new bytes.items) }
+        ensures within { OnOk result (self.old.session.used + due (plan (D.shown self.old.debuggee) self.old.session request.now) ≤ self.old.session.limits.seq) }
+        ensures refused { IfErr result (λ fault. IsRefusedFor fault (plan (D.shown self.old.debuggee) self.old.session request.now) self.old self.new) }
+        ensures err { OnErr result (self.new.session ≡ self.old.session) }
+    {
+        match self.decide(alloc, request)? {
+            Decision::Refuses(failure) => self.refuse(alloc, request, failure),
+            Decision::Serves(effect, call) => self.serve(alloc, request, effect, &call),
+        }
+    }
+
+    fn handle_copy(&mut self, alloc: Global, request: Entry) -> Result<Vec<u8>, AdapterFault>
+        requires request { IsAnswerable request }
+        requires kept { IsTrue (contains_seq request.seq self.old.session.kept) }
+        requires unparked { is_parked request.seq self.old.session.kept ≡ false }
+        ensures carries { IfOk result (λ bytes. Carries D.follows (plan (D.shown self.old.debuggee) self.old.session request) self.old self.new bytes.items) }
+        ensures within { OnOk result (self.old.session.used + due (plan (D.shown self.old.debuggee) self.old.session request) ≤ self.old.session.limits.seq) }
+        ensures refused { IfErr result (λ fault. IsRefusedFor fault (plan (D.shown self.old.debuggee) self.old.session request) self.old self.new) }
+        ensures err { OnErr result (self.new.session ≡ self.old.session) }
+    {
+        self.handle(alloc, &request)
+    }
+
+    /// Answers a request with a failure.
+    fn refuse(
+        &mut self,
+        alloc: Global,
+        request: &Entry,
+        failure: Failure,
+    ) -> Result<Vec<u8>, AdapterFault>
+        requires { IsAnswerable request.now }
+        ensures carries { IfOk result (λ bytes. Carries D.follows (decided (Decision.Refuses failure) (D.shown self.old.debuggee) self.old.session request.now) self.old self.new bytes.items) }
+        ensures within { OnOk result (self.old.session.used + 1 ≤ self.old.session.limits.seq) }
+        ensures refused { IfErr result (λ fault. IsRefusedFor fault (decided (Decision.Refuses failure) (D.shown self.old.debuggee) self.old.session request.now) self.old self.new) }
+        ensures err { OnErr result (self.new.session ≡ self.old.session) }
+    {
+        self.room(1)?;
+        Ok(self.answer(alloc, request, Answer::Failure(failure))?)
+    }
+
+    /// A copy of the request that is to be handled next.
+    fn next_request(&self) -> Result<Option<Entry>, AllocError>
+        ensures oldest { IfOk result (λ o. o ≡ option_map (λ k. k.entry) (oldest self.now.session.kept)) }
+        ensures answerable { IfOk result (λ o. IfSome o IsAnswerable) }
+        ensures kept { IfOk result (λ o. IfSome o (λ r. IsTrue (contains_seq r.seq self.now.session.kept))) }
+        ensures unparked { IfOk result (λ o. IfSome o (λ r. is_parked r.seq self.now.session.kept ≡ false)) }
+        ensures none { OnErr result (oldest self.now.session.kept ≡ None → ⊥) }
+    {
+        let Some(seq) = self.kept.oldest_unparked() else {
+            return Ok(None);
+        };
+        match self.kept.get(seq) {
+            Some(request) => Ok(Some(copied(request)?)),
+            None => unreachable!(),
+        }
+    }
+
+    /// Handles the request that came first of those that are not parked, if there is one.
+    pub fn turn(&mut self, alloc: Global) -> Result<Option<Vec<u8>>, AdapterFault>
+        ensures idle { IfOk result (λ o. IfNone o (IsIdle (D.shown self.old.debuggee) self.old self.new)) }
+        ensures done { IfOk result (λ o. IfSome o (λ bytes. HasTurned D.shown D.follows self.old self.new bytes.items)) }
+        ensures refused { IfErr result (λ fault. NotTurned D.shown fault self.old self.new) }
+        ensures waiting { OnErr result (oldest self.old.session.kept ≡ None → ⊥) }
+        ensures err { OnErr result (self.new.session ≡ self.old.session) }
+        ensures distinct { HasDistinctSeqs self.old.session.kept }
+        ensures limits { self.new.session.limits ≡ self.old.session.limits }
+    {
+        let _ = &self.limits;
+        match self.next_request() {
+            Err(_) => Err(AdapterFault::OutOfMemory),
+            Ok(None) => Ok(None),
+            Ok(Some(request)) => match self.handle_copy(alloc, request) {
+                Err(fault) => Err(fault),
+                Ok(bytes) => Ok(Some(bytes)),
+            },
+        }
+    }
+}

@@ -1,0 +1,26 @@
+//! Laws of the definitions, each on a function with nothing to run.
+ghost use Rattle.dap_session.specs.Laws.{EachStepGoesOn};
+ghost use Rattle.dap_session.specs.ReferenceLaws.{ReferencesAreApart};
+ghost use Rattle.dap_session.specs.Within.{EachStepStaysWithin};
+
+use dap_history::laws::histories_grow;
+
+/// Each step goes on as its history does, whatever the debuggee replies: a request is kept exactly while it is
+/// unanswered, and each response answers exactly one request that was unanswered.
+pub fn each_step_goes_on()
+    ensures { EachStepGoesOn }
+{
+    histories_grow();
+}
+
+/// What is true of every session stays true: no two kept requests have the same seq, no more requests are kept, references
+/// live and breakpoints stand than there is room for, and no number is given past the greatest of its kind.
+pub fn each_step_stays_within()
+    ensures { EachStepStaysWithin }
+{}
+
+/// A reference that died never names anything again, one that lives keeps its number, and the numbers of an answer name
+/// the objects in their places.
+pub fn references_are_apart()
+    ensures { ReferencesAreApart }
+{}

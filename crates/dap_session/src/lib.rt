@@ -1,0 +1,30 @@
+//! A session at the adapter: what each request comes to, over a debuggee, without the bytes that come in.
+//!
+//! Overview and Specification. `specs/Table.antt` is the one table of commands and phases, `Failures.antt` the tests in their
+//! one order, `Handling.antt`, `Taking.antt` and `Polling.antt` say what a step comes to: a plan, made at once or of the
+//! debuggee's reply. Bytes of a client and frames stand above, in the adapter.
+#![tactic(auto)]
+
+mod deciding;
+mod decision;
+mod effect;
+mod effects;
+mod fault;
+mod handling;
+pub mod laws;
+mod leaving;
+mod options;
+mod phase;
+mod polling;
+mod session;
+mod several;
+mod sheet;
+mod starting;
+mod table;
+mod taking;
+mod telling;
+
+pub use fault::AdapterFault;
+pub use options::Options;
+pub use phase::Phase;
+pub use session::Session;

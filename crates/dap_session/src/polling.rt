@@ -1,0 +1,128 @@
+//! What happened to the debuggee, told to the client.
+ghost use Rattle.std.specs.Prelude.{◌≡◌, ◌+◌, ◌≤◌, ◌<◌, [], ◌∷◌, length, IfOk, IfErr, OnOk, OnErr, IsOk, false};
+ghost use Rattle.dap_json.specs.Field.{max_seq};
+ghost use Rattle.dap_session.specs.Seat.{MadeBy, Carries, IsBeyond, IsRefusedPoll};
+ghost use Rattle.dap_session.specs.Plan.{tell};
+ghost use Rattle.dap_session.specs.Polling.{saw, saw_reply, polls, has_debuggee};
+ghost use Rattle.dap_debuggee.specs.Shown.{to_poll};
+ghost use Rattle.dap_session.specs.Plan.{asking};
+ghost use Rattle.dap_session.specs.Sheet.{Holds, event_of};
+
+use crate::fault::AdapterFault;
+use crate::phase::Phase;
+use crate::session::Session;
+use crate::sheet::{Event, Sheet};
+use dap_debuggee::{Debuggee, Happening};
+use std::alloc::{AllocError, Global};
+
+/// Whether there is a debuggee to ask.
+fn has_debuggee(phase: Phase) -> bool
+    ensures { result ≡ has_debuggee phase }
+{
+    match phase {
+        Phase::Running => true,
+        Phase::Stopped => true,
+        Phase::Fresh => false,
+        Phase::Ready => false,
+        Phase::Configured => false,
+        Phase::Parked => false,
+        Phase::Exited => false,
+        Phase::Ended => false,
+    }
+}
+
+impl<D: Debuggee + Drop> Session<D> {
+    /// A sheet with one event.
+    fn event(&self, alloc: Global, event: Event) -> Result<Sheet, AllocError>
+        requires room { self.now.session.used + 1 ≤ self.now.session.limits.seq }
+        ensures last { IfOk result (λ sheet. sheet.numbers.last ≡ self.now.session.limits.seq) }
+        ensures greatest { IfOk result (λ sheet. sheet.numbers.last ≤ max_seq) }
+        ensures holds { IfOk result (λ sheet. Holds sheet self.now.session.used (tell (event_of event) ∷ [])) }
+    {
+        let mut sheet = Sheet::open(alloc, self.numbers());
+        sheet.tell(alloc, event)?;
+        Ok(sheet)
+    }
+
+    /// A sheet with two events.
+    fn events(&self, alloc: Global, first: Event, second: Event) -> Result<Sheet, AllocError>
+        requires room { self.now.session.used + 2 ≤ self.now.session.limits.seq }
+        ensures last { IfOk result (λ sheet. sheet.numbers.last ≡ self.now.session.limits.seq) }
+        ensures holds { IfOk result (λ sheet. Holds sheet self.now.session.used (tell (event_of first) ∷ tell (event_of second) ∷ [])) }
+    {
+        let mut sheet = self.event(alloc, first)?;
+        sheet.tell(alloc, second)?;
+        Ok(sheet)
+    }
+
+    /// Tells what happened.
+    #[tactic(auto, unfolding(crate::specs::Polling::saw))]
+    fn see(&mut self, alloc: Global, happening: Happening) -> Result<Vec<u8>, AdapterFault>
+        ensures made { IfOk result (λ bytes. MadeBy (saw happening self.old.session) self.old.session self.new.session bytes.items) }
+        ensures within { OnOk result (self.new.session.used ≤ self.old.session.limits.seq) }
+        ensures refused { IfErr result (λ fault. IsBeyond fault self.old.session (saw happening self.old.session)) }
+        ensures err { OnErr result (self.new.session ≡ self.old.session) }
+        ensures debuggee { self.new.debuggee ≡ self.old.debuggee }
+        ensures limits { self.new.session.limits ≡ self.old.session.limits }
+    {
+        let _ = &self.limits;
+        match happening {
+            Happening::Nothing => Ok(Vec::new(alloc)),
+            Happening::Output { category, text } => {
+                self.room(1)?;
+                let sheet = self.event(alloc, Event::Output { category, text })?;
+                Ok(self.spend(sheet))
+            }
+            Happening::Stopped { reason, thread } => {
+                self.room(1)?;
+                let sheet = self.event(alloc, Event::Stopped { reason, thread })?;
+                let bytes = self.spend(sheet);
+                self.set_phase(Phase::Stopped);
+                Ok(bytes)
+            }
+            Happening::Continued { thread } => {
+                self.room(1)?;
+                let sheet = self.event(alloc, Event::Continued { thread })?;
+                let bytes = self.spend(sheet);
+                self.clear_references();
+                self.set_phase(Phase::Running);
+                Ok(bytes)
+            }
+            Happening::Exited { code } => {
+                self.room(2)?;
+                let sheet = self.events(alloc, Event::Exited { code }, Event::Terminated)?;
+                let bytes = self.spend(sheet);
+                self.clear_references();
+                self.set_phase(Phase::Exited);
+                Ok(bytes)
+            }
+        }
+    }
+
+    /// Asks the debuggee what happened, where there is one, and tells it.
+    pub fn poll(&mut self, alloc: Global) -> Result<Vec<u8>, AdapterFault>
+        ensures carries { IfOk result (λ bytes. Carries D.follows (polls self.old.session) self.old self.new bytes.items) }
+        ensures within { OnOk result (self.new.session.used ≤ self.old.session.limits.seq) }
+        ensures refused { IfErr result (λ fault. IsRefusedPoll D.follows fault (polls self.old.session) self.old self.new) }
+        ensures err { OnErr result (self.new.session ≡ self.old.session) }
+        ensures limits { self.new.session.limits ≡ self.old.session.limits }
+        ensures apart { has_debuggee self.old.session.phase ≡ false → (IfOk result (λ bytes. bytes.items ≡ [])) × (self.new ≡ self.old) × IsOk result }
+    {
+        let _ = self.numbers();
+        if has_debuggee(self.phase()) {
+            return self.poll_debuggee(alloc);
+        }
+        Ok(Vec::new(alloc))
+    }
+
+    fn poll_debuggee(&mut self, alloc: Global) -> Result<Vec<u8>, AdapterFault>
+        ensures carries { IfOk result (λ bytes. Carries D.follows (asking to_poll (saw_reply self.old.session)) self.old self.new bytes.items) }
+        ensures within { OnOk result (self.new.session.used ≤ self.old.session.limits.seq) }
+        ensures refused { IfErr result (λ fault. IsRefusedPoll D.follows fault (asking to_poll (saw_reply self.old.session)) self.old self.new) }
+        ensures err { OnErr result (self.new.session ≡ self.old.session) }
+        ensures limits { self.new.session.limits ≡ self.old.session.limits }
+    {
+        let happening = self.ask_poll(alloc)?;
+        self.see(alloc, happening)
+    }
+}

@@ -1,0 +1,288 @@
+//! A session with its debuggee: what is kept, and how it changes.
+ghost use Rattle.std.specs.Prelude.{◌≡◌, ◌+◌, ◌≤◌, ◌<◌, [], ◌∷◌, ◌++◌, length, IfOk, OnOk, OnErr, IsTrue, option_map, true, false, not, nat_lt};
+ghost use Rattle.dap_json.specs.Field.{max_seq};
+ghost use Rattle.dap_tables.specs.Outstanding.{without, with_mark, contains_seq, unparked, unparked_ones, IsOrderly};
+ghost use Rattle.dap_session.specs.Breakpoints.{count};
+ghost use Rattle.dap_session.specs.Session.{fresh_session, oldest};
+ghost use Rattle.dap_debuggee.specs.Shown.{to_start, to_resume, to_pause, to_poll, to_end, done, happened};
+ghost use Rattle.dap_session.specs.Sheet.{IsAnswerable};
+
+use crate::options::Options;
+use crate::phase::Phase;
+use crate::sheet::Sheet;
+use dap_debuggee::{Debuggee, DebuggeeFault, Happening, How};
+use dap_frame::Limits;
+use dap_tables::{Entry, Outstanding, Seq};
+use std::alloc::{AllocError, Global};
+use std::marker::Model;
+
+/// A session with its debuggee.
+#[derive(Drop)]
+pub struct Session<D: Debuggee + Drop> {
+    pub(crate) limits: Limits,
+    pub(crate) phase: Phase,
+    pub(crate) options: Options,
+    pub(crate) kept: Outstanding,
+    pub(crate) numbers: Seq,
+    pub(crate) debuggee: D,
+}
+
+impl<D: Debuggee + Drop> Model for Session<D> {
+    ghost use Rattle.std.specs.Coded.{codes};
+    ghost use Rattle.dap_json.specs.Stored.{coded_data};
+    ghost use Rattle.dap_session.specs.Seat.{Seat, IsSession};
+    ghost use Rattle.dap_session.specs.References.{no_references};
+    ghost use Rattle.dap_session.specs.Breakpoints.{no_breakpoints};
+
+    ghost Value = { Seat D };
+
+    ghost coded = { Prim.hlevel (codes, coded_data, D.code) };
+
+    ghost view = { λ a. record {
+      session = record {
+        limits = a.limits;
+        phase = a.phase;
+        options = a.options;
+        kept = a.kept.kept;
+        references = no_references;
+        breakpoints = no_breakpoints;
+        used = a.numbers.used;
+      };
+      debuggee = a.debuggee;
+    } };
+
+    ghost invariant = { λ a. IsSession a.limits a.kept a.numbers };
+}
+
+impl<D: Debuggee + Drop> Session<D> {
+    ghost use Rattle.dap_session.specs.Seat.{reply_of};
+    ghost use Rattle.dap_session.specs.References.{cleared};
+
+    /// A fresh session.
+    pub fn open(alloc: Global, limits: Limits, debuggee: D) -> Result<Session<D>, AllocError>
+        ensures { IfOk result (λ desk. desk ≡ record { session = fresh_session limits; debuggee = debuggee }) }
+    {
+        let kept = Outstanding::open(alloc, limits.requests())?;
+        let numbers = Seq::open(limits.seq());
+        Ok(Session {
+            limits,
+            phase: Phase::Fresh,
+            options: Options {
+                lines_start_at_1: true,
+                columns_start_at_1: true,
+                supports_variable_paging: false,
+            },
+            kept,
+            numbers,
+            debuggee,
+        })
+    }
+
+    pub fn phase(&self) -> Phase
+        ensures { result ≡ self.now.session.phase }
+    {
+        self.phase
+    }
+
+    /// How many requests are kept.
+    pub fn len(&self) -> usize
+        ensures kept { result ≡ length self.now.session.kept }
+        ensures bound { result ≤ self.now.session.limits.requests }
+    {
+        self.kept.len()
+    }
+
+    /// How many references are live: none is given yet.
+    pub fn references(&self) -> usize
+        ensures live { result ≡ length self.now.session.references.live }
+        ensures bound { result ≤ self.now.session.limits.references }
+    {
+        let _ = &self.limits;
+        0
+    }
+
+    /// How many breakpoints are set: none yet.
+    pub fn breakpoints(&self) -> usize
+        ensures set { result ≡ count self.now.session.breakpoints }
+        ensures bound { result ≤ self.now.session.limits.breakpoints }
+    {
+        let _ = &self.limits;
+        0
+    }
+
+    /// Whether there is no room for one more request.
+    pub(crate) fn is_full(&self) -> bool
+        ensures { result ≡ not (nat_lt (length self.now.session.kept) self.now.session.limits.requests) }
+    {
+        self.kept.len() >= self.limits.requests()
+    }
+
+    /// Keeps a request.
+    pub(crate) fn put(&mut self, request: Entry) -> Result<(), AllocError>
+        requires request { IsAnswerable request }
+        requires new { contains_seq request.seq self.old.session.kept ≡ false }
+        requires room { length self.old.session.kept < self.old.session.limits.requests }
+        ensures ok { OnOk result (self.new ≡ record self.old { session = record self.old.session { kept = self.old.session.kept ++ unparked request ∷ [] } }) }
+        ensures err { OnErr result (self.new ≡ self.old) }
+    {
+        put_in(&mut self.kept, request)?;
+        Ok(())
+    }
+
+    /// The own numbers.
+    pub(crate) fn numbers(&self) -> Seq
+        ensures numbers { result ≡ record { last = self.now.session.limits.seq; used = self.now.session.used } }
+        ensures used { self.now.session.used ≤ self.now.session.limits.seq }
+        ensures greatest { self.now.session.limits.seq ≤ max_seq }
+    {
+        self.numbers
+    }
+
+    /// Ends with a request, and with what was written: nothing of it was there before.
+    pub(crate) fn settle(&mut self, seq: u64, sheet: Sheet) -> Vec<u8>
+        requires last { sheet.numbers.last ≡ self.old.session.limits.seq }
+        requires used { sheet.numbers.used ≤ sheet.numbers.last }
+        ensures session { self.new ≡ record self.old { session = record self.old.session { kept = without seq self.old.session.kept; used = sheet.numbers.used } } }
+        ensures bytes { result ≡ sheet.bytes }
+    {
+        let Sheet { bytes, numbers } = sheet;
+        let _ = self.kept.take(seq);
+        self.numbers = numbers;
+        bytes
+    }
+
+    /// Ends with what was written: nothing of it was there before.
+    pub(crate) fn spend(&mut self, sheet: Sheet) -> Vec<u8>
+        requires last { sheet.numbers.last ≡ self.old.session.limits.seq }
+        requires used { sheet.numbers.used ≤ sheet.numbers.last }
+        ensures session { self.new ≡ record self.old { session = record self.old.session { used = sheet.numbers.used } } }
+        ensures bytes { result ≡ sheet.bytes }
+    {
+        let Sheet { bytes, numbers } = sheet;
+        self.numbers = numbers;
+        bytes
+    }
+
+    /// Ends with all requests, and with what was written.
+    pub(crate) fn settle_all(&mut self, sheet: Sheet) -> Vec<u8>
+        requires last { sheet.numbers.last ≡ self.old.session.limits.seq }
+        requires used { sheet.numbers.used ≤ sheet.numbers.last }
+        ensures session { self.new ≡ record self.old { session = record self.old.session { kept = []; used = sheet.numbers.used } } }
+        ensures bytes { result ≡ sheet.bytes }
+    {
+        let Sheet { bytes, numbers } = sheet;
+        self.kept.clear();
+        self.numbers = numbers;
+        bytes
+    }
+
+    /// Ends with a request and with those that are parked, and with what was written.
+    pub(crate) fn settle_parked(&mut self, seq: u64, sheet: Sheet) -> Vec<u8>
+        requires last { sheet.numbers.last ≡ self.old.session.limits.seq }
+        requires used { sheet.numbers.used ≤ sheet.numbers.last }
+        ensures session { self.new ≡ record self.old { session = record self.old.session { kept = unparked_ones (without seq self.old.session.kept); used = sheet.numbers.used } } }
+        ensures bytes { result ≡ sheet.bytes }
+    {
+        let Sheet { bytes, numbers } = sheet;
+        let _ = self.kept.take(seq);
+        self.kept.clear_parked();
+        self.numbers = numbers;
+        bytes
+    }
+
+    pub(crate) fn set_phase(&mut self, phase: Phase)
+        ensures { self.new ≡ record self.old { session = record self.old.session { phase = phase } } }
+    {
+        self.phase = phase;
+    }
+
+    pub(crate) fn set_options(&mut self, options: Options)
+        ensures { self.new ≡ record self.old { session = record self.old.session { options = options } } }
+    {
+        self.options = options;
+    }
+
+    /// All references die. As long as none is given, there is nothing to do.
+    pub(crate) fn clear_references(&mut self)
+        ensures { self.new ≡ record self.old { session = record self.old.session { references = cleared self.old.session.references } } }
+    {
+        let _ = &self.limits;
+    }
+
+    pub(crate) fn park(&mut self, seq: u64)
+        requires { IsTrue (contains_seq seq self.old.session.kept) }
+        ensures { self.new ≡ record self.old { session = record self.old.session { kept = with_mark seq true self.old.session.kept } } }
+    {
+        self.kept.park(seq);
+    }
+
+    /// Asks the debuggee to start: whether it did.
+    pub(crate) fn ask_start(&mut self, alloc: Global) -> Result<bool, AllocError>
+        ensures follows { IfOk result (λ ok. D.follows self.old.debuggee to_start (reply_of ok) self.new.debuggee) }
+        ensures session { self.new.session ≡ self.old.session }
+    {
+        match self.debuggee.start(alloc) {
+            Ok(()) => Ok(true),
+            Err(DebuggeeFault::Refused) => Ok(false),
+            Err(DebuggeeFault::OutOfMemory) => Err(AllocError),
+        }
+    }
+
+    /// Asks the debuggee to go on: whether it does.
+    pub(crate) fn ask_resume(
+        &mut self,
+        alloc: Global,
+        how: How,
+        thread: i64,
+    ) -> Result<bool, AllocError>
+        ensures follows { IfOk result (λ ok. D.follows self.old.debuggee (to_resume how thread) (reply_of ok) self.new.debuggee) }
+        ensures session { self.new.session ≡ self.old.session }
+    {
+        match self.debuggee.resume(alloc, how, thread) {
+            Ok(()) => Ok(true),
+            Err(DebuggeeFault::Refused) => Ok(false),
+            Err(DebuggeeFault::OutOfMemory) => Err(AllocError),
+        }
+    }
+
+    /// Asks the debuggee to stop: whether it does not refuse.
+    pub(crate) fn ask_pause(&mut self, alloc: Global) -> Result<bool, AllocError>
+        ensures follows { IfOk result (λ ok. D.follows self.old.debuggee to_pause (reply_of ok) self.new.debuggee) }
+        ensures session { self.new.session ≡ self.old.session }
+    {
+        match self.debuggee.pause(alloc) {
+            Ok(()) => Ok(true),
+            Err(DebuggeeFault::Refused) => Ok(false),
+            Err(DebuggeeFault::OutOfMemory) => Err(AllocError),
+        }
+    }
+
+    pub(crate) fn end(&mut self)
+        ensures follows { D.follows self.old.debuggee to_end done self.new.debuggee }
+        ensures session { self.new.session ≡ self.old.session }
+    {
+        self.debuggee.end();
+    }
+
+    /// What the debuggee is asked first.
+    pub(crate) fn ask_poll(&mut self, alloc: Global) -> Result<Happening, AllocError>
+        ensures follows { IfOk result (λ h. D.follows self.old.debuggee to_poll (happened h) self.new.debuggee) }
+        ensures session { self.new.session ≡ self.old.session }
+    {
+        self.debuggee.poll(alloc)
+    }
+}
+
+/// Keeps a request in a table that has room for it.
+fn put_in(kept: &mut Outstanding, request: Entry) -> Result<(), AllocError>
+    requires new { contains_seq request.seq kept.old.kept ≡ false }
+    requires room { length kept.old.kept < kept.old.room }
+    ensures ok { OnOk result (kept.new ≡ record kept.old { kept = kept.old.kept ++ unparked request ∷ [] }) }
+    ensures err { OnErr result (kept.new ≡ kept.old) }
+    ensures orderly { IsOrderly kept.new }
+{
+    match kept.put(request) {
+        Ok(()) => Ok(()),
+        Err(_) => Err(AllocError),
+    }
+}

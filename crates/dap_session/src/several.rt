@@ -1,0 +1,78 @@
+//! Answers to several kept requests, one after the other.
+ghost use Rattle.std.specs.Prelude.{◌≡◌, ◌+◌, ◌≤◌, filter, length, OnOk, IsTrue};
+ghost use Rattle.dap_json.specs.Field.{max_seq};
+ghost use Rattle.dap_tables.specs.Outstanding.{entries};
+ghost use Rattle.dap_session.specs.Sheet.{IsPlainAnswer, answer_of};
+ghost use Rattle.dap_session.specs.Several.{AllAnswerable, chosen, answer_where, answer_by, WritesAll};
+
+use crate::sheet::{Answer, Sheet};
+use dap_message::Failure;
+use dap_tables::{InOrder, Outstanding};
+use std::alloc::{AllocError, Global};
+
+/// Which of the kept requests are answered.
+#[derive(Clone, Copy)]
+pub(crate) enum Chosen {
+    /// All but the one with this number.
+    AllBut(u64),
+    /// Those that are parked.
+    Parked,
+}
+
+fn is_chosen(kept: &Outstanding, which: Chosen, seq: u64) -> bool
+    ensures { result ≡ chosen which kept.now.kept seq }
+{
+    match which {
+        Chosen::AllBut(one) => seq != one,
+        Chosen::Parked => kept.is_parked(seq),
+    }
+}
+
+/// A success without a body, or a failure.
+fn answer_by(failure: Option<Failure>) -> Answer
+    ensures answer { answer_of result ≡ answer_by failure }
+    ensures plain { IsPlainAnswer result }
+{
+    match failure {
+        None => Answer::Success(None),
+        Some(failure) => Answer::Failure(failure),
+    }
+}
+
+/// Answers each chosen request of those that are still to come.
+fn answer_rest(
+    alloc: Global,
+    sheet: &mut Sheet,
+    kept: &Outstanding,
+    mut requests: InOrder<'_>,
+    which: Chosen,
+    failure: Option<Failure>,
+) -> Result<(), AllocError>
+    requires answerable { AllAnswerable requests }
+    requires room { sheet.old.numbers.used + length (filter (λ r. chosen which kept.now.kept r.seq) requests) ≤ sheet.old.numbers.last }
+    requires last { sheet.old.numbers.last ≤ max_seq }
+    ensures { OnOk result (WritesAll sheet.old sheet.new (answer_where (λ seq. chosen which kept.now.kept seq) (answer_by failure) requests.entry)) }
+{
+    while let Some(request) = requests.next() {
+        if is_chosen(kept, which, request.seq) {
+            sheet.reply(alloc, request, answer_by(failure))?;
+        }
+    }
+    Ok(())
+}
+
+/// Answers each chosen request, by arrival.
+pub(crate) fn answer_chosen(
+    alloc: Global,
+    sheet: &mut Sheet,
+    kept: &Outstanding,
+    which: Chosen,
+    failure: Option<Failure>,
+) -> Result<(), AllocError>
+    requires answerable { AllAnswerable (entries kept.now.kept) }
+    requires room { sheet.old.numbers.used + length (filter (λ r. chosen which kept.now.kept r.seq) (entries kept.now.kept)) ≤ sheet.old.numbers.last }
+    requires last { sheet.old.numbers.last ≤ max_seq }
+    ensures { OnOk result (WritesAll sheet.old sheet.new (answer_where (λ seq. chosen which kept.now.kept seq) (answer_by failure) (entries kept.now.kept))) }
+{
+    answer_rest(alloc, sheet, kept, kept.in_order(), which, failure)
+}

@@ -1,0 +1,251 @@
+//! What comes of a message that is delivered.
+ghost use Rattle.std.specs.Prelude.{◌≡◌, ◌+◌, ◌≤◌, [], ◌∷◌, length, IfOk, IfErr, IfSome, IfNone, OnOk, OnErr, Some, false};
+ghost use Rattle.dap_json.specs.Field.{max_seq};
+ghost use Rattle.dap_message.specs.Command.{command_named};
+ghost use Rattle.dap_message.specs.InRange.{IsInRange};
+ghost use Rattle.dap_message.specs.Refusals.{max_command};
+ghost use Rattle.dap_tables.specs.Outstanding.{contains_seq, HasDistinctSeqs};
+ghost use Rattle.dap_session.specs.Failures.{of_known};
+ghost use Rattle.dap_session.specs.Plan.{reply, failure, plain_success};
+ghost use Rattle.dap_message.specs.Types.Failure.TheVariants.{Cancelled};
+ghost use Rattle.dap_session.specs.Seat.{MadeBy, HasTaken, NotTaken, TakesRequest, TakesNoRequest, IsBeyond, LacksRoom, NamesNone, NamesOne};
+ghost use Rattle.dap_session.specs.Sheet.{IsAnswerable, IsPlainAnswer, Holds, answer_of};
+ghost use Rattle.dap_session.specs.Table.{is_phase};
+ghost use Rattle.dap_session.specs.declared.phase.Phase.TheVariants.{Ended};
+ghost use Rattle.dap_session.specs.Taking.{answered_at_once, keeps, cancels, cancelled, id_in, is_cancel};
+
+use crate::deciding::call_in;
+use crate::fault::AdapterFault;
+use crate::phase::Phase;
+use crate::session::Session;
+use crate::sheet::{Answer, Sheet};
+use dap_debuggee::Debuggee;
+use dap_message::{Call, CallFault, Command, Failure, Kind, Message, Text, Tree};
+use dap_tables::Entry;
+use std::alloc::{AllocError, Global};
+
+fn is_cancel(name: &str) -> bool
+    ensures { result ≡ of_known is_cancel (command_named name.now) }
+{
+    match Command::of_name(name) {
+        Some(Command::Cancel) => true,
+        _ => false,
+    }
+}
+
+fn has_ended(phase: Phase) -> bool
+    ensures { result ≡ is_phase Ended phase }
+{
+    phase == Phase::Ended
+}
+
+/// The number that a cancel has.
+fn id_in(call: &Call) -> Option<u64>
+    ensures { result ≡ id_in call.now }
+{
+    match call {
+        Call::Cancel { request_id } => *request_id,
+        _ => None,
+    }
+}
+
+/// A request as it is kept.
+fn entry_of(seq: u64, command: &Text, arguments: &Option<Tree>) -> Result<Entry, AllocError>
+    ensures { IfOk result (λ r. r ≡ record { seq = seq; command = command.now; arguments = arguments.now }) }
+{
+    Ok(Entry {
+        seq,
+        command: command.clone()?,
+        arguments: arguments.clone()?,
+    })
+}
+
+impl<D: Debuggee + Drop> Session<D> {
+    /// Answers a request that is not kept.
+    fn answer_at_once(
+        &mut self,
+        alloc: Global,
+        request: &Entry,
+        answer: Answer,
+    ) -> Result<Vec<u8>, AdapterFault>
+        requires request { IsAnswerable request.now }
+        requires plain { IsPlainAnswer answer }
+        ensures made { IfOk result (λ bytes. MadeBy (answered_at_once request.now (answer_of answer) self.old.session) self.old.session self.new.session bytes.items) }
+        ensures within { OnOk result (self.old.session.used + length (answered_at_once request.now (answer_of answer) self.old.session).drafts ≤ self.old.session.limits.seq) }
+        ensures refused { IfErr result (λ fault. IsBeyond fault self.old.session (answered_at_once request.now (answer_of answer) self.old.session)) }
+        ensures err { OnErr result (self.new ≡ self.old) }
+        ensures debuggee { self.new.debuggee ≡ self.old.debuggee }
+        ensures limits { self.new.session.limits ≡ self.old.session.limits }
+    {
+        self.room(1)?;
+        let sheet = self.one(alloc, request, answer)?;
+        Ok(self.spend(sheet))
+    }
+
+    /// Keeps a request, or answers that there is no room.
+    fn keep(&mut self, alloc: Global, request: Entry) -> Result<Vec<u8>, AdapterFault>
+        requires request { IsAnswerable request }
+        requires new { contains_seq request.seq self.old.session.kept ≡ false }
+        ensures made { IfOk result (λ bytes. MadeBy (keeps request self.old.session) self.old.session self.new.session bytes.items) }
+        ensures within { OnOk result (self.old.session.used + length (keeps request self.old.session).drafts ≤ self.old.session.limits.seq) }
+        ensures refused { IfErr result (λ fault. IsBeyond fault self.old.session (keeps request self.old.session)) }
+        ensures err { OnErr result (self.new ≡ self.old) }
+        ensures debuggee { self.new.debuggee ≡ self.old.debuggee }
+        ensures limits { self.new.session.limits ≡ self.old.session.limits }
+    {
+        let _ = self.numbers();
+        if self.is_full() {
+            return self.answer_at_once(alloc, &request, Answer::Failure(Failure::Busy));
+        }
+        self.put(request)?;
+        Ok(Vec::new(alloc))
+    }
+
+    /// A request is cancelled, and another one answered.
+    fn both_told(
+        &self,
+        alloc: Global,
+        named: &Entry,
+        request: &Entry,
+    ) -> Result<Sheet, AdapterFault>
+        requires named { IsAnswerable named.now }
+        requires request { IsAnswerable request.now }
+        ensures last { IfOk result (λ sheet. sheet.numbers.last ≡ self.now.session.limits.seq) }
+        ensures holds { IfOk result (λ sheet. Holds sheet self.now.session.used (reply named.now (failure Cancelled) ∷ reply request.now plain_success ∷ [])) }
+        ensures refused { IfErr result (λ fault. LacksRoom fault self.now.session 2) }
+    {
+        self.room(2)?;
+        let mut sheet = self.one(alloc, named, Answer::Failure(Failure::Cancelled))?;
+        sheet.reply(alloc, request, Answer::Success(None))?;
+        Ok(sheet)
+    }
+
+    /// The answers to a request that is cancelled and to the cancel, where it names one that can be.
+    fn cancel_told(
+        &self,
+        alloc: Global,
+        request: &Entry,
+        id: u64,
+    ) -> Result<Option<Sheet>, AdapterFault>
+        requires { IsAnswerable request.now }
+        ensures none { IfOk result (λ o. IfNone o (NamesNone id self.now.session.kept)) }
+        ensures one { IfOk result (λ o. IfSome o (λ sheet. NamesOne id self.now.session.kept)) }
+        ensures last { IfOk result (λ o. IfSome o (λ sheet. sheet.numbers.last ≡ self.now.session.limits.seq)) }
+        ensures holds { IfOk result (λ o. IfSome o (λ sheet. Holds sheet self.now.session.used (cancelled (Some id) request.now self.now.session).drafts)) }
+        ensures named { OnErr result (NamesOne id self.now.session.kept) }
+        ensures refused { IfErr result (λ fault. LacksRoom fault self.now.session 2) }
+    {
+        if self.kept.is_parked(id) {
+            return Ok(None);
+        }
+        let Some(named) = self.kept.get(id) else {
+            return Ok(None);
+        };
+        match self.both_told(alloc, named, request) {
+            Ok(sheet) => Ok(Some(sheet)),
+            Err(fault) => Err(fault),
+        }
+    }
+
+    /// Answers what a cancel names, and the cancel.
+    fn cancel_named(
+        &mut self,
+        alloc: Global,
+        request: &Entry,
+        id: Option<u64>,
+    ) -> Result<Vec<u8>, AdapterFault>
+        requires request { IsAnswerable request.now }
+        ensures made { IfOk result (λ bytes. MadeBy (cancelled id request.now self.old.session) self.old.session self.new.session bytes.items) }
+        ensures within { OnOk result (self.old.session.used + length (cancelled id request.now self.old.session).drafts ≤ self.old.session.limits.seq) }
+        ensures refused { IfErr result (λ fault. IsBeyond fault self.old.session (cancelled id request.now self.old.session)) }
+        ensures err { OnErr result (self.new ≡ self.old) }
+        ensures debuggee { self.new.debuggee ≡ self.old.debuggee }
+        ensures limits { self.new.session.limits ≡ self.old.session.limits }
+    {
+        let Some(id) = id else {
+            return self.answer_at_once(alloc, request, Answer::Success(None));
+        };
+        match self.cancel_told(alloc, request, id) {
+            Err(fault) => Err(fault),
+            Ok(None) => self.answer_at_once(alloc, request, Answer::Success(None)),
+            Ok(Some(sheet)) => Ok(self.settle(id, sheet)),
+        }
+    }
+
+    /// Answers a cancel at once, and what it names.
+    fn cancel(&mut self, alloc: Global, request: &Entry) -> Result<Vec<u8>, AdapterFault>
+        requires request { IsAnswerable request.now }
+        ensures made { IfOk result (λ bytes. MadeBy (cancels request.now self.old.session) self.old.session self.new.session bytes.items) }
+        ensures within { OnOk result (self.old.session.used + length (cancels request.now self.old.session).drafts ≤ self.old.session.limits.seq) }
+        ensures refused { IfErr result (λ fault. IsBeyond fault self.old.session (cancels request.now self.old.session)) }
+        ensures err { OnErr result (self.new ≡ self.old) }
+        ensures debuggee { self.new.debuggee ≡ self.old.debuggee }
+        ensures limits { self.new.session.limits ≡ self.old.session.limits }
+    {
+        if self.phase() == Phase::Fresh {
+            return self.answer_at_once(alloc, request, Answer::Failure(Failure::NotInitialized));
+        }
+        match call_in(alloc, request, Command::Cancel) {
+            Err(CallFault::OutOfMemory) => Err(AdapterFault::OutOfMemory),
+            Err(CallFault::BadArguments { key }) => {
+                let answer = Answer::Failure(Failure::BadArguments { key });
+                self.answer_at_once(alloc, request, answer)
+            }
+            Ok(call) => self.cancel_named(alloc, request, id_in(&call)),
+        }
+    }
+
+    /// Keeps a request, or answers it at once.
+    fn take_request(
+        &mut self,
+        alloc: Global,
+        seq: u64,
+        command: &Text,
+        arguments: &Option<Tree>,
+    ) -> Result<Vec<u8>, AdapterFault>
+        requires seq { seq ≤ max_seq }
+        requires command { length command.now ≤ max_command }
+        ensures taken { IfOk result (λ bytes. TakesRequest (record { seq = seq; command = command.now; arguments = arguments.now }) self.old.session self.new.session bytes.items) }
+        ensures refused { IfErr result (λ fault. TakesNoRequest fault (record { seq = seq; command = command.now; arguments = arguments.now }) self.old.session) }
+        ensures err { OnErr result (self.new ≡ self.old) }
+        ensures debuggee { self.new.debuggee ≡ self.old.debuggee }
+        ensures limits { self.new.session.limits ≡ self.old.session.limits }
+    {
+        let _ = &self.limits;
+        if has_ended(self.phase) {
+            return Err(AdapterFault::Ended);
+        }
+        if self.kept.contains(seq) {
+            return Err(AdapterFault::RepeatedSeq { seq });
+        }
+        let request = entry_of(seq, command, arguments)?;
+        if is_cancel(request.command.as_str()) {
+            return self.cancel(alloc, &request);
+        }
+        self.keep(alloc, request)
+    }
+
+    /// Takes a message that was delivered: a request is kept, or answered at once. A response is refused, since no request
+    /// of this end waits for one. Any other message has no effect.
+    pub fn take(&mut self, alloc: Global, message: &Message) -> Result<Vec<u8>, AdapterFault>
+        requires { IsInRange message.now }
+        ensures taken { IfOk result (λ bytes. HasTaken message.now self.old.session self.new.session bytes.items) }
+        ensures refused { IfErr result (λ fault. NotTaken fault message.now self.old.session) }
+        ensures err { OnErr result (self.new ≡ self.old) }
+        ensures debuggee { self.new.debuggee ≡ self.old.debuggee }
+        ensures distinct { HasDistinctSeqs self.old.session.kept }
+        ensures limits { self.new.session.limits ≡ self.old.session.limits }
+    {
+        let _ = &self.limits;
+        match &message.kind {
+            Kind::Request { command, arguments } => {
+                self.take_request(alloc, message.seq, command, arguments)
+            }
+            Kind::Response { request_seq, .. } => Err(AdapterFault::Unmatched {
+                request_seq: *request_seq,
+            }),
+            Kind::Event { .. } => Ok(Vec::new(alloc)),
+            Kind::Other { .. } => Ok(Vec::new(alloc)),
+        }
+    }
+}
