@@ -1,17 +1,19 @@
 #!/usr/bin/env python3
 """Writes a stream of framed Debug Adapter Protocol messages to standard output.
 
-    generate.py KIND BYTES SEED > FILE
+    generate.py KIND SIZE SEED > FILE
 
 KIND `large` is what an adapter sends where the debuggee is big: `stackTrace`, `variables`, `loadedSources` and
 `modules` responses and long `output` events, of some 4 KB to 170 KB each. KIND `small` is both ends of sessions
 that step and look around: requests, short responses and short events, of some 50 to 400 bytes each.
 
-The stream ends with the first frame that reaches BYTES. The same KIND, BYTES and SEED give the same bytes on
-every machine: of Python's generator only `random()` is used, whose sequence does not change between versions.
+These two end with the first frame that reaches SIZE bytes. KIND `requests` is one client's side of a session: an
+`initialize`, and SIZE more requests that leave the session in the phase after it. The same KIND, SIZE and SEED give
+the same bytes on every machine: of Python's generator only `random()` is used, whose sequence does not change
+between versions.
 
-A stream is sessions, one after the other. Each session has an adapter and a client, after the wire habits of
-real ones: the order of keys, blanks after colons, which characters are escaped, and how `seq` counts.
+A stream of the first two kinds is sessions, one after the other. Each session has an adapter and a client, after the
+wire habits of real ones: the order of keys, blanks after colons, which characters are escaped, and how `seq` counts.
 """
 
 import argparse
@@ -418,6 +420,127 @@ class Session:
                                                         for place, line in enumerate(lines)]})
 
 
+# ---- Requests to one server --------------------------------------------------------------------------------
+
+# The commands with a thread, which fit no session that has not started; those that `dap serve` knows and never serves;
+# and names that it does not know: some of the standard, some that real clients add to it, and one that is misspelt.
+OF_A_THREAD = ["next", "next", "stepIn", "stepOut", "continue", "pause", "stepBack", "reverseContinue"]
+UNSERVED = ["setFunctionBreakpoints", "restart", "modules", "exceptionInfo", "breakpointLocations", "completions"]
+UNKNOWN = ["goto", "gotoTargets", "stepInTargets", "restartFrame", "setExpression", "readMemory", "writeMemory",
+           "disassemble", "terminateThreads", "dataBreakpointInfo", "setDataBreakpoints", "locations",
+           "setInstructionBreakpoints", "setDebuggerProperty", "pydevdSystemInfo", "debugInBrowser", "Threads"]
+FILTERS = ["raised", "uncaught", "userUnhandled", "cpp_throw", "cpp_catch", "any", "RuntimeError", "panic",
+           "unrecovered-panic", "fatal-throw"]
+
+
+class Requests:
+    """A client that asks again and again before it starts the debuggee."""
+
+    def __init__(self, draw):
+        self.world = World(draw, "debugpy")
+        self.asked = 0
+
+    def frame(self, command, arguments=None):
+        self.asked += 1
+        message = {"command": command, "arguments": arguments, "type": "request", "seq": self.asked}
+        if arguments is None:
+            del message["arguments"]
+        return frame(PLAIN.encode(message))
+
+    def initialize(self):
+        return self.frame("initialize", {
+            "clientID": "editor", "clientName": "Editor", "adapterID": "rec", "pathFormat": "path",
+            "linesStartAt1": True, "columnsStartAt1": True, "supportsVariableType": True,
+            "supportsVariablePaging": True, "supportsRunInTerminalRequest": True, "locale": "en"})
+
+    def next(self):
+        world = self.world
+        kind = world.below(100)
+        if kind < 30:
+            return self.frame("threads")
+        if kind < 55:
+            return self.frame(world.pick(OF_A_THREAD), self.thread())
+        if kind < 62:
+            return self.frame(world.pick(OF_A_THREAD), self.bad_thread())
+        if kind < 74:
+            command = world.pick(UNSERVED)
+            return self.frame(command, self.unserved(command))
+        if kind < 81:
+            return self.frame(world.pick(UNKNOWN), {"threadId": world.between(1, 9), world.name(): world.below(1000)})
+        if kind < 90:
+            return self.frame("cancel", self.cancel())
+        if kind < 98:
+            return self.frame("setExceptionBreakpoints", self.filters())
+        return self.frame("terminate", {"restart": False} if world.chance(0.5) else None)
+
+    def thread(self):
+        world = self.world
+        made = {"threadId": world.between(1, 9) if world.chance(0.5) else world.between(4000, 30000)}
+        if world.chance(0.3):
+            made["granularity"] = world.pick(["statement", "line", "instruction"])
+        if world.chance(0.1):
+            made["singleThread"] = world.chance(0.5)
+        return made
+
+    def bad_thread(self):
+        """Arguments without a thread, or with none that is a number, or no arguments."""
+        world = self.world
+        kind = world.below(10)
+        if kind < 4:
+            return {}
+        if kind < 6:
+            return {"granularity": "line"}
+        if kind < 8:
+            return {"threadId": world.pick(["main", "1", True, [1], 1.5])}
+        if kind < 9:
+            return {"threadId": None}
+        return None
+
+    def unserved(self, command):
+        world = self.world
+        if command == "setFunctionBreakpoints":
+            return {"breakpoints": [{"name": world.function()} for _ in range(world.below(4))]}
+        if command == "restart":
+            return None if world.chance(0.5) else {}
+        if command == "modules":
+            return {"startModule": world.below(50), "moduleCount": world.below(100)}
+        if command == "exceptionInfo":
+            return {"threadId": world.between(1, 9)}
+        if command == "breakpointLocations":
+            return {"source": world.source(), "line": world.between(1, 3000)}
+        return {"text": world.name() + ".", "column": world.between(1, 40), "frameId": world.between(1, 1000)}
+
+    def cancel(self):
+        world = self.world
+        kind = world.below(10)
+        if kind < 5:
+            return {"requestId": world.between(1, self.asked)}
+        if kind < 7:
+            return {"requestId": self.asked + world.between(2, 1000)}
+        if kind < 8:
+            return {"requestId": world.pick(["7", -1, 2.5])}
+        return {} if kind < 9 else None
+
+    def filters(self):
+        world = self.world
+        kind = world.below(20)
+        if kind == 0:
+            return {}
+        if kind == 1:
+            return {"filters": world.pick(["any", [1], {"filter": "any"}])}
+        made = {"filters": [world.pick(FILTERS) for _ in range(world.below(6))]}
+        if world.chance(0.2):
+            made["filterOptions"] = [{"filterId": world.pick(FILTERS), "condition": world.name() + " > 0"}]
+        return made
+
+
+def requests(count, seed, write):
+    client = Requests(random.Random(seed).random)
+    write(client.initialize())
+    for _ in range(count):
+        write(client.next())
+
+
 def stream(kind, total, seed, write):
     draw = random.Random(seed).random
     written = 0
@@ -438,11 +561,15 @@ def stream(kind, total, seed, write):
 
 def main():
     words = argparse.ArgumentParser(description="Writes a stream of framed messages to standard output.")
-    words.add_argument("kind", choices=["large", "small"], metavar="KIND", help="large or small")
-    words.add_argument("bytes", type=int, metavar="BYTES", help="the stream ends with the frame that reaches them")
+    words.add_argument("kind", choices=["large", "small", "requests"], metavar="KIND", help="large, small or requests")
+    words.add_argument("size", type=int, metavar="SIZE",
+                       help="the stream ends with the frame that reaches these bytes; of requests: how many")
     words.add_argument("seed", type=int, metavar="SEED", help="a whole number")
     words = words.parse_args()
-    stream(words.kind, words.bytes, words.seed, sys.stdout.buffer.write)
+    if words.kind == "requests":
+        requests(words.size, words.seed, sys.stdout.buffer.write)
+    else:
+        stream(words.kind, words.size, words.seed, sys.stdout.buffer.write)
     sys.stdout.buffer.flush()
 
 

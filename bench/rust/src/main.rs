@@ -1,12 +1,18 @@
-//! The Rust baseline: what a Rust programmer writes for the task of `dap show` with `serde_json`.
+//! The Rust baseline: what a Rust programmer writes for the tasks of `dap` with `serde_json`.
 //!
 //!     baseline show FILE      one line for each message
 //!     baseline frames FILE    framing alone: the count of frames and the sum of their body lengths
+//!     baseline serve          answers the requests of standard input on standard output
+//!     baseline echo           gives each body of standard input back on standard output
 //!
-//! The file is read whole. Bodies are slices of it and are parsed to `serde_json::Value`. The lines gather in one
+//! A file is read whole. Bodies are slices of it and are parsed to `serde_json::Value`. The lines gather in one
 //! buffer that is written once. What is malformed gives a message on standard error and status 3; the lines of
-//! the messages before it are written all the same.
+//! the messages before it are written all the same. `serve.rs` says how the other two read and write.
 
+mod framing;
+mod serve;
+
+use framing::{Fault, Frames};
 use serde_json::Value;
 use std::io::Write;
 use std::process::ExitCode;
@@ -14,94 +20,10 @@ use std::process::ExitCode;
 const MAX_SEQ: u64 = (1 << 53) - 1;
 const MAX_COMMAND: usize = 64;
 
-type Fault = &'static str;
-
 /// How a task ends: well, or by a fault at the offset of a frame.
 type Outcome = Result<(), (Fault, usize)>;
 
 type Task = fn(&[u8], &mut Vec<u8>) -> Outcome;
-
-/// The frames of a stream, in order; a fault ends them.
-struct Frames<'a> {
-    input: &'a [u8],
-    offset: usize,
-}
-
-struct Frame<'a> {
-    offset: usize,
-    body: &'a [u8],
-}
-
-impl<'a> Frames<'a> {
-    fn new(input: &'a [u8]) -> Self {
-        Frames { input, offset: 0 }
-    }
-
-    /// The next frame, or none where the input is at its end.
-    fn next(&mut self) -> Result<Option<Frame<'a>>, Fault> {
-        let rest = &self.input[self.offset..];
-        if rest.is_empty() {
-            return Ok(None);
-        }
-        let block = rest
-            .windows(4)
-            .position(|four| four == b"\r\n\r\n")
-            .ok_or("the input ends within a header block")?;
-        let length = content_length(&rest[..block])?;
-        let body = rest[block + 4..]
-            .get(..length)
-            .ok_or("the input ends within a body")?;
-        let frame = Frame {
-            offset: self.offset,
-            body,
-        };
-        self.offset += block + 4 + length;
-        Ok(Some(frame))
-    }
-}
-
-/// What `Content-Length` says in a header block, which comes without its last two line ends.
-fn content_length(block: &[u8]) -> Result<usize, Fault> {
-    let mut length = None;
-    for line in block.split(|&byte| byte == b'\n') {
-        let line = line.strip_suffix(b"\r").unwrap_or(line);
-        let colon = line
-            .iter()
-            .position(|&byte| byte == b':')
-            .ok_or("a header line has no colon")?;
-        if line[..colon].eq_ignore_ascii_case(b"content-length") {
-            if length.is_some() {
-                return Err("two lengths");
-            }
-            length = Some(number(trim(&line[colon + 1..]))?);
-        }
-    }
-    length.ok_or("no length")
-}
-
-fn trim(mut value: &[u8]) -> &[u8] {
-    while let [b' ' | b'\t', rest @ ..] = value {
-        value = rest;
-    }
-    while let [rest @ .., b' ' | b'\t'] = value {
-        value = rest;
-    }
-    value
-}
-
-fn number(digits: &[u8]) -> Result<usize, Fault> {
-    if digits.is_empty() {
-        return Err("the length is empty");
-    }
-    digits.iter().try_fold(0usize, |sum, &byte| {
-        if !byte.is_ascii_digit() {
-            return Err("the length is no number");
-        }
-        sum.checked_mul(10)
-            .and_then(|sum| sum.checked_add(usize::from(byte - b'0')))
-            .ok_or("the length is too great")
-    })
-}
 
 fn frames(input: &[u8], out: &mut Vec<u8>) -> Outcome {
     let mut frames = Frames::new(input);
@@ -192,8 +114,12 @@ fn main() -> ExitCode {
     let (task, path): (Task, _) = match &words[..] {
         [mode, path] if mode == "show" => (show, path),
         [mode, path] if mode == "frames" => (frames, path),
+        [mode] if mode == "serve" => return serve::serve(),
+        [mode] if mode == "echo" => return serve::echo(),
         _ => {
-            eprintln!("usage: baseline show FILE | baseline frames FILE");
+            eprintln!(
+                "usage: baseline show FILE | baseline frames FILE | baseline serve | baseline echo"
+            );
             return ExitCode::from(2);
         }
     };

@@ -1,42 +1,58 @@
 -- An adapter goes on as its session does.
-use Rattle.std.proofs.Common.{◌≡◌, ℕ, ◌≤◌, List, [], ◌++◌, false, refl, sym, ap, ◌∙◌, subst}
+use Rattle.std.proofs.Common.{◌≡◌, ℕ, ◌≤◌, List, [], ◌++◌, Option, Some, None, refl, sym, ap, ◌∙◌, subst, arith}
 use Rattle.std.proofs.lemmas.List.{append-nil}
 use Rattle.dap_frame.specs.Intake.{Intake}
-use Rattle.dap_frame.specs.Settings.{Settings}
-use Rattle.dap_history.specs.History.{Entry, Came, ins_of}
+use Rattle.dap_frame.specs.Settings.{Settings, bounds_of}
+use Rattle.dap_history.specs.History.{Entry, Came, Went, ins_of}
 use Rattle.dap_history.specs.HistoryLaws.{HistoriesGrow}
-use Rattle.dap_tables.specs.Outstanding.{HasDistinctSeqs}
+use Rattle.dap_history.specs.Received.{Received}
+use Rattle.dap_message.specs.declared.message.Message.{Message}
 use Rattle.dap_debuggee.specs.Shown.{Shown}
 use Rattle.dap_session.specs.declared.fault.AdapterFault.{AdapterFault}
-use Rattle.dap_session.specs.declared.fault.AdapterFault.TheVariants.{SeqExhausted, OutOfMemory}
+use Rattle.dap_session.specs.declared.fault.AdapterFault.TheVariants.{SeqExhausted, OutOfMemory, Frame, Body, RepeatedSeq, Unmatched, Ended}
 use Rattle.dap_session.specs.Carried.{Goes, CarriedOut}
-use Rattle.dap_adapter.specs.Calls.{Step, Handled, Saw, PollRefused, IsAdapter}
-use Rattle.dap_session.specs.Seat.{Seat, Carries, HasTurned, HasTooMany, IsRefusedPoll}
-use Rattle.dap_session.specs.Laws.{CanMake, EachStepGoesOn}
-use Rattle.dap_session.specs.Plan.{Made, Plan, at_once, asking, nothing, entries_of}
-use Rattle.dap_session.specs.Polling.{polls, has_debuggee}
-use Rattle.dap_session.specs.Session.{Session, fresh_session}
-use Rattle.dap_adapter.specs.End.{End}
-use Rattle.dap_history.specs.Received.{Received}
 use Rattle.dap_session.specs.Follows.{Follows}
+use Rattle.dap_session.specs.Laws.{CanMake, EachStepGoesOn}
+use Rattle.dap_session.specs.Plan.{Made, Plan, at_once, asking, entries_of}
+use Rattle.dap_session.specs.Polling.{polls}
+use Rattle.dap_session.specs.Seat.{Seat, Carries, HasTurned, HasTooMany, IsRefusedPoll}
+use Rattle.dap_session.specs.Session.{Session, fresh_session}
 use Rattle.dap_session.specs.Table.{is_put_off}
-use Rattle.dap_session.proofs.Steps.{ins_of-append, ins_of-entries}
+use Rattle.dap_session.specs.Within.{IsWithin, EachStepStaysWithin}
+use Rattle.dap_adapter.specs.Calls.{Step, Handled, Saw, PollRefused}
+use Rattle.dap_adapter.specs.End.{End}
+
+pub can-make : {D : Type 0} (follows : Goes D) (plan : Plan) (v w : D) (made : Made) → CarriedOut follows plan v made w → CanMake plan made
+can-make follows (at_once m) v w made c = c.0
+can-make follows (asking act makes) v w made c = (c.0, c.2)
+
+-- no fault was met
+pub none-met : (fault : Option AdapterFault) → ((f : AdapterFault) → fault ≡ Some f → ⊥) → fault ≡ None
+none-met None never = refl
+none-met (Some f) never = absurd (never f refl)
 
 -- nothing came, and the stream stands
-pub received-more : (i : Intake) (s : List ℕ) (h k : List Entry) → ins_of k ≡ [] → Received i s h → Received i s (h ++ k)
-received-more i s h k e r =
-    let same : ins_of (h ++ k) ≡ ins_of h = ins_of-append h k ∙ (ap (λ (ms : _). ins_of h ++ ms) e ∙ append-nil (ins_of h)) in
+received-more : HistoriesGrow → (i : Intake) (s : List ℕ) (h k : List Entry) → ins_of k ≡ [] → Received i s h → Received i s (h ++ k)
+received-more laws i s h k e r =
+    let same : ins_of (h ++ k) ≡ ins_of h = laws.ins_append h k ∙ (ap (λ (ms : List Message). ins_of h ++ ms) e ∙ append-nil (ins_of h)) in
     record { under_way = r.under_way; bodies = r.bodies; rest = r.rest; stream = r.stream; read = rw same r.read }
 
+-- bounds stay where the limits and the bounds do
+bounds-stay : {D : Type 0} (old new : End D) → new.intake.bounds ≡ old.intake.bounds → new.session.limits ≡ old.session.limits → old.intake.bounds ≡ bounds_of old.session.limits → new.intake.bounds ≡ bounds_of new.session.limits
+bounds-stay old new i l b = i ∙ (b ∙ ap bounds_of (sym l))
+
 -- a step without bytes of the client
-pub stepped : {D : Type 0} (follows : Goes D) (plan : Plan) (old new : End D) (bytes : List ℕ) (from to : Seat D)
+pub stepped : {D : Type 0} (grow : HistoriesGrow) (laws : EachStepGoesOn) (follows : Goes D) (plan : Plan) (old new : End D) (bytes : List ℕ) (from to : Seat D)
     → from ≡ record { session = old.session; debuggee = old.debuggee } → to ≡ record { session = new.session; debuggee = new.debuggee } → new.intake ≡ old.intake
+    → new.fault ≡ None → new.session.limits ≡ old.session.limits
     → Carries follows plan from to bytes
-    → ((made : Made) (h : List Entry) → CanMake plan made → Follows old.session h → Follows made.after (h ++ entries_of old.session.used made))
+    → ((made : Made) (h : List Entry) → CanMake plan made → IsWithin old.session → Follows old.session h → Follows made.after (h ++ entries_of old.session.used made))
+    → ((made : Made) → CanMake plan made → new.session ≡ made.after → IsWithin old.session → IsWithin made.after)
     → Step follows plan old new [] [] bytes
-stepped follows plan old new bytes from to a b i c go =
+stepped grow laws follows plan old new bytes from to a b i fault limits c go stay =
     let carried = rw (a, b) at c.carried in
     let session = rw b at c.by.session in
+    let can = can-make follows plan _ _ c.made carried in
     record {
       made = c.made;
       carried = carried;
@@ -45,45 +61,57 @@ stepped follows plan old new bytes from to a b i c go =
       goes_on =
           λ s h st.
           record {
-            received = rw (i, append-nil s) (received-more old.intake s h (entries_of old.session.used c.made) (ins_of-entries old.session.used c.made) st.received);
-            session = rw session (go c.made h (can-make follows plan _ _ c.made carried) st.session);
+            no_fault = fault;
+            received = rw (i, append-nil s) (received-more grow old.intake s h (entries_of old.session.used c.made) (laws.none_come old.session.used c.made) st.received);
+            session = rw session (go c.made h can st.within st.session);
+            within = rw session (stay c.made can session st.within);
+            bounds = bounds-stay old new (ap (λ (x : Intake). x.bounds) i) limits st.bounds;
           };
     }
 
-pub handled : {D : Type 0} (laws : EachStepGoesOn) (shown : D → Shown) (follows : Goes D) (old new : End D) (bytes : List ℕ) (from to : Seat D)
+pub handled : {D : Type 0} (grow : HistoriesGrow) (laws : EachStepGoesOn) (within : EachStepStaysWithin) (shown : D → Shown) (follows : Goes D) (old new : End D) (bytes : List ℕ) (from to : Seat D)
     → from ≡ record { session = old.session; debuggee = old.debuggee } → to ≡ record { session = new.session; debuggee = new.debuggee } → new.intake ≡ old.intake
-    → HasDistinctSeqs old.session.kept → HasTurned shown follows from to bytes → Handled shown follows old bytes new
-handled laws shown follows old new bytes from to a b i d t =
+    → new.fault ≡ None → new.session.limits ≡ old.session.limits
+    → HasTurned shown follows from to bytes → Handled shown follows old bytes new
+handled grow laws within shown follows old new bytes from to a b i fault limits t =
     let due = rw a at t.is in
     record {
       plan = t.plan;
       is = due;
       intake = i;
-      step = stepped follows t.plan old new bytes from to a b i t.carries (λ made h can f. laws.turn is_put_off (shown old.debuggee) old.session t.plan made h d due can f);
+      step = stepped grow laws follows t.plan old new bytes from to a b i fault limits t.carries
+          (λ made h can w f. laws.turn is_put_off (shown old.debuggee) old.session t.plan made h w.distinct due can f)
+          (λ made can is w. within.turn is_put_off (shown old.debuggee) old.session t.plan made w due can);
     }
 
-pub adapter-stays : (limits later : Settings) (i : Intake) (fault : _) → IsAdapter limits i fault → later ≡ limits → IsAdapter later i fault
-adapter-stays limits later i fault a e = record { bounds = rw e a.bounds; under_way = a.under_way }
-
 pub fresh-follows : HistoriesGrow → (limits : Settings) → Follows (fresh_session limits) []
-fresh-follows laws limits = record { kept = refl; answers = laws.answers_none Came; references = refl; used = refl; numbered = tt }
+fresh-follows laws limits = record { kept = refl; answers = laws.answers_none Came; accepted = laws.answers_none Went; references = refl; used = refl; numbered = tt }
 
-pub sees : {D : Type 0} (laws : EachStepGoesOn) (follows : Goes D) (old new : End D) (bytes : List ℕ) (from to : Seat D)
+pub fresh-within : (limits : Settings) → IsWithin (fresh_session limits)
+fresh-within limits = record { distinct = tt; kept = omega arith; used = omega arith; references = omega arith; numbers = omega arith; breakpoints = omega arith; ids = omega arith }
+
+pub sees : {D : Type 0} (grow : HistoriesGrow) (laws : EachStepGoesOn) (within : EachStepStaysWithin) (follows : Goes D) (old new : End D) (bytes : List ℕ) (from to : Seat D)
     → from ≡ record { session = old.session; debuggee = old.debuggee } → to ≡ record { session = new.session; debuggee = new.debuggee } → new.intake ≡ old.intake
+    → new.fault ≡ None → new.session.limits ≡ old.session.limits
     → Carries follows (polls from.session) from to bytes → new.session.used ≤ old.session.limits.seq → Saw follows old bytes new
-sees laws follows old new bytes from to a b i c w =
+sees grow laws within follows old new bytes from to a b i fault limits c w =
     record {
       intake = i;
-      step = stepped follows (polls old.session) old new bytes from to a b i (subst (λ (x : Seat _). Carries follows (polls x.session) from to bytes) a c) (λ made h can f. laws.poll old.session made h can f);
+      step = stepped grow laws follows (polls old.session) old new bytes from to a b i fault limits (subst (λ (x : Seat _). Carries follows (polls x.session) from to bytes) a c)
+          (λ made h can in_range f. laws.poll old.session made h can f)
+          (λ made can is in_range. within.poll old.session made in_range can (subst (λ (x : Session). x.used ≤ old.session.limits.seq) is w));
       within = w;
     }
 
 pub too_many : {D : Type 0} (follows : Goes D) (fault : AdapterFault) (old new : End D) (from to : Seat D)
     → from ≡ record { session = old.session; debuggee = old.debuggee } → to ≡ record { session = new.session; debuggee = new.debuggee }
-    → IsRefusedPoll follows fault (polls from.session) from to → PollRefused follows old fault new
-too_many follows SeqExhausted old new from to a b h =
+    → IsRefusedPoll follows fault (polls from.session) from to → fault ≡ SeqExhausted → PollRefused follows old fault new
+too_many follows SeqExhausted old new from to a b h is =
     let all : HasTooMany follows (polls old.session) from to = subst (λ (x : Seat _). HasTooMany follows (polls x.session) from to) a h in
     record { made = all.made; carried = rw (a, b) at all.carried; short = rw a at all.short }
-too_many follows OutOfMemory old new from to a b h = tt
-too_many follows _ old new from to a b h = h
-
+too_many follows OutOfMemory old new from to a b h is = absurd (cc)
+too_many follows (Frame f) old new from to a b h is = h
+too_many follows (Body cause offset) old new from to a b h is = h
+too_many follows (RepeatedSeq seq) old new from to a b h is = h
+too_many follows (Unmatched seq) old new from to a b h is = h
+too_many follows Ended old new from to a b h is = h

@@ -1,2 +1,10 @@
 pub mod Adapting
+pub mod Ending
+pub mod Outgoing
+pub mod Piecewise
+pub mod Polling
 pub mod Receiving
+pub mod Refusing
+pub mod Stepping
+pub mod Stopping
+pub mod Telling

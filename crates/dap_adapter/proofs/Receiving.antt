@@ -1,24 +1,31 @@
 -- An adapter stands for the bytes that come, from what the reader of frames says.
-use Rattle.std.proofs.Common.{◌≡◌, ℕ, List, [], ◌∷◌, ◌++◌, Ok, ap, ◌∙◌, take}
+use Rattle.std.proofs.Common.{◌≡◌, ℕ, List, [], ◌∷◌, ◌++◌, Option, Some, None, Ok, refl, ap, sym, ◌∙◌, take}
 use Rattle.std.proofs.lemmas.List.{append-nil}
 use Rattle.dap_frame.specs.Feeds.{Completes, Gathers}
 use Rattle.dap_frame.specs.Intake.{Intake, IsUnderWay, StandsFor as StandsForStream}
+use Rattle.dap_frame.specs.Settings.{bounds_of}
 use Rattle.dap_history.specs.History.{In, ins_of}
+use Rattle.dap_history.specs.HistoryLaws.{HistoriesGrow}
+use Rattle.dap_history.specs.Received.{AreRead}
 use Rattle.dap_message.specs.Meaning.{Msg}
 use Rattle.dap_message.specs.declared.message.Message.{Message}
-use Rattle.dap_tables.specs.Outstanding.{HasDistinctSeqs}
+use Rattle.dap_session.specs.Carried.{Goes}
 use Rattle.dap_session.specs.Laws.{CanMake, EachStepGoesOn}
-use Rattle.dap_session.specs.Plan.{Made, Plan, entries_of}
-use Rattle.dap_adapter.specs.End.{End}
-use Rattle.dap_adapter.specs.StandsFor.{GoesOn}
-use Rattle.dap_history.specs.Received.{AreRead}
+use Rattle.dap_session.specs.Plan.{Made, Plan, at_once, entries_of}
+use Rattle.dap_session.specs.Seat.{Seat}
 use Rattle.dap_session.specs.Taking.{takes}
-use Rattle.dap_session.proofs.Steps.{ins_of-append, ins_of-entries}
+use Rattle.dap_session.specs.Within.{EachStepStaysWithin}
+use Rattle.dap_adapter.specs.Calls.{Takes}
+use Rattle.dap_adapter.specs.End.{End}
+use Rattle.dap_adapter.specs.Receives.{HasReceived}
+use Rattle.dap_adapter.specs.StandsFor.{GoesOn}
+use Rattle.dap_adapter.specs.declared.taken.Taken.{Taken}
 
 -- the frame is still under way
-pub waits-goes_on : {D : Type 0} (old new : End D) (piece : List ℕ) (n : ℕ) → Gathers old.intake new.intake piece n → new.session ≡ old.session → GoesOn old new piece []
-waits-goes_on old new piece n g same s h st =
+waits-goes_on : {D : Type 0} (old new : End D) (piece : List ℕ) (n : ℕ) → Gathers old.intake new.intake piece n → new.session ≡ old.session → new.fault ≡ None → GoesOn old new piece []
+waits-goes_on old new piece n g same fault s h st =
     record {
+      no_fault = fault;
       received =
           record {
             under_way = g.under_way;
@@ -28,6 +35,8 @@ waits-goes_on old new piece n g same s h st =
             read = rw (append-nil h) st.received.read;
           };
       session = rw (append-nil h, same) st.session;
+      within = rw same st.within;
+      bounds = rw same (g.bounds ∙ st.bounds);
     }
 
 read-more : (xs : List (List ℕ)) (ms : List Message) (x : List ℕ) (m : Message) → AreRead xs ms → Msg x m → AreRead (xs ++ x ∷ []) (ms ++ m ∷ [])
@@ -37,17 +46,19 @@ read-more (y ∷ xs) [] x m r e = absurd r
 read-more (y ∷ xs) (z ∷ ms) x m r e = (r.0, read-more xs ms x m r.1 e)
 
 -- a body came whole, was read, given up, and something was made of it
-pub delivers-goes_on : {D : Type 0} (laws : EachStepGoesOn) (old new : End D) (ready : Intake) (piece : List ℕ) (n : ℕ) (m : Message) (plan : Plan) (made : Made)
+delivers-goes_on : {D : Type 0} (grow : HistoriesGrow) (laws : EachStepGoesOn) (within : EachStepStaysWithin) (old new : End D) (ready : Intake) (piece : List ℕ) (n : ℕ) (m : Message) (plan : Plan) (made : Made)
     → Completes old.intake ready piece n → Msg ready.held m
-    → IsUnderWay new.intake → ((s : List ℕ) (xs : List (List ℕ)) (rest : List ℕ) → StandsForStream ready s xs rest → StandsForStream new.intake s xs rest)
-    → HasDistinctSeqs old.session.kept → takes m old.session ≡ Ok plan → CanMake plan made → new.session ≡ made.after
+    → IsUnderWay new.intake → new.intake.bounds ≡ old.intake.bounds
+    → ((s : List ℕ) (xs : List (List ℕ)) (rest : List ℕ) → StandsForStream ready s xs rest → StandsForStream new.intake s xs rest)
+    → takes m old.session ≡ Ok plan → CanMake plan made → new.session ≡ made.after → new.session.limits ≡ old.session.limits → new.fault ≡ None
     → GoesOn old new (take n piece) (In m ∷ entries_of old.session.used made)
-delivers-goes_on laws old new ready piece n m plan made c read gathering released d is can same s h st =
+delivers-goes_on grow laws within old new ready piece n m plan made c read gathering bounds released is can same limits fault s h st =
     let r = st.received in
-    let none = ins_of-entries old.session.used made in
+    let none = laws.none_come old.session.used made in
     let ins : ins_of (h ++ In m ∷ entries_of old.session.used made) ≡ ins_of h ++ m ∷ [] =
-    ins_of-append h (In m ∷ entries_of old.session.used made) ∙ ap (λ (ms : List Message). ins_of h ++ m ∷ ms) none in
+    grow.ins_append h (In m ∷ entries_of old.session.used made) ∙ ap (λ (ms : List Message). ins_of h ++ m ∷ ms) none in
     record {
+      no_fault = fault;
       received =
           record {
             under_way = gathering;
@@ -56,5 +67,39 @@ delivers-goes_on laws old new ready piece n m plan made c read gathering release
             stream = released (s ++ take n piece) (r.bodies ++ ready.held ∷ []) [] (c.stands s r.bodies r.rest r.stream);
             read = rw ins (read-more r.bodies (ins_of h) ready.held m r.read read);
           };
-      session = rw same (laws.take old.session m plan made h d is can st.session);
+      session = rw same (laws.take old.session m plan made h st.within.distinct is can st.session);
+      within = rw same (within.take old.session m plan made st.within is can);
+      bounds = bounds ∙ (st.bounds ∙ ap bounds_of (sym limits));
+    }
+
+-- what became of the reader and of the session, said of the adapter
+pub received : {D : Type 0} (grow : HistoriesGrow) (laws : EachStepGoesOn) (within : EachStepStaysWithin) (follows : Goes D) (old new : End D) (from to : Seat D) (piece : List ℕ) (taken : Taken) (delivered : Option Message)
+    → from ≡ record { session = old.session; debuggee = old.debuggee } → to ≡ record { session = new.session; debuggee = new.debuggee }
+    → new.intake.bounds ≡ old.intake.bounds → new.session.limits ≡ old.session.limits → new.fault ≡ None
+    → HasReceived old.intake new.intake from to piece taken delivered → Takes follows old piece taken delivered new
+received grow laws within follows old new from to piece taken None a b bounds limits fault w =
+    let same = sym b ∙ (w.same ∙ a) in
+    let session = ap (λ (x : Seat _). x.session) same in
+    record {
+      gathers = w.gathers;
+      none_written = w.none_written;
+      session = session;
+      debuggee = ap (λ (x : Seat _). x.debuggee) same;
+      goes_on = waits-goes_on old new piece taken.used w.gathers session fault;
+    }
+received grow laws within follows old new from to piece taken (Some m) a b bounds limits fault d =
+    let has = rw (a, b) at d.has_taken in
+    let same = rw (a, b) at d.debuggee in
+    record {
+      whole = d.whole;
+      read = d.read;
+      plan = at_once has.made;
+      is = has.is;
+      step = record {
+        made = has.made;
+        carried = (refl, same);
+        session = has.by.session;
+        bytes_are = has.by.bytes_are;
+        goes_on = delivers-goes_on grow laws within old new d.whole.ready piece taken.used m (at_once has.made) has.made d.whole.completes d.read d.under_way bounds d.released has.is refl has.by.session limits fault;
+      };
     }

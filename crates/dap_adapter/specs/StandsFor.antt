@@ -11,7 +11,7 @@ use Rattle.dap_adapter.specs.End.{End}
 -- An open adapter that used the bytes s, and whose calls took and handed out what h lists.
 pub record StandsFor {D : Type 0} (e : End D) (s : List ℕ) (h : List Entry) : Type 0 where
   -- no fault was met
-  pub open : e.fault ≡ None
+  pub no_fault : e.fault ≡ None
   pub received : Received e.intake s h
   pub session : Follows e.session h
   -- nothing is past its limit

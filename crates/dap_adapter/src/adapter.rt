@@ -1,11 +1,10 @@
 //! An adapter, call by call.
-ghost use Rattle.std.specs.Prelude.{◌≡◌, ◌≢◌, ℕ, List, ◌≤◌, [], length, max, IfOk, IfErr, OnOk, OnErr, IfSome, Some, None, Ok, Err, IsOk, false};
+ghost use Rattle.std.specs.Prelude.{◌≡◌, ◌≢◌, ℕ, List, ◌<◌, ◌≤◌, [], length, max, IfOk, IfErr, OnOk, OnErr, IfSome, Some, None, Ok, Err, IsOk, false};
 ghost use Rattle.dap_debuggee.specs.declared.answers.State.{State};
 ghost use Rattle.dap_frame.specs.Ends.{EndsWith};
 ghost use Rattle.dap_frame.specs.Intake.{IsReady, IsUnderWay, StandsFor as StandsForStream};
 ghost use Rattle.dap_frame.specs.declared.frames.End.{End};
 ghost use Rattle.dap_message.specs.Meaning.{Msg};
-ghost use Rattle.dap_tables.specs.Outstanding.{HasDistinctSeqs};
 ghost use Rattle.dap_adapter.specs.Calls.{TakeRefused};
 ghost use Rattle.dap_adapter.specs.Receives.{HasReceived, IsUnread, fault_of_frame};
 ghost use Rattle.dap_session.specs.Breakpoints.{count};
@@ -15,6 +14,7 @@ use crate::taken::{Taken, Turned};
 use dap_debuggee::Debuggee;
 use dap_frame::{Cause, End, FrameFault, Frames, Limits};
 use dap_history::laws::histories_grow;
+use dap_message::laws::read_is_in_range;
 use dap_message::{BodyFault, Message, read_message};
 use dap_session::laws::{each_step_goes_on, each_step_stays_within};
 use dap_session::{AdapterFault, Phase, Session};
@@ -121,6 +121,8 @@ impl<D: Debuggee + Drop> Adapter<D> {
     /// refused for the bytes of a frame, or once a body is whole.
     pub fn take(&mut self, alloc: Global, piece: &[u8]) -> Result<Taken, AdapterFault>
         ensures takes { IfOk result (λ taken. Takes D.follows self.old piece.now taken taken.delivered self.new) }
+        ensures progress { IfOk result (λ taken. 0 < length piece.now → 0 < taken.used) }
+        ensures within { IfOk result (λ taken. taken.used ≤ length piece.now) }
         ensures open { OnOk result (self.new.fault ≡ None) }
         ensures limits { self.new.session.limits ≡ self.old.session.limits }
 
@@ -135,12 +137,14 @@ impl<D: Debuggee + Drop> Adapter<D> {
         if let Some(fault) = self.fault {
             return Err(fault);
         }
+        histories_grow();
         each_step_goes_on();
         each_step_stays_within();
         match receive(alloc, &mut self.frames, &mut self.session, piece) {
             Ok(taken) => Ok(taken),
             Err(fault) => {
-                self.close(fault);
+                self.frames.close();
+                self.fault = Some(fault);
                 Err(fault)
             }
         }
@@ -170,6 +174,7 @@ impl<D: Debuggee + Drop> Adapter<D> {
         if let Some(fault) = self.fault {
             return Err(fault);
         }
+        histories_grow();
         each_step_goes_on();
         each_step_stays_within();
         match self.session.turn(alloc) {
@@ -206,6 +211,7 @@ impl<D: Debuggee + Drop> Adapter<D> {
         if let Some(fault) = self.fault {
             return Err(fault);
         }
+        histories_grow();
         each_step_goes_on();
         each_step_stays_within();
         match self.session.poll(alloc) {
@@ -277,9 +283,10 @@ fn receive<D: Debuggee + Drop>(
     ensures bounds { frames.new.bounds ≡ frames.old.bounds }
     ensures under_way { OnOk result (IsUnderWay frames.new) }
     ensures received { IfOk result (λ taken. HasReceived frames.old frames.new session.old session.new piece.now taken taken.delivered) }
+    ensures progress { IfOk result (λ taken. 0 < length piece.now → 0 < taken.used) }
+    ensures within { IfOk result (λ taken. taken.used ≤ length piece.now) }
     ensures refused { IfErr result (λ fault. TakeRefused frames.old session.old.session piece.now fault) }
     ensures err { OnErr result (session.new ≡ session.old) }
-    ensures distinct { HasDistinctSeqs session.old.session.kept }
     ensures limits { session.new.session.limits ≡ session.old.session.limits }
 {
     let fed = match frames.feed(piece) {
@@ -293,6 +300,7 @@ fn receive<D: Debuggee + Drop>(
             bytes: Vec::new(alloc),
         });
     }
+    read_is_in_range();
     let message = read_body(alloc, frames)?;
     frames.release();
     let bytes = session.take(alloc, &message)?;

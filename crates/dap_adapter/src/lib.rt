@@ -6,8 +6,13 @@
 #![tactic(auto)]
 
 mod adapter;
+mod outlet;
+mod served;
+mod serving;
 mod taken;
 
 pub use adapter::Adapter;
 pub use dap_session::{AdapterFault, Options, Phase};
+pub use served::{ServeFault, Served};
+pub use serving::{serve, serve_channel};
 pub use taken::{Taken, Turned};

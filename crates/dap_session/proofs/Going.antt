@@ -5,7 +5,7 @@ use Rattle.std.proofs.lemmas.List.{append-nil}
 use Rattle.serde_json.specs.Data.{Data}
 use Rattle.dap_message.specs.Argument.{Read}
 use Rattle.dap_message.specs.Call.{call_of}
-use Rattle.dap_history.specs.History.{Asked, request_as}
+use Rattle.dap_history.specs.History.{Asked, request_as, response_as}
 use Rattle.dap_history.specs.HistoryLaws.{HistoriesGrow}
 use Rattle.dap_message.specs.Types.Call.{Call}
 use Rattle.dap_message.specs.Types.Call.TheVariants as call
@@ -228,12 +228,19 @@ message-well seq (Response request_seq ok command message body) s plan d e = cc
 message-well seq (Event event body) s plan d e = let same : plan ≡ at_once (nothing s) = cc in subst (λ (p : Plan). PlanWell s [] p) (sym same) (once-well s [] _ (nothing-well s))
 message-well seq (Other tag) s plan d e = let same : plan ≡ at_once (nothing s) = cc in subst (λ (p : Plan). PlanWell s [] p) (sym same) (once-well s [] _ (nothing-well s))
 
+-- a response closes the end
+no-response : (seq : ℕ) (kind : Kind) (s : Session) (plan : Plan) → takes_as seq kind s ≡ Ok plan → response_as kind ≡ None
+no-response seq (RequestKind command arguments) s plan e = refl
+no-response seq (Response request_seq ok command message body) s plan e = cc
+no-response seq (Event event body) s plan e = refl
+no-response seq (Other tag) s plan e = refl
+
 -- ---- the law
 
 pub each_step_goes_on : HistoriesGrow → EachStepGoesOn
 each_step_goes_on laws = record {
   none_come = ins_of-entries laws;
-  take = λ s m plan made h d e is f. goes_on-delivered laws s m made h (message-well m.seq m.kind s plan d e made is) f;
+  take = λ s m plan made h d e is f. goes_on-delivered laws s m made h (message-well m.seq m.kind s plan d e made is) (no-response m.seq m.kind s plan e) f;
   turn = λ put_off view s plan made h d e is f. goes_on-alone laws s made h (turn-well put_off view s (oldest s.kept) plan refl d e made is) f;
   poll = λ s made h is f. goes_on-alone laws s made h (polls-if (is_phase Running s.phase || is_phase Stopped s.phase) s made is) f;
 }

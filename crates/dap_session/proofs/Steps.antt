@@ -3,7 +3,7 @@ use Rattle.std.proofs.Common.{◌≡◌, ℕ, ◌+◌, List, [], ◌∷◌, ◌+
 use Rattle.std.specs.Prelude.{option_to_list}
 use Rattle.std.proofs.lemmas.List.{append-nil}
 use Rattle.dap_history.specs.Answers.{Answers, AnswersOne}
-use Rattle.dap_history.specs.History.{Entry, In, Out, Drop, Came, Asked, Answered, waiting, left_open, ins_of, outs_of, AreNumberedAfter, response_at, response_as, request_as}
+use Rattle.dap_history.specs.History.{Entry, In, Out, Drop, Came, Asked, Answered, waiting, left_open, ins_of, outs_of, AreNumberedAfter, response_at, response_as, request_as, Went}
 use Rattle.dap_history.specs.HistoryLaws.{HistoriesGrow}
 use Rattle.dap_message.specs.declared.message.Message.{Message}
 use Rattle.dap_session.specs.Answering.{answered_by, AnswersEach, open_after, GoesWell}
@@ -105,6 +105,27 @@ pub ins_of-entries : (laws : HistoriesGrow) (used : ℕ) (m : Made) → ins_of (
 ins_of-entries laws used m =
     laws.ins_append (dropping m.drops) (outs used m.drafts) ∙ (ap (λ (ms : List Message). ms ++ ins_of (outs used m.drafts)) (ins_of-dropping m.drops) ∙ ins_of-outs used m.drafts)
 
+-- ---- responses that came: what is made is none
+
+went-outs : (laws : HistoriesGrow) (used : ℕ) (ds : List Draft) (h : List Entry) → Answers Went h → Answers Went (h ++ outs used ds)
+went-outs laws used [] h all = rw (append-nil h) all
+went-outs laws used (d ∷ ds) h all =
+    let e : Entry = Out (message_of (used + 1) d) (names_of d) in
+    let rest = went-outs laws (used + 1) ds (h ++ e ∷ []) (laws.answers_then Went h e all tt) in
+    subst (λ (k : List Entry). Answers Went k) (append_assoc h (e ∷ []) (outs (used + 1) ds)) rest
+
+went-drop : (laws : HistoriesGrow) (drops : Bool) (h : List Entry) → Answers Went h → Answers Went (h ++ dropping drops)
+went-drop laws true h all = laws.answers_then Went h Drop all tt
+went-drop laws false h all = rw (append-nil h) all
+
+went-entries : (laws : HistoriesGrow) (used : ℕ) (m : Made) (h : List Entry) → Answers Went h → Answers Went (h ++ entries_of used m)
+went-entries laws used m h all =
+    subst (λ (k : List Entry). Answers Went k) (append_assoc h (dropping m.drops) (outs used m.drafts)) (went-outs laws used m.drafts (h ++ dropping m.drops) (went-drop laws m.drops h all))
+
+-- a message that is no response
+went-in : (laws : HistoriesGrow) (h : List Entry) (x : Message) → response_as x.kind ≡ None → Answers Went h → Answers Went (h ++ In x ∷ [])
+went-in laws h x e all = laws.answers_then Went h (In x) all (rw e tt)
+
 -- ---- the step
 
 -- what stands of a history without the requests that wait
@@ -130,8 +151,8 @@ counted-then laws s came m h well c =
     }
 
 -- a step over a history h that the requests `came` have just joined
-pub goes_on : (laws : HistoriesGrow) (s : Session) (came : List Asked) (m : Made) (h : List Entry) → GoesWell s came m → waiting Came h ≡ asks s.kept ++ came → Answers Came h → Counted s h → Follows m.after (h ++ entries_of s.used m)
-goes_on laws s came m h well w all c =
+pub goes_on : (laws : HistoriesGrow) (s : Session) (came : List Asked) (m : Made) (h : List Entry) → GoesWell s came m → waiting Came h ≡ asks s.kept ++ came → Answers Came h → Answers Went h → Counted s h → Follows m.after (h ++ entries_of s.used m)
+goes_on laws s came m h well w all went c =
     let dropped = after-drop laws m.drops h (asks s.kept ++ came) w all in
     let done = after-outs laws s.used m.drafts (h ++ dropping m.drops) (asks s.kept ++ came) dropped.waits dropped.answers well.each in
     let whole : (h ++ dropping m.drops) ++ outs s.used m.drafts ≡ h ++ entries_of s.used m = append_assoc h (dropping m.drops) (outs s.used m.drafts) in
@@ -140,6 +161,7 @@ goes_on laws s came m h well w all c =
     record {
       kept = well.kept ∙ sym moved.waits;
       answers = moved.answers;
+      accepted = went-entries laws s.used m h went;
       references = count.references;
       used = count.used;
       numbered = count.numbered_so;
@@ -148,15 +170,15 @@ goes_on laws s came m h well w all c =
 -- without a request that came
 pub goes_on-alone : (laws : HistoriesGrow) (s : Session) (m : Made) (h : List Entry) → GoesWell s [] m → Follows s h → Follows m.after (h ++ entries_of s.used m)
 goes_on-alone laws s m h well f =
-    goes_on laws s [] m h well (sym f.kept ∙ sym (append-nil (asks s.kept))) f.answers (record { references = f.references; used = f.used; numbered_so = f.numbered })
+    goes_on laws s [] m h well (sym f.kept ∙ sym (append-nil (asks s.kept))) f.answers f.accepted (record { references = f.references; used = f.used; numbered_so = f.numbered })
 
 -- with a message that came
-pub goes_on-delivered : (laws : HistoriesGrow) (s : Session) (x : Message) (m : Made) (h : List Entry) → GoesWell s (option_to_list (request_as x.seq x.kind)) m → Follows s h → Follows m.after (h ++ In x ∷ entries_of s.used m)
-goes_on-delivered laws s x m h well f =
+pub goes_on-delivered : (laws : HistoriesGrow) (s : Session) (x : Message) (m : Made) (h : List Entry) → GoesWell s (option_to_list (request_as x.seq x.kind)) m → response_as x.kind ≡ None → Follows s h → Follows m.after (h ++ In x ∷ entries_of s.used m)
+goes_on-delivered laws s x m h well e f =
     let w : waiting Came (h ++ In x ∷ []) ≡ asks s.kept ++ option_to_list (request_as x.seq x.kind) =
     laws.waiting_then Came h (In x) ∙ ap (λ (qs : List Asked). qs ++ option_to_list (request_as x.seq x.kind)) (all_left (waiting Came h) ∙ sym f.kept) in
     let all : Answers Came (h ++ In x ∷ []) = laws.answers_then Came h (In x) f.answers tt in
     let same : outs_of (h ++ In x ∷ []) ≡ outs_of h = laws.outs_append h (In x ∷ []) ∙ append-nil (outs_of h) in
     let refs : references_of (h ++ In x ∷ []) ≡ references_of h = references_after-append no_references h (In x ∷ []) in
-    let told = goes_on laws s (option_to_list (request_as x.seq x.kind)) m (h ++ In x ∷ []) well w all (record { references = f.references ∙ sym refs; used = f.used ∙ ap length (sym same); numbered_so = rw same f.numbered }) in
+    let told = goes_on laws s (option_to_list (request_as x.seq x.kind)) m (h ++ In x ∷ []) well w all (went-in laws h x e f.accepted) (record { references = f.references ∙ sym refs; used = f.used ∙ ap length (sym same); numbered_so = rw same f.numbered }) in
     subst (λ (k : List Entry). Follows m.after k) (append_assoc h (In x ∷ []) (entries_of s.used m)) told

@@ -1,7 +1,7 @@
 -- Which history a session follows.
 use Rattle.std.specs.Prelude.{◌≡◌, List, length}
 use Rattle.dap_history.specs.Answers.{Answers}
-use Rattle.dap_history.specs.History.{Entry, Came, waiting, outs_of, AreNumberedAfter}
+use Rattle.dap_history.specs.History.{Entry, Came, Went, waiting, outs_of, AreNumberedAfter}
 use Rattle.dap_history.specs.Requests.{asks}
 use Rattle.dap_session.specs.References.{references_of}
 use Rattle.dap_session.specs.Session.{Session}
@@ -10,8 +10,9 @@ use Rattle.dap_session.specs.Session.{Session}
 pub record Follows (s : Session) (h : List Entry) : Type 0 where
   -- a request is kept exactly while it is unanswered
   pub kept : asks s.kept ≡ waiting Came h
-  -- each response answers exactly one request that was unanswered
+  -- each response that went answers exactly one request that was unanswered, and so does each that came
   pub answers : Answers Came h
+  pub accepted : Answers Went h
   pub references : s.references ≡ references_of h
   pub used : s.used ≡ length (outs_of h)
   -- the k-th message that went has the number k

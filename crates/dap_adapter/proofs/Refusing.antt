@@ -1,0 +1,81 @@
+-- Why a call on a piece is refused, from what the reader of frames, the reader of messages and the session say.
+use Rattle.std.proofs.Common.{◌≡◌, ℕ, ◌+◌, List, Bool, true, false, not, IsTrue, nat_le, Ok, Err, refl, sym, subst, if◌then◌else◌}
+use Rattle.dap_frame.specs.declared.Cause.{Cause}
+use Rattle.dap_frame.specs.declared.Cause.TheVariants.{Refused, OutOfMemory as NoMemory}
+use Rattle.dap_frame.specs.declared.frames.FrameFault.{FrameFault}
+use Rattle.dap_frame.specs.Feeds.{Completes, Closes}
+use Rattle.dap_frame.specs.Intake.{Intake}
+use Rattle.dap_message.specs.Meaning.{Msg}
+use Rattle.dap_message.specs.declared.message.Message.{Message}
+use Rattle.dap_message.specs.declared.message.Kind.{Kind}
+use Rattle.dap_message.specs.declared.message.Kind.TheVariants.{Request, Response, Event, Other}
+use Rattle.dap_tables.specs.declared.entry.Entry.{Entry}
+use Rattle.dap_tables.specs.Outstanding.{contains_seq}
+use Rattle.dap_session.specs.declared.fault.AdapterFault.{AdapterFault}
+use Rattle.dap_session.specs.declared.fault.AdapterFault.TheVariants.{SeqExhausted, OutOfMemory, Frame, Body, RepeatedSeq, Unmatched, Ended}
+use Rattle.dap_session.specs.declared.phase.Phase.TheVariants as phase
+use Rattle.dap_session.specs.Plan.{Plan, at_once, due}
+use Rattle.dap_session.specs.Seat.{NotTaken}
+use Rattle.dap_session.specs.Session.{Session}
+use Rattle.dap_session.specs.Table.{is_phase}
+use Rattle.dap_session.specs.Taking.{takes_as, taken_in}
+use Rattle.dap_adapter.specs.Calls.{TakeRefused, IsRefusal, FrameClosed, to_hold, to_read}
+use Rattle.dap_adapter.specs.Receives.{IsUnread, fault_of_cause, fault_of_frame}
+
+by_cause : (old new : Intake) (s : Session) (piece : List ℕ) (cause : Cause) (fault : FrameFault) → fault.cause ≡ cause → Closes old new piece fault → TakeRefused old s piece (fault_of_cause cause fault)
+by_cause old new s piece (Refused refusal) fault is c = (subst IsRefusal (sym is) tt, record { closed = new; closes = c })
+by_cause old new s piece NoMemory fault is c =
+    let closed : FrameClosed old piece (record { cause = fault.cause; offset = fault.offset }) = record { closed = new; closes = c } in
+    to_hold fault.offset (subst (λ (x : Cause). FrameClosed old piece (record { cause = x; offset = fault.offset })) is closed)
+
+pub closed_refused : (old new : Intake) (s : Session) (piece : List ℕ) (fault : FrameFault) → Closes old new piece fault → TakeRefused old s piece (fault_of_frame fault)
+closed_refused old new s piece fault c = by_cause old new s piece fault.cause fault refl c
+
+pub unread_refused : (old ready : Intake) (s : Session) (piece : List ℕ) (n : ℕ) (fault : AdapterFault) → Completes old ready piece n → IsUnread ready fault → TakeRefused old s piece fault
+unread_refused old ready s piece n (Body cause offset) c u = record { n = n; whole = record { ready = ready; completes = c }; bad = u.0; starts = u.1 }
+unread_refused old ready s piece n OutOfMemory c u = to_read n (record { ready = ready; completes = c })
+unread_refused old ready s piece n (Frame f) c u = absurd u
+unread_refused old ready s piece n (RepeatedSeq seq) c u = absurd u
+unread_refused old ready s piece n (Unmatched seq) c u = absurd u
+unread_refused old ready s piece n Ended c u = absurd u
+unread_refused old ready s piece n SeqExhausted c u = absurd u
+
+-- the faults that a session has by a message
+abbrev IsOfSession : AdapterFault → Type 0
+IsOfSession (Frame f) = ⊥
+IsOfSession (Body cause offset) = ⊥
+IsOfSession (RepeatedSeq seq) = Unit {0}
+IsOfSession (Unmatched seq) = Unit {0}
+IsOfSession Ended = Unit {0}
+IsOfSession SeqExhausted = Unit {0}
+IsOfSession OutOfMemory = ⊥
+
+of_affordable : (b : Bool) (plan : Plan) (fault : AdapterFault) → (if b then Ok plan else Err SeqExhausted) ≡ Err fault → IsOfSession fault
+of_affordable true plan fault e = cc
+of_affordable false plan fault e = let is : SeqExhausted ≡ fault = cc in subst IsOfSession is tt
+
+of_request : (a b c : Bool) (seq : ℕ) (plan : Plan) (fault : AdapterFault) → (if a then Err Ended else (if b then Err (RepeatedSeq seq) else (if c then Ok plan else Err SeqExhausted))) ≡ Err fault → IsOfSession fault
+of_request true b c seq plan fault e = let is : Ended ≡ fault = cc in subst IsOfSession is tt
+of_request false true c seq plan fault e = let is : RepeatedSeq seq ≡ fault = cc in subst IsOfSession is tt
+of_request false false c seq plan fault e = of_affordable c plan fault e
+
+of_kind : (seq : ℕ) (kind : Kind) (s : Session) (fault : AdapterFault) → takes_as seq kind s ≡ Err fault → IsOfSession fault
+of_kind seq (Request command arguments) s fault e =
+    let r : Entry = record { seq = seq; command = command; arguments = arguments } in
+    of_request (is_phase phase.Ended s.phase) (contains_seq seq s.kept) (nat_le (s.used + due (at_once (taken_in r s))) s.limits.seq) seq (at_once (taken_in r s)) fault e
+of_kind seq (Response request_seq success command message body) s fault e = let is : Unmatched request_seq ≡ fault = cc in subst IsOfSession is tt
+of_kind seq (Event event body) s fault e = cc
+of_kind seq (Other tag) s fault e = cc
+
+pub untaken_refused : (old ready : Intake) (s : Session) (piece : List ℕ) (n : ℕ) (m : Message) (fault : AdapterFault) → Completes old ready piece n → Msg ready.held m → NotTaken fault m s → TakeRefused old s piece fault
+untaken_refused old ready s piece n m OutOfMemory c read t = to_read n (record { ready = ready; completes = c })
+untaken_refused old ready s piece n m (Frame f) c read t = absurd (of_kind m.seq m.kind s (Frame f) t)
+untaken_refused old ready s piece n m (Body cause offset) c read t = absurd (of_kind m.seq m.kind s (Body cause offset) t)
+untaken_refused old ready s piece n m (RepeatedSeq seq) c read t = record { n = n; whole = record { ready = ready; completes = c }; message = m; read = read; closes = t }
+untaken_refused old ready s piece n m (Unmatched seq) c read t = record { n = n; whole = record { ready = ready; completes = c }; message = m; read = read; closes = t }
+untaken_refused old ready s piece n m Ended c read t = record { n = n; whole = record { ready = ready; completes = c }; message = m; read = read; closes = t }
+untaken_refused old ready s piece n m SeqExhausted c read t = record { n = n; whole = record { ready = ready; completes = c }; message = m; read = read; closes = t }
+
+pub not_untrue : (b : Bool) → not b ≡ false → IsTrue b
+not_untrue true e = refl
+not_untrue false e = cc

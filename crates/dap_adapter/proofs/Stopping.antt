@@ -1,0 +1,180 @@
+-- A fault of the adapter stops the run where it stands.
+use Rattle.std.proofs.Common.{◌≡◌, ℕ, ◌+◌, ◌≤◌, List, [], ◌∷◌, ◌++◌, length, take, drop, Bool, true, false, Option, Some, None, Ok, Err, refl, sym, ap, ◌∙◌, subst, arith}
+use Rattle.std.specs.Prelude.{if◌then◌else◌, nat_le}
+use Rattle.dap_channel.specs.Channel.{IoEvent}
+use Rattle.dap_frame.specs.Intake.{Intake, IsVerdict, StartsAt, LastStartsAt, StandsFor as StandsForStream}
+use Rattle.dap_frame.specs.Settings.{Settings, bounds_of}
+use Rattle.dap_frame.specs.Stream.{Split}
+use Rattle.dap_frame.specs.declared.Cause.{Cause}
+use Rattle.dap_frame.specs.declared.Cause.TheVariants.{Refused, OutOfMemory as NoMemory}
+use Rattle.dap_frame.specs.declared.frames.FrameFault.{FrameFault}
+use Rattle.dap_frame.specs.declared.limits.Bounds.{Bounds}
+use Rattle.dap_message.specs.declared.message.Message.{Message}
+use Rattle.dap_message.specs.Types.Command.{Command}
+use Rattle.dap_tables.specs.Outstanding.{Kept}
+use Rattle.dap_debuggee.specs.Shown.{Shown}
+use Rattle.dap_session.specs.declared.fault.AdapterFault.{AdapterFault}
+use Rattle.dap_session.specs.declared.fault.AdapterFault.TheVariants.{SeqExhausted, OutOfMemory, Frame, Body, RepeatedSeq, Unmatched, Ended}
+use Rattle.dap_session.specs.Carried.{Goes}
+use Rattle.dap_session.specs.Handling.{turns, turn_of, some_plan, plan_but}
+use Rattle.dap_session.specs.Plan.{Plan, due}
+use Rattle.dap_session.specs.Session.{Session, oldest}
+use Rattle.dap_session.specs.Seat.{Seat}
+use Rattle.dap_session.specs.Table.{is_put_off}
+use Rattle.dap_adapter.specs.Calls.{TakeRefused, TurnRefused, PollRefused, FrameClosed, BodyRefused, ClosedBy, IsRefusal}
+use Rattle.dap_adapter.specs.End.{End}
+use Rattle.dap_adapter.specs.Run.{Next, to_take, to_turn, to_poll, has_ended}
+use Rattle.dap_adapter.specs.Served.{Start, FrameRefused, BodyRefused as RunBodyRefused, IsRefused, in_take, in_turn, in_poll}
+use Rattle.dap_adapter.specs.Serving.{Logged, Handles, Reaches, Pends, PendsBy, Halts, serve_fault_of}
+use Rattle.dap_adapter.proofs.Outgoing.{makes_of, bounds_are, split_of}
+use Rattle.dap_adapter.proofs.Stepping.{halves}
+
+some_refused : (b : Bool) (p : Plan) (fault : AdapterFault) → some_plan (if b then Ok p else Err SeqExhausted) ≡ Err fault → SeqExhausted ≡ fault
+some_refused true p fault e = cc
+some_refused false p fault e = cc
+
+turn_refused : (put_off : Command → Bool) (view : Shown) (s : Session) (o : Option Kept) (fault : AdapterFault) → turn_of put_off view s o ≡ Err fault → SeqExhausted ≡ fault
+turn_refused put_off view s None fault e = cc
+turn_refused put_off view s (Some k) fault e = let p = plan_but put_off view s k.entry in some_refused (nat_le (s.used + due p) s.limits.seq) p fault e
+
+not_frame : (f : FrameFault) → SeqExhausted ≡ Frame f → ⊥
+not_frame f e = cc
+
+not_body : (cause : _) (offset : ℕ) → SeqExhausted ≡ Body cause offset → ⊥
+not_body cause offset e = cc
+
+module _ {C D : Type 0} (goes : C → IoEvent → C → Type 0) (shown : D → Shown) (follows : Goes D) (b : Start C D) (c : C) (e : End D) (g : List ℕ) (w n : ℕ) where
+
+  abbrev pub pends_of : (used later rest : List ℕ) (next : Next) → Reaches goes shown follows b c e g w n used later rest next → Pends goes shown follows b c g w n (used ++ later)
+  pends_of used later rest next r = record { outs = r.outs; logged = r.logged; makes = makes_of shown follows b.limits b.debuggee e used later rest r.outs next r.handles }
+
+  turn_is_in : (used later : List ℕ) (fault : AdapterFault) (r : Reaches goes shown follows b c e g w n used later [] to_turn) → turns (shown e.debuggee) e.session ≡ Err fault → IsRefused shown follows b.limits b.debuggee used r.outs fault
+  turn_is_in used later fault r t =
+      in_turn (record {
+        bodies = r.handles.bodies;
+        seat = record { session = e.session; debuggee = e.debuggee };
+        there = record { split = split_of shown follows b.limits b.debuggee e used [] r.outs to_turn r.handles; run = r.handles.run };
+        refused = t;
+      })
+
+  pub turn_stops : (f : End D) (used later : List ℕ) (fault : AdapterFault) → Reaches goes shown follows b c e g w n used later [] to_turn → TurnRefused shown e fault f → Halts goes shown follows b c g w n (used ++ later) (serve_fault_of fault)
+  turn_stops f used later (Frame x) r t = absurd (not_frame x (turn_refused is_put_off (shown e.debuggee) e.session (oldest e.session.kept) (Frame x) t.0))
+  turn_stops f used later (Body cause offset) r t = absurd (not_body cause offset (turn_refused is_put_off (shown e.debuggee) e.session (oldest e.session.kept) (Body cause offset) t.0))
+  turn_stops f used later (RepeatedSeq seq) r t = record { pends = pends_of used later [] to_turn r; used = used; later = later; read_are = refl; stops = turn_is_in used later (RepeatedSeq seq) r t.0 }
+  turn_stops f used later (Unmatched seq) r t = record { pends = pends_of used later [] to_turn r; used = used; later = later; read_are = refl; stops = turn_is_in used later (Unmatched seq) r t.0 }
+  turn_stops f used later Ended r t = record { pends = pends_of used later [] to_turn r; used = used; later = later; read_are = refl; stops = turn_is_in used later Ended r t.0 }
+  turn_stops f used later SeqExhausted r t = record { pends = pends_of used later [] to_turn r; used = used; later = later; read_are = refl; stops = turn_is_in used later SeqExhausted r t.0 }
+  turn_stops f used later OutOfMemory r t = pends_of used later [] to_turn r
+
+  pub poll_stops : (f : End D) (made : ℕ) (used later : List ℕ) (fault : AdapterFault) → Reaches goes shown follows b c e g w n used later [] (to_poll made) → PollRefused follows e fault f → Halts goes shown follows b c g w n (used ++ later) (serve_fault_of fault)
+  poll_stops f made used later (Frame x) r t = absurd t
+  poll_stops f made used later (Body cause offset) r t = absurd t
+  poll_stops f made used later (RepeatedSeq seq) r t = absurd t
+  poll_stops f made used later (Unmatched seq) r t = absurd t
+  poll_stops f made used later Ended r t = absurd t
+  poll_stops f made used later SeqExhausted r t =
+      record {
+        pends = pends_of used later [] (to_poll made) r;
+        used = used;
+        later = later;
+        read_are = refl;
+        stops = in_poll (record {
+          is = refl;
+          bodies = r.handles.bodies;
+          seat = record { session = e.session; debuggee = e.debuggee };
+          made = made;
+          there = record { split = split_of shown follows b.limits b.debuggee e used [] r.outs (to_poll made) r.handles; run = r.handles.run };
+          told = t.made;
+          asked = f.debuggee;
+          carried = t.carried;
+          short = t.short;
+        });
+      }
+  poll_stops f made used later OutOfMemory r t = pends_of used later [] (to_poll made) r
+
+  -- ---- a piece
+
+  frame_stops : (used piece rest : List ℕ) (r : Reaches goes shown follows b c e g w n used piece rest to_take) → has_ended e.session ≡ false → (f : FrameFault) (x : FrameClosed e.intake piece f) (cause : Cause) → f.cause ≡ cause → IsRefusal cause
+      → FrameRefused shown follows b.limits b.debuggee (used ++ take x.closes.n piece) r.outs f
+  frame_stops used piece rest r going f x (Refused refusal) is some =
+      let h = r.handles in
+      let u = used ++ take x.closes.n piece in
+      let left = rest ++ take x.closes.n piece in
+      let st = x.closes.stands used h.bodies rest h.stream in
+      let shut = st.closed f.cause x.closes.closed in
+      let bounds = x.closes.bounds ∙ bounds_are shown follows b.limits b.debuggee e used rest r.outs to_take h in
+      record {
+        bodies = h.bodies;
+        rest = left;
+        seat = record { session = e.session; debuggee = e.debuggee };
+        there = record { split = subst (λ (z : Bounds). Split z u h.bodies left) bounds st.split; run = h.run };
+        goes_on = going;
+        refusal = refusal;
+        cause = is;
+        verdict_is = subst (λ (z : Bounds). IsVerdict z left (Refused refusal)) bounds (subst (λ (z : Cause). IsVerdict x.closed.bounds left z) is shut.verdict_is);
+        offset = subst (λ (z : Bounds). StartsAt z f.offset u h.bodies left) bounds (subst (λ (z : ℕ). StartsAt x.closed.bounds z u h.bodies left) (sym x.closes.offset) shut.starts);
+      }
+  frame_stops used piece rest r going f x NoMemory is some = absurd some
+
+  body_stops : (used piece rest : List ℕ) (r : Reaches goes shown follows b c e g w n used piece rest to_take) → has_ended e.session ≡ false → (cause : _) (offset : ℕ) (x : BodyRefused e.intake piece cause offset)
+      → RunBodyRefused shown follows b.limits b.debuggee (used ++ take x.n piece) r.outs cause offset
+  body_stops used piece rest r going cause offset x =
+      let h = r.handles in
+      let u = used ++ take x.n piece in
+      let ready = x.whole.ready in
+      let bodies = h.bodies ++ ready.held ∷ [] in
+      let st = x.whole.completes.stands used h.bodies rest h.stream in
+      let bounds = x.whole.completes.bounds ∙ bounds_are shown follows b.limits b.debuggee e used rest r.outs to_take h in
+      let last = (st.ready x.whole.completes.ready).last in
+      record {
+        bodies = h.bodies;
+        body = ready.held;
+        seat = record { session = e.session; debuggee = e.debuggee };
+        split = subst (λ (z : Bounds). Split z u bodies []) bounds st.split;
+        run = h.run;
+        goes_on = going;
+        bad = x.bad;
+        starts = subst (λ (z : Bounds). LastStartsAt z offset u bodies ready.held) bounds (subst (λ (z : ℕ). LastStartsAt ready.bounds z u bodies ready.held) (sym x.starts) last);
+      }
+
+  message_stops : (used piece rest : List ℕ) (r : Reaches goes shown follows b c e g w n used piece rest to_take) → has_ended e.session ≡ false → (fault : AdapterFault) (x : ClosedBy e.intake e.session piece fault)
+      → IsRefused shown follows b.limits b.debuggee (used ++ take x.n piece) r.outs fault
+  message_stops used piece rest r going fault x =
+      let h = r.handles in
+      let u = used ++ take x.n piece in
+      let ready = x.whole.ready in
+      let bodies = h.bodies ++ ready.held ∷ [] in
+      let st = x.whole.completes.stands used h.bodies rest h.stream in
+      let bounds = x.whole.completes.bounds ∙ bounds_are shown follows b.limits b.debuggee e used rest r.outs to_take h in
+      in_take (record {
+        bodies = h.bodies;
+        body = ready.held;
+        seat = record { session = e.session; debuggee = e.debuggee };
+        split = subst (λ (z : Bounds). Split z u bodies []) bounds st.split;
+        run = h.run;
+        goes_on = going;
+        message = x.message;
+        message_is = x.read;
+        refused = x.closes;
+      })
+
+  pub take_stops : (used piece rest : List ℕ) (fault : AdapterFault) → Reaches goes shown follows b c e g w n used piece rest to_take → has_ended e.session ≡ false → TakeRefused e.intake e.session piece fault → Halts goes shown follows b c g w n (used ++ piece) (serve_fault_of fault)
+  take_stops used piece rest (Frame f) r going x = record {
+    pends = pends_of used piece rest to_take r;
+    used = used ++ take x.1.closes.n piece;
+    later = drop x.1.closes.n piece;
+    read_are = halves used piece x.1.closes.n;
+    stops = frame_stops used piece rest r going f x.1 f.cause refl x.0;
+  }
+  take_stops used piece rest (Body cause offset) r going x = record {
+    pends = pends_of used piece rest to_take r;
+    used = used ++ take x.n piece;
+    later = drop x.n piece;
+    read_are = halves used piece x.n;
+    stops = body_stops used piece rest r going cause offset x;
+  }
+  take_stops used piece rest (RepeatedSeq seq) r going x = record { pends = pends_of used piece rest to_take r; used = used ++ take x.n piece; later = drop x.n piece; read_are = halves used piece x.n; stops = message_stops used piece rest r going (RepeatedSeq seq) x }
+  take_stops used piece rest (Unmatched seq) r going x = record { pends = pends_of used piece rest to_take r; used = used ++ take x.n piece; later = drop x.n piece; read_are = halves used piece x.n; stops = message_stops used piece rest r going (Unmatched seq) x }
+  take_stops used piece rest Ended r going x = record { pends = pends_of used piece rest to_take r; used = used ++ take x.n piece; later = drop x.n piece; read_are = halves used piece x.n; stops = message_stops used piece rest r going Ended x }
+  take_stops used piece rest SeqExhausted r going x = record { pends = pends_of used piece rest to_take r; used = used ++ take x.n piece; later = drop x.n piece; read_are = halves used piece x.n; stops = message_stops used piece rest r going SeqExhausted x }
+  take_stops used piece rest OutOfMemory r going x = pends_of used piece rest to_take r

@@ -1,0 +1,71 @@
+-- A run of serving: what is done for the bodies that came, step by step, and which messages it writes.
+-- Overview, "Base Protocol". That a message is delivered once the one before it is handled, that all requests are handled then, and how often the debuggee is asked what happened, are this profile's choices.
+use Rattle.std.specs.Prelude.{◌≡◌, ℕ, ◌+◌, ◌≤◌, ◌==◌, ◌||◌, List, [], ◌∷◌, ◌++◌, length, Bool, false, Some, None, Ok, if◌then◌else◌}
+use Rattle.dap_frame.specs.Settings.{Settings, bounds_of}
+use Rattle.dap_frame.specs.Stream.{Split}
+use Rattle.dap_message.specs.Meaning.{Msg}
+use Rattle.dap_message.specs.declared.message.Message.{Message}
+use Rattle.dap_debuggee.specs.Shown.{Shown}
+use Rattle.dap_session.specs.declared.phase.Phase.{Phase}
+use Rattle.dap_session.specs.declared.phase.Phase.TheVariants.{Stopped, Ended}
+use Rattle.dap_session.specs.Carried.{Goes, CarriedOut}
+use Rattle.dap_session.specs.Handling.{turns}
+use Rattle.dap_session.specs.Plan.{Made, Plan, numbered, bytes_of}
+use Rattle.dap_session.specs.Polling.{polls}
+use Rattle.dap_session.specs.Seat.{Seat}
+use Rattle.dap_session.specs.Session.{Session, fresh_session}
+use Rattle.dap_session.specs.Table.{is_phase}
+use Rattle.dap_session.specs.Taking.{takes}
+
+-- what is done next: a message is delivered, a request is handled, or the debuggee is asked what happened, so many times already since the message
+pub data Next : Type 0 where
+  to_take : Next
+  to_turn : Next
+  to_poll : (made : ℕ) → Next
+
+-- the debuggee is asked no more after one that gave no bytes, in a stop, and after 65536 times
+abbrev pub is_last_poll : ℕ → List ℕ → Phase → Bool
+is_last_poll made bytes phase = (length bytes == 0) || is_phase Stopped phase || (made == 65536)
+
+abbrev pub after_poll : ℕ → List ℕ → Phase → Next
+after_poll made bytes phase = if is_last_poll made bytes phase then to_take else to_poll made
+
+-- nothing is delivered any more
+abbrev pub has_ended : Session → Bool
+has_ended s = is_phase Ended s.phase
+
+-- where a session begins
+abbrev pub fresh_seat : {D : Type 0} → Settings → D → Seat D
+fresh_seat limits debuggee = record { session = fresh_session limits; debuggee = debuggee }
+
+-- a plan was carried out, and these messages are what it writes
+pub record Writes {D : Type 0} (follows : Goes D) (plan : Plan) (old : Seat D) (outs : List Message) (new : Seat D) : Type 0 where
+  pub made : Made
+  pub carried : CarriedOut follows plan old.debuggee made new.debuggee
+  pub session : new.session ≡ made.after
+  pub outs_are : outs ≡ numbered old.session.used made.drafts
+
+-- A run from a session over these bodies, which writes these messages and stands there. It may stop after any step, and all that came is handled where the next message is to be taken.
+pub data Run {D : Type 0} (shown : D → Shown) (follows : Goes D) (start : Seat D) : List (List ℕ) → List Message → Next → Seat D → Type 0 where
+  begins : Run shown follows start [] [] to_take start
+  -- the next body is a message, and it is delivered
+  delivers : (xs : List (List ℕ)) (outs now : List Message) (p q : Seat D) (x : List ℕ) (m : Message) (plan : Plan)
+      → Run shown follows start xs outs to_take p → has_ended p.session ≡ false → Msg x m → takes m p.session ≡ Ok plan → Writes follows plan p now q
+      → Run shown follows start (xs ++ x ∷ []) (outs ++ now) to_turn q
+  -- the oldest request that is not parked is handled
+  handles : (xs : List (List ℕ)) (outs now : List Message) (p q : Seat D) (plan : Plan)
+      → Run shown follows start xs outs to_turn p → turns (shown p.debuggee) p.session ≡ Ok (Some plan) → Writes follows plan p now q
+      → Run shown follows start xs (outs ++ now) to_turn q
+  -- no request waits to be handled
+  idles : (xs : List (List ℕ)) (outs : List Message) (p : Seat D)
+      → Run shown follows start xs outs to_turn p → turns (shown p.debuggee) p.session ≡ Ok None
+      → Run shown follows start xs outs (to_poll 0) p
+  -- what happened is told
+  sees : (xs : List (List ℕ)) (outs now : List Message) (p q : Seat D) (made : ℕ)
+      → Run shown follows start xs outs (to_poll made) p → Writes follows (polls p.session) p now q → q.session.used ≤ p.session.limits.seq
+      → Run shown follows start xs (outs ++ now) (after_poll (made + 1) (bytes_of now) q.session.phase) q
+
+-- a run over the frames of these bytes, with this rest after them
+pub record RanTo {D : Type 0} (shown : D → Shown) (follows : Goes D) (limits : Settings) (start : D) (used : List ℕ) (xs : List (List ℕ)) (rest : List ℕ) (outs : List Message) (next : Next) (p : Seat D) : Type 0 where
+  pub split : Split (bounds_of limits) used xs rest
+  pub run : Run shown follows (fresh_seat limits start) xs outs next p

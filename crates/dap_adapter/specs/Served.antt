@@ -1,0 +1,248 @@
+-- What serving comes to: a statement on the bytes that were read and written, and on the calls of the channel, why it stops.
+-- Overview, "Base Protocol". That an end stops at the first refusal, and that all is answered before the next read, are this profile's choices.
+use Rattle.std.specs.Prelude.{◌≡◌, ℕ, ◌+◌, ◌<◌, ◌≤◌, List, [], ◌∷◌, ◌++◌, length, take, IsTrue, true, false, Option, Result, Ok, Err}
+use Rattle.std.specs.Io.KnownBytes.{Appends, Consumes, IsAtEnd}
+use Rattle.dap_channel.specs.Channel.{IoEvent, Gave, ReadFailed, Took, WriteFailed, Flushed, FlushFailed, Ran, bytes_read, bytes_written, reads, is_flushed, HasEnded, HasReadFailed, HasWriteFailed}
+use Rattle.dap_channel.specs.Sent.{counted}
+use Rattle.dap_frame.specs.declared.Cause.TheVariants.{Refused}
+use Rattle.dap_frame.specs.declared.Refusal.{Refusal}
+use Rattle.dap_frame.specs.declared.frames.End.{End}
+use Rattle.dap_frame.specs.declared.frames.End.TheVariants.{Clean, Truncated, Refused as Closed}
+use Rattle.dap_frame.specs.declared.frames.FrameFault.{FrameFault}
+use Rattle.dap_frame.specs.Intake.{StartsAt, LastStartsAt}
+use Rattle.dap_frame.specs.Settings.{Settings, bounds_of}
+use Rattle.dap_frame.specs.Stream.{Split}
+use Rattle.dap_frame.specs.Verdict.{verdict, Part, Refused as Refuses, IsUnrefused}
+use Rattle.dap_message.specs.Meaning.{Msg}
+use Rattle.dap_message.specs.Refusals.{Bad}
+use Rattle.dap_message.specs.declared.fault.BodyRefusal.{BodyRefusal}
+use Rattle.dap_message.specs.declared.message.Message.{Message}
+use Rattle.dap_debuggee.specs.Shown.{Shown}
+use Rattle.dap_session.specs.declared.phase.Phase.TheVariants.{Ended}
+use Rattle.dap_session.specs.declared.fault.AdapterFault.{AdapterFault}
+use Rattle.dap_session.specs.declared.fault.AdapterFault.TheVariants.{Frame, Body, SeqExhausted, OutOfMemory as NoMemory}
+use Rattle.dap_session.specs.Carried.{Goes, CarriedOut}
+use Rattle.dap_session.specs.Handling.{turns}
+use Rattle.dap_session.specs.Plan.{Made, bytes_of}
+use Rattle.dap_session.specs.Polling.{polls}
+use Rattle.dap_session.specs.Seat.{Seat}
+use Rattle.dap_session.specs.Table.{is_phase}
+use Rattle.dap_session.specs.Taking.{takes}
+use Rattle.dap_adapter.specs.declared.served.Served.{Served}
+use Rattle.dap_adapter.specs.declared.served.ServeFault.{ServeFault}
+use Rattle.dap_adapter.specs.declared.served.ServeFault.TheVariants.{Read, Write, Adapter, TooManyReads, OutOfMemory}
+use Rattle.dap_adapter.specs.Run.{Next, to_take, to_turn, to_poll, has_ended, fresh_seat, Run, RanTo}
+
+-- what serving begins with: the limits, how many reads there may be at most, the channel and the debuggee
+pub record Start (C D : Type 0) : Type 0 where
+  pub limits : Settings
+  pub most : ℕ
+  pub channel : C
+  pub debuggee : D
+
+-- ---- why a run stops
+
+-- after the frames come bytes that are refused, just up to the refusal
+pub record FrameRefused {D : Type 0} (shown : D → Shown) (follows : Goes D) (limits : Settings) (start : D) (used : List ℕ) (outs : List Message) (fault : FrameFault) : Type 0 where
+  pub bodies : List (List ℕ)
+  pub rest : List ℕ
+  pub seat : Seat D
+  pub there : RanTo shown follows limits start used bodies rest outs to_take seat
+  pub goes_on : has_ended seat.session ≡ false
+  pub refusal : Refusal
+  pub cause : fault.cause ≡ Refused refusal
+  pub verdict_is : verdict (bounds_of limits) rest ≡ Refuses refusal (length rest)
+  pub offset : StartsAt (bounds_of limits) fault.offset used bodies rest
+
+-- after the frames comes one whose body is no message
+pub record BodyRefused {D : Type 0} (shown : D → Shown) (follows : Goes D) (limits : Settings) (start : D) (used : List ℕ) (outs : List Message) (cause : BodyRefusal) (offset : ℕ) : Type 0 where
+  pub bodies : List (List ℕ)
+  pub body : List ℕ
+  pub seat : Seat D
+  pub split : Split (bounds_of limits) used (bodies ++ body ∷ []) []
+  pub run : Run shown follows (fresh_seat limits start) bodies outs to_take seat
+  pub goes_on : has_ended seat.session ≡ false
+  pub bad : Bad body cause
+  pub starts : LastStartsAt (bounds_of limits) offset used (bodies ++ body ∷ []) body
+
+-- after the frames comes one whose message closes the adapter
+pub record TakeRefused {D : Type 0} (shown : D → Shown) (follows : Goes D) (limits : Settings) (start : D) (used : List ℕ) (outs : List Message) (fault : AdapterFault) : Type 0 where
+  pub bodies : List (List ℕ)
+  pub body : List ℕ
+  pub seat : Seat D
+  pub split : Split (bounds_of limits) used (bodies ++ body ∷ []) []
+  pub run : Run shown follows (fresh_seat limits start) bodies outs to_take seat
+  pub goes_on : has_ended seat.session ≡ false
+  pub message : Message
+  pub message_is : Msg body message
+  pub refused : takes message seat.session ≡ Err fault
+
+-- the next request is not handled
+pub record TurnRefused {D : Type 0} (shown : D → Shown) (follows : Goes D) (limits : Settings) (start : D) (used : List ℕ) (outs : List Message) (fault : AdapterFault) : Type 0 where
+  pub bodies : List (List ℕ)
+  pub seat : Seat D
+  pub there : RanTo shown follows limits start used bodies [] outs to_turn seat
+  pub refused : turns (shown seat.debuggee) seat.session ≡ Err fault
+
+-- more happened than own numbers are left to tell it with
+pub record PollRefused {D : Type 0} (shown : D → Shown) (follows : Goes D) (limits : Settings) (start : D) (used : List ℕ) (outs : List Message) (fault : AdapterFault) : Type 0 where
+  pub is : fault ≡ SeqExhausted
+  pub bodies : List (List ℕ)
+  pub seat : Seat D
+  pub made : ℕ
+  pub there : RanTo shown follows limits start used bodies [] outs (to_poll made) seat
+  pub told : Made
+  pub asked : D
+  pub carried : CarriedOut follows (polls seat.session) seat.debuggee told asked
+  pub short : seat.session.limits.seq < seat.session.used + length told.drafts
+
+pub data IsRefused {D : Type 0} (shown : D → Shown) (follows : Goes D) (limits : Settings) (start : D) (used : List ℕ) (outs : List Message) (fault : AdapterFault) : Type 0 where
+  in_take : TakeRefused shown follows limits start used outs fault → IsRefused shown follows limits start used outs fault
+  in_turn : TurnRefused shown follows limits start used outs fault → IsRefused shown follows limits start used outs fault
+  in_poll : PollRefused shown follows limits start used outs fault → IsRefused shown follows limits start used outs fault
+
+-- a run over the bytes used stops by just this fault of the adapter, with these messages made before it
+abbrev pub StopsBy : {D : Type 0} → (D → Shown) → Goes D → Settings → D → List ℕ → List Message → AdapterFault → Type 0
+StopsBy shown follows limits start used outs (Frame fault) = FrameRefused shown follows limits start used outs fault
+StopsBy shown follows limits start used outs (Body cause offset) = BodyRefused shown follows limits start used outs cause offset
+StopsBy shown follows limits start used outs NoMemory = ⊥
+StopsBy shown follows limits start used outs fault = IsRefused shown follows limits start used outs fault
+
+-- ---- the bytes read and the bytes written
+
+-- a run over a front of the bytes read, which may have stopped after any step, makes these messages
+pub record MakesSome {D : Type 0} (shown : D → Shown) (follows : Goes D) (limits : Settings) (start : D) (read : List ℕ) (outs : List Message) : Type 0 where
+  pub used : List ℕ
+  pub later : List ℕ
+  pub read_is : read ≡ used ++ later
+  pub bodies : List (List ℕ)
+  pub rest : List ℕ
+  pub next : Next
+  pub seat : Seat D
+  pub there : RanTo shown follows limits start used bodies rest outs next seat
+
+-- all that was read is handled, and what the run makes, all of it and nothing else, is written
+pub record IsCaughtUp {D : Type 0} (shown : D → Shown) (follows : Goes D) (limits : Settings) (start : D) (read written : List ℕ) : Type 0 where
+  pub bodies : List (List ℕ)
+  pub rest : List ℕ
+  pub outs : List Message
+  pub seat : Seat D
+  pub there : RanTo shown follows limits start read bodies rest outs to_take seat
+  pub unrefused : IsUnrefused (verdict (bounds_of limits) rest)
+  pub goes_on : has_ended seat.session ≡ false
+  pub written_is : written ≡ bytes_of outs
+
+-- how the bytes used end, with this rest after their whole frames
+abbrev pub IsEndOf : Settings → List ℕ → End → Type 0
+IsEndOf limits rest Clean = rest ≡ []
+IsEndOf limits rest Truncated = verdict (bounds_of limits) rest ≡ Part
+IsEndOf limits rest Closed = ⊥
+
+-- all that was read is handled, or what comes before the end of the session, with the message that ended it; all of it is written
+pub record Completes {D : Type 0} (shown : D → Shown) (follows : Goes D) (limits : Settings) (start : D) (read written : List ℕ) (served : Served) : Type 0 where
+  pub used : List ℕ
+  pub later : List ℕ
+  pub read_is : read ≡ used ++ later
+  pub bodies : List (List ℕ)
+  pub rest : List ℕ
+  pub outs : List Message
+  pub seat : Seat D
+  pub there : RanTo shown follows limits start used bodies rest outs to_take seat
+  pub written_is : written ≡ bytes_of outs
+  pub phase : served.phase ≡ seat.session.phase
+  pub end : IsEndOf limits rest served.end
+  pub all : has_ended seat.session ≡ false → later ≡ []
+  pub whole : has_ended seat.session ≡ true → rest ≡ []
+
+-- only the first bytes of what a run makes are written, and these are so many
+pub record CutShort {D : Type 0} (shown : D → Shown) (follows : Goes D) (limits : Settings) (start : D) (read written : List ℕ) (n : ℕ) : Type 0 where
+  pub outs : List Message
+  pub makes : MakesSome shown follows limits start read outs
+  pub front : List ℕ
+  pub others : List ℕ
+  pub outs_are : bytes_of outs ≡ front ++ others
+  pub written_is : written ≡ front
+  pub count : n ≡ counted (length front)
+
+-- a run stops by a fault of the adapter, and all that it made before is written
+pub record StopsThere {D : Type 0} (shown : D → Shown) (follows : Goes D) (limits : Settings) (start : D) (read written : List ℕ) (fault : AdapterFault) : Type 0 where
+  pub used : List ℕ
+  pub later : List ℕ
+  pub read_is : read ≡ used ++ later
+  pub outs : List Message
+  pub stops : StopsBy shown follows limits start used outs fault
+  pub written_is : written ≡ bytes_of outs
+
+-- memory was refused, and all that a run makes up to there is written
+pub record StopsForMemory {D : Type 0} (shown : D → Shown) (follows : Goes D) (limits : Settings) (start : D) (read written : List ℕ) : Type 0 where
+  pub outs : List Message
+  pub makes : MakesSome shown follows limits start read outs
+  pub written_is : written ≡ bytes_of outs
+
+-- what a fault says of the bytes read and written
+abbrev pub Stops : {D : Type 0} → (D → Shown) → Goes D → Settings → D → List ℕ → List ℕ → ServeFault → Type 0
+Stops shown follows limits start read written Read = IsCaughtUp shown follows limits start read written
+Stops shown follows limits start read written (Write n) = CutShort shown follows limits start read written n
+Stops shown follows limits start read written (Adapter fault) = StopsThere shown follows limits start read written fault
+Stops shown follows limits start read written TooManyReads = IsCaughtUp shown follows limits start read written
+Stops shown follows limits start read written OutOfMemory = StopsForMemory shown follows limits start read written
+
+-- what serving says of the bytes read and written
+abbrev pub Comes : {D : Type 0} → (D → Shown) → Goes D → Settings → D → List ℕ → List ℕ → Result Served ServeFault → Type 0
+Comes shown follows limits start read written (Ok served) = Completes shown follows limits start read written served
+Comes shown follows limits start read written (Err fault) = Stops shown follows limits start read written fault
+
+-- ---- the calls of the channel
+
+-- all that was read is handled, and written and flushed
+pub record IsReadyToRead {D : Type 0} (shown : D → Shown) (follows : Goes D) (limits : Settings) (start : D) (log : List IoEvent) : Type 0 where
+  pub caught_up : IsCaughtUp shown follows limits start (bytes_read log) (bytes_written log)
+  pub flushed : IsTrue (is_flushed log)
+
+-- each read came only when what had come before it was handled, written and flushed
+abbrev pub ReadsInTurn : {D : Type 0} → (D → Shown) → Goes D → Settings → D → List IoEvent → Type 0
+ReadsInTurn shown follows limits start [] = Unit {0}
+ReadsInTurn shown follows limits start (Gave room bytes ∷ log) = IsReadyToRead shown follows limits start log × ReadsInTurn shown follows limits start log
+ReadsInTurn shown follows limits start (ReadFailed ∷ log) = IsReadyToRead shown follows limits start log × ReadsInTurn shown follows limits start log
+ReadsInTurn shown follows limits start (Took bytes left ∷ log) = ReadsInTurn shown follows limits start log
+ReadsInTurn shown follows limits start (WriteFailed ∷ log) = ReadsInTurn shown follows limits start log
+ReadsInTurn shown follows limits start (Flushed ∷ log) = ReadsInTurn shown follows limits start log
+ReadsInTurn shown follows limits start (FlushFailed ∷ log) = ReadsInTurn shown follows limits start log
+
+-- what the calls show of a fault. At every fault but the writer's, all that was written was flushed
+abbrev pub HasCause : ℕ → List IoEvent → ServeFault → Type 0
+HasCause most log Read = HasReadFailed log × IsTrue (is_flushed log)
+HasCause most log (Write n) = HasWriteFailed log
+HasCause most log (Adapter fault) = IsTrue (is_flushed log)
+HasCause most log TooManyReads = (reads log ≡ most) × IsTrue (is_flushed log)
+HasCause most log OutOfMemory = IsTrue (is_flushed log)
+
+-- the same of each outcome: unless the session ended, the last call found the end of the input
+abbrev pub HasReason : ℕ → List IoEvent → Result Served ServeFault → Type 0
+HasReason most log (Ok served) = (is_phase Ended served.phase ≡ false → HasEnded log) × IsTrue (is_flushed log)
+HasReason most log (Err fault) = HasCause most log fault
+
+-- calls that led to this channel, and what they say of serving
+pub record Serves {C D : Type 0} (goes : C → IoEvent → C → Type 0) (shown : D → Shown) (follows : Goes D) (b : Start C D) (after : C) (result : Result Served ServeFault) : Type 0 where
+  pub log : List IoEvent
+  pub ran : Ran goes b.channel log after
+  pub comes : Comes shown follows b.limits b.debuggee (bytes_read log) (bytes_written log) result
+  pub in_turn : ReadsInTurn shown follows b.limits b.debuggee log
+  pub few : reads log ≤ b.most
+  pub reason : HasReason b.most log result
+
+-- ---- the bytes that a reader and a writer know
+
+-- unless the session ended, the reader is at its end
+abbrev pub IsAtEndUnless : Option (List ℕ) → Result Served ServeFault → Type 0
+IsAtEndUnless r (Ok served) = is_phase Ended served.phase ≡ false → IsAtEnd r
+IsAtEndUnless r (Err fault) = Unit {0}
+
+-- from what the reader has left and the writer holds, before and after, where those are known
+pub record ServesBytes {D : Type 0} (shown : D → Shown) (follows : Goes D) (limits : Settings) (start : D) (r r' w w' : Option (List ℕ)) (result : Result Served ServeFault) : Type 0 where
+  pub read : List ℕ
+  pub written : List ℕ
+  pub consumed : Consumes r r' read
+  pub appended : Appends w w' written
+  pub comes : Comes shown follows limits start read written result
+  pub at_end : IsAtEndUnless r' result

@@ -1,0 +1,321 @@
+//! A debuggee served over a channel.
+ghost use Rattle.std.specs.Prelude.{◌≡◌, ℕ, ◌+◌, ◌<◌, ◌≤◌, List, [], length, false, IfOk, OnOk, IfErr, IfNone, IfSome, None, Some};
+ghost use Rattle.dap_message.specs.declared.message.Message.{Message};
+ghost use Rattle.dap_debuggee.specs.declared.answers.State.{State};
+ghost use Rattle.dap_session.specs.Table.{is_phase};
+ghost use Rattle.dap_session.specs.declared.phase.Phase.{Phase};
+ghost use Rattle.dap_adapter.specs.Run.{to_take, to_turn, to_poll, has_ended};
+ghost use Rattle.dap_adapter.specs.Served.{Start, Serves, ServesBytes};
+ghost use Rattle.dap_adapter.specs.Serving.{Reaches, Leads, Breaks, Handled, BreaksOff, Uses, UsesUp, BreaksIn, EndsIn, serve_fault_of};
+
+use crate::adapter::Adapter;
+use crate::outlet::Outlet;
+use crate::served::{ServeFault, Served};
+use crate::taken::{Taken, Turned};
+use dap_channel::{Channel, Pipe};
+use dap_debuggee::Debuggee;
+use dap_frame::{End, Limits, each_stream_has_one_split};
+use dap_session::{AdapterFault, Phase};
+use std::alloc::Global;
+use std::io::{Read, Write};
+
+/// After a message, the debuggee is asked at most so often what happened.
+const MAX_POLLS: u32 = 65536;
+
+fn is_ended(phase: Phase) -> bool
+    ensures { result ≡ is_phase Phase.Ended phase }
+{
+    match phase {
+        Phase::Ended => true,
+        Phase::Fresh => false,
+        Phase::Ready => false,
+        Phase::Configured => false,
+        Phase::Parked => false,
+        Phase::Running => false,
+        Phase::Stopped => false,
+        Phase::Exited => false,
+    }
+}
+
+fn is_stopped(phase: Phase) -> bool
+    ensures { result ≡ is_phase Phase.Stopped phase }
+{
+    match phase {
+        Phase::Stopped => true,
+        Phase::Fresh => false,
+        Phase::Ready => false,
+        Phase::Configured => false,
+        Phase::Parked => false,
+        Phase::Running => false,
+        Phase::Exited => false,
+        Phase::Ended => false,
+    }
+}
+
+fn serve_fault(fault: AdapterFault) -> ServeFault
+    ensures { result ≡ serve_fault_of fault }
+{
+    match fault {
+        AdapterFault::OutOfMemory => ServeFault::OutOfMemory,
+        other => ServeFault::Adapter(other),
+    }
+}
+
+/// Handles all requests that are kept and not parked.
+fn turns<C: Channel, D: Debuggee + Drop>(
+    alloc: Global,
+    adapter: &mut Adapter<D>,
+    channel: &mut C,
+    outlet: &mut Outlet,
+) -> Result<(), ServeFault>
+    ensures idle { OnOk result (Leads C.goes D.shown D.follows channel.old adapter.old outlet.old.gathered.items outlet.old.written to_turn channel.new adapter.new outlet.new.gathered.items outlet.new.written (to_poll 0)) }
+    ensures halts { IfErr result (Breaks C.goes D.shown D.follows channel.old adapter.old outlet.old.gathered.items outlet.old.written to_turn channel.new outlet.new.gathered.items outlet.new.written) }
+{
+    for _turn in 0..u64::MAX {
+        let bytes = match adapter.turn(alloc) {
+            Ok(Turned::Idle) => return Ok(()),
+            Ok(Turned::Done { bytes }) => bytes,
+            Err(fault) => return Err(serve_fault(fault)),
+        };
+        if let Err(fault) = outlet.gather(channel, &bytes) {
+            return Err(fault);
+        }
+    }
+    // So many requests are never kept.
+    Err(ServeFault::OutOfMemory)
+}
+
+/// Tells what happened to the debuggee.
+fn polls<C: Channel, D: Debuggee + Drop>(
+    alloc: Global,
+    adapter: &mut Adapter<D>,
+    channel: &mut C,
+    outlet: &mut Outlet,
+) -> Result<(), ServeFault>
+    ensures told { OnOk result (Leads C.goes D.shown D.follows channel.old adapter.old outlet.old.gathered.items outlet.old.written (to_poll 0) channel.new adapter.new outlet.new.gathered.items outlet.new.written to_take) }
+    ensures halts { IfErr result (Breaks C.goes D.shown D.follows channel.old adapter.old outlet.old.gathered.items outlet.old.written (to_poll 0) channel.new outlet.new.gathered.items outlet.new.written) }
+{
+    for _poll in 0..MAX_POLLS {
+        let bytes = match adapter.poll(alloc) {
+            Ok(bytes) => bytes,
+            Err(fault) => return Err(serve_fault(fault)),
+        };
+        if let Err(fault) = outlet.gather(channel, &bytes) {
+            return Err(fault);
+        }
+        if bytes.is_empty() {
+            return Ok(());
+        }
+        if is_stopped(adapter.phase()) {
+            return Ok(());
+        }
+    }
+    Ok(())
+}
+
+/// Hands out the bytes of a message that was taken, handles all requests, and tells what happened.
+fn handle<C: Channel, D: Debuggee + Drop>(
+    alloc: Global,
+    adapter: &mut Adapter<D>,
+    channel: &mut C,
+    outlet: &mut Outlet,
+    bytes: &[u8],
+) -> Result<(), ServeFault>
+    ensures handled { OnOk result (Handled C.goes D.shown D.follows channel.old adapter.old outlet.old.gathered.items outlet.old.written bytes.now channel.new adapter.new outlet.new.gathered.items outlet.new.written) }
+    ensures halts { IfErr result (BreaksOff C.goes D.shown D.follows channel.old adapter.old outlet.old.gathered.items outlet.old.written bytes.now channel.new outlet.new.gathered.items outlet.new.written) }
+{
+    if let Err(fault) = outlet.gather(channel, bytes) {
+        return Err(fault);
+    }
+    if let Err(fault) = turns(alloc, adapter, channel, outlet) {
+        return Err(fault);
+    }
+    match polls(alloc, adapter, channel, outlet) {
+        Ok(()) => Ok(()),
+        Err(fault) => Err(fault),
+    }
+}
+
+/// How many bytes were used, and what is to be written if a message was delivered.
+fn handed_out(taken: Taken) -> (usize, Option<Vec<u8>>)
+    ensures used { result.0 ≡ taken.used }
+    ensures none { IfNone result.1 (taken.delivered ≡ None) }
+    ensures some { IfSome result.1 (λ bytes. (m : Message) × (taken.delivered ≡ Some m) × (bytes ≡ taken.bytes)) }
+{
+    let Taken {
+        used,
+        delivered,
+        bytes,
+    } = taken;
+    match delivered {
+        None => (used, None),
+        Some(_) => (used, Some(bytes)),
+    }
+}
+
+/// Uses the bytes of a piece up to the end of a frame at most, and handles its message. It answers how many were used.
+fn serve_frame<C: Channel, D: Debuggee + Drop>(
+    alloc: Global,
+    adapter: &mut Adapter<D>,
+    channel: &mut C,
+    outlet: &mut Outlet,
+    piece: &[u8],
+) -> Result<usize, ServeFault>
+    ensures some { IfOk result (λ k. 0 < length piece.now → 0 < k) }
+    ensures within { IfOk result (λ k. k ≤ length piece.now) }
+    ensures uses { IfOk result (Uses C.goes D.shown D.follows channel.old adapter.old outlet.old.gathered.items outlet.old.written channel.new adapter.new outlet.new.gathered.items outlet.new.written piece.now) }
+    ensures halts { IfErr result (BreaksIn C.goes D.shown D.follows channel.old adapter.old outlet.old.gathered.items outlet.old.written channel.new outlet.new.gathered.items outlet.new.written piece.now) }
+{
+    // A law for the proof: what was read is one list of frames.
+    each_stream_has_one_split();
+    let taken = match adapter.take(alloc, piece) {
+        Ok(taken) => taken,
+        Err(fault) => return Err(serve_fault(fault)),
+    };
+    let (used, handed) = handed_out(taken);
+    match handed {
+        None => Ok(used),
+        Some(bytes) => match handle(alloc, adapter, channel, outlet, &bytes) {
+            Ok(()) => Ok(used),
+            Err(fault) => Err(fault),
+        },
+    }
+}
+
+/// Serves a piece: whether the session ended within it.
+fn serve_piece<C: Channel, D: Debuggee + Drop>(
+    alloc: Global,
+    adapter: &mut Adapter<D>,
+    channel: &mut C,
+    outlet: &mut Outlet,
+    piece: &[u8],
+) -> Result<bool, ServeFault>
+    ensures uses_up { IfOk result (UsesUp C.goes D.shown D.follows channel.old adapter.old outlet.old.gathered.items outlet.old.written channel.new adapter.new outlet.new.gathered.items outlet.new.written piece.now) }
+    ensures halts { IfErr result (BreaksIn C.goes D.shown D.follows channel.old adapter.old outlet.old.gathered.items outlet.old.written channel.new outlet.new.gathered.items outlet.new.written piece.now) }
+{
+    let mut at = 0;
+    while at < piece.len() {
+        let (_, rest) = piece.split_at(at);
+        match serve_frame(alloc, adapter, channel, outlet, rest) {
+            Ok(used) => at += used,
+            Err(fault) => return Err(fault),
+        }
+        if is_ended(adapter.phase()) {
+            return Ok(true);
+        }
+    }
+    Ok(false)
+}
+
+/// Serves a piece, and writes and flushes what was made, before a fault too: whether the session ended.
+fn serve_read<C: Channel, D: Debuggee + Drop>(
+    alloc: Global,
+    adapter: &mut Adapter<D>,
+    channel: &mut C,
+    outlet: &mut Outlet,
+    piece: &[u8],
+) -> Result<bool, ServeFault>
+    ensures uses_up { IfOk result (UsesUp C.goes D.shown D.follows channel.old adapter.old outlet.old.gathered.items outlet.old.written channel.new adapter.new outlet.new.gathered.items outlet.new.written piece.now) }
+    ensures none_left { OnOk result (outlet.new.gathered.items ≡ []) }
+    ensures stops { IfErr result (EndsIn C.goes D.shown D.follows channel.old adapter.old outlet.old.gathered.items outlet.old.written channel.new piece.now) }
+{
+    match serve_piece(alloc, adapter, channel, outlet, piece) {
+        Ok(ended) => match outlet.send(channel) {
+            Ok(()) => Ok(ended),
+            Err(fault) => Err(fault),
+        },
+        Err(ServeFault::Write { written }) => Err(ServeFault::Write { written }),
+        Err(fault) => match outlet.send(channel) {
+            Ok(()) => Err(fault),
+            Err(short) => Err(short),
+        },
+    }
+}
+
+/// Reads until the input or the session has ended.
+fn serve_reads<C: Channel, D: Debuggee + Drop>(
+    alloc: Global,
+    adapter: &mut Adapter<D>,
+    channel: &mut C,
+    outlet: &mut Outlet,
+    max_reads: u64,
+) -> Result<Served, ServeFault>
+    requires open { adapter.old.fault ≡ None }
+    requires going { has_ended adapter.old.session ≡ false }
+    requires none { outlet.old.gathered.items ≡ [] }
+    ensures { (b : Start C D) → max_reads ≡ b.most → Reaches C.goes D.shown D.follows b channel.old adapter.old outlet.old.gathered.items outlet.old.written 0 [] [] [] to_take → Serves C.goes D.shown D.follows b channel.new result }
+{
+    let mut buffer = [0; 4096];
+    for _read in 0..max_reads {
+        let Ok(n) = channel.read(&mut buffer) else {
+            return Err(ServeFault::Read);
+        };
+        if n == 0 {
+            return Ok(Served {
+                end: adapter.finish(),
+                phase: adapter.phase(),
+            });
+        }
+        let (piece, _) = buffer.split_at(n);
+        match serve_read(alloc, adapter, channel, outlet, piece) {
+            Ok(false) => {}
+            Ok(true) => {
+                return Ok(Served {
+                    end: End::Clean,
+                    phase: adapter.phase(),
+                });
+            }
+            Err(fault) => return Err(fault),
+        }
+    }
+    Err(ServeFault::TooManyReads)
+}
+
+/// Serves a debuggee, which is not started, to the client at the other end of a channel, until the input or the session
+/// ends. The channel is read in pieces of at most 4096 bytes, at most `max_reads` times, and what is made of a piece is
+/// written and flushed before the next read. After each message all requests are handled, and the debuggee is asked what
+/// happened: at most 65536 times, until it gives no bytes or stops.
+///
+/// # Errors
+/// `Read` and `Write` where the channel failed, `Write` also where it took nothing, with how many bytes went out in all;
+/// `Adapter` for each fault of the adapter but want of memory; `TooManyReads` where `max_reads` reads were made and another
+/// is due; `OutOfMemory` where memory is refused. At each but `Write` all that was made is written and flushed.
+pub fn serve_channel<C: Channel, D: Debuggee + Drop>(
+    alloc: Global,
+    channel: &mut C,
+    debuggee: D,
+    limits: Limits,
+    max_reads: u64,
+) -> Result<Served, ServeFault>
+    requires { (D.shown debuggee).state ≡ State.NotStarted }
+    ensures { Serves C.goes D.shown D.follows (record { limits = limits; most = max_reads; channel = channel.old; debuggee = debuggee }) channel.new result }
+{
+    // A law for the proof: also where memory is refused at once, no bytes are a stream with one split.
+    each_stream_has_one_split();
+    let Ok(mut adapter) = Adapter::open(alloc, limits, debuggee) else {
+        return Err(ServeFault::OutOfMemory);
+    };
+    let mut outlet = Outlet::new(alloc);
+    match serve_reads(alloc, &mut adapter, channel, &mut outlet, max_reads) {
+        Ok(served) => Ok(served),
+        Err(fault) => Err(fault),
+    }
+}
+
+/// Serves a reader and a writer, as `serve_channel`, whose clause says when they are called. This one says what that does
+/// to the bytes that they know.
+///
+/// # Errors
+/// Those of `serve_channel`.
+pub fn serve<R: Read, W: Write, D: Debuggee + Drop>(
+    alloc: Global,
+    pipe: &mut Pipe<R, W>,
+    debuggee: D,
+    limits: Limits,
+    max_reads: u64,
+) -> Result<Served, ServeFault>
+    requires { (D.shown debuggee).state ≡ State.NotStarted }
+    ensures { ServesBytes D.shown D.follows limits debuggee (R.remaining pipe.old.reader) (R.remaining pipe.new.reader) (W.contents pipe.old.writer) (W.contents pipe.new.writer) result }
+{
+    serve_channel(alloc, pipe, debuggee, limits, max_reads)
+}

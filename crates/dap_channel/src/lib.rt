@@ -1,0 +1,12 @@
+//! What an end reads from and writes to, call by call.
+//!
+//! Overview, "Base Protocol": the bytes of both directions. The clauses of `std`'s `Read` and `Write` relate bytes, and never
+//! say that a call was made. Those of a `Channel` do: a clause over all channels can say which calls an end made, and in
+//! which order. Nothing here knows a frame or a message.
+#![tactic(auto)]
+
+mod channel;
+mod sending;
+
+pub use channel::{Channel, Pipe, calls_are_the_log};
+pub use sending::send;
