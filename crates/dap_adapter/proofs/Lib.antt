@@ -1,5 +1,6 @@
 pub mod Adapting
 pub mod Ending
+pub mod Knowing
 pub mod Outgoing
 pub mod Piecewise
 pub mod Polling

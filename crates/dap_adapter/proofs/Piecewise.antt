@@ -1,5 +1,5 @@
 -- A piece is used part by part.
-use Rattle.std.proofs.Common.{◌≡◌, ℕ, ◌+◌, ◌<◌, ◌≤◌, List, [], ◌++◌, length, take, drop, Bool, true, false, refl, sym, ap, ◌∙◌, subst, arith, append_assoc, append-nil, length-drop}
+use Rattle.std.proofs.Common.{◌≡◌, ℕ, ◌+◌, ◌<◌, ◌≤◌, List, [], ◌++◌, length, take, drop, true, false, sym, ap, ◌∙◌, subst, arith, append_assoc, append-nil, length-drop}
 use Rattle.std.proofs.lemmas.List.{drop-drop, take-append-drop}
 use Rattle.std.proofs.Math.Seq.{take-add}
 use Rattle.std.proofs.Math.ListN.{drop_of_length-le}
@@ -30,7 +30,6 @@ pub some_left : (at n : ℕ) (bytes rest : List ℕ) → rest ≡ drop at bytes 
 some_left at n bytes rest e h = omega (arith, length-drop at bytes, ap length e)
 
 module _ {C D : Type 0} (goes : C → IoEvent → C → Type 0) (shown : D → Shown) (follows : Goes D) (b : Start C D) where
-
   pub part_none : (c : C) (e : End D) (g : List ℕ) (w n : ℕ) (used piece rest : List ℕ) → has_ended e.session ≡ false → Reaches goes shown follows b c e g w n used piece rest to_take → IsPart goes shown follows b c e g w n (used ++ []) piece
   part_none c e g w n used piece rest going r =
       let at : used ≡ used ++ [] = sym (append-nil used) in

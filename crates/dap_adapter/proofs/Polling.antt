@@ -1,11 +1,11 @@
 -- When the debuggee is asked no more.
-use Rattle.std.proofs.Common.{◌≡◌, ℕ, ◌<◌, ◌≤◌, List, length, Bool, true, false, refl, sym, ap, ◌∙◌, subst, arith}
+use Rattle.std.proofs.Common.{◌≡◌, ℕ, ◌<◌, ◌≤◌, List, length, Bool, true, false, refl, ap, arith}
 use Rattle.std.specs.Prelude.{◌==◌, ◌||◌, if◌then◌else◌}
 use Rattle.std.proofs.lemmas.Bool.Decides.{nat_tests}
 use Rattle.dap_session.specs.declared.phase.Phase.{Phase}
 use Rattle.dap_session.specs.declared.phase.Phase.TheVariants.{Stopped}
 use Rattle.dap_session.specs.Table.{is_phase}
-use Rattle.dap_adapter.specs.Run.{Next, to_take, to_poll, after_poll, is_last_poll}
+use Rattle.dap_adapter.specs.Run.{to_take, to_poll, after_poll}
 use Rattle.dap_adapter.specs.Serving.{polling}
 
 apart : (i : ℕ) → i < 65536 → (i == 65536) ≡ false

@@ -1,14 +1,12 @@
 -- Each step of serving goes on as its run does.
-use Rattle.std.proofs.Common.{◌≡◌, ℕ, ◌+◌, ◌≤◌, List, [], ◌∷◌, ◌++◌, length, take, drop, Bool, true, false, Option, Some, None, Ok, Err, refl, sym, ap, ◌∙◌, subst, arith, append_assoc, append-nil}
-use Rattle.std.specs.Prelude.{◌||◌, ◌==◌, if◌then◌else◌}
-use Rattle.std.proofs.lemmas.List.{length-append, length-take, take-append-drop, take_all}
+use Rattle.std.proofs.Common.{◌≡◌, ℕ, ◌+◌, List, [], ◌∷◌, ◌++◌, take, drop, Bool, true, false, Option, Some, None, Ok, refl, sym, ap, ◌∙◌, subst, arith, append_assoc, append-nil}
+use Rattle.std.proofs.lemmas.List.{take-append-drop, take_all}
 use Rattle.dap_channel.specs.Channel.{IoEvent}
 use Rattle.dap_frame.specs.Intake.{Intake, StandsFor as StandsForStream}
 use Rattle.dap_frame.specs.Laws.{EachStreamHasOneSplit}
-use Rattle.dap_frame.specs.Settings.{Settings, bounds_of}
+use Rattle.dap_frame.specs.Settings.{bounds_of}
 use Rattle.dap_frame.specs.Stream.{Split}
 use Rattle.dap_frame.specs.declared.limits.Bounds.{Bounds}
-use Rattle.dap_history.specs.History.{Entry}
 use Rattle.dap_message.specs.declared.message.Message.{Message}
 use Rattle.dap_debuggee.specs.Shown.{Shown}
 use Rattle.dap_session.specs.Carried.{Goes}
@@ -18,12 +16,12 @@ use Rattle.dap_session.specs.Seat.{Seat}
 use Rattle.dap_adapter.specs.Calls.{Handled, Saw, Delivers, Waits, Takes}
 use Rattle.dap_adapter.specs.End.{End}
 use Rattle.dap_adapter.specs.StandsFor.{StandsFor}
-use Rattle.dap_adapter.specs.Run.{Next, to_take, to_turn, to_poll, has_ended, is_last_poll, after_poll, fresh_seat, Run, handles as one_handled, idles, sees, delivers}
+use Rattle.dap_adapter.specs.Run.{to_take, to_turn, to_poll, has_ended, after_poll, fresh_seat, Run, handles as one_handled, idles, sees, delivers}
 use Rattle.dap_adapter.specs.Served.{Start, MakesSome}
-use Rattle.dap_adapter.specs.Serving.{Logged, Handles, Reaches, Owes, IsUsed, Halts, polling}
+use Rattle.dap_adapter.specs.Serving.{Logged, Reaches, Owes, IsUsed, Halts}
 use Rattle.dap_adapter.specs.declared.taken.Taken.{Taken}
 use Rattle.dap_adapter.specs.declared.served.ServeFault.{ServeFault}
-use Rattle.dap_adapter.proofs.Outgoing.{makes_of, bounds_are, split_of}
+use Rattle.dap_adapter.proofs.Outgoing.{makes_of, bounds_are}
 
 seat_of : {D : Type 0} → End D → Seat D
 seat_of e = record { session = e.session; debuggee = e.debuggee }

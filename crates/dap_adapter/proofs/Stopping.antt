@@ -1,15 +1,13 @@
 -- A fault of the adapter stops the run where it stands.
-use Rattle.std.proofs.Common.{◌≡◌, ℕ, ◌+◌, ◌≤◌, List, [], ◌∷◌, ◌++◌, length, take, drop, Bool, true, false, Option, Some, None, Ok, Err, refl, sym, ap, ◌∙◌, subst, arith}
+use Rattle.std.proofs.Common.{◌≡◌, ℕ, ◌+◌, List, [], ◌∷◌, ◌++◌, take, drop, Bool, true, false, Option, Some, None, Ok, Err, refl, sym, ◌∙◌, subst}
 use Rattle.std.specs.Prelude.{if◌then◌else◌, nat_le}
 use Rattle.dap_channel.specs.Channel.{IoEvent}
-use Rattle.dap_frame.specs.Intake.{Intake, IsVerdict, StartsAt, LastStartsAt, StandsFor as StandsForStream}
-use Rattle.dap_frame.specs.Settings.{Settings, bounds_of}
+use Rattle.dap_frame.specs.Intake.{IsVerdict, StartsAt, LastStartsAt}
 use Rattle.dap_frame.specs.Stream.{Split}
 use Rattle.dap_frame.specs.declared.Cause.{Cause}
 use Rattle.dap_frame.specs.declared.Cause.TheVariants.{Refused, OutOfMemory as NoMemory}
 use Rattle.dap_frame.specs.declared.frames.FrameFault.{FrameFault}
 use Rattle.dap_frame.specs.declared.limits.Bounds.{Bounds}
-use Rattle.dap_message.specs.declared.message.Message.{Message}
 use Rattle.dap_message.specs.Types.Command.{Command}
 use Rattle.dap_tables.specs.Outstanding.{Kept}
 use Rattle.dap_debuggee.specs.Shown.{Shown}
@@ -19,13 +17,12 @@ use Rattle.dap_session.specs.Carried.{Goes}
 use Rattle.dap_session.specs.Handling.{turns, turn_of, some_plan, plan_but}
 use Rattle.dap_session.specs.Plan.{Plan, due}
 use Rattle.dap_session.specs.Session.{Session, oldest}
-use Rattle.dap_session.specs.Seat.{Seat}
 use Rattle.dap_session.specs.Table.{is_put_off}
 use Rattle.dap_adapter.specs.Calls.{TakeRefused, TurnRefused, PollRefused, FrameClosed, BodyRefused, ClosedBy, IsRefusal}
 use Rattle.dap_adapter.specs.End.{End}
 use Rattle.dap_adapter.specs.Run.{Next, to_take, to_turn, to_poll, has_ended}
 use Rattle.dap_adapter.specs.Served.{Start, FrameRefused, BodyRefused as RunBodyRefused, IsRefused, in_take, in_turn, in_poll}
-use Rattle.dap_adapter.specs.Serving.{Logged, Handles, Reaches, Pends, PendsBy, Halts, serve_fault_of}
+use Rattle.dap_adapter.specs.Serving.{Reaches, Pends, Halts, serve_fault_of}
 use Rattle.dap_adapter.proofs.Outgoing.{makes_of, bounds_are, split_of}
 use Rattle.dap_adapter.proofs.Stepping.{halves}
 
@@ -44,7 +41,6 @@ not_body : (cause : _) (offset : ℕ) → SeqExhausted ≡ Body cause offset →
 not_body cause offset e = cc
 
 module _ {C D : Type 0} (goes : C → IoEvent → C → Type 0) (shown : D → Shown) (follows : Goes D) (b : Start C D) (c : C) (e : End D) (g : List ℕ) (w n : ℕ) where
-
   abbrev pub pends_of : (used later rest : List ℕ) (next : Next) → Reaches goes shown follows b c e g w n used later rest next → Pends goes shown follows b c g w n (used ++ later)
   pends_of used later rest next r = record { outs = r.outs; logged = r.logged; makes = makes_of shown follows b.limits b.debuggee e used later rest r.outs next r.handles }
 

@@ -1,8 +1,8 @@
 -- What serving comes to: a statement on the bytes that were read and written, and on the calls of the channel, why it stops.
 -- Overview, "Base Protocol". That an end stops at the first refusal, and that all is answered before the next read, are this profile's choices.
-use Rattle.std.specs.Prelude.{◌≡◌, ℕ, ◌+◌, ◌<◌, ◌≤◌, List, [], ◌∷◌, ◌++◌, length, take, IsTrue, true, false, Option, Result, Ok, Err}
+use Rattle.std.specs.Prelude.{◌≡◌, ℕ, ◌+◌, ◌<◌, ◌≤◌, List, [], ◌∷◌, ◌++◌, length, IsTrue, true, false, Option, Result, Ok, Err}
 use Rattle.std.specs.Io.KnownBytes.{Appends, Consumes, IsAtEnd}
-use Rattle.dap_channel.specs.Channel.{IoEvent, Gave, ReadFailed, Took, WriteFailed, Flushed, FlushFailed, Ran, bytes_read, bytes_written, reads, is_flushed, HasEnded, HasReadFailed, HasWriteFailed}
+use Rattle.dap_channel.specs.Channel.{IoEvent, Gave, ReadFailed, Took, WriteFailed, Flushed, FlushFailed, Ran, bytes_read, bytes_written, reads, is_flushed, MayGoOn, HasEnded, HasReadFailed, HasWriteFailed}
 use Rattle.dap_channel.specs.Sent.{counted}
 use Rattle.dap_frame.specs.declared.Cause.TheVariants.{Refused}
 use Rattle.dap_frame.specs.declared.Refusal.{Refusal}
@@ -194,10 +194,11 @@ Comes shown follows limits start read written (Err fault) = Stops shown follows 
 
 -- ---- the calls of the channel
 
--- all that was read is handled, and written and flushed
+-- all that was read is handled, and written and flushed; no call failed, and no read found the end of the input
 pub record IsReadyToRead {D : Type 0} (shown : D → Shown) (follows : Goes D) (limits : Settings) (start : D) (log : List IoEvent) : Type 0 where
   pub caught_up : IsCaughtUp shown follows limits start (bytes_read log) (bytes_written log)
   pub flushed : IsTrue (is_flushed log)
+  pub may_go_on : MayGoOn log
 
 -- each read came only when what had come before it was handled, written and flushed
 abbrev pub ReadsInTurn : {D : Type 0} → (D → Shown) → Goes D → Settings → D → List IoEvent → Type 0
@@ -209,13 +210,23 @@ ReadsInTurn shown follows limits start (WriteFailed ∷ log) = ReadsInTurn shown
 ReadsInTurn shown follows limits start (Flushed ∷ log) = ReadsInTurn shown follows limits start log
 ReadsInTurn shown follows limits start (FlushFailed ∷ log) = ReadsInTurn shown follows limits start log
 
--- what the calls show of a fault. At every fault but the writer's, all that was written was flushed
+-- each read gave at most 4096 bytes
+abbrev pub AreSmall : List IoEvent → Type 0
+AreSmall [] = Unit {0}
+AreSmall (Gave room bytes ∷ log) = (length bytes ≤ 4096) × AreSmall log
+AreSmall (ReadFailed ∷ log) = AreSmall log
+AreSmall (Took bytes left ∷ log) = AreSmall log
+AreSmall (WriteFailed ∷ log) = AreSmall log
+AreSmall (Flushed ∷ log) = AreSmall log
+AreSmall (FlushFailed ∷ log) = AreSmall log
+
+-- what the calls show of a fault. At every fault but the writer's, all that was written was flushed; and where the channel is not to blame, no call failed, and no read found the end of the input
 abbrev pub HasCause : ℕ → List IoEvent → ServeFault → Type 0
 HasCause most log Read = HasReadFailed log × IsTrue (is_flushed log)
 HasCause most log (Write n) = HasWriteFailed log
-HasCause most log (Adapter fault) = IsTrue (is_flushed log)
-HasCause most log TooManyReads = (reads log ≡ most) × IsTrue (is_flushed log)
-HasCause most log OutOfMemory = IsTrue (is_flushed log)
+HasCause most log (Adapter fault) = IsTrue (is_flushed log) × MayGoOn log
+HasCause most log TooManyReads = (reads log ≡ most) × IsTrue (is_flushed log) × MayGoOn log
+HasCause most log OutOfMemory = IsTrue (is_flushed log) × MayGoOn log
 
 -- the same of each outcome: unless the session ended, the last call found the end of the input
 abbrev pub HasReason : ℕ → List IoEvent → Result Served ServeFault → Type 0
@@ -229,6 +240,7 @@ pub record Serves {C D : Type 0} (goes : C → IoEvent → C → Type 0) (shown 
   pub comes : Comes shown follows b.limits b.debuggee (bytes_read log) (bytes_written log) result
   pub in_turn : ReadsInTurn shown follows b.limits b.debuggee log
   pub few : reads log ≤ b.most
+  pub small : AreSmall log
   pub reason : HasReason b.most log result
 
 -- ---- the bytes that a reader and a writer know

@@ -1,6 +1,6 @@
 -- The code's words for serving: what is held between its steps. They serve private functions alone.
-use Rattle.std.specs.Prelude.{◌≡◌, ℕ, ◌+◌, ◌<◌, ◌≤◌, ◌==◌, List, [], ◌∷◌, ◌++◌, length, take, drop, IsTrue, Bool, true, false, Ok, Err, if◌then◌else◌}
-use Rattle.dap_channel.specs.Channel.{IoEvent, Ran, bytes_read, bytes_written, reads, is_flushed, HasWriteFailed}
+use Rattle.std.specs.Prelude.{◌≡◌, ℕ, ◌+◌, ◌≤◌, ◌==◌, List, [], ◌++◌, length, take, drop, IsTrue, Bool, true, false, Err, if◌then◌else◌}
+use Rattle.dap_channel.specs.Channel.{IoEvent, Ran, bytes_read, bytes_written, reads, is_flushed, MayGoOn, HasWriteFailed}
 use Rattle.dap_channel.specs.Sent.{counted, WritesShort}
 use Rattle.dap_frame.specs.Intake.{StandsFor as StandsForStream}
 use Rattle.dap_frame.specs.Settings.{Settings}
@@ -11,13 +11,12 @@ use Rattle.dap_session.specs.declared.fault.AdapterFault.{AdapterFault}
 use Rattle.dap_session.specs.declared.fault.AdapterFault.TheVariants.{OutOfMemory as NoMemory}
 use Rattle.dap_session.specs.Carried.{Goes}
 use Rattle.dap_session.specs.Plan.{bytes_of}
-use Rattle.dap_session.specs.Seat.{Seat}
 use Rattle.dap_adapter.specs.declared.served.ServeFault.{ServeFault}
 use Rattle.dap_adapter.specs.declared.served.ServeFault.TheVariants.{Read, Write, Adapter, TooManyReads, OutOfMemory}
 use Rattle.dap_adapter.specs.End.{End}
 use Rattle.dap_adapter.specs.StandsFor.{StandsFor}
 use Rattle.dap_adapter.specs.Run.{Next, to_take, to_turn, to_poll, has_ended, fresh_seat, Run}
-use Rattle.dap_adapter.specs.Served.{Start, StopsBy, MakesSome, CutShort, ReadsInTurn, Serves}
+use Rattle.dap_adapter.specs.Served.{Start, StopsBy, MakesSome, CutShort, ReadsInTurn, AreSmall, Serves}
 
 -- ---- bytes that are gathered and go out
 
@@ -32,6 +31,7 @@ pub record Gathers {C : Type 0} (goes : C → IoEvent → C → Type 0) (c d : C
   pub ran : Ran goes c log d
   pub no_reads : reads log ≡ 0
   pub flushed : IsTrue (is_flushed log)
+  pub goes_on : MayGoOn log
   pub all : bytes_written log ++ gathered ≡ bytes
   pub count : (others : ℕ) → before ≡ counted others → written ≡ counted (others + length (bytes_written log))
 
@@ -49,7 +49,9 @@ pub record Logged {C D : Type 0} (goes : C → IoEvent → C → Type 0) (shown 
   pub read_is : bytes_read log ≡ read
   pub made : reads log ≡ n
   pub in_turn : ReadsInTurn shown follows b.limits b.debuggee log
+  pub small : AreSmall log
   pub flushed : IsTrue (is_flushed log)
+  pub goes_on : MayGoOn log
   pub all : bytes_written log ++ gathered ≡ bytes_of outs
   pub count : written ≡ counted (length (bytes_written log))
 
@@ -100,6 +102,7 @@ pub record Failed {C D : Type 0} (goes : C → IoEvent → C → Type 0) (shown 
   pub read_is : bytes_read log ≡ read
   pub made : reads log ≡ n
   pub in_turn : ReadsInTurn shown follows b.limits b.debuggee log
+  pub small : AreSmall log
   pub failed : HasWriteFailed log
   pub cut : CutShort shown follows b.limits b.debuggee read (bytes_written log) count
 

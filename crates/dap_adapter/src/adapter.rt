@@ -224,7 +224,7 @@ impl<D: Debuggee + Drop> Adapter<D> {
     }
 
     /// How the client's bytes end, if no more come.
-    pub fn finish(&self) -> End
+    pub(crate) fn finish(&self) -> End
         ensures ends { (s : List ℕ) (xs : List (List ℕ)) (rest : List ℕ) → StandsForStream self.now.intake s xs rest → EndsWith self.now.intake rest result }
         ensures open { self.now.fault ≡ None → result ≢ End.Refused }
     {

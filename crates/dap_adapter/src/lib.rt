@@ -14,5 +14,5 @@ mod taken;
 pub use adapter::Adapter;
 pub use dap_session::{AdapterFault, Options, Phase};
 pub use served::{ServeFault, Served};
-pub use serving::{serve, serve_channel};
+pub use serving::{serve, serve_channel, serving_is_of_the_log};
 pub use taken::{Taken, Turned};

@@ -1,18 +1,21 @@
 //! A debuggee served over a channel.
-ghost use Rattle.std.specs.Prelude.{◌≡◌, ℕ, ◌+◌, ◌<◌, ◌≤◌, List, [], length, false, IfOk, OnOk, IfErr, IfNone, IfSome, None, Some};
+ghost use Rattle.std.specs.Prelude.{◌≡◌, ℕ, ◌+◌, ◌<◌, ◌≤◌, List, [], length, false, IfOk, OnOk, IfErr, IfNone, IfSome, None, Some, Result};
 ghost use Rattle.dap_message.specs.declared.message.Message.{Message};
 ghost use Rattle.dap_debuggee.specs.declared.answers.State.{State};
 ghost use Rattle.dap_session.specs.Table.{is_phase};
 ghost use Rattle.dap_session.specs.declared.phase.Phase.{Phase};
 ghost use Rattle.dap_adapter.specs.Run.{to_take, to_turn, to_poll, has_ended};
-ghost use Rattle.dap_adapter.specs.Served.{Start, Serves, ServesBytes};
+ghost use Rattle.dap_channel.specs.Channel.{IoEvent, Pipes, bytes_read, bytes_written, reads, keeps_log};
+ghost use Rattle.dap_adapter.specs.declared.served.Served.{Served};
+ghost use Rattle.dap_adapter.specs.declared.served.ServeFault.{ServeFault};
+ghost use Rattle.dap_adapter.specs.Served.{Start, Serves, ServesBytes, Comes, ReadsInTurn, AreSmall, HasReason};
 ghost use Rattle.dap_adapter.specs.Serving.{Reaches, Leads, Breaks, Handled, BreaksOff, Uses, UsesUp, BreaksIn, EndsIn, serve_fault_of};
 
 use crate::adapter::Adapter;
 use crate::outlet::Outlet;
 use crate::served::{ServeFault, Served};
 use crate::taken::{Taken, Turned};
-use dap_channel::{Channel, Pipe};
+use dap_channel::{Channel, Pipe, calls_add_up, calls_are_the_log, pipes_tell_their_bytes};
 use dap_debuggee::Debuggee;
 use dap_frame::{End, Limits, each_stream_has_one_split};
 use dap_session::{AdapterFault, Phase};
@@ -71,6 +74,7 @@ fn turns<C: Channel, D: Debuggee + Drop>(
     ensures idle { OnOk result (Leads C.goes D.shown D.follows channel.old adapter.old outlet.old.gathered.items outlet.old.written to_turn channel.new adapter.new outlet.new.gathered.items outlet.new.written (to_poll 0)) }
     ensures halts { IfErr result (Breaks C.goes D.shown D.follows channel.old adapter.old outlet.old.gathered.items outlet.old.written to_turn channel.new outlet.new.gathered.items outlet.new.written) }
 {
+    calls_add_up::<C>();
     for _turn in 0..u64::MAX {
         let bytes = match adapter.turn(alloc) {
             Ok(Turned::Idle) => return Ok(()),
@@ -95,6 +99,7 @@ fn polls<C: Channel, D: Debuggee + Drop>(
     ensures told { OnOk result (Leads C.goes D.shown D.follows channel.old adapter.old outlet.old.gathered.items outlet.old.written (to_poll 0) channel.new adapter.new outlet.new.gathered.items outlet.new.written to_take) }
     ensures halts { IfErr result (Breaks C.goes D.shown D.follows channel.old adapter.old outlet.old.gathered.items outlet.old.written (to_poll 0) channel.new outlet.new.gathered.items outlet.new.written) }
 {
+    calls_add_up::<C>();
     for _poll in 0..MAX_POLLS {
         let bytes = match adapter.poll(alloc) {
             Ok(bytes) => bytes,
@@ -124,6 +129,7 @@ fn handle<C: Channel, D: Debuggee + Drop>(
     ensures handled { OnOk result (Handled C.goes D.shown D.follows channel.old adapter.old outlet.old.gathered.items outlet.old.written bytes.now channel.new adapter.new outlet.new.gathered.items outlet.new.written) }
     ensures halts { IfErr result (BreaksOff C.goes D.shown D.follows channel.old adapter.old outlet.old.gathered.items outlet.old.written bytes.now channel.new outlet.new.gathered.items outlet.new.written) }
 {
+    calls_add_up::<C>();
     if let Err(fault) = outlet.gather(channel, bytes) {
         return Err(fault);
     }
@@ -219,15 +225,18 @@ fn serve_read<C: Channel, D: Debuggee + Drop>(
     ensures none_left { OnOk result (outlet.new.gathered.items ≡ []) }
     ensures stops { IfErr result (EndsIn C.goes D.shown D.follows channel.old adapter.old outlet.old.gathered.items outlet.old.written channel.new piece.now) }
 {
+    calls_add_up::<C>();
     match serve_piece(alloc, adapter, channel, outlet, piece) {
         Ok(ended) => match outlet.send(channel) {
             Ok(()) => Ok(ended),
             Err(fault) => Err(fault),
         },
-        Err(ServeFault::Write { written }) => Err(ServeFault::Write { written }),
-        Err(fault) => match outlet.send(channel) {
-            Ok(()) => Err(fault),
-            Err(short) => Err(short),
+        Err(fault) => match fault {
+            ServeFault::Write { written } => Err(ServeFault::Write { written }),
+            other => match outlet.send(channel) {
+                Ok(()) => Err(other),
+                Err(short) => Err(short),
+            },
         },
     }
 }
@@ -240,7 +249,6 @@ fn serve_reads<C: Channel, D: Debuggee + Drop>(
     outlet: &mut Outlet,
     max_reads: u64,
 ) -> Result<Served, ServeFault>
-    requires open { adapter.old.fault ≡ None }
     requires going { has_ended adapter.old.session ≡ false }
     requires none { outlet.old.gathered.items ≡ [] }
     ensures { (b : Start C D) → max_reads ≡ b.most → Reaches C.goes D.shown D.follows b channel.old adapter.old outlet.old.gathered.items outlet.old.written 0 [] [] [] to_take → Serves C.goes D.shown D.follows b channel.new result }
@@ -257,15 +265,15 @@ fn serve_reads<C: Channel, D: Debuggee + Drop>(
             });
         }
         let (piece, _) = buffer.split_at(n);
-        match serve_read(alloc, adapter, channel, outlet, piece) {
-            Ok(false) => {}
-            Ok(true) => {
-                return Ok(Served {
-                    end: End::Clean,
-                    phase: adapter.phase(),
-                });
-            }
+        let ended = match serve_read(alloc, adapter, channel, outlet, piece) {
+            Ok(ended) => ended,
             Err(fault) => return Err(fault),
+        };
+        if ended {
+            return Ok(Served {
+                end: End::Clean,
+                phase: adapter.phase(),
+            });
         }
     }
     Err(ServeFault::TooManyReads)
@@ -315,7 +323,17 @@ pub fn serve<R: Read, W: Write, D: Debuggee + Drop>(
     max_reads: u64,
 ) -> Result<Served, ServeFault>
     requires { (D.shown debuggee).state ≡ State.NotStarted }
-    ensures { ServesBytes D.shown D.follows limits debuggee (R.remaining pipe.old.reader) (R.remaining pipe.new.reader) (W.contents pipe.old.writer) (W.contents pipe.new.writer) result }
+    ensures bytes { ServesBytes D.shown D.follows limits debuggee (R.remaining pipe.old.reader) (R.remaining pipe.new.reader) (W.contents pipe.old.writer) (W.contents pipe.new.writer) result }
+    ensures calls { Serves (λ p e q. Pipes (R.remaining p.reader) (W.contents p.writer) e (R.remaining q.reader) (W.contents q.writer)) D.shown D.follows (record { limits = limits; most = max_reads; channel = pipe.old; debuggee = debuggee }) pipe.new result }
 {
+    pipes_tell_their_bytes::<R, W>();
     serve_channel(alloc, pipe, debuggee, limits, max_reads)
+}
+
+/// A law: of a channel that is the log of its calls, what `serve_channel` says is said of that very log.
+pub fn serving_is_of_the_log<D: Debuggee + Drop>()
+    ensures { (b : Start (List IoEvent) D) (calls : List IoEvent) (result : Result Served ServeFault) → b.channel ≡ [] → Serves keeps_log D.shown D.follows b calls result
+        → Comes D.shown D.follows b.limits b.debuggee (bytes_read calls) (bytes_written calls) result × ReadsInTurn D.shown D.follows b.limits b.debuggee calls × (reads calls ≤ b.most) × AreSmall calls × HasReason b.most calls result }
+{
+    calls_are_the_log();
 }

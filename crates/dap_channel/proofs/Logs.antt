@@ -1,7 +1,7 @@
 -- Logs that are put together.
 use Rattle.std.proofs.Common.{◌≡◌, ◌+◌, List, [], ◌∷◌, ◌++◌, IsTrue, refl, sym, ap, ◌∙◌, subst, arith}
 use Rattle.std.proofs.lemmas.List.{append_assoc, append-nil}
-use Rattle.dap_channel.specs.Channel.{IoEvent, Gave, ReadFailed, Took, WriteFailed, Flushed, FlushFailed, Ran, bytes_read, bytes_written, reads, is_flushed, HasWriteFailed, keeps_log}
+use Rattle.dap_channel.specs.Channel.{IoEvent, Gave, ReadFailed, Took, WriteFailed, Flushed, FlushFailed, Ran, bytes_read, bytes_written, reads, is_flushed, MayGoOn, HasWriteFailed, keeps_log}
 
 pub Ran-append : {C : Type 0} (goes : C → IoEvent → C → Type 0) (c d e : C) (new old : List IoEvent) → Ran goes c old d → Ran goes d new e → Ran goes c (new ++ old) e
 Ran-append goes c d e [] old r s = subst (Ran goes c old) (sym s) r
@@ -44,6 +44,15 @@ flushed-append (WriteFailed ∷ new) old n o = n
 flushed-append (Flushed ∷ new) old n o = n
 flushed-append (FlushFailed ∷ new) old n o = n
 
+pub goes_on-append : (new old : List IoEvent) → MayGoOn new → MayGoOn old → MayGoOn (new ++ old)
+goes_on-append [] old n o = o
+goes_on-append (Gave room bytes ∷ new) old n o = (n.0, goes_on-append new old n.1 o)
+goes_on-append (ReadFailed ∷ new) old n o = absurd n
+goes_on-append (Took bytes left ∷ new) old n o = (n.0, goes_on-append new old n.1 o)
+goes_on-append (WriteFailed ∷ new) old n o = absurd n
+goes_on-append (Flushed ∷ new) old n o = goes_on-append new old n o
+goes_on-append (FlushFailed ∷ new) old n o = absurd n
+
 pub failed-append : (new old : List IoEvent) → HasWriteFailed new → HasWriteFailed (new ++ old)
 failed-append [] old h = absurd h
 failed-append (Gave room bytes ∷ new) old h = absurd h
@@ -57,3 +66,12 @@ failed-append (FlushFailed ∷ new) old h = h
 pub log-kept : (c d log : List IoEvent) → Ran keeps_log c log d → d ≡ log ++ c
 log-kept c d [] r = r
 log-kept c d (e ∷ log) r = r.2 ∙ ap (λ z. e ∷ z) (log-kept c r.0 log r.1)
+
+pub bytes_read-append : (new old : List IoEvent) → bytes_read (new ++ old) ≡ bytes_read old ++ bytes_read new
+bytes_read-append [] old = sym (append-nil (bytes_read old))
+bytes_read-append (Gave room bytes ∷ new) old = ap (λ z. z ++ bytes) (bytes_read-append new old) ∙ append_assoc (bytes_read old) (bytes_read new) bytes
+bytes_read-append (ReadFailed ∷ new) old = bytes_read-append new old
+bytes_read-append (Took bytes left ∷ new) old = bytes_read-append new old
+bytes_read-append (WriteFailed ∷ new) old = bytes_read-append new old
+bytes_read-append (Flushed ∷ new) old = bytes_read-append new old
+bytes_read-append (FlushFailed ∷ new) old = bytes_read-append new old

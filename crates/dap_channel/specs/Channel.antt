@@ -56,6 +56,16 @@ is_flushed (WriteFailed ∷ log) = false
 is_flushed (Flushed ∷ log) = true
 is_flushed (FlushFailed ∷ log) = false
 
+-- another call may come: no call failed, no write took nothing, and no read found the end of the input
+abbrev pub MayGoOn : List IoEvent → Type 0
+MayGoOn [] = Unit {0}
+MayGoOn (Gave room bytes ∷ log) = (0 < length bytes) × MayGoOn log
+MayGoOn (ReadFailed ∷ log) = ⊥
+MayGoOn (Took bytes left ∷ log) = (0 < length bytes) × MayGoOn log
+MayGoOn (WriteFailed ∷ log) = ⊥
+MayGoOn (Flushed ∷ log) = MayGoOn log
+MayGoOn (FlushFailed ∷ log) = ⊥
+
 -- the last call was a read that found the end of the input: it had room and gave nothing
 abbrev pub HasEnded : List IoEvent → Type 0
 HasEnded [] = ⊥

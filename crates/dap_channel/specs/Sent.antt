@@ -1,6 +1,6 @@
 -- Bytes that went out by calls of a channel. That a count stays at its greatest value is this profile's choice.
 use Rattle.std.specs.Prelude.{◌≡◌, ℕ, List, IsTrue, min}
-use Rattle.dap_channel.specs.Channel.{IoEvent, Ran, bytes_written, reads, is_flushed, HasWriteFailed}
+use Rattle.dap_channel.specs.Channel.{IoEvent, Ran, bytes_written, reads, is_flushed, MayGoOn, HasWriteFailed}
 
 -- a count of bytes, which stays at its greatest value
 abbrev pub counted : ℕ → ℕ
@@ -12,6 +12,7 @@ pub record Writes {C : Type 0} (goes : C → IoEvent → C → Type 0) (c d : C)
   pub ran : Ran goes c log d
   pub no_reads : reads log ≡ 0
   pub written : bytes_written log ≡ bytes
+  pub goes_on : MayGoOn log
 
 -- the same, and all is flushed
 pub record Sends {C : Type 0} (goes : C → IoEvent → C → Type 0) (c d : C) (bytes : List ℕ) : Type 0 where
@@ -20,6 +21,7 @@ pub record Sends {C : Type 0} (goes : C → IoEvent → C → Type 0) (c d : C) 
   pub no_reads : reads log ≡ 0
   pub written : bytes_written log ≡ bytes
   pub flushed : IsTrue (is_flushed log)
+  pub goes_on : MayGoOn log
 
 -- the same, but the last call is where the writer failed or took nothing
 pub record WritesShort {C : Type 0} (goes : C → IoEvent → C → Type 0) (c d : C) (bytes : List ℕ) : Type 0 where

@@ -6,7 +6,9 @@
 #![tactic(auto)]
 
 mod channel;
+mod laws;
 mod sending;
 
 pub use channel::{Channel, Pipe, calls_are_the_log};
+pub use laws::{calls_add_up, pipes_tell_their_bytes};
 pub use sending::send;

@@ -26,4 +26,4 @@ pub returns-clause-halts : goal.returns-clause-halts
 returns-clause-halts g c = λ b n used rest going r.
     let some = rw c.in-Some.is at c.handed_out-used.ensures.some in
     halts_whole g.C.Channel.goes g.D.Debuggee.shown g.D.Debuggee.follows b _ _ _ n c.handed_out-used.result.0 used c.args.piece.now _ (c.in-Err-handle.ensures.halts b n _ _
-          (took_sent c.each_stream_has_one_split.ensures g.C.Channel.goes g.D.Debuggee.shown g.D.Debuggee.follows b _ c.args.adapter.now c.take.new.self _ _ n used c.args.piece.now rest c.in-Ok.taken c.in-Ok.taken.delivered some.0 c.handed_out-used.result.0 c.deref.result.now r going c.in-Ok.ensures.takes c.in-Ok.ensures.limits some.1 c.handed_out-used.ensures.used (c.deref.ensures.value ∙ ap (λ (v : _). v.items) some.2)))
+    (took_sent c.each_stream_has_one_split.ensures g.C.Channel.goes g.D.Debuggee.shown g.D.Debuggee.follows b _ c.args.adapter.now c.take.new.self _ _ n used c.args.piece.now rest c.in-Ok.taken c.in-Ok.taken.delivered some.0 c.handed_out-used.result.0 c.deref.result.now r going c.in-Ok.ensures.takes c.in-Ok.ensures.limits some.1 c.handed_out-used.ensures.used (c.deref.ensures.value ∙ ap (λ (v : _). v.items) some.2)))

@@ -1,6 +1,5 @@
-use Rattle.std.proofs.Common.{[], ◌++◌, refl, sym, subst}
+use Rattle.std.proofs.Common.{[]}
 use Rattle.dap_adapter.specs.Run.{to_turn}
-use Rattle.dap_adapter.specs.Serving.{Owes}
 use Rattle.dap_adapter.proofs.Outgoing.{Owes-gathered, Owes-short}
 use Rattle.dap_adapter.proofs.Stepping.{turned, idled}
 use Rattle.dap_adapter.proofs.Stopping.{turn_stops, pends_of}
@@ -20,13 +19,13 @@ pub returns-in-Err-gather-clause-halts : goal.returns-in-Err-gather-clause-halts
 returns-in-Err-gather-clause-halts g c = λ b n used later r.
     let gives = rw c.in-Ok-Done.field-0-is at c.in-Ok-Done.ensures.gives in
     let owes = turned g.C.Channel.goes g.D.Debuggee.shown g.D.Debuggee.follows b _ _ c.turn.new.self _ _ n used later _ (c.loop-turn.invariant b n used later r) gives c.in-Ok-Done.ensures.limits in
-    Owes-short g.C.Channel.goes g.D.Debuggee.shown g.D.Debuggee.follows b _ _ c.turn.new.self _ _ _ _ n used later [] to_turn c.deref.result.now c.in-Err-gather.fault (rw c.deref.ensures.value owes) c.in-Err-gather.ensures.refused
+    Owes-short g.C.Channel.goes c.calls_add_up.ensures g.D.Debuggee.shown g.D.Debuggee.follows b _ _ c.turn.new.self _ _ _ _ n used later [] to_turn c.deref.result.now c.in-Err-gather.fault (rw c.deref.ensures.value owes) c.in-Err-gather.ensures.refused
 
 pub loop-turn-preserved : goal.loop-turn-preserved
 loop-turn-preserved g c = λ b n used later r.
     let gives = rw c.in-Ok-Done.field-0-is at c.in-Ok-Done.ensures.gives in
     let owes = turned g.C.Channel.goes g.D.Debuggee.shown g.D.Debuggee.follows b _ _ c.turn.new.self _ _ n used later _ (c.loop-turn.invariant b n used later r) gives c.in-Ok-Done.ensures.limits in
-    Owes-gathered g.C.Channel.goes g.D.Debuggee.shown g.D.Debuggee.follows b _ _ _ _ _ _ _ n used later [] to_turn c.deref.result.now (rw c.deref.ensures.value owes) c.in_default.ensures.gathers
+    Owes-gathered g.C.Channel.goes c.calls_add_up.ensures g.D.Debuggee.shown g.D.Debuggee.follows b _ _ _ _ _ _ _ n used later [] to_turn c.deref.result.now (rw c.deref.ensures.value owes) c.in_default.ensures.gathers
 
 pub returns-clause-halts : goal.returns-clause-halts
 returns-clause-halts g c = λ b n used later r. pends_of g.C.Channel.goes g.D.Debuggee.shown g.D.Debuggee.follows b _ _ _ _ n used later [] to_turn (c.loop-turn.invariant b n used later r)

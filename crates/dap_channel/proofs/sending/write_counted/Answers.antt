@@ -1,6 +1,6 @@
 use Rattle.std.proofs.Common.{◌∷◌, ◌++◌, take, drop, ap, ◌∙◌, refl}
 use Rattle.dap_channel.specs.Channel.{Took, WriteFailed}
-use Rattle.dap_channel.proofs.Bytes.{within_rest, take_rest, take_same, rest_left}
+use Rattle.dap_channel.proofs.Bytes.{within_rest, take_rest, take_same, rest_left, some_taken}
 use Rattle.dap_channel.proofs.sending.write_counted.Goals as goal
 
 pub loop-at-preserved : goal.loop-at-preserved
@@ -14,6 +14,7 @@ loop-at-preserved g c =
         ran = (c.loop-at.channel, so.ran, c.in-Ok.ensures.ok);
         no_reads = so.no_reads;
         written = ap (λ z. z ++ take c.in-Ok.n rest) so.written ∙ take_rest _ _ c.loop-at.at c.in-Ok.n c.split_at.ensures.back;
+        goes_on = (some_taken c.in-Ok.n rest c.in-Ok.n-test.1 c.in-Ok.ensures.bound, so.goes_on);
       };
     }
 

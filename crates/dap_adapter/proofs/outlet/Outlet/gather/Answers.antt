@@ -1,10 +1,9 @@
 use Rattle.std.proofs.Common.{[], refl, arith}
 use Rattle.dap_adapter.proofs.Outgoing.{sent_gathers}
-use Rattle.dap_adapter.proofs.Piecewise.{part_none}
 use Rattle.dap_adapter.proofs.outlet.Outlet.gather.Goals as goal
 
 pub returns-clause-gathers : goal.returns-clause-gathers
-returns-clause-gathers g c = record { log = []; ran = refl; no_reads = refl; flushed = refl; all = c.in_default.ensures.items; count = λ others is. omega (arith, is) }
+returns-clause-gathers g c = record { log = []; ran = refl; no_reads = refl; flushed = refl; goes_on = tt; all = c.in_default.ensures.items; count = λ others is. omega (arith, is) }
 
 pub returns-in-Ok-clause-gathers : goal.returns-in-Ok-clause-gathers
 returns-in-Ok-clause-gathers g c = rw c.in_default.ensures.items at (sent_gathers g.C.Channel.goes _ _ _ _ _ _ c.in-Ok.ensures.sent c.in-Ok.ensures.none c.in-Ok.ensures.count)

@@ -1,0 +1,16 @@
+//! Laws of the definitions, each on a function with nothing to run.
+ghost use Rattle.dap_channel.specs.Laws.{CallsAddUp, PipesTellTheirBytes};
+ghost use Rattle.dap_channel.specs.declared.channel.Pipe.{Pipe};
+
+use crate::channel::Channel;
+use std::io::{Read, Write};
+
+/// What calls come to that are made one after the other.
+pub fn calls_add_up<C: Channel>()
+    ensures { CallsAddUp C.goes }
+{}
+
+/// What the calls of a pipe read and write is what its reader and its writer know of it.
+pub fn pipes_tell_their_bytes<R: Read, W: Write>()
+    ensures { PipesTellTheirBytes (λ (p : Pipe R W). R.remaining p.reader) (λ (p : Pipe R W). W.contents p.writer) }
+{}
