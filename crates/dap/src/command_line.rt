@@ -89,12 +89,16 @@ const FRAME_OPTIONS: usize = 2;
 fn serve<'a>(alloc: Global, limit_texts: &'a [String]) -> Result<Command<'a>, AllocError> {
     let recording = Arg::new(alloc, "recording")
         .value_name("RECORDING")
-        .help("The recorded debuggee, a JSON file (not opened yet)")
+        .help("The recorded run that is debugged, as JSON, of at most 67108864 bytes")
         .required(true)
         .action(ArgAction::Set);
     let mut serve = Command::new(alloc, "serve")
-        .about("Answers the Debug Adapter Protocol requests of standard input on standard output")
-        .after_help("So far only --max-header, --max-body and --max-seq have an effect.")
+        .about(
+            "Debugs a recorded run: answers the Debug Adapter Protocol requests of standard input on standard output",
+        )
+        .after_help(
+            "The recording is read before the input. The session ends with `disconnect` or with the input.",
+        )
         .arg(recording)?;
     for (option, help) in LIMIT_OPTIONS.iter().zip(limit_texts) {
         serve = serve.arg(limit_option(alloc, option, help.as_str()))?;

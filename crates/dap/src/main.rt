@@ -1,12 +1,17 @@
 //! The program `dap`: its command line, its streams and its exit statuses. What it does is in `dap_tool`.
 #![tactic(auto)]
 
+ghost use Rattle.std.specs.Prelude.{◌≡◌, IfOk};
+ghost use Rattle.dap_debuggee.specs.declared.answers.State.{State};
+
 mod command_line;
 
 use clap::ArgMatches;
 use clap::error::ErrorKind;
+use dap_channel::Pipe;
+use dap_debuggee::Recorded;
 use dap_frame::End;
-use dap_tool::{FileFault, ToolFault, fault_line, first_serve, read_whole, status};
+use dap_tool::{FileFault, ToolFault, fault_line, read_whole, status};
 use std::alloc::{AllocError, AllocFailed};
 use std::fs::File;
 use std::io;
@@ -93,18 +98,25 @@ fn run(rt: &HostRuntime) -> Result<u8, Failure> {
     }
 }
 
-/// Serves standard input to standard output, and answers the exit status.
+/// Serves the recording that a file is from standard input to standard output, and answers the exit status. A file that is
+/// no recording is told before anything is read of the input.
 fn serve(rt: &HostRuntime, matches: &ArgMatches<'_>) -> u8 {
     // The command line took each option in its range, so that the limits are never refused here.
     let Ok(limits) = command_line::limits(matches) else {
         return USAGE;
     };
-    let mut input = rt.reader();
-    let mut output = io::writer(rt);
-    match first_serve(rt.alloc(), &mut input, &mut output, limits, MAX_READS) {
-        Ok(End::Truncated) => tell(rt, &ToolFault::Truncated),
+    let recording = match read_recording(rt, matches) {
+        Ok(recording) => recording,
+        Err(fault) => return tell(rt, &fault),
+    };
+    let mut pipe = Pipe {
+        reader: rt.reader(),
+        writer: io::writer(rt),
+    };
+    match dap_adapter::serve(rt.alloc(), &mut pipe, recording, limits, MAX_READS) {
+        Ok(served) if served.end == End::Truncated => tell(rt, &ToolFault::Truncated),
         Ok(_) => 0,
-        Err(fault) => tell(rt, &ToolFault::First(fault)),
+        Err(fault) => tell(rt, &ToolFault::Serve(fault)),
     }
 }
 
@@ -114,7 +126,7 @@ fn show(rt: &HostRuntime, matches: &ArgMatches<'_>) -> u8 {
     let Ok(limits) = command_line::limits(matches) else {
         return USAGE;
     };
-    let bytes = match read_file(rt, matches) {
+    let bytes = match read_file(rt, matches, "file") {
         Ok(bytes) => bytes,
         Err(fault) => return tell(rt, &ToolFault::File(fault)),
     };
@@ -135,7 +147,7 @@ fn wrap(rt: &HostRuntime, matches: &ArgMatches<'_>) -> u8 {
     let Ok(limits) = command_line::limits(matches) else {
         return USAGE;
     };
-    let bytes = match read_file(rt, matches) {
+    let bytes = match read_file(rt, matches, "file") {
         Ok(bytes) => bytes,
         Err(fault) => return tell(rt, &ToolFault::File(fault)),
     };
@@ -149,10 +161,24 @@ fn wrap(rt: &HostRuntime, matches: &ArgMatches<'_>) -> u8 {
     }
 }
 
-/// The bytes of the file that the command line names.
-fn read_file(rt: &HostRuntime, matches: &ArgMatches<'_>) -> Result<Vec<u8>, FileFault> {
+/// The recording that the command line names, not started.
+fn read_recording(rt: &HostRuntime, matches: &ArgMatches<'_>) -> Result<Recorded, ToolFault>
+    ensures { IfOk result (λ recording. recording.state ≡ State.NotStarted) }
+{
+    let bytes = match read_file(rt, matches, "recording") {
+        Ok(bytes) => bytes,
+        Err(fault) => return Err(ToolFault::File(fault)),
+    };
+    match Recorded::read(rt.alloc(), &bytes) {
+        Ok(recording) => Ok(recording),
+        Err(fault) => Err(ToolFault::Recording(fault)),
+    }
+}
+
+/// The bytes of the file that a word of the command line names.
+fn read_file(rt: &HostRuntime, matches: &ArgMatches<'_>, word: &str) -> Result<Vec<u8>, FileFault> {
     // The command line has this word, or it was refused.
-    let Some(path) = matches.get_str("file") else {
+    let Some(path) = matches.get_str(word) else {
         return Err(FileFault::Read);
     };
     let Ok(mut file) = File::open(rt, path) else {

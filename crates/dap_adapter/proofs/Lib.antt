@@ -6,6 +6,7 @@ pub mod Piecewise
 pub mod Polling
 pub mod Receiving
 pub mod Refusing
+mod RunExamples
 pub mod Stepping
 pub mod Stopping
 pub mod Telling

@@ -22,6 +22,7 @@ mod recorded;
 mod recording;
 mod rows;
 mod run;
+mod stubborn;
 
 pub use answers::{
     Asked, Category, DebuggeeFault, Evaluation, Frame, Happening, How, Scope, Source, State,
@@ -32,10 +33,9 @@ pub use laws::{held_gives_nothing, pieces_are_the_output, polls_tell_the_pieces}
 pub use list::List;
 pub use reading::{RecordingFault, RecordingKey};
 pub use recorded::Recorded;
+pub use stubborn::Stubborn;
 
 #[cfg(test)]
 mod reading_tests;
-#[cfg(test)]
-mod stubborn;
 #[cfg(test)]
 mod tests;

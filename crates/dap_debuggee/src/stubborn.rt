@@ -1,4 +1,4 @@
-//! A debuggee of the tests: a recording that refuses its first start.
+//! A debuggee for tests of what stands above: a recording that refuses its first start.
 ghost use Rattle.std.specs.Prelude.{◌≡◌};
 
 use crate::answers::{
@@ -11,8 +11,10 @@ use dap_json::Text;
 use std::alloc::{AllocError, Global};
 use std::marker::Model;
 
+/// A recording that refuses to start when it is asked first, and then plays. It shows what an adapter does where a debuggee
+/// refuses.
 #[derive(Drop)]
-pub(crate) struct Stubborn {
+pub struct Stubborn {
     inner: Recorded,
     refuses: bool,
 }
@@ -28,7 +30,8 @@ impl Model for Stubborn {
 impl Stubborn {
     ghost use Rattle.std.specs.Prelude.{◌≡◌, true};
 
-    pub(crate) fn new(inner: Recorded) -> Stubborn
+    /// It was not asked to start.
+    pub fn new(inner: Recorded) -> Stubborn
         ensures { result ≡ record { inner = inner; refuses = true } }
     {
         Stubborn {

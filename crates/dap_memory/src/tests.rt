@@ -1,8 +1,11 @@
 //! Examples with their answers, or want of memory.
 
-ghost use Rattle.std.specs.Prelude.{◌≤◌};
+ghost use Rattle.std.specs.Prelude.{◌≡◌, ◌≤◌, IfOk, IfSome};
+ghost use Rattle.dap_debuggee.specs.declared.answers.State.{State};
 
+use dap_adapter::{Adapter, AdapterFault, Phase, ServeFault, Turned, serve};
 use dap_call::{Call, CallFault, Capabilities, Command, Key, SourceKey, read_call, write_call};
+use dap_channel::Pipe;
 use dap_debuggee::{Debuggee, DebuggeeFault, Happening, Recorded, RecordingFault};
 use dap_frame::{Cause, Fed, FrameFault, Frames, Limits, write_frame};
 use dap_json::{parse, write};
@@ -13,10 +16,7 @@ use dap_message::{
     body_variables, read_message, write_message,
 };
 use dap_tables::{Entry, Outstanding, PutFault};
-use dap_tool::{
-    FileFault, FirstFault, ShowFault, ToolFault, WrapFault, fault_line, first_serve, read_whole,
-    show, wrap,
-};
+use dap_tool::{FileFault, ShowFault, ToolFault, WrapFault, fault_line, read_whole, show, wrap};
 use serde_json::Value;
 use std::alloc::{AllocError, Global};
 use std::io;
@@ -31,8 +31,12 @@ fn note(rt: &HostRuntime) -> io::Result<()> {
 static INPUT: &[u8; 171] =
     b"Content-Length: 81\r\n\r\n{\"seq\":1,\"type\":\"request\",\"command\":\"initialize\",\"arguments\":{\"adapterID\":\"rec\"}}Content-Length: 46\r\n\r\n{\"seq\":1,\"type\":\"request\",\"command\":\"threads\"}";
 
-static OUTPUT: &[u8; 470] =
-    b"Content-Length: 251\r\n\r\n{\"body\":{\"supportsCancelRequest\":true,\"supportsConfigurationDoneRequest\":true,\"supportsLoadedSourcesRequest\":true,\"supportsStepBack\":true,\"supportsTerminateRequest\":true},\"command\":\"initialize\",\"request_seq\":1,\"seq\":1,\"success\":true,\"type\":\"response\"}Content-Length: 173\r\n\r\n{\"body\":{\"error\":{\"format\":\"The command is not supported.\",\"id\":1004}},\"command\":\"threads\",\"message\":\"unsupported\",\"request_seq\":1,\"seq\":2,\"success\":false,\"type\":\"response\"}";
+/// A session from `initialize` to `disconnect`.
+static SESSION: &[u8; 319] =
+    b"Content-Length: 81\r\n\r\n{\"seq\":1,\"type\":\"request\",\"command\":\"initialize\",\"arguments\":{\"adapterID\":\"rec\"}}Content-Length: 45\r\n\r\n{\"seq\":2,\"type\":\"request\",\"command\":\"launch\"}Content-Length: 56\r\n\r\n{\"seq\":3,\"type\":\"request\",\"command\":\"configurationDone\"}Content-Length: 49\r\n\r\n{\"seq\":4,\"type\":\"request\",\"command\":\"disconnect\"}";
+
+static ANSWERS: &[u8; 891] =
+    b"Content-Length: 251\r\n\r\n{\"body\":{\"supportsCancelRequest\":true,\"supportsConfigurationDoneRequest\":true,\"supportsLoadedSourcesRequest\":true,\"supportsStepBack\":true,\"supportsTerminateRequest\":true},\"command\":\"initialize\",\"request_seq\":1,\"seq\":1,\"success\":true,\"type\":\"response\"}Content-Length: 46\r\n\r\n{\"event\":\"initialized\",\"seq\":2,\"type\":\"event\"}Content-Length: 88\r\n\r\n{\"command\":\"configurationDone\",\"request_seq\":3,\"seq\":3,\"success\":true,\"type\":\"response\"}Content-Length: 77\r\n\r\n{\"command\":\"launch\",\"request_seq\":2,\"seq\":4,\"success\":true,\"type\":\"response\"}Content-Length: 86\r\n\r\n{\"body\":{\"category\":\"stdout\",\"output\":\"go\\n\"},\"event\":\"output\",\"seq\":5,\"type\":\"event\"}Content-Length: 106\r\n\r\n{\"body\":{\"allThreadsStopped\":true,\"reason\":\"entry\",\"threadId\":1},\"event\":\"stopped\",\"seq\":6,\"type\":\"event\"}Content-Length: 81\r\n\r\n{\"command\":\"disconnect\",\"request_seq\":4,\"seq\":7,\"success\":true,\"type\":\"response\"}";
 
 /// Gives its bytes at once.
 #[derive(Drop)]
@@ -74,24 +78,138 @@ impl Write for Kept {
     }
 }
 
-/// Two requests are answered, or a front of the answers is written.
+/// A session is served, or a front of its answers is written.
 #[test]
 fn serving(rt: HostRuntime) -> Result<(), Fail> {
-    let mut reader = Whole { rest: INPUT };
-    let mut writer = Kept {
-        bytes: [0; 1024],
-        len: 0,
+    let Some(debuggee) = recorded(&rt)? else {
+        return Ok(());
     };
-    let end = first_serve(rt.alloc(), &mut reader, &mut writer, Limits::usual(), 10);
+    let mut pipe = Pipe {
+        reader: Whole { rest: SESSION },
+        writer: Kept {
+            bytes: [0; 1024],
+            len: 0,
+        },
+    };
+    let end = serve(rt.alloc(), &mut pipe, debuggee, Limits::usual(), 10);
+    let Pipe { reader: _, writer } = pipe;
     let written = &writer.bytes[..writer.len];
     match end {
-        Ok(_) => assert!(rt; written == OUTPUT.as_slice()),
+        Ok(served) => {
+            assert_eq!(rt; served.phase, Phase::Ended);
+            assert!(rt; written == ANSWERS.as_slice());
+        }
         Err(fault) => {
-            assert_eq!(rt; fault, FirstFault::OutOfMemory);
-            assert!(rt; OUTPUT.starts_with(written));
+            assert_eq!(rt; fault, ServeFault::OutOfMemory);
+            assert!(rt; ANSWERS.starts_with(written));
             note(&rt)?;
         }
     }
+    Ok(())
+}
+
+/// A call of an adapter.
+#[derive(Clone, Copy)]
+enum Act<'a> {
+    /// These bytes are taken.
+    Take(&'a [u8]),
+    Turn,
+    Poll,
+}
+
+/// What a call hands out; an idle turn nothing.
+fn hand_out(
+    alloc: Global,
+    adapter: &mut Adapter<Recorded>,
+    act: Act<'_>,
+) -> Result<Vec<u8>, AdapterFault> {
+    match act {
+        Act::Take(bytes) => Ok(adapter.take(alloc, bytes)?.bytes),
+        Act::Turn => match adapter.turn(alloc)? {
+            Turned::Idle => Ok(Vec::new(alloc)),
+            Turned::Done { bytes } => Ok(bytes),
+        },
+        Act::Poll => adapter.poll(alloc),
+    }
+}
+
+/// Whether each call answers want of memory, and nothing is held.
+fn is_closed(alloc: Global, adapter: &mut Adapter<Recorded>) -> bool {
+    let fault = AdapterFault::OutOfMemory;
+    adapter.take(alloc, b"x").err() == Some(fault)
+        && adapter.turn(alloc).err() == Some(fault)
+        && adapter.poll(alloc).err() == Some(fault)
+        && adapter.held() == 0
+}
+
+/// Calls, and what each hands out.
+static STEPS: [(Act<'static>, &[u8]); 9] = [
+    (
+        Act::Take(
+            b"Content-Length: 81\r\n\r\n{\"seq\":1,\"type\":\"request\",\"command\":\"initialize\",\"arguments\":{\"adapterID\":\"rec\"}}",
+        ),
+        b"",
+    ),
+    (
+        Act::Turn,
+        b"Content-Length: 251\r\n\r\n{\"body\":{\"supportsCancelRequest\":true,\"supportsConfigurationDoneRequest\":true,\"supportsLoadedSourcesRequest\":true,\"supportsStepBack\":true,\"supportsTerminateRequest\":true},\"command\":\"initialize\",\"request_seq\":1,\"seq\":1,\"success\":true,\"type\":\"response\"}Content-Length: 46\r\n\r\n{\"event\":\"initialized\",\"seq\":2,\"type\":\"event\"}",
+    ),
+    (
+        Act::Take(
+            b"Content-Length: 45\r\n\r\n{\"seq\":2,\"type\":\"request\",\"command\":\"launch\"}",
+        ),
+        b"",
+    ),
+    (Act::Turn, b""),
+    (
+        Act::Take(
+            b"Content-Length: 73\r\n\r\n{\"seq\":3,\"type\":\"request\",\"command\":\"cancel\",\"arguments\":{\"requestId\":2}}",
+        ),
+        b"Content-Length: 77\r\n\r\n{\"command\":\"cancel\",\"request_seq\":3,\"seq\":3,\"success\":true,\"type\":\"response\"}",
+    ),
+    (
+        Act::Take(
+            b"Content-Length: 56\r\n\r\n{\"seq\":4,\"type\":\"request\",\"command\":\"configurationDone\"}",
+        ),
+        b"",
+    ),
+    (
+        Act::Turn,
+        b"Content-Length: 88\r\n\r\n{\"command\":\"configurationDone\",\"request_seq\":4,\"seq\":4,\"success\":true,\"type\":\"response\"}Content-Length: 77\r\n\r\n{\"command\":\"launch\",\"request_seq\":2,\"seq\":5,\"success\":true,\"type\":\"response\"}",
+    ),
+    (
+        Act::Poll,
+        b"Content-Length: 86\r\n\r\n{\"body\":{\"category\":\"stdout\",\"output\":\"go\\n\"},\"event\":\"output\",\"seq\":6,\"type\":\"event\"}",
+    ),
+    (
+        Act::Poll,
+        b"Content-Length: 106\r\n\r\n{\"body\":{\"allThreadsStopped\":true,\"reason\":\"entry\",\"threadId\":1},\"event\":\"stopped\",\"seq\":7,\"type\":\"event\"}",
+    ),
+];
+
+/// Each call hands out what is due, or closes the adapter with its requests as they were.
+#[test]
+fn adapter_calls(rt: HostRuntime) -> Result<(), Fail> {
+    let Some(debuggee) = recorded(&rt)? else {
+        return Ok(());
+    };
+    let Ok(mut adapter) = Adapter::open(rt.alloc(), Limits::usual(), debuggee) else {
+        note(&rt)?;
+        return Ok(());
+    };
+    for (act, wanted) in &STEPS {
+        let kept = adapter.kept();
+        match hand_out(rt.alloc(), &mut adapter, *act) {
+            Ok(bytes) => assert!(rt; bytes.as_slice() == *wanted),
+            Err(fault) => {
+                assert_eq!(rt; fault, AdapterFault::OutOfMemory);
+                assert!(rt; is_closed(rt.alloc(), &mut adapter) && adapter.kept() == kept);
+                note(&rt)?;
+                return Ok(());
+            }
+        }
+    }
+    assert_eq!(rt; adapter.phase(), Phase::Stopped);
     Ok(())
 }
 
@@ -245,11 +363,11 @@ fn reading_a_file(rt: HostRuntime) -> Result<(), Fail> {
 /// A fault's line, or none.
 #[test]
 fn telling_a_fault(rt: HostRuntime) -> Result<(), Fail> {
-    let fault = FirstFault::Body {
+    let fault = ServeFault::Adapter(AdapterFault::Body {
         cause: dap_message::BodyRefusal::BadSeq,
         offset: 103,
-    };
-    match fault_line(rt.alloc(), &ToolFault::First(fault)) {
+    });
+    match fault_line(rt.alloc(), &ToolFault::Serve(fault)) {
         Ok(line) => assert_eq!(rt; line.as_slice(), b"dap: BadSeq at 103\n".as_slice()),
         Err(_) => note(&rt)?,
     }
@@ -516,7 +634,9 @@ fn building_bodies(rt: HostRuntime) -> Result<(), Fail> {
 static RECORDING: &[u8; 301] =
     b"{\"exit\":0,\"sources\":[{\"name\":\"a.c\",\"path\":\"/a.c\",\"text\":\"one\\ntwo\\n\"}],\"moments\":[{\"thread\":1,\"output\":\"go\\n\",\"threads\":[{\"id\":1,\"name\":\"main\",\"frames\":[{\"name\":\"main\",\"source\":0,\"line\":1,\"scopes\":[{\"name\":\"Locals\",\"variables\":[{\"name\":\"p\",\"value\":\"P\",\"variables\":[{\"name\":\"a\",\"value\":\"7\"}]}]}]}]}]}]}";
 
-fn recorded(rt: &HostRuntime) -> Result<Option<Recorded>, Fail> {
+fn recorded(rt: &HostRuntime) -> Result<Option<Recorded>, Fail>
+    ensures { IfOk result (λ read. IfSome read (λ recorded. recorded.state ≡ State.NotStarted)) }
+{
     match Recorded::read(rt.alloc(), RECORDING) {
         Ok(recorded) => Ok(Some(recorded)),
         Err(fault) => {

@@ -6,9 +6,13 @@ use Rattle.dap_frame.specs.declared.Cause.TheVariants.{Refused}
 use Rattle.dap_frame.specs.declared.Refusal.TheVariants.{BadLength}
 use Rattle.dap_message.specs.declared.fault.BodyRefusal.TheVariants.{BadSeq}
 use Rattle.dap_message.specs.declared.message.Kind.TheVariants.{Request, Response, Event, Other}
+use Rattle.dap_session.specs.declared.fault.AdapterFault.TheVariants as adapter
+use Rattle.dap_adapter.specs.declared.served.ServeFault.TheVariants as serve
+use Rattle.dap_debuggee.specs.declared.reading.RecordingKey.TheVariants.{Moments}
+use Rattle.dap_debuggee.specs.declared.reading.RecordingFault.TheVariants as recording
 use Rattle.dap_tool.specs.Listing.{shown, line_of_message}
 use Rattle.dap_tool.specs.Faults.{status_of, line_of}
-use Rattle.dap_tool.specs.declared.fault.ToolFault.TheVariants.{Show, Wrap, File, Truncated, Write, OutOfMemory}
+use Rattle.dap_tool.specs.declared.fault.ToolFault.TheVariants.{Serve, Recording, Show, Wrap, File, Truncated, Write, OutOfMemory}
 use Rattle.dap_tool.specs.declared.files.FileFault.TheVariants.{Read, FileTooLong}
 use Rattle.dap_tool.specs.declared.listing.ShowFault.TheVariants.{Frame, Body}
 use Rattle.dap_tool.specs.declared.wrapping.WrapFault.TheVariants.{Body as BadLine, BodyTooLong}
@@ -79,3 +83,13 @@ file_lines = (refl, refl)
 
 statuses : (status_of (Show (Body BadSeq 68)) ≡ 3) × (status_of Truncated ≡ 4) × (status_of (File Read) ≡ 5) × (status_of Write ≡ 5) × (status_of OutOfMemory ≡ 6) × (status_of (File FileTooLong) ≡ 3)
 statuses = (refl, refl, refl, refl, refl, refl)
+
+served_body_line : line_of (Serve (serve.Adapter (adapter.Body BadSeq 68))) ≡ codes "dap: BadSeq at 68\n"
+unfolding digits
+served_body_line = refl
+
+serve_lines : (line_of (Serve (serve.Write 10)) ≡ codes "dap: Write\n") × (line_of (Serve (serve.Adapter (adapter.RepeatedSeq 1))) ≡ codes "dap: RepeatedSeq\n") × (line_of (Recording (recording.BadKey Moments)) ≡ codes "dap: BadKey\n")
+serve_lines = (refl, refl, refl)
+
+serve_statuses : (status_of (Serve serve.TooManyReads) ≡ 5) × (status_of (Serve (serve.Adapter adapter.Ended)) ≡ 3) × (status_of (Serve serve.OutOfMemory) ≡ 6) × (status_of (Recording (recording.BadKey Moments)) ≡ 3)
+serve_statuses = (refl, refl, refl, refl)

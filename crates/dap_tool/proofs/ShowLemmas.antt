@@ -1,5 +1,5 @@
 -- A listing that goes on.
-use Rattle.std.proofs.Common.{◌≡◌, ℕ, ◌+◌, ◌<◌, ◌≤◌, ◌^◌, List, [], ◌∷◌, ◌++◌, length, take, drop, codes, decimal, Ok, Err, refl, sym, ap, ◌∙◌, subst, arith}
+use Rattle.std.proofs.Common.{◌≡◌, ℕ, ◌+◌, ◌<◌, ◌≤◌, ◌^◌, List, [], ◌∷◌, ◌++◌, length, take, drop, codes, decimal, Ok, Err, refl, sym, ap, ◌∙◌, subst, arith, length-drop}
 use Rattle.std.proofs.lemmas.List.{length-append, append_assoc, append-nil, take_all, take-append-drop, append_cancel_right}
 use Rattle.std.proofs.Math.Seq.{take-add}
 use Rattle.dap_frame.specs.declared.Cause.{Cause}
@@ -23,8 +23,7 @@ use Rattle.dap_message.specs.declared.heading.Heading.{Heading}
 use Rattle.dap_message.specs.declared.heading.HeadingKind.{HeadingKind}
 use Rattle.dap_message.specs.declared.heading.HeadingKind.TheVariants.{Request, Response, Event, Other}
 use Rattle.dap_message.specs.Heading.{IsHeadingOf, IsKindOf}
-use Rattle.dap_tool.specs.FirstServe.{IsEndOf}
-use Rattle.dap_tool.specs.Listing.{none, one_more, Listed, Shows, shown, kind_text, line_of_message}
+use Rattle.dap_tool.specs.Listing.{none, one_more, IsEndOf, Listed, Shows, shown, kind_text, line_of_message}
 use Rattle.dap_tool.specs.ShowSteps.{kind_words, ListedTo, ListedBefore, shown_fault}
 use Rattle.dap_tool.specs.declared.listing.ShowFault.TheVariants.{Body, OutOfMemory}
 
@@ -183,3 +182,11 @@ ended limits frames bytes at old new end past l other ends =
       listed = l.listed;
       ends = ends_as limits frames l.rest end l.bounds other (ends (take at bytes) l.bodies l.rest l.stands);
     }
+
+-- ---- what is used
+
+pub within_rest : (at n : ℕ) (bytes rest : List ℕ) → rest ≡ drop at bytes → at ≤ length bytes → n ≤ length rest → at + n ≤ length bytes
+within_rest at n bytes rest e h k = omega (arith, length-drop at bytes, ap length e)
+
+pub gathers_within : (old new : Intake) (rest : List ℕ) (used : ℕ) → Gathers old new rest used → used ≤ length rest
+gathers_within old new rest used done = omega (arith, done.all)

@@ -6,10 +6,14 @@ use Rattle.dap_frame.specs.declared.Cause.{Cause}
 use Rattle.dap_frame.specs.declared.Cause.TheVariants.{Refused, OutOfMemory as NoMemory}
 use Rattle.dap_message.specs.declared.fault.BodyRefusal.{BodyRefusal}
 use Rattle.dap_message.specs.declared.fault.BodyRefusal.TheVariants.{NotJson, NotObject, BadSeq, BadType, BadCommand, BadRequestSeq, BadSuccess, BadEvent, BadMessage}
-use Rattle.dap_tool.specs.declared.fault.FirstFault.{FirstFault}
-use Rattle.dap_tool.specs.declared.fault.FirstFault.TheVariants.{Read, Write, Frame, Body, SeqExhausted, TooManyReads, OutOfMemory}
+use Rattle.dap_session.specs.declared.fault.AdapterFault.{AdapterFault}
+use Rattle.dap_session.specs.declared.fault.AdapterFault.TheVariants.{Frame, Body, RepeatedSeq, Unmatched, Ended, SeqExhausted, OutOfMemory as NoMemoryToAnswer}
+use Rattle.dap_adapter.specs.declared.served.ServeFault.{ServeFault}
+use Rattle.dap_adapter.specs.declared.served.ServeFault.TheVariants.{Read, Write, Adapter, TooManyReads, OutOfMemory}
+use Rattle.dap_debuggee.specs.declared.reading.RecordingFault.{RecordingFault}
+use Rattle.dap_debuggee.specs.declared.reading.RecordingFault.TheVariants.{NotJson as NoJson, NotObject as NoObject, BadKey, OutOfMemory as NoMemoryForRecording}
 use Rattle.dap_tool.specs.declared.fault.ToolFault.{ToolFault}
-use Rattle.dap_tool.specs.declared.fault.ToolFault.TheVariants.{First, Show, Wrap, File, Truncated, Write as OutputFailed, OutOfMemory as NoMemoryAtAll}
+use Rattle.dap_tool.specs.declared.fault.ToolFault.TheVariants.{Serve, Recording, Show, Wrap, File, Truncated, Write as OutputFailed, OutOfMemory as NoMemoryAtAll}
 use Rattle.dap_tool.specs.declared.listing.ShowFault.{ShowFault}
 use Rattle.dap_tool.specs.declared.listing.ShowFault.TheVariants.{Frame as ShownFrame, Body as ShownBody, OutOfMemory as NoMemoryToShow}
 use Rattle.dap_tool.specs.declared.wrapping.WrapFault.{WrapFault}
@@ -24,14 +28,27 @@ abbrev pub status_of_cause : Cause → ℕ
 status_of_cause (Refused refusal) = 3
 status_of_cause NoMemory = 6
 
-abbrev pub status_of_first : FirstFault → ℕ
-status_of_first Read = 5
-status_of_first (Write written) = 5
-status_of_first (Frame fault) = status_of_cause fault.cause
-status_of_first (Body cause offset) = 3
-status_of_first SeqExhausted = 3
-status_of_first TooManyReads = 5
-status_of_first OutOfMemory = 6
+abbrev pub status_of_adapter : AdapterFault → ℕ
+status_of_adapter (Frame fault) = status_of_cause fault.cause
+status_of_adapter (Body cause offset) = 3
+status_of_adapter (RepeatedSeq seq) = 3
+status_of_adapter (Unmatched request_seq) = 3
+status_of_adapter Ended = 3
+status_of_adapter SeqExhausted = 3
+status_of_adapter NoMemoryToAnswer = 6
+
+abbrev pub status_of_serve : ServeFault → ℕ
+status_of_serve Read = 5
+status_of_serve (Write written) = 5
+status_of_serve (Adapter fault) = status_of_adapter fault
+status_of_serve TooManyReads = 5
+status_of_serve OutOfMemory = 6
+
+abbrev pub status_of_recording : RecordingFault → ℕ
+status_of_recording NoJson = 3
+status_of_recording NoObject = 3
+status_of_recording (BadKey key) = 3
+status_of_recording NoMemoryForRecording = 6
 
 abbrev pub status_of_show : ShowFault → ℕ
 status_of_show (ShownFrame fault) = status_of_cause fault.cause
@@ -49,7 +66,8 @@ status_of_file FileTooLong = 3
 status_of_file NoMemoryForFile = 6
 
 abbrev pub status_of : ToolFault → ℕ
-status_of (First fault) = status_of_first fault
+status_of (Serve fault) = status_of_serve fault
+status_of (Recording fault) = status_of_recording fault
 status_of (Show fault) = status_of_show fault
 status_of (Wrap fault) = status_of_wrap fault
 status_of (File fault) = status_of_file fault
@@ -91,14 +109,28 @@ abbrev pub name_of_cause : Cause → List ℕ
 name_of_cause (Refused refusal) = name_of_refusal refusal
 name_of_cause NoMemory = codes "OutOfMemory"
 
-abbrev pub line_of_first : FirstFault → List ℕ
-line_of_first Read = named_line (codes "Read")
-line_of_first (Write written) = named_line (codes "Write")
-line_of_first (Frame fault) = line_at (name_of_cause fault.cause) fault.offset
-line_of_first (Body cause offset) = line_at (name_of_body_refusal cause) offset
-line_of_first SeqExhausted = named_line (codes "SeqExhausted")
-line_of_first TooManyReads = named_line (codes "TooManyReads")
-line_of_first OutOfMemory = named_line (codes "OutOfMemory")
+abbrev pub line_of_adapter : AdapterFault → List ℕ
+line_of_adapter (Frame fault) = line_at (name_of_cause fault.cause) fault.offset
+line_of_adapter (Body cause offset) = line_at (name_of_body_refusal cause) offset
+line_of_adapter (RepeatedSeq seq) = named_line (codes "RepeatedSeq")
+line_of_adapter (Unmatched request_seq) = named_line (codes "Unmatched")
+line_of_adapter Ended = named_line (codes "Ended")
+line_of_adapter SeqExhausted = named_line (codes "SeqExhausted")
+line_of_adapter NoMemoryToAnswer = named_line (codes "OutOfMemory")
+
+abbrev pub line_of_serve : ServeFault → List ℕ
+line_of_serve Read = named_line (codes "Read")
+line_of_serve (Write written) = named_line (codes "Write")
+line_of_serve (Adapter fault) = line_of_adapter fault
+line_of_serve TooManyReads = named_line (codes "TooManyReads")
+line_of_serve OutOfMemory = named_line (codes "OutOfMemory")
+
+-- the bad key is not told
+abbrev pub line_of_recording : RecordingFault → List ℕ
+line_of_recording NoJson = named_line (codes "NotJson")
+line_of_recording NoObject = named_line (codes "NotObject")
+line_of_recording (BadKey key) = named_line (codes "BadKey")
+line_of_recording NoMemoryForRecording = named_line (codes "OutOfMemory")
 
 abbrev pub line_of_show : ShowFault → List ℕ
 line_of_show (ShownFrame fault) = line_at (name_of_cause fault.cause) fault.offset
@@ -116,7 +148,8 @@ line_of_file FileTooLong = named_line (codes "FileTooLong")
 line_of_file NoMemoryForFile = named_line (codes "OutOfMemory")
 
 abbrev pub line_of : ToolFault → List ℕ
-line_of (First fault) = line_of_first fault
+line_of (Serve fault) = line_of_serve fault
+line_of (Recording fault) = line_of_recording fault
 line_of (Show fault) = line_of_show fault
 line_of (Wrap fault) = line_of_wrap fault
 line_of (File fault) = line_of_file fault

@@ -3,11 +3,12 @@ use Rattle.std.specs.Prelude.{◌≡◌, ℕ, ◌==◌, ◌||◌, nat_lt, Bool, 
 use Rattle.dap_frame.specs.declared.Cause.TheVariants.{Refused}
 use Rattle.dap_frame.specs.declared.Refusal.{Refusal}
 use Rattle.dap_frame.specs.declared.frames.End.{End}
+use Rattle.dap_frame.specs.declared.frames.End.TheVariants.{Clean, Truncated, Refused as Closed}
 use Rattle.dap_frame.specs.declared.frames.FrameFault.{FrameFault}
 use Rattle.dap_frame.specs.declared.limits.Bounds.{Bounds}
 use Rattle.dap_frame.specs.Settings.{Settings, bounds_of}
 use Rattle.dap_frame.specs.Stream.{Frame, FramesThen, Split}
-use Rattle.dap_frame.specs.Verdict.{verdict, Refused as Refuses}
+use Rattle.dap_frame.specs.Verdict.{verdict, Part, Refused as Refuses}
 use Rattle.dap_frame.specs.Intake.{StartsAt, LastStartsAt}
 use Rattle.dap_message.specs.Meaning.{Msg}
 use Rattle.dap_message.specs.Refusals.{Bad}
@@ -15,7 +16,6 @@ use Rattle.dap_message.specs.declared.fault.BodyRefusal.{BodyRefusal}
 use Rattle.dap_message.specs.declared.message.Message.{Message}
 use Rattle.dap_message.specs.declared.message.Kind.{Kind}
 use Rattle.dap_message.specs.declared.message.Kind.TheVariants.{Request, Response, Event, Other}
-use Rattle.dap_tool.specs.FirstServe.{IsEndOf}
 use Rattle.dap_tool.specs.declared.listing.ShowFault.{ShowFault}
 use Rattle.dap_tool.specs.declared.listing.ShowFault.TheVariants.{Frame as BadFrame, Body, OutOfMemory}
 
@@ -56,6 +56,12 @@ pub record Listed (limits : Settings) (bytes : List ℕ) (xs : List (List ℕ)) 
   pub text : List ℕ
   pub lists : Lists (bounds_of limits) bytes xs messages text
   pub appended : new ≡ old ++ text
+
+-- how a stream ends with this rest after its whole frames, none of which is refused
+abbrev pub IsEndOf : Settings → List ℕ → End → Type 0
+IsEndOf limits rest Clean = rest ≡ []
+IsEndOf limits rest Truncated = verdict (bounds_of limits) rest ≡ Part
+IsEndOf limits rest Closed = ⊥
 
 -- all of the bytes were listed
 pub record ListsAll (limits : Settings) (bytes old new : List ℕ) (end : End) : Type 0 where

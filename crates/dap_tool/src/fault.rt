@@ -1,57 +1,27 @@
 //! Why a tool stops, and how a program tells it.
 
 ghost use Rattle.std.specs.Prelude.{◌≡◌, IfOk, string_bytes};
-ghost use Rattle.dap_tool.specs.Faults.{status_of, status_of_cause, status_of_first, status_of_show, line_of, line_of_first, line_of_show, line_of_wrap, line_of_file, named_line, line_at, line_at_line, name_of_cause, name_of_refusal, name_of_body_refusal};
+ghost use Rattle.dap_tool.specs.Faults.{status_of, status_of_cause, status_of_adapter, status_of_serve, status_of_recording, status_of_show, line_of, line_of_adapter, line_of_serve, line_of_recording, line_of_show, line_of_wrap, line_of_file, named_line, line_at, line_at_line, name_of_cause, name_of_refusal, name_of_body_refusal};
 
 use crate::files::FileFault;
 use crate::listing::ShowFault;
 use crate::wrapping::WrapFault;
-use dap_frame::{Cause, FrameFault, Refusal};
+use dap_adapter::{AdapterFault, ServeFault};
+use dap_debuggee::RecordingFault;
+use dap_frame::{Cause, Refusal};
 use dap_message::BodyRefusal;
 use std::alloc::{AllocError, Global};
 use thiserror::Error;
 
-/// Why `first_serve` stops before the input's end.
-#[derive(Clone, Copy, Debug, PartialEq, Eq, Error)]
-pub enum FirstFault {
-    /// The reader failed.
-    #[error("the input cannot be read")]
-    Read,
-    /// The writer failed or took nothing, after so many bytes in all; more than 18446744073709551615 are told as that.
-    #[error("the output failed after {written} bytes")]
-    Write { written: u64 },
-    /// The framing of the input is refused. The cause is never want of memory, which is `OutOfMemory` here.
-    #[error("the frame at byte {} is refused", .0.offset)]
-    Frame(FrameFault),
-    /// A body is no message; the frame's first byte has this offset in the input.
-    #[error("the body of the frame at byte {offset} is refused")]
-    Body { cause: BodyRefusal, offset: u64 },
-    /// An answer is due, and no sequence number is left for it.
-    #[error("no sequence number is left")]
-    SeqExhausted,
-    /// As many reads were made as may be, and another is due.
-    #[error("the input was read too often")]
-    TooManyReads,
-    /// Memory was refused.
-    #[error("memory is exhausted")]
-    OutOfMemory,
-}
-
-impl From<AllocError> for FirstFault {
-    ghost use Rattle.dap_tool.specs.declared.fault.FirstFault.TheVariants.{OutOfMemory};
-
-    ghost from_gives = { λ _ fault. fault ≡ OutOfMemory };
-
-    fn from(_refused: AllocError) -> FirstFault {
-        FirstFault::OutOfMemory
-    }
-}
-
 /// Why a tool stops.
 #[derive(Clone, Copy, Debug, PartialEq, Eq, Error)]
 pub enum ToolFault {
-    #[error("{0}")]
-    First(FirstFault),
+    /// The session was not served to its end.
+    #[error("the session is broken off")]
+    Serve(ServeFault),
+    /// A file is no recording.
+    #[error("the recording is refused")]
+    Recording(RecordingFault),
     #[error("{0}")]
     Show(ShowFault),
     #[error("{0}")]
@@ -74,7 +44,8 @@ pub fn status(fault: &ToolFault) -> u8
     ensures { result ≡ status_of fault.now }
 {
     match fault {
-        ToolFault::First(fault) => first_status(fault),
+        ToolFault::Serve(fault) => serve_status(fault),
+        ToolFault::Recording(fault) => recording_status(fault),
         ToolFault::Show(fault) => show_status(fault),
         ToolFault::Wrap(WrapFault::OutOfMemory) => 6,
         ToolFault::Wrap(_) => 3,
@@ -96,14 +67,40 @@ fn cause_status(cause: Cause) -> u8
     }
 }
 
-fn first_status(fault: &FirstFault) -> u8
-    ensures { result ≡ status_of_first fault.now }
+fn adapter_status(fault: &AdapterFault) -> u8
+    ensures { result ≡ status_of_adapter fault.now }
 {
     match fault {
-        FirstFault::Read | FirstFault::Write { .. } | FirstFault::TooManyReads => 5,
-        FirstFault::Frame(fault) => cause_status(fault.cause),
-        FirstFault::Body { .. } | FirstFault::SeqExhausted => 3,
-        FirstFault::OutOfMemory => 6,
+        AdapterFault::Frame(fault) => cause_status(fault.cause),
+        AdapterFault::Body { .. } => 3,
+        AdapterFault::RepeatedSeq { .. } => 3,
+        AdapterFault::Unmatched { .. } => 3,
+        AdapterFault::Ended => 3,
+        AdapterFault::SeqExhausted => 3,
+        AdapterFault::OutOfMemory => 6,
+    }
+}
+
+fn serve_status(fault: &ServeFault) -> u8
+    ensures { result ≡ status_of_serve fault.now }
+{
+    match fault {
+        ServeFault::Read => 5,
+        ServeFault::Write { .. } => 5,
+        ServeFault::Adapter(fault) => adapter_status(fault),
+        ServeFault::TooManyReads => 5,
+        ServeFault::OutOfMemory => 6,
+    }
+}
+
+fn recording_status(fault: &RecordingFault) -> u8
+    ensures { result ≡ status_of_recording fault.now }
+{
+    match fault {
+        RecordingFault::NotJson => 3,
+        RecordingFault::NotObject => 3,
+        RecordingFault::BadKey { .. } => 3,
+        RecordingFault::OutOfMemory => 6,
     }
 }
 
@@ -173,17 +170,42 @@ fn at_line(alloc: Global, name: &str, number: u64) -> Result<String, AllocError>
     Ok(format!(in alloc; "dap: {name} at line {number}\n")?)
 }
 
-fn first_line(alloc: Global, fault: &FirstFault) -> Result<String, AllocError>
-    ensures { IfOk result (λ line. string_bytes line ≡ line_of_first fault.now) }
+fn adapter_line(alloc: Global, fault: &AdapterFault) -> Result<String, AllocError>
+    ensures { IfOk result (λ line. string_bytes line ≡ line_of_adapter fault.now) }
 {
     match fault {
-        FirstFault::Read => named(alloc, "Read"),
-        FirstFault::Write { .. } => named(alloc, "Write"),
-        FirstFault::Frame(fault) => at_offset(alloc, cause_name(fault.cause), fault.offset),
-        FirstFault::Body { cause, offset } => at_offset(alloc, body_refusal_name(*cause), *offset),
-        FirstFault::SeqExhausted => named(alloc, "SeqExhausted"),
-        FirstFault::TooManyReads => named(alloc, "TooManyReads"),
-        FirstFault::OutOfMemory => named(alloc, "OutOfMemory"),
+        AdapterFault::Frame(fault) => at_offset(alloc, cause_name(fault.cause), fault.offset),
+        AdapterFault::Body { cause, offset } => {
+            at_offset(alloc, body_refusal_name(*cause), *offset)
+        }
+        AdapterFault::RepeatedSeq { .. } => named(alloc, "RepeatedSeq"),
+        AdapterFault::Unmatched { .. } => named(alloc, "Unmatched"),
+        AdapterFault::Ended => named(alloc, "Ended"),
+        AdapterFault::SeqExhausted => named(alloc, "SeqExhausted"),
+        AdapterFault::OutOfMemory => named(alloc, "OutOfMemory"),
+    }
+}
+
+fn serve_line(alloc: Global, fault: &ServeFault) -> Result<String, AllocError>
+    ensures { IfOk result (λ line. string_bytes line ≡ line_of_serve fault.now) }
+{
+    match fault {
+        ServeFault::Read => named(alloc, "Read"),
+        ServeFault::Write { .. } => named(alloc, "Write"),
+        ServeFault::Adapter(fault) => adapter_line(alloc, fault),
+        ServeFault::TooManyReads => named(alloc, "TooManyReads"),
+        ServeFault::OutOfMemory => named(alloc, "OutOfMemory"),
+    }
+}
+
+fn recording_line(alloc: Global, fault: &RecordingFault) -> Result<String, AllocError>
+    ensures { IfOk result (λ line. string_bytes line ≡ line_of_recording fault.now) }
+{
+    match fault {
+        RecordingFault::NotJson => named(alloc, "NotJson"),
+        RecordingFault::NotObject => named(alloc, "NotObject"),
+        RecordingFault::BadKey { .. } => named(alloc, "BadKey"),
+        RecordingFault::OutOfMemory => named(alloc, "OutOfMemory"),
     }
 }
 
@@ -223,7 +245,8 @@ pub fn fault_line(alloc: Global, fault: &ToolFault) -> Result<Vec<u8>, AllocErro
     ensures { IfOk result (λ line. line.items ≡ line_of fault.now) }
 {
     let line = match fault {
-        ToolFault::First(fault) => first_line(alloc, fault)?,
+        ToolFault::Serve(fault) => serve_line(alloc, fault)?,
+        ToolFault::Recording(fault) => recording_line(alloc, fault)?,
         ToolFault::Show(fault) => show_line(alloc, fault)?,
         ToolFault::Wrap(fault) => wrap_line(alloc, fault)?,
         ToolFault::File(fault) => file_line(alloc, fault)?,

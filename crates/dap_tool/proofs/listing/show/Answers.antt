@@ -1,8 +1,6 @@
 use Rattle.std.proofs.Common.{sym, subst, arith, Err}
 use Rattle.dap_tool.specs.Listing.{Shows}
-use Rattle.dap_tool.proofs.Bytes.{within_rest}
-use Rattle.dap_tool.proofs.Reaching.{gathers_within}
-use Rattle.dap_tool.proofs.ShowLemmas.{ListedTo-start, completed, gathered, closed, out_of_memory_first}
+use Rattle.dap_tool.proofs.ShowLemmas.{ListedTo-start, completed, gathered, closed, out_of_memory_first, within_rest, gathers_within}
 use Rattle.dap_tool.proofs.listing.show.Goals as goal
 
 pub returns-in_default : goal.returns-in_default

@@ -21,8 +21,8 @@ returns-clause-taken g c =
     let other : of_known is_cancel (command_of r) ≡ false = sym (rw (c.as_str.ensures, c.in_ok-request.ensures) at c.if-is_cancel.ensures) in
     ok-both c.keep.result _ _ _
     (λ bytes made within.
-        takes-made r s _ (keeps r s) bytes.items open_to (as-other r s other)
-        (subst (λ (x : Entry). s.used + length (keeps x s).drafts ≤ s.limits.seq) c.in_ok-request.ensures within)
-        (subst (λ (x : Entry). MadeBy (keeps x s) s c.keep.new.self.session bytes.items) c.in_ok-request.ensures made))
+    takes-made r s _ (keeps r s) bytes.items open_to (as-other r s other)
+    (subst (λ (x : Entry). s.used + length (keeps x s).drafts ≤ s.limits.seq) c.in_ok-request.ensures within)
+    (subst (λ (x : Entry). MadeBy (keeps x s) s c.keep.new.self.session bytes.items) c.in_ok-request.ensures made))
     c.keep.ensures.made
     c.keep.ensures.within
