@@ -23,11 +23,15 @@ fn answered(alloc: Global, recording: &[u8], client: &[u8]) -> Option<Vec<u8>> {
     let debuggee = Recorded::read(alloc, recording).ok()?;
     let mut adapter = Adapter::open(alloc, Limits::usual(), debuggee).ok()?;
     let mut out = Vec::new(alloc);
-    let mut at = 0;
-    while at < client.len() {
-        let (_, rest) = client.split_at(at);
+    let mut rest = client;
+    // Each `take` uses a byte at least.
+    for _take in 0..client.len() {
+        if rest.is_empty() {
+            return Some(out);
+        }
         let taken = adapter.take(alloc, rest).ok()?;
-        at += taken.used;
+        let (_, later) = rest.split_at(taken.used);
+        rest = later;
         out.extend_from_slice(&taken.bytes).ok()?;
         turns(alloc, &mut adapter, &mut out)?;
         out.extend_from_slice(&adapter.poll(alloc).ok()?).ok()?;
