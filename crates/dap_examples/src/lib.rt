@@ -6,6 +6,12 @@ mod library;
 #[cfg(test)]
 mod listings;
 #[cfg(test)]
+mod session_calls;
+#[cfg(test)]
+mod session_limits;
+#[cfg(test)]
+mod session_runs;
+#[cfg(test)]
 mod sessions;
 #[cfg(test)]
 mod streams;

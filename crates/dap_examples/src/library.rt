@@ -1,6 +1,6 @@
 //! The library code of the README, as a test.
 
-use crate::sessions::{CAPABILITIES, INITIALIZE, INITIALIZED, RECORDING};
+use crate::session_calls::{CAPABILITIES, INITIALIZE, INITIALIZED, RECORDING};
 use dap_adapter::{Adapter, Turned};
 use dap_debuggee::Recorded;
 use dap_frame::{Limits, write_frame};

@@ -2,7 +2,9 @@
 
 ghost use Rattle.std.specs.Prelude.{◌≡◌, ◌≤◌, length, IfOk};
 
-use crate::sessions::{CAPABILITIES, INITIALIZE, INITIALIZED, NOT_INITIALIZED, THREADS, recorded};
+use crate::session_calls::{
+    CAPABILITIES, INITIALIZE, INITIALIZED, NOT_INITIALIZED, THREADS, recorded,
+};
 use crate::streams::{Flushed, Pieces, Short, Stuck};
 use dap_adapter::{AdapterFault, Phase, ServeFault, Served, serve};
 use dap_channel::Pipe;
