@@ -2,11 +2,13 @@
 //!
 //! The short names, the numbers, the texts and their one order are this profile's choice, but for the short names
 //! `cancelled` and `notStopped`, which are the standard's own ("Response").
-ghost use Rattle.std.specs.Prelude.{◌≡◌, IfOk, string_bytes};
+ghost use Rattle.std.specs.Prelude.{◌≡◌, ◌++◌, IfOk, string_bytes};
 ghost use Rattle.serde_json.specs.View.{view};
+ghost use Rattle.serde_json.specs.Written.{compact_text};
 ghost use Rattle.dap_body.specs.Failure.{bad_argument_format, failure_body, row_of};
 
 use dap_call::Key;
+use json::Writer;
 use serde_json::{Map, Value, put};
 use std::alloc::{AllocError, Global};
 
@@ -147,4 +149,22 @@ pub fn body_failure(alloc: Global, failure: Failure) -> Result<Value, AllocError
     let mut members = Map::new(alloc);
     put(&mut members, alloc, "error", Value::Object(error))?;
     Ok(Value::Object(members))
+}
+
+/// Appends the text of that body, with no tree.
+pub fn failure_text(alloc: Global, out: Vec<u8>, failure: Failure) -> Result<Vec<u8>, AllocError>
+    ensures { IfOk result (λ text. text.items ≡ out.items ++ compact_text (failure_body failure)) }
+{
+    let format = failure.format(alloc)?;
+    let mut out = Writer::new(out);
+    out.begin_object()?;
+    out.key("error")?;
+    out.begin_object()?;
+    out.key("format")?;
+    out.string(format.as_str())?;
+    out.key("id")?;
+    out.u64(failure.id().into())?;
+    out.end_object()?;
+    out.end_object()?;
+    Ok(out.into_inner())
 }

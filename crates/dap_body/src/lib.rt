@@ -10,7 +10,7 @@ mod failure;
 mod response;
 
 pub use event::{body_continued, body_exited, body_output, body_stopped};
-pub use failure::{Failure, body_failure};
+pub use failure::{Failure, body_failure, failure_text};
 pub use response::{
     Breakpoint, Scope, Source, StackFrame, Thread, Variable, body_continue, body_evaluate,
     body_loaded_sources, body_scopes, body_set_breakpoints, body_source, body_stack_trace,

@@ -10,3 +10,4 @@ pub mod Sizes
 pub mod Lengths
 pub mod PlainBodies
 pub mod Ranges
+pub mod AnswerTexts

@@ -1,13 +1,12 @@
 -- What was read is in its ranges.
-use Rattle.std.proofs.Common.{◌≡◌, refl, ℕ, ◌≤◌, List, length, Bool, true, false, Option, Some, None, codes, nat_le, arith}
+use Rattle.std.proofs.Common.{◌≡◌, refl, ℕ, ◌≤◌, List, Bool, true, false, Option, Some, None, codes, nat_le, arith}
 use Rattle.std.proofs.lemmas.Bool.{leb-true}
 use Rattle.std.specs.Prelude.{option_and_then, if◌then◌else◌}
 use Rattle.serde_json.specs.Data.{Data}
 use Rattle.serde_json.specs.Find.{get, as_number, as_u64}
 use Rattle.dap_json.specs.Field.{max_seq, if_passes, whole_at}
-use Rattle.dap_message.specs.InRange.{IsInRange, IsKindInRange, ReadIsInRange}
-use Rattle.dap_message.specs.Meaning.{Msg, SaysKind}
-use Rattle.dap_message.specs.declared.message.Message.{Message}
+use Rattle.dap_message.specs.InRange.{IsKindInRange, ReadIsInRange}
+use Rattle.dap_message.specs.Meaning.{SaysKind}
 use Rattle.dap_message.specs.declared.message.Kind.{Kind}
 use Rattle.dap_message.specs.declared.message.Kind.TheVariants.{Request, Response, Event, Other}
 

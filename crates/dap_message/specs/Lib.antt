@@ -1,3 +1,4 @@
+pub mod Answering
 pub use Rattle.dap_json.specs.Stored
 pub use Rattle.dap_json.specs.Field
 pub use Rattle.dap_json.specs.Writable

@@ -5,6 +5,7 @@
 //! `dap_call` and `dap_body`, whose names are handed on here, so that a caller needs this crate alone.
 #![tactic(auto)]
 
+mod answering;
 mod fault;
 mod heading;
 pub mod laws;
@@ -12,6 +13,7 @@ mod message;
 mod reading;
 mod writing;
 
+pub use answering::{write_event, write_failure, write_success};
 pub use dap_body::{
     Breakpoint, Failure, Scope, Source, StackFrame, Thread, Variable, body_continue,
     body_continued, body_evaluate, body_exited, body_failure, body_loaded_sources, body_output,

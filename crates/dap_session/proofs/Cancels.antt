@@ -1,14 +1,14 @@
 -- The requests that a cancel names.
-use Rattle.std.proofs.Common.{◌≡◌, ℕ, ◌+◌, ◌≤◌, List, [], ◌∷◌, ◌++◌, Bool, true, false, Option, Some, None, refl, sym, ap, ◌∙◌, subst, arith, filter, length, true≢false}
+use Rattle.std.proofs.Common.{◌≡◌, ℕ, List, [], ◌∷◌, ◌++◌, Bool, true, false, Option, Some, refl, sym, ap, ◌∙◌, subst, arith, length, true≢false}
 use Rattle.std.specs.Prelude.{◌==◌, ◌||◌, ◌&&◌, not, if◌then◌else◌}
 use Rattle.std.proofs.lemmas.Bool.Decides.{nat_tests}
 use Rattle.dap_message.specs.Types.Failure.TheVariants.{Cancelled}
-use Rattle.dap_tables.specs.Outstanding.{Kept, contains_seq, entry_with, is_parked, without, HasDistinctSeqs}
+use Rattle.dap_tables.specs.Outstanding.{Kept, contains_seq, entry_with, is_parked, HasDistinctSeqs}
 use Rattle.dap_tables.specs.declared.entry.Entry.{Entry}
 use Rattle.dap_session.specs.Handling.{answer_each}
-use Rattle.dap_session.specs.Plan.{Draft, failure, plain_success, reply}
+use Rattle.dap_session.specs.Plan.{failure, plain_success, reply}
 use Rattle.dap_session.specs.Seat.{NamesNone, NamesOne}
-use Rattle.dap_session.specs.Session.{Session, cancelled_by, not_cancelled_by}
+use Rattle.dap_session.specs.Session.{Session}
 use Rattle.dap_session.specs.Taking.{cancelled}
 use Rattle.dap_session.proofs.Kept.{false-left, false-right, all-without}
 use Rattle.dap_session.proofs.SeveralAnswers.{none-parked}

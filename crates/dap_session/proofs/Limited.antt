@@ -1,5 +1,5 @@
 -- The limits stay, step by step.
-use Rattle.std.proofs.Common.{◌≡◌, ℕ, List, refl, ap, ◌∙◌}
+use Rattle.std.proofs.Common.{◌≡◌, ℕ, List, ap, ◌∙◌}
 use Rattle.dap_tables.specs.Outstanding.{HasDistinctSeqs}
 use Rattle.dap_debuggee.specs.Shown.{Shown}
 use Rattle.dap_session.specs.Carried.{Goes, CarriedOut}

@@ -43,7 +43,7 @@ use Rattle.dap_session.specs.Breakpoints.{Breakpoint, Breakpoints, OfSource, cou
 use Rattle.dap_session.specs.Failures.{command_of, call_in, refusal_but, of_known}
 use Rattle.dap_session.specs.Handling.{begun, parked, started, configured, started_parked, left, finished, resumed, told, fits, by_reply, lines_asked, breakpoints_set, breakpoints_answered, breakpoints_verified, breakpoints_plan, plan_for, plan_of_call, plan_of_command, plan_unless, plan_but, turn_of, turns_but}
 use Rattle.dap_session.specs.Laws.{CanMake}
-use Rattle.dap_session.specs.Plan.{Answer, success, failure, plain_success, reply, Made, Plan, at_once, asking, nothing, answered, due, affordable}
+use Rattle.dap_session.specs.Plan.{Answer, success, failure, reply, Made, Plan, at_once, asking, nothing, answered, due, affordable}
 use Rattle.dap_session.specs.Polling.{saw, saw_reply, polls, has_debuggee}
 use Rattle.dap_session.specs.ReferenceLaws.{IsNumberOf, KeepsApart, ReferencesAreApart}
 use Rattle.dap_session.specs.References.{References, frame_of, holder_of, same_kind, is_same, place_of, target_of, cleared, numbered_at, intern, and_then, onto_first, intern_each, named}

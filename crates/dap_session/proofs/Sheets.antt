@@ -18,8 +18,8 @@ bytes_of-append : (ms : List Message) (m : Message) → bytes_of (ms ++ m ∷ []
 bytes_of-append [] m = append-nil (frame_of (canon m))
 bytes_of-append (x ∷ ms) m = ap (λ (bs : List ℕ). frame_of (canon x) ++ bs) (bytes_of-append ms m) ∙ sym (append_assoc (frame_of (canon x)) (bytes_of ms) (frame_of (canon m)))
 
-pub writes-one : (old new : Sheet) (d : Draft) (m : Message) → m ≡ message_of (old.numbers.used + 1) d → new.bytes.items ≡ old.bytes.items ++ frame_of (canon m) → new.numbers.used ≡ old.numbers.used + 1 → new.numbers.last ≡ old.numbers.last → Writes old new d
-writes-one old new d m is b u l =
+pub writes-one : (old new : Sheet) (d : Draft) → new.bytes.items ≡ old.bytes.items ++ frame_of (canon (message_of (old.numbers.used + 1) d)) → new.numbers.used ≡ old.numbers.used + 1 → new.numbers.last ≡ old.numbers.last → Writes old new d
+writes-one old new d b u l =
     record {
       last = l;
       given = u;
@@ -29,7 +29,7 @@ writes-one old new d m is b u l =
           let so_far = h.count in
           let at : old.numbers.used + 1 ≡ used + length ds + 1 = omega arith in
           record {
-            bytes = b ∙ (rw (h.bytes, is, at) (sym (bytes_of-append (numbered used ds) (message_of (used + length ds + 1) d)) ∙ ap bytes_of (sym (numbered-append used ds d))));
+            bytes = b ∙ (rw (h.bytes, at) (sym (bytes_of-append (numbered used ds) (message_of (used + length ds + 1) d)) ∙ ap bytes_of (sym (numbered-append used ds d))));
             count = omega arith;
           };
     }

@@ -1,5 +1,5 @@
 -- The state of a session at the adapter, without the bytes that come and without the debuggee.
-use Rattle.std.specs.Prelude.{ℕ, ◌==◌, ◌&&◌, not, List, [], filter, find, map, true, false, Option}
+use Rattle.std.specs.Prelude.{ℕ, ◌==◌, ◌&&◌, not, List, [], filter, find, true, false, Option}
 use Rattle.dap_frame.specs.Settings.{Settings}
 use Rattle.dap_tables.specs.Outstanding.{Kept}
 use Rattle.dap_debuggee.specs.declared.answers.State.{State}

@@ -15,8 +15,8 @@ use dap_debuggee::Category;
 use dap_frame::write_frame;
 use dap_message::laws::bodies_are_plain;
 use dap_message::{
-    Failure, Kind, Message, Text, Tree, body_continued, body_exited, body_failure, body_output,
-    body_stopped, write_message,
+    Failure, Text, Tree, body_continued, body_exited, body_output, body_stopped, write_event,
+    write_failure, write_success,
 };
 use dap_tables::{Entry, Seq};
 use std::alloc::{AllocError, Global};
@@ -46,96 +46,58 @@ pub(crate) struct Sheet {
     pub(crate) numbers: Seq,
 }
 
-/// Appends the frame of a message.
-fn append(alloc: Global, bytes: &mut Vec<u8>, message: Message) -> Result<(), AllocError>
-    requires { IsTrue (is_plain message) }
-    ensures { OnOk result (bytes.new.items ≡ bytes.old.items ++ frame_of (canon message)) }
+/// The text of the response to a request.
+fn replied(alloc: Global, seq: u64, request: &Entry, answer: &Answer) -> Result<Vec<u8>, AllocError>
+    requires { IsPlainAnswer answer.now }
+    ensures { IfOk result (λ text. text.items ≡ canon (message_of seq (reply request.now (answer_of answer.now)))) }
 {
-    let body = write_message(alloc, &message)?;
-    write_frame(bytes, &body)
-}
-
-fn failed(alloc: Global, seq: u64, request: &Entry, failure: Failure) -> Result<Message, AllocError>
-    requires seq { seq ≤ max_seq }
-    requires request { IsAnswerable request.now }
-    ensures message { IfOk result (λ m. m ≡ message_of seq (reply request.now (failure_word failure))) }
-    ensures plain { IfOk result (λ m. IsTrue (is_plain m)) }
-{
-    bodies_are_plain();
-    Ok(Message {
-        seq,
-        kind: Kind::Response {
-            request_seq: request.seq,
-            success: false,
-            command: request.command.clone()?,
-            message: Some(Text::copied(alloc, failure.name())?),
-            body: Some(Tree::new(body_failure(alloc, failure)?)),
-        },
-    })
-}
-
-fn replied(alloc: Global, seq: u64, request: &Entry, answer: Answer) -> Result<Message, AllocError>
-    requires seq { seq ≤ max_seq }
-    requires request { IsAnswerable request.now }
-    requires plain { IsPlainAnswer answer }
-    ensures message { IfOk result (λ m. m ≡ message_of seq (reply request.now (answer_of answer))) }
-    ensures plain { IfOk result (λ m. IsTrue (is_plain m)) }
-{
+    let command = request.command.as_str();
     match answer {
-        Answer::Failure(failure) => failed(alloc, seq, request, failure),
-        Answer::Success(body) => Ok(Message {
-            seq,
-            kind: Kind::Response {
-                request_seq: request.seq,
-                success: true,
-                command: request.command.clone()?,
-                message: None,
-                body,
-            },
-        }),
+        Answer::Failure(failure) => write_failure(alloc, seq, request.seq, command, *failure),
+        Answer::Success(body) => write_success(alloc, seq, request.seq, command, body),
     }
 }
 
-/// An event's name, and its body.
-fn event_parts(alloc: Global, event: Event) -> Result<(Text, Option<Tree>), AllocError>
-    ensures name { IfOk result (λ p. p.0 ≡ event_name (event_of event)) }
-    ensures body { IfOk result (λ p. p.1 ≡ event_body (event_of event)) }
-    ensures plain { IfOk result (λ p. IsTrue (is_plain_tree p.1)) }
+fn event_name(event: &Event) -> &'static str
+    ensures { result.now ≡ event_name (event_of event.now) }
+{
+    match event {
+        Event::Initialized => "initialized",
+        Event::Terminated => "terminated",
+        Event::Output { .. } => "output",
+        Event::Stopped { .. } => "stopped",
+        Event::Continued { .. } => "continued",
+        Event::Exited { .. } => "exited",
+    }
+}
+
+fn event_body(alloc: Global, event: Event) -> Result<Option<Tree>, AllocError>
+    ensures body { IfOk result (λ body. body ≡ event_body (event_of event)) }
+    ensures plain { IfOk result (λ body. IsTrue (is_plain_tree body)) }
 {
     bodies_are_plain();
     match event {
-        Event::Initialized => Ok((Text::copied(alloc, "initialized")?, None)),
-        Event::Terminated => Ok((Text::copied(alloc, "terminated")?, None)),
+        Event::Initialized => Ok(None),
+        Event::Terminated => Ok(None),
         Event::Output { category, text } => {
             let category = Text::copied(alloc, category.name())?;
-            let body = Tree::new(body_output(alloc, category, text)?);
-            Ok((Text::copied(alloc, "output")?, Some(body)))
+            Ok(Some(Tree::new(body_output(alloc, category, text)?)))
         }
         Event::Stopped { reason, thread } => {
-            let body = Tree::new(body_stopped(alloc, reason, thread)?);
-            Ok((Text::copied(alloc, "stopped")?, Some(body)))
+            Ok(Some(Tree::new(body_stopped(alloc, reason, thread)?)))
         }
-        Event::Continued { thread } => {
-            let body = Tree::new(body_continued(alloc, thread)?);
-            Ok((Text::copied(alloc, "continued")?, Some(body)))
-        }
-        Event::Exited { code } => {
-            let body = Tree::new(body_exited(alloc, code)?);
-            Ok((Text::copied(alloc, "exited")?, Some(body)))
-        }
+        Event::Continued { thread } => Ok(Some(Tree::new(body_continued(alloc, thread)?))),
+        Event::Exited { code } => Ok(Some(Tree::new(body_exited(alloc, code)?))),
     }
 }
 
-fn told(alloc: Global, seq: u64, event: Event) -> Result<Message, AllocError>
-    requires { seq ≤ max_seq }
-    ensures message { IfOk result (λ m. m ≡ message_of seq (tell (event_of event))) }
-    ensures plain { IfOk result (λ m. IsTrue (is_plain m)) }
+/// The text of an event.
+fn told(alloc: Global, seq: u64, event: Event) -> Result<Vec<u8>, AllocError>
+    ensures { IfOk result (λ text. text.items ≡ canon (message_of seq (tell (event_of event)))) }
 {
-    let (event, body) = event_parts(alloc, event)?;
-    Ok(Message {
-        seq,
-        kind: Kind::Event { event, body },
-    })
+    let name = event_name(&event);
+    let body = event_body(alloc, event)?;
+    write_event(alloc, seq, name, &body)
 }
 
 impl Sheet {
@@ -178,8 +140,8 @@ impl Sheet {
         ensures { OnOk result (Writes self.old self.new (reply request.now (answer_of answer))) }
     {
         let (seq, numbers) = self.next();
-        let message = replied(alloc, seq, request, answer)?;
-        append(alloc, &mut self.bytes, message)?;
+        let text = replied(alloc, seq, request, &answer)?;
+        write_frame(&mut self.bytes, &text)?;
         self.numbers = numbers;
         Ok(())
     }
@@ -200,12 +162,11 @@ impl Sheet {
         ensures writes { IfOk result (λ ok. IsTrue ok → Writes self.old self.new (reply request.now (success_word body []))) }
     {
         let (seq, numbers) = self.next();
-        let message = replied(alloc, seq, request, Answer::Success(body))?;
-        let written = write_message(alloc, &message)?;
-        if written.len() > most {
+        let text = write_success(alloc, seq, request.seq, request.command.as_str(), &body)?;
+        if text.len() > most {
             return Ok(false);
         }
-        write_frame(&mut self.bytes, &written)?;
+        write_frame(&mut self.bytes, &text)?;
         self.numbers = numbers;
         Ok(true)
     }
@@ -217,8 +178,8 @@ impl Sheet {
         ensures { OnOk result (Writes self.old self.new (tell (event_of event))) }
     {
         let (seq, numbers) = self.next();
-        let message = told(alloc, seq, event)?;
-        append(alloc, &mut self.bytes, message)?;
+        let text = told(alloc, seq, event)?;
+        write_frame(&mut self.bytes, &text)?;
         self.numbers = numbers;
         Ok(())
     }

@@ -2,7 +2,7 @@ use Rattle.std.proofs.Common.{rules, ◌≡◌, length, Err, ap, ◌∙◌, sym,
 use Rattle.dap_tables.specs.Outstanding.{HasDistinctSeqs}
 use Rattle.dap_debuggee.specs.Shown.{to_end}
 use Rattle.dap_session.specs.Handling.{left}
-use Rattle.dap_session.specs.Plan.{at_once, asking}
+use Rattle.dap_session.specs.Plan.{asking}
 use Rattle.dap_session.specs.Seat.{Seat}
 use Rattle.dap_session.proofs.Leaves.{due-left, refused-for}
 use Rattle.dap_session.proofs.session.Session.end_and_leave.Goals as goal

@@ -1,12 +1,10 @@
-use Rattle.std.proofs.Common.{◌≡◌, ◌+◌, ◌≤◌, ℕ, true, length, arith, sym, ap, subst}
+use Rattle.std.proofs.Common.{◌≡◌, ◌+◌, ◌≤◌, true, length, sym, subst}
 use Rattle.std.specs.Prelude.{◌==◌, not}
 use Rattle.dap_message.specs.Types.Failure.TheVariants.{Cancelled}
-use Rattle.dap_tables.specs.Outstanding.{entries, contains_seq, HasDistinctSeqs}
-use Rattle.dap_tables.specs.Seq.{Numbers}
+use Rattle.dap_tables.specs.Outstanding.{entries, contains_seq}
 use Rattle.dap_session.specs.Plan.{failure}
 use Rattle.dap_session.specs.Seat.{Seat}
 use Rattle.dap_session.specs.Several.{answer_where, WritesAll}
-use Rattle.dap_session.specs.Sheet.{Holds}
 use Rattle.dap_session.proofs.Leaves.{room-first, room-last, holds-left}
 use Rattle.dap_session.proofs.SeveralAnswers.{all-answerable}
 use Rattle.dap_session.proofs.session.Session.farewell.Goals as goal

@@ -1,4 +1,4 @@
-use Rattle.std.proofs.Common.{◌≡◌, ◌+◌, ◌≤◌, length, sym, subst}
+use Rattle.std.proofs.Common.{◌+◌, ◌≤◌, length, sym, subst}
 use Rattle.dap_tables.specs.Outstanding.{entries, is_parked, parked_ones, HasDistinctSeqs}
 use Rattle.dap_session.specs.Seat.{Seat, reply_of}
 use Rattle.dap_session.specs.Several.{answer_where, answer_by, WritesAll}

@@ -2,4 +2,5 @@ use Rattle.dap_session.proofs.Sheets.{writes-one}
 use Rattle.dap_session.proofs.sheet.Sheet.tell.Goals as goal
 
 pub returns : goal.returns
-returns c = writes-one _ _ _ c.in_ok-message.message (rw (← c.next-seq.ensures.number) c.in_ok-message.ensures.message) c.in_ok-append.ensures c.next-seq.ensures.used c.next-seq.ensures.last
+returns c =
+    writes-one _ _ _ (rw (c.deref.ensures.value, c.in_ok-text.ensures, c.next-seq.ensures.number) at c.in_ok-write_frame.ensures.ok) c.next-seq.ensures.used c.next-seq.ensures.last

@@ -1,0 +1,32 @@
+-- The text of a response or of an event is that of its parts.
+use Rattle.std.proofs.Common.{◌≡◌, ◌++◌, ℕ, List, [], ◌∷◌, Bool, false, Option, Some, None, refl, ap, append_assoc}
+use Rattle.json.specs.Print.{print, print_from, escape_byte}
+use Rattle.json.specs.Tree.{members_tokens}
+use Rattle.serde_json.specs.Data.{Data, object, Members}
+use Rattle.serde_json.specs.Written.{members_outline, members_text, compact_text}
+use Rattle.serde_json.proofs.Texts.{print-outline}
+use Rattle.dap_message.specs.Answering.{with_body}
+use Rattle.dap_message.specs.Canon.{canon, tree_of, response_members, event_members}
+use Rattle.dap_message.specs.declared.message.Kind.TheVariants.{Response, Event}
+
+tail : List ℕ → List ℕ
+tail [] = []
+tail (x ∷ xs) = xs
+
+-- what follows the bracket of an object
+pub print-members : (ms : Members) → print (members_tokens (members_outline ms)) ≡ members_text false ms
+unfolding print_from tail
+print-members ms = ap tail (print-outline (object ms))
+
+pub canon-response : (seq request_seq : ℕ) (success : Bool) (command : List ℕ) (message : Option (List ℕ)) (body : Option Data)
+    → with_body body ++ members_text false (response_members seq request_seq success command message None) ≡ canon (record { seq = seq; kind = Response request_seq success command message body })
+unfolding canon tree_of response_members escape_byte
+canon-response seq request_seq success command None None = refl
+canon-response seq request_seq success command (Some t) None = refl
+canon-response seq request_seq success command None (Some d) = ap (λ s. 123 ∷ 34 ∷ 98 ∷ 111 ∷ 100 ∷ 121 ∷ 34 ∷ 58 ∷ s) (append_assoc (compact_text d) _ _)
+canon-response seq request_seq success command (Some t) (Some d) = ap (λ s. 123 ∷ 34 ∷ 98 ∷ 111 ∷ 100 ∷ 121 ∷ 34 ∷ 58 ∷ s) (append_assoc (compact_text d) _ _)
+
+pub canon-event : (seq : ℕ) (event : List ℕ) (body : Option Data) → with_body body ++ members_text false (event_members seq event None) ≡ canon (record { seq = seq; kind = Event event body })
+unfolding canon tree_of event_members escape_byte
+canon-event seq event None = refl
+canon-event seq event (Some d) = ap (λ s. 123 ∷ 34 ∷ 98 ∷ 111 ∷ 100 ∷ 121 ∷ 34 ∷ 58 ∷ s) (append_assoc (compact_text d) _ _)

@@ -1,0 +1,133 @@
+//! The texts of what an adapter says: responses and events, written with no tree of the message.
+//!
+//! Specification, "Response", "ErrorResponse", "Event". Each is the text that `write_message` gives of that message.
+ghost use Rattle.std.specs.Prelude.{◌≡◌, ◌++◌, IfOk, IsTrue, None, Some, false};
+ghost use Rattle.json.specs.Print.{print};
+ghost use Rattle.serde_json.specs.Written.{members_text};
+ghost use Rattle.dap_json.specs.Writable.{is_plain_tree};
+ghost use Rattle.dap_body.specs.Failure.{failure_body};
+ghost use Rattle.dap_message.specs.Answering.{with_body, response_end};
+ghost use Rattle.dap_message.specs.Canon.{canon, event_members};
+ghost use Rattle.dap_message.specs.Lengths.{failed, succeeded, happened};
+
+use dap_body::{Failure, failure_text};
+use dap_json::Tree;
+use json::Writer;
+use std::alloc::{AllocError, Global};
+
+/// The room that a text is given at first, in bytes.
+const ROOM: usize = 256;
+
+/// A text up to the end of its body, with the comma after it.
+fn open(alloc: Global, body: &Option<Tree>) -> Result<Vec<u8>, AllocError>
+    requires { IsTrue (is_plain_tree body.now) }
+    ensures { IfOk result (λ text. text.items ≡ with_body body.now) }
+{
+    let mut out = Vec::with_capacity(alloc, ROOM)?;
+    match body {
+        None => out.push(b'{')?,
+        Some(body) => {
+            out.extend_from_slice(b"{\"body\":")?;
+            out.extend_from_slice(&dap_json::write(alloc, body.value())?)?;
+            out.push(b',')?;
+        }
+    }
+    Ok(out)
+}
+
+/// The same of a failure's body.
+fn open_failure(alloc: Global, failure: Failure) -> Result<Vec<u8>, AllocError>
+    ensures { IfOk result (λ text. text.items ≡ with_body (Some (failure_body failure))) }
+{
+    let mut out = Vec::with_capacity(alloc, ROOM)?;
+    out.extend_from_slice(b"{\"body\":")?;
+    let mut out = failure_text(alloc, out, failure)?;
+    out.push(b',')?;
+    Ok(out)
+}
+
+/// Appends what a response ends with, and gives the text.
+fn close_response(
+    out: Writer,
+    seq: u64,
+    request_seq: u64,
+    success: bool,
+) -> Result<Vec<u8>, AllocError>
+    ensures { IfOk result (λ text. text.items ≡ out.before ++ print (out.tokens ++ response_end seq request_seq success)) }
+{
+    let mut out = out;
+    out.key("request_seq")?;
+    out.u64(request_seq)?;
+    out.key("seq")?;
+    out.u64(seq)?;
+    out.key("success")?;
+    out.boolean(success)?;
+    out.key("type")?;
+    out.string("response")?;
+    out.end_object()?;
+    Ok(out.into_inner())
+}
+
+/// Appends what an event has after its body.
+fn close_event(out: Vec<u8>, seq: u64, event: &str) -> Result<Vec<u8>, AllocError>
+    ensures { IfOk result (λ text. text.items ≡ out.items ++ members_text false (event_members seq event.now None)) }
+{
+    let mut out = Writer::new(out);
+    out.key("event")?;
+    out.string(event)?;
+    out.key("seq")?;
+    out.u64(seq)?;
+    out.key("type")?;
+    out.string("event")?;
+    out.end_object()?;
+    Ok(out.into_inner())
+}
+
+/// The text of the response to a request that failed.
+pub fn write_failure(
+    alloc: Global,
+    seq: u64,
+    request_seq: u64,
+    command: &str,
+    failure: Failure,
+) -> Result<Vec<u8>, AllocError>
+    ensures { IfOk result (λ text. text.items ≡ canon (failed seq request_seq command.now failure)) }
+{
+    let mut out = Writer::new(open_failure(alloc, failure)?);
+    out.key("command")?;
+    out.string(command)?;
+    out.key("message")?;
+    out.string(failure.name())?;
+    close_response(out, seq, request_seq, false)
+}
+
+/// The text of the response to a request that succeeded.
+pub fn write_success(
+    alloc: Global,
+    seq: u64,
+    request_seq: u64,
+    command: &str,
+    body: &Option<Tree>,
+) -> Result<Vec<u8>, AllocError>
+    requires { IsTrue (is_plain_tree body.now) }
+    ensures { IfOk result (λ text. text.items ≡ canon (succeeded seq request_seq command.now body.now)) }
+{
+    let mut out = Writer::new(open(alloc, body)?);
+    out.key("command")?;
+    out.string(command)?;
+    close_response(out, seq, request_seq, true)
+}
+
+/// The text of an event.
+pub fn write_event(
+    alloc: Global,
+    seq: u64,
+    event: &str,
+    body: &Option<Tree>,
+) -> Result<Vec<u8>, AllocError>
+    requires { IsTrue (is_plain_tree body.now) }
+    ensures { IfOk result (λ text. text.items ≡ canon (happened seq event.now body.now)) }
+{
+    let out = open(alloc, body)?;
+    close_event(out, seq, event)
+}
