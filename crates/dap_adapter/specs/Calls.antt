@@ -12,6 +12,7 @@ use Rattle.dap_message.specs.Refusals.{Bad}
 use Rattle.dap_message.specs.declared.fault.BodyRefusal.{BodyRefusal}
 use Rattle.dap_message.specs.declared.message.Message.{Message}
 use Rattle.dap_debuggee.specs.Shown.{Shown}
+use Rattle.dap_tables.specs.Outstanding.{Kept}
 use Rattle.dap_session.specs.declared.fault.AdapterFault.{AdapterFault}
 use Rattle.dap_session.specs.declared.fault.AdapterFault.TheVariants.{Frame, Body, SeqExhausted, OutOfMemory}
 use Rattle.dap_adapter.specs.declared.taken.Taken.{Taken}
@@ -21,7 +22,7 @@ use Rattle.dap_session.specs.Carried.{Goes, CarriedOut}
 use Rattle.dap_session.specs.Handling.{turns}
 use Rattle.dap_session.specs.Plan.{Made, Plan, numbered, bytes_of, entries_of}
 use Rattle.dap_session.specs.Polling.{polls, has_debuggee}
-use Rattle.dap_session.specs.Session.{Session, oldest}
+use Rattle.dap_session.specs.Session.{Session, oldest, to_handle}
 use Rattle.dap_adapter.specs.End.{End}
 use Rattle.dap_adapter.specs.StandsFor.{GoesOn}
 use Rattle.dap_session.specs.Taking.{takes}
@@ -108,6 +109,11 @@ pub record Handled {D : Type 0} (shown : D → Shown) (follows : Goes D) (old : 
 abbrev pub TurnGives : {D : Type 0} → (D → Shown) → Goes D → End D → Turned → End D → Type 0
 TurnGives shown follows old Idle new = (turns (shown old.debuggee) old.session ≡ Ok None) × (new ≡ old)
 TurnGives shown follows old (Done bytes) new = Handled shown follows old bytes.items new
+
+-- of the requests that wait to be handled
+abbrev pub AreFewer : Turned → List Kept → List Kept → Type 0
+AreFewer Idle old new = ⊤
+AreFewer (Done bytes) old new = to_handle new < to_handle old
 
 -- why a turn was refused: then the debuggee was not asked. Memory may be refused where a request is handled
 abbrev pub TurnRefused : {D : Type 0} → (D → Shown) → End D → AdapterFault → End D → Type 0

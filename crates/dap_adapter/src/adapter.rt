@@ -45,7 +45,7 @@ impl<D: Debuggee + Drop> Model for Adapter<D> {
 }
 
 impl<D: Debuggee + Drop> Adapter<D> {
-    ghost use Rattle.dap_adapter.specs.Calls.{Takes, TurnGives, TurnRefused, Saw, PollRefused};
+    ghost use Rattle.dap_adapter.specs.Calls.{Takes, TurnGives, TurnRefused, AreFewer, Saw, PollRefused};
     ghost use Rattle.dap_session.specs.Polling.{has_debuggee};
     ghost use Rattle.dap_adapter.specs.StandsFor.{StandsFor};
     ghost use Rattle.dap_adapter.specs.declared.taken.Turned.{Turned};
@@ -167,6 +167,9 @@ impl<D: Debuggee + Drop> Adapter<D> {
         ensures held { OnErr result (self.new.intake.held ≡ []) }
         ensures latches { IfErr result (λ fault. self.new.fault ≡ Some fault) }
         ensures latched { IfSome self.old.fault (λ fault. (result ≡ Err fault) × (self.new ≡ self.old)) }
+
+        // Fewer requests wait to be handled, unless none did.
+        ensures fewer { IfOk result (λ turned. AreFewer turned self.old.session.kept self.new.session.kept) }
 
         // Where no request waits, memory is not asked for.
         ensures idle { self.old.fault ≡ None → oldest self.old.session.kept ≡ None → result ≡ Ok Turned.Idle }

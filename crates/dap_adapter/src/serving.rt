@@ -75,7 +75,7 @@ fn turns<C: Channel, D: Debuggee + Drop>(
     ensures halts { IfErr result (Breaks C.goes D.shown D.follows channel.old adapter.old outlet.old.gathered.items outlet.old.written to_turn channel.new outlet.new.gathered.items outlet.new.written) }
 {
     calls_add_up::<C>();
-    for _turn in 0..u64::MAX {
+    'turns: loop {
         let bytes = match adapter.turn(alloc) {
             Ok(Turned::Idle) => return Ok(()),
             Ok(Turned::Done { bytes }) => bytes,
@@ -85,8 +85,6 @@ fn turns<C: Channel, D: Debuggee + Drop>(
             return Err(fault);
         }
     }
-    // So many requests are never kept.
-    Err(ServeFault::OutOfMemory)
 }
 
 /// Tells what happened to the debuggee.

@@ -17,3 +17,4 @@ pub mod Limited
 pub mod Cancels
 pub mod TakingRequests
 pub mod Leaves
+pub mod Fewer

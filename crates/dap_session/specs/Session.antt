@@ -1,7 +1,7 @@
 -- The state of a session at the adapter, without the bytes that come and without the debuggee.
-use Rattle.std.specs.Prelude.{ℕ, ◌==◌, ◌&&◌, not, List, [], filter, find, true, false, Option}
+use Rattle.std.specs.Prelude.{ℕ, ◌==◌, ◌&&◌, not, List, [], length, filter, find, true, false, Option}
 use Rattle.dap_frame.specs.Settings.{Settings}
-use Rattle.dap_tables.specs.Outstanding.{Kept}
+use Rattle.dap_tables.specs.Outstanding.{Kept, unparked_ones}
 use Rattle.dap_debuggee.specs.declared.answers.State.{State}
 use Rattle.dap_debuggee.specs.declared.answers.State.TheVariants as state
 use Rattle.dap_session.specs.declared.phase.Phase.{Phase}
@@ -49,6 +49,10 @@ not_cancelled_by seq kept = filter (λ k. not (not k.parked && (k.entry.seq == s
 -- the request that came first of those that are not parked
 abbrev pub oldest : List Kept → Option Kept
 oldest kept = find (λ k. not k.parked) kept
+
+-- how many wait to be handled: those that are not parked
+abbrev pub to_handle : List Kept → ℕ
+to_handle kept = length (unparked_ones kept)
 
 -- ---- phases and the debuggee
 

@@ -1,8 +1,8 @@
 //! How a request is handled.
 ghost use Rattle.std.specs.Prelude.{◌≡◌, ◌+◌, ◌≤◌, ◌<◌, IfOk, IfErr, OnOk, OnErr, IsTrue, IfSome, IfNone, None, option_map, false};
 ghost use Rattle.dap_tables.specs.Outstanding.{contains_seq, is_parked, HasDistinctSeqs};
-ghost use Rattle.dap_session.specs.Seat.{Carries, IsRefusedFor, decided, IsIdle, HasTurned, NotTurned};
-ghost use Rattle.dap_session.specs.Session.{oldest};
+ghost use Rattle.dap_session.specs.Seat.{Carries, IsRefusedFor, decided, sets_breakpoints, IsIdle, HasTurned, NotTurned};
+ghost use Rattle.dap_session.specs.Session.{oldest, to_handle};
 ghost use Rattle.dap_session.specs.Handling.{plan, plan_for};
 ghost use Rattle.dap_session.specs.Plan.{due};
 ghost use Rattle.dap_session.specs.Sheet.{IsAnswerable};
@@ -56,6 +56,7 @@ impl<D: Debuggee + Drop> Session<D> {
         ensures within { OnOk result (self.old.session.used + due (plan_for effect (D.shown self.old.debuggee) self.old.session request.now call.now) ≤ self.old.session.limits.seq) }
         ensures refused { IfErr result (λ fault. IsRefusedFor fault (plan_for effect (D.shown self.old.debuggee) self.old.session request.now call.now) self.old self.new) }
         ensures err { OnErr result (self.new.session ≡ self.old.session) }
+        ensures served { OnOk result (sets_breakpoints effect ≡ false) }
     {
         match effect {
             Effect::Begin => {
@@ -106,6 +107,7 @@ impl<D: Debuggee + Drop> Session<D> {
         ensures within { OnOk result (self.old.session.used + due (plan (D.shown self.old.debuggee) self.old.session request.now) ≤ self.old.session.limits.seq) }
         ensures refused { IfErr result (λ fault. IsRefusedFor fault (plan (D.shown self.old.debuggee) self.old.session request.now) self.old self.new) }
         ensures err { OnErr result (self.new.session ≡ self.old.session) }
+        ensures fewer { OnOk result (to_handle self.new.session.kept < to_handle self.old.session.kept) }
     {
         match self.decide(alloc, request)? {
             Decision::Refuses(failure) => self.refuse(alloc, request, failure),
@@ -121,6 +123,7 @@ impl<D: Debuggee + Drop> Session<D> {
         ensures within { OnOk result (self.old.session.used + due (plan (D.shown self.old.debuggee) self.old.session request) ≤ self.old.session.limits.seq) }
         ensures refused { IfErr result (λ fault. IsRefusedFor fault (plan (D.shown self.old.debuggee) self.old.session request) self.old self.new) }
         ensures err { OnErr result (self.new.session ≡ self.old.session) }
+        ensures fewer { OnOk result (to_handle self.new.session.kept < to_handle self.old.session.kept) }
     {
         self.handle(alloc, &request)
     }
@@ -166,6 +169,9 @@ impl<D: Debuggee + Drop> Session<D> {
         ensures refused { IfErr result (λ fault. NotTurned D.shown fault self.old self.new) }
         ensures waiting { OnErr result (oldest self.old.session.kept ≡ None → ⊥) }
         ensures err { OnErr result (self.new.session ≡ self.old.session) }
+
+        // Then fewer requests wait to be handled.
+        ensures fewer { IfOk result (λ o. IfSome o (λ bytes. to_handle self.new.session.kept < to_handle self.old.session.kept)) }
         ensures distinct { HasDistinctSeqs self.old.session.kept }
         ensures limits { self.new.session.limits ≡ self.old.session.limits }
     {

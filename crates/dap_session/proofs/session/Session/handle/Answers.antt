@@ -1,0 +1,14 @@
+use Rattle.std.proofs.lemmas.Result.{IfOk-weaker}
+use Rattle.dap_session.proofs.Fewer.{carried-fewer, refused-fewer, both-ok}
+use Rattle.dap_session.proofs.session.Session.handle.Goals as goal
+
+pub returns-in-Refuses-clause-fewer : goal.returns-in-Refuses-clause-fewer
+returns-in-Refuses-clause-fewer g c =
+    IfOk-weaker c.refuse.result _ _ (λ bytes carries. refused-fewer g.D.Debuggee.follows c.in-Refuses.failure c.args.request.now _ _ bytes.items c.requires.kept c.requires.unparked carries) c.refuse.ensures.carries
+
+pub returns-in-Serves-clause-fewer : goal.returns-in-Serves-clause-fewer
+returns-in-Serves-clause-fewer g c =
+    both-ok c.serve.result _ _ _
+    (λ bytes carries served. carried-fewer g.D.Debuggee.follows c.in-Serves.effect _ c.args.request.now c.in-Serves.call _ _ bytes.items c.requires.kept c.requires.unparked served carries)
+    c.serve.ensures.carries
+    c.serve.ensures.served
