@@ -1,5 +1,5 @@
 -- Why a call on a piece is refused, from what the reader of frames, the reader of messages and the session say.
-use Rattle.std.proofs.Common.{◌≡◌, ℕ, ◌+◌, List, Bool, true, false, not, IsTrue, nat_le, Ok, Err, refl, sym, subst, if◌then◌else◌}
+use Rattle.std.proofs.Common.{◌≡◌, ℕ, ◌+◌, ◌<◌, length, List, Bool, true, false, not, IsTrue, nat_le, Ok, Err, refl, sym, subst, if◌then◌else◌}
 use Rattle.dap_frame.specs.declared.Cause.{Cause}
 use Rattle.dap_frame.specs.declared.Cause.TheVariants.{Refused, OutOfMemory as NoMemory}
 use Rattle.dap_frame.specs.declared.frames.FrameFault.{FrameFault}
@@ -22,14 +22,14 @@ use Rattle.dap_session.specs.Taking.{takes_as, taken_in}
 use Rattle.dap_adapter.specs.Calls.{TakeRefused, IsRefusal, FrameClosed, to_hold, to_read}
 use Rattle.dap_adapter.specs.Receives.{IsUnread, fault_of_cause, fault_of_frame}
 
-by_cause : (old new : Intake) (s : Session) (piece : List ℕ) (cause : Cause) (fault : FrameFault) → fault.cause ≡ cause → Closes old new piece fault → TakeRefused old s piece (fault_of_cause cause fault)
-by_cause old new s piece (Refused refusal) fault is c = (subst IsRefusal (sym is) tt, record { closed = new; closes = c })
-by_cause old new s piece NoMemory fault is c =
-    let closed : FrameClosed old piece (record { cause = fault.cause; offset = fault.offset }) = record { closed = new; closes = c } in
+by_cause : (old new : Intake) (s : Session) (piece : List ℕ) (cause : Cause) (fault : FrameFault) → fault.cause ≡ cause → 0 < length piece → Closes old new piece fault → TakeRefused old s piece (fault_of_cause cause fault)
+by_cause old new s piece (Refused refusal) fault is h c = (subst IsRefusal (sym is) tt, record { some = h; closed = new; closes = c })
+by_cause old new s piece NoMemory fault is h c =
+    let closed : FrameClosed old piece (record { cause = fault.cause; offset = fault.offset }) = record { some = h; closed = new; closes = c } in
     to_hold fault.offset (subst (λ (x : Cause). FrameClosed old piece (record { cause = x; offset = fault.offset })) is closed)
 
-pub closed_refused : (old new : Intake) (s : Session) (piece : List ℕ) (fault : FrameFault) → Closes old new piece fault → TakeRefused old s piece (fault_of_frame fault)
-closed_refused old new s piece fault c = by_cause old new s piece fault.cause fault refl c
+pub closed_refused : (old new : Intake) (s : Session) (piece : List ℕ) (fault : FrameFault) → 0 < length piece → Closes old new piece fault → TakeRefused old s piece (fault_of_frame fault)
+closed_refused old new s piece fault h c = by_cause old new s piece fault.cause fault refl h c
 
 pub unread_refused : (old ready : Intake) (s : Session) (piece : List ℕ) (n : ℕ) (fault : AdapterFault) → Completes old ready piece n → IsUnread ready fault → TakeRefused old s piece fault
 unread_refused old ready s piece n (Body cause offset) c u = record { n = n; whole = record { ready = ready; completes = c }; bad = u.0; starts = u.1 }

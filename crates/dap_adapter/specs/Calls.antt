@@ -64,6 +64,7 @@ Takes follows old piece taken (Some m) new = Delivers follows old piece taken m 
 
 -- the framing of the piece is refused with this cause, after some of its first bytes
 pub record FrameClosed (old : Intake) (piece : List ℕ) (fault : FrameFault) : Type 0 where
+  pub some : 0 < length piece
   pub closed : Intake
   pub closes : Closes old closed piece fault
 
