@@ -8,7 +8,7 @@ mod command_line;
 
 use clap::ArgMatches;
 use clap::error::ErrorKind;
-use dap_channel::Pipe;
+use dap_channel::{Input, Pipe};
 use dap_debuggee::Recorded;
 use dap_frame::End;
 use dap_tool::{FileFault, ToolFault, fault_line, read_whole, status};
@@ -181,14 +181,14 @@ fn read_file(rt: &HostRuntime, matches: &ArgMatches<'_>, word: &str) -> Result<V
     let Some(path) = matches.get_str(word) else {
         return Err(FileFault::Read);
     };
-    let Ok(mut file) = File::open(rt, path) else {
+    let Ok(file) = File::open(rt, path) else {
         return Err(FileFault::Read);
     };
     let expected = match file.metadata() {
         Ok(metadata) => metadata.len(),
         Err(_) => 0,
     };
-    read_whole(rt.alloc(), &mut file, expected)
+    read_whole(rt.alloc(), &mut Input { reader: file }, expected)
 }
 
 /// Writes all bytes to standard output.

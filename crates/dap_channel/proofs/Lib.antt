@@ -1,3 +1,4 @@
 pub mod Bytes
+mod LogExamples
 pub mod Logs
 pub mod Piped

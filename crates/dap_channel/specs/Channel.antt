@@ -106,6 +106,16 @@ Pipes r w WriteFailed r' w' = Keeps w w' × (r' ≡ r)
 Pipes r w Flushed r' w' = Keeps w w' × (r' ≡ r)
 Pipes r w FlushFailed r' w' = Keeps w w' × (r' ≡ r)
 
+-- what a call of an input alone does to the bytes that it has left, from r to r', where those are known: it is a read, or
+-- it fails
+abbrev pub Inputs : Option (List ℕ) → IoEvent → Option (List ℕ) → Type 0
+Inputs r (Gave room bytes) r' = Consumes r r' bytes × (bytes ≡ [] → 0 < room → IsAtEnd r')
+Inputs r ReadFailed r' = Keeps r r'
+Inputs r (Took bytes left) r' = ⊥
+Inputs r WriteFailed r' = r' ≡ r
+Inputs r Flushed r' = ⊥
+Inputs r FlushFailed r' = r' ≡ r
+
 -- a channel that is the log of its calls
 abbrev pub keeps_log : List IoEvent → IoEvent → List IoEvent → Type 0
 keeps_log old e new = new ≡ e ∷ old

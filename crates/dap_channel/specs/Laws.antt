@@ -1,7 +1,7 @@
 -- Laws of logs: what calls come to that are made one after the other.
 use Rattle.std.specs.Prelude.{◌≡◌, ◌+◌, ℕ, List, ◌++◌, IsTrue, Option}
 use Rattle.std.specs.Io.KnownBytes.{Appends, Consumes, IsAtEnd}
-use Rattle.dap_channel.specs.Channel.{IoEvent, Ran, bytes_read, bytes_written, reads, is_flushed, MayGoOn, HasEnded, HasWriteFailed, Pipes}
+use Rattle.dap_channel.specs.Channel.{IoEvent, Ran, bytes_read, bytes_written, reads, is_flushed, MayGoOn, HasEnded, HasWriteFailed, Pipes, Inputs}
 
 -- calls, and then others
 pub record CallsAddUp {C : Type 0} (goes : C → IoEvent → C → Type 0) : Type 0 where
@@ -21,3 +21,9 @@ pub record PipesTellTheirBytes {P : Type 0} (left held : P → Option (List ℕ)
   pub appended : (c d : P) (log : List IoEvent) → Ran (λ p e q. Pipes (left p) (held p) e (left q) (held q)) c log d → Appends (held c) (held d) (bytes_written log)
   -- a reader that had room and gave nothing is at its end
   pub ended : (c d : P) (log : List IoEvent) → Ran (λ p e q. Pipes (left p) (held p) e (left q) (held q)) c log d → HasEnded log → IsAtEnd (left d)
+
+-- what the calls of a log read is what a reader knows of it
+pub record InputsTellTheirBytes {P : Type 0} (left : P → Option (List ℕ)) : Type 0 where
+  pub consumed : (c d : P) (log : List IoEvent) → Ran (λ p e q. Inputs (left p) e (left q)) c log d → Consumes (left c) (left d) (bytes_read log)
+  -- a reader that had room and gave nothing is at its end
+  pub ended : (c d : P) (log : List IoEvent) → Ran (λ p e q. Inputs (left p) e (left q)) c log d → HasEnded log → IsAtEnd (left d)

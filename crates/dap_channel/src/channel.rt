@@ -2,7 +2,7 @@
 
 ghost use Rattle.std.specs.Prelude.{◌≡◌, ℕ, List, ◌++◌, length, take, drop, IfOk, OnOk, OnErr};
 ghost use Rattle.std.specs.Io.{ReadsAtMost, WritesAtMost};
-ghost use Rattle.dap_channel.specs.Channel.{IoEvent, Gave, ReadFailed, Took, WriteFailed, Flushed, FlushFailed, Pipes, Ran, keeps_log};
+ghost use Rattle.dap_channel.specs.Channel.{IoEvent, Gave, ReadFailed, Took, WriteFailed, Flushed, FlushFailed, Pipes, Inputs, Ran, keeps_log};
 
 use std::io;
 use std::io::{Read, Write};
@@ -51,6 +51,29 @@ impl<R: Read, W: Write> Channel for Pipe<R, W> {
 
     fn flush(&mut self) -> io::Result<()> {
         self.writer.flush()
+    }
+}
+
+/// A reader as a channel. Nothing is ever written to it: each write and each flush is an error, of kind `Unsupported`, and
+/// leaves the reader as it was.
+#[derive(Drop)]
+pub struct Input<R> {
+    pub reader: R,
+}
+
+impl<R: Read> Channel for Input<R> {
+    ghost goes = { λ p e q. Inputs (R.remaining p.reader) e (R.remaining q.reader) };
+
+    fn read(&mut self, buf: &mut [u8]) -> io::Result<usize> {
+        self.reader.read(buf)
+    }
+
+    fn write(&mut self, _bytes: &[u8]) -> io::Result<usize> {
+        Err(io::Error::from(io::ErrorKind::Unsupported))
+    }
+
+    fn flush(&mut self) -> io::Result<()> {
+        Err(io::Error::from(io::ErrorKind::Unsupported))
     }
 }
 

@@ -1,6 +1,7 @@
 //! Laws of the definitions, each on a function with nothing to run.
-ghost use Rattle.dap_channel.specs.Laws.{CallsAddUp, PipesTellTheirBytes};
+ghost use Rattle.dap_channel.specs.Laws.{CallsAddUp, PipesTellTheirBytes, InputsTellTheirBytes};
 ghost use Rattle.dap_channel.specs.declared.channel.Pipe.{Pipe};
+ghost use Rattle.dap_channel.specs.declared.channel.Input.{Input};
 
 use crate::channel::Channel;
 use std::io::{Read, Write};
@@ -13,4 +14,9 @@ pub fn calls_add_up<C: Channel>()
 /// What the calls of a pipe read and write is what its reader and its writer know of it.
 pub fn pipes_tell_their_bytes<R: Read, W: Write>()
     ensures { PipesTellTheirBytes (λ (p : Pipe R W). R.remaining p.reader) (λ (p : Pipe R W). W.contents p.writer) }
+{}
+
+/// What the calls of an input read is what its reader knows of it.
+pub fn inputs_tell_their_bytes<R: Read>()
+    ensures { InputsTellTheirBytes (λ (p : Input R). R.remaining p.reader) }
 {}

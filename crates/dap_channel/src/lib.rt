@@ -9,6 +9,6 @@ mod channel;
 mod laws;
 mod sending;
 
-pub use channel::{Channel, Pipe, calls_are_the_log};
-pub use laws::{calls_add_up, pipes_tell_their_bytes};
+pub use channel::{Channel, Input, Pipe, calls_are_the_log};
+pub use laws::{calls_add_up, inputs_tell_their_bytes, pipes_tell_their_bytes};
 pub use sending::send;

@@ -2,11 +2,13 @@
 
 use crate::streams::Pieces;
 use crate::tests::framed;
+use dap_channel::{Channel, Input};
 use dap_frame::{Cause, End, FrameFault, Limits, Refusal};
 use dap_message::{BodyRefusal, Scratch, read_heading, read_message};
 use dap_tool::{
     FileFault, MAX_FILE, ShowFault, ToolFault, WrapFault, fault_line, read_whole, show, status,
 };
+use std::io;
 use std::test::Fail;
 
 static THREADS: &[u8; 46] = b"{\"seq\":1,\"type\":\"request\",\"command\":\"threads\"}";
@@ -274,26 +276,56 @@ fn a_listing_is_appended(rt: HostRuntime) -> Result<(), Fail> {
 fn files_are_read_whole(rt: HostRuntime) -> Result<(), Fail> {
     let input = framed(rt.alloc(), &FOUR)?;
     for (size, expected) in [(1, 0), (7, 271), (100000, 5), (100000, u64::MAX)] {
-        let mut reader = Pieces {
+        let reader = Pieces {
             rest: &input,
             size,
             calls_left: usize::MAX,
         };
-        let bytes = read_whole(rt.alloc(), &mut reader, expected)
+        let mut file = Input { reader };
+        let bytes = read_whole(rt.alloc(), &mut file, expected)
             .ok()
             .ok_or("refused")?;
         assert_eq!(rt; bytes.as_slice(), input.as_slice());
-        assert!(rt; reader.rest.is_empty());
+        assert!(rt; file.reader.rest.is_empty());
     }
     for calls in 0..5 {
-        let mut reader = Pieces {
+        let reader = Pieces {
             rest: &input,
             size: 70,
             calls_left: calls,
         };
-        let fault = read_whole(rt.alloc(), &mut reader, 0).err().ok_or("read")?;
+        let fault = read_whole(rt.alloc(), &mut Input { reader }, 0)
+            .err()
+            .ok_or("read")?;
         assert_eq!(rt; fault, FileFault::Read);
     }
+    // Four reads give 271 bytes, and the fifth and last finds the end.
+    let reader = Pieces {
+        rest: &input,
+        size: 70,
+        calls_left: 5,
+    };
+    let bytes = read_whole(rt.alloc(), &mut Input { reader }, 0)
+        .ok()
+        .ok_or("refused")?;
+    assert_eq!(rt; bytes.as_slice(), input.as_slice());
+    Ok(())
+}
+
+/// Nothing is written to an input, and its reader stays as it was.
+#[test]
+fn inputs_take_nothing(rt: HostRuntime) -> Result<(), Fail> {
+    let reader = Pieces {
+        rest: THREADS,
+        size: 1,
+        calls_left: usize::MAX,
+    };
+    let mut input = Input { reader };
+    let fault = input.write(b"x").err().ok_or("written")?;
+    assert_eq!(rt; fault.kind(), io::ErrorKind::Unsupported);
+    let fault = input.flush().err().ok_or("flushed")?;
+    assert_eq!(rt; fault.kind(), io::ErrorKind::Unsupported);
+    assert_eq!(rt; input.reader.rest, THREADS.as_slice());
     Ok(())
 }
 
@@ -302,21 +334,23 @@ fn files_are_read_whole(rt: HostRuntime) -> Result<(), Fail> {
 fn greatest_length_of_a_file(rt: HostRuntime) -> Result<(), Fail> {
     let bytes = vec![in rt.alloc(); b' '; MAX_FILE + 1]?;
     let (most, _) = bytes.split_at(MAX_FILE);
-    let mut reader = Pieces {
+    let reader = Pieces {
         rest: most,
         size: usize::MAX,
         calls_left: usize::MAX,
     };
-    let read = read_whole(rt.alloc(), &mut reader, MAX_FILE as u64)
+    let read = read_whole(rt.alloc(), &mut Input { reader }, MAX_FILE as u64)
         .ok()
         .ok_or("refused")?;
     assert!(rt; read.as_slice() == most);
-    let mut reader = Pieces {
+    let reader = Pieces {
         rest: &bytes,
         size: usize::MAX,
         calls_left: usize::MAX,
     };
-    let fault = read_whole(rt.alloc(), &mut reader, 0).err().ok_or("read")?;
+    let fault = read_whole(rt.alloc(), &mut Input { reader }, 0)
+        .err()
+        .ok_or("read")?;
     assert_eq!(rt; fault, FileFault::FileTooLong);
     Ok(())
 }

@@ -5,7 +5,7 @@ ghost use Rattle.dap_debuggee.specs.declared.answers.State.{State};
 
 use dap_adapter::{Adapter, AdapterFault, Phase, ServeFault, Turned, serve};
 use dap_call::{Call, CallFault, Capabilities, Command, Key, SourceKey, read_call, write_call};
-use dap_channel::Pipe;
+use dap_channel::{Input, Pipe};
 use dap_debuggee::{Debuggee, DebuggeeFault, Happening, Recorded, RecordingFault};
 use dap_frame::{Cause, Fed, FrameFault, Frames, Limits, write_frame};
 use dap_json::{parse, write};
@@ -348,8 +348,8 @@ fn listing(rt: HostRuntime) -> Result<(), Fail> {
 #[test]
 fn reading_a_file(rt: HostRuntime) -> Result<(), Fail> {
     for expected in [0, 1000] {
-        let mut reader = Whole { rest: INPUT };
-        match read_whole(rt.alloc(), &mut reader, expected) {
+        let reader = Whole { rest: INPUT };
+        match read_whole(rt.alloc(), &mut Input { reader }, expected) {
             Ok(bytes) => assert!(rt; bytes.as_slice() == INPUT.as_slice()),
             Err(fault) => {
                 assert_eq!(rt; fault, FileFault::OutOfMemory);

@@ -1,6 +1,8 @@
+mod FileExamples
 pub mod Lines
 mod ListingExamples
 pub mod OneFault
 pub mod ShowLemmas
+pub mod WholeFiles
 mod WrapExamples
 pub mod Wrapped

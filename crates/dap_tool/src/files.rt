@@ -1,9 +1,12 @@
 //! Files, read whole.
 
-ghost use Rattle.std.specs.Prelude.{◌≤◌, length, IfOk, IfErr};
+ghost use Rattle.std.specs.Prelude.{ℕ, ◌≤◌, List, [], length, IfOk, IfErr, Result, Vec};
 ghost use Rattle.std.specs.Io.KnownBytes.{Consumes, IsAtEnd};
-ghost use Rattle.dap_tool.specs.Files.{max_file, LeavesFile};
+ghost use Rattle.dap_channel.specs.Channel.{IoEvent, Inputs, keeps_log};
+ghost use Rattle.dap_tool.specs.Files.{max_file, AreReads, AreDue, HasReason, ReadsWhole, LeavesFile};
+ghost use Rattle.dap_tool.specs.declared.files.FileFault.{FileFault};
 
+use dap_channel::{Channel, Input, calls_are_the_log, inputs_tell_their_bytes};
 use std::alloc::{AllocError, Global};
 use std::io::Read;
 use thiserror::Error;
@@ -36,26 +39,25 @@ impl From<AllocError> for FileFault {
     }
 }
 
-/// Reads all that a reader has left, of which at most [`MAX_FILE`] bytes are taken. Room for `expected` bytes is made at
-/// once, where the length is known before, and more is made where more comes.
+/// Reads a channel to the end of its input, of which at most [`MAX_FILE`] bytes are taken, in pieces of at most 65536
+/// bytes. Room for `expected` bytes is made at once, where the length is known before, and more is made where more comes.
+/// Nothing is written. No read comes after one that failed, that found the end, or that gave more than a file may have.
 ///
-/// `Read` comes where the reader fails, also by an interruption; `FileTooLong` where it has more than 67108864 bytes, of
+/// # Errors
+/// `Read` where a read failed, also by an interruption; `FileTooLong` where the input has more than 67108864 bytes, of
 /// which at most 65536 more were read; `OutOfMemory` where memory for the bytes is refused.
-pub fn read_whole<R: Read>(
+pub fn read_channel<C: Channel>(
     alloc: Global,
-    reader: &mut R,
+    channel: &mut C,
     expected: u64,
 ) -> Result<Vec<u8>, FileFault>
-    ensures read { IfOk result (λ bytes. Consumes (R.remaining reader.old) (R.remaining reader.new) bytes.items) }
-    ensures end { IfOk result (λ bytes. IsAtEnd (R.remaining reader.new)) }
-    ensures short { IfOk result (λ bytes. length bytes.items ≤ max_file) }
-    ensures fault { IfErr result (LeavesFile (R.remaining reader.old) (R.remaining reader.new)) }
+    ensures { ReadsWhole C.goes channel.old channel.new result }
 {
     let mut bytes = Vec::new(alloc);
     bytes.reserve_exact(expected.min(MAX_FILE as u64) as usize)?;
     let mut buffer = [0; 65536];
     while bytes.len() <= MAX_FILE {
-        let Ok(n) = reader.read(&mut buffer) else {
+        let Ok(n) = channel.read(&mut buffer) else {
             return Err(FileFault::Read);
         };
         if n == 0 {
@@ -67,4 +69,32 @@ pub fn read_whole<R: Read>(
         }
     }
     Err(FileFault::FileTooLong)
+}
+
+/// Reads a reader to its end, as `read_channel`, whose clause says when it is read. The others say what that does to the
+/// bytes that it knows.
+///
+/// # Errors
+/// Those of `read_channel`.
+pub fn read_whole<R: Read>(
+    alloc: Global,
+    input: &mut Input<R>,
+    expected: u64,
+) -> Result<Vec<u8>, FileFault>
+    ensures read { IfOk result (λ bytes. Consumes (R.remaining input.old.reader) (R.remaining input.new.reader) bytes.items) }
+    ensures end { IfOk result (λ bytes. IsAtEnd (R.remaining input.new.reader)) }
+    ensures short { IfOk result (λ bytes. length bytes.items ≤ max_file) }
+    ensures fault { IfErr result (LeavesFile (R.remaining input.old.reader) (R.remaining input.new.reader)) }
+    ensures calls { ReadsWhole (λ p e q. Inputs (R.remaining p.reader) e (R.remaining q.reader)) input.old input.new result }
+{
+    inputs_tell_their_bytes::<R>();
+    read_channel(alloc, input, expected)
+}
+
+/// A law: of a channel that is the log of its calls, what `read_channel` says is said of that very log.
+pub fn reading_is_of_the_log()
+    ensures { (calls : List IoEvent) (result : Result (Vec ℕ Global) FileFault) → ReadsWhole keeps_log [] calls result
+        → AreReads calls × AreDue calls × HasReason calls result }
+{
+    calls_are_the_log();
 }

@@ -10,6 +10,6 @@ mod listing;
 mod wrapping;
 
 pub use fault::{ToolFault, fault_line, status};
-pub use files::{FileFault, MAX_FILE, read_whole};
+pub use files::{FileFault, MAX_FILE, read_channel, read_whole, reading_is_of_the_log};
 pub use listing::{ShowFault, show};
 pub use wrapping::{WrapFault, wrap};
