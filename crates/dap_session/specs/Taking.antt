@@ -85,6 +85,11 @@ takes_request r s =
 
 -- ---- messages
 
+-- the only message that takes memory
+abbrev pub is_request : Kind → Bool
+is_request (Request command arguments) = true
+is_request _ = false
+
 abbrev pub takes_as : ℕ → Kind → Session → Result Plan AdapterFault
 takes_as seq (Request command arguments) s = takes_request (record { seq = seq; command = command; arguments = arguments }) s
 takes_as seq (Response request_seq success command message body) s = Err (Unmatched request_seq)

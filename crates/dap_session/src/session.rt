@@ -92,21 +92,23 @@ impl<D: Debuggee + Drop> Session<D> {
         self.kept.len()
     }
 
-    /// How many references are live: none is given yet.
+    /// How many references are live.
     pub fn references(&self) -> usize
         ensures live { result ≡ length self.now.session.references.live }
         ensures bound { result ≤ self.now.session.limits.references }
     {
         let _ = &self.limits;
+        // None is given yet.
         0
     }
 
-    /// How many breakpoints are set: none yet.
+    /// How many breakpoints are set.
     pub fn breakpoints(&self) -> usize
         ensures set { result ≡ count self.now.session.breakpoints }
         ensures bound { result ≤ self.now.session.limits.breakpoints }
     {
         let _ = &self.limits;
+        // None can be set yet.
         0
     }
 

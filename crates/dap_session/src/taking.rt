@@ -1,5 +1,5 @@
 //! What comes of a message that is delivered.
-ghost use Rattle.std.specs.Prelude.{◌≡◌, ◌+◌, ◌≤◌, [], ◌∷◌, length, IfOk, IfErr, IfSome, IfNone, OnOk, OnErr, Some, false};
+ghost use Rattle.std.specs.Prelude.{◌≡◌, ◌+◌, ◌≤◌, [], ◌∷◌, length, IfOk, IfErr, IfSome, IfNone, IsErrOf, OnOk, OnErr, Some, true, false};
 ghost use Rattle.dap_json.specs.Field.{max_seq};
 ghost use Rattle.dap_message.specs.Command.{command_named};
 ghost use Rattle.dap_message.specs.InRange.{IsInRange};
@@ -12,7 +12,7 @@ ghost use Rattle.dap_session.specs.Seat.{MadeBy, HasTaken, NotTaken, TakesReques
 ghost use Rattle.dap_session.specs.Sheet.{IsAnswerable, IsPlainAnswer, Holds, answer_of};
 ghost use Rattle.dap_session.specs.Table.{is_phase};
 ghost use Rattle.dap_session.specs.declared.phase.Phase.TheVariants.{Ended};
-ghost use Rattle.dap_session.specs.Taking.{answered_at_once, keeps, cancels, cancelled, id_in, is_cancel};
+ghost use Rattle.dap_session.specs.Taking.{answered_at_once, keeps, cancels, cancelled, id_in, is_cancel, is_request};
 
 use crate::deciding::call_in;
 use crate::fault::AdapterFault;
@@ -61,6 +61,8 @@ fn entry_of(seq: u64, command: &Text, arguments: &Option<Tree>) -> Result<Entry,
 }
 
 impl<D: Debuggee + Drop> Session<D> {
+    ghost use Rattle.dap_session.specs.declared.fault.AdapterFault.{AdapterFault};
+
     /// Answers a request that is not kept.
     fn answer_at_once(
         &mut self,
@@ -231,6 +233,7 @@ impl<D: Debuggee + Drop> Session<D> {
         requires { IsInRange message.now }
         ensures taken { IfOk result (λ bytes. HasTaken message.now self.old.session self.new.session bytes.items) }
         ensures refused { IfErr result (λ fault. NotTaken fault message.now self.old.session) }
+        ensures memory { IsErrOf result AdapterFault.OutOfMemory → is_request message.now.kind ≡ true }
         ensures err { OnErr result (self.new ≡ self.old) }
         ensures debuggee { self.new.debuggee ≡ self.old.debuggee }
         ensures distinct { HasDistinctSeqs self.old.session.kept }
