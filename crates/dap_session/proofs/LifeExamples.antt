@@ -1,5 +1,5 @@
 -- Worked examples of a session's life, each shown by computation: what is written call by call, and what is left.
-use Rattle.std.proofs.Common.{◌≡◌, List, [], ◌∷◌, ◌++◌, length, true, false, Some, None, codes, refl}
+use Rattle.std.proofs.Common.{◌≡◌, ℕ, List, [], ◌∷◌, ◌++◌, length, true, false, Some, None, codes, refl}
 use Rattle.std.specs.Fmt.{digits}
 use Rattle.std.specs.Str.{is_utf8, chars}
 use Rattle.json.specs.Print.{escape_byte}
@@ -17,6 +17,7 @@ use Rattle.dap_session.specs.declared.phase.Phase.TheVariants.{Configured, Runni
 use Rattle.dap_session.specs.Bodies.{telling}
 use Rattle.dap_session.specs.Handling.{plan_for}
 use Rattle.dap_session.specs.Polling.{saw}
+use Rattle.dap_session.specs.Session.{to_handle}
 use Rattle.dap_session.specs.Table.{is_put_off}
 use Rattle.dap_session.proofs.Played.{At, Calls, comes, turn, poll, run, fresh_at, request, request_with, texts_of, initialized, written_after}
 
@@ -52,6 +53,14 @@ busy = refl
 busy_is_not_kept : length (run is_put_off full two_kept).session.kept ≡ 2
 unfolding plan_for initialize_of json_of is_utf8 chars serde_json_on_literals
 busy_is_not_kept = refl
+
+-- the launch is parked, so one of the two waits to be handled; a turn more, and none does
+abbrev after_full : List Calls → ℕ × ℕ
+after_full more = let s = (run is_put_off (full ++ more) two_kept).session in (length s.kept, to_handle s.kept)
+
+parked_waits_for_no_turn : (after_full [] ≡ (2, 1)) × (after_full (turn ∷ []) ≡ (1, 0))
+unfolding canon tree_of response_members event_members escape_byte digits plan_for telling initialize_of json_of is_utf8 chars serde_json_on_literals
+parked_waits_for_no_turn = (refl, refl)
 
 -- configurationDone is answered first, then the parked launch
 parked_is_answered_last : texts_of (written_after 3 (run is_put_off (full ++ turn ∷ request 5 (codes "configurationDone") ∷ turn ∷ []) two_kept))
