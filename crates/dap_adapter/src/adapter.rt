@@ -14,7 +14,6 @@ use crate::taken::{Taken, Turned};
 use dap_debuggee::Debuggee;
 use dap_frame::{Cause, End, FrameFault, Frames, Limits};
 use dap_history::laws::histories_grow;
-use dap_message::laws::read_is_in_range;
 use dap_message::{BodyFault, Message, read_message};
 use dap_session::laws::{each_step_goes_on, each_step_stays_within};
 use dap_session::{AdapterFault, Phase, Session};
@@ -303,7 +302,6 @@ fn receive<D: Debuggee + Drop>(
             bytes: Vec::new(alloc),
         });
     }
-    read_is_in_range();
     let message = read_body(alloc, frames)?;
     frames.release();
     let bytes = session.take(alloc, &message)?;

@@ -1,5 +1,5 @@
 //! Bytes that are gathered before they go out.
-ghost use Rattle.std.specs.Prelude.{◌≡◌, ℕ, ◌+◌, ◌<◌, ◌≤◌, [], ◌++◌, length, OnOk, IfErr};
+ghost use Rattle.std.specs.Prelude.{◌≡◌, ℕ, ◌+◌, ◌<◌, [], ◌++◌, length, OnOk, IfErr};
 ghost use Rattle.dap_channel.specs.Sent.{Sends, counted};
 ghost use Rattle.dap_adapter.specs.Serving.{FallsShort, Gathers, GathersNot};
 

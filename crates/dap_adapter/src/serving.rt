@@ -1,5 +1,5 @@
 //! A debuggee served over a channel.
-ghost use Rattle.std.specs.Prelude.{◌≡◌, ℕ, ◌+◌, ◌<◌, ◌≤◌, List, [], length, false, IfOk, OnOk, IfErr, IfNone, IfSome, None, Some, Result};
+ghost use Rattle.std.specs.Prelude.{◌≡◌, ◌+◌, ◌<◌, ◌≤◌, List, [], length, false, IfOk, OnOk, IfErr, IfNone, IfSome, None, Some, Result};
 ghost use Rattle.dap_message.specs.declared.message.Message.{Message};
 ghost use Rattle.dap_debuggee.specs.declared.answers.State.{State};
 ghost use Rattle.dap_session.specs.Table.{is_phase};

@@ -2,7 +2,7 @@
 ghost use Rattle.std.specs.Prelude.{◌≡◌, IfOk, IsErrOf, true, is_some, option_map};
 ghost use Rattle.serde_json.specs.View.{view};
 ghost use Rattle.dap_call.specs.Lent.{seen};
-ghost use Rattle.dap_call.specs.Argument.{Gives, read_map, may_be_absent};
+ghost use Rattle.dap_call.specs.Argument.{Gives, read_map};
 ghost use Rattle.dap_call.specs.Call.{lines_of, line_in, breakpoint_lines_of, name_in, names_of, filters_of, source_key_of, source_reference_of, source_parts as source_parts_of, initialize_of, cancel_of, set_breakpoints_of, set_function_breakpoints_of, set_exception_breakpoints_of, stack_trace_of, scopes_of, variables_of, evaluate_of, source_of, set_variable_of, modules_of, breakpoint_locations_of, completions_of, thread_of, tree_of, call_of, takes_memory};
 ghost use Rattle.dap_call.specs.declared.call.CallFault.TheVariants.{OutOfMemory};
 

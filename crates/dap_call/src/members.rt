@@ -1,9 +1,7 @@
 //! Members of the arguments that are being written, by their keys. A key with its default value is left out.
-ghost use Rattle.std.specs.Prelude.{◌≡◌, OnOk, option_map};
+ghost use Rattle.std.specs.Prelude.{◌≡◌, OnOk};
 ghost use Rattle.serde_json.specs.Data.{string};
 ghost use Rattle.serde_json.specs.View.{view, members_view};
-ghost use Rattle.dap_json.specs.Put.{put_if, whole};
-ghost use Rattle.dap_call.specs.Key.{text_of};
 ghost use Rattle.dap_call.specs.CallTree.{with, with_number, with_false, with_true, with_optional};
 
 use crate::key::Key;

@@ -1,4 +1,4 @@
-//! Worked examples over several crates, as tests alone.
+//! Worked examples of serving, of the tools and of the library, as tests alone.
 #![tactic(auto)]
 
 #[cfg(test)]
@@ -6,14 +6,6 @@ mod library;
 #[cfg(test)]
 mod listings;
 #[cfg(test)]
-mod session_calls;
+mod serving;
 #[cfg(test)]
-mod session_limits;
-#[cfg(test)]
-mod session_runs;
-#[cfg(test)]
-mod sessions;
-#[cfg(test)]
-mod streams;
-#[cfg(test)]
-mod tests;
+mod wrapping;

@@ -1,9 +1,9 @@
 //! The library code of the README, as a test.
 
-use crate::session_calls::{CAPABILITIES, INITIALIZE, INITIALIZED, RECORDING};
 use dap_adapter::{Adapter, Turned};
 use dap_debuggee::Recorded;
 use dap_frame::{Limits, write_frame};
+use dap_samples::calls::{CAPABILITIES, INITIALIZE, INITIALIZED, RECORDING};
 use std::alloc::Global;
 use std::test::Fail;
 

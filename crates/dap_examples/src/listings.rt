@@ -1,17 +1,15 @@
 //! `show` and `read_whole`: what is listed of a stream, and how its end or its refusal is told.
 
-use crate::streams::Pieces;
-use crate::tests::framed;
 use dap_channel::{Channel, Input};
 use dap_frame::{Cause, End, FrameFault, Limits, Refusal};
 use dap_message::{BodyRefusal, Scratch, read_heading, read_message};
+use dap_samples::calls::{THREADS, framed};
+use dap_samples::streams::Pieces;
 use dap_tool::{
     FileFault, MAX_FILE, ShowFault, ToolFault, WrapFault, fault_line, read_whole, show, status,
 };
 use std::io;
 use std::test::Fail;
-
-static THREADS: &[u8; 46] = b"{\"seq\":1,\"type\":\"request\",\"command\":\"threads\"}";
 
 /// A request, a failed response, an event whose name has a control character, and a message of another type.
 static FOUR: [&[u8]; 4] = [

@@ -6,11 +6,10 @@ use Rattle.std.proofs.lemmas.List.{append-nil}
 use Rattle.std.proofs.lemmas.List.Folds.{list_any-append}
 use Rattle.dap_tables.specs.Outstanding.{Kept, entries, without, contains_seq, is_parked, parked_ones, HasDistinctSeqs}
 use Rattle.dap_tables.specs.declared.entry.Entry.{Entry}
-use Rattle.dap_session.specs.Seat.{AreAnswerable}
 use Rattle.dap_session.specs.Handling.{answer_each}
 use Rattle.dap_session.proofs.Kept.{all-without, IsApart, apart, false-left, false-right, eqb-self}
 use Rattle.dap_session.specs.declared.sheet.Sheet.{Sheet}
-use Rattle.dap_session.specs.Several.{AllAnswerable, answer_where, WritesAll}
+use Rattle.dap_session.specs.Several.{answer_where, WritesAll}
 use Rattle.dap_session.specs.Plan.{Answer, Draft, reply}
 use Rattle.dap_session.specs.Sheet.{Holds, Writes}
 
@@ -50,9 +49,6 @@ room-passed passes used last requests rest r e is h =
     let count = ap length all in
     omega arith
 
-pub rest-answerable : (requests rest : List Entry) (r : Entry) → requests ≡ r ∷ rest → AllAnswerable requests → AllAnswerable rest
-rest-answerable requests rest r e a = let b = rw e at a in b.1
-
 -- ---- the requests of a table
 
 answers-cons : (b : Bool) (answer : Answer) (k : Kept) (xs : List Entry) (ks : List Kept) → map (λ (r : Entry). reply r answer) xs ≡ answer_each answer ks
@@ -71,10 +67,6 @@ length-cons false k xs ks e = e
 pub others-kept : (except : ℕ) (kept : List Kept) → length (filter (λ (r : Entry). not (r.seq == except)) (entries kept)) ≡ length (without except kept)
 others-kept except [] = refl
 others-kept except (k ∷ kept) = length-cons (not (k.entry.seq == except)) k (filter (λ (r : Entry). not (r.seq == except)) (entries kept)) (without except kept) (others-kept except kept)
-
-pub all-answerable : (kept : List Kept) → AreAnswerable kept → AllAnswerable (entries kept)
-all-answerable [] a = tt
-all-answerable (k ∷ kept) a = (a.0, all-answerable kept a.1)
 
 -- ---- those that are parked
 

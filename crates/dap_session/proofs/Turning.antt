@@ -1,6 +1,6 @@
 -- The request that a turn handles, and what the turn comes to.
 use Rattle.std.proofs.Common.{◌≡◌, ℕ, ◌+◌, ◌<◌, ◌≤◌, List, [], ◌∷◌, ◌++◌, Bool, true, false, Option, Some, None, Ok, Err, refl, sym, ap, ◌∙◌, subst, arith}
-use Rattle.std.specs.Prelude.{◌==◌, ◌||◌, not, if◌then◌else◌, nat_le, option_map}
+use Rattle.std.specs.Prelude.{◌==◌, ◌||◌, not, nat_le, option_map}
 use Rattle.std.proofs.lemmas.Bool.Decides.{nat_tests}
 use Rattle.dap_tables.specs.Outstanding.{Kept, entry_with, contains_seq, oldest_unparked, HasDistinctSeqs}
 use Rattle.dap_tables.specs.declared.entry.Entry.{Entry}
@@ -8,11 +8,10 @@ use Rattle.dap_debuggee.specs.Shown.{Shown}
 use Rattle.dap_session.specs.declared.fault.AdapterFault.TheVariants.{SeqExhausted, OutOfMemory}
 use Rattle.dap_session.specs.declared.fault.AdapterFault.{AdapterFault}
 use Rattle.dap_session.specs.Carried.{Goes}
-use Rattle.dap_session.specs.Seat.{Seat, AreAnswerable, IsRefusedFor, NotTurned, HasTurned, Carries}
+use Rattle.dap_session.specs.Seat.{Seat, IsRefusedFor, NotTurned, HasTurned, Carries}
 use Rattle.dap_session.specs.Handling.{plan, turn_of}
 use Rattle.dap_session.specs.Plan.{due}
 use Rattle.dap_session.specs.Session.{Session, oldest}
-use Rattle.dap_session.specs.Sheet.{IsAnswerable}
 use Rattle.dap_session.specs.Table.{is_put_off}
 use Rattle.dap_session.proofs.Kept.{IsKept, kept-found, apart}
 
@@ -45,14 +44,6 @@ oldest-as kept (Some k) seq r is d e f =
 -- the request with the oldest number is the oldest
 pub oldest-entry : (kept : List Kept) (seq : ℕ) (r : Entry) → HasDistinctSeqs kept → oldest_unparked kept ≡ Some seq → entry_with seq kept ≡ Some r → option_map (λ (k : Kept). k.entry) (oldest kept) ≡ Some r
 oldest-entry kept seq r d e f = oldest-as kept (oldest kept) seq r refl d e f
-
-answerable-if : (b : Bool) (k : Kept) (o : Option Entry) (r : Entry) → IsAnswerable k.entry → (o ≡ Some r → IsAnswerable r) → (if b then Some k.entry else o) ≡ Some r → IsAnswerable r
-answerable-if true k o r h ih e = let same : k.entry ≡ r = cc in subst (λ (x : Entry). IsAnswerable x) same h
-answerable-if false k o r h ih e = ih e
-
-pub answerable-found : (kept : List Kept) (seq : ℕ) (r : Entry) → AreAnswerable kept → entry_with seq kept ≡ Some r → IsAnswerable r
-answerable-found [] seq r a e = cc
-answerable-found (k ∷ kept) seq r a e = answerable-if (k.entry.seq == seq) k (entry_with seq kept) r a.0 (answerable-found kept seq r a.1) e
 
 -- ---- a turn
 

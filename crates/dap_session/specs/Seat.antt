@@ -1,7 +1,6 @@
 -- The code's words for the session with its debuggee, and for the steps that the calls are made of.
 use Rattle.std.specs.Prelude.{◌≡◌, ℕ, ◌+◌, ◌≤◌, ◌<◌, ⊤, List, [], ◌∷◌, length, Bool, true, false, Some, None, Ok, Err}
 use Rattle.dap_frame.specs.Settings.{Settings}
-use Rattle.dap_json.specs.Field.{max_seq}
 use Rattle.dap_tables.specs.Outstanding.{Kept, KeptRequests, IsOrderly, without}
 use Rattle.dap_tables.specs.Seq.{Numbers}
 use Rattle.dap_tables.specs.declared.entry.Entry.{Entry}
@@ -18,26 +17,18 @@ use Rattle.dap_session.specs.Plan.{Made, Plan, at_once, due, answered, failure, 
 use Rattle.dap_session.specs.Session.{Session, cancelled_by, not_cancelled_by}
 use Rattle.dap_session.specs.Taking.{takes, takes_request}
 use Rattle.dap_message.specs.declared.message.Message.{Message}
-use Rattle.dap_session.specs.Sheet.{IsAnswerable}
 
 -- a session with its debuggee
 pub record Seat (D : Type 0) : Type 0 where
   pub session : Session
   pub debuggee : D
 
--- a response to each can be written
-abbrev pub AreAnswerable : List Kept → Type 0
-AreAnswerable [] = Unit {0}
-AreAnswerable (k ∷ kept) = IsAnswerable k.entry × AreAnswerable kept
-
 -- what holds of every desk
 pub record IsSession (limits : Settings) (table : KeptRequests) (numbers : Numbers) : Type 0 where
   pub room : table.room ≡ limits.requests
   pub orderly : IsOrderly table
-  pub answerable : AreAnswerable table.kept
   pub last : numbers.last ≡ limits.seq
   pub used : numbers.used ≤ numbers.last
-  pub greatest : limits.seq ≤ max_seq
 
 -- the session went on, and these bytes say so
 pub record MadeBy (m : Made) (old new : Session) (bytes : List ℕ) : Type 0 where

@@ -1,5 +1,5 @@
 -- The code's words for answers to several kept requests.
-use Rattle.std.specs.Prelude.{◌≡◌, ℕ, ◌==◌, not, Bool, List, [], ◌∷◌, ◌++◌, filter, map, Option, Some, None}
+use Rattle.std.specs.Prelude.{◌≡◌, ℕ, ◌==◌, not, Bool, List, ◌++◌, filter, map, Option, Some, None}
 use Rattle.dap_message.specs.Types.Failure.{Failure}
 use Rattle.dap_tables.specs.Outstanding.{Kept, is_parked}
 use Rattle.dap_tables.specs.declared.entry.Entry.{Entry}
@@ -7,11 +7,7 @@ use Rattle.dap_session.specs.declared.several.Chosen.{Chosen}
 use Rattle.dap_session.specs.declared.several.Chosen.TheVariants.{AllBut, Parked}
 use Rattle.dap_session.specs.declared.sheet.Sheet.{Sheet}
 use Rattle.dap_session.specs.Plan.{Answer, Draft, reply, failure, plain_success}
-use Rattle.dap_session.specs.Sheet.{IsAnswerable, Holds}
-
-abbrev pub AllAnswerable : List Entry → Type 0
-AllAnswerable [] = Unit {0}
-AllAnswerable (r ∷ rs) = IsAnswerable r × AllAnswerable rs
+use Rattle.dap_session.specs.Sheet.{Holds}
 
 abbrev pub chosen : Chosen → List Kept → ℕ → Bool
 chosen (AllBut one) kept seq = not (seq == one)

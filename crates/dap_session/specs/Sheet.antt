@@ -1,11 +1,8 @@
 -- The code's words for what a call is about to write.
-use Rattle.std.specs.Prelude.{◌≡◌, ℕ, ◌+◌, ◌≤◌, List, [], ◌∷◌, ◌++◌, length, IsTrue, ⊤}
-use Rattle.dap_json.specs.Field.{max_seq}
+use Rattle.std.specs.Prelude.{◌≡◌, ℕ, ◌+◌, List, [], ◌∷◌, ◌++◌, length, IsTrue, ⊤}
 use Rattle.dap_json.specs.Writable.{is_plain_tree}
 use Rattle.dap_message.specs.Lengths.{AdapterEvent, initialized, output, stopped, continued, exited, terminated}
-use Rattle.dap_message.specs.Refusals.{max_command}
 use Rattle.dap_debuggee.specs.Shown.{category_name}
-use Rattle.dap_tables.specs.declared.entry.Entry.{Entry}
 use Rattle.dap_session.specs.declared.sheet.Answer.{Answer}
 use Rattle.dap_session.specs.declared.sheet.Answer.TheVariants.{Success, Failure}
 use Rattle.dap_session.specs.declared.sheet.Event.{Event}
@@ -28,11 +25,6 @@ event_of Terminated = terminated
 abbrev pub IsPlainAnswer : Answer → Type 0
 IsPlainAnswer (Success body) = IsTrue (is_plain_tree body)
 IsPlainAnswer (Failure f) = ⊤
-
--- a response to it can be written
-pub record IsAnswerable (r : Entry) : Type 0 where
-  pub seq : r.seq ≤ max_seq
-  pub command : length r.command ≤ max_command
 
 -- the sheet holds just these messages, numbered after the first ones that were used
 pub record Holds (sheet : Sheet) (used : ℕ) (ds : List Draft) : Type 0 where

@@ -1,5 +1,5 @@
 //! What is to be done with a request: the tests in their order, and the table.
-ghost use Rattle.std.specs.Prelude.{◌≡◌, IsErrOf, IfOk, OnOk, OnErr, IfErr, Some, None, ◌||◌, ◌&&◌, not, false, true};
+ghost use Rattle.std.specs.Prelude.{◌≡◌, IsErrOf, IfOk, OnOk, IfErr, Some, None, ◌||◌, ◌&&◌, false, true};
 ghost use Rattle.std.specs.List.{list_any};
 ghost use Rattle.std.specs.Ordering.{int_eq};
 ghost use Rattle.dap_session.specs.Deciding.{name_refused_now};

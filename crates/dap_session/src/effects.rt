@@ -1,15 +1,13 @@
 //! What requests do in the phases that serve them, an effect of the table each.
-ghost use Rattle.std.specs.Prelude.{◌≡◌, ◌+◌, ◌≤◌, ◌<◌, [], ◌∷◌, ◌++◌, length, IfOk, OnOk, OnErr, IsTrue, None, Some, true};
-ghost use Rattle.serde_json.specs.Data.{Data};
-ghost use Rattle.dap_json.specs.Field.{max_seq};
+ghost use Rattle.std.specs.Prelude.{◌≡◌, ◌+◌, ◌≤◌, ◌<◌, [], ◌∷◌, IfOk, OnErr, IsTrue, None, Some, true};
 ghost use Rattle.dap_json.specs.Writable.{is_plain_tree};
 ghost use Rattle.dap_message.specs.Types.Call.{Call};
 ghost use Rattle.dap_tables.specs.Outstanding.{contains_seq};
 ghost use Rattle.dap_debuggee.specs.Shown.{to_start, to_resume, to_pause, to_end};
 ghost use Rattle.dap_session.specs.Seat.{MadeBy, Carries, reply_of};
 ghost use Rattle.dap_session.specs.Handling.{begun, parked, started, configured, finished, resumed, by_reply, options_of, start_phase, offered, resume_body as resume_body_word};
-ghost use Rattle.dap_session.specs.Plan.{reply, tell, answered, at_once, asking};
-ghost use Rattle.dap_session.specs.Sheet.{IsAnswerable, IsPlainAnswer, Holds, answer_of, event_of};
+ghost use Rattle.dap_session.specs.Plan.{reply, tell, answered, asking};
+ghost use Rattle.dap_session.specs.Sheet.{IsPlainAnswer, Holds, answer_of, event_of};
 
 use crate::options::Options;
 use crate::phase::Phase;
@@ -102,10 +100,8 @@ impl<D: Debuggee + Drop> Session<D> {
         answer: Answer,
     ) -> Result<Sheet, AllocError>
         requires room { self.now.session.used + 1 ≤ self.now.session.limits.seq }
-        requires request { IsAnswerable request.now }
         requires plain { IsPlainAnswer answer }
         ensures last { IfOk result (λ sheet. sheet.numbers.last ≡ self.now.session.limits.seq) }
-        ensures greatest { IfOk result (λ sheet. sheet.numbers.last ≤ max_seq) }
         ensures holds { IfOk result (λ sheet. Holds sheet self.now.session.used (reply request.now (answer_of answer) ∷ [])) }
     {
         let mut sheet = Sheet::open(alloc, self.numbers());
@@ -122,7 +118,6 @@ impl<D: Debuggee + Drop> Session<D> {
         event: Event,
     ) -> Result<Sheet, AllocError>
         requires room { self.now.session.used + 2 ≤ self.now.session.limits.seq }
-        requires request { IsAnswerable request.now }
         requires plain { IsPlainAnswer answer }
         ensures last { IfOk result (λ sheet. sheet.numbers.last ≡ self.now.session.limits.seq) }
         ensures holds { IfOk result (λ sheet. Holds sheet self.now.session.used (reply request.now (answer_of answer) ∷ tell (event_of event) ∷ [])) }
@@ -140,7 +135,6 @@ impl<D: Debuggee + Drop> Session<D> {
         answer: Answer,
     ) -> Result<Vec<u8>, AllocError>
         requires room { self.old.session.used + 1 ≤ self.old.session.limits.seq }
-        requires request { IsAnswerable request.now }
         requires plain { IsPlainAnswer answer }
         ensures made { IfOk result (λ bytes. MadeBy (answered request.now (answer_of answer) self.old.session) self.old.session self.new.session bytes.items) }
         ensures debuggee { self.new.debuggee ≡ self.old.debuggee }
@@ -158,7 +152,6 @@ impl<D: Debuggee + Drop> Session<D> {
         call: &Call,
     ) -> Result<Vec<u8>, AllocError>
         requires room { self.old.session.used + 2 ≤ self.old.session.limits.seq }
-        requires request { IsAnswerable request.now }
         ensures made { IfOk result (λ bytes. MadeBy (begun self.old.session request.now call.now) self.old.session self.new.session bytes.items) }
         ensures debuggee { self.new.debuggee ≡ self.old.debuggee }
         ensures err { OnErr result (self.new.session ≡ self.old.session) }
@@ -184,7 +177,6 @@ impl<D: Debuggee + Drop> Session<D> {
         request: &Entry,
     ) -> Result<Vec<u8>, AllocError>
         requires room { self.old.session.used + 1 ≤ self.old.session.limits.seq }
-        requires request { IsAnswerable request.now }
         ensures made { IfOk result (λ bytes. MadeBy (configured self.old.session request.now) self.old.session self.new.session bytes.items) }
         ensures debuggee { self.new.debuggee ≡ self.old.debuggee }
         ensures err { OnErr result (self.new.session ≡ self.old.session) }
@@ -208,7 +200,6 @@ impl<D: Debuggee + Drop> Session<D> {
     /// Starts the debuggee.
     pub(crate) fn start(&mut self, alloc: Global, request: &Entry) -> Result<Vec<u8>, AllocError>
         requires room { self.old.session.used + 1 ≤ self.old.session.limits.seq }
-        requires request { IsAnswerable request.now }
         ensures carries { IfOk result (λ bytes. Carries D.follows (asking to_start (started self.old.session request.now)) self.old self.new bytes.items) }
         ensures err { OnErr result (self.new.session ≡ self.old.session) }
     {
@@ -221,7 +212,6 @@ impl<D: Debuggee + Drop> Session<D> {
     /// Ends the debuggee.
     pub(crate) fn finish(&mut self, alloc: Global, request: &Entry) -> Result<Vec<u8>, AllocError>
         requires room { self.old.session.used + 2 ≤ self.old.session.limits.seq }
-        requires request { IsAnswerable request.now }
         ensures carries { IfOk result (λ bytes. Carries D.follows (asking to_end (λ last. finished self.old.session request.now)) self.old self.new bytes.items) }
         ensures err { OnErr result (self.new.session ≡ self.old.session) }
     {
@@ -242,7 +232,6 @@ impl<D: Debuggee + Drop> Session<D> {
         thread: i64,
     ) -> Result<Vec<u8>, AllocError>
         requires room { self.old.session.used + 1 ≤ self.old.session.limits.seq }
-        requires request { IsAnswerable request.now }
         ensures carries { IfOk result (λ bytes. Carries D.follows (asking (to_resume how thread) (resumed how self.old.session request.now)) self.old self.new bytes.items) }
         ensures err { OnErr result (self.new.session ≡ self.old.session) }
     {
@@ -259,7 +248,6 @@ impl<D: Debuggee + Drop> Session<D> {
     /// Asks the debuggee to stop.
     pub(crate) fn pause(&mut self, alloc: Global, request: &Entry) -> Result<Vec<u8>, AllocError>
         requires room { self.old.session.used + 1 ≤ self.old.session.limits.seq }
-        requires request { IsAnswerable request.now }
         ensures carries { IfOk result (λ bytes. Carries D.follows (asking to_pause (λ last. answered request.now (by_reply None last) self.old.session)) self.old self.new bytes.items) }
         ensures err { OnErr result (self.new.session ≡ self.old.session) }
     {

@@ -5,7 +5,6 @@ ghost use Rattle.dap_session.specs.Seat.{Carries, IsRefusedFor, decided, sets_br
 ghost use Rattle.dap_session.specs.Session.{oldest, to_handle};
 ghost use Rattle.dap_session.specs.Handling.{plan, plan_for};
 ghost use Rattle.dap_session.specs.Plan.{due};
-ghost use Rattle.dap_session.specs.Sheet.{IsAnswerable};
 
 use crate::deciding::thread_of;
 use crate::decision::Decision;
@@ -49,7 +48,6 @@ impl<D: Debuggee + Drop> Session<D> {
         effect: Effect,
         call: &Call,
     ) -> Result<Vec<u8>, AdapterFault>
-        requires request { IsAnswerable request.now }
         requires kept { IsTrue (contains_seq request.now.seq self.old.session.kept) }
         requires unparked { is_parked request.now.seq self.old.session.kept ≡ false }
         ensures carries { IfOk result (λ bytes. Carries D.follows (plan_for effect (D.shown self.old.debuggee) self.old.session request.now call.now) self.old self.new bytes.items) }
@@ -100,7 +98,6 @@ impl<D: Debuggee + Drop> Session<D> {
 
     /// Handles a request that is kept.
     fn handle(&mut self, alloc: Global, request: &Entry) -> Result<Vec<u8>, AdapterFault>
-        requires request { IsAnswerable request.now }
         requires kept { IsTrue (contains_seq request.now.seq self.old.session.kept) }
         requires unparked { is_parked request.now.seq self.old.session.kept ≡ false }
         ensures carries { IfOk result (λ bytes. Carries D.follows (plan (D.shown self.old.debuggee) self.old.session request.now) self.old self.new bytes.items) }
@@ -116,7 +113,6 @@ impl<D: Debuggee + Drop> Session<D> {
     }
 
     fn handle_copy(&mut self, alloc: Global, request: Entry) -> Result<Vec<u8>, AdapterFault>
-        requires request { IsAnswerable request }
         requires kept { IsTrue (contains_seq request.seq self.old.session.kept) }
         requires unparked { is_parked request.seq self.old.session.kept ≡ false }
         ensures carries { IfOk result (λ bytes. Carries D.follows (plan (D.shown self.old.debuggee) self.old.session request) self.old self.new bytes.items) }
@@ -135,7 +131,6 @@ impl<D: Debuggee + Drop> Session<D> {
         request: &Entry,
         failure: Failure,
     ) -> Result<Vec<u8>, AdapterFault>
-        requires { IsAnswerable request.now }
         ensures carries { IfOk result (λ bytes. Carries D.follows (decided (Decision.Refuses failure) (D.shown self.old.debuggee) self.old.session request.now) self.old self.new bytes.items) }
         ensures within { OnOk result (self.old.session.used + 1 ≤ self.old.session.limits.seq) }
         ensures refused { IfErr result (λ fault. IsRefusedFor fault (decided (Decision.Refuses failure) (D.shown self.old.debuggee) self.old.session request.now) self.old self.new) }
@@ -148,7 +143,6 @@ impl<D: Debuggee + Drop> Session<D> {
     /// A copy of the request that is to be handled next.
     fn next_request(&self) -> Result<Option<Entry>, AllocError>
         ensures oldest { IfOk result (λ o. o ≡ option_map (λ k. k.entry) (oldest self.now.session.kept)) }
-        ensures answerable { IfOk result (λ o. IfSome o IsAnswerable) }
         ensures kept { IfOk result (λ o. IfSome o (λ r. IsTrue (contains_seq r.seq self.now.session.kept))) }
         ensures unparked { IfOk result (λ o. IfSome o (λ r. is_parked r.seq self.now.session.kept ≡ false)) }
         ensures none { OnErr result (oldest self.now.session.kept ≡ None → ⊥) }

@@ -7,7 +7,7 @@ ghost use Rattle.dap_session.specs.Handling.{left};
 ghost use Rattle.dap_session.specs.Plan.{at_once, asking, due};
 ghost use Rattle.dap_session.specs.References.{cleared};
 ghost use Rattle.dap_session.specs.Seat.{Carries, IsRefusedFor};
-ghost use Rattle.dap_session.specs.Sheet.{IsAnswerable, Holds};
+ghost use Rattle.dap_session.specs.Sheet.{Holds};
 
 use crate::fault::AdapterFault;
 use crate::phase::Phase;
@@ -24,7 +24,6 @@ impl<D: Debuggee + Drop> Session<D> {
     fn farewell(&self, alloc: Global, request: &Entry) -> Result<Sheet, AllocError>
         requires kept { IsTrue (contains_seq request.now.seq self.now.session.kept) }
         requires room { self.now.session.used + length self.now.session.kept ≤ self.now.session.limits.seq }
-        requires request { IsAnswerable request.now }
         ensures last { IfOk result (λ sheet. sheet.numbers.last ≡ self.now.session.limits.seq) }
         ensures holds { IfOk result (λ sheet. Holds sheet self.now.session.used (left self.now.session request.now).drafts) }
     {
@@ -57,7 +56,6 @@ impl<D: Debuggee + Drop> Session<D> {
     /// Answers every request that is kept, where there is no debuggee to end.
     pub(crate) fn leave(&mut self, alloc: Global, request: &Entry) -> Result<Vec<u8>, AdapterFault>
         requires kept { IsTrue (contains_seq request.now.seq self.old.session.kept) }
-        requires request { IsAnswerable request.now }
         ensures carries { IfOk result (λ bytes. Carries D.follows (at_once (left self.old.session request.now)) self.old self.new bytes.items) }
         ensures within { OnOk result (self.old.session.used + due (at_once (left self.old.session request.now)) ≤ self.old.session.limits.seq) }
         ensures refused { IfErr result (λ fault. IsRefusedFor fault (at_once (left self.old.session request.now)) self.old self.new) }
@@ -75,7 +73,6 @@ impl<D: Debuggee + Drop> Session<D> {
         request: &Entry,
     ) -> Result<Vec<u8>, AdapterFault>
         requires kept { IsTrue (contains_seq request.now.seq self.old.session.kept) }
-        requires request { IsAnswerable request.now }
         ensures carries { IfOk result (λ bytes. Carries D.follows (asking to_end (λ last. left self.old.session request.now)) self.old self.new bytes.items) }
         ensures within { OnOk result (self.old.session.used + due (asking to_end (λ last. left self.old.session request.now)) ≤ self.old.session.limits.seq) }
         ensures refused { IfErr result (λ fault. IsRefusedFor fault (asking to_end (λ last. left self.old.session request.now)) self.old self.new) }

@@ -1,6 +1,5 @@
 //! What happened to the debuggee, told to the client.
-ghost use Rattle.std.specs.Prelude.{◌≡◌, ◌+◌, ◌≤◌, ◌<◌, [], ◌∷◌, length, IfOk, IfErr, OnOk, OnErr, IsOk, false};
-ghost use Rattle.dap_json.specs.Field.{max_seq};
+ghost use Rattle.std.specs.Prelude.{◌≡◌, ◌+◌, ◌≤◌, ◌<◌, [], ◌∷◌, IfOk, IfErr, OnOk, OnErr, IsOk, false};
 ghost use Rattle.dap_session.specs.Seat.{MadeBy, Carries, IsBeyond, IsRefusedPoll};
 ghost use Rattle.dap_session.specs.Plan.{tell};
 ghost use Rattle.dap_session.specs.Polling.{saw, saw_reply, polls, has_debuggee};
@@ -36,7 +35,6 @@ impl<D: Debuggee + Drop> Session<D> {
     fn event(&self, alloc: Global, event: Event) -> Result<Sheet, AllocError>
         requires room { self.now.session.used + 1 ≤ self.now.session.limits.seq }
         ensures last { IfOk result (λ sheet. sheet.numbers.last ≡ self.now.session.limits.seq) }
-        ensures greatest { IfOk result (λ sheet. sheet.numbers.last ≤ max_seq) }
         ensures holds { IfOk result (λ sheet. Holds sheet self.now.session.used (tell (event_of event) ∷ [])) }
     {
         let mut sheet = Sheet::open(alloc, self.numbers());

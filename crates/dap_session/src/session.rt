@@ -1,11 +1,9 @@
 //! A session with its debuggee: what is kept, and how it changes.
-ghost use Rattle.std.specs.Prelude.{◌≡◌, ◌+◌, ◌≤◌, ◌<◌, [], ◌∷◌, ◌++◌, length, IfOk, OnOk, OnErr, IsTrue, option_map, true, false, not, nat_lt};
-ghost use Rattle.dap_json.specs.Field.{max_seq};
+ghost use Rattle.std.specs.Prelude.{◌≡◌, ◌+◌, ◌≤◌, ◌<◌, [], ◌∷◌, ◌++◌, length, IfOk, OnOk, OnErr, IsTrue, true, false, not, nat_lt};
 ghost use Rattle.dap_tables.specs.Outstanding.{without, with_mark, contains_seq, unparked, unparked_ones, IsOrderly};
 ghost use Rattle.dap_session.specs.Breakpoints.{count};
-ghost use Rattle.dap_session.specs.Session.{fresh_session, oldest};
+ghost use Rattle.dap_session.specs.Session.{fresh_session};
 ghost use Rattle.dap_debuggee.specs.Shown.{to_start, to_resume, to_pause, to_poll, to_end, done, happened};
-ghost use Rattle.dap_session.specs.Sheet.{IsAnswerable};
 
 use crate::options::Options;
 use crate::phase::Phase;
@@ -121,7 +119,6 @@ impl<D: Debuggee + Drop> Session<D> {
 
     /// Keeps a request.
     pub(crate) fn put(&mut self, request: Entry) -> Result<(), AllocError>
-        requires request { IsAnswerable request }
         requires new { contains_seq request.seq self.old.session.kept ≡ false }
         requires room { length self.old.session.kept < self.old.session.limits.requests }
         ensures ok { OnOk result (self.new ≡ record self.old { session = record self.old.session { kept = self.old.session.kept ++ unparked request ∷ [] } }) }
@@ -135,7 +132,6 @@ impl<D: Debuggee + Drop> Session<D> {
     pub(crate) fn numbers(&self) -> Seq
         ensures numbers { result ≡ record { last = self.now.session.limits.seq; used = self.now.session.used } }
         ensures used { self.now.session.used ≤ self.now.session.limits.seq }
-        ensures greatest { self.now.session.limits.seq ≤ max_seq }
     {
         self.numbers
     }

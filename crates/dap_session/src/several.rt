@@ -1,9 +1,8 @@
 //! Answers to several kept requests, one after the other.
-ghost use Rattle.std.specs.Prelude.{◌≡◌, ◌+◌, ◌≤◌, filter, length, OnOk, IsTrue};
-ghost use Rattle.dap_json.specs.Field.{max_seq};
+ghost use Rattle.std.specs.Prelude.{◌≡◌, ◌+◌, ◌≤◌, filter, length, OnOk};
 ghost use Rattle.dap_tables.specs.Outstanding.{entries};
 ghost use Rattle.dap_session.specs.Sheet.{IsPlainAnswer, answer_of};
-ghost use Rattle.dap_session.specs.Several.{AllAnswerable, chosen, answer_where, answer_by, WritesAll};
+ghost use Rattle.dap_session.specs.Several.{chosen, answer_where, answer_by, WritesAll};
 
 use crate::sheet::{Answer, Sheet};
 use dap_message::Failure;
@@ -48,9 +47,7 @@ fn answer_rest(
     which: Chosen,
     failure: Option<Failure>,
 ) -> Result<(), AllocError>
-    requires answerable { AllAnswerable requests }
-    requires room { sheet.old.numbers.used + length (filter (λ r. chosen which kept.now.kept r.seq) requests) ≤ sheet.old.numbers.last }
-    requires last { sheet.old.numbers.last ≤ max_seq }
+    requires { sheet.old.numbers.used + length (filter (λ r. chosen which kept.now.kept r.seq) requests) ≤ sheet.old.numbers.last }
     ensures { OnOk result (WritesAll sheet.old sheet.new (answer_where (λ seq. chosen which kept.now.kept seq) (answer_by failure) requests.entry)) }
 {
     while let Some(request) = requests.next() {
@@ -69,9 +66,7 @@ pub(crate) fn answer_chosen(
     which: Chosen,
     failure: Option<Failure>,
 ) -> Result<(), AllocError>
-    requires answerable { AllAnswerable (entries kept.now.kept) }
-    requires room { sheet.old.numbers.used + length (filter (λ r. chosen which kept.now.kept r.seq) (entries kept.now.kept)) ≤ sheet.old.numbers.last }
-    requires last { sheet.old.numbers.last ≤ max_seq }
+    requires { sheet.old.numbers.used + length (filter (λ r. chosen which kept.now.kept r.seq) (entries kept.now.kept)) ≤ sheet.old.numbers.last }
     ensures { OnOk result (WritesAll sheet.old sheet.new (answer_where (λ seq. chosen which kept.now.kept seq) (answer_by failure) (entries kept.now.kept))) }
 {
     answer_rest(alloc, sheet, kept, kept.in_order(), which, failure)

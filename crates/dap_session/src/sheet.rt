@@ -1,13 +1,8 @@
 //! What a call is about to write: messages with the own numbers, framed.
-ghost use Rattle.std.specs.Prelude.{nat_le, ◌≡◌, ◌+◌, ◌<◌, ◌≤◌, ◌++◌, [], ◌∷◌, List, length, IfOk, OnOk, IsTrue};
-ghost use Rattle.dap_frame.specs.Written.{frame_of};
-ghost use Rattle.dap_json.specs.Field.{max_seq};
+ghost use Rattle.std.specs.Prelude.{nat_le, ◌≡◌, ◌+◌, ◌<◌, [], length, IfOk, OnOk, IsTrue};
 ghost use Rattle.dap_message.specs.Canon.{canon};
-ghost use Rattle.dap_message.specs.Plain.{is_plain};
-ghost use Rattle.dap_message.specs.PlainBodies.{IsPlain};
-ghost use Rattle.dap_message.specs.Refusals.{max_command};
-ghost use Rattle.dap_session.specs.Plan.{Draft, reply, tell, message_of, failure as failure_word, success as success_word};
-ghost use Rattle.dap_session.specs.Sheet.{answer_of, event_of, IsPlainAnswer, IsAnswerable, Holds, Writes};
+ghost use Rattle.dap_session.specs.Plan.{reply, tell, message_of, success as success_word};
+ghost use Rattle.dap_session.specs.Sheet.{answer_of, event_of, IsPlainAnswer, Holds, Writes};
 ghost use Rattle.dap_json.specs.Writable.{is_plain_tree};
 ghost use Rattle.dap_message.specs.Lengths.{event_name, event_body, succeeded};
 
@@ -134,8 +129,6 @@ impl Sheet {
         answer: Answer,
     ) -> Result<(), AllocError>
         requires left { self.old.numbers.used < self.old.numbers.last }
-        requires last { self.old.numbers.last ≤ max_seq }
-        requires request { IsAnswerable request.now }
         requires plain { IsPlainAnswer answer }
         ensures { OnOk result (Writes self.old self.new (reply request.now (answer_of answer))) }
     {
@@ -155,8 +148,6 @@ impl Sheet {
         most: usize,
     ) -> Result<bool, AllocError>
         requires left { self.old.numbers.used < self.old.numbers.last }
-        requires last { self.old.numbers.last ≤ max_seq }
-        requires request { IsAnswerable request.now }
         requires plain { IsTrue (is_plain_tree body) }
         ensures fits { IfOk result (λ ok. ok ≡ nat_le (length (canon (succeeded (self.old.numbers.used + 1) request.now.seq request.now.command body))) most) }
         ensures writes { IfOk result (λ ok. IsTrue ok → Writes self.old self.new (reply request.now (success_word body []))) }
@@ -174,7 +165,6 @@ impl Sheet {
     /// Tells an event.
     pub(crate) fn tell(&mut self, alloc: Global, event: Event) -> Result<(), AllocError>
         requires left { self.old.numbers.used < self.old.numbers.last }
-        requires last { self.old.numbers.last ≤ max_seq }
         ensures { OnOk result (Writes self.old self.new (tell (event_of event))) }
     {
         let (seq, numbers) = self.next();

@@ -1,12 +1,12 @@
 //! The start of a debuggee for requests that wait for `configurationDone`.
 ghost use Rattle.std.specs.Prelude.{◌≡◌, ◌+◌, ◌≤◌, length, IfOk, IfErr, OnOk, OnErr, None, false};
-ghost use Rattle.dap_tables.specs.Outstanding.{is_parked, parked_ones, without};
+ghost use Rattle.dap_tables.specs.Outstanding.{is_parked, parked_ones};
 ghost use Rattle.dap_debuggee.specs.Shown.{to_start};
 ghost use Rattle.dap_session.specs.Handling.{started_parked, by_reply};
 ghost use Rattle.dap_session.specs.Plan.{asking, due};
 ghost use Rattle.dap_session.specs.Seat.{Carries, IsRefusedFor, reply_of};
 ghost use Rattle.dap_session.specs.Several.{answer_by};
-ghost use Rattle.dap_session.specs.Sheet.{IsAnswerable, Holds};
+ghost use Rattle.dap_session.specs.Sheet.{Holds};
 
 use crate::effects::start_phase;
 use crate::fault::AdapterFault;
@@ -30,7 +30,6 @@ impl<D: Debuggee + Drop> Session<D> {
     fn start_told(&self, alloc: Global, request: &Entry, ok: bool) -> Result<Sheet, AllocError>
         requires unparked { is_parked request.now.seq self.now.session.kept ≡ false }
         requires room { self.now.session.used + (1 + length (parked_ones self.now.session.kept)) ≤ self.now.session.limits.seq }
-        requires request { IsAnswerable request.now }
         ensures last { IfOk result (λ sheet. sheet.numbers.last ≡ self.now.session.limits.seq) }
         ensures holds { IfOk result (λ sheet. Holds sheet self.now.session.used (started_parked self.now.session request.now (reply_of ok)).drafts) }
     {
@@ -52,7 +51,6 @@ impl<D: Debuggee + Drop> Session<D> {
         request: &Entry,
     ) -> Result<Vec<u8>, AdapterFault>
         requires unparked { is_parked request.now.seq self.old.session.kept ≡ false }
-        requires request { IsAnswerable request.now }
         ensures carries { IfOk result (λ bytes. Carries D.follows (asking to_start (started_parked self.old.session request.now)) self.old self.new bytes.items) }
         ensures within { OnOk result (self.old.session.used + due (asking to_start (started_parked self.old.session request.now)) ≤ self.old.session.limits.seq) }
         ensures refused { IfErr result (λ fault. IsRefusedFor fault (asking to_start (started_parked self.old.session request.now)) self.old self.new) }

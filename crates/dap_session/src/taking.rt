@@ -1,15 +1,12 @@
 //! What comes of a message that is delivered.
 ghost use Rattle.std.specs.Prelude.{◌≡◌, ◌+◌, ◌≤◌, [], ◌∷◌, length, IfOk, IfErr, IfSome, IfNone, IsErrOf, OnOk, OnErr, Some, true, false};
-ghost use Rattle.dap_json.specs.Field.{max_seq};
 ghost use Rattle.dap_message.specs.Command.{command_named};
-ghost use Rattle.dap_message.specs.InRange.{IsInRange};
-ghost use Rattle.dap_message.specs.Refusals.{max_command};
 ghost use Rattle.dap_tables.specs.Outstanding.{contains_seq, HasDistinctSeqs};
 ghost use Rattle.dap_session.specs.Failures.{of_known};
 ghost use Rattle.dap_session.specs.Plan.{reply, failure, plain_success};
 ghost use Rattle.dap_message.specs.Types.Failure.TheVariants.{Cancelled};
 ghost use Rattle.dap_session.specs.Seat.{MadeBy, HasTaken, NotTaken, TakesRequest, TakesNoRequest, IsBeyond, LacksRoom, NamesNone, NamesOne};
-ghost use Rattle.dap_session.specs.Sheet.{IsAnswerable, IsPlainAnswer, Holds, answer_of};
+ghost use Rattle.dap_session.specs.Sheet.{IsPlainAnswer, Holds, answer_of};
 ghost use Rattle.dap_session.specs.Table.{is_phase};
 ghost use Rattle.dap_session.specs.declared.phase.Phase.TheVariants.{Ended};
 ghost use Rattle.dap_session.specs.Taking.{answered_at_once, keeps, cancels, cancelled, id_in, is_cancel, is_request};
@@ -70,7 +67,6 @@ impl<D: Debuggee + Drop> Session<D> {
         request: &Entry,
         answer: Answer,
     ) -> Result<Vec<u8>, AdapterFault>
-        requires request { IsAnswerable request.now }
         requires plain { IsPlainAnswer answer }
         ensures made { IfOk result (λ bytes. MadeBy (answered_at_once request.now (answer_of answer) self.old.session) self.old.session self.new.session bytes.items) }
         ensures within { OnOk result (self.old.session.used + length (answered_at_once request.now (answer_of answer) self.old.session).drafts ≤ self.old.session.limits.seq) }
@@ -86,7 +82,6 @@ impl<D: Debuggee + Drop> Session<D> {
 
     /// Keeps a request, or answers that there is no room.
     fn keep(&mut self, alloc: Global, request: Entry) -> Result<Vec<u8>, AdapterFault>
-        requires request { IsAnswerable request }
         requires new { contains_seq request.seq self.old.session.kept ≡ false }
         ensures made { IfOk result (λ bytes. MadeBy (keeps request self.old.session) self.old.session self.new.session bytes.items) }
         ensures within { OnOk result (self.old.session.used + length (keeps request self.old.session).drafts ≤ self.old.session.limits.seq) }
@@ -110,8 +105,6 @@ impl<D: Debuggee + Drop> Session<D> {
         named: &Entry,
         request: &Entry,
     ) -> Result<Sheet, AdapterFault>
-        requires named { IsAnswerable named.now }
-        requires request { IsAnswerable request.now }
         ensures last { IfOk result (λ sheet. sheet.numbers.last ≡ self.now.session.limits.seq) }
         ensures holds { IfOk result (λ sheet. Holds sheet self.now.session.used (reply named.now (failure Cancelled) ∷ reply request.now plain_success ∷ [])) }
         ensures refused { IfErr result (λ fault. LacksRoom fault self.now.session 2) }
@@ -129,7 +122,6 @@ impl<D: Debuggee + Drop> Session<D> {
         request: &Entry,
         id: u64,
     ) -> Result<Option<Sheet>, AdapterFault>
-        requires { IsAnswerable request.now }
         ensures none { IfOk result (λ o. IfNone o (NamesNone id self.now.session.kept)) }
         ensures one { IfOk result (λ o. IfSome o (λ sheet. NamesOne id self.now.session.kept)) }
         ensures last { IfOk result (λ o. IfSome o (λ sheet. sheet.numbers.last ≡ self.now.session.limits.seq)) }
@@ -156,7 +148,6 @@ impl<D: Debuggee + Drop> Session<D> {
         request: &Entry,
         id: Option<u64>,
     ) -> Result<Vec<u8>, AdapterFault>
-        requires request { IsAnswerable request.now }
         ensures made { IfOk result (λ bytes. MadeBy (cancelled id request.now self.old.session) self.old.session self.new.session bytes.items) }
         ensures within { OnOk result (self.old.session.used + length (cancelled id request.now self.old.session).drafts ≤ self.old.session.limits.seq) }
         ensures refused { IfErr result (λ fault. IsBeyond fault self.old.session (cancelled id request.now self.old.session)) }
@@ -176,7 +167,6 @@ impl<D: Debuggee + Drop> Session<D> {
 
     /// Answers a cancel at once, and what it names.
     fn cancel(&mut self, alloc: Global, request: &Entry) -> Result<Vec<u8>, AdapterFault>
-        requires request { IsAnswerable request.now }
         ensures made { IfOk result (λ bytes. MadeBy (cancels request.now self.old.session) self.old.session self.new.session bytes.items) }
         ensures within { OnOk result (self.old.session.used + length (cancels request.now self.old.session).drafts ≤ self.old.session.limits.seq) }
         ensures refused { IfErr result (λ fault. IsBeyond fault self.old.session (cancels request.now self.old.session)) }
@@ -205,8 +195,6 @@ impl<D: Debuggee + Drop> Session<D> {
         command: &Text,
         arguments: &Option<Tree>,
     ) -> Result<Vec<u8>, AdapterFault>
-        requires seq { seq ≤ max_seq }
-        requires command { length command.now ≤ max_command }
         ensures taken { IfOk result (λ bytes. TakesRequest (record { seq = seq; command = command.now; arguments = arguments.now }) self.old.session self.new.session bytes.items) }
         ensures refused { IfErr result (λ fault. TakesNoRequest fault (record { seq = seq; command = command.now; arguments = arguments.now }) self.old.session) }
         ensures err { OnErr result (self.new ≡ self.old) }
@@ -230,7 +218,6 @@ impl<D: Debuggee + Drop> Session<D> {
     /// Takes a message that was delivered: a request is kept, or answered at once. A response is refused, since no request
     /// of this end waits for one. Any other message has no effect.
     pub fn take(&mut self, alloc: Global, message: &Message) -> Result<Vec<u8>, AdapterFault>
-        requires { IsInRange message.now }
         ensures taken { IfOk result (λ bytes. HasTaken message.now self.old.session self.new.session bytes.items) }
         ensures refused { IfErr result (λ fault. NotTaken fault message.now self.old.session) }
         ensures memory { IsErrOf result AdapterFault.OutOfMemory → is_request message.now.kind ≡ true }

@@ -5,7 +5,7 @@ ghost use Rattle.dap_session.specs.Bodies.{telling, tells_only, thread_told};
 ghost use Rattle.dap_session.specs.Seat.{MadeBy};
 ghost use Rattle.dap_session.specs.Handling.{told, fits};
 ghost use Rattle.dap_session.specs.Plan.{reply, success};
-ghost use Rattle.dap_session.specs.Sheet.{IsAnswerable, Holds};
+ghost use Rattle.dap_session.specs.Sheet.{Holds};
 
 use crate::session::Session;
 use crate::sheet::{Answer, Sheet};
@@ -60,7 +60,6 @@ impl<D: Debuggee + Drop> Session<D> {
         body: Option<Tree>,
     ) -> Result<Option<Sheet>, AllocError>
         requires room { self.now.session.used + 1 ≤ self.now.session.limits.seq }
-        requires request { IsAnswerable request.now }
         requires plain { IsTrue (is_plain_tree body) }
         ensures fits { IfOk result (λ o. IfSome o (λ sheet. fits self.now.session request.now body ≡ true)) }
         ensures last { IfOk result (λ o. IfSome o (λ sheet. sheet.numbers.last ≡ self.now.session.limits.seq)) }
@@ -82,7 +81,6 @@ impl<D: Debuggee + Drop> Session<D> {
         call: &Call,
     ) -> Result<Vec<u8>, AllocError>
         requires room { self.old.session.used + 1 ≤ self.old.session.limits.seq }
-        requires request { IsAnswerable request.now }
         ensures made { IfOk result (λ bytes. MadeBy (told self.old.session request.now (telling (D.shown self.old.debuggee) self.old.session call.now)) self.old.session self.new.session bytes.items) }
         ensures debuggee { self.new.debuggee ≡ self.old.debuggee }
         ensures err { OnErr result (self.new.session ≡ self.old.session) }

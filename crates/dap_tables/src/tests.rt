@@ -1,4 +1,4 @@
-ghost use Rattle.std.specs.Prelude.{◌≡◌, ◌↔◌, map, IfOk, IfSome, IsSome, Some};
+ghost use Rattle.std.specs.Prelude.{◌≡◌, ◌↔◌, map, IfOk, IsSome, Some};
 ghost use Rattle.dap_tables.specs.Outstanding.{entries, is_parked, oldest_unparked};
 
 use crate::{Entry, Outstanding, PutFault, Seq};

@@ -1,6 +1,6 @@
 //! A stream of messages as a listing: a line for each.
 
-ghost use Rattle.std.specs.Prelude.{◌≡◌, ◌++◌, ℕ, List, ◌^◌, ◌<◌, length, OnOk, IfOk, IfErr, Err, decimal};
+ghost use Rattle.std.specs.Prelude.{◌≡◌, ◌++◌, ℕ, List, ◌^◌, ◌<◌, length, OnOk, IfErr, Err, decimal};
 ghost use Rattle.dap_frame.specs.Settings.{Settings};
 ghost use Rattle.dap_frame.specs.Intake.{IsReady, IsUnderWay};
 ghost use Rattle.dap_message.specs.Heading.{IsHeadingOf};

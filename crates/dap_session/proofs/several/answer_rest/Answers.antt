@@ -1,6 +1,6 @@
 use Rattle.std.proofs.Common.{ℕ, sym, ◌∙◌}
 use Rattle.dap_session.specs.Several.{chosen, answer_by}
-use Rattle.dap_session.proofs.SeveralAnswers.{goes-answered, goes-passed, room-answered, room-passed, rest-answerable, writes-none}
+use Rattle.dap_session.proofs.SeveralAnswers.{goes-answered, goes-passed, room-answered, room-passed, writes-none}
 use Rattle.dap_session.proofs.several.answer_rest.Goals as goal
 
 pub loop-request-preserved-in-Continue-1 : goal.loop-request-preserved-in-Continue-1
@@ -9,9 +9,7 @@ loop-request-preserved-in-Continue-1 c =
     let e = c.in-Some.ensures.steps in
     let is = sym c.is_chosen.ensures ∙ c.if-is_chosen.true in
     record {
-      answerable = rest-answerable _ _ c.in-Some.request.now e i.answerable;
       room = rw c.in_ok-reply.ensures.last (room-answered (λ (seq : ℕ). chosen c.args.which c.args.kept.now.kept seq) _ _ _ _ _ _ e is c.in_ok-reply.ensures.given i.room);
-      last = rw c.in_ok-reply.ensures.last i.last;
       goes = λ final w. i.goes final (goes-answered (λ (seq : ℕ). chosen c.args.which c.args.kept.now.kept seq) (answer_by c.args.failure) _ _ c.in-Some.request.now _ _ final e is (rw c.answer_by.ensures.answer at c.in_ok-reply.ensures) w);
     }
 
@@ -21,9 +19,7 @@ loop-request-preserved c =
     let e = c.in-Some.ensures.steps in
     let is = sym c.is_chosen.ensures ∙ c.if-is_chosen.false in
     record {
-      answerable = rest-answerable _ _ c.in-Some.request.now e i.answerable;
       room = room-passed (λ (seq : ℕ). chosen c.args.which c.args.kept.now.kept seq) _ _ _ _ c.in-Some.request.now e is i.room;
-      last = i.last;
       goes = λ final w. i.goes final (goes-passed (λ (seq : ℕ). chosen c.args.which c.args.kept.now.kept seq) (answer_by c.args.failure) _ _ c.in-Some.request.now _ final e is w);
     }
 

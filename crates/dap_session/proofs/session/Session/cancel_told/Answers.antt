@@ -4,7 +4,6 @@ use Rattle.dap_session.specs.Plan.{Draft}
 use Rattle.dap_session.specs.Seat.{Seat}
 use Rattle.dap_session.specs.Sheet.{Holds}
 use Rattle.dap_session.proofs.Cancels.{Finds, names-parked, names-absent, finds, cancelled-one, is-false}
-use Rattle.dap_session.proofs.Turning.{answerable-found}
 use Rattle.dap_session.proofs.session.Session.cancel_told.Goals as goal
 
 pub returns-then-is_parked-clause-none : goal.returns-then-is_parked-clause-none
@@ -14,9 +13,6 @@ returns-then-is_parked-clause-none g c =
 pub returns-in_default-clause-none : goal.returns-in_default-clause-none
 returns-in_default-clause-none g c =
     rw (← c.self.view_is) (names-absent c.args.id c.self.inside.kept.kept (is-false _ (λ h. cc (c.in_default.ensures.found.1 h))))
-
-pub both_told-requires-clause-named : goal.both_told-requires-clause-named
-both_told-requires-clause-named g c = answerable-found c.self.inside.kept.kept c.args.id c.in-Some.named.now c.self.invariant.answerable (sym c.in-Some.ensures.entry)
 
 pub returns-in-Err-clause-named : goal.returns-in-Err-clause-named
 returns-in-Err-clause-named g c =

@@ -6,14 +6,10 @@ use Rattle.dap_session.specs.Plan.{failure}
 use Rattle.dap_session.specs.Seat.{Seat}
 use Rattle.dap_session.specs.Several.{answer_where, WritesAll}
 use Rattle.dap_session.proofs.Leaves.{room-first, room-last, holds-left}
-use Rattle.dap_session.proofs.SeveralAnswers.{all-answerable}
 use Rattle.dap_session.proofs.session.Session.farewell.Goals as goal
 
-pub answer_chosen-requires-clause-answerable : goal.answer_chosen-requires-clause-answerable
-answer_chosen-requires-clause-answerable g c = all-answerable c.self.inside.kept.kept c.self.invariant.answerable
-
-pub answer_chosen-requires-clause-room : goal.answer_chosen-requires-clause-room
-answer_chosen-requires-clause-room g c =
+pub answer_chosen-requires : goal.answer_chosen-requires
+answer_chosen-requires g c =
     let h : contains_seq c.args.request.now.seq c.self.inside.kept.kept ≡ true = subst (λ (x : Seat _). contains_seq c.args.request.now.seq x.session.kept ≡ true) (sym c.self.view_is) c.requires.kept in
     let room : c.args.self.now.session.used + length c.self.inside.kept.kept ≤ c.args.self.now.session.limits.seq = subst (λ (x : Seat _). c.args.self.now.session.used + length x.session.kept ≤ c.args.self.now.session.limits.seq) (sym c.self.view_is) c.requires.room in
     room-first c.args.request.now.seq c.self.inside.kept.kept _ c.args.self.now.session.used c.args.self.now.session.limits.seq c.self.invariant.orderly.distinct h

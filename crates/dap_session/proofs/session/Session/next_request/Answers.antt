@@ -1,12 +1,8 @@
 use Rattle.std.proofs.Common.{sym}
-use Rattle.dap_session.proofs.Turning.{oldest-entry, answerable-found}
+use Rattle.dap_session.proofs.Turning.{oldest-entry}
 use Rattle.dap_session.proofs.session.Session.next_request.Goals as goal
 
 pub returns-clause-oldest : goal.returns-clause-oldest
 returns-clause-oldest g c =
     rw (← c.self.view_is, c.in_ok-copied-in-Some-get.ensures)
     (sym (oldest-entry c.self.inside.kept.kept c.in-Some.seq c.in-Some-get.request.now c.self.invariant.orderly.distinct (sym c.in-Some.ensures.oldest) (sym c.in-Some-get.ensures.entry)))
-
-pub returns-clause-answerable : goal.returns-clause-answerable
-returns-clause-answerable g c =
-    rw c.in_ok-copied-in-Some-get.ensures (answerable-found c.self.inside.kept.kept c.in-Some.seq c.in-Some-get.request.now c.self.invariant.answerable (sym c.in-Some-get.ensures.entry))

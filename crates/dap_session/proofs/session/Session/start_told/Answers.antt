@@ -3,14 +3,10 @@ use Rattle.dap_tables.specs.Outstanding.{entries, is_parked, parked_ones, HasDis
 use Rattle.dap_session.specs.Seat.{Seat, reply_of}
 use Rattle.dap_session.specs.Several.{answer_where, answer_by, WritesAll}
 use Rattle.dap_session.proofs.Leaves.{room-started, holds-started}
-use Rattle.dap_session.proofs.SeveralAnswers.{all-answerable}
 use Rattle.dap_session.proofs.session.Session.start_told.Goals as goal
 
-pub answer_chosen-requires-clause-answerable : goal.answer_chosen-requires-clause-answerable
-answer_chosen-requires-clause-answerable g c = all-answerable c.self.inside.kept.kept c.self.invariant.answerable
-
-pub answer_chosen-requires-clause-room : goal.answer_chosen-requires-clause-room
-answer_chosen-requires-clause-room g c =
+pub answer_chosen-requires : goal.answer_chosen-requires
+answer_chosen-requires g c =
     let room : c.args.self.now.session.used + (1 + length (parked_ones c.self.inside.kept.kept)) ≤ c.args.self.now.session.limits.seq = subst (λ (x : Seat _). c.args.self.now.session.used + (1 + length (parked_ones x.session.kept)) ≤ c.args.self.now.session.limits.seq) (sym c.self.view_is) c.requires.room in
     room-started c.self.inside.kept.kept _ c.args.self.now.session.used c.args.self.now.session.limits.seq c.args.request.now c.self.invariant.orderly.distinct c.in_ok-sheet.ensures.holds c.in_ok-sheet.ensures.last room
 

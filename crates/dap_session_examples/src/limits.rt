@@ -1,10 +1,10 @@
 //! Sessions at their limits: numbers that run out, what closes an adapter, the greatest sizes.
 
-use crate::session_calls::{Act, Step, adapter, call, follow};
 use dap_adapter::{Adapter, AdapterFault};
 use dap_debuggee::Debuggee;
 use dap_frame::{Limits, write_frame};
 use dap_message::BodyRefusal;
+use dap_samples::calls::{Act, Step, adapter, call, follow};
 use std::alloc::Global;
 use std::test::Fail;
 

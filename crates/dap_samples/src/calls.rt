@@ -1,4 +1,4 @@
-//! What the examples of sessions share: a recording, messages, and the calls of an adapter with what each hands out.
+//! A recording, messages, and the calls of an adapter with what each hands out.
 
 ghost use Rattle.std.specs.Prelude.{◌≡◌, IfOk};
 ghost use Rattle.dap_debuggee.specs.declared.answers.State.{State};
@@ -40,6 +40,15 @@ pub enum Act<'a> {
 /// A call, the bodies that it hands out, one a line, or nothing where no request waits, and how many requests are kept
 /// after it.
 pub type Step<'a> = (Act<'a>, Option<&'a [u8]>, usize);
+
+/// The frames of some bodies, one after the other.
+pub fn framed(alloc: Global, bodies: &[&[u8]]) -> Result<Vec<u8>, Fail> {
+    let mut frames = Vec::new(alloc);
+    for body in bodies {
+        write_frame(&mut frames, body)?;
+    }
+    Ok(frames)
+}
 
 /// The debuggee of `RECORDING`.
 pub fn recorded(alloc: Global) -> Result<Recorded, Fail>

@@ -1,9 +1,9 @@
 //! Sessions that run a debuggee, call by call, with the bodies that they hand out.
 
-use crate::session_calls::{Act, Step, adapter, follow, recorded};
 use dap_adapter::{Adapter, Phase};
 use dap_debuggee::Stubborn;
 use dap_frame::Limits;
+use dap_samples::calls::{Act, Step, adapter, follow, recorded};
 use std::test::Fail;
 
 static RUNS_AND_PAUSES: [Step<'static>; 20] = [

@@ -1,10 +1,10 @@
 //! Sessions that do not start, call by call, with the bodies that they hand out.
 
-use crate::session_calls::{
-    Act, NOT_INITIALIZED, Step, THREADS, adapter, call, follow, take_all, two_kept,
-};
 use dap_adapter::Phase;
 use dap_frame::Limits;
+use dap_samples::calls::{
+    Act, NOT_INITIALIZED, Step, THREADS, adapter, call, follow, take_all, two_kept,
+};
 use dap_tool::wrap;
 use std::test::Fail;
 
