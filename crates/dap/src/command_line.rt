@@ -97,7 +97,7 @@ fn serve<'a>(alloc: Global, limit_texts: &'a [String]) -> Result<Command<'a>, Al
             "Debugs a recorded run: answers the Debug Adapter Protocol requests of standard input on standard output",
         )
         .after_help(
-            "The recording is read before the input. The session ends with `disconnect` or with the input.",
+            "The recording is read before the input. The session ends with `disconnect` or with the input.\n\nStatuses: 0 the session or the input ended, 2 usage, 3 a frame, a body, a message or the recording is refused, 4 the input ends within a frame, 5 read or write, 6 memory",
         )
         .arg(recording)?;
     for (option, help) in LIMIT_OPTIONS.iter().zip(limit_texts) {
@@ -106,44 +106,49 @@ fn serve<'a>(alloc: Global, limit_texts: &'a [String]) -> Result<Command<'a>, Al
     Ok(serve)
 }
 
-/// A subcommand over a file, with the options that bound a frame.
-fn over_file<'a>(
-    alloc: Global,
-    name: &'static str,
-    about: &'static str,
-    file: &'static str,
-    limit_texts: &'a [String],
-) -> Result<Command<'a>, AllocError> {
-    let file = Arg::new(alloc, "file")
+/// The file that a subcommand reads.
+fn file_of<'a>(alloc: Global, help: &'static str) -> Arg<'a> {
+    Arg::new(alloc, "file")
         .value_name("FILE")
-        .help(file)
+        .help(help)
         .required(true)
-        .action(ArgAction::Set);
-    let mut command = Command::new(alloc, name).about(about).arg(file)?;
-    for (option, help) in LIMIT_OPTIONS.iter().zip(limit_texts).take(FRAME_OPTIONS) {
-        command = command.arg(limit_option(alloc, option, help.as_str()))?;
-    }
-    Ok(command)
+        .action(ArgAction::Set)
 }
 
 fn show<'a>(alloc: Global, limit_texts: &'a [String]) -> Result<Command<'a>, AllocError> {
-    over_file(
+    let file = file_of(
         alloc,
-        "show",
-        "Lists the messages of a stream, one a line",
         "The stream, as one side wrote it, of at most 67108864 bytes",
-        limit_texts,
-    )
+    );
+    let mut show = Command::new(alloc, "show")
+        .about("Lists the messages of a stream, one a line")
+        .after_help(
+            "A line has the frame's first byte, the sequence number, then `request` COMMAND, `event` EVENT, `response` COMMAND REQUEST_SEQ `ok` or `failed`, or `other` TYPE.\n\nStatuses: 0 all is listed, 2 usage, 3 a frame or a body is refused, 4 the file ends within a frame, 5 read or write, 6 memory",
+        )
+        .arg(file)?;
+    for (option, help) in LIMIT_OPTIONS.iter().zip(limit_texts).take(FRAME_OPTIONS) {
+        show = show.arg(limit_option(alloc, option, help.as_str()))?;
+    }
+    Ok(show)
 }
 
 fn wrap<'a>(alloc: Global, limit_texts: &'a [String]) -> Result<Command<'a>, AllocError> {
-    over_file(
+    let file = file_of(
         alloc,
-        "wrap",
-        "Writes the messages of a file, one a line, as a stream of frames",
         "The messages, as JSON, one a line, of at most 67108864 bytes",
-        limit_texts,
-    )
+    );
+    let mut wrap = Command::new(alloc, "wrap")
+        .about("Writes the messages of a file, one a line, as a stream of frames")
+        .after_help(
+            "Empty lines are skipped.\n\nStatuses: 0 all is written, 2 usage, 3 a line is refused and nothing is written, 5 read or write, 6 memory",
+        )
+        .arg(file)?;
+    for (option, help) in LIMIT_OPTIONS.iter().zip(limit_texts).take(FRAME_OPTIONS) {
+        // No header block is read. The option may be given, since a script gives both tools the same.
+        let does_nothing = matches!(option.limit, LimitFault::Header);
+        wrap = wrap.arg(limit_option(alloc, option, help.as_str()).hide(does_nothing))?;
+    }
+    Ok(wrap)
 }
 
 /// The command line of the program.

@@ -49,8 +49,8 @@ other_flag_comes = refl
 what_is_not_named_stays : is_allowed (updated_by (object (put (codes "supportsTerminateRequest") (boolean true) no_members)) offered) StepBack ≡ true
 what_is_not_named_stays = refl
 
-null_changes_nothing : step_back_is null ≡ offered
-null_changes_nothing = refl
+null_is_false : is_allowed (step_back_is null) StepBack ≡ false
+null_is_false = refl
 
 no_truth_value_is_false : is_allowed (step_back_is (string (codes "true"))) StepBack ≡ false
 no_truth_value_is_false = refl

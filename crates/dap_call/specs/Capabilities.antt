@@ -1,10 +1,10 @@
 -- What an adapter offers: the flags that gate a command.
--- Specification, "Capabilities", and "CapabilitiesEvent" for updates. This profile's choice: that what is no truth value
--- counts as `false`, and `null` as absent.
+-- Specification, "Capabilities", and "CapabilitiesEvent" for updates. This profile's choice: that what is not
+-- `true` counts as `false`, `null` too.
 use Rattle.std.specs.Prelude.{Bool, true, false, Option, Some, None, option_and_then, unwrap_or}
 use Rattle.serde_json.specs.Data.{Data, boolean, object, Members, no_members, put}
-use Rattle.serde_json.specs.Find.{as_bool}
-use Rattle.dap_json.specs.Field.{bool_at, tree_at}
+use Rattle.serde_json.specs.Find.{get, as_bool}
+use Rattle.dap_json.specs.Field.{bool_at}
 use Rattle.dap_call.specs.Command.{flag_of, gate_of}
 use Rattle.dap_call.specs.declared.capabilities.Capabilities.{Capabilities}
 use Rattle.dap_call.specs.declared.command.Command.{Command}
@@ -19,9 +19,9 @@ abbrev pub replaced : Option Data → Bool → Bool
 replaced None before = before
 replaced (Some d) before = unwrap_or (as_bool d) false
 
--- what a flag is after an update: what the object names it, or what it was; null counts as absent
+-- what a flag is after an update: what the object names it, or what it was
 abbrev pub updated_flag : Gate → Data → Bool → Bool
-updated_flag gate d before = replaced (tree_at (flag_of gate) d) before
+updated_flag gate d before = replaced (get (flag_of gate) d) before
 
 abbrev pub has : Capabilities → Gate → Bool
 has c BreakpointLocations = c.breakpoint_locations

@@ -1,5 +1,5 @@
 //! From a command and its arguments to a call: a function for each row of keys.
-ghost use Rattle.std.specs.Prelude.{◌≡◌, IfOk, IsErrOf, true, is_some, option_map};
+ghost use Rattle.std.specs.Prelude.{◌≡◌, IfOk, IsErrOf, OnErr, true, is_some, option_map, option_and_then};
 ghost use Rattle.serde_json.specs.View.{view};
 ghost use Rattle.dap_call.specs.Lent.{seen};
 ghost use Rattle.dap_call.specs.Argument.{Gives, read_map};
@@ -32,7 +32,8 @@ fn source_parts(source: &Value) -> Result<(Option<&str>, u32), Key>
 
 /// How a source is named, if it is.
 fn source_key(alloc: Global, source: &Value) -> Result<Option<SourceKey>, AllocError>
-    ensures { IfOk result (λ o. o ≡ source_key_of (view source.now)) }
+    ensures memory { OnErr result (is_some (source_key_of (view source.now)) ≡ true) }
+    ensures key { IfOk result (λ o. o ≡ source_key_of (view source.now)) }
 {
     Ok(match source_parts(source) {
         Ok((Some(path), _)) => Some(SourceKey::Path(Text::copied(alloc, path)?)),
@@ -209,10 +210,11 @@ fn set_exception_breakpoints(alloc: Global, given: Option<&Value>) -> Result<Cal
 }
 
 impl Arguments<'_> {
-    ghost use Rattle.dap_call.specs.Argument.{required, optional};
+    ghost use Rattle.dap_call.specs.Argument.{required, optional, value_at};
 
     fn required_source(&self, alloc: Global, key: Key) -> Result<SourceKey, CallFault>
-        ensures { Gives result (required source_key_of key self.now) }
+        ensures key { Gives result (required source_key_of key self.now) }
+        ensures memory { IsErrOf result OutOfMemory → is_some (option_and_then source_key_of (value_at key self.now)) ≡ true }
     {
         let source = self.value(key).ok_or(key)?;
         Ok(source_key(alloc, source)?.ok_or(key)?)

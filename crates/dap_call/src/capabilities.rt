@@ -1,7 +1,7 @@
 //! What an adapter offers: the flags of its capabilities that gate a command.
 //!
 //! Specification, "Capabilities", "InitializeResponse" and "CapabilitiesEvent".
-ghost use Rattle.std.specs.Prelude.{◌≡◌, IfOk, OnOk};
+ghost use Rattle.std.specs.Prelude.{◌≡◌, ◌≢◌, None, IfOk, OnOk, OnErr, IsTrue};
 ghost use Rattle.serde_json.specs.View.{view, members_view};
 ghost use Rattle.dap_call.specs.Lent.{seen};
 ghost use Rattle.dap_call.specs.Capabilities.{is_flag, updated_flag, with_flag};
@@ -40,7 +40,7 @@ fn flag(body: Option<&Value>, gate: Gate) -> bool
 fn updated(object: &Value, gate: Gate, before: bool) -> bool
     ensures { result ≡ updated_flag gate (view object.now) before }
 {
-    match field::present(object, gate.flag()) {
+    match object.get(gate.flag()) {
         None => before,
         Some(value) => value.as_bool().unwrap_or(false),
     }
@@ -52,8 +52,9 @@ fn add(
     gate: Gate,
     on: bool,
 ) -> Result<(), AllocError>
-    ensures { OnOk result (members_view members.new.entries
+    ensures added { OnOk result (members_view members.new.entries
         ≡ with_flag gate on (members_view members.old.entries)) }
+    ensures memory { OnErr result (IsTrue on) }
 {
     if on {
         put(members, alloc, gate.flag(), Value::Bool(true))
@@ -86,7 +87,7 @@ impl Capabilities {
     }
 
     /// Replaces the flags that an object names: the one under `capabilities` in the body of a `capabilities` event. One
-    /// that is `null` counts as absent, and stays; one that is no truth value becomes `false`.
+    /// that is not `true` becomes `false`, `null` too.
     pub fn update(&mut self, object: &Value)
         ensures { self.new ≡ updated_by (view object.now) self.old }
     {
@@ -144,9 +145,10 @@ impl Capabilities {
         }
     }
 
-    /// The object of the flags that are set.
+    /// The object of the flags that are set. It takes memory where one is.
     pub fn write(&self, alloc: Global) -> Result<Value, AllocError>
-        ensures { IfOk result (λ value. view value ≡ written self.now) }
+        ensures written { IfOk result (λ value. view value ≡ written self.now) }
+        ensures memory { OnErr result (self.now ≢ offered_by None) }
     {
         let mut members = Map::new(alloc);
         add(

@@ -106,10 +106,10 @@ fn capabilities(rt: HostRuntime) -> Result<(), Fail> {
     )?;
     offered.update(&object);
     for (text, step_back) in [
-        ("{\"supportsStepBack\":null}", true),
+        ("{\"supportsStepBack\":null}", false),
+        ("{\"supportsStepBack\":true}", true),
         ("[]", true),
         ("{\"supportsStepBack\":1}", false),
-        ("{\"supportsStepBack\":true}", true),
         ("{\"supportsStepBack\":\"true\"}", false),
     ] {
         let object = Value::from_str(rt.alloc(), text)?;

@@ -1,9 +1,9 @@
 //! From a call to its arguments: a function for each row of keys.
-ghost use Rattle.std.specs.Prelude.{◌≡◌, IsTrue, IfOk, option_map};
+ghost use Rattle.std.specs.Prelude.{◌≡◌, IsTrue, IfOk, OnErr, true, option_map};
 ghost use Rattle.serde_json.specs.View.{view, members_view, items_view};
 ghost use Rattle.dap_json.specs.Writable.{is_plain_tree};
 ghost use Rattle.dap_call.specs.Call.{call_of};
-ghost use Rattle.dap_call.specs.CallTree.{if_any, source_tree, breakpoint_tree, breakpoint_items, function_tree, function_items, text_items, initialize_members, cancel_members, set_breakpoints_members, set_function_breakpoints_members, set_exception_breakpoints_members, thread_members, stack_trace_members, scopes_members, variables_members, evaluate_members, source_members, set_variable_members, modules_members, breakpoint_locations_members, completions_members, call_tree, command_of};
+ghost use Rattle.dap_call.specs.CallTree.{if_any, source_tree, breakpoint_tree, breakpoint_items, function_tree, function_items, text_items, initialize_members, cancel_members, set_breakpoints_members, set_function_breakpoints_members, set_exception_breakpoints_members, thread_members, stack_trace_members, scopes_members, variables_members, evaluate_members, source_members, set_variable_members, modules_members, breakpoint_locations_members, completions_members, call_tree, command_of, has_arguments};
 ghost use Rattle.dap_call.specs.PlainCall.{is_plain_call};
 
 use crate::call::{
@@ -293,7 +293,8 @@ fn copy(tree: &Option<Tree>) -> Result<Option<Value>, AllocError>
 }
 
 fn arguments(alloc: Global, call: &Call) -> Result<Option<Value>, AllocError>
-    ensures { IfOk result (λ o. option_map view o ≡ call_tree call.now) }
+    ensures memory { OnErr result (has_arguments call.now ≡ true) }
+    ensures tree { IfOk result (λ o. option_map view o ≡ call_tree call.now) }
 {
     match call {
         Call::Initialize(call) => Ok(object(initialize(alloc, call)?)),
@@ -347,6 +348,7 @@ pub fn write_call(alloc: Global, call: &Call) -> Result<Option<Value>, AllocErro
     ensures reads_back { IfOk result
         (λ o. call_of (command_of call.now) (option_map view o) ≡ Ok call.now) }
     ensures plain { IfOk result (λ o. IsTrue (is_plain_tree (option_map view o))) }
+    ensures memory { OnErr result (has_arguments call.now ≡ true) }
 {
     let arguments = arguments(alloc, call)?;
     Ok(arguments)

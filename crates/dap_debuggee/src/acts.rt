@@ -5,14 +5,15 @@ use dap_call::SourceKey;
 use std::alloc::{AllocError, Global};
 
 impl Recorded {
-    ghost use Rattle.std.specs.Prelude.{◌≡◌, ◌<◌, length, None, OnOk};
+    ghost use Rattle.std.specs.Prelude.{◌≡◌, ◌<◌, length, None, OnOk, OnErr, IsErrOf};
     ghost use Rattle.dap_debuggee.specs.Shown.{to_start, to_resume, to_pause, to_set_breakpoints, to_end, done};
     ghost use Rattle.dap_debuggee.specs.Laws.{Replies};
     ghost use Rattle.dap_debuggee.specs.Played.{FollowsPlayed, resting};
     ghost use Rattle.dap_debuggee.specs.Held.{HasRun};
 
     pub(crate) fn to_start(&mut self) -> Result<(), DebuggeeFault>
-        ensures { Replies result (λ reply. FollowsPlayed self.old to_start reply self.new) }
+        ensures follows { Replies result (λ reply. FollowsPlayed self.old to_start reply self.new) }
+        ensures memory { IsErrOf result DebuggeeFault.OutOfMemory → ⊥ }
     {
         match self.state {
             State::NotStarted => {
@@ -28,7 +29,8 @@ impl Recorded {
     }
 
     pub(crate) fn to_resume(&mut self, how: How, thread: i64) -> Result<(), DebuggeeFault>
-        ensures { Replies result (λ reply. FollowsPlayed self.old (to_resume how thread) reply self.new) }
+        ensures follows { Replies result (λ reply. FollowsPlayed self.old (to_resume how thread) reply self.new) }
+        ensures memory { IsErrOf result DebuggeeFault.OutOfMemory → ⊥ }
     {
         match self.state {
             State::Stopped => {
@@ -44,7 +46,8 @@ impl Recorded {
     }
 
     pub(crate) fn to_pause(&mut self) -> Result<(), DebuggeeFault>
-        ensures { Replies result (λ reply. FollowsPlayed self.old to_pause reply self.new) }
+        ensures follows { Replies result (λ reply. FollowsPlayed self.old to_pause reply self.new) }
+        ensures memory { IsErrOf result DebuggeeFault.OutOfMemory → ⊥ }
     {
         match self.state {
             State::Running => {
@@ -88,7 +91,8 @@ impl Recorded {
         source: &SourceKey,
         lines: &[u32],
     ) -> Result<(), AllocError>
-        ensures { OnOk result (FollowsPlayed self.old (to_set_breakpoints source.now lines.now) done self.new) }
+        ensures follows { OnOk result (FollowsPlayed self.old (to_set_breakpoints source.now lines.now) done self.new) }
+        ensures memory { OnErr result (self.new ≡ self.old) }
     {
         self.set.set(alloc, source, lines)?;
         self.note(LastAsked::Done(Asked::SetBreakpoints));

@@ -38,7 +38,7 @@ impl Model for LineTable {
 }
 
 impl LineTable {
-    ghost use Rattle.std.specs.Prelude.{◌≡◌, [], ◌∷◌, ◌++◌, None, IfOk, OnOk};
+    ghost use Rattle.std.specs.Prelude.{◌≡◌, [], ◌∷◌, ◌++◌, None, IfOk, OnOk, OnErr};
     ghost use Rattle.dap_call.specs.declared.call.SourceKey.TheVariants.{Path, Reference};
     ghost use Rattle.dap_debuggee.specs.Held.{found_at, lines_at};
     ghost use Rattle.dap_debuggee.specs.Played.{lines_in, replaced};
@@ -105,7 +105,8 @@ impl LineTable {
     /// Puts an entry behind the others.
     fn add(&mut self, alloc: Global, entry: SetLines) -> Result<(), AllocError>
         requires { found_at entry.source self.old ≡ None }
-        ensures { OnOk result (self.new ≡ self.old ++ entry ∷ []) }
+        ensures added { OnOk result (self.new ≡ self.old ++ entry ∷ []) }
+        ensures memory { OnErr result (self.new ≡ self.old) }
     {
         self.entries.reserve(1)?;
         let place = self.entries.len();
@@ -130,7 +131,8 @@ impl LineTable {
         source: &SourceKey,
         lines: &[u32],
     ) -> Result<(), AllocError>
-        ensures { OnOk result (self.new ≡ replaced source.now lines.now self.old) }
+        ensures set { OnOk result (self.new ≡ replaced source.now lines.now self.old) }
+        ensures memory { OnErr result (self.new ≡ self.old) }
     {
         let entry = entry(alloc, source, lines)?;
         match self.place(source) {

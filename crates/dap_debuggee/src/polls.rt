@@ -9,7 +9,7 @@ use dap_json::Text;
 use std::alloc::{AllocError, Global};
 
 impl Recorded {
-    ghost use Rattle.std.specs.Prelude.{◌≡◌, [], Some, IfOk, IsTrue};
+    ghost use Rattle.std.specs.Prelude.{◌≡◌, [], Some, IfOk, IsTrue, OnErr};
     ghost use Rattle.dap_debuggee.specs.Shown.{to_poll, happened};
     ghost use Rattle.dap_debuggee.specs.Laws.{is_short};
     ghost use Rattle.dap_debuggee.specs.Held.{output_left, run_of, rest_of, IsToldWhole};
@@ -46,6 +46,7 @@ impl Recorded {
     }
 
     pub(crate) fn to_poll(&mut self, alloc: Global) -> Result<Happening, AllocError>
+        ensures memory { OnErr result (self.old.state ≡ State.Running) }
         ensures follows { IfOk result (λ h. FollowsPlayed self.old to_poll (happened h) self.new) }
         ensures in_range { IfOk result (λ h. IsTrue (is_short h)) }
     {

@@ -154,7 +154,8 @@ fn is_in(span: Span, number: u64) -> bool
 }
 
 impl Recorded {
-    ghost use Rattle.std.specs.Prelude.{◌≡◌, IfOk, map, option_map};
+    ghost use Rattle.std.specs.Prelude.{◌≡◌, IfOk, map, option_map, IsErrOf};
+    ghost use Rattle.std.specs.Option.{IsSome};
     ghost use Rattle.dap_debuggee.specs.Laws.{Tells};
     ghost use Rattle.dap_debuggee.specs.Held.{lines_of_key};
     ghost use Rattle.dap_debuggee.specs.Played.{moment_shown, threads_at, scopes_shown, children_shown, thread_shown, shown_of};
@@ -216,7 +217,8 @@ impl Recorded {
     }
 
     pub(crate) fn frames_of(&self, alloc: Global, id: i64) -> Result<Vec<Frame>, DebuggeeFault>
-        ensures { Tells result (λ frames. frames.items) ((shown_of self.now).frames id) }
+        ensures told { Tells result (λ frames. frames.items) ((shown_of self.now).frames id) }
+        ensures memory { IsErrOf result DebuggeeFault.OutOfMemory → IsSome ((shown_of self.now).frames id) }
     {
         match thread_of(self.here(), id) {
             None => Err(DebuggeeFault::Refused),
@@ -225,7 +227,8 @@ impl Recorded {
     }
 
     pub(crate) fn scopes_of(&self, alloc: Global, frame: u64) -> Result<Vec<Scope>, DebuggeeFault>
-        ensures { Tells result (λ scopes. scopes.items) ((shown_of self.now).scopes frame) }
+        ensures told { Tells result (λ scopes. scopes.items) ((shown_of self.now).scopes frame) }
+        ensures memory { IsErrOf result DebuggeeFault.OutOfMemory → IsSome ((shown_of self.now).scopes frame) }
     {
         match self.scopes_at(frame) {
             None => Err(DebuggeeFault::Refused),
@@ -238,7 +241,8 @@ impl Recorded {
         alloc: Global,
         holder: u64,
     ) -> Result<Vec<Variable>, DebuggeeFault>
-        ensures { Tells result (λ children. children.items) ((shown_of self.now).children holder) }
+        ensures told { Tells result (λ children. children.items) ((shown_of self.now).children holder) }
+        ensures memory { IsErrOf result DebuggeeFault.OutOfMemory → IsSome ((shown_of self.now).children holder) }
     {
         match self.children_at(holder) {
             None => Err(DebuggeeFault::Refused),
@@ -247,7 +251,8 @@ impl Recorded {
     }
 
     pub(crate) fn text_of(&self, index: u32) -> Result<Text, DebuggeeFault>
-        ensures { Tells result (λ text. text) ((shown_of self.now).content index) }
+        ensures told { Tells result (λ text. text) ((shown_of self.now).content index) }
+        ensures memory { IsErrOf result DebuggeeFault.OutOfMemory → IsSome ((shown_of self.now).content index) }
     {
         match self.recording.sources.as_slice().get(index as usize) {
             None => Err(DebuggeeFault::Refused),
@@ -260,7 +265,8 @@ impl Recorded {
         frame: Option<u64>,
         name: &str,
     ) -> Result<Evaluation, DebuggeeFault>
-        ensures { Tells result (λ value. value) ((shown_of self.now).evaluate frame name.now) }
+        ensures told { Tells result (λ value. value) ((shown_of self.now).evaluate frame name.now) }
+        ensures memory { IsErrOf result DebuggeeFault.OutOfMemory → IsSome ((shown_of self.now).evaluate frame name.now) }
     {
         let Some(frame) = frame else {
             return Err(DebuggeeFault::Refused);

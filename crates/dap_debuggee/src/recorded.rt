@@ -216,6 +216,10 @@ fn last_told(how: How, at: usize, to: usize) -> usize
 }
 
 impl Debuggee for Recorded {
+    ghost use Rattle.std.specs.Prelude.{◌≡◌, IfOk, IsTrue, IsErrOf, OnOk, OnErr};
+    ghost use Rattle.std.specs.Option.{IsSome};
+    ghost use Rattle.dap_debuggee.specs.Shown.{to_start, to_resume, to_pause, to_poll, to_set_breakpoints, done, happened};
+    ghost use Rattle.dap_debuggee.specs.Laws.{Replies, Tells, is_short, FramesInRange, NamesOneFrame};
     ghost use Rattle.dap_debuggee.specs.Played.{shown_of, FollowsPlayed};
     ghost use Rattle.dap_debuggee.specs.PlayedLaws.{counts-played, remembers-played, answers-played, moves-played, sets_lines-played, keeps_answers-played, keeps_frames-played, keeps_sources-played, no_threads-played, verifies_each-played};
 
@@ -223,19 +227,32 @@ impl Debuggee for Recorded {
 
     ghost follows = { FollowsPlayed };
 
-    fn start(&mut self, _alloc: Global) -> Result<(), DebuggeeFault> {
+    fn start(&mut self, _alloc: Global) -> Result<(), DebuggeeFault>
+        ensures follows { Replies result (λ reply. FollowsPlayed self.old to_start reply self.new) }
+        ensures memory { IsErrOf result DebuggeeFault.OutOfMemory → ⊥ }
+    {
         self.to_start()
     }
 
-    fn resume(&mut self, _alloc: Global, how: How, thread: i64) -> Result<(), DebuggeeFault> {
+    fn resume(&mut self, _alloc: Global, how: How, thread: i64) -> Result<(), DebuggeeFault>
+        ensures follows { Replies result (λ reply. FollowsPlayed self.old (to_resume how thread) reply self.new) }
+        ensures memory { IsErrOf result DebuggeeFault.OutOfMemory → ⊥ }
+    {
         self.to_resume(how, thread)
     }
 
-    fn pause(&mut self, _alloc: Global) -> Result<(), DebuggeeFault> {
+    fn pause(&mut self, _alloc: Global) -> Result<(), DebuggeeFault>
+        ensures follows { Replies result (λ reply. FollowsPlayed self.old to_pause reply self.new) }
+        ensures memory { IsErrOf result DebuggeeFault.OutOfMemory → ⊥ }
+    {
         self.to_pause()
     }
 
-    fn poll(&mut self, alloc: Global) -> Result<Happening, AllocError> {
+    fn poll(&mut self, alloc: Global) -> Result<Happening, AllocError>
+        ensures follows { IfOk result (λ h. FollowsPlayed self.old to_poll (happened h) self.new) }
+        ensures in_range { IfOk result (λ h. IsTrue (is_short h)) }
+        ensures memory { OnErr result (self.old.state ≡ State.Running) }
+    {
         self.to_poll(alloc)
     }
 
@@ -244,7 +261,10 @@ impl Debuggee for Recorded {
         alloc: Global,
         source: &SourceKey,
         lines: &[u32],
-    ) -> Result<(), AllocError> {
+    ) -> Result<(), AllocError>
+        ensures follows { OnOk result (FollowsPlayed self.old (to_set_breakpoints source.now lines.now) done self.new) }
+        ensures memory { OnErr result (self.new ≡ self.old) }
+    {
         self.to_set(alloc, source, lines)
     }
 
@@ -257,16 +277,27 @@ impl Debuggee for Recorded {
         self.all_threads(alloc)
     }
 
-    fn frames(&self, alloc: Global, thread: i64) -> Result<Vec<Frame>, DebuggeeFault> {
+    fn frames(&self, alloc: Global, thread: i64) -> Result<Vec<Frame>, DebuggeeFault>
+        ensures frames { Tells result (λ frames. frames.items) ((shown_of self.now).frames thread) }
+        ensures in_range { FramesInRange (shown_of self.now) }
+        ensures one_name { NamesOneFrame (shown_of self.now) }
+        ensures memory { IsErrOf result DebuggeeFault.OutOfMemory → IsSome ((shown_of self.now).frames thread) }
+    {
         self.is_recording();
         self.frames_of(alloc, thread)
     }
 
-    fn scopes(&self, alloc: Global, frame: u64) -> Result<Vec<Scope>, DebuggeeFault> {
+    fn scopes(&self, alloc: Global, frame: u64) -> Result<Vec<Scope>, DebuggeeFault>
+        ensures told { Tells result (λ scopes. scopes.items) ((shown_of self.now).scopes frame) }
+        ensures memory { IsErrOf result DebuggeeFault.OutOfMemory → IsSome ((shown_of self.now).scopes frame) }
+    {
         self.scopes_of(alloc, frame)
     }
 
-    fn children(&self, alloc: Global, holder: u64) -> Result<Vec<Variable>, DebuggeeFault> {
+    fn children(&self, alloc: Global, holder: u64) -> Result<Vec<Variable>, DebuggeeFault>
+        ensures told { Tells result (λ children. children.items) ((shown_of self.now).children holder) }
+        ensures memory { IsErrOf result DebuggeeFault.OutOfMemory → IsSome ((shown_of self.now).children holder) }
+    {
         self.children_of(alloc, holder)
     }
 
@@ -275,7 +306,10 @@ impl Debuggee for Recorded {
         _alloc: Global,
         frame: Option<u64>,
         text: &str,
-    ) -> Result<Evaluation, DebuggeeFault> {
+    ) -> Result<Evaluation, DebuggeeFault>
+        ensures told { Tells result (λ value. value) ((shown_of self.now).evaluate frame text.now) }
+        ensures memory { IsErrOf result DebuggeeFault.OutOfMemory → IsSome ((shown_of self.now).evaluate frame text.now) }
+    {
         self.value_of(frame, text)
     }
 
@@ -284,7 +318,10 @@ impl Debuggee for Recorded {
         self.all_sources(alloc)
     }
 
-    fn content(&self, _alloc: Global, index: u32) -> Result<Text, DebuggeeFault> {
+    fn content(&self, _alloc: Global, index: u32) -> Result<Text, DebuggeeFault>
+        ensures told { Tells result (λ text. text) ((shown_of self.now).content index) }
+        ensures memory { IsErrOf result DebuggeeFault.OutOfMemory → IsSome ((shown_of self.now).content index) }
+    {
         self.text_of(index)
     }
 

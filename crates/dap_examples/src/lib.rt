@@ -8,4 +8,6 @@ mod listings;
 #[cfg(test)]
 mod serving;
 #[cfg(test)]
+mod sizes;
+#[cfg(test)]
 mod wrapping;

@@ -1,6 +1,8 @@
 //! `show` and `read_whole`: what is listed of a stream, and how its end or its refusal is told.
 
+use dap_adapter::ServeFault;
 use dap_channel::{Channel, Input};
+use dap_debuggee::RecordingFault;
 use dap_frame::{Cause, End, FrameFault, Limits, Refusal};
 use dap_message::{BodyRefusal, Scratch, read_heading, read_message};
 use dap_samples::calls::{THREADS, framed};
@@ -398,6 +400,70 @@ fn faults_of_tools(rt: HostRuntime) -> Result<(), Fail> {
     for (fault, wanted, line) in &cases {
         assert_eq!(rt; status(fault), *wanted);
         assert_eq!(rt; fault_line(rt.alloc(), fault)?.as_slice(), *line);
+    }
+    Ok(())
+}
+
+/// What a person reads of each fault.
+#[test]
+fn faults_in_words(rt: HostRuntime) -> Result<(), Fail> {
+    let frame = FrameFault {
+        cause: Cause::Refused(Refusal::NoLength),
+        offset: 103,
+    };
+    let body = ShowFault::Body {
+        cause: BodyRefusal::BadSeq,
+        offset: 68,
+    };
+    let line = WrapFault::Body {
+        cause: BodyRefusal::BadSeq,
+        line: 3,
+    };
+    let cases: [(ToolFault, &str); 14] = [
+        (
+            ToolFault::Serve(ServeFault::Read),
+            "the session is broken off",
+        ),
+        (
+            ToolFault::Recording(RecordingFault::NotJson),
+            "the recording is refused",
+        ),
+        (
+            ToolFault::Show(ShowFault::Frame(frame)),
+            "a frame is refused at byte 103",
+        ),
+        (
+            ToolFault::Show(body),
+            "the body of the frame at byte 68 is refused",
+        ),
+        (
+            ToolFault::Show(ShowFault::OutOfMemory),
+            "memory is exhausted",
+        ),
+        (ToolFault::Wrap(line), "line 3 is no message"),
+        (
+            ToolFault::Wrap(WrapFault::BodyTooLong { line: 9 }),
+            "line 9 is longer than a body may be",
+        ),
+        (
+            ToolFault::Wrap(WrapFault::OutOfMemory),
+            "memory is exhausted",
+        ),
+        (ToolFault::File(FileFault::Read), "the file cannot be read"),
+        (
+            ToolFault::File(FileFault::FileTooLong),
+            "the file is too long",
+        ),
+        (
+            ToolFault::File(FileFault::OutOfMemory),
+            "memory is exhausted",
+        ),
+        (ToolFault::Truncated, "the input ends within a frame"),
+        (ToolFault::Write, "the output failed"),
+        (ToolFault::OutOfMemory, "memory is exhausted"),
+    ];
+    for (fault, words) in &cases {
+        assert_eq!(rt; format!(in rt.alloc(); "{fault}")?.as_str(), *words);
     }
     Ok(())
 }

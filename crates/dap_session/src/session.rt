@@ -10,7 +10,7 @@ use crate::phase::Phase;
 use crate::sheet::Sheet;
 use dap_debuggee::{Debuggee, DebuggeeFault, Happening, How};
 use dap_frame::Limits;
-use dap_tables::{Entry, Outstanding, Seq};
+use dap_tables::{Entry, Outstanding, PutFault, Seq};
 use std::alloc::{AllocError, Global};
 use std::marker::Model;
 
@@ -118,14 +118,12 @@ impl<D: Debuggee + Drop> Session<D> {
     }
 
     /// Keeps a request.
-    pub(crate) fn put(&mut self, request: Entry) -> Result<(), AllocError>
+    pub(crate) fn put(&mut self, request: Entry)
         requires new { contains_seq request.seq self.old.session.kept ≡ false }
         requires room { length self.old.session.kept < self.old.session.limits.requests }
-        ensures ok { OnOk result (self.new ≡ record self.old { session = record self.old.session { kept = self.old.session.kept ++ unparked request ∷ [] } }) }
-        ensures err { OnErr result (self.new ≡ self.old) }
+        ensures { self.new ≡ record self.old { session = record self.old.session { kept = self.old.session.kept ++ unparked request ∷ [] } } }
     {
-        put_in(&mut self.kept, request)?;
-        Ok(())
+        put_in(&mut self.kept, request);
     }
 
     /// The own numbers.
@@ -272,15 +270,15 @@ impl<D: Debuggee + Drop> Session<D> {
 }
 
 /// Keeps a request in a table that has room for it.
-fn put_in(kept: &mut Outstanding, request: Entry) -> Result<(), AllocError>
+fn put_in(kept: &mut Outstanding, request: Entry)
     requires new { contains_seq request.seq kept.old.kept ≡ false }
     requires room { length kept.old.kept < kept.old.room }
-    ensures ok { OnOk result (kept.new ≡ record kept.old { kept = kept.old.kept ++ unparked request ∷ [] }) }
-    ensures err { OnErr result (kept.new ≡ kept.old) }
+    ensures kept { kept.new ≡ record kept.old { kept = kept.old.kept ++ unparked request ∷ [] } }
     ensures orderly { IsOrderly kept.new }
 {
     match kept.put(request) {
-        Ok(()) => Ok(()),
-        Err(_) => Err(AllocError),
+        Ok(()) => {}
+        Err(PutFault::Repeated(_)) => unreachable!(),
+        Err(PutFault::Full(_)) => unreachable!(),
     }
 }

@@ -94,7 +94,7 @@ impl<D: Debuggee + Drop> Session<D> {
         if self.is_full() {
             return self.answer_at_once(alloc, &request, Answer::Failure(Failure::Busy));
         }
-        self.put(request)?;
+        self.put(request);
         Ok(Vec::new(alloc))
     }
 

@@ -1,5 +1,5 @@
 //! The requests that an end has still to answer.
-ghost use Rattle.std.specs.Prelude.{◌≡◌, ◌≤◌, ◌↔◌, [], ◌∷◌, ◌++◌, true, false, length, IsTrue, IsSome, IfOk, IfErr, IfSome, IfNone, OnOk, OnErr, Err, Some};
+ghost use Rattle.std.specs.Prelude.{◌≡◌, ◌<◌, ◌≤◌, ◌↔◌, [], ◌∷◌, ◌++◌, true, false, length, IsTrue, IsSome, IfOk, IfErr, IfSome, IfNone, OnOk, OnErr, Err, Some, vec_capacity};
 ghost use Rattle.std.specs.Option.{option_copied};
 ghost use Rattle.dap_tables.specs.Outstanding.{IsOrderly, IsRefusedForRoom, unparked, entries, contains_seq, entry_with, without, is_parked, with_mark, oldest_unparked, parked_ones, unparked_ones};
 ghost use Rattle.dap_tables.specs.PutFault.{refused_entry};
@@ -11,11 +11,13 @@ use crate::slot::{self, Slot};
 use std::alloc::{AllocError, Global};
 use std::marker::Model;
 
-/// The requests that an end keeps until it has answered them, by arrival.
+/// The requests that an end keeps until it has answered them, by arrival. The memory for as many as there is room for is
+/// taken when the table is made.
 #[derive(Debug, Drop)]
 pub struct Outstanding {
     slots: Vec<Slot>,
     room: usize,
+    ghost reserved: { room ≤ vec_capacity slots },
 }
 
 impl Model for Outstanding {
@@ -35,20 +37,20 @@ impl Model for Outstanding {
 }
 
 impl Outstanding {
-    /// An empty table with room for `n` requests.
+    /// An empty table with room for `n` requests; an error where the memory for so many is refused.
     pub fn open(alloc: Global, n: usize) -> Result<Outstanding, AllocError>
-        ensures { IfOk result (λ table. table ≡ record { room = n; kept = [] }) }
+        ensures empty { IfOk result (λ table. table ≡ record { room = n; kept = [] }) }
+        ensures memory { OnErr result (0 < n) }
     {
         Ok(Outstanding {
-            slots: Vec::new(alloc),
+            slots: Vec::with_capacity(alloc, n)?,
             room: n,
         })
     }
 
-    /// Keeps a request, not parked, after those that are kept already.
+    /// Keeps a request, not parked, after those that are kept already. It takes no memory.
     ///
-    /// `Repeated` comes where its seq is kept already, else `Full` where there is no room, else
-    /// `OutOfMemory` where the allocator refuses.
+    /// `Repeated` comes where its seq is kept already, else `Full` where there is no room.
     #[tactic(auto, using(crate::proofs::SlotLemmas::putting))]
     pub fn put(&mut self, entry: Entry) -> Result<(), PutFault>
         ensures ok { OnOk result (self.new ≡ record self.old { kept = self.old.kept ++ unparked entry ∷ [] }) }
@@ -72,11 +74,13 @@ impl Outstanding {
         if self.is_full() {
             return Err(PutFault::Full(entry));
         }
-        self.slots.push(Slot {
+        match self.slots.push(Slot {
             entry,
             parked: false,
-        })?;
-        Ok(())
+        }) {
+            Ok(()) => Ok(()),
+            Err(_) => unreachable!(),
+        }
     }
 
     /// Takes out the request with a seq, where it is kept.

@@ -2,8 +2,6 @@
 ghost use Rattle.std.specs.Prelude.{◌≡◌};
 
 use crate::entry::Entry;
-use crate::slot::Slot;
-use std::alloc::AllocFailed;
 
 /// Why a request is not kept. Each hands back the request.
 #[derive(Debug, Drop)]
@@ -12,8 +10,6 @@ pub enum PutFault {
     Repeated(Entry),
     /// As many requests are kept as there is room for.
     Full(Entry),
-    /// The allocator refused the memory for one more.
-    OutOfMemory(Entry),
 }
 
 impl PutFault {
@@ -24,18 +20,7 @@ impl PutFault {
         ensures { result ≡ refused_entry self }
     {
         match self {
-            PutFault::Repeated(entry) | PutFault::Full(entry) | PutFault::OutOfMemory(entry) =>
-                entry,
+            PutFault::Repeated(entry) | PutFault::Full(entry) => entry,
         }
-    }
-}
-
-impl From<AllocFailed<Slot>> for PutFault {
-    ghost use Rattle.dap_tables.specs.declared.put_fault.PutFault.{PutFault};
-
-    ghost from_gives = { λ failed fault. fault ≡ PutFault.OutOfMemory failed.value.entry };
-
-    fn from(failed: AllocFailed<Slot>) -> Self {
-        PutFault::OutOfMemory(failed.value.entry)
     }
 }

@@ -1,5 +1,5 @@
 //! How the table stores a request, and the walks over its store.
-ghost use Rattle.std.specs.Prelude.{◌≡◌, ◌==◌, ◌&&◌, not, map, find, filter, position, count_by};
+ghost use Rattle.std.specs.Prelude.{◌≡◌, ◌==◌, ◌&&◌, not, map, find, filter, position, count_by, vec_capacity};
 ghost use Rattle.std.specs.List.{list_any};
 ghost use Rattle.std.specs.Option.{option_map, option_copied};
 ghost use Rattle.dap_tables.specs.Outstanding.{HasDistinctSeqs, entry_with, without};
@@ -58,6 +58,7 @@ pub(crate) fn take(slots: &mut Vec<Slot>, seq: u64) -> Option<Entry>
     requires { HasDistinctSeqs (map kept_of slots.old.items) }
     ensures entry { result ≡ entry_with seq (map kept_of slots.old.items) }
     ensures others { map kept_of slots.new.items ≡ without seq (map kept_of slots.old.items) }
+    ensures capacity { vec_capacity slots.new ≡ vec_capacity slots.old }
 {
     let place = place_of(slots, seq)?;
     Some(slots.remove(place).entry)
@@ -74,7 +75,8 @@ pub(crate) fn set_mark(slots: &mut [Slot], seq: u64, parked: bool)
 }
 
 pub(crate) fn retain_unparked(slots: &mut Vec<Slot>)
-    ensures { slots.new.items ≡ filter (λ slot. not slot.parked) slots.old.items }
+    ensures unparked { slots.new.items ≡ filter (λ slot. not slot.parked) slots.old.items }
+    ensures capacity { vec_capacity slots.new ≡ vec_capacity slots.old }
 {
     slots.retain(|slot| !slot.parked);
 }

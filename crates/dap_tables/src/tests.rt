@@ -25,7 +25,6 @@ fn put(
         Ok(()) => ("kept", 0),
         Err(PutFault::Repeated(entry)) => ("Repeated", entry.seq),
         Err(PutFault::Full(entry)) => ("Full", entry.seq),
-        Err(PutFault::OutOfMemory(entry)) => ("OutOfMemory", entry.seq),
     })
 }
 

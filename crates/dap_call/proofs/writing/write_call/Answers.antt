@@ -7,7 +7,7 @@ use Rattle.dap_call.proofs.PlainTree.{call_plain}
 use Rattle.dap_call.proofs.writing.write_call.Goals as goal
 
 pub returns-clause-reads_back : goal.returns-clause-reads_back
-returns-clause-reads_back c = ap (call_of (command_of c.args.call.now)) c.in_ok-arguments.ensures ∙ call_again c.args.call.now c.requires
+returns-clause-reads_back c = ap (call_of (command_of c.args.call.now)) c.in_ok-arguments.ensures.tree ∙ call_again c.args.call.now c.requires
 
 pub returns-clause-plain : goal.returns-clause-plain
-returns-clause-plain c = ap is_plain_tree c.in_ok-arguments.ensures ∙ call_plain c.args.call.now c.requires
+returns-clause-plain c = ap is_plain_tree c.in_ok-arguments.ensures.tree ∙ call_plain c.args.call.now c.requires
