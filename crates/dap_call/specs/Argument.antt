@@ -7,6 +7,7 @@ use Rattle.serde_json.specs.Data.{Data, null, object}
 use Rattle.serde_json.specs.Find.{as_number, as_u64, as_i64}
 use Rattle.std.specs.Prelude.{◌≡◌}
 use Rattle.dap_json.specs.Field.{if_passes, max_seq, tree_at}
+use Rattle.dap_json.specs.Steps.{◌>>=◌}
 use Rattle.dap_call.specs.Key.{text_of}
 use Rattle.dap_call.specs.declared.key.Key.{Key}
 use Rattle.dap_call.specs.declared.key.Key.TheVariants as key
@@ -16,11 +17,6 @@ use Rattle.dap_call.specs.declared.call.CallFault.TheVariants.{BadArguments, Out
 -- a value, or the first bad key
 abbrev pub Read : Type 0 → Type 0
 Read A = Result A Key
-
-infixl 10 ◌>>=◌
-abbrev pub ◌>>=◌ : {A B : Type 0} → Read A → (A → Read B) → Read B
-(Ok x) >>= f = f x
-(Err e) >>= f = Err e
 
 -- what was read, in another form
 abbrev pub read_map : {A B : Type 0} → (A → B) → Read A → Read B

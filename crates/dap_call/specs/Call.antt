@@ -6,7 +6,8 @@
 use Rattle.std.specs.Prelude.{ℕ, zero, suc, ℤ, List, [], ◌∷◌, Bool, true, false, Option, Some, None, option_and_then, option_map, unwrap_or, Ok, Err, ◌==◌, if◌then◌else◌}
 use Rattle.serde_json.specs.Data.{Data, Items, no_items, item}
 use Rattle.serde_json.specs.Find.{as_str, as_bool, as_array}
-use Rattle.dap_call.specs.Argument.{Read, ◌>>=◌, int_of, number_of, seq_of, value_at, required, optional, optional_or, may_be_absent, must_be_there}
+use Rattle.dap_json.specs.Steps.{◌>>=◌}
+use Rattle.dap_call.specs.Argument.{Read, int_of, number_of, seq_of, value_at, required, optional, optional_or, may_be_absent, must_be_there}
 use Rattle.dap_call.specs.declared.key.Key.TheVariants as key
 use Rattle.dap_call.specs.declared.call.Call.{Call}
 use Rattle.dap_call.specs.declared.call.Call.TheVariants as call

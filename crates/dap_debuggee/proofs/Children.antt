@@ -6,7 +6,8 @@ use Rattle.serde_json.specs.Data.{Data, null, boolean, number, string, array, ob
 use Rattle.serde_json.specs.Find.{get, get_member, as_array}
 use Rattle.serde_json.specs.View.{view, items_view}
 use Rattle.serde_json.specs.declared.value.Value.{Value}
-use Rattle.dap_debuggee.specs.Reading.{Read, Holders, ◌>>=◌, GivesWith, GivesListWith, listed, variable_of, variables_of, each_variable, variables_within, variable_row}
+use Rattle.dap_json.specs.Steps.{◌>>=◌}
+use Rattle.dap_debuggee.specs.Reading.{Read, Holders, GivesWith, GivesListWith, listed, variable_of, variables_of, each_variable, variables_within, variable_row}
 use Rattle.dap_debuggee.specs.RecordingKey.{name_of}
 use Rattle.dap_debuggee.specs.declared.answers.Variable.{Variable}
 use Rattle.dap_debuggee.specs.declared.reading.RecordingFault.{RecordingFault}

@@ -5,7 +5,8 @@ use Rattle.serde_json.specs.Events.{items_len}
 use Rattle.serde_json.specs.View.{view, items_view}
 use Rattle.serde_json.specs.declared.value.Value.{Value}
 use Rattle.serde_json.proofs.Views.{items_len-items_view}
-use Rattle.dap_debuggee.specs.Reading.{Read, ◌>>=◌, each, each_source, source_of, Gives, GivesWith, GivesListWith, GivesList}
+use Rattle.dap_json.specs.Steps.{◌>>=◌}
+use Rattle.dap_debuggee.specs.Reading.{Read, each, each_source, source_of, Gives, GivesWith, GivesListWith, GivesList}
 use Rattle.dap_debuggee.specs.declared.recording.RecordedSource.{RecordedSource}
 use Rattle.dap_debuggee.specs.declared.reading.RecordingFault.{RecordingFault}
 use Rattle.dap_debuggee.specs.declared.reading.RecordingFault.TheVariants as fault

@@ -1,7 +1,8 @@
 -- What was read, step by step, and element by element.
 use Rattle.std.proofs.Common.{◌≡◌, List, [], ◌∷◌, ◌++◌, Ok, Err, refl, subst}
 use Rattle.serde_json.specs.Data.{Data, Items, no_items, item}
-use Rattle.dap_debuggee.specs.Reading.{Read, ◌>>=◌, ◌>>◌, each}
+use Rattle.dap_json.specs.Steps.{◌>>=◌, ◌>>◌}
+use Rattle.dap_debuggee.specs.Reading.{Read, each}
 
 pub ok_same : {A : Type 0} (x y : A) → ◌≡◌ {A = Read A} (Ok x) (Ok y) → x ≡ y
 ok_same x y e = cc

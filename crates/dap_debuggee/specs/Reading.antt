@@ -11,6 +11,7 @@ use Rattle.serde_json.specs.Events.{items_len}
 use Rattle.serde_json.specs.Find.{get, as_number, as_i64, as_str, as_bool, as_array}
 use Rattle.serde_json.specs.View.{items_view}
 use Rattle.serde_json.specs.declared.value.Value.{Value}
+use Rattle.dap_json.specs.Steps.{◌>>=◌, ◌>>◌}
 use Rattle.dap_json.specs.Field.{if_passes, is_object}
 use Rattle.dap_call.specs.Argument.{int_of, number_of}
 use Rattle.dap_debuggee.specs.Laws.{is_code}
@@ -32,16 +33,6 @@ use Rattle.dap_debuggee.specs.declared.recording.Recording.{Recording}
 -- a value, or the first bad key
 abbrev pub Read : Type 0 → Type 0
 Read A = Result A RecordingKey
-
-infixl 10 ◌>>=◌
-abbrev pub ◌>>=◌ : {A B : Type 0} → Read A → (A → Read B) → Read B
-(Ok x) >>= f = f x
-(Err e) >>= f = Err e
-
-infixl 10 ◌>>◌
-abbrev pub ◌>>◌ : {B : Type 0} → Read (Unit {0}) → Read B → Read B
-(Ok x) >> next = next
-(Err e) >> next = Err e
 
 -- What a function returned is what the rows read, unless memory ran out.
 abbrev pub Gives : {A : Type 0} → Result A RecordingFault → Read A → Type 0

@@ -1,5 +1,5 @@
 -- Words for the steps that listing and wrapping are made of: they serve private functions alone.
-use Rattle.std.specs.Prelude.{◌≡◌, ℕ, List, [], ◌∷◌, ◌++◌, take, codes, decimal}
+use Rattle.std.specs.Prelude.{◌≡◌, ℕ, List, [], ◌∷◌, ◌++◌, take, None}
 use Rattle.dap_frame.specs.Settings.{Settings, bounds_of}
 use Rattle.dap_frame.specs.Intake.{Intake, StandsFor}
 use Rattle.dap_frame.specs.declared.Cause.{Cause}
@@ -10,16 +10,17 @@ use Rattle.dap_message.specs.declared.fault.BodyFault.{BodyFault}
 use Rattle.dap_message.specs.declared.fault.BodyFault.TheVariants.{Refused as BodyRefused, OutOfMemory as NoMemoryForBody}
 use Rattle.dap_message.specs.declared.heading.HeadingKind.{HeadingKind}
 use Rattle.dap_message.specs.declared.heading.HeadingKind.TheVariants.{Request, Response, Event, Other}
-use Rattle.dap_tool.specs.Listing.{Listed, shown, outcome_text}
+use Rattle.dap_message.specs.declared.message.Kind.TheVariants as kind
+use Rattle.dap_tool.specs.Listing.{Listed, kind_text}
 use Rattle.dap_tool.specs.declared.listing.ShowFault.{ShowFault}
 use Rattle.dap_tool.specs.declared.listing.ShowFault.TheVariants.{Frame, OutOfMemory}
 
--- the words of a heading
+-- the words of a heading: those of such a message, whatever else it has
 abbrev pub kind_words : HeadingKind → List ℕ
-kind_words (Request name) = codes " request " ++ shown name.now
-kind_words (Response request_seq success name) = codes " response " ++ shown name.now ++ codes " " ++ decimal request_seq ++ outcome_text success
-kind_words (Event name) = codes " event " ++ shown name.now
-kind_words (Other name) = codes " other " ++ shown name.now
+kind_words (Request name) = kind_text (kind.Request name.now None)
+kind_words (Response request_seq success name) = kind_text (kind.Response request_seq success name.now None None)
+kind_words (Event name) = kind_text (kind.Event name.now None)
+kind_words (Other name) = kind_text (kind.Other name.now)
 
 -- why a ready body is not read
 abbrev pub IsUnread : List ℕ → BodyFault → Type 0

@@ -1,6 +1,7 @@
 use Rattle.std.proofs.Common.{suc, rules, ◌≡◌, ◌∷◌, ◌++◌, [], Err, drop, add-one, sym, ap, ◌∙◌, arith}
 use Rattle.serde_json.specs.View.{view, items_view}
-use Rattle.dap_debuggee.specs.Reading.{◌>>=◌, variables_of, each_variable}
+use Rattle.dap_json.specs.Steps.{◌>>=◌}
+use Rattle.dap_debuggee.specs.Reading.{variables_of, each_variable}
 use Rattle.dap_debuggee.proofs.Children.{get_below, element_below, next_variable, refused_within, variables_in}
 use Rattle.dap_debuggee.proofs.rows.+variables.Goals as goal
 
