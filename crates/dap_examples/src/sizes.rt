@@ -1,28 +1,32 @@
 //! The greatest sizes, with ample memory: nothing is refused.
 
 use dap_debuggee::{Debuggee, Recorded};
-use dap_frame::{End, Limits};
+use dap_frame::{End, Limits, write_frame};
 use dap_message::{SourceKey, Text};
-use dap_samples::calls::{THREADS, framed};
 use dap_tool::show;
 use std::test::Fail;
 
-/// A file of 60 MB is listed, with a line for each of its frames.
+/// A file of 60 MB is listed, of 15 events with bodies of the greatest length.
 #[test]
 fn a_long_file_is_listed(rt: HostRuntime) -> Result<(), Fail> {
-    let frame = framed(rt.alloc(), &[THREADS])?;
-    let mut input = Vec::with_capacity(rt.alloc(), 61200000)?;
-    for _ in 0..900000 {
-        input.extend_from_slice(&frame)?;
+    let mut body = Vec::from_slice(
+        rt.alloc(),
+        b"{\"seq\":3,\"type\":\"event\",\"event\":\"a\",\"body\":\"",
+    )?;
+    body.resize(4194302, b'a')?;
+    body.extend_from_slice(b"\"}")?;
+    let mut input = Vec::new(rt.alloc());
+    for _ in 0..15 {
+        write_frame(&mut input, &body)?;
     }
-    assert_eq!(rt; input.len(), 61200000);
+    assert_eq!(rt; input.len(), 62914965);
     let mut listing = Vec::new(rt.alloc());
     let end = show(rt.alloc(), &input, Limits::usual(), &mut listing);
     assert_eq!(rt; end, Ok(End::Clean));
-    assert!(rt; listing.starts_with(b"0 1 request threads\n68 1 request threads\n"));
-    assert!(rt; listing.ends_with(b"61199932 1 request threads\n"));
+    assert!(rt; listing.starts_with(b"0 3 event a\n4194331 3 event a\n"));
+    assert!(rt; listing.ends_with(b"58720634 3 event a\n"));
     let lines = listing.iter().filter(|byte| **byte == b'\n').count();
-    assert_eq!(rt; lines, 900000);
+    assert_eq!(rt; lines, 15);
     Ok(())
 }
 

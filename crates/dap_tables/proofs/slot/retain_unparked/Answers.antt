@@ -1,4 +1,4 @@
-use Rattle.std.proofs.Common.{rules, Bool, not}
+use Rattle.std.proofs.Common.{rules, not}
 use Rattle.std.proofs.lemmas.List.Elements.{filter_from_retain}
 use Rattle.dap_tables.specs.declared.slot.Slot.{Slot}
 use Rattle.dap_tables.proofs.slot.retain_unparked.Goals as goal
