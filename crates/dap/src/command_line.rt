@@ -97,7 +97,7 @@ fn serve<'a>(alloc: Global, limit_texts: &'a [String]) -> Result<Command<'a>, Al
             "Debugs a recorded run: answers the Debug Adapter Protocol requests of standard input on standard output",
         )
         .after_help(
-            "The recording is read before the input. The session ends with `disconnect` or with the input.\n\nStatuses: 0 the session or the input ended, 2 usage, 3 a frame, a body, a message or the recording is refused, 4 the input ends within a frame, 5 read or write, 6 memory",
+            "The recording is read before the input. The session ends with `disconnect` or with the input. What bounds references and breakpoints changes nothing yet, since none is given or set.\n\nStatuses: 0 the session or the input ended, 2 usage, 3 a frame, a body, a message or the recording is refused or no sequence number is left, 4 the input ends within a frame, 5 read or write, 6 memory",
         )
         .arg(recording)?;
     for (option, help) in LIMIT_OPTIONS.iter().zip(limit_texts) {
@@ -123,7 +123,7 @@ fn show<'a>(alloc: Global, limit_texts: &'a [String]) -> Result<Command<'a>, All
     let mut show = Command::new(alloc, "show")
         .about("Lists the messages of a stream, one a line")
         .after_help(
-            "A line has the frame's first byte, the sequence number, then `request` COMMAND, `event` EVENT, `response` COMMAND REQUEST_SEQ `ok` or `failed`, or `other` TYPE.\n\nStatuses: 0 all is listed, 2 usage, 3 a frame or a body is refused, 4 the file ends within a frame, 5 read or write, 6 memory",
+            "A line has the offset of the frame, the sequence number, then `request` COMMAND, `event` EVENT, `response` COMMAND REQUEST_SEQ `ok` or `failed`, or `other` TYPE.\n\nStatuses: 0 all is listed, 2 usage, 3 a frame, a body or the length of the file is refused, 4 the file ends within a frame, 5 read or write, 6 memory",
         )
         .arg(file)?;
     for (option, help) in LIMIT_OPTIONS.iter().zip(limit_texts).take(FRAME_OPTIONS) {
@@ -140,7 +140,7 @@ fn wrap<'a>(alloc: Global, limit_texts: &'a [String]) -> Result<Command<'a>, All
     let mut wrap = Command::new(alloc, "wrap")
         .about("Writes the messages of a file, one a line, as a stream of frames")
         .after_help(
-            "Empty lines are skipped.\n\nStatuses: 0 all is written, 2 usage, 3 a line is refused and nothing is written, 5 read or write, 6 memory",
+            "Empty lines are skipped.\n\nStatuses: 0 all is written, 2 usage, 3 a line or the length of the file is refused and nothing is written, 5 read or write, 6 memory",
         )
         .arg(file)?;
     for (option, help) in LIMIT_OPTIONS.iter().zip(limit_texts).take(FRAME_OPTIONS) {
