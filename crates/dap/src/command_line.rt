@@ -59,7 +59,7 @@ static LIMIT_OPTIONS: [LimitOption; 7] = [
 ];
 
 /// What the help says of each option that sets a limit, in order.
-pub fn limit_texts(alloc: Global) -> Result<Vec<String>, AllocError> {
+pub(crate) fn limit_texts(alloc: Global) -> Result<Vec<String>, AllocError> {
     let usual = Limits::usual();
     let mut texts = Vec::new(alloc);
     for option in &LIMIT_OPTIONS {
@@ -152,7 +152,10 @@ fn wrap<'a>(alloc: Global, limit_texts: &'a [String]) -> Result<Command<'a>, All
 }
 
 /// The command line of the program.
-pub fn command<'a>(alloc: Global, limit_texts: &'a [String]) -> Result<Command<'a>, AllocError> {
+pub(crate) fn command<'a>(
+    alloc: Global,
+    limit_texts: &'a [String],
+) -> Result<Command<'a>, AllocError> {
     Command::new(alloc, "dap")
         .about("Serves, lists and makes streams of the Debug Adapter Protocol")
         .version("0.1.0")
@@ -165,7 +168,7 @@ pub fn command<'a>(alloc: Global, limit_texts: &'a [String]) -> Result<Command<'
 }
 
 /// The limits that the options set, and the defaults for the others and for those that the subcommand does not have.
-pub fn limits(matches: &ArgMatches<'_>) -> Result<Limits, LimitFault> {
+pub(crate) fn limits(matches: &ArgMatches<'_>) -> Result<Limits, LimitFault> {
     let usual = Limits::usual();
     let set = |option: &LimitOption| {
         matches

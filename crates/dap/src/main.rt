@@ -1,4 +1,4 @@
-//! The program `dap`: its command line, its streams and its exit statuses. What it does is in `dap_tool`.
+//! The program `dap`: its command line, its streams and its exit statuses. What it does is in `dap_tool` and `dap_adapter`.
 #![tactic(auto)]
 
 ghost use Rattle.std.specs.Prelude.{◌≡◌, IfOk};

@@ -86,30 +86,43 @@ pub fn call<D: Debuggee + Drop>(
     }
 }
 
-/// Makes the calls, and compares what each hands out and how many requests are kept. It tells the call that differs.
-pub fn follow<D: Debuggee + Drop>(
-    rt: &HostRuntime,
+/// Makes the calls, and tells the place of the first one that hands out something else, or leaves another count of
+/// requests.
+pub fn first_difference<D: Debuggee + Drop>(
+    alloc: Global,
     adapter: &mut Adapter<D>,
     steps: &[Step<'_>],
-) -> Result<(), Fail> {
+) -> Result<Option<usize>, Fail> {
     for (place, (act, wanted, kept)) in steps.iter().enumerate() {
-        let got = call(rt.alloc(), adapter, *act).ok().ok_or("a fault")?;
+        let got = call(alloc, adapter, *act).ok().ok_or("a fault")?;
         let same = match (&got, wanted) {
             (None, None) => true,
             (Some(bytes), Some(lines)) => {
-                let frames = wrap(rt.alloc(), lines, Limits::usual())
-                    .ok()
-                    .ok_or("no bodies")?;
+                let frames = wrap(alloc, lines, Limits::usual()).ok().ok_or("no bodies")?;
                 bytes.as_slice() == frames.as_slice()
             }
             _ => false,
         };
         if !same || adapter.kept() != *kept {
-            eprintln!(rt; "call {place} differs")?;
-            return Err(Fail::from("a call differs"));
+            return Ok(Some(place));
         }
     }
-    Ok(())
+    Ok(None)
+}
+
+/// Makes the calls; a call that differs is told, and fails the test.
+pub fn follow<D: Debuggee + Drop>(
+    rt: &HostRuntime,
+    adapter: &mut Adapter<D>,
+    steps: &[Step<'_>],
+) -> Result<(), Fail> {
+    match first_difference(rt.alloc(), adapter, steps)? {
+        None => Ok(()),
+        Some(place) => {
+            eprintln!(rt; "call {place} differs")?;
+            Err(Fail::from("a call differs"))
+        }
+    }
 }
 
 pub fn two_kept() -> Result<Limits, Fail> {

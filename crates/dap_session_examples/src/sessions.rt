@@ -3,7 +3,8 @@
 use dap_adapter::Phase;
 use dap_frame::Limits;
 use dap_samples::calls::{
-    Act, NOT_INITIALIZED, Step, THREADS, adapter, call, follow, take_all, two_kept,
+    Act, NOT_INITIALIZED, Step, THREADS, adapter, call, first_difference, follow, take_all,
+    two_kept,
 };
 use dap_tool::wrap;
 use std::test::Fail;
@@ -362,5 +363,27 @@ fn refused_requests(rt: HostRuntime) -> Result<(), Fail> {
     let mut adapter = adapter(rt.alloc(), Limits::usual())?;
     follow(&rt, &mut adapter, &REFUSED_REQUESTS)?;
     assert_eq!(rt; adapter.phase(), Phase::Ready);
+    Ok(())
+}
+
+/// Steps are compared: where the bodies differ, or how many requests are kept, or whether anything is handed out, that is
+/// told.
+#[test]
+fn steps_that_differ_are_told(rt: HostRuntime) -> Result<(), Fail> {
+    let cases: [(Option<&[u8]>, usize, Option<usize>); 4] = [
+        (Some(NOT_INITIALIZED), 0, None),
+        (Some(THREADS), 0, Some(1)),
+        (Some(NOT_INITIALIZED), 1, Some(1)),
+        (None, 0, Some(1)),
+    ];
+    for (wanted, kept, place) in &cases {
+        let mut adapter = adapter(rt.alloc(), Limits::usual())?;
+        let steps: [Step<'_>; 2] = [
+            (Act::Take(THREADS), Some(b""), 1),
+            (Act::Turn, *wanted, *kept),
+        ];
+        let told = first_difference(rt.alloc(), &mut adapter, &steps)?;
+        assert_eq!(rt; told, *place);
+    }
     Ok(())
 }
