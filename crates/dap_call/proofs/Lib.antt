@@ -7,3 +7,4 @@ mod KeyExamples
 mod WritingExamples
 pub mod ReadAgain
 pub mod PlainTree
+pub mod Written

@@ -1,6 +1,6 @@
 -- What is written of a plain call has no floats, and nests less deep than a message's tree may.
 use Rattle.std.proofs.Common.{◌≡◌, ℕ, zero, suc, ◌&&◌, ◌≤◌, ℤ, pos, negsuc, List, [], ◌∷◌, Bool, true, false, not, nat_le, Option, Some, None, refl, arith}
-use Rattle.std.proofs.lemmas.Bool.{leb-true, le-leb}
+use Rattle.std.proofs.lemmas.Bool.{leb-true, le-leb, and_parts}
 use Rattle.serde_json.specs.Data.{Data, null, boolean, number, string, array, object, Items, depth, items_depth}
 use Rattle.serde_json.specs.Written.{has_float, items_have_float}
 use Rattle.dap_json.specs.Field.{is_object, is_null}
@@ -11,7 +11,6 @@ use Rattle.dap_call.specs.declared.call.Call.{Call}
 use Rattle.dap_call.specs.declared.call.Call.TheVariants as call
 use Rattle.dap_call.specs.declared.call.SourceKey.{SourceKey}
 use Rattle.dap_call.specs.declared.call.SourceKey.TheVariants.{Path, Reference}
-use Rattle.dap_call.proofs.ReadAgain.{both}
 
 -- ---- lists
 
@@ -131,14 +130,14 @@ no_object (array ds) e = absurd (cc e)
 -- 100 levels are within 120
 kept_plain : (d : Data) → (not (has_float d) && nat_le (depth d) max_arguments) ≡ true → (not (has_float d) && nat_le (depth d) 120) ≡ true
 kept_plain d e =
-    let p = both (not (has_float d)) (nat_le (depth d) max_arguments) e in
+    let p = and_parts (not (has_float d)) (nat_le (depth d) max_arguments) e in
     let deep : depth d ≤ 100 = leb-true (depth d) 100 p.1 in
     rw p.0 (le-leb (depth d) 120 (omega (arith, deep)))
 
 tree_plain : (t : Option Data) → are_plain_arguments t ≡ true → is_plain_tree t ≡ true
 tree_plain None e = refl
 tree_plain (Some d) e =
-    let p = both (is_object d) (is_writable max_arguments d) e in
+    let p = and_parts (is_object d) (is_writable max_arguments d) e in
     rw (no_object d p.0) (kept_plain d p.1)
 
 pub call_plain : (c : Call) → is_plain_call c ≡ true → is_plain_tree (call_tree c) ≡ true

@@ -1,6 +1,6 @@
 -- What is written of a plain call is read again as that call.
 use Rattle.std.proofs.Common.{◌≡◌, ℕ, zero, suc, ◌&&◌, ◌≤◌, ◌^◌, ℤ, pos, negsuc, List, [], ◌∷◌, Bool, true, false, nat_le, nat_lt, Option, Some, None, Ok, refl, arith, sym, true≢false}
-use Rattle.std.proofs.lemmas.Bool.{leb-true, lt-ltb}
+use Rattle.std.proofs.lemmas.Bool.{leb-true, lt-ltb, and_parts}
 use Rattle.std.specs.List.{list_all}
 use Rattle.serde_json.specs.Data.{Data, null, boolean, number, string, array, object}
 use Rattle.serde_json.specs.Find.{as_str}
@@ -15,11 +15,6 @@ use Rattle.dap_call.specs.declared.call.Call.TheVariants as call
 use Rattle.dap_call.specs.declared.call.Initialize.{Initialize}
 use Rattle.dap_call.specs.declared.call.SourceKey.{SourceKey}
 use Rattle.dap_call.specs.declared.call.SourceKey.TheVariants.{Path, Reference}
-
-pub both : (a b : Bool) → (a && b) ≡ true → (a ≡ true) × (b ≡ true)
-both true true e = (refl, refl)
-both true false e = absurd (true≢false (sym e))
-both false b e = absurd (true≢false (sym e))
 
 pub all_three : (a b c : Bool) → (a && (b && c)) ≡ true → (a ≡ true) × (b ≡ true) × (c ≡ true)
 all_three true true true e = (refl, refl, refl)
@@ -40,7 +35,7 @@ line_again n e = rw e
 
 lines_again : (ns : List ℕ) → list_all is_number ns ≡ true → each line_in (breakpoint_items ns) ≡ Some ns
 lines_again [] e = refl
-lines_again (n ∷ ns) e = let p = both (is_number n) (list_all is_number ns) e in rw (line_again n p.0, lines_again ns p.1)
+lines_again (n ∷ ns) e = let p = and_parts (is_number n) (list_all is_number ns) e in rw (line_again n p.0, lines_again ns p.1)
 
 names_again : (names : List (List ℕ)) → each name_in (function_items names) ≡ Some names
 names_again [] = refl
@@ -54,7 +49,7 @@ source_again : (s : SourceKey) → is_plain_source s ≡ true → source_key_of 
 unfolding source_parts
 source_again (Path p) e = refl
 source_again (Reference zero) e = absurd (cc e)
-source_again (Reference (suc n)) e = let p = both (nat_lt 0 (suc n)) (is_number (suc n)) e in rw p.1
+source_again (Reference (suc n)) e = let p = and_parts (nat_lt 0 (suc n)) (is_number (suc n)) e in rw p.1
 
 -- ---- rows
 
@@ -170,7 +165,7 @@ kept_again (array ds) e = absurd (cc e)
 
 tree_again : (t : Option Data) → are_plain_arguments t ≡ true → may_be_absent t ≡ Ok t
 tree_again None e = refl
-tree_again (Some d) e = kept_again d (both (is_object d) (is_writable max_arguments d) e).0
+tree_again (Some d) e = kept_again d (and_parts (is_object d) (is_writable max_arguments d) e).0
 
 pub call_again : (c : Call) → is_plain_call c ≡ true → call_of (command_of c) (call_tree c) ≡ Ok c
 call_again (call.Initialize a) e = initialize_again a.adapter_id a.lines_start_at_1 a.columns_start_at_1 a.supports_variable_paging a.supports_run_in_terminal_request a refl
@@ -181,7 +176,7 @@ call_again call.Disconnect e = refl
 call_again call.Threads e = refl
 call_again call.Terminate e = refl
 call_again (call.Cancel r) e = cancel_again r e
-call_again (call.SetBreakpoints s ns) e = let p = both (is_plain_source s) (list_all is_number ns) e in set_breakpoints_again s ns p.0 p.1
+call_again (call.SetBreakpoints s ns) e = let p = and_parts (is_plain_source s) (list_all is_number ns) e in set_breakpoints_again s ns p.0 p.1
 call_again (call.SetFunctionBreakpoints names) e = functions_again names
 call_again (call.SetExceptionBreakpoints filters) e = filters_again filters
 call_again (call.Continue z) e = rw (thread_again z e)
@@ -199,7 +194,7 @@ call_again (call.Source n) e = source_call_again n e
 call_again call.LoadedSources e = refl
 call_again (call.SetVariable a) e = set_variable_again a.variables_reference a.name a.value e
 call_again call.Restart e = refl
-call_again (call.Modules a) e = let p = both (is_number a.start_module) (is_number a.module_count) e in modules_again a.start_module a.module_count p.0 p.1
+call_again (call.Modules a) e = let p = and_parts (is_number a.start_module) (is_number a.module_count) e in modules_again a.start_module a.module_count p.0 p.1
 call_again (call.ExceptionInfo z) e = rw (thread_again z e)
 call_again (call.BreakpointLocations a) e = let p = all_three (is_plain_source a.source) (is_number a.line) (is_none_or is_number a.end_line) e in locations_again a.source a.line a.end_line p.0 p.1 p.2
 call_again (call.Completions a) e = let p = all_three (is_number a.column) (is_none_or is_number a.frame_id) (is_none_or is_number a.line) e in completions_again a.text a.column a.frame_id a.line p.0 p.1 p.2

@@ -7,7 +7,7 @@ use Rattle.serde_json.specs.Data.{Data, null, object}
 use Rattle.serde_json.specs.Find.{as_number, as_u64, as_i64}
 use Rattle.std.specs.Prelude.{◌≡◌}
 use Rattle.dap_json.specs.Field.{if_passes, max_seq, tree_at}
-use Rattle.dap_json.specs.Steps.{◌>>=◌}
+use Rattle.dap_json.specs.Steps.{◌>>=◌, Returns}
 use Rattle.dap_call.specs.Key.{text_of}
 use Rattle.dap_call.specs.declared.key.Key.{Key}
 use Rattle.dap_call.specs.declared.key.Key.TheVariants as key
@@ -23,11 +23,14 @@ abbrev pub read_map : {A B : Type 0} → (A → B) → Read A → Read B
 read_map form (Ok x) = Ok (form x)
 read_map form (Err e) = Err e
 
+-- what a fault says of what the rows read: the first bad key, or nothing where memory ran out
+abbrev pub Says : {A : Type 0} → CallFault → Read A → Type 0
+Says (BadArguments key) read = read ≡ Err key
+Says OutOfMemory read = Unit {0}
+
 -- What a function returned is what the rows read, unless memory ran out.
 abbrev pub Gives : {A : Type 0} → Result A CallFault → Read A → Type 0
-Gives (Ok x) read = read ≡ Ok x
-Gives (Err (BadArguments key)) read = read ≡ Err key
-Gives (Err OutOfMemory) read = Unit {0}
+Gives result read = Returns (λ x. x) Says result read
 
 -- ---- shapes of a value; the ranges are this profile's choice
 

@@ -193,12 +193,3 @@ command_of (call.Modules a) = command.Modules
 command_of (call.ExceptionInfo thread) = command.ExceptionInfo
 command_of (call.BreakpointLocations a) = command.BreakpointLocations
 command_of (call.Completions a) = command.Completions
-
-abbrev pub has_arguments : Call → Bool
-has_arguments call.ConfigurationDone = false
-has_arguments call.Disconnect = false
-has_arguments call.Threads = false
-has_arguments call.Terminate = false
-has_arguments call.LoadedSources = false
-has_arguments call.Restart = false
-has_arguments _ = true

@@ -1,8 +1,7 @@
 //! Requests with their arguments, typed by the keys of each command.
 //!
 //! Specification, "Requests". A key that this profile does not list is not kept, save those of `launch` and `attach`.
-use dap_json::{Text, Tree};
-use std::marker::Model;
+use dap_json::{List, Text, Tree};
 
 /// A request. In one that was read, or is plain, a number of a thread is -9007199254740991 to 9007199254740991, and any
 /// other number, unless it says otherwise, is 0 to 2147483647. Lines and columns are counted as the client counts them,
@@ -24,13 +23,13 @@ pub enum Call {
     },
     SetBreakpoints {
         source: SourceKey,
-        lines: Lines,
+        lines: List<u32>,
     },
     SetFunctionBreakpoints {
-        names: Texts,
+        names: List<Text>,
     },
     SetExceptionBreakpoints {
-        filters: Texts,
+        filters: List<Text>,
     },
     Continue {
         thread_id: i64,
@@ -145,86 +144,6 @@ pub struct Completions {
 pub enum SourceKey {
     Path(Text),
     Reference(u32),
-}
-
-/// Lines of a source. A contract sees the list.
-#[derive(Debug, Drop)]
-pub struct Lines {
-    lines: Vec<u32>,
-}
-
-impl Model for Lines {
-    ghost use Rattle.std.specs.Prelude.{List, ℕ};
-
-    ghost Value = { List ℕ };
-
-    ghost view = { λ l. l.lines.items };
-}
-
-impl Lines {
-    ghost use Rattle.std.specs.Prelude.{◌≡◌};
-
-    /// The lines of a `Vec`, without a copy.
-    pub fn new(lines: Vec<u32>) -> Lines
-        ensures { result ≡ lines.items }
-    {
-        Lines { lines }
-    }
-
-    /// The lines, lent.
-    pub fn as_slice(&self) -> &[u32]
-        ensures { result.now ≡ self.now }
-    {
-        self.lines.as_slice()
-    }
-
-    /// The `Vec` that it holds, without a copy.
-    pub fn into_vec(self) -> Vec<u32>
-        ensures { result.items ≡ self }
-    {
-        let Lines { lines } = self;
-        lines
-    }
-}
-
-/// Texts in order. A contract sees the list of their bytes.
-#[derive(Debug, Drop)]
-pub struct Texts {
-    texts: Vec<Text>,
-}
-
-impl Model for Texts {
-    ghost use Rattle.std.specs.Prelude.{List, ℕ};
-
-    ghost Value = { List (List ℕ) };
-
-    ghost view = { λ t. t.texts.items };
-}
-
-impl Texts {
-    ghost use Rattle.std.specs.Prelude.{◌≡◌};
-
-    /// The texts of a `Vec`, without a copy.
-    pub fn new(texts: Vec<Text>) -> Texts
-        ensures { result ≡ texts.items }
-    {
-        Texts { texts }
-    }
-
-    /// The texts, lent.
-    pub fn as_slice(&self) -> &[Text]
-        ensures { result.now ≡ self.now }
-    {
-        self.texts.as_slice()
-    }
-
-    /// The `Vec` that it holds, without a copy.
-    pub fn into_vec(self) -> Vec<Text>
-        ensures { result.items ≡ self }
-    {
-        let Texts { texts } = self;
-        texts
-    }
 }
 
 /// Why arguments were not read.

@@ -9,12 +9,12 @@ ghost use Rattle.dap_call.specs.declared.call.CallFault.TheVariants.{OutOfMemory
 use crate::argument;
 use crate::argument::Arguments;
 use crate::call::{
-    BreakpointLocations, Call, CallFault, Completions, Evaluate, Initialize, Lines, Modules,
-    SetVariable, SourceKey, StackTrace, Texts, Variables,
+    BreakpointLocations, Call, CallFault, Completions, Evaluate, Initialize, Modules,
+    SetVariable, SourceKey, StackTrace, Variables,
 };
 use crate::command::Command;
 use crate::key::Key;
-use dap_json::{Text, Tree, field};
+use dap_json::{List, Text, Tree, field};
 use serde_json::Value;
 use std::alloc::{AllocError, Global};
 
@@ -50,7 +50,7 @@ fn source_reference(source: &Value) -> Option<u32>
     Some(reference)
 }
 
-fn lines(alloc: Global, lines: &Value) -> Result<Option<Lines>, AllocError>
+fn lines(alloc: Global, lines: &Value) -> Result<Option<List<u32>>, AllocError>
     ensures { IfOk result (λ o. o ≡ lines_of (view lines.now)) }
 {
     let Some(items) = lines.as_array() else {
@@ -63,7 +63,7 @@ fn lines(alloc: Global, lines: &Value) -> Result<Option<Lines>, AllocError>
         };
         found.push(line)?;
     }
-    Ok(Some(Lines::new(found)))
+    Ok(Some(List::new(found)))
 }
 
 /// Whether a value is an array of lines, which are not kept.
@@ -87,7 +87,7 @@ fn line(breakpoint: &Value) -> Option<u32>
     breakpoint.get(Key::Line.name()).and_then(argument::number)
 }
 
-fn breakpoint_lines(alloc: Global, breakpoints: &Value) -> Result<Option<Lines>, AllocError>
+fn breakpoint_lines(alloc: Global, breakpoints: &Value) -> Result<Option<List<u32>>, AllocError>
     ensures { IfOk result (λ o. o ≡ breakpoint_lines_of (view breakpoints.now)) }
 {
     let Some(items) = breakpoints.as_array() else {
@@ -100,7 +100,7 @@ fn breakpoint_lines(alloc: Global, breakpoints: &Value) -> Result<Option<Lines>,
         };
         found.push(line)?;
     }
-    Ok(Some(Lines::new(found)))
+    Ok(Some(List::new(found)))
 }
 
 /// The name of a function breakpoint.
@@ -110,7 +110,7 @@ fn name(breakpoint: &Value) -> Option<&str>
     field::text(breakpoint, Key::Name.name())
 }
 
-fn names(alloc: Global, breakpoints: &Value) -> Result<Option<Texts>, AllocError>
+fn names(alloc: Global, breakpoints: &Value) -> Result<Option<List<Text>>, AllocError>
     ensures { IfOk result (λ o. o ≡ names_of (view breakpoints.now)) }
 {
     let Some(items) = breakpoints.as_array() else {
@@ -123,10 +123,10 @@ fn names(alloc: Global, breakpoints: &Value) -> Result<Option<Texts>, AllocError
         };
         found.push(Text::copied(alloc, name)?)?;
     }
-    Ok(Some(Texts::new(found)))
+    Ok(Some(List::new(found)))
 }
 
-fn filters(alloc: Global, filters: &Value) -> Result<Option<Texts>, AllocError>
+fn filters(alloc: Global, filters: &Value) -> Result<Option<List<Text>>, AllocError>
     ensures { IfOk result (λ o. o ≡ filters_of (view filters.now)) }
 {
     let Some(items) = filters.as_array() else {
@@ -139,7 +139,7 @@ fn filters(alloc: Global, filters: &Value) -> Result<Option<Texts>, AllocError>
         };
         found.push(Text::copied(alloc, filter)?)?;
     }
-    Ok(Some(Texts::new(found)))
+    Ok(Some(List::new(found)))
 }
 
 #[tactic(auto, unfolding(crate::specs::Call::initialize_of))]
@@ -186,7 +186,7 @@ fn set_breakpoints(alloc: Global, given: Option<&Value>) -> Result<Call, CallFau
         }
         None => arguments
             .optional_lines(alloc, Key::Lines)?
-            .unwrap_or(Lines::new(Vec::new(alloc))),
+            .unwrap_or(List::new(Vec::new(alloc))),
     };
     Ok(Call::SetBreakpoints { source, lines })
 }
@@ -229,21 +229,21 @@ impl Arguments<'_> {
         }
     }
 
-    fn required_names(&self, alloc: Global, key: Key) -> Result<Texts, CallFault>
+    fn required_names(&self, alloc: Global, key: Key) -> Result<List<Text>, CallFault>
         ensures { Gives result (required names_of key self.now) }
     {
         let value = self.value(key).ok_or(key)?;
         Ok(names(alloc, value)?.ok_or(key)?)
     }
 
-    fn required_filters(&self, alloc: Global, key: Key) -> Result<Texts, CallFault>
+    fn required_filters(&self, alloc: Global, key: Key) -> Result<List<Text>, CallFault>
         ensures { Gives result (required filters_of key self.now) }
     {
         let value = self.value(key).ok_or(key)?;
         Ok(filters(alloc, value)?.ok_or(key)?)
     }
 
-    fn optional_lines(&self, alloc: Global, key: Key) -> Result<Option<Lines>, CallFault>
+    fn optional_lines(&self, alloc: Global, key: Key) -> Result<Option<List<u32>>, CallFault>
         ensures { Gives result (optional lines_of key self.now) }
     {
         match self.value(key) {
@@ -262,7 +262,7 @@ impl Arguments<'_> {
         }
     }
 
-    fn optional_breakpoint_lines(&self, alloc: Global, key: Key) -> Result<Option<Lines>, CallFault>
+    fn optional_breakpoint_lines(&self, alloc: Global, key: Key) -> Result<Option<List<u32>>, CallFault>
         ensures { Gives result (optional breakpoint_lines_of key self.now) }
     {
         match self.value(key) {

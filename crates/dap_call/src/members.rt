@@ -1,5 +1,5 @@
 //! Members of the arguments that are being written, by their keys. A key with its default value is left out.
-ghost use Rattle.std.specs.Prelude.{◌≡◌, OnOk};
+ghost use Rattle.std.specs.Prelude.{◌≡◌, ◌≢◌, OnOk, OnErr};
 ghost use Rattle.serde_json.specs.Data.{string};
 ghost use Rattle.serde_json.specs.View.{view, members_view};
 ghost use Rattle.dap_call.specs.CallTree.{with, with_number, with_false, with_true, with_optional};
@@ -41,8 +41,9 @@ pub(crate) fn add_number(
     key: Key,
     number: u32,
 ) -> Result<(), AllocError>
-    ensures { OnOk result (members_view members.new.entries
+    ensures with { OnOk result (members_view members.new.entries
         ≡ with_number key number (members_view members.old.entries)) }
+    ensures memory { OnErr result (number ≢ 0) }
 {
     match number {
         0 => Ok(()),

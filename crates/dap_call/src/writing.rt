@@ -1,9 +1,9 @@
 //! From a call to its arguments: a function for each row of keys.
-ghost use Rattle.std.specs.Prelude.{◌≡◌, IsTrue, IfOk, OnErr, true, option_map};
+ghost use Rattle.std.specs.Prelude.{◌≡◌, IsTrue, IfOk, OnErr, is_some, option_map};
 ghost use Rattle.serde_json.specs.View.{view, members_view, items_view};
 ghost use Rattle.dap_json.specs.Writable.{is_plain_tree};
 ghost use Rattle.dap_call.specs.Call.{call_of};
-ghost use Rattle.dap_call.specs.CallTree.{if_any, source_tree, breakpoint_tree, breakpoint_items, function_tree, function_items, text_items, initialize_members, cancel_members, set_breakpoints_members, set_function_breakpoints_members, set_exception_breakpoints_members, thread_members, stack_trace_members, scopes_members, variables_members, evaluate_members, source_members, set_variable_members, modules_members, breakpoint_locations_members, completions_members, call_tree, command_of, has_arguments};
+ghost use Rattle.dap_call.specs.CallTree.{if_any, source_tree, breakpoint_tree, breakpoint_items, function_tree, function_items, text_items, initialize_members, cancel_members, set_breakpoints_members, set_function_breakpoints_members, set_exception_breakpoints_members, thread_members, stack_trace_members, scopes_members, variables_members, evaluate_members, source_members, set_variable_members, modules_members, breakpoint_locations_members, completions_members, call_tree, command_of};
 ghost use Rattle.dap_call.specs.PlainCall.{is_plain_call};
 
 use crate::call::{
@@ -118,7 +118,8 @@ fn initialize(alloc: Global, call: &Initialize) -> Result<Members, AllocError>
 }
 
 fn cancel(alloc: Global, request_id: Option<u64>) -> Result<Members, AllocError>
-    ensures { IfOk result (λ m. members_view m.entries ≡ cancel_members request_id) }
+    ensures members { IfOk result (λ m. members_view m.entries ≡ cancel_members request_id) }
+    ensures memory { OnErr result (IsTrue (is_some (if_any (cancel_members request_id)))) }
 {
     let mut members = Map::new(alloc);
     if let Some(request_id) = request_id {
@@ -233,9 +234,17 @@ fn set_variable(alloc: Global, call: &SetVariable) -> Result<Members, AllocError
     Ok(members)
 }
 
-#[tactic(auto, unfolding(crate::specs::CallTree::modules_members))]
+#[tactic(
+    auto,
+    unfolding(crate::specs::CallTree::modules_members),
+    using(
+        crate::proofs::Written::modules_start,
+        crate::proofs::Written::modules_count
+    )
+)]
 fn modules(alloc: Global, call: &Modules) -> Result<Members, AllocError>
-    ensures { IfOk result (λ m. members_view m.entries ≡ modules_members call.now) }
+    ensures members { IfOk result (λ m. members_view m.entries ≡ modules_members call.now) }
+    ensures memory { OnErr result (IsTrue (is_some (if_any (modules_members call.now)))) }
 {
     let mut members = Map::new(alloc);
     add_number(alloc, &mut members, Key::StartModule, call.start_module)?;
@@ -284,7 +293,8 @@ fn object(members: Members) -> Option<Value>
 }
 
 fn copy(tree: &Option<Tree>) -> Result<Option<Value>, AllocError>
-    ensures { IfOk result (λ o. option_map view o ≡ tree.now) }
+    ensures tree { IfOk result (λ o. option_map view o ≡ tree.now) }
+    ensures memory { OnErr result (IsTrue (is_some tree.now)) }
 {
     match tree {
         None => Ok(None),
@@ -292,8 +302,21 @@ fn copy(tree: &Option<Tree>) -> Result<Option<Value>, AllocError>
     }
 }
 
+#[tactic(
+    auto,
+    using(
+        crate::proofs::Written::initialize_any,
+        crate::proofs::Written::set_breakpoints_any,
+        crate::proofs::Written::stack_trace_any,
+        crate::proofs::Written::variables_any,
+        crate::proofs::Written::evaluate_any,
+        crate::proofs::Written::set_variable_any,
+        crate::proofs::Written::locations_any,
+        crate::proofs::Written::completions_any
+    )
+)]
 fn arguments(alloc: Global, call: &Call) -> Result<Option<Value>, AllocError>
-    ensures memory { OnErr result (has_arguments call.now ≡ true) }
+    ensures memory { OnErr result (IsTrue (is_some (call_tree call.now))) }
     ensures tree { IfOk result (λ o. option_map view o ≡ call_tree call.now) }
 {
     match call {
@@ -341,14 +364,14 @@ fn arguments(alloc: Global, call: &Call) -> Result<Option<Value>, AllocError>
 /// are left out; `None` where no key is written. `launch` and `attach` are written as a copy of their tree. What it asks
 /// is told by [`Call::plain`].
 ///
-/// It is an error where memory for the object is refused.
+/// It is an error where memory for the object is refused. Where no key is written, none is asked for.
 pub fn write_call(alloc: Global, call: &Call) -> Result<Option<Value>, AllocError>
     requires { IsTrue (is_plain_call call.now) }
     ensures tree { IfOk result (λ o. option_map view o ≡ call_tree call.now) }
     ensures reads_back { IfOk result
         (λ o. call_of (command_of call.now) (option_map view o) ≡ Ok call.now) }
     ensures plain { IfOk result (λ o. IsTrue (is_plain_tree (option_map view o))) }
-    ensures memory { OnErr result (has_arguments call.now ≡ true) }
+    ensures memory { OnErr result (IsTrue (is_some (call_tree call.now))) }
 {
     let arguments = arguments(alloc, call)?;
     Ok(arguments)

@@ -1,10 +1,10 @@
 //! For every command what its arguments are written as again, and which calls are not plain.
 
 use crate::{
-    BreakpointLocations, Call, CallFault, Command, Completions, Evaluate, Lines, Modules,
+    BreakpointLocations, Call, CallFault, Command, Completions, Evaluate, Modules,
     SetVariable, SourceKey, StackTrace, Variables, read_call, write_call,
 };
-use dap_json::{Text, Tree};
+use dap_json::{List, Text, Tree};
 use serde_json::Value;
 use std::alloc::Global;
 use std::test::Fail;
@@ -235,11 +235,11 @@ fn numbers_out_of_range(rt: HostRuntime) -> Result<(), Fail> {
         },
         Call::SetBreakpoints {
             source: SourceKey::Reference(0),
-            lines: Lines::new(Vec::new(alloc)),
+            lines: List::new(Vec::new(alloc)),
         },
         Call::SetBreakpoints {
             source: SourceKey::Reference(1),
-            lines: Lines::new(far),
+            lines: List::new(far),
         },
         Call::Next {
             thread_id: 9007199254740992,

@@ -1,6 +1,7 @@
 -- What is read of a recording holds of every recording.
 use Rattle.std.proofs.Common.{◌≡◌, ℕ, suc, ◌+◌, ◌<◌, ◌≤◌, ◌&&◌, ℤ, Bool, true, false, not, nat_le, nat_lt, nat_eq, if◌then◌else◌, List, [], ◌∷◌, ◌++◌, length, map, Option, Some, None, is_some, option_and_then, option_map, Ok, Err, length-append, append_assoc, append-nil, eq-eqb, refl, sym, ap, subst, ◌∙◌, arith, true≢false}
-use Rattle.std.proofs.lemmas.Bool.{leb-true, ltb-true, lt-ltb}
+use Rattle.dap_debuggee.proofs.Ranges.{some_same, objects_of}
+use Rattle.std.proofs.lemmas.Bool.{leb-true, ltb-true, lt-ltb, and_parts, and_from}
 use Rattle.std.proofs.lemmas.Grind.{flat_map-append}
 use Rattle.std.proofs.lemmas.List.{map-append}
 use Rattle.std.proofs.lemmas.List.Folds.{list_all-append}
@@ -26,9 +27,6 @@ use Rattle.dap_debuggee.proofs.HoldersRead.{holders_once}
 use Rattle.dap_debuggee.proofs.SpansRead.{spans_read}
 
 -- ---- what was read, step by step
-
-some_same : {A : Type 0} (x y : A) → Some x ≡ Some y → x ≡ y
-some_same x y e = cc
 
 bad_is : {A : Type 0} (k : RecordingKey) (o : Option A) (x : A) → or_bad k o ≡ Ok x → o ≡ Some x
 bad_is k None x e = absurd (cc e)
@@ -75,33 +73,25 @@ each_count one (item d ds) found s r e =
     let more = length-append found (b.0.0 ∷ []) in
     omega (arith, rest, more)
 
-both : (a b : Bool) → a ≡ true → b ≡ true → (a && b) ≡ true
-both true b e f = f
-both false b e f = absurd (true≢false (sym e))
-
-first_of_two : (a b : Bool) → (a && b) ≡ true → (a ≡ true) × (b ≡ true)
-first_of_two true b e = (refl, e)
-first_of_two false b e = absurd (true≢false (sym e))
-
 all_more : {A : Type 0} (test : A → Bool) (xs : List A) (x : A) → list_all test xs ≡ true → test x ≡ true → list_all test (xs ++ x ∷ []) ≡ true
-all_more test xs x e f = list_all-append test xs (x ∷ []) ∙ both (list_all test xs) (list_all test (x ∷ [])) e (both (test x) true f refl)
+all_more test xs x e f = list_all-append test xs (x ∷ []) ∙ and_from (list_all test xs) (list_all test (x ∷ [])) e (and_from (test x) true f refl)
 
 -- ---- rising numbers
 
 below_more : (xs : List ℕ) (n : ℕ) → list_all (λ x. nat_lt x n) xs ≡ true → list_all (λ x. nat_lt x (suc n)) xs ≡ true
 below_more [] n e = refl
 below_more (x ∷ xs) n e =
-    let p = first_of_two (nat_lt x n) (list_all (λ y. nat_lt y n) xs) e in
+    let p = and_parts (nat_lt x n) (list_all (λ y. nat_lt y n) xs) e in
     let lt : x < suc n = let h = ltb-true x n p.0 in omega (arith, h) in
-    both (nat_lt x (suc n)) (list_all (λ y. nat_lt y (suc n)) xs) (lt-ltb x (suc n) lt) (below_more xs n p.1)
+    and_from (nat_lt x (suc n)) (list_all (λ y. nat_lt y (suc n)) xs) (lt-ltb x (suc n) lt) (below_more xs n p.1)
 
 rising_more : (xs : List ℕ) (n : ℕ) → is_rising xs ≡ true → list_all (λ x. nat_lt x n) xs ≡ true → is_rising (xs ++ n ∷ []) ≡ true
 rising_more [] n e f = refl
-rising_more (x ∷ []) n e f = both (nat_lt x n) true (first_of_two (nat_lt x n) true f).0 refl
+rising_more (x ∷ []) n e f = and_from (nat_lt x n) true (and_parts (nat_lt x n) true f).0 refl
 rising_more (x ∷ y ∷ ys) n e f =
-    let p = first_of_two (nat_lt x y) (is_rising (y ∷ ys)) e in
-    let q = first_of_two (nat_lt x n) (list_all (λ z. nat_lt z n) (y ∷ ys)) f in
-    both (nat_lt x y) (is_rising ((y ∷ ys) ++ n ∷ [])) p.0 (rising_more (y ∷ ys) n p.1 q.1)
+    let p = and_parts (nat_lt x y) (is_rising (y ∷ ys)) e in
+    let q = and_parts (nat_lt x n) (list_all (λ z. nat_lt z n) (y ∷ ys)) f in
+    and_from (nat_lt x y) (is_rising ((y ∷ ys) ++ n ∷ [])) p.0 (rising_more (y ∷ ys) n p.1 q.1)
 
 -- numbers that rise, all below n
 record Rises (n : ℕ) (xs : List ℕ) : Type 0 where
@@ -140,7 +130,7 @@ line_fits lines d line e =
     let v = required_is (line_of lines) key.Line d line e in
     let p = passes_is (λ n. nat_le 1 n && nat_le n lines) (number_of v.0) line v.1 in
     let q = passes_is (λ n. nat_le n 2147483647) (option_and_then as_u64 (as_number v.0)) line p.0 in
-    ((first_of_two (nat_le 1 line) (nat_le line lines) p.1).0, q.1)
+    ((and_parts (nat_le 1 line) (nat_le line lines) p.1).0, q.1)
 
 source_fits : (sources : List RecordedSource) (d : Data) (source : ℕ) → required (source_place sources) key.Source d ≡ Ok source → nat_lt source (length sources) ≡ true
 source_fits sources d source e =
@@ -161,17 +151,14 @@ frame_holds sources before found s d next e p =
     let fits = line_fits (lines_at sources source) d line lined in
     subst (λ n. FramesHold (length sources) before (found ++ n.0 ∷ [], n.1)) (ok_same (frame, after) next e4)
     (frame_added (length sources) before found s after frame refl (omega (arith, more))
-    (both (nat_le 1 line) (nat_le line 2147483647 && nat_lt source (length sources)) fits.0 (both (nat_le line 2147483647) (nat_lt source (length sources)) fits.1 (source_fits sources d source placed))) p)))))
+    (and_from (nat_le 1 line) (nat_le line 2147483647 && nat_lt source (length sources)) fits.0 (and_from (nat_le line 2147483647) (nat_lt source (length sources)) fits.1 (source_fits sources d source placed))) p)))))
 
 -- ---- threads
-
-abbrev numbers_in : List RecordedThread → List ℕ
-numbers_in threads = flat_map (λ thread. map (λ frame. frame.object) thread.frames) threads
 
 record ThreadsHold (sources : ℕ) (r : List RecordedThread × Numbered) : Type 0 where
   pub threads : list_all (is_thread sources) r.0 ≡ true
   pub distinct : are_distinct r.0 ≡ true
-  pub numbers : Rises (length r.1.scopes) (numbers_in r.0)
+  pub numbers : Rises (length r.1.scopes) (objects_of r.0)
 
 -- where no thread has the id, each id differs from it
 none_by : (b : Bool) (rest : Option ℕ) → is_some (if b then Some 0 else option_map (λ n. suc n) rest) ≡ false → (b ≡ false) × (is_some rest ≡ false)
@@ -186,9 +173,9 @@ not_true false e = refl
 distinct_more : (found : List RecordedThread) (thread : RecordedThread) → are_distinct found ≡ true → is_some (place_of thread.id found) ≡ false → are_distinct (found ++ thread ∷ []) ≡ true
 distinct_more [] thread e none = refl
 distinct_more (first ∷ found) thread e none =
-    let p = first_of_two (list_all (λ other. not (int_eq first.id other.id)) found) (are_distinct found) e in
+    let p = and_parts (list_all (λ other. not (int_eq first.id other.id)) found) (are_distinct found) e in
     let q = none_by (int_eq first.id thread.id) (place_of thread.id found) none in
-    both (list_all (λ other. not (int_eq first.id other.id)) (found ++ thread ∷ [])) (are_distinct (found ++ thread ∷ []))
+    and_from (list_all (λ other. not (int_eq first.id other.id)) (found ++ thread ∷ [])) (are_distinct (found ++ thread ∷ []))
     (all_more (λ other. not (int_eq first.id other.id)) found thread p.0 (ap not q.0)) (distinct_more found thread p.1 q.1)
 
 new_id_is : (found : List RecordedThread) (d : Data) (id : ℤ) → required (new_id found) key.Id d ≡ Ok id → (is_int id ≡ true) × (is_some (place_of id found) ≡ false)
@@ -198,14 +185,14 @@ new_id_is found d id e =
     let q = passes_is is_int (option_and_then as_i64 (as_number v.0)) id p.0 in
     (q.1, not_true (is_some (place_of id found)) p.1)
 
-thread_added : (sources : ℕ) (found : List RecordedThread) (s : Numbered) (id : ℤ) (name : List ℕ) (r : List Frame × Numbered) → is_int id ≡ true → is_some (place_of id found) ≡ false → 0 < length r.0 → FramesHold sources (numbers_in found) r
+thread_added : (sources : ℕ) (found : List RecordedThread) (s : Numbered) (id : ℤ) (name : List ℕ) (r : List Frame × Numbered) → is_int id ≡ true → is_some (place_of id found) ≡ false → 0 < length r.0 → FramesHold sources (objects_of found) r
     → ThreadsHold sources (found, s) → ThreadsHold sources (found ++ record { id = id; name = name; frames = r.0 } ∷ [], r.1)
 thread_added sources found s id name r int new some frames p =
     let thread : RecordedThread = record { id = id; name = name; frames = r.0 } in
-    let list : numbers_in found ++ numbers_of r.0 ≡ numbers_in (found ++ thread ∷ []) =
-    sym (flat_map-append (λ (t : RecordedThread). map (λ (f : Frame). f.object) t.frames) found (thread ∷ []) ∙ ap (λ ns. numbers_in found ++ ns) (append-nil (numbers_of r.0))) in
+    let list : objects_of found ++ numbers_of r.0 ≡ objects_of (found ++ thread ∷ []) =
+    sym (flat_map-append (λ (t : RecordedThread). map (λ (f : Frame). f.object) t.frames) found (thread ∷ []) ∙ ap (λ ns. objects_of found ++ ns) (append-nil (numbers_of r.0))) in
     record {
-      threads = all_more (is_thread sources) found thread p.threads (both (is_int id) (nat_lt 0 (length r.0) && list_all (is_frame sources) r.0) int (both (nat_lt 0 (length r.0)) (list_all (is_frame sources) r.0) (lt-ltb 0 (length r.0) some) frames.frames));
+      threads = all_more (is_thread sources) found thread p.threads (and_from (is_int id) (nat_lt 0 (length r.0) && list_all (is_frame sources) r.0) int (and_from (nat_lt 0 (length r.0)) (list_all (is_frame sources) r.0) (lt-ltb 0 (length r.0) some) frames.frames));
       distinct = distinct_more found thread p.distinct new;
       numbers = subst (Rises (length r.1.scopes)) list frames.numbers;
     }
@@ -221,8 +208,8 @@ thread_holds sources found s d next e p =
     let is_new = new_id_is found d id new in
     let count = each_count (λ earlier. frame_of sources) given [] s frames read in
     let least = some_count key.Frames d given some in
-    let first : FramesHold (length sources) (numbers_in found) ([], s) = record { frames = refl; numbers = subst (Rises (length s.scopes)) (sym (append-nil (numbers_in found))) p.numbers } in
-    let held = each_holds (λ earlier. frame_of sources) (FramesHold (length sources) (numbers_in found)) (frame_holds sources (numbers_in found)) given [] s frames read first in
+    let first : FramesHold (length sources) (objects_of found) ([], s) = record { frames = refl; numbers = subst (Rises (length s.scopes)) (sym (append-nil (objects_of found))) p.numbers } in
+    let held = each_holds (λ earlier. frame_of sources) (FramesHold (length sources) (objects_of found)) (frame_holds sources (objects_of found)) given [] s frames read first in
     subst (λ n. ThreadsHold (length sources) (found ++ n.0 ∷ [], n.1)) (ok_same (record { id = id; name = name; frames = frames.0 }, frames.1) next e4)
     (thread_added (length sources) found s id name frames is_new.0 is_new.1 (omega (arith, count, least)) held p)))))
 
@@ -257,9 +244,9 @@ moment_holds sources d s next e =
     let first : ThreadsHold (length sources) ([], s) = record { threads = refl; distinct = refl; numbers = record { rises = refl; below = refl } } in
     let all = each_holds (thread_of sources) (ThreadsHold (length sources)) (thread_holds sources) given [] s threads read first in
     subst (λ n. is_moment (length sources) n.0 ≡ true) (ok_same (record { threads = threads.0; thread = thread; output = output; waits = waits; frames = record { from = length s.scopes; to = length threads.1.scopes }; holders = record { from = length s.variables; to = length threads.1.variables } }, threads.1) next e5)
-    (both (nat_lt thread (length threads.0)) (list_all (is_thread (length sources)) threads.0 && (are_distinct threads.0 && is_rising (numbers_in threads.0)))
+    (and_from (nat_lt thread (length threads.0)) (list_all (is_thread (length sources)) threads.0 && (are_distinct threads.0 && is_rising (objects_of threads.0)))
     (lt-ltb thread (length threads.0) (thread_within threads.0 d thread placed))
-    (both (list_all (is_thread (length sources)) threads.0) (are_distinct threads.0 && is_rising (numbers_in threads.0)) all.threads (both (are_distinct threads.0) (is_rising (numbers_in threads.0)) all.distinct all.numbers.rises))))))))
+    (and_from (list_all (is_thread (length sources)) threads.0) (are_distinct threads.0 && is_rising (objects_of threads.0)) all.threads (and_from (are_distinct threads.0) (is_rising (objects_of threads.0)) all.distinct all.numbers.rises))))))))
 
 -- ---- the whole
 

@@ -1,5 +1,6 @@
 -- What is still to be written, as the code walks over the moments.
 use Rattle.std.proofs.Common.{Bool, true, false, if◌then◌else◌, ◌≡◌, ℕ, zero, suc, ◌+◌, ◌-◌, ◌≤◌, ◌<◌, List, [], ◌∷◌, map, take, drop, length, Some, None, option_map, unwrap_or, refl, sym, ap, subst, inl, inr, length-drop, ◌∙◌, arith}
+use Rattle.dap_debuggee.proofs.Ranges.{some_same}
 use Rattle.std.specs.List.{slice_get}
 use Rattle.std.specs.Str.{IsCharBoundary}
 use Rattle.std.proofs.lemmas.List.{drop-drop, get_or-drop}
@@ -19,9 +20,6 @@ use Rattle.dap_debuggee.specs.declared.recorded.Going.{Going}
 pub without_none : (texts : List (List ℕ)) → without 0 texts ≡ texts
 without_none [] = refl
 without_none (text ∷ texts) = refl
-
-some_same : {A : Type 0} (x y : A) → Some x ≡ Some y → x ≡ y
-some_same x y e = ap (λ o. unwrap_or o x) e
 
 take_none : (n : ℕ) → take {A = Moment} n [] ≡ []
 take_none zero = refl

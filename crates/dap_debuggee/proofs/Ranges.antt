@@ -1,5 +1,6 @@
 -- What the numbers of a recording are within.
 use Rattle.std.proofs.Common.{◌≡◌, ◌≤◌, ◌<◌, ◌+◌, ◌++◌, arith, if◌then◌else◌, map, ℕ, zero, suc, ◌&&◌, ℤ, pos, Bool, true, false, nat_le, nat_lt, List, [], ◌∷◌, length, Option, Some, None, option_map, unwrap_or, refl, sym, ap, ◌∙◌, subst, true≢false}
+use Rattle.std.proofs.lemmas.Bool.{and_parts, and_from}
 use Rattle.std.proofs.lemmas.Bool.Decides.{nat_tests, Decides-int_eq}
 use Rattle.std.specs.List.{list_all, slice_get, find, flat_map}
 use Rattle.std.specs.Ordering.{int_eq}
@@ -15,25 +16,20 @@ use Rattle.dap_debuggee.specs.declared.recording.Recording.{Recording}
 use Rattle.dap_debuggee.specs.declared.moves.Reason.{Reason}
 use Rattle.dap_debuggee.specs.declared.moves.Reason.TheVariants.{Entry, Step, Breakpoint, Pause}
 
-pub both : (a b : Bool) → (a && b) ≡ true → (a ≡ true) × (b ≡ true)
-both true true e = (refl, refl)
-both true false e = absurd (true≢false (sym e))
-both false b e = absurd (true≢false (sym e))
-
 pub some_same : {A : Type 0} (x y : A) → Some x ≡ Some y → x ≡ y
 some_same x y e = ap (λ o. unwrap_or o x) e
 
 pub all_at : {A : Type 0} (p : A → Bool) (xs : List A) (i : ℕ) (x : A) → list_all p xs ≡ true → slice_get xs i ≡ Some x → p x ≡ true
 all_at p [] i x all is = absurd (cc is)
-all_at p (y ∷ ys) zero x all is = subst (λ z. p z ≡ true) (some_same y x is) (both (p y) (list_all p ys) all).0
-all_at p (y ∷ ys) (suc i) x all is = all_at p ys i x (both (p y) (list_all p ys) all).1 is
+all_at p (y ∷ ys) zero x all is = subst (λ z. p z ≡ true) (some_same y x is) (and_parts (p y) (list_all p ys) all).0
+all_at p (y ∷ ys) (suc i) x all is = all_at p ys i x (and_parts (p y) (list_all p ys) all).1 is
 
 id_by : (n : ℕ) (m : Moment) (o : Option RecordedThread) → list_all (is_thread n) m.threads ≡ true → thread_at m ≡ o → is_int (unwrap_or (option_map (λ thread. thread.id) o) (pos 0)) ≡ true
 id_by n m None all is = refl
-id_by n m (Some thread) all is = (both (is_int thread.id) _ (all_at (is_thread n) m.threads m.thread thread all is)).0
+id_by n m (Some thread) all is = (and_parts (is_int thread.id) _ (all_at (is_thread n) m.threads m.thread thread all is)).0
 
 pub id_in_range : (n : ℕ) (m : Moment) → is_moment n m ≡ true → is_int (id_at m) ≡ true
-id_in_range n m e = id_by n m (thread_at m) (both (list_all (is_thread n) m.threads) _ (both (nat_lt m.thread (length m.threads)) _ e).1).0 refl
+id_in_range n m e = id_by n m (thread_at m) (and_parts (list_all (is_thread n) m.threads) _ (and_parts (nat_lt m.thread (length m.threads)) _ e).1).0 refl
 
 pub reason_short : (r : Reason) → nat_le (length (reason_text r)) 64 ≡ true
 reason_short Entry = refl
@@ -56,7 +52,7 @@ sources_in_range v good = subst (λ n. n ≤ 65536) (sym (length_map source_show
 
 threads_by : (n : ℕ) (o : Option Moment) → ((m : Moment) → o ≡ Some m → is_moment n m ≡ true) → list_all (is_thread n) (unwrap_or (option_map (λ m. m.threads) o) []) ≡ true
 threads_by n None good = refl
-threads_by n (Some m) good = (both (list_all (is_thread n) m.threads) _ (both (nat_lt m.thread (length m.threads)) _ (good m refl)).1).0
+threads_by n (Some m) good = (and_parts (list_all (is_thread n) m.threads) _ (and_parts (nat_lt m.thread (length m.threads)) _ (good m refl)).1).0
 
 there_by : (b : Bool) (o : Option Moment) (m : Moment) → (if b then o else None) ≡ Some m → o ≡ Some m
 there_by true o m is = is
@@ -69,14 +65,11 @@ shown_good v good m is = all_at (is_moment (length v.recording.sources)) v.recor
 threads_good : (v : Played) → IsRecording v.recording → list_all (is_thread (length v.recording.sources)) (threads_at v) ≡ true
 threads_good v good = threads_by (length v.recording.sources) (moment_shown v) (shown_good v good)
 
-pub and_true : (a b : Bool) → a ≡ true → b ≡ true → (a && b) ≡ true
-and_true a b e f = rw (e, f)
-
 ids_by : (n : ℕ) (threads : List RecordedThread) → list_all (is_thread n) threads ≡ true → list_all (λ thread. is_int thread.id) (map thread_shown threads) ≡ true
 ids_by n [] good = refl
 ids_by n (x ∷ xs) good =
-    let p = both (is_thread n x) (list_all (is_thread n) xs) good in
-    and_true _ _ (both (is_int x.id) _ p.0).0 (ids_by n xs p.1)
+    let p = and_parts (is_thread n x) (list_all (is_thread n) xs) good in
+    and_from _ _ (and_parts (is_int x.id) _ p.0).0 (ids_by n xs p.1)
 
 pub threads_in_range : (v : Played) → IsRecording v.recording → ThreadsInRange (shown_of v)
 threads_in_range v good = ids_by (length v.recording.sources) (threads_at v) (threads_good v good)
@@ -88,13 +81,13 @@ find_by false x y rest P here later is = later is
 find_good : {A : Type 0} (test p : A → Bool) (xs : List A) (y : A) → list_all p xs ≡ true → find test xs ≡ Some y → p y ≡ true
 find_good test p [] y all is = absurd (cc is)
 find_good test p (x ∷ xs) y all is =
-    find_by (test x) x y (find test xs) (λ z. p z ≡ true) (both (p x) (list_all p xs) all).0 (λ later. find_good test p xs y (both (p x) (list_all p xs) all).1 later) is
+    find_by (test x) x y (find test xs) (λ z. p z ≡ true) (and_parts (p x) (list_all p xs) all).0 (λ later. find_good test p xs y (and_parts (p x) (list_all p xs) all).1 later) is
 
 frames_by : (n : ℕ) (o : Option RecordedThread) (frames : List Frame) → ((thread : RecordedThread) → o ≡ Some thread → is_thread n thread ≡ true) → option_map (λ thread. thread.frames) o ≡ Some frames → list_all (is_frame n) frames ≡ true
 frames_by n None frames good is = absurd (cc is)
 frames_by n (Some thread) frames good is =
     subst (λ fs. list_all (is_frame n) fs ≡ true) (some_same thread.frames frames is)
-    (both (nat_lt 0 (length thread.frames)) _ (both (is_int thread.id) _ (good thread refl)).1).1
+    (and_parts (nat_lt 0 (length thread.frames)) _ (and_parts (is_int thread.id) _ (good thread refl)).1).1
 
 pub frames_in_range : (v : Played) → IsRecording v.recording → FramesInRange (shown_of v)
 frames_in_range v good id frames is =
@@ -104,20 +97,20 @@ frames_in_range v good id frames is =
 
 -- ---- one name
 
-abbrev objects_of : List RecordedThread → List ℕ
+abbrev pub objects_of : List RecordedThread → List ℕ
 objects_of threads = flat_map (λ thread. map (λ frame. frame.object) thread.frames) threads
 
 -- a rising list is rising without its first number
 rising_rest : (n : ℕ) (ns : List ℕ) → is_rising (n ∷ ns) ≡ true → is_rising ns ≡ true
 rising_rest n [] e = refl
-rising_rest n (m ∷ ms) e = (both (nat_lt n m) (is_rising (m ∷ ms)) e).1
+rising_rest n (m ∷ ms) e = (and_parts (nat_lt n m) (is_rising (m ∷ ms)) e).1
 
 -- its first number is less than each later one
 first_less : (n : ℕ) (ns : List ℕ) (j b : ℕ) → is_rising (n ∷ ns) ≡ true → slice_get ns j ≡ Some b → n < b
 first_less n [] j b e is = absurd (cc is)
-first_less n (m ∷ ms) zero b e is = let less = both (nat_lt n m) (is_rising (m ∷ ms)) e in let same : m ≡ b = some_same m b is in grind (arith, nat_tests, less.0, same)
+first_less n (m ∷ ms) zero b e is = let less = and_parts (nat_lt n m) (is_rising (m ∷ ms)) e in let same : m ≡ b = some_same m b is in grind (arith, nat_tests, less.0, same)
 first_less n (m ∷ ms) (suc j) b e is =
-    let p = both (nat_lt n m) (is_rising (m ∷ ms)) e in
+    let p = and_parts (nat_lt n m) (is_rising (m ∷ ms)) e in
     let up : m < b = first_less m ms j b p.1 is in
     grind (arith, nat_tests, p.0, up)
 
@@ -205,9 +198,9 @@ one_name (x ∷ xs) s t a b i j f g rising found_a found_b at_f at_g same =
 rising_by : (n : ℕ) (o : Option Moment) → ((m : Moment) → o ≡ Some m → is_moment n m ≡ true) → is_rising (objects_of (unwrap_or (option_map (λ m. m.threads) o) [])) ≡ true
 rising_by n None good = refl
 rising_by n (Some m) good =
-    let p = both (nat_lt m.thread (length m.threads)) _ (good m refl) in
-    let q = both (list_all (is_thread n) m.threads) _ p.1 in
-    (both (are_distinct m.threads) (is_rising (objects m)) q.1).1
+    let p = and_parts (nat_lt m.thread (length m.threads)) _ (good m refl) in
+    let q = and_parts (list_all (is_thread n) m.threads) _ p.1 in
+    (and_parts (are_distinct m.threads) (is_rising (objects m)) q.1).1
 
 rising_at : (v : Played) → IsRecording v.recording → is_rising (objects_of (threads_at v)) ≡ true
 rising_at v good = rising_by (length v.recording.sources) (moment_shown v) (shown_good v good)

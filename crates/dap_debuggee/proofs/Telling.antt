@@ -1,5 +1,6 @@
 -- Polls of a run, one after the other.
 use Rattle.std.proofs.Common.{◌≡◌, ℕ, zero, suc, ◌+◌, ◌≤◌, ◌<◌, ◌&&◌, not, Bool, true, false, nat_le, nat_lt, if◌then◌else◌, List, [], ◌∷◌, ◌++◌, length, map, take, drop, Option, Some, None, length-append, append_assoc, refl, sym, ap, ◌∙◌, arith, true≢false}
+use Rattle.std.proofs.lemmas.Bool.{and_from}
 use Rattle.std.proofs.lemmas.Bool.Decides.{nat_tests}
 use Rattle.std.proofs.lemmas.List.{take-append-drop, length-take}
 use Rattle.std.specs.List.{list_all}
@@ -80,16 +81,12 @@ whole (suc n) texts most = whole_by n texts (first_piece texts) (cut texts) most
 abbrev is_piece : List ℕ → Bool
 is_piece piece = nat_le 1 (length piece) && nat_le (length piece) 128
 
-both : (a b : Bool) → a ≡ true → b ≡ true → (a && b) ≡ true
-both true b e f = f
-both false b e f = absurd (true≢false (sym e))
-
 short_by : (n : ℕ) (texts : List (List ℕ)) (o : Option (List ℕ × List (List ℕ))) → Cut texts o → ((rest : List (List ℕ)) → list_all is_piece (first_pieces n rest) ≡ true) → list_all is_piece (and_then (first_pieces n) o) ≡ true
 short_by n texts None is rest = refl
 short_by n texts (Some (piece, left)) is rest =
     let some = is.some in
     let short = is.short in
-    both (is_piece piece) (list_all is_piece (first_pieces n left)) (both (nat_le 1 (length piece)) (nat_le (length piece) 128) (grind (arith, nat_tests, some)) (grind (arith, nat_tests, short))) (rest left)
+    and_from (is_piece piece) (list_all is_piece (first_pieces n left)) (and_from (nat_le 1 (length piece)) (nat_le (length piece) 128) (grind (arith, nat_tests, some)) (grind (arith, nat_tests, short))) (rest left)
 
 all_short : (n : ℕ) (texts : List (List ℕ)) → list_all is_piece (first_pieces n texts) ≡ true
 all_short zero texts = refl
@@ -183,7 +180,7 @@ hold true v run other is = refl
 hold false v run other is = absurd (true≢false (sym is))
 
 held_arrives : (v : Played) (run : Run) → run.move.held ≡ true → run.paused ≡ false → arrived run v ≡ (Nothing, with_run (record { output = []; move = run.move; paused = run.paused }) v)
-held_arrives v run held on = hold (run.move.held && not run.paused) v run _ (both run.move.held (not run.paused) held (ap not on))
+held_arrives v run held on = hold (run.move.held && not run.paused) v run _ (and_from run.move.held (not run.paused) held (ap not on))
 
 held_polls : (n : ℕ) (v : Played) (run : Run) → v.state ≡ Running → v.run ≡ Some run → run.move.held ≡ true → run.paused ≡ false → first_piece run.output ≡ None → polls n v ≡ nothings n
 held_polls zero v run runs is held on none = refl

@@ -1,6 +1,6 @@
 -- What a recorded debuggee tells can be asked: the numbers that a moment tells are its own.
 use Rattle.std.proofs.Common.{◌≡◌, ◌<◌, if◌then◌else◌, ℕ, zero, suc, ℤ, Bool, true, false, nat_le, nat_lt, List, [], ◌∷◌, length, Option, Some, None, map, option_map, option_and_then, unwrap_or, refl, sym, ap, subst, ◌∙◌, arith, true≢false}
-use Rattle.std.proofs.lemmas.Bool.{leb-true, ltb-true, le-leb, lt-ltb}
+use Rattle.std.proofs.lemmas.Bool.{leb-true, ltb-true, le-leb, lt-ltb, and_parts, and_from}
 use Rattle.std.proofs.lemmas.Bool.Decides.{Decides-int_eq}
 use Rattle.std.proofs.lemmas.List.Folds.{find_at}
 use Rattle.std.specs.List.{slice_get, find, position_or_len}
@@ -19,7 +19,7 @@ use Rattle.dap_debuggee.specs.declared.answers.Variable.{Variable}
 use Rattle.dap_debuggee.specs.declared.answers.Evaluation.{Evaluation}
 use Rattle.dap_debuggee.specs.declared.recording.Moment.{Moment}
 use Rattle.dap_debuggee.specs.declared.recording.Span.{Span}
-use Rattle.dap_debuggee.proofs.Ranges.{both, some_same, and_true}
+use Rattle.dap_debuggee.proofs.Ranges.{some_same}
 
 -- ---- what was found
 
@@ -47,11 +47,11 @@ stands (x ∷ xs) (suc n) below = stands xs n (omega (arith, below))
 
 is_in_within : (span : Span) (n : ℕ) → is_in span n ≡ true → IsWithin span n
 is_in_within span n e =
-    let p = both (nat_le span.from n) (nat_lt n span.to) e in
+    let p = and_parts (nat_le span.from n) (nat_lt n span.to) e in
     record { from = leb-true span.from n p.0; to = ltb-true n span.to p.1 }
 
 within_is_in : (span : Span) (n : ℕ) → IsWithin span n → is_in span n ≡ true
-within_is_in span n p = and_true (nat_le span.from n) (nat_lt n span.to) (le-leb span.from n p.from) (lt-ltb n span.to p.to)
+within_is_in span n p = and_from (nat_le span.from n) (nat_lt n span.to) (le-leb span.from n p.from) (lt-ltb n span.to p.to)
 
 some_by : {A : Type 0} (b : Bool) (o : Option A) → b ≡ true → IsSome o → IsSome (if b then o else None)
 some_by true o e p = p

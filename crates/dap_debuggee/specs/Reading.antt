@@ -11,7 +11,7 @@ use Rattle.serde_json.specs.Events.{items_len}
 use Rattle.serde_json.specs.Find.{get, as_number, as_i64, as_str, as_bool, as_array}
 use Rattle.serde_json.specs.View.{items_view}
 use Rattle.serde_json.specs.declared.value.Value.{Value}
-use Rattle.dap_json.specs.Steps.{◌>>=◌, ◌>>◌}
+use Rattle.dap_json.specs.Steps.{◌>>=◌, ◌>>◌, Returns}
 use Rattle.dap_json.specs.Field.{if_passes, is_object}
 use Rattle.dap_call.specs.Argument.{int_of, number_of}
 use Rattle.dap_debuggee.specs.Laws.{is_code}
@@ -34,43 +34,35 @@ use Rattle.dap_debuggee.specs.declared.recording.Recording.{Recording}
 abbrev pub Read : Type 0 → Type 0
 Read A = Result A RecordingKey
 
+-- what a fault says of what the rows read: the first bad key, or nothing where memory ran out
+abbrev pub Says : {A : Type 0} → RecordingFault → Read A → Type 0
+Says (BadKey key) read = read ≡ Err key
+Says OutOfMemory read = Unit {0}
+Says NotJson read = ⊥
+Says NotObject read = ⊥
+
+-- the same where no memory is taken
+abbrev pub SaysKey : {A : Type 0} → RecordingFault → Read A → Type 0
+SaysKey (BadKey key) read = read ≡ Err key
+SaysKey fault read = ⊥
+
 -- What a function returned is what the rows read, unless memory ran out.
 abbrev pub Gives : {A : Type 0} → Result A RecordingFault → Read A → Type 0
-Gives (Ok x) read = read ≡ Ok x
-Gives (Err (BadKey key)) read = read ≡ Err key
-Gives (Err OutOfMemory) read = Unit {0}
-Gives (Err NotJson) read = ⊥
-Gives (Err NotObject) read = ⊥
+Gives result read = Returns (λ x. x) Says result read
 
 -- the same of elements that are lent
 abbrev pub GivesItems : Result (Bor (List Value)) RecordingFault → Read Items → Type 0
-GivesItems (Ok items) read = read ≡ Ok (items_view items.now)
-GivesItems (Err (BadKey key)) read = read ≡ Err key
-GivesItems (Err OutOfMemory) read = ⊥
-GivesItems (Err NotJson) read = ⊥
-GivesItems (Err NotObject) read = ⊥
+GivesItems result read = Returns (λ items. items_view items.now) SaysKey result read
 
 -- the same of what was added to on the way
 abbrev pub GivesWith : {A S : Type 0} → Result A RecordingFault → S → Read (A × S) → Type 0
-GivesWith (Ok x) s read = read ≡ Ok (x, s)
-GivesWith (Err (BadKey key)) s read = read ≡ Err key
-GivesWith (Err OutOfMemory) s read = Unit {0}
-GivesWith (Err NotJson) s read = ⊥
-GivesWith (Err NotObject) s read = ⊥
+GivesWith result s read = Returns (λ x. (x, s)) Says result read
 
 abbrev pub GivesListWith : {A S : Type 0} → Result (Vec A Global) RecordingFault → S → Read (List A × S) → Type 0
-GivesListWith (Ok v) s read = read ≡ Ok (v.items, s)
-GivesListWith (Err (BadKey key)) s read = read ≡ Err key
-GivesListWith (Err OutOfMemory) s read = Unit {0}
-GivesListWith (Err NotJson) s read = ⊥
-GivesListWith (Err NotObject) s read = ⊥
+GivesListWith result s read = Returns (λ v. (v.items, s)) Says result read
 
 abbrev pub GivesList : {A : Type 0} → Result (Vec A Global) RecordingFault → Read (List A) → Type 0
-GivesList (Ok v) read = read ≡ Ok v.items
-GivesList (Err (BadKey key)) read = read ≡ Err key
-GivesList (Err OutOfMemory) read = Unit {0}
-GivesList (Err NotJson) read = ⊥
-GivesList (Err NotObject) read = ⊥
+GivesList result read = Returns (λ v. v.items) Says result read
 
 -- ---- keys
 

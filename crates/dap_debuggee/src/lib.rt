@@ -10,7 +10,6 @@ mod answers;
 mod debuggee;
 mod laws;
 mod lines;
-mod list;
 mod moves;
 mod paths;
 mod polls;
@@ -30,7 +29,7 @@ pub use answers::{
 };
 pub use debuggee::Debuggee;
 pub use laws::{held_gives_nothing, pieces_are_the_output, polls_tell_the_pieces};
-pub use list::List;
+pub use dap_json::List;
 pub use reading::{RecordingFault, RecordingKey};
 pub use recorded::Recorded;
 pub use stubborn::Stubborn;

@@ -1,9 +1,8 @@
 //! The lines that are set for sources.
 ghost use Rattle.std.specs.Prelude.{◌≡◌, IfOk};
 
-use crate::list::List;
 use dap_call::SourceKey;
-use dap_json::Text;
+use dap_json::{List, Text};
 use std::alloc::{AllocError, Global};
 use std::collections::BTreeMap;
 use std::marker::Model;

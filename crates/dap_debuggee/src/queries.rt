@@ -4,11 +4,10 @@ ghost use Rattle.dap_debuggee.specs.Held.{held_by, thread_with};
 ghost use Rattle.dap_debuggee.specs.Played.{is_in as is_in_span, variable_named, value_in as value_within, source_shown, thread_shown};
 
 use crate::answers::{DebuggeeFault, Evaluation, Frame, Scope, Source, State, Thread, Variable};
-use crate::list::List;
 use crate::recorded::Recorded;
 use crate::recording::{Moment, RecordedSource, RecordedThread, Span};
 use dap_call::SourceKey;
-use dap_json::Text;
+use dap_json::{List, Text};
 use std::alloc::{AllocError, Global};
 
 impl From<AllocError> for DebuggeeFault {

@@ -3,8 +3,7 @@
 //! Frames and holders have numbers of their own, by which their scopes and their variables are found at once: those of
 //! frame n stand at place n of `scopes`, those of holder n at place n of `variables`.
 use crate::answers::{Frame, Scope, Variable};
-use crate::list::List;
-use dap_json::Text;
+use dap_json::{List, Text};
 
 #[derive(Debug, Drop)]
 pub(crate) struct RecordedSource {

@@ -6,11 +6,11 @@ ghost use Rattle.dap_debuggee.specs.declared.reading.RecordingKey.TheVariants as
 ghost use Rattle.dap_debuggee.specs.Reading.{Numbered, GivesListWith, GivesList, Gives, GivesWith, value_at, required, listed, variable_row, variables_of, holder_of, with_holder, each, each_source, scope_of, scopes_of, frame_of, thread_of, moment_of, moments_of, source_of, recording_of, source_place as source_place_of, line_of, lines_at, place_of, new_id as new_id_of, thread_place as thread_place_of};
 
 use crate::answers::{Frame, Scope, Variable};
-use crate::list::List;
 use crate::read_threads::ReadThreads;
 use crate::reading;
 use crate::reading::{RecordingFault, RecordingKey, bad};
 use crate::recording::{Moment, RecordedSource, RecordedThread, Recording, Span};
+use dap_json::List;
 use serde_json::Value;
 use std::alloc::{AllocError, Global};
 use std::marker::Model;

@@ -1,6 +1,6 @@
 -- What an adapter writes of a fixed shape has 1024 bytes at most.
 use Rattle.std.proofs.Common.{◌≡◌, ℕ, suc, ◌+◌, ◌≤◌, ℤ, pos, negsuc, List, length, Bool, true, false, nat_le, IsTrue, Option, Some, None, decimal, arith}
-use Rattle.std.proofs.lemmas.Bool.{leb-true}
+use Rattle.std.proofs.lemmas.Bool.{leb-true, and_parts}
 use Rattle.std.proofs.lemmas.Fmt.{length-decimal-le}
 use Rattle.std.specs.Fmt.{digits}
 use Rattle.json.specs.Token as token
@@ -24,7 +24,6 @@ use Rattle.dap_message.specs.Canon.{canon, tree_of, members_of, response_members
 use Rattle.dap_message.specs.Lengths.{failed, succeeded, happened, FixedBody, none, offers, all_go_on, body_of, AdapterEvent, initialized, output, stopped, continued, exited, terminated, event_name, event_body, is_exit_code, IsWithin, FailuresAreShort, FixedResponsesAreShort, EventsAreShort}
 use Rattle.dap_message.specs.Refusals.{max_command}
 use Rattle.dap_message.specs.declared.message.Message.{Message}
-use Rattle.dap_message.proofs.RoundTrip.{both}
 use Rattle.dap_message.proofs.Sizes.{quoted_le, size, members_size, length-compact_text, put_size}
 
 length-canon : (m : Message) → length (canon m) ≡ size (object (members_of m.seq m.kind))
@@ -40,13 +39,13 @@ seq_size n h = length-decimal-le 16 n (omega arith) (omega arith) (omega arith)
 int_size : (z : ℤ) → IsTrue (is_int z) → length (number_text (of_integer z)) ≤ 17
 int_size (pos n) h = let small : n ≤ 9007199254740991 = leb-true n 9007199254740991 h in omega (arith, seq_size n small)
 int_size (negsuc n) h =
-    let small : n ≤ 9007199254740990 = leb-true n 9007199254740990 (both (nat_le n 9007199254740990) true h).0 in
+    let small : n ≤ 9007199254740990 = leb-true n 9007199254740990 (and_parts (nat_le n 9007199254740990) true h).0 in
     omega (arith, seq_size (suc n) (omega arith))
 
 code_size : (z : ℤ) → IsTrue (is_exit_code z) → length (number_text (of_integer z)) ≤ 17
 code_size (pos n) h = let small : n ≤ 2147483647 = leb-true n 2147483647 h in omega (arith, seq_size n (omega arith))
 code_size (negsuc n) h =
-    let small : n ≤ 2147483647 = leb-true n 2147483647 (both (nat_le n 2147483647) true h).0 in
+    let small : n ≤ 2147483647 = leb-true n 2147483647 (and_parts (nat_le n 2147483647) true h).0 in
     omega (arith, seq_size (suc n) (omega arith))
 
 boolean_size : (b : Bool) → length (token_text (token.boolean b)) ≤ 5

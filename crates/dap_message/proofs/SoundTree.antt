@@ -1,6 +1,6 @@
 -- A sound message's tree is sound, and so what is written of a plain one is read again.
 use Rattle.std.proofs.Common.{◌≡◌, ℕ, ◌^◌, ◌<◌, List, length, codes, IsUtf8, Bool, true, nat_le, Option, Some, None, option_map, refl, arith}
-use Rattle.std.proofs.lemmas.Bool.{leb-true}
+use Rattle.std.proofs.lemmas.Bool.{leb-true, and_parts}
 use Rattle.json.proofs.Printed.Utf8.{IsUtf8-are_ascii}
 use Rattle.serde_json.specs.Data.{Data, boolean, string, object, Members, no_members, put}
 use Rattle.dap_json.specs.Field.{max_seq}
@@ -17,7 +17,7 @@ use Rattle.dap_message.specs.declared.message.Message.{Message}
 use Rattle.dap_message.specs.declared.message.Kind.{Kind}
 use Rattle.dap_message.specs.declared.message.Kind.TheVariants.{Request, Response, Event, Other}
 use Rattle.dap_message.proofs.MeaningLemmas.{Says-envelope_of}
-use Rattle.dap_message.proofs.RoundTrip.{both, all_three, envelope_of-tree_of, has_float-tree_of, depth-tree_of}
+use Rattle.dap_message.proofs.RoundTrip.{all_three, envelope_of-tree_of, has_float-tree_of, depth-tree_of}
 
 in_64_bits : (n : ℕ) → nat_le n max_seq ≡ true → n < 2 ^ 64
 in_64_bits n e = omega (arith, leb-true n max_seq e)
@@ -76,7 +76,7 @@ module _ (put_sound : PutIsSound) where
 
   IsSound-tree_of : (m : Message) → is_plain m ≡ true → IsSoundMessage m → IsSound (tree_of m)
   unfolding tree_of
-  IsSound-tree_of m p s = let q = both (nat_le m.seq max_seq) (is_plain_kind m.kind) p in kind_sound m.seq m.kind q.0 q.1 s.texts s.tree
+  IsSound-tree_of m p s = let q = and_parts (nat_le m.seq max_seq) (is_plain_kind m.kind) p in kind_sound m.seq m.kind q.0 q.1 s.texts s.tree
 
   pub Msg-canon : IsReadAgain → WrittenIsReadAgain
   unfolding canon

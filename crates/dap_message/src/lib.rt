@@ -22,11 +22,11 @@ pub use dap_body::{
 };
 pub use dap_call::{
     BreakpointLocations, Call, CallFault, Capabilities, Command, Completions, Evaluate,
-    FramesGiven, Gate, HoldersGiven, Initialize, Key, Lines, MAX_ARGUMENTS, Modules, SetVariable,
-    SourceKey, StackTrace, Texts, Variables, frames_given, holders_given, read_call, write_call,
+    FramesGiven, Gate, HoldersGiven, Initialize, Key, MAX_ARGUMENTS, Modules, SetVariable,
+    SourceKey, StackTrace, Variables, frames_given, holders_given, read_call, write_call,
 };
 pub use dap_json::skim::Scratch;
-pub use dap_json::{Text, Tree};
+pub use dap_json::{List, Text, Tree};
 pub use fault::{BodyFault, BodyRefusal};
 pub use heading::{Heading, HeadingKind, read_heading};
 pub use message::{Kind, MAX_COMMAND, Message};

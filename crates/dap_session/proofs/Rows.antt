@@ -23,7 +23,7 @@ use Rattle.dap_session.specs.References.{References, references_after, cleared, 
 use Rattle.dap_session.specs.Session.{Session}
 use Rattle.dap_history.specs.Requests.{asked_of, asks}
 use Rattle.dap_tables.specs.Outstanding.{parked_ones, unparked_ones}
-use Rattle.dap_session.proofs.Kept.{Walked, walked-none, walked-append, walked-each, walked-kept, walked-one, rejected, IsKept, distinct-without, apart}
+use Rattle.dap_session.proofs.Kept.{Walked, walked-none, walked-append, walked-each, walked-kept, walked-one, rejected, IsKept, distinct-without, apart, eqb-self, false-left, false-right}
 
 -- ---- forms
 
@@ -115,20 +115,9 @@ started_parked-well s k last d i =
 
 -- ---- disconnect
 
-eqb-self : (n : ℕ) → (n == n) ≡ true
-eqb-self n = grind (arith, nat_tests)
-
 kept-twice : (b : Bool) → not (not b) ≡ b
 kept-twice true = refl
 kept-twice false = refl
-
-false-left : (a b : Bool) → (a || b) ≡ false → a ≡ false
-false-left true b e = e
-false-left false b e = refl
-
-false-right : (a b : Bool) → (a || b) ≡ false → b ≡ false
-false-right true b e = absurd (true≢false e)
-false-right false b e = e
 
 none-twice : (seq : ℕ) (kept : List Kept) → contains_seq seq kept ≡ false → rejected (λ x. not (x.entry.seq == seq)) kept ≡ []
 none-twice seq [] h = refl

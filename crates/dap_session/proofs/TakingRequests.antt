@@ -1,5 +1,6 @@
 -- What a request comes to when it is taken.
 use Rattle.std.proofs.Common.{◌≡◌, ℕ, ◌+◌, ◌<◌, ◌≤◌, List, Bool, true, false, Result, Ok, Err, IfOk, IfErr, OnOk, refl, sym, ◌∙◌, arith, length}
+use Rattle.dap_session.proofs.Turning.{within, beyond}
 use Rattle.std.specs.Prelude.{nat_le, if◌then◌else◌}
 use Rattle.std.proofs.lemmas.Bool.Decides.{nat_tests}
 use Rattle.dap_tables.specs.Outstanding.{contains_seq}
@@ -18,12 +19,6 @@ use Rattle.dap_session.specs.Taking.{takes_request, taken_in, cancels, keeps, is
 pub record IsOpenTo (r : Entry) (s : Session) : Type 0 where
   pub not_ended : is_phase Ended s.phase ≡ false
   pub new : contains_seq r.seq s.kept ≡ false
-
-within : (a b : ℕ) → a ≤ b → nat_le a b ≡ true
-within a b h = grind (arith, nat_tests)
-
-beyond : (a b : ℕ) → b < a → nat_le a b ≡ false
-beyond a b h = grind (arith, nat_tests)
 
 open-as : (r : Entry) (s : Session) → IsOpenTo r s → takes_request r s ≡ affordable s (at_once (taken_in r s))
 open-as r s o = rw (o.not_ended, o.new) refl

@@ -8,23 +8,12 @@ use Rattle.dap_debuggee.specs.Shown.{Shown}
 use Rattle.dap_session.specs.declared.fault.AdapterFault.TheVariants.{SeqExhausted, OutOfMemory}
 use Rattle.dap_session.specs.declared.fault.AdapterFault.{AdapterFault}
 use Rattle.dap_session.specs.Carried.{Goes}
-use Rattle.dap_session.specs.Seat.{Seat, IsRefusedFor, NotTurned, HasTurned, Carries}
-use Rattle.dap_session.specs.Handling.{plan, turn_of}
-use Rattle.dap_session.specs.Plan.{due}
+use Rattle.dap_session.specs.Seat.{Seat, IsUnasked, IsRefusedFor, NotTurned, HasTurned, Carries}
+use Rattle.dap_session.specs.Handling.{plan, some_plan, turn_of}
+use Rattle.dap_session.specs.Plan.{due, affordable}
 use Rattle.dap_session.specs.Session.{Session, oldest}
 use Rattle.dap_session.specs.Table.{is_put_off}
-use Rattle.dap_session.proofs.Kept.{IsKept, kept-found, apart}
-
-eqb-self : (n : ℕ) → (n == n) ≡ true
-eqb-self n = grind (arith, nat_tests)
-
-false-left : (a b : Bool) → (a || b) ≡ false → a ≡ false
-false-left true b e = e
-false-left false b e = refl
-
-false-right : (a b : Bool) → (a || b) ≡ false → b ≡ false
-false-right true b e = cc
-false-right false b e = e
+use Rattle.dap_session.proofs.Kept.{IsKept, kept-found, apart, eqb-self, false-left, false-right}
 
 entry-middle : (before : List Kept) (k : Kept) (after : List Kept) → contains_seq k.entry.seq before ≡ false → entry_with k.entry.seq (before ++ k ∷ after) ≡ Some k.entry
 entry-middle [] k after h = rw (eqb-self k.entry.seq) refl
@@ -47,10 +36,10 @@ oldest-entry kept seq r d e f = oldest-as kept (oldest kept) seq r refl d e f
 
 -- ---- a turn
 
-within : (a b : ℕ) → a ≤ b → nat_le a b ≡ true
+pub within : (a b : ℕ) → a ≤ b → nat_le a b ≡ true
 within a b h = grind (arith, nat_tests)
 
-beyond : (a b : ℕ) → b < a → nat_le a b ≡ false
+pub beyond : (a b : ℕ) → b < a → nat_le a b ≡ false
 beyond a b h = grind (arith, nat_tests)
 
 turn-within : (view : Shown) (s : Session) (o : Option Kept) (r : Entry) → option_map (λ (k : Kept). k.entry) o ≡ Some r → s.used + due (plan view s r) ≤ s.limits.seq → turn_of is_put_off view s o ≡ Ok (Some (plan view s r))
@@ -69,7 +58,13 @@ pub turned : {D : Type 0} (shown : D → Shown) (follows : Goes D) (old new : Se
     → Carries follows (plan (shown old.debuggee) old.session r) old new bytes → HasTurned shown follows old new bytes
 turned shown follows old new bytes r e h c = record { plan = plan (shown old.debuggee) old.session r; is = turn-within (shown old.debuggee) old.session (oldest old.session.kept) r (sym e) h; carries = c }
 
+unasked-turn : {D : Type 0} (view : Shown) (s : Session) (o : Option Kept) (r : Entry) (v w : D) → option_map (λ (k : Kept). k.entry) o ≡ Some r → IsUnasked (some_plan (affordable s (plan view s r))) v w → IsUnasked (turn_of is_put_off view s o) v w
+unasked-turn view s None r v w e h = cc
+unasked-turn view s (Some k) r v w e h =
+    let same : k.entry ≡ r = cc in
+    rw same h
+
 pub not_turned : {D : Type 0} (shown : D → Shown) (fault : AdapterFault) (old new : Seat D) (r : Entry) → Some r ≡ option_map (λ (k : Kept). k.entry) (oldest old.session.kept) → IsRefusedFor fault (plan (shown old.debuggee) old.session r) old new → NotTurned shown fault old new
 not_turned shown SeqExhausted old new r e h = (turn-beyond (shown old.debuggee) old.session (oldest old.session.kept) r (sym e) h.0, h.1)
-not_turned shown OutOfMemory old new r e h = tt
+not_turned shown OutOfMemory old new r e h = unasked-turn (shown old.debuggee) old.session (oldest old.session.kept) r old.debuggee new.debuggee (sym e) h
 not_turned shown _ old new r e h = h

@@ -1,10 +1,10 @@
 -- The code's words for the session with its debuggee, and for the steps that the calls are made of.
-use Rattle.std.specs.Prelude.{◌≡◌, ℕ, ◌+◌, ◌≤◌, ◌<◌, ⊤, List, [], ◌∷◌, length, Bool, true, false, Some, None, Ok, Err}
+use Rattle.std.specs.Prelude.{◌≡◌, ℕ, ◌+◌, ◌≤◌, ◌<◌, ⊤, List, [], ◌∷◌, length, Bool, true, false, Option, Some, None, Result, Ok, Err}
 use Rattle.dap_frame.specs.Settings.{Settings}
 use Rattle.dap_tables.specs.Outstanding.{Kept, KeptRequests, IsOrderly, without}
 use Rattle.dap_tables.specs.Seq.{Numbers}
 use Rattle.dap_tables.specs.declared.entry.Entry.{Entry}
-use Rattle.dap_debuggee.specs.Shown.{Shown, Reply, done, refused}
+use Rattle.dap_debuggee.specs.Shown.{Shown, Reply, done, refused, to_end}
 use Rattle.dap_session.specs.declared.decision.Decision.{Decision}
 use Rattle.dap_session.specs.declared.decision.Decision.TheVariants.{Refuses, Serves}
 use Rattle.dap_session.specs.declared.effect.Effect.{Effect}
@@ -12,8 +12,8 @@ use Rattle.dap_session.specs.declared.effect.Effect.TheVariants.{SetBreakpoints}
 use Rattle.dap_session.specs.declared.fault.AdapterFault.{AdapterFault}
 use Rattle.dap_session.specs.declared.fault.AdapterFault.TheVariants.{SeqExhausted, OutOfMemory}
 use Rattle.dap_session.specs.Carried.{Goes, CarriedOut}
-use Rattle.dap_session.specs.Handling.{plan_for, turns}
-use Rattle.dap_session.specs.Plan.{Made, Plan, at_once, due, answered, failure, numbered, bytes_of}
+use Rattle.dap_session.specs.Handling.{plan_for, some_plan, turns}
+use Rattle.dap_session.specs.Plan.{Made, Plan, at_once, asking, due, affordable, answered, failure, numbered, bytes_of}
 use Rattle.dap_session.specs.Session.{Session, cancelled_by, not_cancelled_by}
 use Rattle.dap_session.specs.Taking.{takes, takes_request}
 use Rattle.dap_message.specs.declared.message.Message.{Message}
@@ -56,10 +56,17 @@ pub record Carries {D : Type 0} (follows : Goes D) (plan : Plan) (old new : Seat
   pub carried : CarriedOut follows plan old.debuggee made new.debuggee
   pub by : MadeBy made old.session new.session bytes
 
+-- memory was refused to a turn that comes to this: the debuggee was not asked where it is asked nothing, nor where it is ended, which is done last
+abbrev pub IsUnasked : {D : Type 0} → Result (Option Plan) AdapterFault → D → D → Type 0
+IsUnasked (Ok None) v w = ⊥
+IsUnasked (Ok (Some (asking to_end makes))) v w = w ≡ v
+IsUnasked (Ok (Some (asking act makes))) v w = ⊤
+IsUnasked _ v w = w ≡ v
+
 -- why a plan was not carried out: it takes more messages than own numbers are left, and nothing was asked, or memory was refused
 abbrev pub IsRefusedFor : {D : Type 0} → AdapterFault → Plan → Seat D → Seat D → Type 0
 IsRefusedFor SeqExhausted plan old new = (old.session.limits.seq < old.session.used + due plan) × (new ≡ old)
-IsRefusedFor OutOfMemory plan old new = ⊤
+IsRefusedFor OutOfMemory plan old new = IsUnasked (some_plan (affordable old.session plan)) old.debuggee new.debuggee
 IsRefusedFor fault plan old new = ⊥
 
 -- no request waits to be handled
@@ -76,7 +83,7 @@ pub record HasTurned {D : Type 0} (shown : D → Shown) (follows : Goes D) (old 
 -- none was, for this reason
 abbrev pub NotTurned : {D : Type 0} → (D → Shown) → AdapterFault → Seat D → Seat D → Type 0
 NotTurned shown SeqExhausted old new = (turns (shown old.debuggee) old.session ≡ Err SeqExhausted) × (new ≡ old)
-NotTurned shown OutOfMemory old new = ⊤
+NotTurned shown OutOfMemory old new = IsUnasked (turns (shown old.debuggee) old.session) old.debuggee new.debuggee
 NotTurned shown fault old new = ⊥
 
 -- so many messages are more than own numbers are left; or there are enough, and memory was refused

@@ -213,7 +213,7 @@ impl<D: Debuggee + Drop> Session<D> {
     pub(crate) fn finish(&mut self, alloc: Global, request: &Entry) -> Result<Vec<u8>, AllocError>
         requires room { self.old.session.used + 2 ≤ self.old.session.limits.seq }
         ensures carries { IfOk result (λ bytes. Carries D.follows (asking to_end (λ last. finished self.old.session request.now)) self.old self.new bytes.items) }
-        ensures err { OnErr result (self.new.session ≡ self.old.session) }
+        ensures err { OnErr result (self.new ≡ self.old) }
     {
         let sheet = self.two(alloc, request, Answer::Success(None), Event::Terminated)?;
         self.end();
