@@ -22,7 +22,8 @@ use Rattle.dap_session.specs.Carried.{Goes, CarriedOut}
 use Rattle.dap_session.specs.Handling.{turns}
 use Rattle.dap_session.specs.Plan.{Made, Plan, numbered, bytes_of, entries_of}
 use Rattle.dap_session.specs.Polling.{polls, has_debuggee}
-use Rattle.dap_session.specs.Session.{Session, oldest, to_handle}
+use Rattle.dap_session.specs.Seat.{IsUnasked}
+use Rattle.dap_session.specs.Session.{Session, to_handle}
 use Rattle.dap_adapter.specs.End.{End}
 use Rattle.dap_adapter.specs.StandsFor.{GoesOn}
 use Rattle.dap_session.specs.Taking.{takes}
@@ -116,9 +117,9 @@ abbrev pub AreFewer : Turned → List Kept → List Kept → Type 0
 AreFewer Idle old new = ⊤
 AreFewer (Done bytes) old new = to_handle new < to_handle old
 
--- why a turn was refused: then the debuggee was not asked. Memory may be refused where a request is handled
+-- why a turn was refused: then the debuggee was not asked, but where memory was refused after it was
 abbrev pub TurnRefused : {D : Type 0} → (D → Shown) → End D → AdapterFault → End D → Type 0
-TurnRefused shown old OutOfMemory new = oldest old.session.kept ≡ None → ⊥
+TurnRefused shown old OutOfMemory new = IsUnasked (turns (shown old.debuggee) old.session) old.debuggee new.debuggee
 TurnRefused shown old fault new = (turns (shown old.debuggee) old.session ≡ Err fault) × (new.debuggee ≡ old.debuggee)
 
 -- ---- poll

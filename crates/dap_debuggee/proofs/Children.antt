@@ -7,7 +7,7 @@ use Rattle.serde_json.specs.Find.{get, get_member, as_array}
 use Rattle.serde_json.specs.View.{view, items_view}
 use Rattle.serde_json.specs.declared.value.Value.{Value}
 use Rattle.dap_json.specs.Steps.{◌>>=◌}
-use Rattle.dap_debuggee.specs.Reading.{Read, Holders, GivesWith, GivesListWith, listed, variable_of, variables_of, each_variable, variables_within, variable_row}
+use Rattle.dap_debuggee.specs.Reading.{Read, Holders, Says, listed, variable_of, variables_of, each_variable, variables_within, variable_row}
 use Rattle.dap_debuggee.specs.RecordingKey.{name_of}
 use Rattle.dap_debuggee.specs.declared.answers.Variable.{Variable}
 use Rattle.dap_debuggee.specs.declared.reading.RecordingFault.{RecordingFault}
@@ -82,11 +82,11 @@ next_variable vs i v found holders within at =
     ap (λ ws. each_variable (items_view ws) found holders) (drop-cons vs i v within ∙ ap (λ w. w ∷ drop (suc i) vs) (sym at))
     ∙ ap (λ r. r >>= (λ one. each_variable (items_view (drop (suc i) vs)) (found ++ one.0 ∷ []) one.1)) (variable_by_row (view v) holders)
 
-pub refused_within : {A B S : Type 0} (e : RecordingFault) (s t : S) (one : Read (A × S)) (all : Read (List B × S)) → GivesWith (Err e) s one → ((k : RecordingKey) → one ≡ Err k → all ≡ Err k) → GivesListWith (Err e) t all
-refused_within (fault.BadKey k) s t one all gives refused = refused k gives
-refused_within fault.OutOfMemory s t one all gives refused = tt
-refused_within fault.NotJson s t one all gives refused = absurd gives
-refused_within fault.NotObject s t one all gives refused = absurd gives
+pub refused_within : {A B : Type 0} (e : RecordingFault) (one : Read A) (all : Read B) → Says e one → ((k : RecordingKey) → one ≡ Err k → all ≡ Err k) → Says e all
+refused_within (fault.BadKey k) one all gives refused = refused k gives
+refused_within fault.OutOfMemory one all gives refused = tt
+refused_within fault.NotJson one all gives refused = absurd gives
+refused_within fault.NotObject one all gives refused = absurd gives
 
 pub variables_in : (d : Data) (ds : Items) (holders : Holders) → Some ds ≡ as_array d → variables_of d holders ≡ each_variable ds [] holders
 variables_in null ds holders is = absurd (cc is)

@@ -22,7 +22,7 @@ variables-returns-in_err-variable t c =
     let all : variables_of (view c.args.value.now) c.args.holders.now.items ≡ each_variable (items_view vs) [] c.args.holders.now.items =
     variables_in (view c.args.value.now) (items_view c.in-Some.items.now.items) c.args.holders.now.items c.in-Some.ensures ∙ ap (λ ws. each_variable (items_view ws) [] c.args.holders.now.items) (sym c.deref-item-items.ensures.value) in
     let next = next_variable vs c.loop-item.item-index c.item-item.result c.loop-item.found.items c.loop-item.holders.items c.loop-item-test.true c.item-item.is in
-    rw is (refused_within c.in_err-variable.field-0.0 _ _ _ _ c.in_err-variable.ensures
+    rw is (refused_within c.in_err-variable.field-0.0 _ _ c.in_err-variable.ensures
     (λ k refused. all ∙ sym c.loop-item.invariant ∙ next ∙ ap (λ r. r >>= (λ one. each_variable (items_view (drop (suc c.loop-item.item-index) vs)) (c.loop-item.found.items ++ one.0 ∷ []) one.1)) refused))
 
 pub variables-loop-item-preserved : goal.variables-loop-item-preserved
