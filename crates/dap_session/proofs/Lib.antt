@@ -9,6 +9,7 @@ pub mod Going
 pub mod Sheets
 pub mod Sessions
 pub mod Turning
+pub mod Unasked
 pub mod ReferencesLemmas
 pub mod Staying
 pub mod SeveralAnswers

@@ -1,10 +1,12 @@
 use Rattle.std.proofs.Common.{rules, ◌≡◌, ◌+◌, length, Err, ap, ◌∙◌, sym, refl}
 use Rattle.dap_tables.specs.Outstanding.{parked_ones}
 use Rattle.dap_debuggee.specs.Shown.{to_start, done}
+use Rattle.dap_session.specs.declared.fault.AdapterFault.TheVariants.{OutOfMemory}
 use Rattle.dap_session.specs.Handling.{started_parked}
 use Rattle.dap_session.specs.Plan.{asking}
 use Rattle.dap_session.specs.Seat.{Seat, reply_of}
 use Rattle.dap_session.proofs.Leaves.{due-started, count-started, refused-for}
+use Rattle.dap_session.proofs.Unasked.{asked}
 use Rattle.dap_session.proofs.session.Session.start_parked.Goals as goal
 
 pub returns-in_err-room-clause-refused : goal.returns-in_err-room-clause-refused
@@ -12,6 +14,20 @@ returns-in_err-room-clause-refused g c =
     let is : c.from_residual.result ≡ Err c.in_err-room.field-0.0 = search rules in
     let same : length (parked_ones c.args.self.now.session.kept) ≡ c.parked.result = sym (c.parked.ensures.parked ∙ ap (λ (x : Seat _). length (parked_ones x.session.kept)) c.self.view_is) in
     rw is (refused-for c.in_err-room.field-0.0 (asking to_start (started_parked c.args.self.now.session c.args.request.now)) c.args.self.now (1 + c.parked.result) c.in_err-room.ensures.err.0 c.in_err-room.ensures.err.1 (due-started c.args.self.now.session c.args.request.now done c.requires.unparked ∙ ap (λ n. 1 + n) same))
+
+pub returns-in_err-ok-clause-refused : goal.returns-in_err-ok-clause-refused
+returns-in_err-ok-clause-refused g c =
+    let is : c.from_residual-in_err-ok.result ≡ Err OutOfMemory = search rules in
+    let same : length (parked_ones c.args.self.now.session.kept) ≡ c.parked.result = sym (c.parked.ensures.parked ∙ ap (λ (x : Seat _). length (parked_ones x.session.kept)) c.self.view_is) in
+    let due_is = due-started c.args.self.now.session c.args.request.now done c.requires.unparked ∙ ap (λ n. 1 + n) same in
+    rw is (asked c.args.self.now.session (asking to_start (started_parked c.args.self.now.session c.args.request.now)) _ _ (rw due_is c.in_ok-room.ensures.ok) tt)
+
+pub returns-in_err-sheet-clause-refused : goal.returns-in_err-sheet-clause-refused
+returns-in_err-sheet-clause-refused g c =
+    let is : c.from_residual-in_err-sheet.result ≡ Err OutOfMemory = search rules in
+    let same : length (parked_ones c.args.self.now.session.kept) ≡ c.parked.result = sym (c.parked.ensures.parked ∙ ap (λ (x : Seat _). length (parked_ones x.session.kept)) c.self.view_is) in
+    let due_is = due-started c.args.self.now.session c.args.request.now done c.requires.unparked ∙ ap (λ n. 1 + n) same in
+    rw is (asked c.args.self.now.session (asking to_start (started_parked c.args.self.now.session c.args.request.now)) _ _ (rw due_is c.in_ok-room.ensures.ok) tt)
 
 pub returns-clause-carries : goal.returns-clause-carries
 returns-clause-carries g c =
