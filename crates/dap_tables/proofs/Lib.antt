@@ -4,6 +4,7 @@ pub mod SlotLemmas
 pub mod SeqLemmas
 pub mod Places
 pub mod ReferenceLemmas
+pub mod IndexLemmas
 pub mod SourceLemmas
 pub mod StoreLemmas
 pub mod SetLemmas

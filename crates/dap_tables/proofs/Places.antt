@@ -80,3 +80,11 @@ module _ {X : Type 0} (p : X → Bool) where
 
   pub absent-cons : (x : X) (xs : List X) → p x ≡ false → position p xs ≡ None → position p (x ∷ xs) ≡ None
   absent-cons x xs h none = is_place (x ∷ xs) ∙ cons-by (p x) (place_in xs) h (sym (is_place xs) ∙ none)
+
+  last-by : (o : Option ℕ) (b : Bool) (n : ℕ) → or_else o (cond b (Some n) None) ≡ None → b ≡ false
+  last-by None true n h = cc
+  last-by None false n h = refl
+  last-by (Some k) b n h = cc
+
+  pub absent-last : (xs : List X) (y : X) → position p (xs ++ y ∷ []) ≡ None → p y ≡ false
+  absent-last xs y h = last-by (position p xs) (p y) (length xs) (sym (place-push xs y) ∙ h)

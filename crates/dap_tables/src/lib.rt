@@ -11,6 +11,7 @@ mod breakpoint_tests;
 mod breakpoints;
 mod entry;
 mod in_order;
+mod live_targets;
 mod mark;
 mod outstanding;
 mod put_fault;

@@ -3,9 +3,10 @@ ghost use Rattle.std.specs.Prelude.{◌≡◌, ◌<◌, ◌≤◌, ◌+◌, ◌�
 ghost use Rattle.std.specs.Option.{option_copied};
 ghost use Rattle.dap_tables.specs.References.{ReferenceTable, no_references, is_live, place_of, target_of, cleared, taken_back, interned, IsRefusedForRoom, IsRefusedForNumber, TakesNumber, HasOrder};
 
+use crate::live_targets::LiveTargets;
 use crate::mark::Mark;
 use crate::ref_fault::RefFault;
-use crate::target::{Target, is_same};
+use crate::target::Target;
 use std::alloc::{AllocError, Global};
 use std::marker::Model;
 
@@ -14,7 +15,7 @@ use std::marker::Model;
 /// Numbers rise from 1, and no number is given again once `clear` let it die.
 #[derive(Drop)]
 pub struct References {
-    live: Vec<Target>,
+    live: LiveTargets,
     base: u32,
     room: usize,
     greatest: u32,
@@ -26,15 +27,9 @@ impl Model for References {
 
     ghost Value = { ReferenceTable };
 
-    ghost view = { λ r. table_of r.room r.greatest r.base r.live.items };
+    ghost view = { λ r. table_of r.room r.greatest r.base r.live };
 
-    ghost invariant = { λ r. HasOrder (table_of r.room r.greatest r.base r.live.items) };
-}
-
-fn place_of(live: &[Target], target: Target) -> Option<usize>
-    ensures { result ≡ place_of target live.now }
-{
-    live.iter().position(|t| is_same(*t, target))
+    ghost invariant = { λ r. HasOrder (table_of r.room r.greatest r.base r.live) };
 }
 
 impl References {
@@ -44,7 +39,7 @@ impl References {
         ensures memory { IsOk result }
     {
         Ok(References {
-            live: Vec::new(alloc),
+            live: LiveTargets::new(alloc),
             base: 0,
             room: r,
             greatest: m,
@@ -69,7 +64,7 @@ impl References {
         ensures names { IfOk result (λ number. target_of self.new.references number ≡ Some target) }
         ensures orderly { HasOrder self.new }
     {
-        if let Some(place) = place_of(&self.live, target) {
+        if let Some(place) = self.live.place(target) {
             return Ok(self.base + 1 + place as u32);
         }
         if self.live.len() >= self.room {
