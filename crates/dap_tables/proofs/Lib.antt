@@ -2,4 +2,12 @@ pub mod Lists
 pub mod KeptLemmas
 pub mod SlotLemmas
 pub mod SeqLemmas
+pub mod Places
+pub mod ReferenceLemmas
+pub mod IndexLemmas
+pub mod SourceLemmas
+pub mod StoreLemmas
+pub mod SetLemmas
 mod Examples
+mod ReferenceExamples
+mod BreakpointExamples

@@ -5,17 +5,37 @@
 //! numbers as how many were given of how many there are.
 #![tactic(auto)]
 
+mod bp_fault;
+#[cfg(test)]
+mod breakpoint_tests;
+mod breakpoints;
 mod entry;
 mod in_order;
+mod live_targets;
+mod mark;
 mod outstanding;
 mod put_fault;
+mod ref_fault;
+mod reference_kind;
+#[cfg(test)]
+mod reference_tests;
+mod references;
 mod seq;
 mod slot;
+mod source_sets;
+mod target;
 #[cfg(test)]
 mod tests;
 
+pub use bp_fault::BpFault;
+pub use breakpoints::Breakpoints;
 pub use entry::Entry;
 pub use in_order::InOrder;
+pub use mark::Mark;
 pub use outstanding::Outstanding;
 pub use put_fault::PutFault;
+pub use ref_fault::RefFault;
+pub use reference_kind::ReferenceKind;
+pub use references::References;
 pub use seq::Seq;
+pub use target::Target;

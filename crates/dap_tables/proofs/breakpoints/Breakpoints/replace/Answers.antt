@@ -1,0 +1,26 @@
+use Rattle.std.proofs.Common.{rules, ◌≡◌, ◌+◌, ◌-◌, ◌≤◌, List, length, sym, ap, subst, ◌∙◌, arith}
+use Rattle.dap_tables.specs.Breakpoints.{OfSource, BreakpointTable, SetBreakpoints, count, of_others, with_set, numbered, max_id, IsSound}
+use Rattle.dap_tables.proofs.SetLemmas.{count-replaced, sound-replaced}
+use Rattle.dap_tables.proofs.breakpoints.Breakpoints.replace.Goals as goal
+
+pub invariant_of-self-2 : goal.invariant_of-self-2
+invariant_of-self-2 c =
+    let inside = c.self.inside in
+    let source = c.args.source in
+    let lines = c.args.lines.now in
+    let old : SetBreakpoints = record { sources = inside.sets; next_id = inside.next_id } in
+    let table : BreakpointTable = record { room = inside.room; breakpoints = old } in
+    let sets : c.set_lines.new.sets ≡ with_set source (numbered inside.next_id lines) (of_others source inside.sets) = search rules in
+    let others : c.count_of_others-others.result ≡ count (of_others source inside.sets) = c.count_of_others-others.ensures.others ∙ ap (λ (t : BreakpointTable). count (of_others source t.breakpoints.sources)) (sym c.self.view_is) in
+    let few : length lines ≤ inside.room - c.count_of_others-others.result = search rules in
+    let bound : c.count_of_others-others.result ≤ inside.room = search rules in
+    let left : length lines ≤ max_id + 1 - inside.next_id = search rules in
+    let ids = c.self.invariant.1.ids in
+    let all = count-replaced source lines old in
+    let sound = sound-replaced source lines table c.self.invariant.1 (omega arith) (omega arith) in (
+      ap (λ n. n + length lines) others ∙ sym all ∙ ap (λ (ss : List OfSource). count ss) (sym sets),
+      subst (λ (ss : List OfSource). IsSound (record { room = inside.room; breakpoints = record { sources = ss; next_id = inside.next_id + length lines } })) (sym sets) sound,
+    )
+
+pub returns-clause-sound : goal.returns-clause-sound
+returns-clause-sound c = let both = invariant_of-self-2 c in both.1

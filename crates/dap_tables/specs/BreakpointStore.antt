@@ -1,0 +1,14 @@
+-- How breakpoints are stored: the lists by path, and those by reference.
+use Rattle.std.specs.Prelude.{ℕ, List, ◌++◌, map, String, string_bytes, Vec}
+use Rattle.std.specs.BTreeMap.{BTreeMap}
+use Rattle.dap_call.specs.declared.call.SourceKey.TheVariants.{Path, Reference}
+use Rattle.dap_tables.specs.Breakpoints.{OfSource}
+
+abbrev pub at_path : {A B : Type 0} → String A × Vec (ℕ × ℕ) B → OfSource
+at_path e = record { source = Path (string_bytes e.0); set = e.1.items }
+
+abbrev pub at_reference : {B : Type 0} → ℕ × Vec (ℕ × ℕ) B → OfSource
+at_reference e = record { source = Reference e.0; set = e.1.items }
+
+abbrev pub sources_of : {A B : Type 0} → BTreeMap (String A) (Vec (ℕ × ℕ) B) → BTreeMap ℕ (Vec (ℕ × ℕ) B) → List OfSource
+sources_of paths references = map at_path paths.entries ++ map at_reference references.entries
