@@ -7,7 +7,7 @@ ghost use Rattle.dap_frame.specs.declared.frames.End.{End};
 ghost use Rattle.dap_message.specs.Meaning.{Msg};
 ghost use Rattle.dap_adapter.specs.Calls.{TakeRefused};
 ghost use Rattle.dap_adapter.specs.Receives.{HasReceived, IsUnread, fault_of_frame};
-ghost use Rattle.dap_session.specs.Breakpoints.{count};
+ghost use Rattle.dap_tables.specs.Breakpoints.{count};
 ghost use Rattle.dap_session.specs.Session.{fresh_session, oldest};
 
 use crate::taken::{Taken, Turned};
@@ -92,7 +92,7 @@ impl<D: Debuggee + Drop> Adapter<D> {
 
     /// How many breakpoints are set, those of all sources together.
     pub fn breakpoints(&self) -> usize
-        ensures set { result ≡ count self.now.session.breakpoints }
+        ensures set { result ≡ count self.now.session.breakpoints.sources }
         ensures bound { result ≤ self.now.session.limits.breakpoints }
     {
         self.session.breakpoints()

@@ -6,15 +6,7 @@ use Rattle.serde_json.specs.Data.{Data}
 use Rattle.dap_message.specs.declared.message.Message.{Message}
 use Rattle.dap_message.specs.declared.message.Kind.{Kind}
 use Rattle.dap_message.specs.declared.message.Kind.TheVariants.{Request, Response, Event, Other}
-
--- what a reference in a body names: a frame, or a holder of variables, by the debuggee's own number
-pub data TargetKind : Type 0 where
-  frame : TargetKind
-  holder : TargetKind
-
-pub record Target : Type 0 where
-  pub kind : TargetKind
-  pub object : ℕ
+use Rattle.dap_tables.specs.declared.target.Target.{Target}
 
 -- a message that was delivered here; one that was handed out here, with what the references in its body name, in order; the end of all references
 pub data Entry : Type 0 where

@@ -32,7 +32,8 @@ use Rattle.dap_session.specs.Breakpoints.{are_too_many}
 use Rattle.dap_session.specs.Failures.{command_of, call_in, refusal_but, of_known}
 use Rattle.dap_session.specs.Handling.{by_reply, breakpoints_plan, breakpoints_verified, breakpoints_answered, breakpoints_set, fits, lines_asked, plan_for, plan_of_call, plan_of_command, plan_unless, plan_but, some_plan, turn_of, turns_but, answer_each}
 use Rattle.dap_session.specs.Laws.{CanMake, EachStepGoesOn}
-use Rattle.dap_session.specs.References.{References, references_after}
+use Rattle.dap_session.specs.References.{references_after}
+use Rattle.dap_tables.specs.References.{LiveReferences}
 use Rattle.dap_session.specs.declared.fault.AdapterFault.TheVariants.{RepeatedSeq, Ended as EndedFault}
 use Rattle.dap_session.specs.Plan.{Answer, names_in, outs, success, failure, plain_success, reply, Made, Plan, at_once, asking, nothing, answered, affordable, due, entries_of}
 use Rattle.dap_session.specs.Polling.{saw, saw_reply, polls}
@@ -195,7 +196,7 @@ cancelled-well id s r d h =
     (walked-append (answer_each (failure Cancelled) named) (reply r plain_success ∷ []) (asks s.kept ++ came r) (asks (unnamed_by id s.kept) ++ came r) (asks (unnamed_by id s.kept)) first last)
     (omega arith)
     (sym (references-more s.references s.used (answer_each (failure Cancelled) named) (reply r plain_success ∷ [])
-    ∙ ap (λ (refs : References). references_after refs (outs (s.used + length (answer_each (failure Cancelled) named)) (reply r plain_success ∷ []))) (references-each s.references s.used (failure Cancelled) named refl)))
+    ∙ ap (λ (refs : LiveReferences). references_after refs (outs (s.used + length (answer_each (failure Cancelled) named)) (reply r plain_success ∷ []))) (references-each s.references s.used (failure Cancelled) named refl)))
 
 cancelled_as-well : (asked : Read Call) (s : Session) (r : Request) → HasDistinctSeqs s.kept → contains_seq r.seq s.kept ≡ false → GoesWell s (came r) (cancelled_as asked r s)
 cancelled_as-well (Err key) s r d h = at_once-well s r (failure (BadArguments key)) refl d h

@@ -124,7 +124,7 @@ abbrev hundred_lines : List ℕ
 hundred_lines = codes "{\"source\":{\"path\":\"/a.c\"},\"lines\":[" ++ codes "1" ++ flat_map {X = ℕ} (λ n. codes ",1") (replicate 99 1) ++ codes "]}"
 
 too_large : (written_after 5 (played short_bodies (set_again ++ asked 5 (codes "setBreakpoints") hundred_lines)) ≡ failed 6 5 (codes "setBreakpoints") TooLarge ∷ [])
-    × ((played short_bodies (set_again ++ asked 5 (codes "setBreakpoints") hundred_lines)).session.breakpoints ≡ record { sources = record { source = Path (codes "/a.c"); set = record { id = 4; line = 2 } ∷ [] } ∷ []; next_id = 5 })
+    × ((played short_bodies (set_again ++ asked 5 (codes "setBreakpoints") hundred_lines)).session.breakpoints ≡ record { sources = record { source = Path (codes "/a.c"); set = (4, 2) ∷ [] } ∷ []; next_id = 5 })
 unfolding canon tree_of response_members event_members escape_byte digits plan_for telling saw initialize_of set_breakpoints_of source_parts json_of is_utf8 chars serde_json_on_literals
 too_large = (refl, refl)
 

@@ -9,7 +9,9 @@ use Rattle.std.proofs.lemmas.List.Sums.{sum-map, sum_by-append}
 use Rattle.std.proofs.lemmas.Option.{slice_get-get_or, slice_get_within}
 use Rattle.serde_json.specs.Data.{Data}
 use Rattle.dap_frame.specs.Settings.{Settings}
-use Rattle.dap_history.specs.History.{Target, TargetKind, frame, holder}
+use Rattle.dap_tables.specs.declared.target.Target.{Target}
+use Rattle.dap_tables.specs.declared.reference_kind.ReferenceKind.{ReferenceKind}
+use Rattle.dap_tables.specs.declared.reference_kind.ReferenceKind.TheVariants as kind
 use Rattle.dap_message.specs.Argument.{Read}
 use Rattle.dap_message.specs.Call.{call_of}
 use Rattle.dap_message.specs.ResponseBody.{source_body, stack_trace_body, scopes_body, variables_body, evaluate_body}
@@ -39,14 +41,17 @@ use Rattle.dap_session.specs.declared.fault.AdapterFault.TheVariants.{RepeatedSe
 use Rattle.dap_session.specs.declared.options.Options.{Options}
 use Rattle.dap_session.specs.declared.phase.Phase.TheVariants.{Fresh, Ended}
 use Rattle.dap_session.specs.Bodies.{Told, Telling, telling, tells_only, tells_with, asked_for, frames_told, scopes_told, variables_told, value_told, window, page, object_of, with_numbers, frame_told, scope_told, variable_told, number_in}
-use Rattle.dap_session.specs.Breakpoints.{Breakpoint, Breakpoints, OfSource, count, numbered, set_for, of_others, replaced, max_id, are_too_many}
+use Rattle.dap_session.specs.Breakpoints.{are_too_many}
+use Rattle.dap_tables.specs.Breakpoints.{SetBreakpoints, count, count_with, replaced, max_id}
+use Rattle.dap_tables.proofs.SetLemmas.{count-replaced}
 use Rattle.dap_session.specs.Failures.{command_of, call_in, refusal_but, of_known}
 use Rattle.dap_session.specs.Handling.{begun, parked, started, configured, started_parked, left, finished, resumed, told, fits, by_reply, lines_asked, breakpoints_set, breakpoints_answered, breakpoints_verified, breakpoints_plan, plan_for, plan_of_call, plan_of_command, plan_unless, plan_but, turn_of, turns_but}
 use Rattle.dap_session.specs.Laws.{CanMake}
 use Rattle.dap_session.specs.Plan.{Answer, success, failure, reply, Made, Plan, at_once, asking, nothing, answered, due, affordable}
 use Rattle.dap_session.specs.Polling.{saw, saw_reply, polls, has_debuggee}
 use Rattle.dap_session.specs.ReferenceLaws.{IsNumberOf, KeepsApart, ReferencesAreApart}
-use Rattle.dap_session.specs.References.{References, frame_of, holder_of, same_kind, is_same, place_of, target_of, cleared, numbered_at, intern, and_then, onto_first, intern_each, named}
+use Rattle.dap_session.specs.References.{intern, and_then, onto_first, intern_each, named}
+use Rattle.dap_tables.specs.References.{LiveReferences, frame_of, holder_of, same_kind, is_same, place_of, target_of, cleared, numbered_at}
 use Rattle.dap_session.specs.Session.{Session, oldest}
 use Rattle.dap_session.specs.Table.{effect_in, is_phase}
 use Rattle.dap_session.specs.Taking.{answered_at_once, id_in, is_cancel, cancelled, cancelled_as, cancels, keeps, taken_in, takes_as, takes}
@@ -78,11 +83,11 @@ and-right : (a b : Bool) → (a && b) ≡ true → b ≡ true
 and-right true b h = h
 and-right false b h = absurd (true≢false (sym h))
 
-dead : (refs : References) (n : ℕ) → n ≤ refs.base → target_of refs n ≡ None
+dead : (refs : LiveReferences) (n : ℕ) → n ≤ refs.base → target_of refs n ≡ None
 dead refs n h = rw (no-lt refs.base n h) refl
 
 -- the number of a place names what stands there
-at-place : (refs : References) (p : ℕ) (t : Target) → slice_get refs.live p ≡ Some t → target_of refs (refs.base + 1 + p) ≡ Some t
+at-place : (refs : LiveReferences) (p : ℕ) (t : Target) → slice_get refs.live p ≡ Some t → target_of refs (refs.base + 1 + p) ≡ Some t
 at-place refs p t h =
     let place : refs.base + 1 + p - refs.base - 1 ≡ p = omega arith in
     rw (is-lt refs.base (refs.base + 1 + p) (omega arith), place) h
@@ -95,7 +100,7 @@ live-if true base n live t e h =
 live-if false base n live t e h = cc
 
 -- a live number is at most the last that was given
-live-at-most : (refs : References) (n : ℕ) (t : Target) → target_of refs n ≡ Some t → n ≤ refs.base + length refs.live
+live-at-most : (refs : LiveReferences) (n : ℕ) (t : Target) → target_of refs n ≡ Some t → n ≤ refs.base + length refs.live
 live-at-most refs n t h = live-if (nat_lt refs.base n) refs.base n refs.live t refl h
 
 -- ---- more references
@@ -110,15 +115,15 @@ slice_get-end [] x = refl
 slice_get-end (y ∷ xs) x = slice_get-end xs x
 
 -- more live references, and none less
-record Grows (old new : References) : Type 0 where
+record Grows (old new : LiveReferences) : Type 0 where
   base : new.base ≡ old.base
   more : List Target
   live : new.live ≡ old.live ++ more
 
-grows-not : (refs : References) → Grows refs refs
+grows-not : (refs : LiveReferences) → Grows refs refs
 grows-not refs = record { base = refl; more = []; live = sym (append-nil refs.live) }
 
-grows-twice : (old mid new : References) → Grows old mid → Grows mid new → Grows old new
+grows-twice : (old mid new : LiveReferences) → Grows old mid → Grows mid new → Grows old new
 grows-twice old mid new g h =
     record {
       base = h.base ∙ g.base;
@@ -131,34 +136,34 @@ stays-if true k xs more t h = slice_get-front xs more k t h
 stays-if false k xs more t h = h
 
 -- each number names what it named
-grown-names : (old new : References) (n : ℕ) (t : Target) → Grows old new → target_of old n ≡ Some t → target_of new n ≡ Some t
+grown-names : (old new : LiveReferences) (n : ℕ) (t : Target) → Grows old new → target_of old n ≡ Some t → target_of new n ≡ Some t
 grown-names old new n t g h = rw (g.base, g.live) (stays-if (nat_lt old.base n) (n - old.base - 1) old.live g.more t h)
 
 -- ---- room
 
 -- so many references are live, and so many numbers were given
-pub record AreFew (limits : Settings) (refs : References) : Type 0 where
+pub record AreFew (limits : Settings) (refs : LiveReferences) : Type 0 where
   pub references : length refs.live ≤ limits.references
   pub numbers : refs.base + length refs.live ≤ limits.reference
 
 -- so many breakpoints stand, and so many ids were given
-pub record StandFew (limits : Settings) (points : Breakpoints) : Type 0 where
-  pub breakpoints : count points ≤ limits.breakpoints
+pub record StandFew (limits : Settings) (points : SetBreakpoints) : Type 0 where
+  pub breakpoints : count points.sources ≤ limits.breakpoints
   pub ids : points.next_id ≤ max_id + 1
 
 -- ---- numbers for an answer
 
-kind-is : (a b : TargetKind) → same_kind a b ≡ true → a ≡ b
-kind-is frame frame h = refl
-kind-is frame holder h = absurd (true≢false (sym h))
-kind-is holder frame h = absurd (true≢false (sym h))
-kind-is holder holder h = refl
+kind-is : (a b : ReferenceKind) → same_kind a b ≡ true → a ≡ b
+kind-is kind.Frame kind.Frame h = refl
+kind-is kind.Frame kind.Holder h = absurd (true≢false (sym h))
+kind-is kind.Holder kind.Frame h = absurd (true≢false (sym h))
+kind-is kind.Holder kind.Holder h = refl
 
 target-is : (a b : Target) → is_same a b ≡ true → a ≡ b
 target-is a b h =
     let kind = kind-is a.kind b.kind (and-left (same_kind a.kind b.kind) (a.object == b.object) h) in
     let object = is-eq a.object b.object (and-right (same_kind a.kind b.kind) (a.object == b.object) h) in
-    ap (λ (k : TargetKind). let t : Target = record { kind = k; object = a.object } in t) kind ∙ ap (λ (n : ℕ). let t : Target = record { kind = b.kind; object = n } in t) object
+    ap (λ (k : ReferenceKind). let t : Target = record { kind = k; object = a.object } in t) kind ∙ ap (λ (n : ℕ). let t : Target = record { kind = b.kind; object = n } in t) object
 
 placed : (t : Target) (live : List Target) (p : ℕ) → place_of t live ≡ Some p → slice_get live p ≡ Some t
 placed t live p e =
@@ -166,67 +171,67 @@ placed t live p e =
     slice_get-get_or live p t found.0 ∙ ap Some (target-is (get_or live p t) t found.1)
 
 -- a number for one target
-record Interned (limits : Settings) (t : Target) (old : References) (given : ℕ × References) : Type 0 where
+record Interned (limits : Settings) (t : Target) (old : LiveReferences) (given : ℕ × LiveReferences) : Type 0 where
   grows : Grows old given.1
   names : target_of given.1 given.0 ≡ Some t
   few : AreFew limits old → AreFew limits given.1
 
-one-more : (limits : Settings) (t : Target) (refs : References) → length refs.live < limits.references → refs.base + length refs.live < limits.reference → Interned limits t refs (refs.base + 1 + length refs.live, record refs { live = refs.live ++ t ∷ [] })
+one-more : (limits : Settings) (t : Target) (refs : LiveReferences) → length refs.live < limits.references → refs.base + length refs.live < limits.reference → Interned limits t refs (refs.base + 1 + length refs.live, record refs { live = refs.live ++ t ∷ [] })
 one-more limits t refs a b =
     let all = length-append refs.live (t ∷ []) in
-    let more : References = record refs { live = refs.live ++ t ∷ [] } in
+    let more : LiveReferences = record refs { live = refs.live ++ t ∷ [] } in
     record {
       grows = record { base = refl; more = t ∷ []; live = refl };
       names = at-place more (length refs.live) t (slice_get-end refs.live t);
       few = λ (h : AreFew limits refs). record { references = omega arith; numbers = omega arith };
     }
 
-interned-next : (a b : Bool) (limits : Settings) (t : Target) (refs : References) (given : ℕ × References) → nat_lt (length refs.live) limits.references ≡ a → nat_lt (refs.base + length refs.live) limits.reference ≡ b
-    → (let out : Result (ℕ × References) Failure = (if a then (if b then Ok (refs.base + 1 + length refs.live, record refs { live = refs.live ++ t ∷ [] }) else Err ReferencesExhausted) else Err TooManyReferences) in out) ≡ Ok given
+interned-next : (a b : Bool) (limits : Settings) (t : Target) (refs : LiveReferences) (given : ℕ × LiveReferences) → nat_lt (length refs.live) limits.references ≡ a → nat_lt (refs.base + length refs.live) limits.reference ≡ b
+    → (let out : Result (ℕ × LiveReferences) Failure = (if a then (if b then Ok (refs.base + 1 + length refs.live, record refs { live = refs.live ++ t ∷ [] }) else Err ReferencesExhausted) else Err TooManyReferences) in out) ≡ Ok given
     → Interned limits t refs given
 interned-next true true limits t refs given x y e =
     let same : (refs.base + 1 + length refs.live, record refs { live = refs.live ++ t ∷ [] }) ≡ given = cc in
-    subst (λ (q : ℕ × References). Interned limits t refs q) same (one-more limits t refs (lt-of (length refs.live) limits.references x) (lt-of (refs.base + length refs.live) limits.reference y))
+    subst (λ (q : ℕ × LiveReferences). Interned limits t refs q) same (one-more limits t refs (lt-of (length refs.live) limits.references x) (lt-of (refs.base + length refs.live) limits.reference y))
 interned-next true false limits t refs given x y e = cc
 interned-next false b limits t refs given x y e = cc
 
-interned-at : (o : Option ℕ) (limits : Settings) (t : Target) (refs : References) (given : ℕ × References) → place_of t refs.live ≡ o → numbered_at o limits t refs ≡ Ok given → Interned limits t refs given
+interned-at : (o : Option ℕ) (limits : Settings) (t : Target) (refs : LiveReferences) (given : ℕ × LiveReferences) → place_of t refs.live ≡ o → numbered_at o TooManyReferences ReferencesExhausted limits.references limits.reference t refs ≡ Ok given → Interned limits t refs given
 interned-at (Some p) limits t refs given is e =
     let same : (refs.base + 1 + p, refs) ≡ given = cc in
-    subst (λ (q : ℕ × References). Interned limits t refs q) same (record { grows = grows-not refs; names = at-place refs p t (placed t refs.live p is); few = λ (h : AreFew limits refs). h })
+    subst (λ (q : ℕ × LiveReferences). Interned limits t refs q) same (record { grows = grows-not refs; names = at-place refs p t (placed t refs.live p is); few = λ (h : AreFew limits refs). h })
 interned-at None limits t refs given is e = interned-next (nat_lt (length refs.live) limits.references) (nat_lt (refs.base + length refs.live) limits.reference) limits t refs given refl refl e
 
-interned-one : (limits : Settings) (t : Target) (refs : References) (given : ℕ × References) → intern limits t refs ≡ Ok given → Interned limits t refs given
+interned-one : (limits : Settings) (t : Target) (refs : LiveReferences) (given : ℕ × LiveReferences) → intern limits t refs ≡ Ok given → Interned limits t refs given
 interned-one limits t refs given e = interned-at (place_of t refs.live) limits t refs given refl e
 
 -- and for each
-record InternedEach (limits : Settings) (ts : List (Option Target)) (old : References) (given : List ℕ × References) : Type 0 where
+record InternedEach (limits : Settings) (ts : List (Option Target)) (old : LiveReferences) (given : List ℕ × LiveReferences) : Type 0 where
   grows : Grows old given.1
   names : AllZip (IsNumberOf given.1) ts given.0
   few : AreFew limits old → AreFew limits given.1
 
-onto-given : (n : ℕ) (rest : Result (List ℕ × References) Failure) (given : List ℕ × References) → onto_first n rest ≡ Ok given → (q : List ℕ × References) × (rest ≡ Ok q) × ((n ∷ q.0, q.1) ≡ given)
+onto-given : (n : ℕ) (rest : Result (List ℕ × LiveReferences) Failure) (given : List ℕ × LiveReferences) → onto_first n rest ≡ Ok given → (q : List ℕ × LiveReferences) × (rest ≡ Ok q) × ((n ∷ q.0, q.1) ≡ given)
 onto-given n (Ok q) given e = (q, refl, cc)
 onto-given n (Err f) given e = cc
 
-then-given : (limits : Settings) (ts : List (Option Target)) (first : Result (ℕ × References) Failure) (given : List ℕ × References) → and_then first (λ r. onto_first r.0 (intern_each limits ts r.1)) ≡ Ok given
-    → (one : ℕ × References) × (q : List ℕ × References) × (first ≡ Ok one) × (intern_each limits ts one.1 ≡ Ok q) × ((one.0 ∷ q.0, q.1) ≡ given)
+then-given : (limits : Settings) (ts : List (Option Target)) (first : Result (ℕ × LiveReferences) Failure) (given : List ℕ × LiveReferences) → and_then first (λ r. onto_first r.0 (intern_each limits ts r.1)) ≡ Ok given
+    → (one : ℕ × LiveReferences) × (q : List ℕ × LiveReferences) × (first ≡ Ok one) × (intern_each limits ts one.1 ≡ Ok q) × ((one.0 ∷ q.0, q.1) ≡ given)
 then-given limits ts (Ok one) given e = let rest = onto-given one.0 (intern_each limits ts one.1) given e in (one, rest.0, refl, rest.1, rest.2)
 then-given limits ts (Err f) given e = cc
 
-interned-each : (limits : Settings) (ts : List (Option Target)) (refs : References) (given : List ℕ × References) → intern_each limits ts refs ≡ Ok given → InternedEach limits ts refs given
+interned-each : (limits : Settings) (ts : List (Option Target)) (refs : LiveReferences) (given : List ℕ × LiveReferences) → intern_each limits ts refs ≡ Ok given → InternedEach limits ts refs given
 interned-each limits [] refs given e =
     let same : ([], refs) ≡ given = cc in
-    subst (λ (q : List ℕ × References). InternedEach limits [] refs q) same (record { grows = grows-not refs; names = tt; few = λ (h : AreFew limits refs). h })
+    subst (λ (q : List ℕ × LiveReferences). InternedEach limits [] refs q) same (record { grows = grows-not refs; names = tt; few = λ (h : AreFew limits refs). h })
 interned-each limits (None ∷ ts) refs given e =
     let rest = onto-given 0 (intern_each limits ts refs) given e in
     let ih = interned-each limits ts refs rest.0 rest.1 in
-    subst (λ (q : List ℕ × References). InternedEach limits (None ∷ ts) refs q) rest.2 (record { grows = ih.grows; names = (refl, ih.names); few = ih.few })
+    subst (λ (q : List ℕ × LiveReferences). InternedEach limits (None ∷ ts) refs q) rest.2 (record { grows = ih.grows; names = (refl, ih.names); few = ih.few })
 interned-each limits (Some t ∷ ts) refs given e =
     let both = then-given limits ts (intern limits t refs) given e in
     let first = interned-one limits t refs both.0 both.2 in
     let ih = interned-each limits ts both.0.1 both.1 both.3 in
-    subst (λ (q : List ℕ × References). InternedEach limits (Some t ∷ ts) refs q) both.4
+    subst (λ (q : List ℕ × LiveReferences). InternedEach limits (Some t ∷ ts) refs q) both.4
     (record {
       grows = grows-twice refs both.0.1 both.1.1 first.grows ih.grows;
       names = (grown-names both.0.1 both.1.1 both.0.0 t ih.grows first.names, ih.names);
@@ -244,33 +249,33 @@ pub record Moves (s : Session) (m : Made) : Type 0 where
 -- nothing of references
 apart-same : (s : Session) (m : Made) → m.after.references ≡ s.references → m.drops ≡ false → KeepsApart s m
 apart-same s m r d =
-    let base : m.after.references.base ≡ s.references.base = ap (λ (x : References). x.base) r in
+    let base : m.after.references.base ≡ s.references.base = ap (λ (x : LiveReferences). x.base) r in
     record {
       base = omega arith;
       dropped = λ (e : m.drops ≡ true) (n : ℕ) (t : Target) (h : target_of s.references n ≡ Some t). absurd (true≢false (sym e ∙ d));
-      lasting = λ (e : m.drops ≡ false) (n : ℕ) (t : Target) (h : target_of s.references n ≡ Some t). subst (λ (x : References). target_of x n ≡ Some t) (sym r) h;
+      lasting = λ (e : m.drops ≡ false) (n : ℕ) (t : Target) (h : target_of s.references n ≡ Some t). subst (λ (x : LiveReferences). target_of x n ≡ Some t) (sym r) h;
     }
 
 moves-same : (s : Session) (m : Made) → m.after.limits ≡ s.limits → m.after.references ≡ s.references → m.after.breakpoints ≡ s.breakpoints → m.drops ≡ false → Moves s m
 moves-same s m l r b d =
     record {
       limits = l;
-      few = λ (h : AreFew s.limits s.references). subst (λ (x : References). AreFew s.limits x) (sym r) h;
-      stand = λ (h : StandFew s.limits s.breakpoints). subst (λ (x : Breakpoints). StandFew s.limits x) (sym b) h;
+      few = λ (h : AreFew s.limits s.references). subst (λ (x : LiveReferences). AreFew s.limits x) (sym r) h;
+      stand = λ (h : StandFew s.limits s.breakpoints). subst (λ (x : SetBreakpoints). StandFew s.limits x) (sym b) h;
       apart = apart-same s m r d;
     }
 
 -- all references die
-few-cleared : (limits : Settings) (refs : References) → AreFew limits refs → AreFew limits (cleared refs)
+few-cleared : (limits : Settings) (refs : LiveReferences) → AreFew limits refs → AreFew limits (cleared refs)
 few-cleared limits refs h = record { references = omega arith; numbers = omega arith }
 
 moves-cleared : (s : Session) (m : Made) → m.after.limits ≡ s.limits → m.after.references ≡ cleared s.references → m.after.breakpoints ≡ s.breakpoints → m.drops ≡ true → Moves s m
 moves-cleared s m l r b d =
-    let base : m.after.references.base ≡ s.references.base + length s.references.live = ap (λ (x : References). x.base) r in
+    let base : m.after.references.base ≡ s.references.base + length s.references.live = ap (λ (x : LiveReferences). x.base) r in
     record {
       limits = l;
-      few = λ (h : AreFew s.limits s.references). subst (λ (x : References). AreFew s.limits x) (sym r) (few-cleared s.limits s.references h);
-      stand = λ (h : StandFew s.limits s.breakpoints). subst (λ (x : Breakpoints). StandFew s.limits x) (sym b) h;
+      few = λ (h : AreFew s.limits s.references). subst (λ (x : LiveReferences). AreFew s.limits x) (sym r) (few-cleared s.limits s.references h);
+      stand = λ (h : StandFew s.limits s.breakpoints). subst (λ (x : SetBreakpoints). StandFew s.limits x) (sym b) h;
       apart = record {
         base = omega arith;
         dropped = λ (e : m.drops ≡ true) (n : ℕ) (t : Target) (h : target_of s.references n ≡ Some t). let most = live-at-most s.references n t h in omega arith;
@@ -285,7 +290,7 @@ moves-grown s m l g f b d =
     record {
       limits = l;
       few = f;
-      stand = λ (h : StandFew s.limits s.breakpoints). subst (λ (x : Breakpoints). StandFew s.limits x) (sym b) h;
+      stand = λ (h : StandFew s.limits s.breakpoints). subst (λ (x : SetBreakpoints). StandFew s.limits x) (sym b) h;
       apart = record {
         base = omega arith;
         dropped = λ (e : m.drops ≡ true) (n : ℕ) (t : Target) (h : target_of s.references n ≡ Some t). absurd (true≢false (sym e ∙ d));
@@ -298,7 +303,7 @@ moves-set : (s : Session) (m : Made) → m.after.limits ≡ s.limits → m.after
 moves-set s m l r b d =
     record {
       limits = l;
-      few = λ (h : AreFew s.limits s.references). subst (λ (x : References). AreFew s.limits x) (sym r) h;
+      few = λ (h : AreFew s.limits s.references). subst (λ (x : LiveReferences). AreFew s.limits x) (sym r) h;
       stand = b;
       apart = apart-same s m r d;
     }
@@ -322,30 +327,6 @@ answered-moves s r answer = moves-same s (answered r answer s) refl refl refl re
 
 -- ---- breakpoints
 
-length-numbered : (first : ℕ) (lines : List ℕ) → length (numbered first lines) ≡ length lines
-length-numbered first [] = refl
-length-numbered first (line ∷ lines) = let ih = length-numbered (first + 1) lines in omega arith
-
-sum-both : (size : OfSource → ℕ) (xs ys : List OfSource) → sum (map size (xs ++ ys)) ≡ sum (map size xs) + sum (map size ys)
-sum-both size xs ys =
-    let all = sum-map size (xs ++ ys) in
-    let split = sum_by-append size xs ys in
-    let first = sum-map size xs in
-    let second = sum-map size ys in
-    omega arith
-
-count-set_for : (key : SourceKey) (set : List Breakpoint) → sum (map (λ (s : OfSource). length s.set) (set_for key set)) ≡ length set
-count-set_for key [] = refl
-count-set_for key (b ∷ bs) = omega arith
-
-count-replaced : (key : SourceKey) (lines : List ℕ) (b : Breakpoints) → count (replaced key lines b) ≡ sum (map (λ (s : OfSource). length s.set) (of_others key b.sources)) + length lines
-count-replaced key lines b =
-    let size = λ (s : OfSource). length s.set in
-    let both = sum-both size (of_others key b.sources) (set_for key (numbered b.next_id lines)) in
-    let set = count-set_for key (numbered b.next_id lines) in
-    let many = length-numbered b.next_id lines in
-    both ∙ ap (λ (n : ℕ). sum (map size (of_others key b.sources)) + n) (set ∙ many)
-
 length-asked-if : (b : Bool) (lines : List ℕ) → length (if b then lines else map (λ n. n + 1) lines) ≡ length lines
 length-asked-if true lines = refl
 length-asked-if false lines = length-map lines (λ (n : ℕ). n + 1)
@@ -353,11 +334,11 @@ length-asked-if false lines = length-map lines (λ (n : ℕ). n + 1)
 length-asked : (options : Options) (lines : List ℕ) → length (lines_asked options lines) ≡ length lines
 length-asked options lines = length-asked-if options.lines_start_at_1 lines
 
-few-replaced : (limits : Settings) (key : SourceKey) (lines asked : List ℕ) (b : Breakpoints) → length asked ≡ length lines → are_too_many limits key lines b ≡ false → StandFew limits (replaced key asked b)
+few-replaced : (limits : Settings) (key : SourceKey) (lines asked : List ℕ) (b : SetBreakpoints) → length asked ≡ length lines → are_too_many limits key lines b ≡ false → StandFew limits (replaced key asked b)
 few-replaced limits key lines asked b same h =
-    let others = sum (map (λ (s : OfSource). length s.set) (of_others key b.sources)) in
-    let most = le-not limits.breakpoints (others + length lines) (false-left (nat_lt limits.breakpoints (others + length lines)) (nat_lt (max_id + 1) (b.next_id + length lines)) h) in
-    let ids = le-not (max_id + 1) (b.next_id + length lines) (false-right (nat_lt limits.breakpoints (others + length lines)) (nat_lt (max_id + 1) (b.next_id + length lines)) h) in
+    let stand = count_with key lines b in
+    let most = le-not limits.breakpoints stand (false-left (nat_lt limits.breakpoints stand) (nat_lt (max_id + 1) (b.next_id + length lines)) h) in
+    let ids = le-not (max_id + 1) (b.next_id + length lines) (false-right (nat_lt limits.breakpoints stand) (nat_lt (max_id + 1) (b.next_id + length lines)) h) in
     let all = count-replaced key asked b in
     record { breakpoints = omega arith; ids = omega arith }
 
@@ -393,7 +374,7 @@ only-few s body t e =
     let same : record { body = body; names = []; references = s.references } ≡ t = cc in
     subst (λ (x : Told). TellsFew s x) same (record { grows = grows-not s.references; few = λ (h : AreFew s.limits s.references). h })
 
-with-few : (s : Session) (objects : List (Option Target)) (body : List ℕ → Data) (given : Result (List ℕ × References) Failure) → intern_each s.limits objects s.references ≡ given
+with-few : (s : Session) (objects : List (Option Target)) (body : List ℕ → Data) (given : Result (List ℕ × LiveReferences) Failure) → intern_each s.limits objects s.references ≡ given
     → AllFew s (and_then given (λ r. Ok (record { body = Some (body r.0); names = named objects; references = r.1 })))
 with-few s objects body (Ok r) is t e =
     let same : record { body = Some (body r.0); names = named objects; references = r.1 } ≡ t = cc in

@@ -5,7 +5,8 @@ use Rattle.std.proofs.lemmas.Bool.Decides.{nat_tests}
 use Rattle.std.proofs.lemmas.List.Elements.{filter-append}
 use Rattle.std.proofs.lemmas.List.{append-nil}
 use Rattle.serde_json.specs.Data.{Data}
-use Rattle.dap_history.specs.History.{Asked, Target, left_open}
+use Rattle.dap_history.specs.History.{Asked, left_open}
+use Rattle.dap_tables.specs.declared.target.Target.{Target}
 use Rattle.dap_message.specs.Types.Call.{Call}
 use Rattle.dap_message.specs.Types.Failure.{Failure}
 use Rattle.dap_message.specs.Types.Failure.TheVariants.{Cancelled, TooLarge, Debuggee, TooManyReferences, ReferencesExhausted}
@@ -19,7 +20,8 @@ use Rattle.dap_session.specs.Bodies.{Told, Telling}
 use Rattle.dap_session.specs.Handling.{begun, parked, started, configured, started_parked, left, finished, resumed, told, fits, by_reply, answer_each, resume_body}
 use Rattle.dap_session.specs.Plan.{Answer, success, failure, plain_success, Draft, reply, tell, names_in, outs, Made, nothing, answered, entries_of}
 use Rattle.dap_frame.specs.Settings.{Settings}
-use Rattle.dap_session.specs.References.{References, references_after, cleared, intern, intern_each, named, and_then, onto_first, numbered_at, place_of, with_targets}
+use Rattle.dap_session.specs.References.{references_after, intern, intern_each, named, and_then, onto_first, with_targets}
+use Rattle.dap_tables.specs.References.{LiveReferences, cleared, numbered_at, place_of}
 use Rattle.dap_session.specs.Session.{Session}
 use Rattle.dap_history.specs.Requests.{asked_of, asks}
 use Rattle.dap_tables.specs.Outstanding.{parked_ones, unparked_ones}
@@ -42,11 +44,11 @@ pub walked-told : (event : AdapterEvent) (qs : List Asked) → Walked (tell even
 walked-told event qs = record { each = tt; left_is = all-open qs }
 
 -- answers without references
-pub references-each : (refs : References) (used : ℕ) (answer : Answer) (ks : List Kept) → names_in answer ≡ [] → references_after refs (outs used (answer_each answer ks)) ≡ refs
+pub references-each : (refs : LiveReferences) (used : ℕ) (answer : Answer) (ks : List Kept) → names_in answer ≡ [] → references_after refs (outs used (answer_each answer ks)) ≡ refs
 references-each refs used answer [] e = refl
 references-each refs used answer (k ∷ ks) e = rw e (references-each refs (used + 1) answer ks e)
 
-pub references-more : (refs : References) (used : ℕ) (ds es : List Draft) → references_after refs (outs used (ds ++ es)) ≡ references_after (references_after refs (outs used ds)) (outs (used + length ds) es)
+pub references-more : (refs : LiveReferences) (used : ℕ) (ds es : List Draft) → references_after refs (outs used (ds ++ es)) ≡ references_after (references_after refs (outs used ds)) (outs (used + length ds) es)
 references-more refs used [] es = let e : used + 0 ≡ used = omega arith in rw e refl
 references-more refs used (d ∷ ds) es = let e : used + length (d ∷ ds) ≡ (used + 1) + length ds = omega arith in rw (references-more (references_after refs (outs used (d ∷ []))) (used + 1) ds es, e) refl
 
@@ -144,7 +146,7 @@ left-well s k d i =
     (walked-append (answer_each (failure Cancelled) others) (reply k.entry plain_success ∷ []) (asks s.kept) (asks (k ∷ [])) [] mid last)
     (omega arith)
     (sym (references-more (cleared s.references) s.used (answer_each (failure Cancelled) others) (reply k.entry plain_success ∷ [])
-    ∙ ap (λ (refs : References). references_after refs (outs (s.used + length (answer_each (failure Cancelled) others)) (reply k.entry plain_success ∷ []))) (references-each (cleared s.references) s.used (failure Cancelled) others refl)))
+    ∙ ap (λ (refs : LiveReferences). references_after refs (outs (s.used + length (answer_each (failure Cancelled) others)) (reply k.entry plain_success ∷ []))) (references-each (cleared s.references) s.used (failure Cancelled) others refl)))
 
 pub finished-well : (s : Session) (k : Kept) → HasDistinctSeqs s.kept → IsKept s.kept k → GoesWell s [] (finished s k.entry)
 finished-well s k d i = walked-well s (finished s k.entry) refl (replied-and-told s.kept k plain_success terminated d i) refl refl
@@ -171,28 +173,28 @@ pub told-well : (s : Session) (k : Kept) (telling_is : Telling) → ((t : Told) 
 told-well s k (Err f) w d i = answered-well s k (failure f) refl d i
 told-well s k (Ok t) w d i = told-well-if (fits s k.entry t.body) s k t (w t refl) d i
 
-interned-next : (a b : Bool) (n : ℕ) (refs : References) (t : Target) (r : ℕ × References)
-    → (let given : Result (ℕ × References) Failure = (if a then (if b then Ok (n, record refs { live = refs.live ++ t ∷ [] }) else Err ReferencesExhausted) else Err TooManyReferences) in given) ≡ Ok r
+interned-next : (a b : Bool) (n : ℕ) (refs : LiveReferences) (t : Target) (r : ℕ × LiveReferences)
+    → (let given : Result (ℕ × LiveReferences) Failure = (if a then (if b then Ok (n, record refs { live = refs.live ++ t ∷ [] }) else Err ReferencesExhausted) else Err TooManyReferences) in given) ≡ Ok r
     → r.1 ≡ record refs { live = refs.live ++ t ∷ [] }
-interned-next true true n refs t r e = let same : (n, record refs { live = refs.live ++ t ∷ [] }) ≡ r = cc in sym (ap (λ (x : ℕ × References). x.1) same)
+interned-next true true n refs t r e = let same : (n, record refs { live = refs.live ++ t ∷ [] }) ≡ r = cc in sym (ap (λ (x : ℕ × LiveReferences). x.1) same)
 interned-next true false n refs t r e = cc
 interned-next false b n refs t r e = cc
 
-interned-one : (o : Option ℕ) (limits : Settings) (t : Target) (refs : References) (r : ℕ × References) → numbered_at o limits t refs ≡ Ok r → r.1 ≡ record refs { live = if is_some o then refs.live else refs.live ++ t ∷ [] }
-interned-one (Some p) limits t refs r e = let same : (refs.base + 1 + p, refs) ≡ r = cc in sym (ap (λ (x : ℕ × References). x.1) same)
+interned-one : (o : Option ℕ) (limits : Settings) (t : Target) (refs : LiveReferences) (r : ℕ × LiveReferences) → numbered_at o TooManyReferences ReferencesExhausted limits.references limits.reference t refs ≡ Ok r → r.1 ≡ record refs { live = if is_some o then refs.live else refs.live ++ t ∷ [] }
+interned-one (Some p) limits t refs r e = let same : (refs.base + 1 + p, refs) ≡ r = cc in sym (ap (λ (x : ℕ × LiveReferences). x.1) same)
 interned-one None limits t refs r e = interned-next (nat_lt (length refs.live) limits.references) (nat_lt (refs.base + length refs.live) limits.reference) (refs.base + 1 + length refs.live) refs t r e
 
-onto-ok : (n : ℕ) (given : Result (List ℕ × References) Failure) (r : List ℕ × References) → onto_first n given ≡ Ok r → (q : List ℕ × References) × (given ≡ Ok q) × (q.1 ≡ r.1)
-onto-ok n (Ok q) r e = let same : (n ∷ q.0, q.1) ≡ r = cc in (q, refl, ap (λ (x : List ℕ × References). x.1) same)
+onto-ok : (n : ℕ) (given : Result (List ℕ × LiveReferences) Failure) (r : List ℕ × LiveReferences) → onto_first n given ≡ Ok r → (q : List ℕ × LiveReferences) × (given ≡ Ok q) × (q.1 ≡ r.1)
+onto-ok n (Ok q) r e = let same : (n ∷ q.0, q.1) ≡ r = cc in (q, refl, ap (λ (x : List ℕ × LiveReferences). x.1) same)
 onto-ok n (Err f) r e = cc
 
-interned-then : (limits : Settings) (ts : List (Option Target)) (given : Result (ℕ × References) Failure) (r : List ℕ × References) → and_then given (λ x. onto_first x.0 (intern_each limits ts x.1)) ≡ Ok r
-    → (one : ℕ × References) × (q : List ℕ × References) × (given ≡ Ok one) × (intern_each limits ts one.1 ≡ Ok q) × (q.1 ≡ r.1)
+interned-then : (limits : Settings) (ts : List (Option Target)) (given : Result (ℕ × LiveReferences) Failure) (r : List ℕ × LiveReferences) → and_then given (λ x. onto_first x.0 (intern_each limits ts x.1)) ≡ Ok r
+    → (one : ℕ × LiveReferences) × (q : List ℕ × LiveReferences) × (given ≡ Ok one) × (intern_each limits ts one.1 ≡ Ok q) × (q.1 ≡ r.1)
 interned-then limits ts (Ok one) r e = let rest = onto-ok one.0 (intern_each limits ts one.1) r e in (one, rest.0, refl, rest.1, rest.2)
 interned-then limits ts (Err f) r e = cc
 
-pub interned-are : (limits : Settings) (ts : List (Option Target)) (refs : References) (r : List ℕ × References) → intern_each limits ts refs ≡ Ok r → r.1 ≡ record refs { live = with_targets (named ts) refs.live }
-interned-are limits [] refs r e = let same : ([], refs) ≡ r = cc in sym (ap (λ (x : List ℕ × References). x.1) same)
+pub interned-are : (limits : Settings) (ts : List (Option Target)) (refs : LiveReferences) (r : List ℕ × LiveReferences) → intern_each limits ts refs ≡ Ok r → r.1 ≡ record refs { live = with_targets (named ts) refs.live }
+interned-are limits [] refs r e = let same : ([], refs) ≡ r = cc in sym (ap (λ (x : List ℕ × LiveReferences). x.1) same)
 interned-are limits (None ∷ ts) refs r e =
     let rest = onto-ok 0 (intern_each limits ts refs) r e in
     sym rest.2 ∙ interned-are limits ts refs rest.0 rest.1

@@ -8,7 +8,8 @@ use Rattle.dap_history.specs.HistoryLaws.{HistoriesGrow}
 use Rattle.dap_message.specs.declared.message.Message.{Message}
 use Rattle.dap_session.specs.Answering.{answered_by, AnswersEach, open_after, GoesWell}
 use Rattle.dap_session.specs.Plan.{success, failure, Draft, reply, tell, message_of, names_of, numbered, outs, Made, entries_of, dropping}
-use Rattle.dap_session.specs.References.{References, references_then, references_after, references_of, no_references}
+use Rattle.dap_session.specs.References.{references_then, references_after, references_of}
+use Rattle.dap_tables.specs.References.{LiveReferences, no_references}
 use Rattle.dap_session.specs.Session.{Session}
 use Rattle.dap_history.specs.Requests.{asked_of, asks}
 use Rattle.dap_session.specs.Follows.{Follows}
@@ -19,7 +20,7 @@ all_left : (open_requests : List Asked) → left_open None open_requests ≡ ope
 all_left [] = refl
 all_left (q ∷ qs) = ap (λ (xs : List Asked). q ∷ xs) (all_left qs)
 
-pub references_after-append : (refs : References) (h k : List Entry) → references_after refs (h ++ k) ≡ references_after (references_after refs h) k
+pub references_after-append : (refs : LiveReferences) (h k : List Entry) → references_after refs (h ++ k) ≡ references_after (references_after refs h) k
 references_after-append refs [] k = refl
 references_after-append refs (e ∷ h) k = references_after-append (references_then e refs) h k
 
@@ -145,7 +146,7 @@ counted-then laws s came m h well c =
     let now = well.used in
     let from : 0 + length (outs_of h) ≡ s.used = omega arith in
     record {
-      references = well.references ∙ (ap (λ (refs : References). references_after refs (entries_of s.used m)) c.references ∙ sym (references_after-append no_references h (entries_of s.used m)));
+      references = well.references ∙ (ap (λ (refs : LiveReferences). references_after refs (entries_of s.used m)) c.references ∙ sym (references_after-append no_references h (entries_of s.used m)));
       used = omega arith;
       numbered_so = rw all_outs (AreNumberedAfter-append 0 (outs_of h) (numbered s.used m.drafts) c.numbered_so (rw from (numbered-are s.used m.drafts)));
     }

@@ -2,7 +2,7 @@
 use Rattle.std.proofs.Common.{◌≡◌, ℕ, ◌-◌, List, [], ◌∷◌, Option, Some, None, Result, Ok, Err, length, refl, map}
 use Rattle.std.specs.Prelude.{option_and_then, option_map}
 use Rattle.serde_json.specs.Data.{Data}
-use Rattle.dap_history.specs.History.{Target}
+use Rattle.dap_tables.specs.declared.target.Target.{Target}
 use Rattle.dap_message.specs.ResponseBody.{source_body, stack_trace_body, scopes_body, variables_body, evaluate_body}
 use Rattle.dap_message.specs.Types.Call.{Call}
 use Rattle.dap_message.specs.Types.Call.TheVariants as call
@@ -13,7 +13,8 @@ use Rattle.dap_debuggee.specs.declared.answers.Scope.{Scope}
 use Rattle.dap_debuggee.specs.declared.answers.Variable.{Variable}
 use Rattle.dap_debuggee.specs.declared.answers.Evaluation.{Evaluation}
 use Rattle.dap_session.specs.Bodies.{Told, Telling, telling, tells_only, tells_with, asked_for, frames_told, scopes_told, variables_told, value_told, window, page, object_of, with_numbers, frame_told, scope_told, variable_told, number_in}
-use Rattle.dap_session.specs.References.{References, frame_of, holder_of, intern_each, named, and_then}
+use Rattle.dap_session.specs.References.{intern_each, named, and_then}
+use Rattle.dap_tables.specs.References.{LiveReferences, frame_of, holder_of}
 use Rattle.dap_session.specs.Session.{Session}
 use Rattle.dap_session.proofs.Rows.{TellsWell, interned-are}
 
@@ -26,7 +27,7 @@ only-well s body t e =
     let same : record { body = body; names = []; references = s.references } ≡ t = cc in
     record { references = rw (← same) refl }
 
-with-well : (s : Session) (objects : List (Option Target)) (body : List ℕ → Data) (given : Result (List ℕ × References) Failure) → intern_each s.limits objects s.references ≡ given
+with-well : (s : Session) (objects : List (Option Target)) (body : List ℕ → Data) (given : Result (List ℕ × LiveReferences) Failure) → intern_each s.limits objects s.references ≡ given
     → AreWell s (and_then given (λ r. Ok (record { body = Some (body r.0); names = named objects; references = r.1 })))
 with-well s objects body (Ok r) is t e =
     let same : record { body = Some (body r.0); names = named objects; references = r.1 } ≡ t = cc in

@@ -3,7 +3,7 @@
 use Rattle.std.specs.Prelude.{ℕ, ◌+◌, ◌-◌, List, [], ◌∷◌, length, map, take, drop, nat_lt, Option, Some, None, option_map, option_and_then, unwrap_or, Result, Ok, Err, if◌then◌else◌}
 use Rattle.std.specs.List.{slice_get}
 use Rattle.serde_json.specs.Data.{Data}
-use Rattle.dap_history.specs.History.{Target}
+use Rattle.dap_tables.specs.declared.target.Target.{Target}
 use Rattle.dap_message.specs.ResponseBody.{threads_body, stack_trace_body, scopes_body, variables_body, evaluate_body, source_body, loaded_sources_body}
 use Rattle.dap_message.specs.Types.Call.{Call}
 use Rattle.dap_message.specs.Types.Call.TheVariants as call
@@ -22,14 +22,15 @@ use Rattle.dap_debuggee.specs.declared.answers.Variable.{Variable}
 use Rattle.dap_debuggee.specs.declared.answers.Evaluation.{Evaluation}
 use Rattle.dap_debuggee.specs.declared.answers.Source.{Source}
 use Rattle.dap_session.specs.declared.options.Options.{Options}
-use Rattle.dap_session.specs.References.{References, frame_of, holder_of, intern_each, named, target_of, and_then}
+use Rattle.dap_session.specs.References.{intern_each, named, and_then}
+use Rattle.dap_tables.specs.References.{LiveReferences, frame_of, holder_of, target_of}
 use Rattle.dap_session.specs.Session.{Session}
 
 -- what is told: the body, what its references name, and the references that are live then
 pub record Told : Type 0 where
   pub body : Option Data
   pub names : List Target
-  pub references : References
+  pub references : LiveReferences
 
 abbrev pub Telling : Type 0
 Telling = Result Told Failure
@@ -115,7 +116,7 @@ abbrev pub value_told : Session → Evaluation → Telling
 value_told s value = tells_with s (option_map holder_of value.holder ∷ []) (λ numbers. evaluate_body value.value (number_in numbers))
 
 -- the object of a live number
-abbrev pub object_of : References → ℕ → Option ℕ
+abbrev pub object_of : LiveReferences → ℕ → Option ℕ
 object_of refs number = option_map (λ t. t.object) (target_of refs number)
 
 -- only a client that pages variables gets a part of them

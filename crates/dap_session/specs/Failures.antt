@@ -6,7 +6,8 @@ use Rattle.std.specs.Ordering.{int_eq}
 use Rattle.dap_message.specs.Argument.{Read}
 use Rattle.dap_message.specs.Call.{call_of}
 use Rattle.dap_message.specs.Command.{command_named}
-use Rattle.dap_history.specs.History.{TargetKind, frame, holder}
+use Rattle.dap_tables.specs.declared.reference_kind.ReferenceKind.{ReferenceKind}
+use Rattle.dap_tables.specs.declared.reference_kind.ReferenceKind.TheVariants.{Frame, Holder}
 use Rattle.dap_message.specs.Types.Call.{Call}
 use Rattle.dap_message.specs.Types.Call.TheVariants as call
 use Rattle.dap_message.specs.Types.Command.{Command}
@@ -17,7 +18,7 @@ use Rattle.dap_debuggee.specs.Shown.{Shown}
 use Rattle.dap_tables.specs.declared.entry.Entry.{Entry}
 use Rattle.dap_session.specs.declared.phase.Phase.{Phase}
 use Rattle.dap_session.specs.declared.phase.Phase.TheVariants.{Fresh, Running}
-use Rattle.dap_session.specs.References.{References, target_of, is_of_kind}
+use Rattle.dap_tables.specs.References.{LiveReferences, target_of, is_of_kind}
 use Rattle.dap_session.specs.Session.{Session}
 use Rattle.dap_session.specs.Table.{is_phase, is_served, is_never_served, is_of_stops, is_put_off}
 
@@ -63,10 +64,10 @@ thread_named (call.StackTrace asked) = Some asked.thread_id
 thread_named _ = None
 
 -- the number that has to name something live of its kind
-abbrev pub reference_named : Call → Option (TargetKind × ℕ)
-reference_named (call.Scopes number) = Some (frame, number)
-reference_named (call.Variables asked) = Some (holder, asked.variables_reference)
-reference_named (call.Evaluate asked) = option_map (λ number. (frame, number)) asked.frame_id
+abbrev pub reference_named : Call → Option (ReferenceKind × ℕ)
+reference_named (call.Scopes number) = Some (Frame, number)
+reference_named (call.Variables asked) = Some (Holder, asked.variables_reference)
+reference_named (call.Evaluate asked) = option_map (λ number. (Frame, number)) asked.frame_id
 reference_named _ = None
 
 -- the number that has to name a source
@@ -81,7 +82,7 @@ abbrev pub lacks_thread : Shown → Option ℤ → Bool
 lacks_thread view None = false
 lacks_thread view (Some id) = not (has_thread view id)
 
-abbrev pub lacks_reference : References → Option (TargetKind × ℕ) → Bool
+abbrev pub lacks_reference : LiveReferences → Option (ReferenceKind × ℕ) → Bool
 lacks_reference refs None = false
 lacks_reference refs (Some n) = not (is_of_kind n.0 (target_of refs n.1))
 
@@ -126,14 +127,14 @@ phase_refused phase c = first (
     ∷ [])
 
 -- of what the arguments name
-abbrev pub call_refused : Shown → References → Call → Option Failure
+abbrev pub call_refused : Shown → LiveReferences → Call → Option Failure
 call_refused view refs asked = first (
     when (lacks_thread view (thread_named asked)) UnknownThread
     ∷ when (lacks_reference refs (reference_named asked)) StaleReference
     ∷ when (lacks_source view (source_named asked)) UnknownSource
     ∷ [])
 
-abbrev pub read_refused : Shown → References → Read Call → Option Failure
+abbrev pub read_refused : Shown → LiveReferences → Read Call → Option Failure
 read_refused view refs (Err key) = None
 read_refused view refs (Ok asked) = call_refused view refs asked
 

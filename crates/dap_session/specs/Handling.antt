@@ -27,10 +27,11 @@ use Rattle.dap_session.specs.declared.effect.Effect.TheVariants as effect
 use Rattle.dap_session.specs.declared.options.Options.{Options}
 use Rattle.dap_session.specs.declared.fault.AdapterFault.{AdapterFault}
 use Rattle.dap_session.specs.Bodies.{Telling, telling}
-use Rattle.dap_session.specs.Breakpoints.{replaced, are_too_many}
+use Rattle.dap_session.specs.Breakpoints.{are_too_many}
+use Rattle.dap_tables.specs.Breakpoints.{replaced}
 use Rattle.dap_session.specs.Failures.{command_of, call_in, refusal_but, thread_named}
 use Rattle.dap_session.specs.Plan.{Answer, success, failure, plain_success, Draft, reply, tell, Made, Plan, at_once, asking, nothing, answered, affordable}
-use Rattle.dap_session.specs.References.{cleared}
+use Rattle.dap_tables.specs.References.{cleared}
 use Rattle.dap_session.specs.Session.{Session, usual_options, oldest}
 use Rattle.dap_tables.specs.Outstanding.{parked_ones, unparked_ones}
 use Rattle.dap_session.specs.Table.{effect_in, is_put_off}

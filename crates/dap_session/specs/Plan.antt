@@ -5,7 +5,8 @@ use Rattle.std.specs.List.{flat_map}
 use Rattle.serde_json.specs.Data.{Data}
 use Rattle.dap_frame.specs.Written.{frame_of}
 use Rattle.dap_message.specs.Canon.{canon}
-use Rattle.dap_history.specs.History.{Target, Entry, Out, Drop}
+use Rattle.dap_history.specs.History.{Entry, Out, Drop}
+use Rattle.dap_tables.specs.declared.target.Target.{Target}
 use Rattle.dap_message.specs.Lengths.{AdapterEvent, event_name, event_body, succeeded, failed, happened}
 use Rattle.dap_message.specs.Types.Failure.{Failure}
 use Rattle.dap_message.specs.declared.message.Message.{Message}

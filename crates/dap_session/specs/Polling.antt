@@ -8,7 +8,7 @@ use Rattle.dap_debuggee.specs.declared.answers.Happening.TheVariants as happenin
 use Rattle.dap_session.specs.declared.phase.Phase.{Phase}
 use Rattle.dap_session.specs.declared.phase.Phase.TheVariants.{Running, Stopped, Exited}
 use Rattle.dap_session.specs.Plan.{tell, Made, Plan, at_once, asking, nothing}
-use Rattle.dap_session.specs.References.{cleared}
+use Rattle.dap_tables.specs.References.{cleared}
 use Rattle.dap_session.specs.Session.{Session}
 use Rattle.dap_session.specs.Table.{is_phase}
 

@@ -3,7 +3,7 @@
 use Rattle.std.specs.Prelude.{◌≡◌, ℕ, ◌≤◌, List, Bool, true, false, Option, Some, None, Ok}
 use Rattle.std.specs.List.{AllZip}
 use Rattle.dap_frame.specs.Settings.{Settings}
-use Rattle.dap_history.specs.History.{Target}
+use Rattle.dap_tables.specs.declared.target.Target.{Target}
 use Rattle.dap_message.specs.Types.Command.{Command}
 use Rattle.dap_message.specs.declared.message.Message.{Message}
 use Rattle.dap_debuggee.specs.Shown.{Shown}
@@ -11,12 +11,13 @@ use Rattle.dap_session.specs.Handling.{turns_but}
 use Rattle.dap_session.specs.Laws.{CanMake}
 use Rattle.dap_session.specs.Plan.{Made, Plan}
 use Rattle.dap_session.specs.Polling.{polls}
-use Rattle.dap_session.specs.References.{References, target_of, intern_each}
+use Rattle.dap_session.specs.References.{intern_each}
+use Rattle.dap_tables.specs.References.{LiveReferences, target_of}
 use Rattle.dap_session.specs.Session.{Session}
 use Rattle.dap_session.specs.Taking.{takes}
 
 -- the number of an object is a live reference to it, and 0 where there is no object
-abbrev pub IsNumberOf : References → Option Target → ℕ → Type 0
+abbrev pub IsNumberOf : LiveReferences → Option Target → ℕ → Type 0
 IsNumberOf refs None n = n ≡ 0
 IsNumberOf refs (Some t) n = target_of refs n ≡ Some t
 
@@ -31,12 +32,12 @@ pub record KeepsApart (s : Session) (made : Made) : Type 0 where
 
 pub record ReferencesAreApart : Type 0 where
   -- a number at or below the base is dead: it names nothing
-  pub dead : (refs : References) (n : ℕ) → n ≤ refs.base → target_of refs n ≡ None
+  pub dead : (refs : LiveReferences) (n : ℕ) → n ≤ refs.base → target_of refs n ≡ None
   pub take : (s : Session) (m : Message) (plan : Plan) (made : Made) → takes m s ≡ Ok plan → CanMake plan made → KeepsApart s made
   pub turn : (put_off : Command → Bool) (view : Shown) (s : Session) (plan : Plan) (made : Made) → turns_but put_off view s ≡ Ok (Some plan) → CanMake plan made → KeepsApart s made
   pub poll : (s : Session) (made : Made) → CanMake (polls s) made → KeepsApart s made
   -- the numbers that an answer's objects are given name them, each in its place
-  pub named : (limits : Settings) (objects : List (Option Target)) (refs : References) (given : List ℕ × References) → intern_each limits objects refs ≡ Ok given → AllZip (IsNumberOf given.1) objects given.0
+  pub named : (limits : Settings) (objects : List (Option Target)) (refs : LiveReferences) (given : List ℕ × LiveReferences) → intern_each limits objects refs ≡ Ok given → AllZip (IsNumberOf given.1) objects given.0
   -- and a number that named something before names it still
-  pub kept : (limits : Settings) (objects : List (Option Target)) (refs : References) (given : List ℕ × References) → intern_each limits objects refs ≡ Ok given
+  pub kept : (limits : Settings) (objects : List (Option Target)) (refs : LiveReferences) (given : List ℕ × LiveReferences) → intern_each limits objects refs ≡ Ok given
       → (n : ℕ) (t : Target) → target_of refs n ≡ Some t → target_of given.1 n ≡ Some t

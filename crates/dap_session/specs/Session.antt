@@ -7,8 +7,8 @@ use Rattle.dap_debuggee.specs.declared.answers.State.TheVariants as state
 use Rattle.dap_session.specs.declared.phase.Phase.{Phase}
 use Rattle.dap_session.specs.declared.phase.Phase.TheVariants.{Fresh, Running, Stopped, Exited, Ended}
 use Rattle.dap_session.specs.declared.options.Options.{Options}
-use Rattle.dap_session.specs.References.{References, no_references}
-use Rattle.dap_session.specs.Breakpoints.{Breakpoints, no_breakpoints}
+use Rattle.dap_tables.specs.References.{LiveReferences, no_references}
+use Rattle.dap_tables.specs.Breakpoints.{SetBreakpoints, no_breakpoints}
 
 pub record Session : Type 0 where
   pub limits : Settings
@@ -16,8 +16,8 @@ pub record Session : Type 0 where
   pub options : Options
   -- the requests to answer, by arrival
   pub kept : List Kept
-  pub references : References
-  pub breakpoints : Breakpoints
+  pub references : LiveReferences
+  pub breakpoints : SetBreakpoints
   -- own sequence numbers that were given
   pub used : ℕ
 

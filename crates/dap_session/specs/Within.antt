@@ -5,7 +5,7 @@ use Rattle.dap_message.specs.Types.Command.{Command}
 use Rattle.dap_message.specs.declared.message.Message.{Message}
 use Rattle.dap_tables.specs.Outstanding.{HasDistinctSeqs}
 use Rattle.dap_debuggee.specs.Shown.{Shown}
-use Rattle.dap_session.specs.Breakpoints.{count, max_id}
+use Rattle.dap_tables.specs.Breakpoints.{count, max_id}
 use Rattle.dap_session.specs.Handling.{turns_but}
 use Rattle.dap_session.specs.Laws.{CanMake}
 use Rattle.dap_session.specs.Plan.{Made, Plan, due}
@@ -25,7 +25,7 @@ pub record IsWithin (s : Session) : Type 0 where
   -- no reference was given a number past the greatest
   pub numbers : s.references.base + length s.references.live ≤ s.limits.reference
   -- as many as stand
-  pub breakpoints : count s.breakpoints ≤ s.limits.breakpoints
+  pub breakpoints : count s.breakpoints.sources ≤ s.limits.breakpoints
   -- no breakpoint was given an id past the greatest
   pub ids : s.breakpoints.next_id ≤ max_id + 1
 

@@ -7,7 +7,7 @@ ghost use Rattle.dap_session.specs.Failures.{phase_refused, call_refused, call_i
 ghost use Rattle.dap_message.specs.Argument.{Gives};
 ghost use Rattle.dap_message.specs.Call.{takes_memory};
 ghost use Rattle.dap_message.specs.Types.CallFault.{CallFault};
-ghost use Rattle.dap_session.specs.References.{no_references};
+ghost use Rattle.dap_tables.specs.References.{no_references};
 ghost use Rattle.dap_session.specs.Seat.{decided};
 ghost use Rattle.dap_session.specs.Handling.{plan, thread_of};
 ghost use Rattle.dap_session.specs.Table.{is_put_off, is_never_served, effect_in};

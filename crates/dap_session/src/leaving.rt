@@ -5,7 +5,7 @@ ghost use Rattle.dap_debuggee.specs.Shown.{to_end};
 ghost use Rattle.dap_session.specs.declared.phase.Phase.{Phase};
 ghost use Rattle.dap_session.specs.Handling.{left};
 ghost use Rattle.dap_session.specs.Plan.{at_once, asking, due};
-ghost use Rattle.dap_session.specs.References.{cleared};
+ghost use Rattle.dap_tables.specs.References.{cleared};
 ghost use Rattle.dap_session.specs.Seat.{Carries, IsRefusedFor};
 ghost use Rattle.dap_session.specs.Sheet.{Holds};
 

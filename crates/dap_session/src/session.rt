@@ -1,7 +1,7 @@
 //! A session with its debuggee: what is kept, and how it changes.
 ghost use Rattle.std.specs.Prelude.{◌≡◌, ◌+◌, ◌≤◌, ◌<◌, [], ◌∷◌, ◌++◌, length, IfOk, OnOk, OnErr, IsTrue, true, false, not, nat_lt};
 ghost use Rattle.dap_tables.specs.Outstanding.{without, with_mark, contains_seq, unparked, unparked_ones, IsOrderly};
-ghost use Rattle.dap_session.specs.Breakpoints.{count};
+ghost use Rattle.dap_tables.specs.Breakpoints.{count};
 ghost use Rattle.dap_session.specs.Session.{fresh_session};
 ghost use Rattle.dap_debuggee.specs.Shown.{to_start, to_resume, to_pause, to_poll, to_end, done, happened};
 
@@ -29,8 +29,8 @@ impl<D: Debuggee + Drop> Model for Session<D> {
     ghost use Rattle.std.specs.Coded.{codes};
     ghost use Rattle.dap_json.specs.Stored.{coded_data};
     ghost use Rattle.dap_session.specs.Seat.{Seat, IsSession};
-    ghost use Rattle.dap_session.specs.References.{no_references};
-    ghost use Rattle.dap_session.specs.Breakpoints.{no_breakpoints};
+    ghost use Rattle.dap_tables.specs.References.{no_references};
+    ghost use Rattle.dap_tables.specs.Breakpoints.{no_breakpoints};
 
     ghost Value = { Seat D };
 
@@ -54,7 +54,7 @@ impl<D: Debuggee + Drop> Model for Session<D> {
 
 impl<D: Debuggee + Drop> Session<D> {
     ghost use Rattle.dap_session.specs.Seat.{reply_of};
-    ghost use Rattle.dap_session.specs.References.{cleared};
+    ghost use Rattle.dap_tables.specs.References.{cleared};
 
     /// A fresh session.
     pub fn open(alloc: Global, limits: Limits, debuggee: D) -> Result<Session<D>, AllocError>
@@ -102,7 +102,7 @@ impl<D: Debuggee + Drop> Session<D> {
 
     /// How many breakpoints are set.
     pub fn breakpoints(&self) -> usize
-        ensures set { result ≡ count self.now.session.breakpoints }
+        ensures set { result ≡ count self.now.session.breakpoints.sources }
         ensures bound { result ≤ self.now.session.limits.breakpoints }
     {
         let _ = &self.limits;
