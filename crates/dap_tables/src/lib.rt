@@ -11,6 +11,7 @@ mod breakpoint_tests;
 mod breakpoints;
 mod entry;
 mod in_order;
+pub mod laws;
 mod live_targets;
 mod mark;
 mod outstanding;
