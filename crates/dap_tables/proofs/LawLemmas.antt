@@ -121,9 +121,9 @@ interns-keep (call ∷ calls) old new number t h i r =
 pub never-again : NumbersNeverComeAgain
 never-again = record {
   dead = λ calls old new number target h r.
-    let most = live-at-most old.references number target h in
-    let base = ap (λ (table : ReferenceTable). table.references.base) r.1 in
-    stays-dead calls r.0 new number (omega arith) r.2;
+      let most = live-at-most old.references number target h in
+      let base = ap (λ (table : ReferenceTable). table.references.base) r.1 in
+      stays-dead calls r.0 new number (omega arith) r.2;
   kept = interns-keep;
 }
 
