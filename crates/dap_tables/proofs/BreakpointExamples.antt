@@ -1,8 +1,8 @@
 -- Small tables of breakpoints, worked out.
-use Rattle.std.proofs.Common.{◌≡◌, ℕ, List, [], ◌∷◌, true, false, codes, refl, lit≤, lit<, arith}
+use Rattle.std.proofs.Common.{◌≡◌, [], ◌∷◌, false, codes, refl, lit≤, lit<, arith}
 use Rattle.dap_call.specs.declared.call.SourceKey.{SourceKey}
 use Rattle.dap_call.specs.declared.call.SourceKey.TheVariants.{Path, Reference}
-use Rattle.dap_tables.specs.Breakpoints.{OfSource, SetBreakpoints, no_breakpoints, is_source, set_of, count, replaced, count_with, max_id, HasDistinctSources, HasNoEmptyList, IsRefusedForRoom, IsRefusedForIds}
+use Rattle.dap_tables.specs.Breakpoints.{SetBreakpoints, no_breakpoints, is_source, set_of, count, replaced, count_with, max_id, HasDistinctSources, HasNoEmptyList, IsRefusedForRoom, IsRefusedForIds}
 
 abbrev a : SourceKey
 a = Path (codes "/a.c")

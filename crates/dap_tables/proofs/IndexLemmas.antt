@@ -1,5 +1,5 @@
 -- The indexes of live targets: what a target more or less leaves of them.
-use Rattle.std.proofs.Common.{◌≡◌, ℕ, ◌+◌, ◌-◌, ◌<◌, List, [], ◌∷◌, ◌++◌, Bool, true, false, cond, length, take, Option, Some, None, refl, sym, ap, subst, ◌∙◌, arith, length-take}
+use Rattle.std.proofs.Common.{◌≡◌, ℕ, List, [], ◌∷◌, ◌++◌, Bool, true, false, cond, length, Option, Some, None, refl, sym, ap, subst, ◌∙◌, arith}
 use Rattle.std.specs.Prelude.{◌==◌}
 use Rattle.std.specs.BTreeMap.{BTreeMap, get, is_at}
 use Rattle.std.specs.Cmp.{unsigned_tied}
@@ -78,43 +78,47 @@ distinct-init (x ∷ live) t d =
 pub frame-pushed : (frames holders new : BTreeMap ℕ ℕ) (live items : List Target) (object n : ℕ) → HasPlaces frames holders live × HasDistinctTargets live → place_of (frame_of object) live ≡ None → n ≡ length live
     → ((q : ℕ) → get nat_cmp new q ≡ cond (is_at (nat_cmp object) q) (Some n) (get nat_cmp frames q)) → items ≡ live ++ frame_of object ∷ [] → HasPlaces new holders items × HasDistinctTargets items
 frame-pushed frames holders new live items object n has none is updates more =
-    subst (λ (ts : List Target). HasPlaces new holders ts × HasDistinctTargets ts) (sym more)
-    (record {
+    subst (λ (ts : List Target). HasPlaces new holders ts × HasDistinctTargets ts) (sym more) (
+      record {
         frames_at = place-added frame_of holder_of (λ o q. refl) (λ o q. refl) frames new live object n has.0.frames_at none is updates;
         holders_at = λ q. has.0.holders_at q ∙ sym (other-place frame_of holder_of (λ o q. refl) (λ o q. refl) live object q);
       },
-      distinct-push live (frame_of object) has.1 none)
+      distinct-push live (frame_of object) has.1 none,
+    )
 
 pub frame-popped : (frames holders new : BTreeMap ℕ ℕ) (live items : List Target) (object : ℕ) → HasPlaces frames holders live × HasDistinctTargets live → live ≡ items ++ frame_of object ∷ []
     → ((q : ℕ) → get nat_cmp new q ≡ cond (is_at (nat_cmp object) q) None (get nat_cmp frames q)) → HasPlaces new holders items × HasDistinctTargets items
 frame-popped frames holders new live items object has more updates =
     let whole = subst (λ (ts : List Target). HasPlaces frames holders ts × HasDistinctTargets ts) more has in
-    let rest = distinct-init items (frame_of object) whole.1 in
-    (record {
+    let rest = distinct-init items (frame_of object) whole.1 in (
+      record {
         frames_at = place-gone frame_of holder_of (λ o q. refl) (λ o q. refl) frames new items object whole.0.frames_at rest.0 updates;
         holders_at = λ q. whole.0.holders_at q ∙ other-place frame_of holder_of (λ o q. refl) (λ o q. refl) items object q;
       },
-      rest.1)
+      rest.1,
+    )
 
 -- ---- holders
 
 pub holder-pushed : (frames holders new : BTreeMap ℕ ℕ) (live items : List Target) (object n : ℕ) → HasPlaces frames holders live × HasDistinctTargets live → place_of (holder_of object) live ≡ None → n ≡ length live
     → ((q : ℕ) → get nat_cmp new q ≡ cond (is_at (nat_cmp object) q) (Some n) (get nat_cmp holders q)) → items ≡ live ++ holder_of object ∷ [] → HasPlaces frames new items × HasDistinctTargets items
 holder-pushed frames holders new live items object n has none is updates more =
-    subst (λ (ts : List Target). HasPlaces frames new ts × HasDistinctTargets ts) (sym more)
-    (record {
+    subst (λ (ts : List Target). HasPlaces frames new ts × HasDistinctTargets ts) (sym more) (
+      record {
         frames_at = λ q. has.0.frames_at q ∙ sym (other-place holder_of frame_of (λ o q. refl) (λ o q. refl) live object q);
         holders_at = place-added holder_of frame_of (λ o q. refl) (λ o q. refl) holders new live object n has.0.holders_at none is updates;
       },
-      distinct-push live (holder_of object) has.1 none)
+      distinct-push live (holder_of object) has.1 none,
+    )
 
 pub holder-popped : (frames holders new : BTreeMap ℕ ℕ) (live items : List Target) (object : ℕ) → HasPlaces frames holders live × HasDistinctTargets live → live ≡ items ++ holder_of object ∷ []
     → ((q : ℕ) → get nat_cmp new q ≡ cond (is_at (nat_cmp object) q) None (get nat_cmp holders q)) → HasPlaces frames new items × HasDistinctTargets items
 holder-popped frames holders new live items object has more updates =
     let whole = subst (λ (ts : List Target). HasPlaces frames holders ts × HasDistinctTargets ts) more has in
-    let rest = distinct-init items (holder_of object) whole.1 in
-    (record {
+    let rest = distinct-init items (holder_of object) whole.1 in (
+      record {
         frames_at = λ q. whole.0.frames_at q ∙ other-place holder_of frame_of (λ o q. refl) (λ o q. refl) items object q;
         holders_at = place-gone holder_of frame_of (λ o q. refl) (λ o q. refl) holders new items object whole.0.holders_at rest.0 updates;
       },
-      rest.1)
+      rest.1,
+    )

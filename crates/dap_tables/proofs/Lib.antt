@@ -8,6 +8,7 @@ pub mod IndexLemmas
 pub mod SourceLemmas
 pub mod StoreLemmas
 pub mod SetLemmas
+pub mod LawLemmas
 mod Examples
 mod ReferenceExamples
 mod BreakpointExamples

@@ -1,10 +1,10 @@
 -- Small tables of references, worked out.
-use Rattle.std.proofs.Common.{◌≡◌, ℕ, List, [], ◌∷◌, true, false, Option, Some, None, Result, Ok, Err, refl, lit≤, lit<}
+use Rattle.std.proofs.Common.{◌≡◌, ℕ, [], ◌∷◌, true, false, Some, None, Result, Ok, Err, refl, lit<}
 use Rattle.dap_tables.specs.declared.ref_fault.RefFault.{RefFault}
 use Rattle.dap_tables.specs.declared.ref_fault.RefFault.TheVariants.{Full, Exhausted}
 use Rattle.dap_tables.specs.declared.reference_kind.ReferenceKind.TheVariants.{Frame, Holder}
 use Rattle.dap_tables.specs.declared.target.Target.{Target}
-use Rattle.dap_tables.specs.References.{LiveReferences, no_references, frame_of, holder_of, is_same, is_live, target_of, is_of_kind, cleared, taken_back, interned, HasDistinctTargets, IsRefusedForRoom, IsRefusedForNumber}
+use Rattle.dap_tables.specs.References.{LiveReferences, no_references, frame_of, holder_of, is_same, target_of, is_of_kind, cleared, taken_back, interned, HasDistinctTargets, IsRefusedForRoom, IsRefusedForNumber}
 
 -- a call in a table with room for two and numbers up to the greatest
 abbrev given : ℕ → Target → LiveReferences → Result (ℕ × LiveReferences) RefFault

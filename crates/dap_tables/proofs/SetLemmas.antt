@@ -1,12 +1,12 @@
 -- What a change of one source's list leaves of the map of breakpoints.
-use Rattle.std.proofs.Common.{◌≡◌, ℕ, ◌+◌, ◌<◌, ◌≤◌, List, [], ◌∷◌, ◌++◌, Bool, true, false, not, length, refl, sym, ap, subst, ◌∙◌, arith, append_assoc, bytes_eq, true≢false}
+use Rattle.std.proofs.Common.{◌≡◌, ℕ, ◌+◌, ◌<◌, ◌≤◌, List, [], ◌∷◌, ◌++◌, Bool, true, false, not, length, refl, sym, ap, subst, ◌∙◌, arith, append_assoc, true≢false}
 use Rattle.std.specs.Prelude.{◌==◌, ◌||◌, if◌then◌else◌}
 use Rattle.std.specs.List.{list_any}
 use Rattle.std.proofs.lemmas.Bool.Decides.{nat_tests}
 use Rattle.std.proofs.lemmas.Slice.Eq.{bytes_eq-Decides}
 use Rattle.dap_call.specs.declared.call.SourceKey.{SourceKey}
 use Rattle.dap_call.specs.declared.call.SourceKey.TheVariants.{Path, Reference}
-use Rattle.dap_tables.specs.Breakpoints.{OfSource, SetBreakpoints, BreakpointTable, is_source, comes_before, set_of, count, of_others, in_place, with_set, numbered, replaced, max_id, count_with, HasDistinctSources, HasNoEmptyList, IsSound}
+use Rattle.dap_tables.specs.Breakpoints.{OfSource, SetBreakpoints, BreakpointTable, is_source, comes_before, set_of, count, of_others, in_place, with_set, numbered, replaced, max_id, count_with, HasDistinctSources, HasNoEmptyList, IsOrderly}
 use Rattle.dap_tables.proofs.Lists.{or-false, or-left, or-right}
 
 -- ---- names
@@ -207,14 +207,14 @@ filled-with key (b ∷ set) ss f = filled-place (record { source = key; set = b 
 pub set-replaced : (key : SourceKey) (lines : List ℕ) (b : SetBreakpoints) → set_of key (replaced key lines b).sources ≡ numbered b.next_id lines
 set-replaced key lines b = set-with key (numbered b.next_id lines) b.sources
 
-pub sound-replaced : (key : SourceKey) (lines : List ℕ) (table : BreakpointTable) → IsSound table → count_with key lines table.breakpoints ≤ table.room → table.breakpoints.next_id + length lines ≤ max_id + 1 → IsSound (record table { breakpoints = replaced key lines table.breakpoints })
-sound-replaced key lines table sound room ids =
+pub orderly-replaced : (key : SourceKey) (lines : List ℕ) (table : BreakpointTable) → IsOrderly table → count_with key lines table.breakpoints ≤ table.room → table.breakpoints.next_id + length lines ≤ max_id + 1 → IsOrderly (record table { breakpoints = replaced key lines table.breakpoints })
+orderly-replaced key lines table orderly room ids =
     let all = count-replaced key lines table.breakpoints in
     record {
       bound = omega arith;
       ids = ids;
-      distinct = distinct-with key (numbered table.breakpoints.next_id lines) table.breakpoints.sources sound.distinct;
-      filled = filled-with key (numbered table.breakpoints.next_id lines) table.breakpoints.sources sound.filled;
+      distinct = distinct-with key (numbered table.breakpoints.next_id lines) table.breakpoints.sources orderly.distinct;
+      filled = filled-with key (numbered table.breakpoints.next_id lines) table.breakpoints.sources orderly.filled;
     }
 
 pub ruleset counting = (count-others)

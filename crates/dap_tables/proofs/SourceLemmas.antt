@@ -1,16 +1,15 @@
 -- The lists by source as a contract sees them, and the two maps that store them.
-use Rattle.std.proofs.Common.{◌≡◌, ℕ, List, [], ◌∷◌, ◌++◌, Bool, true, false, not, cond, map, filter, length, Option, Some, None, refl, sym, ap, subst, ◌∙◌, String, string_bytes, Vec, bytes_eq}
-use Rattle.std.specs.Prelude.{◌==◌, if◌then◌else◌}
+use Rattle.std.proofs.Common.{◌≡◌, ℕ, List, [], ◌∷◌, ◌++◌, Bool, true, false, not, cond, map, Option, Some, None, refl, sym, ap, ◌∙◌, Vec}
+use Rattle.std.specs.Prelude.{if◌then◌else◌}
 use Rattle.std.specs.List.{AllByRecursion}
 use Rattle.std.specs.List.Sorted.{IsStrictlySortedBy}
 use Rattle.std.specs.Map.{keys_of, lookup, remove_entry}
 use Rattle.std.specs.BTreeMap.{is_at, insert_entry}
-use Rattle.std.specs.Ordering.{is_eq, is_lt, nat_cmp, match_ordering}
+use Rattle.std.specs.Ordering.{is_eq, is_lt, match_ordering}
 use Rattle.std.specs.declared.cmp.Ordering.{Ordering}
 use Rattle.std.specs.declared.cmp.Ordering.TheVariants.{Less, Equal, Greater}
 use Rattle.std.proofs.lemmas.Map.Keys.{sorted_head, sorted_tail}
 use Rattle.dap_call.specs.declared.call.SourceKey.{SourceKey}
-use Rattle.dap_call.specs.declared.call.SourceKey.TheVariants.{Path, Reference}
 use Rattle.dap_tables.specs.Breakpoints.{OfSource, is_source, comes_before, set_of, of_others, in_place}
 
 others-if : (b : Bool) (s : OfSource) (xs ys zs : List OfSource) → xs ≡ ys ++ zs → (if not b then s ∷ xs else xs) ≡ (if not b then s ∷ ys else ys) ++ zs

@@ -1,18 +1,17 @@
 -- The two maps of breakpoints: what a look-up finds in them, and what a change leaves.
-use Rattle.std.proofs.Common.{◌≡◌, ℕ, List, [], ◌∷◌, ◌++◌, Bool, map, Option, Some, None, refl, sym, ap, ◌∙◌, String, string_bytes, Vec}
+use Rattle.std.proofs.Common.{◌≡◌, ℕ, List, [], ◌∷◌, ◌++◌, map, refl, sym, ap, ◌∙◌, String, string_bytes, Vec}
 use Rattle.std.specs.Cmp.{unsigned_tied, nat_cmp_total}
 use Rattle.std.specs.Cmp.Lexicographic.{slice_cmp, nat_list_cmp_total}
 use Rattle.std.specs.BTreeMap.{BTreeMap, get, get_by_text, is_at, insert_entry, IsOrdered}
 use Rattle.std.specs.Map.{remove_entry}
 use Rattle.std.specs.Ordering.{is_eq, nat_cmp}
 use Rattle.std.specs.String.{string_cmp}
-use Rattle.std.specs.declared.cmp.Ordering.TheVariants.{Less, Equal, Greater}
+use Rattle.std.specs.declared.cmp.Ordering.TheVariants.{Less, Equal}
 use Rattle.std.proofs.lemmas.List.{append-nil}
 use Rattle.std.proofs.lemmas.Map.Lookups.{exact_bytes, exact_unsigned}
 use Rattle.std.proofs.lemmas.Map.Text.{is_eq-slice_cmp}
-use Rattle.dap_call.specs.declared.call.SourceKey.{SourceKey}
 use Rattle.dap_call.specs.declared.call.SourceKey.TheVariants.{Path, Reference}
-use Rattle.dap_tables.specs.Breakpoints.{OfSource, is_source, comes_before, set_of, of_others, in_place}
+use Rattle.dap_tables.specs.Breakpoints.{OfSource, is_source, set_of, of_others, in_place}
 use Rattle.dap_tables.specs.BreakpointStore.{at_path, at_reference, sources_of}
 use Rattle.dap_tables.proofs.SourceLemmas.{others-append, found, set_of-entries, others-entries, put-entries}
 

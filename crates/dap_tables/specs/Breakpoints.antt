@@ -111,7 +111,7 @@ abbrev pub HasNoEmptyList : List OfSource → Type 0
 HasNoEmptyList [] = Unit {0}
 HasNoEmptyList (s ∷ sources) = (0 < length s.set) × HasNoEmptyList sources
 
-pub record IsSound (table : BreakpointTable) : Type 0 where
+pub record IsOrderly (table : BreakpointTable) : Type 0 where
   pub bound : count table.breakpoints.sources ≤ table.room
   pub ids : table.breakpoints.next_id ≤ max_id + 1
   pub distinct : HasDistinctSources table.breakpoints.sources

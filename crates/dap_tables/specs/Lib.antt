@@ -6,3 +6,4 @@ pub mod References
 pub mod ReferenceStore
 pub mod Breakpoints
 pub mod BreakpointStore
+pub mod TableLaws

@@ -102,7 +102,7 @@ abbrev pub HasDistinctTargets : List Target → Type 0
 HasDistinctTargets [] = Unit {0}
 HasDistinctTargets (t ∷ ts) = (place_of t ts ≡ None) × HasDistinctTargets ts
 
-pub record HasOrder (table : ReferenceTable) : Type 0 where
+pub record IsOrderly (table : ReferenceTable) : Type 0 where
   pub bound : length table.references.live ≤ table.room
   pub numbers : table.references.base + length table.references.live ≤ table.greatest
   pub distinct : HasDistinctTargets table.references.live

@@ -1,7 +1,7 @@
 //! The breakpoints that are set, by source.
 ghost use Rattle.std.specs.Prelude.{◌≡◌, ◌+◌, ◌<◌, ◌≤◌, ◌↔◌, List, ℕ, [], ◌++◌, length, false, IsTrue, IsOk, IfOk, OnOk, OnErr, Ok, Err};
 ghost use Rattle.dap_call.specs.declared.call.SourceKey.{SourceKey as Source};
-ghost use Rattle.dap_tables.specs.Breakpoints.{BreakpointTable, no_breakpoints, is_source, set_of, count, of_others, with_set, numbered, replaced, max_id, IsRefusedForRoom, IsRefusedForIds, TakesIds, IsSound};
+ghost use Rattle.dap_tables.specs.Breakpoints.{BreakpointTable, no_breakpoints, is_source, set_of, count, of_others, with_set, numbered, replaced, max_id, IsRefusedForRoom, IsRefusedForIds, TakesIds, IsOrderly};
 
 use crate::bp_fault::BpFault;
 use crate::source_sets::SourceSets;
@@ -26,13 +26,13 @@ pub struct Breakpoints {
 
 impl Model for Breakpoints {
     ghost use Rattle.std.specs.Prelude.{◌≡◌};
-    ghost use Rattle.dap_tables.specs.Breakpoints.{BreakpointTable, count, IsSound};
+    ghost use Rattle.dap_tables.specs.Breakpoints.{BreakpointTable, count, IsOrderly};
 
     ghost Value = { BreakpointTable };
 
     ghost view = { λ b. record { room = b.room; breakpoints = record { sources = b.sets; next_id = b.next_id } } };
 
-    ghost invariant = { λ b. (b.len ≡ count b.sets) × IsSound (record { room = b.room; breakpoints = record { sources = b.sets; next_id = b.next_id } }) };
+    ghost invariant = { λ b. (b.len ≡ count b.sets) × IsOrderly (record { room = b.room; breakpoints = record { sources = b.sets; next_id = b.next_id } }) };
 }
 
 /// Lines with their ids.
@@ -105,7 +105,7 @@ impl Breakpoints {
         // The source has these lines, and each other source what it had.
         ensures set { OnOk result (set_of source self.new.breakpoints.sources ≡ numbered self.old.breakpoints.next_id lines.now) }
         ensures others { OnOk result ((other : Source) → is_source source other ≡ false → set_of other self.new.breakpoints.sources ≡ set_of other self.old.breakpoints.sources) }
-        ensures sound { IsSound self.new }
+        ensures orderly { IsOrderly self.new }
     {
         let others = self.count_of_others(&source);
         if lines.len() > self.room - others {
@@ -127,7 +127,7 @@ impl Breakpoints {
     fn count_of_others(&self, source: &SourceKey) -> usize
         ensures others { result ≡ count (of_others source.now self.now.breakpoints.sources) }
         ensures bound { result ≤ self.now.room }
-        ensures sound { IsSound self.now }
+        ensures orderly { IsOrderly self.now }
     {
         self.len - self.sets.of_source(source).len()
     }
@@ -150,7 +150,7 @@ impl Breakpoints {
     /// How many breakpoints there are in all lists together.
     pub fn len(&self) -> usize
         ensures len { result ≡ count self.now.breakpoints.sources }
-        ensures sound { IsSound self.now }
+        ensures orderly { IsOrderly self.now }
     {
         self.len
     }

@@ -1,8 +1,10 @@
 //! Tables of an end of a Debug Adapter Protocol session: the requests that it has still to answer,
-//! and the sequence numbers that it gives its own messages.
+//! the sequence numbers that it gives its own messages, the references that a client may ask for, and
+//! the breakpoints that are set.
 //!
 //! Each table is seen by contracts as plain data: the requests as a list by arrival, the sequence
-//! numbers as how many were given of how many there are.
+//! numbers as how many were given of how many there are, the references as a base and a list, the
+//! breakpoints as a map from sources to lists.
 #![tactic(auto)]
 
 mod bp_fault;
@@ -11,6 +13,7 @@ mod breakpoint_tests;
 mod breakpoints;
 mod entry;
 mod in_order;
+pub mod laws;
 mod live_targets;
 mod mark;
 mod outstanding;

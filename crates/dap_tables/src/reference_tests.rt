@@ -81,8 +81,7 @@ fn no_number_is_left(rt: HostRuntime) -> Result<(), Fail> {
 fn a_thousand_references(rt: HostRuntime) -> Result<(), Fail> {
     let mut table = References::open(rt.alloc(), 1000, 5000)?;
     for object in 0..500 {
-        table.intern(frame(object)).is_ok();
-        table.intern(holder(object)).is_ok();
+        assert!(rt; table.intern(frame(object)).is_ok() && table.intern(holder(object)).is_ok());
     }
     assert_eq!(rt; table.len(), 1000);
     for object in 0..500 {

@@ -1,7 +1,7 @@
 //! The numbers of what a client may ask for while the debuggee is stopped.
 ghost use Rattle.std.specs.Prelude.{◌≡◌, ◌<◌, ◌≤◌, ◌+◌, ◌↔◌, [], length, IsTrue, IsOk, IfOk, IfSome, OnErr, Ok, Err, Some};
 ghost use Rattle.std.specs.Option.{option_copied};
-ghost use Rattle.dap_tables.specs.References.{ReferenceTable, no_references, is_live, place_of, target_of, cleared, taken_back, interned, IsRefusedForRoom, IsRefusedForNumber, TakesNumber, HasOrder};
+ghost use Rattle.dap_tables.specs.References.{ReferenceTable, no_references, is_live, place_of, target_of, cleared, taken_back, interned, IsRefusedForRoom, IsRefusedForNumber, TakesNumber, IsOrderly};
 
 use crate::live_targets::LiveTargets;
 use crate::mark::Mark;
@@ -22,14 +22,14 @@ pub struct References {
 }
 
 impl Model for References {
-    ghost use Rattle.dap_tables.specs.References.{ReferenceTable, HasOrder};
+    ghost use Rattle.dap_tables.specs.References.{ReferenceTable, IsOrderly};
     ghost use Rattle.dap_tables.specs.ReferenceStore.{table_of};
 
     ghost Value = { ReferenceTable };
 
     ghost view = { λ r. table_of r.room r.greatest r.base r.live };
 
-    ghost invariant = { λ r. HasOrder (table_of r.room r.greatest r.base r.live) };
+    ghost invariant = { λ r. IsOrderly (table_of r.room r.greatest r.base r.live) };
 }
 
 impl References {
@@ -62,7 +62,7 @@ impl References {
         // A target that is live keeps its number, whatever is full, and nothing changes.
         ensures known { IfSome (place_of target self.old.references.live) (λ place. (result ≡ Ok (self.old.references.base + 1 + place)) × (self.new ≡ self.old)) }
         ensures names { IfOk result (λ number. target_of self.new.references number ≡ Some target) }
-        ensures orderly { HasOrder self.new }
+        ensures orderly { IsOrderly self.new }
     {
         if let Some(place) = self.live.place(target) {
             return Ok(self.base + 1 + place as u32);
@@ -103,7 +103,7 @@ impl References {
     pub fn back_to(&mut self, mark: Mark)
         requires { mark ≤ length self.old.references.live }
         ensures back { self.new ≡ record self.old { references = taken_back mark self.old.references } }
-        ensures orderly { HasOrder self.new }
+        ensures orderly { IsOrderly self.new }
     {
         self.live.truncate(mark.live);
     }
@@ -111,7 +111,7 @@ impl References {
     /// Lets all die. Their numbers never come again.
     pub fn clear(&mut self)
         ensures none { self.new ≡ record self.old { references = cleared self.old.references } }
-        ensures orderly { HasOrder self.new }
+        ensures orderly { IsOrderly self.new }
     {
         self.base += self.live.len() as u32;
         self.live.clear();
@@ -120,7 +120,7 @@ impl References {
     /// How many are live.
     pub fn len(&self) -> usize
         ensures len { result ≡ length self.now.references.live }
-        ensures orderly { HasOrder self.now }
+        ensures orderly { IsOrderly self.now }
     {
         self.live.len()
     }

@@ -1,4 +1,4 @@
-use Rattle.std.proofs.Common.{rules, ◌≡◌, length, ap, arith}
+use Rattle.std.proofs.Common.{rules, ◌≡◌, length, arith}
 use Rattle.dap_tables.specs.Breakpoints.{set_of}
 use Rattle.dap_tables.proofs.SetLemmas.{count-others}
 use Rattle.dap_tables.proofs.breakpoints.Breakpoints.count_of_others.Goals as goal

@@ -1,6 +1,6 @@
 use Rattle.std.proofs.Common.{rules, ◌≡◌, ◌+◌, ◌-◌, ◌≤◌, List, length, sym, ap, subst, ◌∙◌, arith}
-use Rattle.dap_tables.specs.Breakpoints.{OfSource, BreakpointTable, SetBreakpoints, count, of_others, with_set, numbered, max_id, IsSound}
-use Rattle.dap_tables.proofs.SetLemmas.{count-replaced, sound-replaced}
+use Rattle.dap_tables.specs.Breakpoints.{OfSource, BreakpointTable, SetBreakpoints, count, of_others, with_set, numbered, max_id, IsOrderly}
+use Rattle.dap_tables.proofs.SetLemmas.{count-replaced, orderly-replaced}
 use Rattle.dap_tables.proofs.breakpoints.Breakpoints.replace.Goals as goal
 
 pub invariant_of-self-2 : goal.invariant_of-self-2
@@ -17,10 +17,10 @@ invariant_of-self-2 c =
     let left : length lines ≤ max_id + 1 - inside.next_id = search rules in
     let ids = c.self.invariant.1.ids in
     let all = count-replaced source lines old in
-    let sound = sound-replaced source lines table c.self.invariant.1 (omega arith) (omega arith) in (
+    let orderly = orderly-replaced source lines table c.self.invariant.1 (omega arith) (omega arith) in (
       ap (λ n. n + length lines) others ∙ sym all ∙ ap (λ (ss : List OfSource). count ss) (sym sets),
-      subst (λ (ss : List OfSource). IsSound (record { room = inside.room; breakpoints = record { sources = ss; next_id = inside.next_id + length lines } })) (sym sets) sound,
+      subst (λ (ss : List OfSource). IsOrderly (record { room = inside.room; breakpoints = record { sources = ss; next_id = inside.next_id + length lines } })) (sym sets) orderly,
     )
 
-pub returns-clause-sound : goal.returns-clause-sound
-returns-clause-sound c = let both = invariant_of-self-2 c in both.1
+pub returns-clause-orderly : goal.returns-clause-orderly
+returns-clause-orderly c = let both = invariant_of-self-2 c in both.1

@@ -1,7 +1,6 @@
-use Rattle.std.proofs.Common.{rules, ◌≡◌, List, [], ◌∷◌, ◌++◌, ap, ◌∙◌}
+use Rattle.std.proofs.Common.{rules, ◌≡◌, [], ◌∷◌, ◌++◌, ap, ◌∙◌}
 use Rattle.dap_tables.specs.declared.reference_kind.ReferenceKind.{ReferenceKind}
 use Rattle.dap_tables.specs.declared.target.Target.{Target}
-use Rattle.dap_tables.specs.References.{frame_of, holder_of}
 use Rattle.dap_tables.proofs.IndexLemmas.{frame-popped, holder-popped}
 use Rattle.dap_tables.proofs.live_targets.LiveTargets.pop.Goals as goal
 

@@ -1,0 +1,5 @@
+use Rattle.dap_tables.proofs.SetLemmas.{count-replaced}
+use Rattle.dap_tables.proofs.laws.lines_are_counted.Goals as goal
+
+pub returns : goal.returns
+returns c = count-replaced

@@ -1,0 +1,68 @@
+-- What is true over every list of calls of a table: numbers of references and ids of breakpoints never come again.
+-- Overview, "Lifetime of Objects References".
+use Rattle.std.specs.Prelude.{◌≡◌, ℕ, ◌+◌, ◌≤◌, ◌==◌, List, [], ◌∷◌, ◌++◌, map, length, Bool, true, false, Some, None, Ok}
+use Rattle.std.specs.List.{list_any, list_all, range_with_len}
+use Rattle.dap_call.specs.declared.call.SourceKey.{SourceKey}
+use Rattle.dap_tables.specs.declared.ref_fault.RefFault.TheVariants.{Full, Exhausted}
+use Rattle.dap_tables.specs.declared.target.Target.{Target}
+use Rattle.dap_tables.specs.References.{ReferenceTable, target_of, interned, taken_back, cleared}
+use Rattle.dap_tables.specs.Breakpoints.{SetBreakpoints, no_breakpoints, numbered, replaced, count, count_with}
+
+-- ---- references
+
+-- a call that changes the table, or may: a number given, none given, those since a mark taken back, all let die
+pub data ReferenceCall : Type 0 where
+  Gave : (target : Target) → (number : ℕ) → ReferenceCall
+  Refused : (target : Target) → ReferenceCall
+  WentBack : (mark : ℕ) → ReferenceCall
+  Cleared : ReferenceCall
+
+-- what it does, as the calls' contracts say it
+abbrev pub Does : ReferenceCall → ReferenceTable → ReferenceTable → Type 0
+Does (Gave target number) old new = (interned Full Exhausted old.room old.greatest target old.references ≡ Ok (number, new.references)) × (new.room ≡ old.room) × (new.greatest ≡ old.greatest)
+Does (Refused target) old new = new ≡ old
+Does (WentBack mark) old new = (mark ≤ length old.references.live) × (new ≡ record old { references = taken_back mark old.references })
+Does Cleared old new = new ≡ record old { references = cleared old.references }
+
+abbrev pub Runs : List ReferenceCall → ReferenceTable → ReferenceTable → Type 0
+Runs [] old new = new ≡ old
+Runs (call ∷ calls) old new = (between : ReferenceTable) × Does call old between × Runs calls between new
+
+abbrev pub gives : ℕ → ReferenceCall → Bool
+gives number (Gave target n) = n == number
+gives number (Refused target) = false
+gives number (WentBack mark) = false
+gives number Cleared = false
+
+abbrev pub is_intern : ReferenceCall → Bool
+is_intern (Gave target n) = true
+is_intern (Refused target) = true
+is_intern (WentBack mark) = false
+is_intern Cleared = false
+
+pub record NumbersNeverComeAgain : Type 0 where
+  -- a number that was live when all were let die names nothing ever after, and is not given again
+  pub dead : (calls : List ReferenceCall) (old new : ReferenceTable) (number : ℕ) (target : Target) → target_of old.references number ≡ Some target → Runs (Cleared ∷ calls) old new
+      → (target_of new.references number ≡ None) × (list_any (gives number) calls ≡ false)
+  -- whatever else is given a number, each number names what it named
+  pub kept : (calls : List ReferenceCall) (old new : ReferenceTable) (number : ℕ) (target : Target) → target_of old.references number ≡ Some target → list_all is_intern calls ≡ true → Runs calls old new
+      → target_of new.references number ≡ Some target
+
+-- ---- breakpoints
+
+-- the ids that calls give, each with a source and lines
+abbrev pub ids_given : List (SourceKey × List ℕ) → SetBreakpoints → List ℕ
+ids_given [] b = []
+ids_given (call ∷ calls) b = map (λ point. point.0) (numbered b.next_id call.1) ++ ids_given calls (replaced call.0 call.1 b)
+
+abbrev pub lines_of_all : List (SourceKey × List ℕ) → ℕ
+lines_of_all [] = 0
+lines_of_all (call ∷ calls) = length call.1 + lines_of_all calls
+
+-- ids are 1, 2 and so on, each given once, whatever sources the lines are of
+abbrev pub IdsNeverComeAgain : Type 0
+IdsNeverComeAgain = (calls : List (SourceKey × List ℕ)) → ids_given calls no_breakpoints ≡ range_with_len 1 (lines_of_all calls)
+
+-- so many stand after a call: those of the other sources, and one a line
+abbrev pub LinesAreCounted : Type 0
+LinesAreCounted = (key : SourceKey) (lines : List ℕ) (b : SetBreakpoints) → count (replaced key lines b).sources ≡ count_with key lines b
