@@ -2,6 +2,8 @@
 use Rattle.std.specs.Prelude.{◌≡◌, ℕ, ◌+◌, ◌≤◌, ◌<◌, ⊤, List, [], ◌∷◌, length, Bool, true, false, Option, Some, None, Result, Ok, Err}
 use Rattle.dap_frame.specs.Settings.{Settings}
 use Rattle.dap_tables.specs.Outstanding.{Kept, KeptRequests, IsOrderly, without}
+use Rattle.dap_tables.specs.References.{ReferenceTable}
+use Rattle.dap_tables.specs.Breakpoints.{BreakpointTable}
 use Rattle.dap_tables.specs.Seq.{Numbers}
 use Rattle.dap_tables.specs.declared.entry.Entry.{Entry}
 use Rattle.dap_debuggee.specs.Shown.{Shown, Reply, done, refused, to_end}
@@ -23,10 +25,17 @@ pub record Seat (D : Type 0) : Type 0 where
   pub session : Session
   pub debuggee : D
 
--- what holds of every desk
-pub record IsSession (limits : Settings) (table : KeptRequests) (numbers : Numbers) : Type 0 where
+-- the tables of references and of breakpoints have the limits' room
+pub record HaveRooms (limits : Settings) (references : ReferenceTable) (breakpoints : BreakpointTable) : Type 0 where
+  pub live : references.room ≡ limits.references
+  pub greatest : references.greatest ≡ limits.reference
+  pub set : breakpoints.room ≡ limits.breakpoints
+
+-- what holds of every session
+pub record IsSession (limits : Settings) (table : KeptRequests) (references : ReferenceTable) (breakpoints : BreakpointTable) (numbers : Numbers) : Type 0 where
   pub room : table.room ≡ limits.requests
   pub orderly : IsOrderly table
+  pub others : HaveRooms limits references breakpoints
   pub last : numbers.last ≡ limits.seq
   pub used : numbers.used ≤ numbers.last
 

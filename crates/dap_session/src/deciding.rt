@@ -1,13 +1,14 @@
 //! What is to be done with a request: the tests in their order, and the table.
 ghost use Rattle.std.specs.Prelude.{◌≡◌, IsErrOf, IfOk, OnOk, IfErr, Some, None, ◌||◌, ◌&&◌, false, true};
 ghost use Rattle.std.specs.List.{list_any};
+ghost use Rattle.std.specs.Option.{option_copied};
 ghost use Rattle.std.specs.Ordering.{int_eq};
 ghost use Rattle.dap_session.specs.Deciding.{name_refused_now};
 ghost use Rattle.dap_session.specs.Failures.{phase_refused, call_refused, call_in, lacks_thread, lacks_reference, lacks_source, thread_named, reference_named, source_named};
 ghost use Rattle.dap_message.specs.Argument.{Gives};
 ghost use Rattle.dap_message.specs.Call.{takes_memory};
 ghost use Rattle.dap_message.specs.Types.CallFault.{CallFault};
-ghost use Rattle.dap_tables.specs.References.{no_references};
+ghost use Rattle.dap_tables.specs.References.{is_of_kind};
 ghost use Rattle.dap_session.specs.Seat.{decided};
 ghost use Rattle.dap_session.specs.Handling.{plan, thread_of};
 ghost use Rattle.dap_session.specs.Table.{is_put_off, is_never_served, effect_in};
@@ -19,7 +20,7 @@ use crate::session::Session;
 use crate::table::{effect_in, is_of_stops, is_unsupported};
 use dap_debuggee::{Debuggee, Thread};
 use dap_message::{Call, CallFault, Command, Failure, read_call};
-use dap_tables::Entry;
+use dap_tables::{Entry, ReferenceKind, Target};
 use std::alloc::{AllocError, Global};
 
 /// Why a request fails by its name alone; else its command.
@@ -81,15 +82,32 @@ fn thread_named(call: &Call) -> Option<i64>
     }
 }
 
-/// Whether a call names a reference. As long as none is given, none is live.
-fn names_reference(call: &Call) -> bool
-    ensures { result ≡ lacks_reference no_references (reference_named call.now) }
+/// The reference that a call names, and what it has to be.
+fn reference_named(call: &Call) -> Option<(ReferenceKind, u32)>
+    ensures { result ≡ reference_named call.now }
 {
     match call {
-        Call::Scopes { .. } => true,
-        Call::Variables(_) => true,
-        Call::Evaluate(asked) => asked.frame_id.is_some(),
-        _ => false,
+        Call::Scopes { frame_id } => Some((ReferenceKind::Frame, *frame_id)),
+        Call::Variables(asked) => Some((ReferenceKind::Holder, asked.variables_reference)),
+        Call::Evaluate(asked) => match asked.frame_id {
+            None => None,
+            Some(frame_id) => Some((ReferenceKind::Frame, frame_id)),
+        },
+        _ => None,
+    }
+}
+
+fn is_of_kind(kind: ReferenceKind, target: Option<&Target>) -> bool
+    ensures { result ≡ is_of_kind kind (option_copied target.entry) }
+{
+    match target {
+        None => false,
+        Some(target) => match (target.kind, kind) {
+            (ReferenceKind::Frame, ReferenceKind::Frame) => true,
+            (ReferenceKind::Holder, ReferenceKind::Holder) => true,
+            (ReferenceKind::Frame, ReferenceKind::Holder) => false,
+            (ReferenceKind::Holder, ReferenceKind::Frame) => false,
+        },
     }
 }
 
@@ -110,6 +128,15 @@ impl<D: Debuggee + Drop> Session<D> {
         Ok(!has_thread(&threads, id))
     }
 
+    fn lacks_reference(&self, call: &Call) -> bool
+        ensures { result ≡ lacks_reference self.now.session.references (reference_named call.now) }
+    {
+        match reference_named(call) {
+            None => false,
+            Some((kind, number)) => !is_of_kind(kind, self.references.target(number)),
+        }
+    }
+
     fn lacks_source(&self, alloc: Global, call: &Call) -> Result<bool, AllocError>
         ensures { IfOk result (λ lacks. lacks ≡ lacks_source (D.shown self.now.debuggee) (source_named call.now)) }
     {
@@ -127,11 +154,10 @@ impl<D: Debuggee + Drop> Session<D> {
     fn by_call(&self, alloc: Global, call: &Call) -> Result<Option<Failure>, AllocError>
         ensures { IfOk result (λ f. f ≡ call_refused (D.shown self.now.debuggee) self.now.session.references call.now) }
     {
-        let _ = &self.limits;
         if self.lacks_thread(alloc, call)? {
             return Ok(Some(Failure::UnknownThread));
         }
-        if names_reference(call) {
+        if self.lacks_reference(call) {
             return Ok(Some(Failure::StaleReference));
         }
         if self.lacks_source(alloc, call)? {

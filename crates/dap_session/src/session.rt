@@ -10,7 +10,7 @@ use crate::phase::Phase;
 use crate::sheet::Sheet;
 use dap_debuggee::{Debuggee, DebuggeeFault, Happening, How};
 use dap_frame::Limits;
-use dap_tables::{Entry, Outstanding, PutFault, Seq};
+use dap_tables::{Breakpoints, Entry, Outstanding, PutFault, References, Seq};
 use std::alloc::{AllocError, Global};
 use std::marker::Model;
 
@@ -21,6 +21,8 @@ pub struct Session<D: Debuggee + Drop> {
     pub(crate) phase: Phase,
     pub(crate) options: Options,
     pub(crate) kept: Outstanding,
+    pub(crate) references: References,
+    pub(crate) breakpoints: Breakpoints,
     pub(crate) numbers: Seq,
     pub(crate) debuggee: D,
 }
@@ -29,8 +31,6 @@ impl<D: Debuggee + Drop> Model for Session<D> {
     ghost use Rattle.std.specs.Coded.{codes};
     ghost use Rattle.dap_json.specs.Stored.{coded_data};
     ghost use Rattle.dap_session.specs.Seat.{Seat, IsSession};
-    ghost use Rattle.dap_tables.specs.References.{no_references};
-    ghost use Rattle.dap_tables.specs.Breakpoints.{no_breakpoints};
 
     ghost Value = { Seat D };
 
@@ -42,14 +42,14 @@ impl<D: Debuggee + Drop> Model for Session<D> {
         phase = a.phase;
         options = a.options;
         kept = a.kept.kept;
-        references = no_references;
-        breakpoints = no_breakpoints;
+        references = a.references.references;
+        breakpoints = a.breakpoints.breakpoints;
         used = a.numbers.used;
       };
       debuggee = a.debuggee;
     } };
 
-    ghost invariant = { λ a. IsSession a.limits a.kept a.numbers };
+    ghost invariant = { λ a. IsSession a.limits a.kept a.references a.breakpoints a.numbers };
 }
 
 impl<D: Debuggee + Drop> Session<D> {
@@ -61,6 +61,8 @@ impl<D: Debuggee + Drop> Session<D> {
         ensures { IfOk result (λ desk. desk ≡ record { session = fresh_session limits; debuggee = debuggee }) }
     {
         let kept = Outstanding::open(alloc, limits.requests())?;
+        let references = References::open(alloc, limits.references(), limits.reference())?;
+        let breakpoints = Breakpoints::open(alloc, limits.breakpoints())?;
         let numbers = Seq::open(limits.seq());
         Ok(Session {
             limits,
@@ -71,6 +73,8 @@ impl<D: Debuggee + Drop> Session<D> {
                 supports_variable_paging: false,
             },
             kept,
+            references,
+            breakpoints,
             numbers,
             debuggee,
         })
@@ -95,9 +99,7 @@ impl<D: Debuggee + Drop> Session<D> {
         ensures live { result ≡ length self.now.session.references.live }
         ensures bound { result ≤ self.now.session.limits.references }
     {
-        let _ = &self.limits;
-        // None is given yet.
-        0
+        self.references.len()
     }
 
     /// How many breakpoints are set.
@@ -105,9 +107,7 @@ impl<D: Debuggee + Drop> Session<D> {
         ensures set { result ≡ count self.now.session.breakpoints.sources }
         ensures bound { result ≤ self.now.session.limits.breakpoints }
     {
-        let _ = &self.limits;
-        // None can be set yet.
-        0
+        self.breakpoints.len()
     }
 
     /// Whether there is no room for one more request.
@@ -198,11 +198,11 @@ impl<D: Debuggee + Drop> Session<D> {
         self.options = options;
     }
 
-    /// All references die. As long as none is given, there is nothing to do.
+    /// All references die.
     pub(crate) fn clear_references(&mut self)
         ensures { self.new ≡ record self.old { session = record self.old.session { references = cleared self.old.session.references } } }
     {
-        let _ = &self.limits;
+        self.references.clear();
     }
 
     pub(crate) fn park(&mut self, seq: u64)
