@@ -7,3 +7,4 @@ pub mod Argument
 pub mod Call
 pub mod CallTree
 pub mod PlainCall
+pub mod SameSource

@@ -3,7 +3,8 @@ use Rattle.std.proofs.Common.{◌≡◌, List, ℕ, [], ◌∷◌, codes, replic
 use Rattle.dap_call.specs.declared.call.SourceKey.{SourceKey}
 use Rattle.dap_call.specs.declared.call.SourceKey.TheVariants.{Path, Reference}
 use Rattle.dap_debuggee.specs.Shown.{Reply, to_start, to_resume, to_pause, to_poll, to_set_breakpoints, to_end, done, refused, happened, category_name, remembered}
-use Rattle.dap_debuggee.specs.Laws.{may_answer, state_after, lines_after, is_source, keeps_answers, keeps_frames, is_code, is_short, is_frame}
+use Rattle.dap_debuggee.specs.Laws.{may_answer, state_after, lines_after, keeps_answers, keeps_frames, is_code, is_short, is_frame}
+use Rattle.dap_call.specs.SameSource.{is_source}
 use Rattle.dap_debuggee.specs.Recording.{line_count, is_rising, are_distinct, is_moment, depth, top, id_at, objects, holders_of, HasOwnNumbers}
 use Rattle.dap_debuggee.specs.declared.answers.State.TheVariants.{NotStarted, Running, Stopped, Gone}
 use Rattle.dap_debuggee.specs.declared.answers.How.TheVariants.{Next, Continue}

@@ -4,7 +4,7 @@ use Rattle.std.specs.BTreeMap.{BTreeMap, get, get_by_text}
 use Rattle.std.specs.Ordering.{nat_cmp}
 use Rattle.dap_call.specs.declared.call.SourceKey.{SourceKey}
 use Rattle.dap_call.specs.declared.call.SourceKey.TheVariants.{Path, Reference}
-use Rattle.dap_debuggee.specs.Laws.{is_source}
+use Rattle.dap_call.specs.SameSource.{is_source}
 use Rattle.dap_debuggee.specs.Held.{found_at, lines_at, put_at, HasPlaces}
 use Rattle.dap_debuggee.specs.Played.{lines_in, replaced}
 use Rattle.dap_debuggee.specs.PlayedLaws.{same_source}

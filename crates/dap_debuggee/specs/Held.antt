@@ -9,7 +9,7 @@ use Rattle.dap_debuggee.specs.declared.recording.RecordedThread.{RecordedThread}
 use Rattle.std.specs.Str.{IsCharBoundary}
 use Rattle.dap_debuggee.specs.Shown.{done, refused, happened, Last}
 use Rattle.dap_call.specs.declared.call.SourceKey.{SourceKey}
-use Rattle.dap_debuggee.specs.Laws.{is_source}
+use Rattle.dap_call.specs.SameSource.{is_source}
 use Rattle.dap_debuggee.specs.Recording.{id_at}
 use Rattle.dap_debuggee.specs.declared.lines.SetLines.{SetLines}
 use Rattle.dap_debuggee.specs.Moves.{reason_text}

@@ -1,10 +1,10 @@
 -- The laws that every debuggee keeps, over what it shows in a view and over the views that an act may leave.
 -- The states, and what each act does to them, are this profile's choice; what a stop, an exit and output are, and that the frames and variables of a stop last until the debuggee goes on, is told by the Overview, "Lifetime of Objects References", and the Specification, "StoppedEvent", "ContinuedEvent", "ExitedEvent", "OutputEvent".
-use Rattle.std.specs.Prelude.{◌≡◌, ℕ, ◌+◌, ◌%◌, ◌^◌, ◌≤◌, ℤ, pos, negsuc, int_le, Bool, true, false, ◌&&◌, nat_le, nat_lt, ◌==◌, bytes_eq, List, [], length, Option, Some, None, IsTrue, if◌then◌else◌, Result, Ok, Err}
+use Rattle.std.specs.Prelude.{◌≡◌, ℕ, ◌+◌, ◌%◌, ◌^◌, ◌≤◌, ℤ, pos, negsuc, int_le, Bool, true, false, ◌&&◌, nat_le, nat_lt, List, [], length, Option, Some, None, IsTrue, if◌then◌else◌, Result, Ok, Err}
 use Rattle.std.specs.List.{list_all, slice_get}
+use Rattle.dap_call.specs.SameSource.{is_source}
 use Rattle.dap_call.specs.Argument.{is_int}
 use Rattle.dap_call.specs.declared.call.SourceKey.{SourceKey}
-use Rattle.dap_call.specs.declared.call.SourceKey.TheVariants.{Path, Reference}
 use Rattle.dap_debuggee.specs.Shown.{Shown, Act, Reply, remembered}
 use Rattle.dap_debuggee.specs.Shown.{to_start, to_resume, to_pause, to_poll, to_set_breakpoints, to_end, done, refused, happened}
 use Rattle.dap_debuggee.specs.declared.answers.State.{State}
@@ -65,11 +65,6 @@ state_after state to_end done = Gone
 state_after state _ _ = state
 
 -- ---- lines
-
-abbrev pub is_source : SourceKey → SourceKey → Bool
-is_source (Path p) (Path q) = bytes_eq p q
-is_source (Reference m) (Reference n) = m == n
-is_source _ _ = false
 
 -- the lines that are set for a source after an act
 abbrev pub lines_after : Act → (SourceKey → List ℕ) → SourceKey → List ℕ

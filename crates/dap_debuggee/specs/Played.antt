@@ -6,7 +6,7 @@ use Rattle.std.specs.Ordering.{int_eq}
 use Rattle.dap_call.specs.declared.call.SourceKey.{SourceKey}
 use Rattle.dap_call.specs.declared.call.SourceKey.TheVariants.{Path, Reference}
 use Rattle.dap_debuggee.specs.Shown.{Shown, Act, to_start, to_resume, to_pause, to_poll, to_set_breakpoints, to_end, Reply, done, refused, happened, remembered, Last}
-use Rattle.dap_debuggee.specs.Laws.{is_source}
+use Rattle.dap_call.specs.SameSource.{is_source}
 use Rattle.dap_debuggee.specs.Recording.{id_at}
 use Rattle.dap_debuggee.specs.Moves.{move_of, is_forward, reason_text}
 use Rattle.dap_debuggee.specs.declared.answers.State.{State}

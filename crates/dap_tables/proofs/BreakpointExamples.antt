@@ -2,7 +2,8 @@
 use Rattle.std.proofs.Common.{◌≡◌, [], ◌∷◌, false, codes, refl, lit≤, lit<, arith}
 use Rattle.dap_call.specs.declared.call.SourceKey.{SourceKey}
 use Rattle.dap_call.specs.declared.call.SourceKey.TheVariants.{Path, Reference}
-use Rattle.dap_tables.specs.Breakpoints.{SetBreakpoints, no_breakpoints, is_source, set_of, count, replaced, count_with, max_id, HasDistinctSources, HasNoEmptyList, IsRefusedForRoom, IsRefusedForIds}
+use Rattle.dap_tables.specs.Breakpoints.{SetBreakpoints, no_breakpoints, set_of, count, replaced, count_with, max_id, HasDistinctSources, HasNoEmptyList, IsRefusedForRoom, IsRefusedForIds}
+use Rattle.dap_call.specs.SameSource.{is_source}
 
 abbrev a : SourceKey
 a = Path (codes "/a.c")

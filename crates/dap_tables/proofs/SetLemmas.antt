@@ -6,7 +6,8 @@ use Rattle.std.proofs.lemmas.Bool.Decides.{nat_tests}
 use Rattle.std.proofs.lemmas.Slice.Eq.{bytes_eq-Decides}
 use Rattle.dap_call.specs.declared.call.SourceKey.{SourceKey}
 use Rattle.dap_call.specs.declared.call.SourceKey.TheVariants.{Path, Reference}
-use Rattle.dap_tables.specs.Breakpoints.{OfSource, SetBreakpoints, BreakpointTable, is_source, comes_before, set_of, count, of_others, in_place, with_set, numbered, replaced, max_id, count_with, HasDistinctSources, HasNoEmptyList, IsOrderly}
+use Rattle.dap_tables.specs.Breakpoints.{OfSource, SetBreakpoints, BreakpointTable, comes_before, set_of, count, of_others, in_place, with_set, numbered, replaced, max_id, count_with, HasDistinctSources, HasNoEmptyList, IsOrderly}
+use Rattle.dap_call.specs.SameSource.{is_source}
 use Rattle.dap_tables.proofs.Lists.{or-false, or-left, or-right}
 
 -- ---- names

@@ -10,7 +10,8 @@ use Rattle.std.specs.declared.cmp.Ordering.{Ordering}
 use Rattle.std.specs.declared.cmp.Ordering.TheVariants.{Less, Equal, Greater}
 use Rattle.std.proofs.lemmas.Map.Keys.{sorted_head, sorted_tail}
 use Rattle.dap_call.specs.declared.call.SourceKey.{SourceKey}
-use Rattle.dap_tables.specs.Breakpoints.{OfSource, is_source, comes_before, set_of, of_others, in_place}
+use Rattle.dap_tables.specs.Breakpoints.{OfSource, comes_before, set_of, of_others, in_place}
+use Rattle.dap_call.specs.SameSource.{is_source}
 
 others-if : (b : Bool) (s : OfSource) (xs ys zs : List OfSource) → xs ≡ ys ++ zs → (if not b then s ∷ xs else xs) ≡ (if not b then s ∷ ys else ys) ++ zs
 others-if true s xs ys zs h = h

@@ -11,7 +11,8 @@ use Rattle.std.proofs.lemmas.List.{append-nil}
 use Rattle.std.proofs.lemmas.Map.Lookups.{exact_bytes, exact_unsigned}
 use Rattle.std.proofs.lemmas.Map.Text.{is_eq-slice_cmp}
 use Rattle.dap_call.specs.declared.call.SourceKey.TheVariants.{Path, Reference}
-use Rattle.dap_tables.specs.Breakpoints.{OfSource, is_source, set_of, of_others, in_place}
+use Rattle.dap_tables.specs.Breakpoints.{OfSource, set_of, of_others, in_place}
+use Rattle.dap_call.specs.SameSource.{is_source}
 use Rattle.dap_tables.specs.BreakpointStore.{at_path, at_reference, sources_of}
 use Rattle.dap_tables.proofs.SourceLemmas.{others-append, found, set_of-entries, others-entries, put-entries}
 

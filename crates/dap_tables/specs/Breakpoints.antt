@@ -2,10 +2,11 @@
 --
 -- Specification, "SetBreakpointsRequest": a request replaces all breakpoints of one source.
 -- That a path and a reference are two names, with two lists, that ids rise and never come again, and the two limits, are this profile's choices.
-use Rattle.std.specs.Prelude.{◌≡◌, ℕ, ◌+◌, ◌≤◌, ◌<◌, ◌==◌, List, [], ◌∷◌, length, filter, not, Bool, true, false, if◌then◌else◌, bytes_eq}
+use Rattle.std.specs.Prelude.{◌≡◌, ℕ, ◌+◌, ◌≤◌, ◌<◌, List, [], ◌∷◌, length, filter, not, Bool, true, false, if◌then◌else◌}
 use Rattle.std.specs.List.{list_any}
 use Rattle.std.specs.Ordering.{is_lt, nat_cmp}
 use Rattle.std.specs.Cmp.Lexicographic.{slice_cmp}
+use Rattle.dap_call.specs.SameSource.{is_source}
 use Rattle.dap_call.specs.declared.call.SourceKey.{SourceKey}
 use Rattle.dap_call.specs.declared.call.SourceKey.TheVariants.{Path, Reference}
 
@@ -32,11 +33,6 @@ abbrev pub max_id : ℕ
 max_id = 9007199254740991
 
 -- ---- names of sources
-
-abbrev pub is_source : SourceKey → SourceKey → Bool
-is_source (Path p) (Path q) = bytes_eq p q
-is_source (Reference m) (Reference n) = m == n
-is_source _ _ = false
 
 abbrev pub comes_before : SourceKey → SourceKey → Bool
 comes_before (Path p) (Path q) = is_lt (slice_cmp nat_cmp p q)

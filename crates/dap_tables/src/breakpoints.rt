@@ -1,7 +1,8 @@
 //! The breakpoints that are set, by source.
 ghost use Rattle.std.specs.Prelude.{◌≡◌, ◌+◌, ◌<◌, ◌≤◌, ◌↔◌, List, ℕ, [], ◌++◌, length, false, IsTrue, IsOk, IfOk, OnOk, OnErr, Ok, Err};
 ghost use Rattle.dap_call.specs.declared.call.SourceKey.{SourceKey as Source};
-ghost use Rattle.dap_tables.specs.Breakpoints.{BreakpointTable, no_breakpoints, is_source, set_of, count, of_others, with_set, numbered, replaced, max_id, IsRefusedForRoom, IsRefusedForIds, TakesIds, IsOrderly};
+ghost use Rattle.dap_tables.specs.Breakpoints.{BreakpointTable, no_breakpoints, set_of, count, of_others, with_set, numbered, replaced, max_id, IsRefusedForRoom, IsRefusedForIds, TakesIds, IsOrderly};
+ghost use Rattle.dap_call.specs.SameSource.{is_source};
 
 use crate::bp_fault::BpFault;
 use crate::source_sets::SourceSets;
