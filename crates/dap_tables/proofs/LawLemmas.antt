@@ -1,6 +1,6 @@
 -- Lists of calls: what they leave of the numbers that were given, and the ids that they give.
-use Rattle.std.proofs.Common.{◌≡◌, ℕ, zero, suc, ◌+◌, ◌-◌, ◌<◌, ◌≤◌, List, [], ◌∷◌, ◌++◌, Bool, true, false, length, map, Option, Some, None, Result, Ok, Err, refl, sym, ap, subst, ◌∙◌, arith, true≢false}
-use Rattle.std.specs.Prelude.{◌==◌, ◌&&◌, nat_lt, if◌then◌else◌}
+use Rattle.std.proofs.Common.{◌≡◌, ℕ, zero, suc, ◌+◌, ◌-◌, ◌<◌, ◌≤◌, List, [], ◌∷◌, ◌++◌, Bool, true, false, length, map, take, Option, Some, None, Result, Ok, Err, refl, sym, ap, subst, ◌∙◌, arith, true≢false}
+use Rattle.std.specs.Prelude.{◌==◌, ◌&&◌, nat_lt, nat_le, if◌then◌else◌}
 use Rattle.std.specs.List.{list_any, list_all, range_with_len, slice_get}
 use Rattle.std.proofs.lemmas.Bool.Decides.{nat_tests}
 use Rattle.std.proofs.lemmas.List.{append-nil}
@@ -11,7 +11,7 @@ use Rattle.dap_tables.specs.declared.ref_fault.RefFault.TheVariants.{Full, Exhau
 use Rattle.dap_tables.specs.declared.target.Target.{Target}
 use Rattle.dap_tables.specs.References.{LiveReferences, ReferenceTable, place_of, target_of, numbered_at}
 use Rattle.dap_tables.specs.Breakpoints.{SetBreakpoints, no_breakpoints, numbered, replaced}
-use Rattle.dap_tables.specs.TableLaws.{ReferenceCall, Gave, Refused, WentBack, Cleared, Does, Runs, gives, is_intern, NumbersNeverComeAgain, ids_given, lines_of_all, IdsNeverComeAgain}
+use Rattle.dap_tables.specs.TableLaws.{ReferenceCall, Gave, Refused, WentBack, Cleared, Does, Runs, gives, leaves, NumbersNeverComeAgain, ids_given, lines_of_all, IdsNeverComeAgain}
 use Rattle.dap_tables.proofs.Lists.{or-false}
 
 -- ---- numbers
@@ -107,16 +107,37 @@ stays-if false k xs more t h = h
 names-still : (refs : LiveReferences) (given : ℕ × LiveReferences) (number : ℕ) (t : Target) → IsGiven refs given → target_of refs number ≡ Some t → target_of given.1 number ≡ Some t
 names-still refs given number t g h = rw (g.base, g.live) (stays-if (nat_lt refs.base number) (number - refs.base - 1) refs.live g.more t h)
 
-intern-keeps : (call : ReferenceCall) (old new : ReferenceTable) (number : ℕ) (t : Target) → is_intern call ≡ true → Does call old new → target_of old.references number ≡ Some t → target_of new.references number ≡ Some t
-intern-keeps (Gave target n) old new number t i d h = names-still old.references (n, new.references) number t (is-given target n old new d) h
-intern-keeps (Refused target) old new number t i d h = subst (λ (table : ReferenceTable). target_of table.references number ≡ Some t) (sym d) h
-intern-keeps (WentBack mark) old new number t i d h = absurd (true≢false (sym i))
-intern-keeps Cleared old new number t i d h = absurd (true≢false (sym i))
+front-of : {A : Type 0} (m : ℕ) (xs : List A) (k : ℕ) (x : A) → k < m → slice_get xs k ≡ Some x → slice_get (take m xs) k ≡ Some x
+front-of zero xs k x h e = absurd (omega (arith, h))
+front-of (suc m) [] k x h e = cc
+front-of (suc m) (y ∷ xs) zero x h e = e
+front-of (suc m) (y ∷ xs) (suc k) x h e = front-of m xs k x (omega (arith, h)) e
 
-interns-keep : (calls : List ReferenceCall) (old new : ReferenceTable) (number : ℕ) (t : Target) → target_of old.references number ≡ Some t → list_all is_intern calls ≡ true → Runs calls old new → target_of new.references number ≡ Some t
-interns-keep [] old new number t h i r = subst (λ (table : ReferenceTable). target_of table.references number ≡ Some t) (sym r) h
-interns-keep (call ∷ calls) old new number t h i r =
-    interns-keep calls r.0 new number t (intern-keeps call old r.0 number t (and-left (is_intern call) (list_all is_intern calls) i) r.1 h) (and-right (is_intern call) (list_all is_intern calls) i) r.2
+le-of : (a b : ℕ) → nat_le a b ≡ true → a ≤ b
+le-of a b h = grind (arith, nat_tests)
+
+back-if : (b : Bool) (base number mark : ℕ) (live : List Target) (t : Target) → nat_lt base number ≡ b → number - base ≤ mark → (if b then slice_get live (number - base - 1) else None) ≡ Some t → (if b then slice_get (take mark live) (number - base - 1) else None) ≡ Some t
+back-if true base number mark live t e h is = let above = lt-of base number e in front-of mark live (number - base - 1) t (omega (arith, above, h)) is
+back-if false base number mark live t e h is = cc
+
+record Stays (old new : ReferenceTable) (number : ℕ) (t : Target) : Type 0 where
+  base : new.references.base ≡ old.references.base
+  named : target_of new.references number ≡ Some t
+
+leaves-it : (call : ReferenceCall) (old new : ReferenceTable) (number : ℕ) (t : Target) → leaves (number - old.references.base) call ≡ true → Does call old new → target_of old.references number ≡ Some t → Stays old new number t
+leaves-it (Gave target n) old new number t i d h = let given = is-given target n old new d in record { base = given.base; named = names-still old.references (n, new.references) number t given h }
+leaves-it (Refused target) old new number t i d h = subst (λ (table : ReferenceTable). Stays old table number t) (sym d) (record { base = refl; named = h })
+leaves-it (WentBack mark) old new number t i d h =
+    subst (λ (table : ReferenceTable). Stays old table number t) (sym d.1)
+    (record { base = refl; named = back-if (nat_lt old.references.base number) old.references.base number mark old.references.live t refl (le-of (number - old.references.base) mark i) h })
+leaves-it Cleared old new number t i d h = absurd (true≢false (sym i))
+
+leave-it : (calls : List ReferenceCall) (old new : ReferenceTable) (number : ℕ) (t : Target) → target_of old.references number ≡ Some t → list_all (leaves (number - old.references.base)) calls ≡ true → Runs calls old new → target_of new.references number ≡ Some t
+leave-it [] old new number t h i r = subst (λ (table : ReferenceTable). target_of table.references number ≡ Some t) (sym r) h
+leave-it (call ∷ calls) old new number t h i r =
+    let place = number - old.references.base in
+    let one = leaves-it call old r.0 number t (and-left (leaves place call) (list_all (leaves place) calls) i) r.1 h in
+    leave-it calls r.0 new number t one.named (subst (λ (base : ℕ). list_all (leaves (number - base)) calls ≡ true) (sym one.base) (and-right (leaves place call) (list_all (leaves place) calls) i)) r.2
 
 pub never-again : NumbersNeverComeAgain
 never-again = record {
@@ -124,7 +145,7 @@ never-again = record {
       let most = live-at-most old.references number target h in
       let base = ap (λ (table : ReferenceTable). table.references.base) r.1 in
       stays-dead calls r.0 new number (omega arith) r.2;
-  kept = interns-keep;
+  kept = leave-it;
 }
 
 -- ---- ids

@@ -83,7 +83,7 @@ pub record IsRefusedForRoom (target : Target) (table : ReferenceTable) : Type 0 
   pub new : is_live target table.references ≡ false
   pub full : length table.references.live ≡ table.room
 
--- it is not live, there is room, and the greatest number was given
+-- it is not live, there is room, and no number is left
 pub record IsRefusedForNumber (target : Target) (table : ReferenceTable) : Type 0 where
   pub new : is_live target table.references ≡ false
   pub room : length table.references.live < table.room

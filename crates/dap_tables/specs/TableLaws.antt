@@ -1,6 +1,6 @@
 -- What is true over every list of calls of a table: numbers of references and ids of breakpoints never come again.
 -- Overview, "Lifetime of Objects References".
-use Rattle.std.specs.Prelude.{◌≡◌, ℕ, ◌+◌, ◌≤◌, ◌==◌, List, [], ◌∷◌, ◌++◌, map, length, Bool, true, false, Some, None, Ok}
+use Rattle.std.specs.Prelude.{◌≡◌, ℕ, ◌+◌, ◌-◌, ◌≤◌, ◌==◌, nat_le, List, [], ◌∷◌, ◌++◌, map, length, Bool, true, false, Some, None, Ok}
 use Rattle.std.specs.List.{list_any, list_all, range_with_len}
 use Rattle.dap_call.specs.declared.call.SourceKey.{SourceKey}
 use Rattle.dap_tables.specs.declared.ref_fault.RefFault.TheVariants.{Full, Exhausted}
@@ -34,18 +34,19 @@ gives number (Refused target) = false
 gives number (WentBack mark) = false
 gives number Cleared = false
 
-abbrev pub is_intern : ReferenceCall → Bool
-is_intern (Gave target n) = true
-is_intern (Refused target) = true
-is_intern (WentBack mark) = false
-is_intern Cleared = false
+-- the target at this place of the live ones, counted from 1, stays there
+abbrev pub leaves : ℕ → ReferenceCall → Bool
+leaves place (Gave target n) = true
+leaves place (Refused target) = true
+leaves place (WentBack mark) = nat_le place mark
+leaves place Cleared = false
 
 pub record NumbersNeverComeAgain : Type 0 where
   -- a number that was live when all were let die names nothing ever after, and is not given again
   pub dead : (calls : List ReferenceCall) (old new : ReferenceTable) (number : ℕ) (target : Target) → target_of old.references number ≡ Some target → Runs (Cleared ∷ calls) old new
       → (target_of new.references number ≡ None) × (list_any (gives number) calls ≡ false)
-  -- whatever else is given a number, each number names what it named
-  pub kept : (calls : List ReferenceCall) (old new : ReferenceTable) (number : ℕ) (target : Target) → target_of old.references number ≡ Some target → list_all is_intern calls ≡ true → Runs calls old new
+  -- whatever else is given a number or taken back, each number names what it named
+  pub kept : (calls : List ReferenceCall) (old new : ReferenceTable) (number : ℕ) (target : Target) → target_of old.references number ≡ Some target → list_all (leaves (number - old.references.base)) calls ≡ true → Runs calls old new
       → target_of new.references number ≡ Some target
 
 -- ---- breakpoints

@@ -72,7 +72,7 @@ fn set_lines(
 }
 
 impl Breakpoints {
-    /// None yet, and room for `k` in all lists together. It takes no memory.
+    /// None yet, and room for `k` in all lists together. It takes no memory, so that it never fails.
     pub fn open(alloc: Global, k: usize) -> Result<Breakpoints, AllocError>
         ensures empty { IfOk result (λ table. table ≡ record { room = k; breakpoints = no_breakpoints }) }
         ensures memory { IsOk result }
@@ -86,11 +86,15 @@ impl Breakpoints {
         })
     }
 
-    /// Sets these lines in place of all that one source has, and gives the id of the first; each later one has the next
-    /// id. No lines leave the source without a list, and the next id is given.
+    /// Sets these lines in place of all that one source has, and answers the id of the first; each later one has the next
+    /// id. No lines leave the source without a list, are never refused and take no memory: the answer is the id that comes
+    /// next, 9007199254740992 once all are used.
     ///
-    /// `Full` comes where more would stand than there is room for, else `Exhausted` where an id would be past
-    /// 9007199254740991. No lines are never refused, and take no memory.
+    /// Paths are compared byte by byte. Lines may be any, and may come twice.
+    ///
+    /// # Errors
+    /// `Full` where more would stand than there is room for, else `Exhausted` where an id would be past 9007199254740991, else
+    /// `OutOfMemory` where memory is refused. The table is then as it was.
     #[tactic(auto, using(crate::proofs::SetLemmas::replacing))]
     pub fn replace(&mut self, source: SourceKey, lines: &[u32]) -> Result<u64, BpFault>
         ensures ok { OnOk result (self.new ≡ record self.old { breakpoints = replaced source lines.now self.old.breakpoints }) }
@@ -133,7 +137,8 @@ impl Breakpoints {
         self.len - self.sets.of_source(source).len()
     }
 
-    /// The breakpoints of one source, each its id and its line, in the order in which they were given.
+    /// The breakpoints of one source, each its id and its line, in the order in which they were given; none where it has no
+    /// list.
     pub fn of_source(&self, source: &SourceKey) -> &[(u64, u32)]
         ensures { result.now ≡ set_of source.now self.now.breakpoints.sources }
     {

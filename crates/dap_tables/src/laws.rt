@@ -1,8 +1,8 @@
 //! Laws of the tables over every list of calls, each on a function with nothing to run.
 ghost use Rattle.dap_tables.specs.TableLaws.{NumbersNeverComeAgain, IdsNeverComeAgain, LinesAreCounted};
 
-/// A reference that was let die never names anything again and its number is never given again; one that lives names what
-/// it named.
+/// A reference that was let die never names anything again and its number is never given again; one that is neither let
+/// die nor taken back names what it named.
 pub fn numbers_never_come_again()
     ensures { NumbersNeverComeAgain }
 {}

@@ -76,7 +76,7 @@ fn no_number_is_left(rt: HostRuntime) -> Result<(), Fail> {
     Ok(())
 }
 
-// A known target is found among many, and so is each number after some were taken back.
+// A known target is found among many.
 #[test]
 fn a_thousand_references(rt: HostRuntime) -> Result<(), Fail> {
     let mut table = References::open(rt.alloc(), 1000, 5000)?;

@@ -33,7 +33,7 @@ impl Model for References {
 }
 
 impl References {
-    /// None yet: room for `r` at once, and `m` the greatest number. It takes no memory.
+    /// None yet: room for `r` at once, and `m` the greatest number. It takes no memory, so that it never fails.
     pub fn open(alloc: Global, r: usize, m: u32) -> Result<References, AllocError>
         ensures empty { IfOk result (λ table. table ≡ record { room = r; greatest = m; references = no_references }) }
         ensures memory { IsOk result }
@@ -48,7 +48,11 @@ impl References {
 
     /// The number of a target: its own where it is live, else the next one.
     ///
-    /// A live target is never refused. Else `Full` comes where there is no room, else `Exhausted` where no number is left.
+    /// The number is 1 to `m`. A live target is never refused, and takes no memory.
+    ///
+    /// # Errors
+    /// `Full` where as many are live as there is room for, else `Exhausted` where no number is left, else `OutOfMemory` where
+    /// memory for one more is refused. The table is then as it was.
     pub fn intern(&mut self, target: Target) -> Result<u32, RefFault>
         ensures ok { IfOk result (λ number. interned RefFault.Full RefFault.Exhausted self.old.room self.old.greatest target self.old.references ≡ Ok (number, self.new.references)) }
         ensures limits { (self.new.room ≡ self.old.room) × (self.new.greatest ≡ self.old.greatest) }
@@ -80,7 +84,7 @@ impl References {
         Ok(given + 1)
     }
 
-    /// What a number names, where it is live.
+    /// What a number names, where it is live: nothing at 0, at a number that died and at one that is not given yet.
     pub fn target(&self, number: u32) -> Option<&Target>
         ensures target { option_copied result ≡ target_of self.now.references number }
     {
@@ -99,7 +103,8 @@ impl References {
         }
     }
 
-    /// Takes back the numbers that were given since a mark, which are then given again. As many must be live as at the mark.
+    /// Keeps as many from the front as were live at the mark, and takes back the numbers of the others, which are then given
+    /// again. At least so many must be live.
     pub fn back_to(&mut self, mark: Mark)
         requires { mark ≤ length self.old.references.live }
         ensures back { self.new ≡ record self.old { references = taken_back mark self.old.references } }
