@@ -9,8 +9,8 @@ ghost use Rattle.dap_call.specs.declared.call.CallFault.TheVariants.{OutOfMemory
 use crate::argument;
 use crate::argument::Arguments;
 use crate::call::{
-    BreakpointLocations, Call, CallFault, Completions, Evaluate, Initialize, Modules,
-    SetVariable, SourceKey, StackTrace, Variables,
+    BreakpointLocations, Call, CallFault, Completions, Evaluate, Initialize, Modules, SetVariable,
+    SourceKey, StackTrace, Variables,
 };
 use crate::command::Command;
 use crate::key::Key;
@@ -262,7 +262,11 @@ impl Arguments<'_> {
         }
     }
 
-    fn optional_breakpoint_lines(&self, alloc: Global, key: Key) -> Result<Option<List<u32>>, CallFault>
+    fn optional_breakpoint_lines(
+        &self,
+        alloc: Global,
+        key: Key,
+    ) -> Result<Option<List<u32>>, CallFault>
         ensures { Gives result (optional breakpoint_lines_of key self.now) }
     {
         match self.value(key) {

@@ -18,8 +18,8 @@ mod plain;
 mod writing;
 
 pub use call::{
-    BreakpointLocations, Call, CallFault, Completions, Evaluate, Initialize, Modules,
-    SetVariable, SourceKey, StackTrace, Variables,
+    BreakpointLocations, Call, CallFault, Completions, Evaluate, Initialize, Modules, SetVariable,
+    SourceKey, StackTrace, Variables,
 };
 pub use calls::read_call;
 pub use capabilities::Capabilities;

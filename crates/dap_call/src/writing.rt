@@ -234,14 +234,7 @@ fn set_variable(alloc: Global, call: &SetVariable) -> Result<Members, AllocError
     Ok(members)
 }
 
-#[tactic(
-    auto,
-    unfolding(crate::specs::CallTree::modules_members),
-    using(
-        crate::proofs::Written::modules_start,
-        crate::proofs::Written::modules_count
-    )
-)]
+#[tactic(auto, unfolding(crate::specs::CallTree::modules_members), using(crate::proofs::Written::modules_start, crate::proofs::Written::modules_count))]
 fn modules(alloc: Global, call: &Modules) -> Result<Members, AllocError>
     ensures members { IfOk result (λ m. members_view m.entries ≡ modules_members call.now) }
     ensures memory { OnErr result (IsTrue (is_some (if_any (modules_members call.now)))) }
@@ -302,19 +295,7 @@ fn copy(tree: &Option<Tree>) -> Result<Option<Value>, AllocError>
     }
 }
 
-#[tactic(
-    auto,
-    using(
-        crate::proofs::Written::initialize_any,
-        crate::proofs::Written::set_breakpoints_any,
-        crate::proofs::Written::stack_trace_any,
-        crate::proofs::Written::variables_any,
-        crate::proofs::Written::evaluate_any,
-        crate::proofs::Written::set_variable_any,
-        crate::proofs::Written::locations_any,
-        crate::proofs::Written::completions_any
-    )
-)]
+#[tactic(auto, using(crate::proofs::Written::initialize_any, crate::proofs::Written::set_breakpoints_any, crate::proofs::Written::stack_trace_any, crate::proofs::Written::variables_any, crate::proofs::Written::evaluate_any, crate::proofs::Written::set_variable_any, crate::proofs::Written::locations_any, crate::proofs::Written::completions_any))]
 fn arguments(alloc: Global, call: &Call) -> Result<Option<Value>, AllocError>
     ensures memory { OnErr result (IsTrue (is_some (call_tree call.now))) }
     ensures tree { IfOk result (λ o. option_map view o ≡ call_tree call.now) }

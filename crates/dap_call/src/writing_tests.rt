@@ -1,8 +1,8 @@
 //! For every command what its arguments are written as again, and which calls are not plain.
 
 use crate::{
-    BreakpointLocations, Call, CallFault, Command, Completions, Evaluate, Modules,
-    SetVariable, SourceKey, StackTrace, Variables, read_call, write_call,
+    BreakpointLocations, Call, CallFault, Command, Completions, Evaluate, Modules, SetVariable,
+    SourceKey, StackTrace, Variables, read_call, write_call,
 };
 use dap_json::{List, Text, Tree};
 use serde_json::Value;

@@ -27,9 +27,9 @@ pub use answers::{
     Asked, Category, DebuggeeFault, Evaluation, Frame, Happening, How, Scope, Source, State,
     Thread, Variable,
 };
+pub use dap_json::List;
 pub use debuggee::Debuggee;
 pub use laws::{held_gives_nothing, pieces_are_the_output, polls_tell_the_pieces};
-pub use dap_json::List;
 pub use reading::{RecordingFault, RecordingKey};
 pub use recorded::Recorded;
 pub use stubborn::Stubborn;
