@@ -97,7 +97,7 @@ fn serve<'a>(alloc: Global, limit_texts: &'a [String]) -> Result<Command<'a>, Al
             "Debugs a recorded run: answers the Debug Adapter Protocol requests of standard input on standard output",
         )
         .after_help(
-            "The recording is read before the input. The session ends with `disconnect` or with the input. What bounds references and breakpoints changes nothing yet, since none is given or set.\n\nStatuses: 0 the session or the input ended, 2 usage, 3 a frame, a body, a message or the recording is refused or no sequence number is left, 4 the input ends within a frame, 5 read or write, 6 memory",
+            "The recording is read before the input. The session ends with `disconnect` or with the input.\n\nStatuses: 0 the session or the input ended, 2 usage, 3 a frame, a body, a message or the recording is refused or no sequence number is left, 4 the input ends within a frame, 5 read or write, 6 memory",
         )
         .arg(recording)?;
     for (option, help) in LIMIT_OPTIONS.iter().zip(limit_texts) {

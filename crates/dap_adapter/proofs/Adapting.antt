@@ -17,7 +17,6 @@ use Rattle.dap_session.specs.Plan.{Made, Plan, at_once, asking, entries_of}
 use Rattle.dap_session.specs.Polling.{polls}
 use Rattle.dap_session.specs.Seat.{Seat, Carries, HasTurned, HasTooMany, IsRefusedPoll}
 use Rattle.dap_session.specs.Session.{Session, fresh_session}
-use Rattle.dap_session.specs.Table.{is_put_off}
 use Rattle.dap_session.specs.Within.{IsWithin, EachStepStaysWithin}
 use Rattle.dap_adapter.specs.Calls.{Step, Handled, Saw, PollRefused}
 use Rattle.dap_adapter.specs.End.{End}
@@ -80,8 +79,8 @@ handled grow laws within shown follows old new bytes from to a b i fault limits 
       is = due;
       intake = i;
       step = stepped grow laws follows t.plan old new bytes from to a b i fault limits t.carries
-          (λ made h can w f. laws.turn is_put_off (shown old.debuggee) old.session t.plan made h w.distinct due can f)
-          (λ made can is w. within.turn is_put_off (shown old.debuggee) old.session t.plan made w due can);
+          (λ made h can w f. laws.turn (shown old.debuggee) old.session t.plan made h w.distinct due can f)
+          (λ made can is w. within.turn (shown old.debuggee) old.session t.plan made w due can);
     }
 
 pub fresh-follows : HistoriesGrow → (limits : Settings) → Follows (fresh_session limits) []

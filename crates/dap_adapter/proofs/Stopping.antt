@@ -14,10 +14,9 @@ use Rattle.dap_debuggee.specs.Shown.{Shown}
 use Rattle.dap_session.specs.declared.fault.AdapterFault.{AdapterFault}
 use Rattle.dap_session.specs.declared.fault.AdapterFault.TheVariants.{SeqExhausted, OutOfMemory, Frame, Body, RepeatedSeq, Unmatched, Ended}
 use Rattle.dap_session.specs.Carried.{Goes}
-use Rattle.dap_session.specs.Handling.{turns, turn_of, some_plan, plan_but}
+use Rattle.dap_session.specs.Handling.{turns, turn_of, some_plan, plan}
 use Rattle.dap_session.specs.Plan.{Plan, due}
 use Rattle.dap_session.specs.Session.{Session, oldest}
-use Rattle.dap_session.specs.Table.{is_put_off}
 use Rattle.dap_adapter.specs.Calls.{TakeRefused, TurnRefused, PollRefused, FrameClosed, BodyRefused, ClosedBy, IsRefusal}
 use Rattle.dap_adapter.specs.End.{End}
 use Rattle.dap_adapter.specs.Run.{Next, to_take, to_turn, to_poll, has_ended}
@@ -30,9 +29,9 @@ some_refused : (b : Bool) (p : Plan) (fault : AdapterFault) → some_plan (if b 
 some_refused true p fault e = cc
 some_refused false p fault e = cc
 
-turn_refused : (put_off : Command → Bool) (view : Shown) (s : Session) (o : Option Kept) (fault : AdapterFault) → turn_of put_off view s o ≡ Err fault → SeqExhausted ≡ fault
-turn_refused put_off view s None fault e = cc
-turn_refused put_off view s (Some k) fault e = let p = plan_but put_off view s k.entry in some_refused (nat_le (s.used + due p) s.limits.seq) p fault e
+turn_refused : (view : Shown) (s : Session) (o : Option Kept) (fault : AdapterFault) → turn_of view s o ≡ Err fault → SeqExhausted ≡ fault
+turn_refused view s None fault e = cc
+turn_refused view s (Some k) fault e = let p = plan view s k.entry in some_refused (nat_le (s.used + due p) s.limits.seq) p fault e
 
 not_frame : (f : FrameFault) → SeqExhausted ≡ Frame f → ⊥
 not_frame f e = cc
@@ -54,8 +53,8 @@ module _ {C D : Type 0} (goes : C → IoEvent → C → Type 0) (shown : D → S
       })
 
   pub turn_stops : (f : End D) (used later : List ℕ) (fault : AdapterFault) → Reaches goes shown follows b c e g w n used later [] to_turn → TurnRefused shown e fault f → Halts goes shown follows b c g w n (used ++ later) (serve_fault_of fault)
-  turn_stops f used later (Frame x) r t = absurd (not_frame x (turn_refused is_put_off (shown e.debuggee) e.session (oldest e.session.kept) (Frame x) t.0))
-  turn_stops f used later (Body cause offset) r t = absurd (not_body cause offset (turn_refused is_put_off (shown e.debuggee) e.session (oldest e.session.kept) (Body cause offset) t.0))
+  turn_stops f used later (Frame x) r t = absurd (not_frame x (turn_refused (shown e.debuggee) e.session (oldest e.session.kept) (Frame x) t.0))
+  turn_stops f used later (Body cause offset) r t = absurd (not_body cause offset (turn_refused (shown e.debuggee) e.session (oldest e.session.kept) (Body cause offset) t.0))
   turn_stops f used later (RepeatedSeq seq) r t = record { pends = pends_of used later [] to_turn r; used = used; later = later; read_are = refl; stops = turn_is_in used later (RepeatedSeq seq) r t.0 }
   turn_stops f used later (Unmatched seq) r t = record { pends = pends_of used later [] to_turn r; used = used; later = later; read_are = refl; stops = turn_is_in used later (Unmatched seq) r t.0 }
   turn_stops f used later Ended r t = record { pends = pends_of used later [] to_turn r; used = used; later = later; read_are = refl; stops = turn_is_in used later Ended r t.0 }

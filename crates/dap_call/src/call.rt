@@ -2,6 +2,7 @@
 //!
 //! Specification, "Requests". A key that this profile does not list is not kept, save those of `launch` and `attach`.
 use dap_json::{List, Text, Tree};
+use std::alloc::AllocError;
 
 /// A request. In one that was read, or is plain, a number of a thread is -9007199254740991 to 9007199254740991, and any
 /// other number, unless it says otherwise, is 0 to 2147483647. Lines and columns are counted as the client counts them,
@@ -144,6 +145,19 @@ pub struct Completions {
 pub enum SourceKey {
     Path(Text),
     Reference(u32),
+}
+
+impl Clone for SourceKey {
+    ghost use Rattle.std.specs.Prelude.{◌≡◌};
+
+    ghost is_clone = { λ a b. b ≡ a };
+
+    fn clone(&self) -> Result<SourceKey, AllocError> {
+        match self {
+            SourceKey::Path(path) => Ok(SourceKey::Path(path.clone()?)),
+            SourceKey::Reference(reference) => Ok(SourceKey::Reference(*reference)),
+        }
+    }
 }
 
 /// Why arguments were not read.

@@ -2,7 +2,7 @@
 ghost use Rattle.std.specs.Prelude.{◌≡◌, IfOk};
 
 use dap_call::SourceKey;
-use dap_json::{List, Text};
+use dap_json::List;
 use std::alloc::{AllocError, Global};
 use std::collections::BTreeMap;
 use std::marker::Model;
@@ -144,15 +144,6 @@ impl LineTable {
     }
 }
 
-fn copied_key(alloc: Global, source: &SourceKey) -> Result<SourceKey, AllocError>
-    ensures { IfOk result (λ key. key ≡ source.now) }
-{
-    match source {
-        SourceKey::Path(path) => Ok(SourceKey::Path(Text::copied(alloc, path.as_str())?)),
-        SourceKey::Reference(n) => Ok(SourceKey::Reference(*n)),
-    }
-}
-
 /// Lines of a source, copied.
 fn entry(alloc: Global, source: &SourceKey, lines: &[u32]) -> Result<SetLines, AllocError>
     ensures { IfOk result (λ e. e ≡ record { source = source.now; lines = lines.now }) }
@@ -160,7 +151,7 @@ fn entry(alloc: Global, source: &SourceKey, lines: &[u32]) -> Result<SetLines, A
     let mut copy = Vec::new(alloc);
     copy.extend_from_slice(lines)?;
     Ok(SetLines {
-        source: copied_key(alloc, source)?,
+        source: source.clone()?,
         lines: List::new(copy),
     })
 }

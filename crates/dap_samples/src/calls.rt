@@ -1,7 +1,11 @@
 //! A recording, messages, and the calls of an adapter with what each hands out.
 
-ghost use Rattle.std.specs.Prelude.{◌≡◌, IfOk};
+ghost use Rattle.std.specs.Prelude.{◌≡◌, ◌<◌, length, None, IfOk, IfNone, IfSome};
+ghost use Rattle.std.specs.List.{flat_map};
+ghost use Rattle.dap_frame.specs.Settings.{settings};
+ghost use Rattle.dap_frame.specs.Written.{frame_of};
 ghost use Rattle.dap_debuggee.specs.declared.answers.State.{State};
+ghost use Rattle.dap_session.specs.Session.{fresh_session};
 
 use dap_adapter::{Adapter, AdapterFault, Turned};
 use dap_debuggee::{Debuggee, Recorded};
@@ -42,7 +46,9 @@ pub enum Act<'a> {
 pub type Step<'a> = (Act<'a>, Option<&'a [u8]>, usize);
 
 /// The frames of some bodies, one after the other.
-pub fn framed(alloc: Global, bodies: &[&[u8]]) -> Result<Vec<u8>, Fail> {
+pub fn framed(alloc: Global, bodies: &[&[u8]]) -> Result<Vec<u8>, Fail>
+    ensures { IfOk result (λ frames. frames.items ≡ flat_map (λ body. frame_of body.now) bodies.now) }
+{
     let mut frames = Vec::new(alloc);
     for body in bodies {
         write_frame(&mut frames, body)?;
@@ -61,7 +67,10 @@ pub fn recorded(alloc: Global) -> Result<Recorded, Fail>
 }
 
 /// A fresh adapter over it.
-pub fn adapter(alloc: Global, limits: Limits) -> Result<Adapter<Recorded>, Fail> {
+pub fn adapter(alloc: Global, limits: Limits) -> Result<Adapter<Recorded>, Fail>
+    ensures fresh { IfOk result (λ adapter. adapter.session ≡ fresh_session limits) }
+    ensures fault { IfOk result (λ adapter. adapter.fault ≡ None) }
+{
     let debuggee = recorded(alloc)?;
     Ok(Adapter::open(alloc, limits, debuggee)?)
 }
@@ -71,7 +80,9 @@ pub fn call<D: Debuggee + Drop>(
     alloc: Global,
     adapter: &mut Adapter<D>,
     act: Act<'_>,
-) -> Result<Option<Vec<u8>>, AdapterFault> {
+) -> Result<Option<Vec<u8>>, AdapterFault>
+    ensures idle { IfOk result (λ o. IfNone o (adapter.new ≡ adapter.old)) }
+{
     match act {
         Act::Take(body) => {
             let mut frame = Vec::new(alloc);
@@ -92,7 +103,9 @@ pub fn first_difference<D: Debuggee + Drop>(
     alloc: Global,
     adapter: &mut Adapter<D>,
     steps: &[Step<'_>],
-) -> Result<Option<usize>, Fail> {
+) -> Result<Option<usize>, Fail>
+    ensures { IfOk result (λ o. IfSome o (λ place. place < length steps.now)) }
+{
     for (place, (act, wanted, kept)) in steps.iter().enumerate() {
         let got = call(alloc, adapter, *act).ok().ok_or("a fault")?;
         let same = match (&got, wanted) {
@@ -125,7 +138,10 @@ pub fn follow<D: Debuggee + Drop>(
     }
 }
 
-pub fn two_kept() -> Result<Limits, Fail> {
+/// Limits with which two requests are kept, and one reference and one breakpoint.
+pub fn two_kept() -> Result<Limits, Fail>
+    ensures { IfOk result (λ limits. limits ≡ settings 8192 4194304 2 1 1 1000 1) }
+{
     Ok(
         Limits::new(8192, 4194304, 2, 1, 1, 1000, 1)
             .ok()

@@ -1,5 +1,5 @@
 -- A request that is handled waits for no turn any more: fewer are left to handle.
-use Rattle.std.proofs.Common.{◌≡◌, ℕ, ◌+◌, ◌<◌, ◌≤◌, List, [], ◌∷◌, Bool, true, false, cond, length, sym, arith, Result, Ok, Err, IfOk, true≢false}
+use Rattle.std.proofs.Common.{◌≡◌, ℕ, ◌+◌, ◌<◌, ◌≤◌, List, [], ◌∷◌, Bool, true, false, cond, length, sym, arith, Option, Some, None, Result, Ok, Err, IfOk, true≢false}
 use Rattle.std.specs.Prelude.{◌==◌, ◌&&◌, ◌||◌, not, if◌then◌else◌}
 use Rattle.dap_tables.specs.Outstanding.{Kept, contains_seq, is_parked, without, with_mark, marked, unparked_ones}
 use Rattle.dap_tables.specs.declared.entry.Entry.{Entry as Request}
@@ -7,14 +7,21 @@ use Rattle.dap_debuggee.specs.Shown.{Shown, Reply, done, refused, happened}
 use Rattle.dap_debuggee.specs.declared.answers.How.{How}
 use Rattle.dap_message.specs.Types.Call.{Call}
 use Rattle.dap_message.specs.Types.Failure.{Failure}
+use Rattle.dap_message.specs.Types.Failure.TheVariants.{Debuggee, TooManyBreakpoints, TooLarge}
+use Rattle.dap_message.specs.Types.SourceKey.{SourceKey}
+use Rattle.dap_message.specs.Types.Call.TheVariants as call
+use Rattle.dap_message.specs.ResponseBody.{set_breakpoints_body}
+use Rattle.serde_json.specs.Data.{Data}
 use Rattle.dap_session.specs.declared.effect.Effect.{Effect}
 use Rattle.dap_session.specs.declared.effect.Effect.TheVariants as effect
 use Rattle.dap_session.specs.Bodies.{Telling, telling}
-use Rattle.dap_session.specs.Handling.{plan_for, resumed, told, fits}
+use Rattle.dap_session.specs.Handling.{plan_for, resumed, told, fits, answers_to, lines_asked, breakpoints_set, breakpoints_verified}
 use Rattle.dap_session.specs.Laws.{CanMake}
 use Rattle.dap_session.specs.Carried.{Goes}
-use Rattle.dap_session.specs.Plan.{Made, at_once, answered, failure}
-use Rattle.dap_session.specs.Seat.{Seat, Carries, sets_breakpoints}
+use Rattle.dap_session.specs.Plan.{Made, Plan, at_once, answered, failure}
+use Rattle.dap_session.specs.Seat.{Seat, Carries}
+use Rattle.dap_session.specs.Setting.{Suits}
+use Rattle.dap_session.specs.Breakpoints.{are_too_many}
 use Rattle.dap_session.specs.Session.{Session, to_handle}
 use Rattle.dap_session.proofs.Limited.{can-make}
 
@@ -110,35 +117,58 @@ told-fewer : (s : Session) (r : Request) (t : Telling) → to_handle (without r.
 told-fewer s r (Err f) w = w
 told-fewer s r (Ok t) w = fits-fewer (fits s r t.body) s _ _ w w
 
+-- ---- breakpoints
+
+abbrev PlanFewer : Session → Plan → Type 0
+PlanFewer s plan = (made : Made) → CanMake plan made → IsFewer s made
+
+either-fewer : (b : Bool) (s : Session) (p q : Plan) → PlanFewer s p → PlanFewer s q → PlanFewer s (if b then p else q)
+either-fewer true s p q x y = x
+either-fewer false s p q x y = y
+
+refusal-fewer : (s : Session) (r : Request) (f : Failure) → to_handle (without r.seq s.kept) < to_handle s.kept → PlanFewer s (at_once (answered r (failure f) s))
+refusal-fewer s r f w made m = rw m w
+
+set-fewer : (s : Session) (r : Request) (key : SourceKey) (lines : List ℕ) (body : Option Data) → to_handle (without r.seq s.kept) < to_handle s.kept → PlanFewer s (breakpoints_set s r key lines body)
+set-fewer s r key lines body w made m = rw m.1 w
+
+verified-fewer : (s : Session) (r : Request) (key : SourceKey) (lines : List ℕ) (verified : Option (List Bool)) → to_handle (without r.seq s.kept) < to_handle s.kept → PlanFewer s (breakpoints_verified s r key lines verified)
+verified-fewer s r key lines None w = refusal-fewer s r Debuggee w
+verified-fewer s r key lines (Some verified) w =
+    let body = Some (set_breakpoints_body (answers_to s.breakpoints.next_id lines verified)) in
+    either-fewer (are_too_many s.limits key lines s.breakpoints) s _ _ (refusal-fewer s r TooManyBreakpoints w)
+    (either-fewer (fits s r body) s _ _ (set-fewer s r key (lines_asked s.options lines) body w) (refusal-fewer s r TooLarge w))
+
+-- ---- each effect
+
 once : (s : Session) (m made : Made) → made ≡ m → IsFewer s m → IsFewer s made
 once s m made e h = rw e h
 
-pub plan-fewer : (e : Effect) → sets_breakpoints e ≡ false → (view : Shown) (s : Session) (r : Request) (asked : Call) (made : Made) → contains_seq r.seq s.kept ≡ true → is_parked r.seq s.kept ≡ false
+pub plan-fewer : (e : Effect) (view : Shown) (s : Session) (r : Request) (asked : Call) (made : Made) → Suits e asked → contains_seq r.seq s.kept ≡ true → is_parked r.seq s.kept ≡ false
     → CanMake (plan_for e view s r asked) made → to_handle made.after.kept < to_handle s.kept
 unfolding plan_for
-plan-fewer effect.Begin n view s r asked made c u m = once s _ made m (fewer-without r.seq s.kept c u)
-plan-fewer effect.Park n view s r asked made c u m = once s _ made m (fewer-marked r.seq s.kept c u)
-plan-fewer effect.Start n view s r asked made c u m = once s _ made m.1 (fewer-without r.seq s.kept c u)
-plan-fewer effect.Configure n view s r asked made c u m = once s _ made m (fewer-without r.seq s.kept c u)
-plan-fewer effect.StartParked n view s r asked made c u m = once s _ made m.1 (parked-fewer r.seq s.kept c u)
-plan-fewer effect.Leave n view s r asked made c u m = once s _ made m (some-wait r.seq s.kept c u)
-plan-fewer effect.EndAndLeave n view s r asked made c u m = once s _ made m.1 (some-wait r.seq s.kept c u)
-plan-fewer effect.Finish n view s r asked made c u m = once s _ made m.1 (fewer-without r.seq s.kept c u)
-plan-fewer effect.SetBreakpoints n view s r asked made c u m = absurd (true≢false n)
-plan-fewer (effect.Resume h) n view s r asked made c u m = once s _ made m.1 (resumed-fewer h s r m.0 (fewer-without r.seq s.kept c u))
-plan-fewer effect.Pause n view s r asked made c u m = once s _ made m.1 (fewer-without r.seq s.kept c u)
-plan-fewer effect.Tell n view s r asked made c u m = once s _ made m (told-fewer s r (telling view s asked) (fewer-without r.seq s.kept c u))
+plan-fewer effect.Begin view s r asked made n c u m = once s _ made m (fewer-without r.seq s.kept c u)
+plan-fewer effect.Park view s r asked made n c u m = once s _ made m (fewer-marked r.seq s.kept c u)
+plan-fewer effect.Start view s r asked made n c u m = once s _ made m.1 (fewer-without r.seq s.kept c u)
+plan-fewer effect.Configure view s r asked made n c u m = once s _ made m (fewer-without r.seq s.kept c u)
+plan-fewer effect.StartParked view s r asked made n c u m = once s _ made m.1 (parked-fewer r.seq s.kept c u)
+plan-fewer effect.Leave view s r asked made n c u m = once s _ made m (some-wait r.seq s.kept c u)
+plan-fewer effect.EndAndLeave view s r asked made n c u m = once s _ made m.1 (some-wait r.seq s.kept c u)
+plan-fewer effect.Finish view s r asked made n c u m = once s _ made m.1 (fewer-without r.seq s.kept c u)
+plan-fewer effect.SetBreakpoints view s r (call.SetBreakpoints key lines) made n c u m =
+    verified-fewer s r key lines (view.verify key (lines_asked s.options lines)) (fewer-without r.seq s.kept c u) made m
+plan-fewer effect.SetBreakpoints view s r _ made n c u m = absurd n
+plan-fewer (effect.Resume h) view s r asked made n c u m = once s _ made m.1 (resumed-fewer h s r m.0 (fewer-without r.seq s.kept c u))
+plan-fewer effect.Pause view s r asked made n c u m = once s _ made m.1 (fewer-without r.seq s.kept c u)
+plan-fewer effect.Tell view s r asked made n c u m = once s _ made m (told-fewer s r (telling view s asked) (fewer-without r.seq s.kept c u))
 
 -- ---- a plan that was carried out
 
-pub both-ok : {T E : Type 0} (r : Result T E) (P Q R : T → Type 0) → ((x : T) → P x → Q x → R x) → IfOk r P → IfOk r Q → IfOk r R
-both-ok (Ok x) P Q R f p q = f x p q
-both-ok (Err e) P Q R f p q = p
 
 pub carried-fewer : {D : Type 0} (follows : Goes D) (e : Effect) (view : Shown) (r : Request) (asked : Call) (old new : Seat D) (bytes : List ℕ) → contains_seq r.seq old.session.kept ≡ true → is_parked r.seq old.session.kept ≡ false
-    → sets_breakpoints e ≡ false → Carries follows (plan_for e view old.session r asked) old new bytes → to_handle new.session.kept < to_handle old.session.kept
+    → Suits e asked → Carries follows (plan_for e view old.session r asked) old new bytes → to_handle new.session.kept < to_handle old.session.kept
 carried-fewer follows e view r asked old new bytes c u n t =
-    rw t.by.session (plan-fewer e n view old.session r asked t.made c u (can-make follows (plan_for e view old.session r asked) _ _ t.made t.carried))
+    rw t.by.session (plan-fewer e view old.session r asked t.made n c u (can-make follows (plan_for e view old.session r asked) _ _ t.made t.carried))
 
 pub refused-fewer : {D : Type 0} (follows : Goes D) (f : Failure) (r : Request) (old new : Seat D) (bytes : List ℕ) → contains_seq r.seq old.session.kept ≡ true → is_parked r.seq old.session.kept ≡ false
     → Carries follows (at_once (answered r (failure f) old.session)) old new bytes → to_handle new.session.kept < to_handle old.session.kept

@@ -29,8 +29,8 @@ use Rattle.dap_session.specs.declared.phase.Phase.TheVariants.{Fresh, Running, S
 use Rattle.dap_session.specs.Answering.{GoesWell}
 use Rattle.dap_session.specs.Bodies.{telling}
 use Rattle.dap_session.specs.Breakpoints.{are_too_many}
-use Rattle.dap_session.specs.Failures.{command_of, call_in, refusal_but, of_known}
-use Rattle.dap_session.specs.Handling.{by_reply, breakpoints_plan, breakpoints_verified, breakpoints_answered, breakpoints_set, fits, lines_asked, plan_for, plan_of_call, plan_of_command, plan_unless, plan_but, some_plan, turn_of, turns_but, answer_each}
+use Rattle.dap_session.specs.Failures.{command_of, call_in, refusal, of_known}
+use Rattle.dap_session.specs.Handling.{by_reply, breakpoints_plan, breakpoints_verified, breakpoints_answered, breakpoints_set, fits, lines_asked, plan_for, plan_of_call, plan_of_command, plan_unless, plan as plan_at, some_plan, turn_of, turns, answer_each}
 use Rattle.dap_session.specs.Laws.{CanMake, EachStepGoesOn}
 use Rattle.dap_session.specs.References.{references_after}
 use Rattle.dap_tables.specs.References.{LiveReferences}
@@ -39,7 +39,7 @@ use Rattle.dap_session.specs.Plan.{Answer, names_in, outs, success, failure, pla
 use Rattle.dap_session.specs.Polling.{saw, saw_reply, polls}
 use Rattle.dap_session.specs.Session.{Session, oldest, cancelled_by, not_cancelled_by}
 use Rattle.dap_history.specs.Requests.{asked_of, asks}
-use Rattle.dap_session.specs.Table.{is_phase, effect_in, is_put_off}
+use Rattle.dap_session.specs.Table.{is_phase, effect_in}
 use Rattle.dap_session.specs.Taking.{answered_at_once, is_cancel, named_by, unnamed_by, cancelled, cancelled_as, cancels, keeps, taken_in, takes_as, takes, id_in}
 use Rattle.dap_session.proofs.Kept.{Walked, walked-none, walked-append, walked-each, walked-kept, walked-one, IsKept, kept-found, asks-append, distinct-more, distinct-filter, contains-filter}
 use Rattle.dap_session.proofs.Rows.{walked-well, walked-told, nothing-well, answered-well, begun-well, parked-well, started-well, configured-well, started_parked-well, left-well, finished-well, resumed-well, told-well, names-by_reply, references-each, references-more, length-each}
@@ -73,7 +73,7 @@ breakpoints-verified : (s : Session) (k : Kept) (key : SourceKey) (lines : List 
 breakpoints-verified s k key lines None d i = once-well s [] _ (answered-well s k (failure Debuggee) refl d i)
 breakpoints-verified s k key lines (Some verified) d i = breakpoints-unless (are_too_many s.limits key lines s.breakpoints) s k key (lines_asked s.options lines) _ d i
 
-breakpoints-well : (view : Shown) (s : Session) (k : Kept) (asked : Call) → HasDistinctSeqs s.kept → IsKept s.kept k → PlanWell s [] (breakpoints_plan view s k.entry asked)
+breakpoints-well : (view : Shown) (s : Session) (k : Kept) (asked : Call) → HasDistinctSeqs s.kept → IsKept s.kept k → PlanWell s [] (breakpoints_plan_at view s k.entry asked)
 breakpoints-well view s k (call.SetBreakpoints key lines) d i = breakpoints-verified s k key lines (view.verify key (lines_asked s.options lines)) d i
 breakpoints-well view s k _ d i = once-well s [] _ (nothing-well s)
 
@@ -113,12 +113,12 @@ pub some-afforded : (given : Result Plan AdapterFault) (q : Plan) → some_plan 
 some-afforded (Ok p) q e = cc
 some-afforded (Err fault) q e = cc
 
-pub turn-well : (put_off : Command → Bool) (view : Shown) (s : Session) (o : Option Kept) (plan : Plan) → oldest s.kept ≡ o → HasDistinctSeqs s.kept → turn_of put_off view s o ≡ Ok (Some plan) → PlanWell s [] plan
-turn-well put_off view s None plan is d e = cc
-turn-well put_off view s (Some k) plan is d e =
-    let given = some-afforded (affordable s (plan_but put_off view s k.entry)) plan e in
-    let same = afforded (nat_le (s.used + due (plan_but put_off view s k.entry)) s.limits.seq) (plan_but put_off view s k.entry) plan _ given in
-    let well = unless-well (refusal_but put_off view s k.entry) view s k d (kept-found (λ x. not x.parked) s.kept k is) in
+pub turn-well : (view : Shown) (s : Session) (o : Option Kept) (plan : Plan) → oldest s.kept ≡ o → HasDistinctSeqs s.kept → turn_of view s o ≡ Ok (Some plan) → PlanWell s [] plan
+turn-well view s None plan is d e = cc
+turn-well view s (Some k) plan is d e =
+    let given = some-afforded (affordable s (plan_at view s k.entry)) plan e in
+    let same = afforded (nat_le (s.used + due (plan_at view s k.entry)) s.limits.seq) (plan_at view s k.entry) plan _ given in
+    let well = unless-well (refusal view s k.entry) view s k d (kept-found (λ x. not x.parked) s.kept k is) in
     subst (λ (p : Plan). PlanWell s [] p) (sym same) well
 
 -- ---- polls
@@ -242,13 +242,13 @@ pub each_step_goes_on : HistoriesGrow → EachStepGoesOn
 each_step_goes_on laws = record {
   none_come = ins_of-entries laws;
   take = λ s m plan made h d e is f. goes_on-delivered laws s m made h (message-well m.seq m.kind s plan d e made is) (no-response m.seq m.kind s plan e) f;
-  turn = λ put_off view s plan made h d e is f. goes_on-alone laws s made h (turn-well put_off view s (oldest s.kept) plan refl d e made is) f;
+  turn = λ view s plan made h d e is f. goes_on-alone laws s made h (turn-well view s (oldest s.kept) plan refl d e made is) f;
   poll = λ s made h is f. goes_on-alone laws s made h (polls-if (is_phase Running s.phase || is_phase Stopped s.phase) s made is) f;
 }
 
 -- and the limits stay
-pub turn_keeps_limits : (view : Shown) (s : Session) (plan : Plan) (made : Made) → HasDistinctSeqs s.kept → turns_but is_put_off view s ≡ Ok (Some plan) → CanMake plan made → made.after.limits ≡ s.limits
-turn_keeps_limits view s plan made d e is = (turn-well is_put_off view s (oldest s.kept) plan refl d e made is).limits
+pub turn_keeps_limits : (view : Shown) (s : Session) (plan : Plan) (made : Made) → HasDistinctSeqs s.kept → turns view s ≡ Ok (Some plan) → CanMake plan made → made.after.limits ≡ s.limits
+turn_keeps_limits view s plan made d e is = (turn-well view s (oldest s.kept) plan refl d e made is).limits
 
 pub take_keeps_limits : (s : Session) (m : Message) (plan : Plan) (made : Made) → HasDistinctSeqs s.kept → takes m s ≡ Ok plan → CanMake plan made → made.after.limits ≡ s.limits
 take_keeps_limits s m plan made d e is = (message-well m.seq m.kind s plan d e made is).limits

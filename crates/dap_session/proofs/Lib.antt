@@ -19,3 +19,6 @@ pub mod Cancels
 pub mod TakingRequests
 pub mod Leaves
 pub mod Fewer
+pub mod GivenNumbers
+pub mod SetLines
+pub mod Refusals

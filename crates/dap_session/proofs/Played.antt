@@ -11,7 +11,7 @@ use Rattle.dap_debuggee.specs.Played.{Played, unplayed, act_on, asked, shown_of}
 use Rattle.dap_debuggee.specs.declared.recording.Recording.{Recording}
 use Rattle.dap_session.specs.declared.fault.AdapterFault.{AdapterFault}
 use Rattle.dap_session.specs.declared.fault.AdapterFault.TheVariants.{SeqExhausted}
-use Rattle.dap_session.specs.Handling.{turns_but}
+use Rattle.dap_session.specs.Handling.{turns}
 use Rattle.dap_session.specs.Plan.{Made, Plan, at_once, asking, numbered}
 use Rattle.dap_session.specs.Polling.{polls}
 use Rattle.dap_session.specs.Session.{Session, fresh_session}
@@ -93,20 +93,19 @@ turned (Ok None) at = at
 turned (Ok (Some p)) at = carried p at
 turned (Err fault) at = record at { fault = Some fault }
 
--- where these commands are put off
-abbrev pub called : (Command → Bool) → Calls → At → At
-called put_off (comes m) at = taken (takes m at.session) at
-called put_off turn at = turned (turns_but put_off (view_of at.view) at.session) at
-called put_off poll at = carried (polls at.session) at
+abbrev pub called : Calls → At → At
+called (comes m) at = taken (takes m at.session) at
+called turn at = turned (turns (view_of at.view) at.session) at
+called poll at = carried (polls at.session) at
 
 -- a fault stays
 abbrev pub unless_closed : Option AdapterFault → At → At → At
 unless_closed None next at = next
 unless_closed (Some fault) next at = at
 
-abbrev pub run : (Command → Bool) → List Calls → At → At
-run put_off [] at = at
-run put_off (c ∷ cs) at = run put_off cs (unless_closed at.fault (called put_off c at) at)
+abbrev pub run : List Calls → At → At
+run [] at = at
+run (c ∷ cs) at = run cs (unless_closed at.fault (called c at) at)
 
 -- ---- what is asked of a run
 

@@ -1,4 +1,4 @@
--- Worked examples of references and breakpoints, each shown by computation. No command is put off here.
+-- Worked examples of references and breakpoints, each shown by computation.
 use Rattle.std.proofs.Common.{◌≡◌, ℕ, List, [], ◌∷◌, ◌++◌, length, Bool, false, codes, refl, replicate}
 use Rattle.std.specs.Fmt.{digits}
 use Rattle.std.specs.List.{flat_map}
@@ -18,11 +18,8 @@ use Rattle.dap_session.specs.Handling.{plan_for}
 use Rattle.dap_session.specs.Polling.{saw}
 use Rattle.dap_session.proofs.Played.{At, Calls, turn, poll, run, fresh_at, request, request_with, texts_of, initialized, written_after}
 
-abbrev none_put_off : Command → Bool
-none_put_off c = false
-
 abbrev played : Settings → List Calls → At
-played limits calls = run none_put_off calls (fresh_at limits false)
+played limits calls = run calls (fresh_at limits false)
 
 abbrev asked : ℕ → List ℕ → List ℕ → List Calls
 asked seq command arguments = request_with seq command arguments ∷ turn ∷ []

@@ -1,5 +1,5 @@
 -- What a step does to references and breakpoints, row by row.
-use Rattle.std.proofs.Common.{◌≡◌, ℕ, zero, suc, ◌+◌, ◌-◌, ◌<◌, ◌≤◌, List, [], ◌∷◌, ◌++◌, Bool, true, false, Option, Some, None, Result, Ok, Err, length, get_or, refl, sym, ap, ◌∙◌, subst, append_assoc, arith, length-append, map, true≢false}
+use Rattle.std.proofs.Common.{◌≡◌, ◌⊎◌, inl, inr, ℕ, zero, suc, ◌+◌, ◌-◌, ◌<◌, ◌≤◌, List, [], ◌∷◌, ◌++◌, Bool, true, false, Option, Some, None, Result, Ok, Err, length, get_or, refl, sym, ap, ◌∙◌, subst, append_assoc, arith, length-append, map, true≢false}
 use Rattle.std.specs.Prelude.{◌==◌, ◌&&◌, if◌then◌else◌, nat_lt, nat_le, sum, option_and_then, option_map}
 use Rattle.std.specs.List.{slice_get, AllZip}
 use Rattle.std.proofs.lemmas.Bool.Decides.{nat_tests}
@@ -44,16 +44,17 @@ use Rattle.dap_session.specs.Bodies.{Told, Telling, telling, tells_only, tells_w
 use Rattle.dap_session.specs.Breakpoints.{are_too_many}
 use Rattle.dap_tables.specs.Breakpoints.{SetBreakpoints, count, count_with, replaced, max_id}
 use Rattle.dap_tables.proofs.SetLemmas.{count-replaced}
-use Rattle.dap_session.specs.Failures.{command_of, call_in, refusal_but, of_known}
-use Rattle.dap_session.specs.Handling.{begun, parked, started, configured, started_parked, left, finished, resumed, told, fits, by_reply, lines_asked, breakpoints_set, breakpoints_answered, breakpoints_verified, breakpoints_plan, plan_for, plan_of_call, plan_of_command, plan_unless, plan_but, turn_of, turns_but}
+use Rattle.dap_session.specs.Failures.{command_of, call_in, refusal, of_known}
+use Rattle.dap_session.specs.Handling.{begun, parked, started, configured, started_parked, left, finished, resumed, told, fits, by_reply, lines_asked, breakpoints_set, breakpoints_answered, breakpoints_verified, breakpoints_plan, plan_for, plan_of_call, plan_of_command, plan_unless, plan as plan_at, turn_of, turns}
 use Rattle.dap_session.specs.Laws.{CanMake}
 use Rattle.dap_session.specs.Plan.{Answer, success, failure, reply, Made, Plan, at_once, asking, nothing, answered, due, affordable}
 use Rattle.dap_session.specs.Polling.{saw, saw_reply, polls, has_debuggee}
-use Rattle.dap_session.specs.ReferenceLaws.{IsNumberOf, KeepsApart, ReferencesAreApart}
+use Rattle.dap_session.specs.ReferenceLaws.{IsNumberOf, KeepsApart, IsStep, Runs, ReferencesAreApart}
 use Rattle.dap_session.specs.References.{intern, and_then, onto_first, intern_each, named}
 use Rattle.dap_tables.specs.References.{LiveReferences, frame_of, holder_of, same_kind, is_same, place_of, target_of, cleared, numbered_at}
 use Rattle.dap_session.specs.Session.{Session, oldest}
 use Rattle.dap_session.specs.Table.{effect_in, is_phase}
+use Rattle.dap_session.specs.Telling.{Grows}
 use Rattle.dap_session.specs.Taking.{answered_at_once, id_in, is_cancel, cancelled, cancelled_as, cancels, keeps, taken_in, takes_as, takes}
 use Rattle.dap_session.proofs.Going.{afforded, some-afforded}
 use Rattle.dap_session.proofs.Kept.{false-left, false-right}
@@ -66,10 +67,10 @@ lt-of a b h = grind (arith, nat_tests)
 le-not : (a b : ℕ) → nat_lt a b ≡ false → b ≤ a
 le-not a b h = grind (arith, nat_tests)
 
-no-lt : (a b : ℕ) → b ≤ a → nat_lt a b ≡ false
+pub no-lt : (a b : ℕ) → b ≤ a → nat_lt a b ≡ false
 no-lt a b h = grind (arith, nat_tests)
 
-is-lt : (a b : ℕ) → a < b → nat_lt a b ≡ true
+pub is-lt : (a b : ℕ) → a < b → nat_lt a b ≡ true
 is-lt a b h = grind (arith, nat_tests)
 
 is-eq : (a b : ℕ) → (a == b) ≡ true → a ≡ b
@@ -115,15 +116,10 @@ slice_get-end [] x = refl
 slice_get-end (y ∷ xs) x = slice_get-end xs x
 
 -- more live references, and none less
-record Grows (old new : LiveReferences) : Type 0 where
-  base : new.base ≡ old.base
-  more : List Target
-  live : new.live ≡ old.live ++ more
-
-grows-not : (refs : LiveReferences) → Grows refs refs
+pub grows-not : (refs : LiveReferences) → Grows refs refs
 grows-not refs = record { base = refl; more = []; live = sym (append-nil refs.live) }
 
-grows-twice : (old mid new : LiveReferences) → Grows old mid → Grows mid new → Grows old new
+pub grows-twice : (old mid new : LiveReferences) → Grows old mid → Grows mid new → Grows old new
 grows-twice old mid new g h =
     record {
       base = h.base ∙ g.base;
@@ -203,6 +199,9 @@ interned-at None limits t refs given is e = interned-next (nat_lt (length refs.l
 
 interned-one : (limits : Settings) (t : Target) (refs : LiveReferences) (given : ℕ × LiveReferences) → intern limits t refs ≡ Ok given → Interned limits t refs given
 interned-one limits t refs given e = interned-at (place_of t refs.live) limits t refs given refl e
+
+pub interned-grows : (limits : Settings) (t : Target) (refs : LiveReferences) (given : ℕ × LiveReferences) → intern limits t refs ≡ Ok given → Grows refs given.1
+interned-grows limits t refs given e = (interned-one limits t refs given e).grows
 
 -- and for each
 record InternedEach (limits : Settings) (ts : List (Option Target)) (old : LiveReferences) (given : List ℕ × LiveReferences) : Type 0 where
@@ -362,11 +361,11 @@ breakpoints-moves view s r _ = once-moves s _ (nothing-moves s)
 -- ---- what is told
 
 -- it gives no more than there is room for
-record TellsFew (s : Session) (t : Told) : Type 0 where
-  grows : Grows s.references t.references
-  few : AreFew s.limits s.references → AreFew s.limits t.references
+pub record TellsFew (s : Session) (t : Told) : Type 0 where
+  pub grows : Grows s.references t.references
+  pub few : AreFew s.limits s.references → AreFew s.limits t.references
 
-abbrev AllFew : Session → Telling → Type 0
+abbrev pub AllFew : Session → Telling → Type 0
 AllFew s given = (t : Told) → given ≡ Ok t → TellsFew s t
 
 only-few : (s : Session) (body : Option Data) → AllFew s (tells_only s body)
@@ -402,7 +401,7 @@ variables-few s variables = tells_with-few s (map (λ (x : Variable). option_map
 value-few : (s : Session) (value : Evaluation) → AllFew s (value_told s value)
 value-few s value = tells_with-few s (option_map holder_of value.holder ∷ []) (λ numbers. evaluate_body value.value (number_in numbers))
 
-telling-few : (view : Shown) (s : Session) (asked : Call) → AllFew s (telling view s asked)
+pub telling-few : (view : Shown) (s : Session) (asked : Call) → AllFew s (telling view s asked)
 unfolding telling
 telling-few view s call.Threads = only-few s _
 telling-few view s (call.StackTrace asked) =
@@ -461,16 +460,16 @@ unless-moves : (o : Option Failure) (view : Shown) (s : Session) (r : Request) �
 unless-moves (Some f) view s r = once-moves s _ (answered-moves s r (failure f))
 unless-moves None view s r = command-moves view s r (command_of r)
 
-turn-moves-if : (put_off : Command → Bool) (view : Shown) (s : Session) (o : Option Kept) (plan : Plan) → turn_of put_off view s o ≡ Ok (Some plan) → PlanMoves s plan
-turn-moves-if put_off view s None plan e = cc
-turn-moves-if put_off view s (Some k) plan e =
-    let p = plan_but put_off view s k.entry in
+turn-moves-if : (view : Shown) (s : Session) (o : Option Kept) (plan : Plan) → turn_of view s o ≡ Ok (Some plan) → PlanMoves s plan
+turn-moves-if view s None plan e = cc
+turn-moves-if view s (Some k) plan e =
+    let p = plan_at view s k.entry in
     let given = some-afforded (affordable s p) plan e in
     let same = afforded (nat_le (s.used + due p) s.limits.seq) p plan _ given in
-    subst (λ (x : Plan). PlanMoves s x) (sym same) (unless-moves (refusal_but put_off view s k.entry) view s k.entry)
+    subst (λ (x : Plan). PlanMoves s x) (sym same) (unless-moves (refusal view s k.entry) view s k.entry)
 
-pub turn-moves : (put_off : Command → Bool) (view : Shown) (s : Session) (plan : Plan) (made : Made) → turns_but put_off view s ≡ Ok (Some plan) → CanMake plan made → Moves s made
-turn-moves put_off view s plan made e is = turn-moves-if put_off view s (oldest s.kept) plan e made is
+pub turn-moves : (view : Shown) (s : Session) (plan : Plan) (made : Made) → turns view s ≡ Ok (Some plan) → CanMake plan made → Moves s made
+turn-moves view s plan made e is = turn-moves-if view s (oldest s.kept) plan e made is
 
 -- ---- polls
 
@@ -538,14 +537,35 @@ message-moves seq (Other tag) s plan e = no-moves s plan (cc)
 pub take-moves : (s : Session) (m : Message) (plan : Plan) (made : Made) → takes m s ≡ Ok plan → CanMake plan made → Moves s made
 take-moves s m plan made e is = message-moves m.seq m.kind s plan e made is
 
+-- ---- runs
+
+step-apart : (s : Session) (made : Made) → IsStep s made → KeepsApart s made
+step-apart s made (inl t) = (take-moves s t.message t.plan made t.is t.can).apart
+step-apart s made (inr (inl t)) = (turn-moves t.view s t.plan made t.is t.can).apart
+step-apart s made (inr (inr t)) = (poll-moves s made t).apart
+
+runs-base : (later : List Made) (s new : Session) → Runs later s new → s.references.base ≤ new.references.base
+runs-base [] s new r = let same = ap (λ (x : Session). x.references.base) r in omega arith
+runs-base (made ∷ later) s new r =
+    let first = (step-apart s made r.0).base in
+    let rest = runs-base later made.after new r.1 in
+    omega arith
+
+stays_dead : (s new : Session) (made : Made) (later : List Made) (n : ℕ) (t : Target) → IsStep s made → made.drops ≡ true → target_of s.references n ≡ Some t → Runs later made.after new → target_of new.references n ≡ None
+stays_dead s new made later n t step drops live runs =
+    let at_drop = (step-apart s made step).dropped drops n t live in
+    let later_on = runs-base later made.after new runs in
+    dead new.references n (omega arith)
+
 -- ---- the law
 
 pub references_are_apart : ReferencesAreApart
 references_are_apart = record {
   dead = dead;
   take = λ s m plan made e is. (take-moves s m plan made e is).apart;
-  turn = λ put_off view s plan made e is. (turn-moves put_off view s plan made e is).apart;
+  turn = λ view s plan made e is. (turn-moves view s plan made e is).apart;
   poll = λ s made is. (poll-moves s made is).apart;
   named = λ limits objects refs given e. (interned-each limits objects refs given e).names;
   kept = λ limits objects refs given e n t h. grown-names refs given.1 n t (interned-each limits objects refs given e).grows h;
+  stays_dead = stays_dead;
 }

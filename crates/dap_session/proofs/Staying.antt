@@ -28,11 +28,11 @@ use Rattle.dap_session.specs.declared.fault.AdapterFault.TheVariants.{RepeatedSe
 use Rattle.dap_session.specs.declared.phase.Phase.TheVariants.{Fresh, Ended}
 use Rattle.dap_session.specs.Answering.{answered_by, open_after, GoesWell}
 use Rattle.dap_session.specs.Breakpoints.{are_too_many}
-use Rattle.dap_session.specs.Failures.{of_known, command_of, call_in, refusal_but}
+use Rattle.dap_session.specs.Failures.{of_known, command_of, call_in, refusal}
 use Rattle.dap_debuggee.specs.declared.answers.How.{How}
 use Rattle.dap_tables.specs.Outstanding.{without}
 use Rattle.dap_session.proofs.Rows.{length-each}
-use Rattle.dap_session.specs.Handling.{resumed, started_parked, left, by_reply, breakpoints_plan, breakpoints_verified, breakpoints_answered, fits, lines_asked, plan_for, plan_of_call, plan_of_command, plan_unless, plan_but, turn_of, turns_but}
+use Rattle.dap_session.specs.Handling.{resumed, started_parked, left, by_reply, breakpoints_plan, breakpoints_verified, breakpoints_answered, fits, lines_asked, plan_for, plan_of_call, plan_of_command, plan_unless, plan as plan_at, turn_of, turns}
 use Rattle.dap_session.specs.Laws.{CanMake}
 use Rattle.dap_session.specs.Plan.{Draft, failure, nothing, Made, Plan, at_once, due, affordable}
 use Rattle.dap_session.specs.Polling.{polls, has_debuggee}
@@ -118,14 +118,14 @@ afforded-fits false p q fault e = cc
 le-of : (a b : ℕ) → nat_le a b ≡ true → a ≤ b
 le-of a b h = grind (arith, nat_tests)
 
-turn-even : (put_off : Command → Bool) (view : Shown) (s : Session) (o : Option Kept) (plan : Plan) → turn_of put_off view s o ≡ Ok (Some plan) → IsEven plan × (s.used + due plan ≤ s.limits.seq)
-turn-even put_off view s None plan e = cc
-turn-even put_off view s (Some k) plan e =
-    let p = plan_but put_off view s k.entry in
+turn-even : (view : Shown) (s : Session) (o : Option Kept) (plan : Plan) → turn_of view s o ≡ Ok (Some plan) → IsEven plan × (s.used + due plan ≤ s.limits.seq)
+turn-even view s None plan e = cc
+turn-even view s (Some k) plan e =
+    let p = plan_at view s k.entry in
     let given = some-afforded (affordable s p) plan e in
     let same = afforded (nat_le (s.used + due p) s.limits.seq) p plan _ given in
     let fine = le-of (s.used + due p) s.limits.seq (afforded-fits (nat_le (s.used + due p) s.limits.seq) p plan _ given) in
-    (subst (λ (x : Plan). IsEven x) (sym same) (unless-even (refusal_but put_off view s k.entry) view s k.entry), subst (λ (x : Plan). s.used + due x ≤ s.limits.seq) (sym same) fine)
+    (subst (λ (x : Plan). IsEven x) (sym same) (unless-even (refusal view s k.entry) view s k.entry), subst (λ (x : Plan). s.used + due x ≤ s.limits.seq) (sym same) fine)
 
 -- ---- numbers of requests
 
@@ -215,20 +215,20 @@ turn-within s m w v i u =
     let most = i.kept in
     within-limits s m i v (rw left (distinct-open m.drafts (asks s.kept) (asks-distinct s.kept i.distinct))) (omega arith) u
 
-pub turn-stays : (put_off : Command → Bool) (view : Shown) (s : Session) (plan : Plan) (made : Made) → IsWithin s → turns_but put_off view s ≡ Ok (Some plan) → CanMake plan made → IsWithin made.after
-turn-stays put_off view s plan made i e is =
-    let well = turn-well put_off view s (oldest s.kept) plan refl i.distinct e made is in
-    let even = turn-even put_off view s (oldest s.kept) plan e in
+pub turn-stays : (view : Shown) (s : Session) (plan : Plan) (made : Made) → IsWithin s → turns view s ≡ Ok (Some plan) → CanMake plan made → IsWithin made.after
+turn-stays view s plan made i e is =
+    let well = turn-well view s (oldest s.kept) plan refl i.distinct e made is in
+    let even = turn-even view s (oldest s.kept) plan e in
     let many = even.0 made is in
     let room = even.1 in
     let now = well.used in
-    turn-within s made well (turn-moves put_off view s plan made e is) i (omega arith)
+    turn-within s made well (turn-moves view s plan made e is) i (omega arith)
 
 pub poll-stays : (s : Session) (made : Made) → IsWithin s → CanMake (polls s) made → made.after.used ≤ s.limits.seq → IsWithin made.after
 poll-stays s made i is u = turn-within s made (polls-if (has_debuggee s.phase) s made is) (poll-moves s made is) i u
 
-pub due_is_exact : (put_off : Command → Bool) (view : Shown) (s : Session) (plan : Plan) (made : Made) → IsWithin s → turns_but put_off view s ≡ Ok (Some plan) → CanMake plan made → length made.drafts ≡ due plan
-due_is_exact put_off view s plan made i e is = (turn-even put_off view s (oldest s.kept) plan e).0 made is
+pub due_is_exact : (view : Shown) (s : Session) (plan : Plan) (made : Made) → IsWithin s → turns view s ≡ Ok (Some plan) → CanMake plan made → length made.drafts ≡ due plan
+due_is_exact view s plan made i e is = (turn-even view s (oldest s.kept) plan e).0 made is
 
 -- ---- deliveries
 
@@ -318,7 +318,7 @@ each_step_stays_within = record {
   turn = turn-stays;
   poll = poll-stays;
   take_keeps_limits = λ s m plan made e is. (take-moves s m plan made e is).limits;
-  turn_keeps_limits = λ put_off view s plan made e is. (turn-moves put_off view s plan made e is).limits;
+  turn_keeps_limits = λ view s plan made e is. (turn-moves view s plan made e is).limits;
   poll_keeps_limits = λ s made is. (poll-moves s made is).limits;
   due_is_exact = due_is_exact;
 }

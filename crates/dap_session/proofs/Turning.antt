@@ -12,7 +12,6 @@ use Rattle.dap_session.specs.Seat.{Seat, IsUnasked, IsRefusedFor, NotTurned, Has
 use Rattle.dap_session.specs.Handling.{plan, some_plan, turn_of}
 use Rattle.dap_session.specs.Plan.{due, affordable}
 use Rattle.dap_session.specs.Session.{Session, oldest}
-use Rattle.dap_session.specs.Table.{is_put_off}
 use Rattle.dap_session.proofs.Kept.{IsKept, kept-found, apart, eqb-self, false-left, false-right}
 
 entry-middle : (before : List Kept) (k : Kept) (after : List Kept) → contains_seq k.entry.seq before ≡ false → entry_with k.entry.seq (before ++ k ∷ after) ≡ Some k.entry
@@ -42,13 +41,13 @@ within a b h = grind (arith, nat_tests)
 pub beyond : (a b : ℕ) → b < a → nat_le a b ≡ false
 beyond a b h = grind (arith, nat_tests)
 
-turn-within : (view : Shown) (s : Session) (o : Option Kept) (r : Entry) → option_map (λ (k : Kept). k.entry) o ≡ Some r → s.used + due (plan view s r) ≤ s.limits.seq → turn_of is_put_off view s o ≡ Ok (Some (plan view s r))
+turn-within : (view : Shown) (s : Session) (o : Option Kept) (r : Entry) → option_map (λ (k : Kept). k.entry) o ≡ Some r → s.used + due (plan view s r) ≤ s.limits.seq → turn_of view s o ≡ Ok (Some (plan view s r))
 turn-within view s None r e h = cc
 turn-within view s (Some k) r e h =
     let same : k.entry ≡ r = cc in
     rw same (rw (within (s.used + due (plan view s r)) s.limits.seq h) refl)
 
-turn-beyond : (view : Shown) (s : Session) (o : Option Kept) (r : Entry) → option_map (λ (k : Kept). k.entry) o ≡ Some r → s.limits.seq < s.used + due (plan view s r) → turn_of is_put_off view s o ≡ Err SeqExhausted
+turn-beyond : (view : Shown) (s : Session) (o : Option Kept) (r : Entry) → option_map (λ (k : Kept). k.entry) o ≡ Some r → s.limits.seq < s.used + due (plan view s r) → turn_of view s o ≡ Err SeqExhausted
 turn-beyond view s None r e h = cc
 turn-beyond view s (Some k) r e h =
     let same : k.entry ≡ r = cc in
@@ -58,7 +57,7 @@ pub turned : {D : Type 0} (shown : D → Shown) (follows : Goes D) (old new : Se
     → Carries follows (plan (shown old.debuggee) old.session r) old new bytes → HasTurned shown follows old new bytes
 turned shown follows old new bytes r e h c = record { plan = plan (shown old.debuggee) old.session r; is = turn-within (shown old.debuggee) old.session (oldest old.session.kept) r (sym e) h; carries = c }
 
-unasked-turn : {D : Type 0} (view : Shown) (s : Session) (o : Option Kept) (r : Entry) (v w : D) → option_map (λ (k : Kept). k.entry) o ≡ Some r → IsUnasked (some_plan (affordable s (plan view s r))) v w → IsUnasked (turn_of is_put_off view s o) v w
+unasked-turn : {D : Type 0} (view : Shown) (s : Session) (o : Option Kept) (r : Entry) (v w : D) → option_map (λ (k : Kept). k.entry) o ≡ Some r → IsUnasked (some_plan (affordable s (plan view s r))) v w → IsUnasked (turn_of view s o) v w
 unasked-turn view s None r v w e h = cc
 unasked-turn view s (Some k) r v w e h =
     let same : k.entry ≡ r = cc in

@@ -10,7 +10,6 @@ use Rattle.dap_session.specs.Handling.{plan, some_plan, turn_of}
 use Rattle.dap_session.specs.Plan.{Plan, at_once, asking, due, affordable}
 use Rattle.dap_session.specs.Seat.{IsUnasked}
 use Rattle.dap_session.specs.Session.{Session}
-use Rattle.dap_session.specs.Table.{is_put_off}
 
 same-after : {D : Type 0} (b : Bool) (plan : Plan) (v : D) → IsUnasked (some_plan (if b then Ok plan else Err SeqExhausted)) v v
 same-after false plan v = refl
@@ -33,6 +32,6 @@ asked s plan v w room h =
     rw fits h
 
 -- a request waits
-pub waiting : {D : Type 0} (view : Shown) (s : Session) (o : Option Kept) (v : D) → (o ≡ None → ⊥) → IsUnasked (turn_of is_put_off view s o) v v
+pub waiting : {D : Type 0} (view : Shown) (s : Session) (o : Option Kept) (v : D) → (o ≡ None → ⊥) → IsUnasked (turn_of view s o) v v
 waiting view s None v h = absurd (h refl)
 waiting view s (Some k) v h = same s (plan view s k.entry) v v refl

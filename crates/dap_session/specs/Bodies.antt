@@ -1,7 +1,7 @@
 -- What the requests are answered that tell what the debuggee shows.
 -- Specification, "ThreadsResponse", "StackTraceResponse", "ScopesResponse", "VariablesResponse", "EvaluateResponse", "SourceResponse", "LoadedSourcesResponse" and "Types". Which of what they may tell is told, is this profile's choice.
 use Rattle.std.specs.Prelude.{ℕ, ◌+◌, ◌-◌, List, [], ◌∷◌, length, map, take, drop, nat_lt, Option, Some, None, option_map, option_and_then, unwrap_or, Result, Ok, Err, if◌then◌else◌}
-use Rattle.std.specs.List.{slice_get}
+use Rattle.std.specs.List.{slice_get, zip}
 use Rattle.serde_json.specs.Data.{Data}
 use Rattle.dap_tables.specs.declared.target.Target.{Target}
 use Rattle.dap_message.specs.ResponseBody.{threads_body, stack_trace_body, scopes_body, variables_body, evaluate_body, source_body, loaded_sources_body}
@@ -74,12 +74,12 @@ abbrev pub sources_told : ℕ → List Source → List SourceBody
 sources_told index [] = []
 sources_told index (source ∷ sources) = source_told index source ∷ sources_told (index + 1) sources
 
--- an index past the sources, which no frame has
-abbrev pub unknown_source : ℕ → SourceBody
-unknown_source index = record { name = []; path = None; source_reference = index + 1 }
+-- at an index past the sources, which no frame has
+abbrev pub no_source : SourceBody
+no_source = record { name = []; path = None; source_reference = 0 }
 
 abbrev pub source_of_frame : List Source → ℕ → SourceBody
-source_of_frame sources index = unwrap_or (option_map (source_told index) (slice_get sources index)) (unknown_source index)
+source_of_frame sources index = unwrap_or (option_map (source_told index) (slice_get sources index)) no_source
 
 abbrev pub frame_told : Options → List Source → ℕ → Frame → StackFrame
 frame_told options sources id f = record { id = id; name = f.name; source = source_of_frame sources f.source; line = line_shown options f.line; column = column_shown options }
@@ -92,9 +92,7 @@ variable_told number variable = record { name = variable.name; value = variable.
 
 -- each with its number
 abbrev pub with_numbers : {A B : Type 0} → (ℕ → A → B) → List ℕ → List A → List B
-with_numbers told [] xs = []
-with_numbers told (n ∷ ns) [] = []
-with_numbers told (n ∷ ns) (x ∷ xs) = told n x ∷ with_numbers told ns xs
+with_numbers told ns xs = map (λ p. told p.0 p.1) (zip ns xs)
 
 abbrev pub number_in : List ℕ → ℕ
 number_in [] = 0

@@ -20,7 +20,7 @@ use Rattle.dap_session.specs.declared.phase.Phase.{Phase}
 use Rattle.dap_session.specs.declared.phase.Phase.TheVariants.{Fresh, Running}
 use Rattle.dap_tables.specs.References.{LiveReferences, target_of, is_of_kind}
 use Rattle.dap_session.specs.Session.{Session}
-use Rattle.dap_session.specs.Table.{is_phase, is_served, is_never_served, is_of_stops, is_put_off}
+use Rattle.dap_session.specs.Table.{is_phase, is_served, is_never_served, is_of_stops}
 
 abbrev pub command_of : Entry → Option Command
 command_of r = command_named r.command
@@ -105,13 +105,13 @@ abbrev pub first : List (Option Failure) → Option Failure
 first [] = None
 first (f ∷ later) = or_else f (first later)
 
--- of a command's name alone, where these commands are put off
-abbrev pub name_refused : (Command → Bool) → Phase → Option Command → Option Failure
-name_refused put_off phase c = first (
+-- of a command's name alone
+abbrev pub name_refused : Phase → Option Command → Option Failure
+name_refused phase c = first (
     when (is_phase Fresh phase && not (of_known is_early c)) NotInitialized
     ∷ when (of_known is_initialize c && not (is_phase Fresh phase)) AlreadyInitialized
     ∷ when (is_none c) UnknownCommand
-    ∷ when (of_known (λ x. is_never_served x || put_off x) c) Unsupported
+    ∷ when (of_known is_never_served c) Unsupported
     ∷ [])
 
 -- of its arguments
@@ -143,9 +143,6 @@ abbrev pub known_refused : Shown → Session → Entry → Option Command → Op
 known_refused view s r None = None
 known_refused view s r (Some c) = first (key_refused (call_in r c) ∷ phase_refused s.phase c ∷ read_refused view s.references (call_in r c) ∷ [])
 
--- why a request is refused before anything is asked, where these commands are put off
-abbrev pub refusal_but : (Command → Bool) → Shown → Session → Entry → Option Failure
-refusal_but put_off view s r = first (name_refused put_off s.phase (command_of r) ∷ known_refused view s r (command_of r) ∷ [])
-
+-- why a request is refused before anything is asked
 abbrev pub refusal : Shown → Session → Entry → Option Failure
-refusal view s r = refusal_but is_put_off view s r
+refusal view s r = first (name_refused s.phase (command_of r) ∷ known_refused view s r (command_of r) ∷ [])

@@ -29,12 +29,12 @@ use Rattle.dap_session.specs.declared.fault.AdapterFault.{AdapterFault}
 use Rattle.dap_session.specs.Bodies.{Telling, telling}
 use Rattle.dap_session.specs.Breakpoints.{are_too_many}
 use Rattle.dap_tables.specs.Breakpoints.{replaced}
-use Rattle.dap_session.specs.Failures.{command_of, call_in, refusal_but, thread_named}
+use Rattle.dap_session.specs.Failures.{command_of, call_in, refusal, thread_named}
 use Rattle.dap_session.specs.Plan.{Answer, success, failure, plain_success, Draft, reply, tell, Made, Plan, at_once, asking, nothing, answered, affordable}
 use Rattle.dap_tables.specs.References.{cleared}
 use Rattle.dap_session.specs.Session.{Session, usual_options, oldest}
 use Rattle.dap_tables.specs.Outstanding.{parked_ones, unparked_ones}
-use Rattle.dap_session.specs.Table.{effect_in, is_put_off}
+use Rattle.dap_session.specs.Table.{effect_in}
 
 -- ---- initialize
 
@@ -215,12 +215,9 @@ abbrev pub plan_unless : Option Failure → Shown → Session → Entry → Plan
 plan_unless (Some f) view s r = at_once (answered r (failure f) s)
 plan_unless None view s r = plan_of_command view s r (command_of r)
 
-abbrev pub plan_but : (Command → Bool) → Shown → Session → Entry → Plan
-plan_but put_off view s r = plan_unless (refusal_but put_off view s r) view s r
-
 -- how a request is handled
 abbrev pub plan : Shown → Session → Entry → Plan
-plan view s r = plan_but is_put_off view s r
+plan view s r = plan_unless (refusal view s r) view s r
 
 -- ---- a turn: None where no request waits to be handled
 
@@ -228,13 +225,10 @@ abbrev pub some_plan : Result Plan AdapterFault → Result (Option Plan) Adapter
 some_plan (Ok p) = Ok (Some p)
 some_plan (Err fault) = Err fault
 
-abbrev pub turn_of : (Command → Bool) → Shown → Session → Option Kept → Result (Option Plan) AdapterFault
-turn_of put_off view s None = Ok None
-turn_of put_off view s (Some k) = some_plan (affordable s (plan_but put_off view s k.entry))
-
-abbrev pub turns_but : (Command → Bool) → Shown → Session → Result (Option Plan) AdapterFault
-turns_but put_off view s = turn_of put_off view s (oldest s.kept)
+abbrev pub turn_of : Shown → Session → Option Kept → Result (Option Plan) AdapterFault
+turn_of view s None = Ok None
+turn_of view s (Some k) = some_plan (affordable s (plan view s k.entry))
 
 -- the oldest request that is not parked is handled
 abbrev pub turns : Shown → Session → Result (Option Plan) AdapterFault
-turns view s = turns_but is_put_off view s
+turns view s = turn_of view s (oldest s.kept)

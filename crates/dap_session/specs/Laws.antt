@@ -1,11 +1,10 @@
 -- Each step of an adapter goes on as its history does, whatever its debuggee replies.
-use Rattle.std.specs.Prelude.{◌≡◌, ℕ, List, [], ◌∷◌, ◌++◌, Bool, Some, Ok}
+use Rattle.std.specs.Prelude.{◌≡◌, ℕ, List, [], ◌∷◌, ◌++◌, Some, Ok}
 use Rattle.dap_history.specs.History.{Entry, In, ins_of}
-use Rattle.dap_message.specs.Types.Command.{Command}
 use Rattle.dap_message.specs.declared.message.Message.{Message}
 use Rattle.dap_tables.specs.Outstanding.{HasDistinctSeqs}
 use Rattle.dap_debuggee.specs.Shown.{Shown, Reply}
-use Rattle.dap_session.specs.Handling.{turns_but}
+use Rattle.dap_session.specs.Handling.{turns}
 use Rattle.dap_session.specs.Plan.{Made, Plan, at_once, asking, entries_of}
 use Rattle.dap_session.specs.Polling.{polls}
 use Rattle.dap_session.specs.Session.{Session}
@@ -22,7 +21,7 @@ pub record EachStepGoesOn : Type 0 where
   pub none_come : (used : ℕ) (m : Made) → ins_of (entries_of used m) ≡ []
   pub take : (s : Session) (m : Message) (plan : Plan) (made : Made) (h : List Entry) → HasDistinctSeqs s.kept → takes m s ≡ Ok plan → CanMake plan made
       → Follows s h → Follows made.after (h ++ In m ∷ entries_of s.used made)
-  pub turn : (put_off : Command → Bool) (view : Shown) (s : Session) (plan : Plan) (made : Made) (h : List Entry) → HasDistinctSeqs s.kept → turns_but put_off view s ≡ Ok (Some plan) → CanMake plan made
+  pub turn : (view : Shown) (s : Session) (plan : Plan) (made : Made) (h : List Entry) → HasDistinctSeqs s.kept → turns view s ≡ Ok (Some plan) → CanMake plan made
       → Follows s h → Follows made.after (h ++ entries_of s.used made)
   pub poll : (s : Session) (made : Made) (h : List Entry) → CanMake (polls s) made
       → Follows s h → Follows made.after (h ++ entries_of s.used made)

@@ -16,5 +16,7 @@ pub mod ReferenceLaws
 pub mod Answering
 pub mod Sheet
 pub mod Seat
-pub mod Deciding
 pub mod Several
+pub mod Telling
+pub mod Setting
+pub mod RefusalLaws

@@ -1,13 +1,12 @@
 -- References that live at different times stay apart, and the numbers of an answer name its objects.
 -- Overview, "Lifetime of Objects References".
-use Rattle.std.specs.Prelude.{◌≡◌, ℕ, ◌≤◌, List, Bool, true, false, Option, Some, None, Ok}
+use Rattle.std.specs.Prelude.{◌≡◌, ◌⊎◌, ℕ, ◌≤◌, List, [], ◌∷◌, true, false, Option, Some, None, Ok}
 use Rattle.std.specs.List.{AllZip}
 use Rattle.dap_frame.specs.Settings.{Settings}
 use Rattle.dap_tables.specs.declared.target.Target.{Target}
-use Rattle.dap_message.specs.Types.Command.{Command}
 use Rattle.dap_message.specs.declared.message.Message.{Message}
 use Rattle.dap_debuggee.specs.Shown.{Shown}
-use Rattle.dap_session.specs.Handling.{turns_but}
+use Rattle.dap_session.specs.Handling.{turns}
 use Rattle.dap_session.specs.Laws.{CanMake}
 use Rattle.dap_session.specs.Plan.{Made, Plan}
 use Rattle.dap_session.specs.Polling.{polls}
@@ -30,14 +29,40 @@ pub record KeepsApart (s : Session) (made : Made) : Type 0 where
   -- where none dies, each number names what it named
   pub lasting : made.drops ≡ false → (n : ℕ) (t : Target) → target_of s.references n ≡ Some t → target_of made.after.references n ≡ Some t
 
+-- ---- runs: one step after the other, whatever comes and whatever the debuggee shows and replies
+
+pub record IsTaken (s : Session) (made : Made) : Type 0 where
+  pub message : Message
+  pub plan : Plan
+  pub is : takes message s ≡ Ok plan
+  pub can : CanMake plan made
+
+pub record IsTurned (s : Session) (made : Made) : Type 0 where
+  pub view : Shown
+  pub plan : Plan
+  pub is : turns view s ≡ Ok (Some plan)
+  pub can : CanMake plan made
+
+-- a message was delivered, a request handled, or the debuggee asked what happened
+abbrev pub IsStep : Session → Made → Type 0
+IsStep s made = IsTaken s made ⊎ (IsTurned s made ⊎ CanMake (polls s) made)
+
+abbrev pub Runs : List Made → Session → Session → Type 0
+Runs [] s new = new ≡ s
+Runs (made ∷ later) s new = IsStep s made × Runs later made.after new
+
+-- ---- the law
+
 pub record ReferencesAreApart : Type 0 where
   -- a number at or below the base is dead: it names nothing
   pub dead : (refs : LiveReferences) (n : ℕ) → n ≤ refs.base → target_of refs n ≡ None
   pub take : (s : Session) (m : Message) (plan : Plan) (made : Made) → takes m s ≡ Ok plan → CanMake plan made → KeepsApart s made
-  pub turn : (put_off : Command → Bool) (view : Shown) (s : Session) (plan : Plan) (made : Made) → turns_but put_off view s ≡ Ok (Some plan) → CanMake plan made → KeepsApart s made
+  pub turn : (view : Shown) (s : Session) (plan : Plan) (made : Made) → turns view s ≡ Ok (Some plan) → CanMake plan made → KeepsApart s made
   pub poll : (s : Session) (made : Made) → CanMake (polls s) made → KeepsApart s made
   -- the numbers that an answer's objects are given name them, each in its place
   pub named : (limits : Settings) (objects : List (Option Target)) (refs : LiveReferences) (given : List ℕ × LiveReferences) → intern_each limits objects refs ≡ Ok given → AllZip (IsNumberOf given.1) objects given.0
   -- and a number that named something before names it still
   pub kept : (limits : Settings) (objects : List (Option Target)) (refs : LiveReferences) (given : List ℕ × LiveReferences) → intern_each limits objects refs ≡ Ok given
       → (n : ℕ) (t : Target) → target_of refs n ≡ Some t → target_of given.1 n ≡ Some t
+  -- a number that was live before all died names nothing ever after, whatever steps come
+  pub stays_dead : (s new : Session) (made : Made) (later : List Made) (n : ℕ) (t : Target) → IsStep s made → made.drops ≡ true → target_of s.references n ≡ Some t → Runs later made.after new → target_of new.references n ≡ None

@@ -20,11 +20,15 @@ abbrev pub onto_first : ℕ → Result (List ℕ × LiveReferences) Failure → 
 onto_first n (Ok r) = Ok (n ∷ r.0, r.1)
 onto_first n (Err e) = Err e
 
--- the numbers of an answer's objects, in order, 0 where there is none; the first that cannot have one refuses them all
+-- the number of an object, 0 where there is none
+abbrev pub number_of : Settings → Option Target → LiveReferences → Result (ℕ × LiveReferences) Failure
+number_of limits None refs = Ok (0, refs)
+number_of limits (Some t) refs = intern limits t refs
+
+-- the numbers of an answer's objects, in order; the first that cannot have one refuses them all
 abbrev pub intern_each : Settings → List (Option Target) → LiveReferences → Result (List ℕ × LiveReferences) Failure
 intern_each limits [] refs = Ok ([], refs)
-intern_each limits (None ∷ ts) refs = onto_first 0 (intern_each limits ts refs)
-intern_each limits (Some t ∷ ts) refs = and_then (intern limits t refs) (λ r. onto_first r.0 (intern_each limits ts r.1))
+intern_each limits (t ∷ ts) refs = and_then (number_of limits t refs) (λ r. onto_first r.0 (intern_each limits ts r.1))
 
 -- those that are there
 abbrev pub named : List (Option Target) → List Target

@@ -9,8 +9,6 @@ use Rattle.dap_tables.specs.declared.entry.Entry.{Entry}
 use Rattle.dap_debuggee.specs.Shown.{Shown, Reply, done, refused, to_end}
 use Rattle.dap_session.specs.declared.decision.Decision.{Decision}
 use Rattle.dap_session.specs.declared.decision.Decision.TheVariants.{Refuses, Serves}
-use Rattle.dap_session.specs.declared.effect.Effect.{Effect}
-use Rattle.dap_session.specs.declared.effect.Effect.TheVariants.{SetBreakpoints}
 use Rattle.dap_session.specs.declared.fault.AdapterFault.{AdapterFault}
 use Rattle.dap_session.specs.declared.fault.AdapterFault.TheVariants.{SeqExhausted, OutOfMemory}
 use Rattle.dap_session.specs.Carried.{Goes, CarriedOut}
@@ -48,11 +46,6 @@ pub record MadeBy (m : Made) (old new : Session) (bytes : List ℕ) : Type 0 whe
 abbrev pub decided : Decision → Shown → Session → Entry → Plan
 decided (Refuses f) view s r = at_once (answered r (failure f) s)
 decided (Serves e asked) view s r = plan_for e view s r asked
-
--- it sets breakpoints, which is put off
-abbrev pub sets_breakpoints : Effect → Bool
-sets_breakpoints SetBreakpoints = true
-sets_breakpoints e = false
 
 -- the reply of an act that was done, or refused
 abbrev pub reply_of : Bool → Reply

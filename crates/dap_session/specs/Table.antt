@@ -61,17 +61,6 @@ rows_of command.Variables = row (Stopped ∷ []) Tell ∷ []
 rows_of command.Evaluate = row (Stopped ∷ []) Tell ∷ []
 rows_of _ = []
 
--- Served from the next crate's tables on: until then as if never served.
-abbrev pub is_put_off : Command → Bool
-is_put_off command.SetBreakpoints = true
-is_put_off command.StackTrace = true
-is_put_off command.Scopes = true
-is_put_off command.Variables = true
-is_put_off command.Evaluate = true
-is_put_off command.Source = true
-is_put_off command.LoadedSources = true
-is_put_off _ = false
-
 -- ---- reading the table
 
 abbrev pub rank : Phase → ℕ

@@ -1,12 +1,11 @@
 -- What stays true of a session, step by step.
-use Rattle.std.specs.Prelude.{◌≡◌, ◌+◌, ◌≤◌, length, Bool, Some, Ok}
+use Rattle.std.specs.Prelude.{◌≡◌, ◌+◌, ◌≤◌, length, Some, Ok}
 use Rattle.dap_frame.specs.Settings.{Settings}
-use Rattle.dap_message.specs.Types.Command.{Command}
 use Rattle.dap_message.specs.declared.message.Message.{Message}
 use Rattle.dap_tables.specs.Outstanding.{HasDistinctSeqs}
 use Rattle.dap_debuggee.specs.Shown.{Shown}
 use Rattle.dap_tables.specs.Breakpoints.{count, max_id}
-use Rattle.dap_session.specs.Handling.{turns_but}
+use Rattle.dap_session.specs.Handling.{turns}
 use Rattle.dap_session.specs.Laws.{CanMake}
 use Rattle.dap_session.specs.Plan.{Made, Plan, due}
 use Rattle.dap_session.specs.Polling.{polls}
@@ -32,12 +31,12 @@ pub record IsWithin (s : Session) : Type 0 where
 pub record EachStepStaysWithin : Type 0 where
   pub fresh : (limits : Settings) → IsWithin (fresh_session limits)
   pub take : (s : Session) (m : Message) (plan : Plan) (made : Made) → IsWithin s → takes m s ≡ Ok plan → CanMake plan made → IsWithin made.after
-  pub turn : (put_off : Command → Bool) (view : Shown) (s : Session) (plan : Plan) (made : Made) → IsWithin s → turns_but put_off view s ≡ Ok (Some plan) → CanMake plan made → IsWithin made.after
+  pub turn : (view : Shown) (s : Session) (plan : Plan) (made : Made) → IsWithin s → turns view s ≡ Ok (Some plan) → CanMake plan made → IsWithin made.after
   -- where the events of what happened are not too many
   pub poll : (s : Session) (made : Made) → IsWithin s → CanMake (polls s) made → made.after.used ≤ s.limits.seq → IsWithin made.after
   -- the limits stay
   pub take_keeps_limits : (s : Session) (m : Message) (plan : Plan) (made : Made) → takes m s ≡ Ok plan → CanMake plan made → made.after.limits ≡ s.limits
-  pub turn_keeps_limits : (put_off : Command → Bool) (view : Shown) (s : Session) (plan : Plan) (made : Made) → turns_but put_off view s ≡ Ok (Some plan) → CanMake plan made → made.after.limits ≡ s.limits
+  pub turn_keeps_limits : (view : Shown) (s : Session) (plan : Plan) (made : Made) → turns view s ≡ Ok (Some plan) → CanMake plan made → made.after.limits ≡ s.limits
   pub poll_keeps_limits : (s : Session) (made : Made) → CanMake (polls s) made → made.after.limits ≡ s.limits
   -- a turn takes as many messages as was said before the debuggee was asked
-  pub due_is_exact : (put_off : Command → Bool) (view : Shown) (s : Session) (plan : Plan) (made : Made) → IsWithin s → turns_but put_off view s ≡ Ok (Some plan) → CanMake plan made → length made.drafts ≡ due plan
+  pub due_is_exact : (view : Shown) (s : Session) (plan : Plan) (made : Made) → IsWithin s → turns view s ≡ Ok (Some plan) → CanMake plan made → length made.drafts ≡ due plan

@@ -1,23 +1,23 @@
 //! What is to be done with a request: the tests in their order, and the table.
-ghost use Rattle.std.specs.Prelude.{◌≡◌, IsErrOf, IfOk, OnOk, IfErr, Some, None, ◌||◌, ◌&&◌, false, true};
+ghost use Rattle.std.specs.Prelude.{◌≡◌, IsErrOf, IfOk, OnOk, IfErr, Some, None, ◌&&◌, false, true};
 ghost use Rattle.std.specs.List.{list_any};
 ghost use Rattle.std.specs.Option.{option_copied};
 ghost use Rattle.std.specs.Ordering.{int_eq};
-ghost use Rattle.dap_session.specs.Deciding.{name_refused_now};
-ghost use Rattle.dap_session.specs.Failures.{phase_refused, call_refused, call_in, lacks_thread, lacks_reference, lacks_source, thread_named, reference_named, source_named};
+ghost use Rattle.dap_session.specs.Failures.{name_refused, phase_refused, call_refused, call_in, lacks_thread, lacks_reference, lacks_source, thread_named, reference_named, source_named};
 ghost use Rattle.dap_message.specs.Argument.{Gives};
 ghost use Rattle.dap_message.specs.Call.{takes_memory};
 ghost use Rattle.dap_message.specs.Types.CallFault.{CallFault};
 ghost use Rattle.dap_tables.specs.References.{is_of_kind};
 ghost use Rattle.dap_session.specs.Seat.{decided};
+ghost use Rattle.dap_session.specs.Setting.{IsSuitable};
 ghost use Rattle.dap_session.specs.Handling.{plan, thread_of};
-ghost use Rattle.dap_session.specs.Table.{is_put_off, is_never_served, effect_in};
+ghost use Rattle.dap_session.specs.Table.{is_never_served, effect_in};
 
 use crate::decision::Decision;
 use crate::effect::Effect;
 use crate::phase::Phase;
 use crate::session::Session;
-use crate::table::{effect_in, is_of_stops, is_unsupported};
+use crate::table::{effect_in, is_never_served, is_of_stops};
 use dap_debuggee::{Debuggee, Thread};
 use dap_message::{Call, CallFault, Command, Failure, read_call};
 use dap_tables::{Entry, ReferenceKind, Target};
@@ -25,10 +25,10 @@ use std::alloc::{AllocError, Global};
 
 /// Why a request fails by its name alone; else its command.
 fn by_name(phase: Phase, command: Option<Command>) -> Result<Command, Failure>
-    ensures refused { IfErr result (λ f. name_refused_now phase command ≡ Some f) }
+    ensures refused { IfErr result (λ f. name_refused phase command ≡ Some f) }
     ensures named { IfOk result (λ c. command ≡ Some c) }
-    ensures passed { OnOk result (name_refused_now phase command ≡ None) }
-    ensures served { IfOk result (λ c. (is_never_served c || is_put_off c) ≡ false) }
+    ensures passed { OnOk result (name_refused phase command ≡ None) }
+    ensures served { IfOk result (λ c. is_never_served c ≡ false) }
 {
     let is_fresh = phase == Phase::Fresh;
     let Some(command) = command else {
@@ -44,7 +44,7 @@ fn by_name(phase: Phase, command: Option<Command>) -> Result<Command, Failure>
     if command == Command::Initialize && !is_fresh {
         return Err(Failure::AlreadyInitialized);
     }
-    if is_unsupported(command) {
+    if is_never_served(command) {
         return Err(Failure::Unsupported);
     }
     Ok(command)
@@ -168,7 +168,8 @@ impl<D: Debuggee + Drop> Session<D> {
 
     /// What is to be done with a request.
     pub(crate) fn decide(&self, alloc: Global, request: &Entry) -> Result<Decision, AllocError>
-        ensures { IfOk result (λ d. plan (D.shown self.now.debuggee) self.now.session request.now ≡ decided d (D.shown self.now.debuggee) self.now.session request.now) }
+        ensures suits { IfOk result (λ d. IsSuitable d) }
+        ensures plan { IfOk result (λ d. plan (D.shown self.now.debuggee) self.now.session request.now ≡ decided d (D.shown self.now.debuggee) self.now.session request.now) }
     {
         let named = by_name(self.phase, Command::of_name(request.command.as_str()));
         let command = match named {

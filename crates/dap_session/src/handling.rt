@@ -1,10 +1,11 @@
 //! How a request is handled.
 ghost use Rattle.std.specs.Prelude.{◌≡◌, ◌+◌, ◌≤◌, ◌<◌, IfOk, IfErr, OnOk, OnErr, IsTrue, IfSome, IfNone, None, option_map, false};
 ghost use Rattle.dap_tables.specs.Outstanding.{contains_seq, is_parked, HasDistinctSeqs};
-ghost use Rattle.dap_session.specs.Seat.{Carries, IsRefusedFor, decided, sets_breakpoints, IsIdle, HasTurned, NotTurned};
+ghost use Rattle.dap_session.specs.Seat.{Carries, IsRefusedFor, decided, IsIdle, HasTurned, NotTurned};
 ghost use Rattle.dap_session.specs.Session.{oldest, to_handle};
 ghost use Rattle.dap_session.specs.Handling.{plan, plan_for};
 ghost use Rattle.dap_session.specs.Plan.{due};
+ghost use Rattle.dap_session.specs.Setting.{Suits};
 
 use crate::deciding::thread_of;
 use crate::decision::Decision;
@@ -50,11 +51,11 @@ impl<D: Debuggee + Drop> Session<D> {
     ) -> Result<Vec<u8>, AdapterFault>
         requires kept { IsTrue (contains_seq request.now.seq self.old.session.kept) }
         requires unparked { is_parked request.now.seq self.old.session.kept ≡ false }
+        requires suits { Suits effect call.now }
         ensures carries { IfOk result (λ bytes. Carries D.follows (plan_for effect (D.shown self.old.debuggee) self.old.session request.now call.now) self.old self.new bytes.items) }
         ensures within { OnOk result (self.old.session.used + due (plan_for effect (D.shown self.old.debuggee) self.old.session request.now call.now) ≤ self.old.session.limits.seq) }
         ensures refused { IfErr result (λ fault. IsRefusedFor fault (plan_for effect (D.shown self.old.debuggee) self.old.session request.now call.now) self.old self.new) }
         ensures err { OnErr result (self.new.session ≡ self.old.session) }
-        ensures served { OnOk result (sets_breakpoints effect ≡ false) }
     {
         match effect {
             Effect::Begin => {
@@ -92,7 +93,7 @@ impl<D: Debuggee + Drop> Session<D> {
             Effect::StartParked => self.start_parked(alloc, request),
             Effect::Leave => self.leave(alloc, request),
             Effect::EndAndLeave => self.end_and_leave(alloc, request),
-            Effect::SetBreakpoints => Err(AdapterFault::OutOfMemory),
+            Effect::SetBreakpoints => self.set_breakpoints(alloc, request, call),
         }
     }
 

@@ -1,6 +1,7 @@
 //! Laws of the definitions, each on a function with nothing to run.
 ghost use Rattle.dap_session.specs.Laws.{EachStepGoesOn};
 ghost use Rattle.dap_session.specs.ReferenceLaws.{ReferencesAreApart};
+ghost use Rattle.dap_session.specs.RefusalLaws.{RefusalsChangeNothing};
 ghost use Rattle.dap_session.specs.Within.{EachStepStaysWithin};
 
 use dap_history::laws::histories_grow;
@@ -23,4 +24,10 @@ pub fn each_step_stays_within()
 /// the objects in their places.
 pub fn references_are_apart()
     ensures { ReferencesAreApart }
+{}
+
+/// An answer that is refused for its size, or for want of room or of numbers, changes nothing: the debuggee is asked nothing,
+/// and references and breakpoints are as they were.
+pub fn refusals_change_nothing()
+    ensures { RefusalsChangeNothing }
 {}

@@ -5,6 +5,7 @@
 //! debuggee's reply. Bytes of a client and frames stand above, in the adapter.
 #![tactic(auto)]
 
+mod bodies;
 mod deciding;
 mod decision;
 mod effect;
@@ -13,16 +14,19 @@ mod fault;
 mod handling;
 pub mod laws;
 mod leaving;
+mod numbering;
 mod options;
 mod phase;
 mod polling;
 mod session;
+mod setting;
 mod several;
 mod sheet;
 mod starting;
 mod table;
 mod taking;
 mod telling;
+mod untold;
 
 pub use fault::AdapterFault;
 pub use options::Options;

@@ -1,7 +1,7 @@
 //! The table of commands and phases.
-ghost use Rattle.std.specs.Prelude.{◌≡◌, ◌||◌, Some, None, if◌then◌else◌, false};
+ghost use Rattle.std.specs.Prelude.{◌≡◌, Some, None, if◌then◌else◌, false};
 ghost use Rattle.dap_message.specs.Types.Command.{Command};
-ghost use Rattle.dap_session.specs.Table.{effect_in, is_never_served, is_of_stops, is_put_off, is_among, ready_to_stopped, ready_to_exited, is_phase};
+ghost use Rattle.dap_session.specs.Table.{effect_in, is_never_served, is_of_stops, is_among, ready_to_stopped, ready_to_exited, is_phase};
 
 use crate::effect::Effect;
 use crate::phase::Phase;
@@ -127,9 +127,9 @@ fn tell_in(phase: Phase) -> Option<Effect>
     }
 }
 
-/// Whether a command is served in no phase yet.
-pub(crate) fn is_unsupported(command: Command) -> bool
-    ensures { result ≡ (is_never_served command || is_put_off command) }
+/// Whether a command is served in no phase.
+pub(crate) fn is_never_served(command: Command) -> bool
+    ensures { result ≡ is_never_served command }
 {
     match command {
         Command::Initialize => false,
@@ -139,6 +139,7 @@ pub(crate) fn is_unsupported(command: Command) -> bool
         Command::Disconnect => false,
         Command::Threads => false,
         Command::Terminate => false,
+        Command::SetBreakpoints => false,
         Command::SetExceptionBreakpoints => false,
         Command::Continue => false,
         Command::Next => false,
@@ -147,6 +148,12 @@ pub(crate) fn is_unsupported(command: Command) -> bool
         Command::Pause => false,
         Command::StepBack => false,
         Command::ReverseContinue => false,
+        Command::StackTrace => false,
+        Command::Scopes => false,
+        Command::Variables => false,
+        Command::Evaluate => false,
+        Command::Source => false,
+        Command::LoadedSources => false,
         _ => true,
     }
 }

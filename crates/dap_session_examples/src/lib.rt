@@ -4,6 +4,8 @@
 #[cfg(test)]
 mod limits;
 #[cfg(test)]
+mod references;
+#[cfg(test)]
 mod runs;
 #[cfg(test)]
 mod sessions;

@@ -78,7 +78,7 @@ static RUNS_AND_PAUSES: [Step<'static>; 20] = [
     (
         Act::Turn,
         Some(
-            b"{\"body\":{\"error\":{\"format\":\"The command is not supported.\",\"id\":1004}},\"command\":\"stackTrace\",\"message\":\"unsupported\",\"request_seq\":5,\"seq\":8,\"success\":false,\"type\":\"response\"}",
+            b"{\"body\":{\"error\":{\"format\":\"The debuggee is not stopped.\",\"id\":1006}},\"command\":\"stackTrace\",\"message\":\"notStopped\",\"request_seq\":5,\"seq\":8,\"success\":false,\"type\":\"response\"}",
         ),
         0,
     ),
@@ -127,7 +127,7 @@ static RUNS_AND_PAUSES: [Step<'static>; 20] = [
     (Act::Poll, Some(b""), 0),
 ];
 
-/// A run to a moment that waits is held until `pause`; what is not served yet is `unsupported`.
+/// A run to a moment that waits is held until `pause`; meanwhile no frames are told.
 #[test]
 fn runs_and_pauses(rt: HostRuntime) -> Result<(), Fail> {
     let mut adapter = adapter(rt.alloc(), Limits::usual())?;

@@ -89,6 +89,11 @@ pub record IsRefusedForIds (key : SourceKey) (lines : List ℕ) (table : Breakpo
   pub room : count_with key lines table.breakpoints ≤ table.room
   pub ids : max_id + 1 < table.breakpoints.next_id + length lines
 
+-- there is room, and ids are left
+pub record IsAllowed (key : SourceKey) (lines : List ℕ) (table : BreakpointTable) : Type 0 where
+  pub room : count_with key lines table.breakpoints ≤ table.room
+  pub ids : table.breakpoints.next_id + length lines ≤ max_id + 1
+
 -- there is room, ids are left, and there is a line: only then memory is taken
 pub record TakesIds (key : SourceKey) (lines : List ℕ) (table : BreakpointTable) : Type 0 where
   pub some : 0 < length lines

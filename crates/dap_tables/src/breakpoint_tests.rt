@@ -28,8 +28,12 @@ fn one_source(rt: HostRuntime) -> Result<(), Fail> {
     assert!(rt; table.is_empty());
     assert_eq!(rt; table.replace(path(alloc, "/a.c")?, &[2]), Ok(4));
     assert_eq!(rt; table.next_id(), 5);
+    let source = path(alloc, "/a.c")?;
+    assert_eq!(rt; table.check(&source, &[1, 1, 1, 1]), Ok(()));
+    assert_eq!(rt; table.check(&source, &[1, 1, 1, 1, 1]), Err(BpFault::Full));
+    assert_eq!(rt; table.check(&SourceKey::Reference(1), &[1, 1, 1, 1]), Err(BpFault::Full));
     assert_eq!(rt;
-        table.replace(path(alloc, "/a.c")?, &[1, 1, 1, 1, 1]),
+        table.replace(source.clone()?, &[1, 1, 1, 1, 1]),
         Err(BpFault::Full)
     );
     assert_eq!(rt;

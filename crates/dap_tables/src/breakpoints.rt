@@ -1,7 +1,7 @@
 //! The breakpoints that are set, by source.
 ghost use Rattle.std.specs.Prelude.{◌≡◌, ◌+◌, ◌<◌, ◌≤◌, ◌↔◌, List, ℕ, [], ◌++◌, length, false, IsTrue, IsOk, IfOk, OnOk, OnErr, Ok, Err};
 ghost use Rattle.dap_call.specs.declared.call.SourceKey.{SourceKey as Source};
-ghost use Rattle.dap_tables.specs.Breakpoints.{BreakpointTable, no_breakpoints, set_of, count, of_others, with_set, numbered, replaced, max_id, IsRefusedForRoom, IsRefusedForIds, TakesIds, IsOrderly};
+ghost use Rattle.dap_tables.specs.Breakpoints.{BreakpointTable, no_breakpoints, set_of, count, of_others, with_set, numbered, replaced, max_id, IsAllowed, IsRefusedForRoom, IsRefusedForIds, TakesIds, IsOrderly};
 ghost use Rattle.dap_call.specs.SameSource.{is_source};
 
 use crate::bp_fault::BpFault;
@@ -112,20 +112,36 @@ impl Breakpoints {
         ensures others { OnOk result ((other : Source) → is_source source other ≡ false → set_of other self.new.breakpoints.sources ≡ set_of other self.old.breakpoints.sources) }
         ensures orderly { IsOrderly self.new }
     {
+        if let Err(fault) = self.check(&source, lines) {
+            return Err(fault);
+        }
         let others = self.count_of_others(&source);
-        if lines.len() > self.room - others {
-            return Err(BpFault::Full);
-        }
         let first = self.next_id;
-        if lines.len() as u64 > MAX_ID + 1 - first {
-            return Err(BpFault::Exhausted);
-        }
         if set_lines(&mut self.sets, self.alloc, source, first, lines).is_err() {
             return Err(BpFault::OutOfMemory);
         }
         self.len = others + lines.len();
         self.next_id = first + lines.len() as u64;
         Ok(first)
+    }
+
+    /// Whether `replace` would set these lines, if memory is given.
+    ///
+    /// # Errors
+    /// `Full` and `Exhausted`, where `replace` would answer them.
+    pub fn check(&self, source: &SourceKey, lines: &[u32]) -> Result<(), BpFault>
+        ensures ok { OnOk result (IsAllowed source.now lines.now self.now) }
+        ensures full { (result ≡ Err BpFault.Full) ↔ IsRefusedForRoom source.now lines.now self.now }
+        ensures exhausted { (result ≡ Err BpFault.Exhausted) ↔ IsRefusedForIds source.now lines.now self.now }
+        ensures memory { result ≡ Err BpFault.OutOfMemory → ⊥ }
+    {
+        if lines.len() > self.room - self.count_of_others(source) {
+            return Err(BpFault::Full);
+        }
+        if lines.len() as u64 > MAX_ID + 1 - self.next_id {
+            return Err(BpFault::Exhausted);
+        }
+        Ok(())
     }
 
     #[tactic(auto, using(crate::proofs::SetLemmas::counting))]

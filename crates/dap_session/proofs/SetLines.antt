@@ -1,0 +1,145 @@
+-- Breakpoints that are set: that they were asked for in range, and what the plan takes.
+use Rattle.std.proofs.Common.{◌≡◌, ℕ, zero, suc, ◌+◌, ◌<◌, ◌≤◌, List, [], ◌∷◌, Bool, true, false, cond, Option, Some, None, Result, Ok, Err, All, length, map, refl, sym, ap, ◌∙◌, subst, arith, true≢false}
+use Rattle.std.specs.Prelude.{nat_le, option_and_then, option_map, unwrap_or, if◌then◌else◌}
+use Rattle.std.specs.List.{list_all, find, zip, range_with_len}
+use Rattle.std.proofs.lemmas.Bool.Decides.{nat_tests}
+use Rattle.serde_json.specs.Data.{Data, Items, no_items, item}
+use Rattle.serde_json.specs.Find.{as_u64, as_number, as_array}
+use Rattle.dap_json.specs.Field.{if_passes}
+use Rattle.dap_json.specs.Steps.{◌>>=◌}
+use Rattle.dap_message.specs.Argument.{Read, number_of, value_at, in_shape, or_bad, optional, required, must_be_there, max_number}
+use Rattle.dap_message.specs.Call.{call_of, each, line_in, lines_of, breakpoint_lines_of, source_key_of, set_breakpoints_of}
+use Rattle.dap_message.specs.Types.Call.{Call}
+use Rattle.dap_message.specs.Types.Call.TheVariants as call
+use Rattle.dap_message.specs.Types.Command.{Command}
+use Rattle.dap_message.specs.Types.Command.TheVariants as command
+use Rattle.dap_message.specs.Types.Failure.TheVariants.{Debuggee, TooManyBreakpoints, TooLarge}
+use Rattle.dap_message.specs.Types.Key.{Key}
+use Rattle.dap_message.specs.Types.Key.TheVariants as key
+use Rattle.dap_message.specs.Types.SourceKey.{SourceKey}
+use Rattle.dap_tables.specs.declared.entry.Entry.{Entry}
+use Rattle.dap_debuggee.specs.Shown.{Shown}
+use Rattle.dap_session.specs.declared.effect.Effect.{Effect}
+use Rattle.dap_session.specs.declared.effect.Effect.TheVariants as effect
+use Rattle.dap_session.specs.declared.phase.Phase.{Phase}
+use Rattle.dap_session.specs.Breakpoints.{are_too_many}
+use Rattle.dap_session.specs.Handling.{answers_to, breakpoints_plan, breakpoints_verified, fits, lines_asked}
+use Rattle.dap_session.specs.Plan.{Plan, due}
+use Rattle.dap_session.specs.Session.{Session}
+use Rattle.dap_session.specs.Setting.{AreLines, SetsLines, Suits}
+use Rattle.dap_session.specs.Table.{Row, rows_of, effect_in, is_among}
+
+-- ---- lines that were read are in range
+
+passes-if : (b : Bool) (x n : ℕ) → (if b then Some x else None) ≡ Some n → (b ≡ true) × (x ≡ n)
+passes-if true x n h = (refl, cc)
+passes-if false x n h = cc
+
+passed : (o : Option ℕ) (n : ℕ) → if_passes (λ x. nat_le x max_number) o ≡ Some n → n < 4294967295
+passed None n h = cc
+passed (Some x) n h =
+    let both = passes-if (nat_le x max_number) x n h in
+    let le : x ≤ 2147483647 = (let b = both.0 in grind (arith, nat_tests)) in
+    let same = both.1 in
+    omega arith
+
+number-small : (d : Data) (n : ℕ) → number_of d ≡ Some n → n < 4294967295
+number-small d n h = passed (option_and_then as_u64 (as_number d)) n h
+
+then-number : (o : Option Data) (n : ℕ) → option_and_then number_of o ≡ Some n → n < 4294967295
+then-number None n h = cc
+then-number (Some d) n h = number-small d n h
+
+line-small : (d : Data) (n : ℕ) → line_in d ≡ Some n → n < 4294967295
+line-small d n h = then-number (value_at key.Line (Some d)) n h
+
+each-more : (first : Option ℕ) (rest : Option (List ℕ)) (ns : List ℕ) → ((n : ℕ) → first ≡ Some n → n < 4294967295) → ((xs : List ℕ) → rest ≡ Some xs → AreLines xs) → option_and_then (λ x. option_map (λ xs. x ∷ xs) rest) first ≡ Some ns → AreLines ns
+each-more None rest ns f g h = cc
+each-more (Some n) None ns f g h = cc
+each-more (Some n) (Some xs) ns f g h = let same : n ∷ xs ≡ ns = cc in subst (λ (ys : List ℕ). AreLines ys) same (f n refl, g xs refl)
+
+each-small : (shape : Data → Option ℕ) → ((d : Data) (n : ℕ) → shape d ≡ Some n → n < 4294967295) → (ds : Items) (ns : List ℕ) → each shape ds ≡ Some ns → AreLines ns
+each-small shape s no_items ns h = let same : [] ≡ ns = cc in subst (λ (ys : List ℕ). AreLines ys) same tt
+each-small shape s (item d ds) ns h = each-more (shape d) (each shape ds) ns (s d) (each-small shape s ds) h
+
+then-each : (shape : Data → Option ℕ) → ((d : Data) (n : ℕ) → shape d ≡ Some n → n < 4294967295) → (o : Option Items) (ns : List ℕ) → option_and_then (each shape) o ≡ Some ns → AreLines ns
+then-each shape s None ns h = cc
+then-each shape s (Some ds) ns h = each-small shape s ds ns h
+
+abbrev AreSome : Option (List ℕ) → Type 0
+AreSome None = Unit {0}
+AreSome (Some ns) = AreLines ns
+
+shape-some : (k : Key) (o : Option (List ℕ)) (found : Option (List ℕ)) → ((ns : List ℕ) → o ≡ Some ns → AreLines ns) → or_bad k (option_map Some o) ≡ Ok found → AreSome found
+shape-some k None found s h = cc
+shape-some k (Some ns) found s h = let same : Some ns ≡ found = cc in subst (λ (x : Option (List ℕ)). AreSome x) same (s ns refl)
+
+optional-some : (shape : Data → Option (List ℕ)) (k : Key) (o : Option Data) (found : Option (List ℕ)) → ((d : Data) (ns : List ℕ) → shape d ≡ Some ns → AreLines ns) → in_shape shape k o ≡ Ok found → AreSome found
+optional-some shape k None found s h = let same : None ≡ found = cc in subst (λ (x : Option (List ℕ)). AreSome x) same tt
+optional-some shape k (Some d) found s h = shape-some k (shape d) found (s d) h
+
+or-none : (o : Option (List ℕ)) (ns : List ℕ) → AreSome o → AreLines ns → AreLines (unwrap_or o ns)
+or-none None ns a b = b
+or-none (Some xs) ns a b = a
+
+bound : {A B E : Type 0} (r : Result A E) (f : A → Result B E) (y : B) → (r >>= f) ≡ Ok y → (x : A) × (r ≡ Ok x) × (f x ≡ Ok y)
+bound (Ok x) f y h = (x, refl, h)
+bound (Err e) f y h = cc
+
+pub reads-lines : (given : Option Data) (asked : Call) → set_breakpoints_of given ≡ Ok asked → SetsLines asked
+unfolding set_breakpoints_of
+reads-lines given asked h =
+    let arguments = bound (must_be_there given) _ asked h in
+    let source = bound (required source_key_of key.Source arguments.0) _ asked arguments.2 in
+    let breakpoints = bound (optional breakpoint_lines_of key.Breakpoints arguments.0) _ asked source.2 in
+    let lines = bound (optional lines_of key.Lines arguments.0) _ asked breakpoints.2 in
+    let same : call.SetBreakpoints source.0 (unwrap_or breakpoints.0 (unwrap_or lines.0 [])) ≡ asked = (let e = lines.2 in cc) in
+    let first = optional-some breakpoint_lines_of key.Breakpoints (value_at key.Breakpoints arguments.0) breakpoints.0 (λ d ns. then-each line_in line-small (as_array d) ns) breakpoints.1 in
+    let second = optional-some lines_of key.Lines (value_at key.Lines arguments.0) lines.0 (λ d ns. then-each number_of number-small (as_array d) ns) lines.1 in
+    subst (λ (x : Call). SetsLines x) same (or-none breakpoints.0 (unwrap_or lines.0 []) first (or-none lines.0 [] second tt))
+
+-- ---- a call is one that has the effect of its command
+
+abbrev sets_none : Effect → Bool
+sets_none effect.SetBreakpoints = false
+sets_none _ = true
+
+none-suits : (e : Effect) (asked : Call) → sets_none e ≡ true → Suits e asked
+none-suits effect.SetBreakpoints asked h = absurd (true≢false (sym h))
+none-suits _ asked h = tt
+
+lines-suit : (e : Effect) (asked : Call) → SetsLines asked → Suits e asked
+lines-suit effect.SetBreakpoints asked h = h
+lines-suit _ asked h = tt
+
+all-if : (b c : Bool) → (if b then c else false) ≡ true → (b ≡ true) × (c ≡ true)
+all-if true c h = (refl, h)
+all-if false c h = absurd (true≢false (sym h))
+
+found-if : (b : Bool) (r : Row) (rest : Option Row) (e : Effect) → option_map (λ (x : Row). x.effect) (cond b (Some r) rest) ≡ Some e → sets_none r.effect ≡ true → (option_map (λ (x : Row). x.effect) rest ≡ Some e → sets_none e ≡ true) → sets_none e ≡ true
+found-if true r rest e h s later = let same : r.effect ≡ e = cc in subst (λ (x : Effect). sets_none x ≡ true) same s
+found-if false r rest e h s later = later h
+
+found-none : (phase : Phase) (rows : List Row) (e : Effect) → list_all (λ r. sets_none r.effect) rows ≡ true → option_map (λ (x : Row). x.effect) (find (λ r. is_among phase r.phases) rows) ≡ Some e → sets_none e ≡ true
+found-none phase [] e a h = cc
+found-none phase (r ∷ rows) e a h =
+    let both = all-if (sets_none r.effect) (list_all (λ x. sets_none x.effect) rows) a in
+    found-if (is_among phase r.phases) r (find (λ x. is_among phase x.phases) rows) e h both.0 (found-none phase rows e both.1)
+
+pub call-suits : (c : Command) (phase : Phase) (given : Option Data) (e : Effect) (asked : Call) → effect_in c phase ≡ Some e → call_of c given ≡ Ok asked → Suits e asked
+call-suits command.SetBreakpoints phase given e asked h r = lines-suit e asked (reads-lines given asked r)
+call-suits _ phase given e asked h r = none-suits e asked (found-none phase (rows_of _) e refl h)
+
+-- ---- one message is due
+
+either-one : (b : Bool) (p q : Plan) → due p ≡ 1 → due q ≡ 1 → due (if b then p else q) ≡ 1
+either-one true p q x y = x
+either-one false p q x y = y
+
+verified-one : (s : Session) (r : Entry) (key : SourceKey) (lines : List ℕ) (verified : Option (List Bool)) → due (breakpoints_verified s r key lines verified) ≡ 1
+verified-one s r key lines None = refl
+verified-one s r key lines (Some verified) = either-one (are_too_many s.limits key lines s.breakpoints) _ _ refl (either-one (fits s r _) _ _ refl refl)
+
+pub one-due : (view : Shown) (s : Session) (r : Entry) (asked : Call) → SetsLines asked → due (breakpoints_plan view s r asked) ≡ 1
+one-due view s r (call.SetBreakpoints key lines) h = verified-one s r key lines (view.verify key (lines_asked s.options lines))
+one-due view s r _ h = absurd h

@@ -1,0 +1,75 @@
+-- The code's words for what is told, and for the numbers that are given for it.
+use Rattle.std.specs.Prelude.{◌≡◌, ◌+◌, ⊤, List, ◌++◌, length, Option, Result, Ok, Err}
+use Rattle.serde_json.specs.Data.{Data}
+use Rattle.dap_json.specs.Steps.{Returns}
+use Rattle.dap_message.specs.Types.Failure.{Failure}
+use Rattle.dap_message.specs.Types.Failure.TheVariants.{Debuggee}
+use Rattle.dap_debuggee.specs.declared.answers.DebuggeeFault.{DebuggeeFault}
+use Rattle.dap_debuggee.specs.declared.answers.DebuggeeFault.TheVariants as fault
+use Rattle.dap_tables.specs.References.{LiveReferences}
+use Rattle.dap_tables.specs.declared.entry.Entry.{Entry}
+use Rattle.dap_tables.specs.declared.target.Target.{Target}
+use Rattle.dap_session.specs.declared.untold.Untold.{Untold}
+use Rattle.dap_session.specs.declared.untold.Untold.TheVariants.{Fails, OutOfMemory}
+use Rattle.dap_session.specs.Bodies.{Telling}
+use Rattle.dap_session.specs.Plan.{Made, failure, answered}
+use Rattle.dap_session.specs.Seat.{Seat}
+use Rattle.dap_session.specs.Sheet.{Holds}
+use Rattle.dap_session.specs.declared.sheet.Sheet.{Sheet}
+use Rattle.dap_tables.specs.Outstanding.{without}
+use Rattle.dap_session.specs.Session.{Session}
+
+-- ---- why something is not told
+
+-- what a fault says of what was to come: the failure, or nothing where memory was refused
+abbrev pub Says : {A : Type 0} → Untold → Result A Failure → Type 0
+Says (Fails f) due = due ≡ Err f
+Says OutOfMemory due = ⊤
+
+-- what a function returned, seen so, is what was to come
+abbrev pub Gives : {A B : Type 0} → (A → B) → Result A Untold → Result B Failure → Type 0
+Gives seen result due = Returns seen Says result due
+
+-- of a debuggee that refuses
+abbrev pub untold_by : DebuggeeFault → Untold
+untold_by fault.Refused = Fails Debuggee
+untold_by fault.OutOfMemory = OutOfMemory
+
+-- where a request fails, just this is made
+abbrev pub MakesFailure : Untold → Entry → Session → Made → Type 0
+MakesFailure (Fails f) r s made = made ≡ answered r (failure f) s
+MakesFailure OutOfMemory r s made = ⊤
+
+-- ---- numbers
+
+-- the numbers stay, and more come behind them
+pub record Grows (old new : LiveReferences) : Type 0 where
+  pub base : new.base ≡ old.base
+  pub more : List Target
+  pub live : new.live ≡ old.live ++ more
+
+-- references were given, and nothing else happened
+pub record OnlyGives {D : Type 0} (old new : Seat D) : Type 0 where
+  pub debuggee : new.debuggee ≡ old.debuggee
+  pub session : new.session ≡ record old.session { references = new.session.references }
+  pub grows : Grows old.session.references new.session.references
+
+-- ---- what is told
+
+-- this body, with some references that it names, and these are live then
+pub record Tells (told : Telling) (body : Option Data) (references : LiveReferences) : Type 0 where
+  pub names : List Target
+  pub is : told ≡ Ok (record { body = body; names = names; references = references })
+
+abbrev pub IsTold : Result (Option Data) Untold → Telling → LiveReferences → Type 0
+IsTold (Ok body) told references = Tells told body references
+IsTold (Err fault) told references = Says fault told
+
+-- ---- what is written
+
+-- the sheet holds all of what is made, of one answer and with these references, and nothing else is done
+pub record IsSheetOf (sheet : Sheet) (s : Session) (r : Entry) (references : LiveReferences) (made : Made) : Type 0 where
+  pub last : sheet.numbers.last ≡ s.limits.seq
+  pub holds : Holds sheet s.used made.drafts
+  pub count : length made.drafts ≡ 1
+  pub after : made.after ≡ record s { kept = without r.seq s.kept; references = references; used = s.used + 1 }

@@ -1,0 +1,302 @@
+//! What a debuggee told, in the forms that bodies have: its lists, each with the numbers that were given for it.
+ghost use Rattle.std.specs.Prelude.{◌≡◌, ◌+◌, ◌≤◌, map, length, Some, IfOk, option_map};
+ghost use Rattle.dap_debuggee.specs.declared.answers.Frame.{Frame as FrameWord};
+ghost use Rattle.dap_debuggee.specs.declared.answers.Scope.{Scope as ScopeWord};
+ghost use Rattle.dap_debuggee.specs.declared.answers.Variable.{Variable as VariableWord};
+ghost use Rattle.dap_tables.specs.References.{frame_of, holder_of};
+ghost use Rattle.dap_session.specs.Bodies.{thread_told, source_told, sources_told, source_of_frame, line_shown, column_shown, frame_told, scope_told, variable_told, with_numbers, window};
+
+use crate::options::Options;
+use dap_debuggee::{Frame, Scope, Source, Thread, Variable};
+use dap_message::{StackFrame, Text};
+use dap_tables::{ReferenceKind, Target};
+use std::alloc::{AllocError, Global};
+
+/// From `start` on, at most `count` where that is above 0.
+pub(crate) fn window<T: Drop>(
+    alloc: Global,
+    start: u32,
+    count: u32,
+    items: Vec<T>,
+) -> Result<Vec<T>, AllocError>
+    ensures { IfOk result (λ part. part.items ≡ window start count items.items) }
+{
+    if count == 0 {
+        return items.into_iter().skip(start as usize).collect(alloc);
+    }
+    items
+        .into_iter()
+        .skip(start as usize)
+        .take(count as usize)
+        .collect(alloc)
+}
+
+// ---- what has a number
+
+fn frame(object: u64) -> Target
+    ensures { result ≡ frame_of object }
+{
+    Target {
+        kind: ReferenceKind::Frame,
+        object,
+    }
+}
+
+fn holder(object: u64) -> Target
+    ensures { result ≡ holder_of object }
+{
+    Target {
+        kind: ReferenceKind::Holder,
+        object,
+    }
+}
+
+/// What holds the parts of a value, where it has some.
+pub(crate) fn holder_in(object: Option<u64>) -> Option<Target>
+    ensures { result ≡ option_map holder_of object }
+{
+    match object {
+        None => None,
+        Some(object) => Some(holder(object)),
+    }
+}
+
+/// What the numbers of frames name.
+pub(crate) fn frames_named(
+    alloc: Global,
+    frames: &[Frame],
+) -> Result<Vec<Option<Target>>, AllocError>
+    ensures { IfOk result (λ named. named.items ≡ map (λ (f : FrameWord). Some (frame_of f.object)) frames.now) }
+{
+    frames
+        .iter()
+        .map(|told| Some(frame(told.object)))
+        .collect(alloc)
+}
+
+/// What the numbers of scopes name.
+pub(crate) fn scopes_named(
+    alloc: Global,
+    scopes: &[Scope],
+) -> Result<Vec<Option<Target>>, AllocError>
+    ensures { IfOk result (λ named. named.items ≡ map (λ (x : ScopeWord). Some (holder_of x.holder)) scopes.now) }
+{
+    scopes
+        .iter()
+        .map(|told| Some(holder(told.holder)))
+        .collect(alloc)
+}
+
+/// What the numbers of variables name.
+pub(crate) fn variables_named(
+    alloc: Global,
+    variables: &[Variable],
+) -> Result<Vec<Option<Target>>, AllocError>
+    ensures { IfOk result (λ named. named.items ≡ map (λ (x : VariableWord). option_map holder_of x.holder) variables.now) }
+{
+    variables
+        .iter()
+        .map(|told| holder_in(told.holder))
+        .collect(alloc)
+}
+
+// ---- lists of bodies
+
+fn thread_told(thread: Thread) -> dap_message::Thread
+    ensures { result ≡ thread_told thread }
+{
+    let Thread { id, name } = thread;
+    dap_message::Thread { id, name }
+}
+
+pub(crate) fn threads_told(
+    alloc: Global,
+    threads: Vec<Thread>,
+) -> Result<Vec<dap_message::Thread>, AllocError>
+    ensures { IfOk result (λ told. told.items ≡ map thread_told threads.items) }
+{
+    threads.into_iter().map(|told| thread_told(told)).collect(alloc)
+}
+
+fn numbered_source(number: u32, source: Source) -> dap_message::Source
+    ensures { result ≡ record { name = source.name; path = source.path; source_reference = number } }
+{
+    let Source { name, path } = source;
+    dap_message::Source {
+        name,
+        path,
+        source_reference: number,
+    }
+}
+
+/// Sources with their numbers, from 1.
+pub(crate) fn sources_told(
+    alloc: Global,
+    sources: Vec<Source>,
+) -> Result<Vec<dap_message::Source>, AllocError>
+    requires { length sources.items ≤ 65536 }
+    ensures { IfOk result (λ told. told.items ≡ sources_told 0 sources.items) }
+{
+    let past = sources.len() as u32 + 1;
+    (1..past)
+        .zip(sources)
+        .map(|(number, source)| numbered_source(number, source))
+        .collect(alloc)
+}
+
+/// A copy of the source of a frame. At an index past the sources it has no name, and the number 0.
+fn source_of_frame(
+    alloc: Global,
+    sources: &[Source],
+    index: u32,
+) -> Result<dap_message::Source, AllocError>
+    requires { length sources.now ≤ 65536 }
+    ensures { IfOk result (λ told. told ≡ source_of_frame sources.now index) }
+{
+    let Some(source) = sources.get(index as usize) else {
+        return Ok(dap_message::Source {
+            name: Text::copied(alloc, "")?,
+            path: None,
+            source_reference: 0,
+        });
+    };
+    let name = source.name.clone()?;
+    let path = match &source.path {
+        None => None,
+        Some(path) => Some(path.clone()?),
+    };
+    Ok(dap_message::Source {
+        name,
+        path,
+        source_reference: index + 1,
+    })
+}
+
+/// The source of each frame.
+fn sources_of_frames(
+    alloc: Global,
+    sources: &[Source],
+    frames: &[Frame],
+) -> Result<Vec<dap_message::Source>, AllocError>
+    requires { length sources.now ≤ 65536 }
+    ensures { IfOk result (λ told. told.items ≡ map (λ (f : FrameWord). source_of_frame sources.now f.source) frames.now) }
+{
+    let mut told = Vec::with_capacity(alloc, frames.len())?;
+    for frame in frames {
+        told.push(source_of_frame(alloc, sources, frame.source)?)?;
+    }
+    Ok(told)
+}
+
+/// A line as the client counts it.
+fn line_shown(options: Options, line: u32) -> u32
+    ensures { result ≡ line_shown options line }
+{
+    if options.lines_start_at_1 {
+        line
+    } else {
+        line.saturating_sub(1)
+    }
+}
+
+fn column_shown(options: Options) -> u32
+    ensures { result ≡ column_shown options }
+{
+    if options.columns_start_at_1 { 1 } else { 0 }
+}
+
+fn frame_told(
+    options: Options,
+    id: u32,
+    frame: Frame,
+    source: dap_message::Source,
+) -> StackFrame
+    ensures { result ≡ record { id = id; name = frame.name; source = source; line = line_shown options frame.line; column = column_shown options } }
+{
+    let Frame {
+        object: _,
+        name,
+        source: _,
+        line,
+    } = frame;
+    StackFrame {
+        id,
+        name,
+        source,
+        line: line_shown(options, line),
+        column: column_shown(options),
+    }
+}
+
+/// Frames with their numbers and their sources.
+pub(crate) fn frames_told(
+    alloc: Global,
+    options: Options,
+    sources: &[Source],
+    ids: Vec<u32>,
+    frames: Vec<Frame>,
+) -> Result<Vec<StackFrame>, AllocError>
+    requires { length sources.now ≤ 65536 }
+    ensures { IfOk result (λ told. told.items ≡ with_numbers (frame_told options sources.now) ids.items frames.items) }
+{
+    let sources = sources_of_frames(alloc, sources, &frames)?;
+    ids.into_iter()
+        .zip(frames.into_iter().zip(sources))
+        .map(|(id, (frame, source))| frame_told(options, id, frame, source))
+        .collect(alloc)
+}
+
+fn scope_told(number: u32, scope: Scope) -> dap_message::Scope
+    ensures { result ≡ scope_told number scope }
+{
+    let Scope { name, holder: _ } = scope;
+    dap_message::Scope {
+        name,
+        variables_reference: number,
+    }
+}
+
+/// Scopes with their numbers.
+pub(crate) fn scopes_told(
+    alloc: Global,
+    numbers: Vec<u32>,
+    scopes: Vec<Scope>,
+) -> Result<Vec<dap_message::Scope>, AllocError>
+    ensures { IfOk result (λ told. told.items ≡ with_numbers scope_told numbers.items scopes.items) }
+{
+    numbers
+        .into_iter()
+        .zip(scopes)
+        .map(|(number, scope)| scope_told(number, scope))
+        .collect(alloc)
+}
+
+fn variable_told(number: u32, variable: Variable) -> dap_message::Variable
+    ensures { result ≡ variable_told number variable }
+{
+    let Variable {
+        name,
+        value,
+        holder: _,
+    } = variable;
+    dap_message::Variable {
+        name,
+        value,
+        variables_reference: number,
+    }
+}
+
+/// Variables with their numbers.
+pub(crate) fn variables_told(
+    alloc: Global,
+    numbers: Vec<u32>,
+    variables: Vec<Variable>,
+) -> Result<Vec<dap_message::Variable>, AllocError>
+    ensures { IfOk result (λ told. told.items ≡ with_numbers variable_told numbers.items variables.items) }
+{
+    numbers
+        .into_iter()
+        .zip(variables)
+        .map(|(number, variable)| variable_told(number, variable))
+        .collect(alloc)
+}
