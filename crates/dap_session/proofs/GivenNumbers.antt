@@ -87,15 +87,15 @@ pub number-more : (limits : Settings) (objects : List (Option Target)) (i : ℕ)
     → number_of limits (get_or objects i None) refs ≡ Ok (n, new) → later ≡ ns ++ n ∷ [] → onto_all ns (intern_each limits (drop i objects) refs) ≡ all → onto_all later (intern_each limits (drop (i + 1) objects) new) ≡ all
 number-more limits objects i ns later refs new n all h is l so_far =
     let here : onto_all ns (intern_each limits (get_or objects i None ∷ drop (i + 1) objects) refs) ≡ all = subst (λ (os : List (Option Target)). onto_all ns (intern_each limits os refs) ≡ all) (object-at objects i h) so_far in
-    let then : onto_all ns (onto_first n (intern_each limits (drop (i + 1) objects) new)) ≡ all = rw is at here in
-    rw l (sym (onto-more ns n (intern_each limits (drop (i + 1) objects) new)) ∙ then)
+    let next : onto_all ns (onto_first n (intern_each limits (drop (i + 1) objects) new)) ≡ all = rw is at here in
+    rw l (sym (onto-more ns n (intern_each limits (drop (i + 1) objects) new)) ∙ next)
 
 pub number-fails : (limits : Settings) (objects : List (Option Target)) (i : ℕ) (ns : List ℕ) (refs : LiveReferences) (f : Failure) (all : Result (List ℕ × LiveReferences) Failure) → i < length objects
     → number_of limits (get_or objects i None) refs ≡ Err f → onto_all ns (intern_each limits (drop i objects) refs) ≡ all → all ≡ Err f
 number-fails limits objects i ns refs f all h is so_far =
     let here : onto_all ns (intern_each limits (get_or objects i None ∷ drop (i + 1) objects) refs) ≡ all = subst (λ (os : List (Option Target)). onto_all ns (intern_each limits os refs) ≡ all) (object-at objects i h) so_far in
-    let then : Err f ≡ all = rw is at here in
-    sym then
+    let next : Err f ≡ all = rw is at here in
+    sym next
 
 -- ---- back to a mark
 

@@ -73,7 +73,7 @@ breakpoints-verified : (s : Session) (k : Kept) (key : SourceKey) (lines : List 
 breakpoints-verified s k key lines None d i = once-well s [] _ (answered-well s k (failure Debuggee) refl d i)
 breakpoints-verified s k key lines (Some verified) d i = breakpoints-unless (are_too_many s.limits key lines s.breakpoints) s k key (lines_asked s.options lines) _ d i
 
-breakpoints-well : (view : Shown) (s : Session) (k : Kept) (asked : Call) → HasDistinctSeqs s.kept → IsKept s.kept k → PlanWell s [] (breakpoints_plan_at view s k.entry asked)
+breakpoints-well : (view : Shown) (s : Session) (k : Kept) (asked : Call) → HasDistinctSeqs s.kept → IsKept s.kept k → PlanWell s [] (breakpoints_plan view s k.entry asked)
 breakpoints-well view s k (call.SetBreakpoints key lines) d i = breakpoints-verified s k key lines (view.verify key (lines_asked s.options lines)) d i
 breakpoints-well view s k _ d i = once-well s [] _ (nothing-well s)
 

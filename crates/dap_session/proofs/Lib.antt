@@ -22,3 +22,4 @@ pub mod Fewer
 pub mod GivenNumbers
 pub mod SetLines
 pub mod Refusals
+pub mod ToldLists

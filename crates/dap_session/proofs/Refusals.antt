@@ -1,5 +1,5 @@
 -- Each plan is one failure at once, or writes no failure for size or room.
-use Rattle.std.proofs.Common.{◌≡◌, ◌⊎◌, inl, inr, ℕ, List, [], ◌∷◌, ◌++◌, Bool, true, false, Option, Some, None, Result, Ok, Err, refl, sym, ap, ◌∙◌, subst, true≢false}
+use Rattle.std.proofs.Common.{◌≡◌, ◌⊎◌, inl, inr, ℕ, ◌+◌, List, [], ◌∷◌, ◌++◌, Bool, true, false, Option, Some, None, Result, Ok, Err, refl, sym, ap, ◌∙◌, subst, true≢false}
 use Rattle.std.specs.Prelude.{◌||◌, nat_le, if◌then◌else◌}
 use Rattle.std.specs.List.{list_any}
 use Rattle.serde_json.specs.Data.{Data}
@@ -10,7 +10,7 @@ use Rattle.dap_message.specs.Types.Command.{Command}
 use Rattle.dap_message.specs.Types.Failure.{Failure}
 use Rattle.dap_message.specs.Types.Failure.TheVariants.{Debuggee, TooManyBreakpoints, TooLarge, Cancelled}
 use Rattle.dap_message.specs.Types.SourceKey.{SourceKey}
-use Rattle.dap_tables.specs.Outstanding.{Kept}
+use Rattle.dap_tables.specs.Outstanding.{Kept, without}
 use Rattle.dap_tables.specs.declared.entry.Entry.{Entry}
 use Rattle.dap_debuggee.specs.Shown.{Shown, Act, Reply, done, refused, happened}
 use Rattle.dap_debuggee.specs.declared.answers.How.{How}
@@ -109,7 +109,7 @@ told-one s r (Err f) = fails-once s r f
 told-one s r (Ok t) = told-if (fits s r t.body) s r _ refl
 
 left-clean : (s : Session) (r : Entry) → list_any refuses (left s r).drafts ≡ false
-left-clean s r = any-append _ (reply r plain_success ∷ []) (each-clean (failure Cancelled) _ refl) refl
+left-clean s r = any-append (answer_each (failure Cancelled) (without r.seq s.kept)) (reply r plain_success ∷ []) (each-clean (failure Cancelled) (without r.seq s.kept) refl) refl
 
 plan_for-one : (e : Effect) (view : Shown) (s : Session) (r : Entry) (asked : Call) → IsOne s (plan_for e view s r asked)
 unfolding plan_for

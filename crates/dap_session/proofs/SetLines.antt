@@ -1,7 +1,8 @@
 -- Breakpoints that are set: that they were asked for in range, and what the plan takes.
-use Rattle.std.proofs.Common.{◌≡◌, ℕ, zero, suc, ◌+◌, ◌<◌, ◌≤◌, List, [], ◌∷◌, Bool, true, false, cond, Option, Some, None, Result, Ok, Err, All, length, map, refl, sym, ap, ◌∙◌, subst, arith, true≢false}
-use Rattle.std.specs.Prelude.{nat_le, option_and_then, option_map, unwrap_or, if◌then◌else◌}
-use Rattle.std.specs.List.{list_all, find, zip, range_with_len}
+use Rattle.std.proofs.Common.{◌≡◌, ℕ, zero, suc, ◌+◌, ◌<◌, ◌≤◌, List, [], ◌∷◌, Bool, true, false, cond, Option, Some, None, Result, Ok, Err, IfOk, OnOk, All, length, map, refl, sym, ap, ◌∙◌, subst, arith, true≢false}
+use Rattle.std.specs.Prelude.{◌&&◌, nat_le, option_and_then, option_map, unwrap_or, if◌then◌else◌}
+use Rattle.std.specs.List.{list_all, find}
+use Rattle.std.proofs.lemmas.List.Elements.{All-cons}
 use Rattle.std.proofs.lemmas.Bool.Decides.{nat_tests}
 use Rattle.serde_json.specs.Data.{Data, Items, no_items, item}
 use Rattle.serde_json.specs.Find.{as_u64, as_number, as_array}
@@ -18,7 +19,12 @@ use Rattle.dap_message.specs.Types.Key.{Key}
 use Rattle.dap_message.specs.Types.Key.TheVariants as key
 use Rattle.dap_message.specs.Types.SourceKey.{SourceKey}
 use Rattle.dap_tables.specs.declared.entry.Entry.{Entry}
-use Rattle.dap_debuggee.specs.Shown.{Shown}
+use Rattle.dap_debuggee.specs.Shown.{Shown, to_set_breakpoints, done}
+use Rattle.dap_tables.specs.Breakpoints.{replaced}
+use Rattle.dap_tables.specs.Outstanding.{without}
+use Rattle.dap_session.specs.Carried.{Goes}
+use Rattle.dap_session.specs.Seat.{Seat, Carries}
+use Rattle.dap_session.specs.declared.sheet.Sheet.{Sheet}
 use Rattle.dap_session.specs.declared.effect.Effect.{Effect}
 use Rattle.dap_session.specs.declared.effect.Effect.TheVariants as effect
 use Rattle.dap_session.specs.declared.phase.Phase.{Phase}
@@ -26,7 +32,7 @@ use Rattle.dap_session.specs.Breakpoints.{are_too_many}
 use Rattle.dap_session.specs.Handling.{answers_to, breakpoints_plan, breakpoints_verified, fits, lines_asked}
 use Rattle.dap_session.specs.Plan.{Plan, due}
 use Rattle.dap_session.specs.Session.{Session}
-use Rattle.dap_session.specs.Setting.{AreLines, SetsLines, Suits}
+use Rattle.dap_session.specs.Setting.{AreLines, SetsLines, Suits, IsToSet}
 use Rattle.dap_session.specs.Table.{Row, rows_of, effect_in, is_among}
 
 -- ---- lines that were read are in range
@@ -53,13 +59,16 @@ then-number (Some d) n h = number-small d n h
 line-small : (d : Data) (n : ℕ) → line_in d ≡ Some n → n < 4294967295
 line-small d n h = then-number (value_at key.Line (Some d)) n h
 
+no-lines : AreLines []
+no-lines k d h = absurd (omega arith)
+
 each-more : (first : Option ℕ) (rest : Option (List ℕ)) (ns : List ℕ) → ((n : ℕ) → first ≡ Some n → n < 4294967295) → ((xs : List ℕ) → rest ≡ Some xs → AreLines xs) → option_and_then (λ x. option_map (λ xs. x ∷ xs) rest) first ≡ Some ns → AreLines ns
 each-more None rest ns f g h = cc
 each-more (Some n) None ns f g h = cc
-each-more (Some n) (Some xs) ns f g h = let same : n ∷ xs ≡ ns = cc in subst (λ (ys : List ℕ). AreLines ys) same (f n refl, g xs refl)
+each-more (Some n) (Some xs) ns f g h = let same : n ∷ xs ≡ ns = cc in subst (λ (ys : List ℕ). AreLines ys) same (All-cons (λ x. x < 4294967295) n xs (f n refl) (g xs refl))
 
 each-small : (shape : Data → Option ℕ) → ((d : Data) (n : ℕ) → shape d ≡ Some n → n < 4294967295) → (ds : Items) (ns : List ℕ) → each shape ds ≡ Some ns → AreLines ns
-each-small shape s no_items ns h = let same : [] ≡ ns = cc in subst (λ (ys : List ℕ). AreLines ys) same tt
+each-small shape s no_items ns h = let same : [] ≡ ns = cc in subst (λ (ys : List ℕ). AreLines ys) same no-lines
 each-small shape s (item d ds) ns h = each-more (shape d) (each shape ds) ns (s d) (each-small shape s ds) h
 
 then-each : (shape : Data → Option ℕ) → ((d : Data) (n : ℕ) → shape d ≡ Some n → n < 4294967295) → (o : Option Items) (ns : List ℕ) → option_and_then (each shape) o ≡ Some ns → AreLines ns
@@ -96,7 +105,7 @@ reads-lines given asked h =
     let same : call.SetBreakpoints source.0 (unwrap_or breakpoints.0 (unwrap_or lines.0 [])) ≡ asked = (let e = lines.2 in cc) in
     let first = optional-some breakpoint_lines_of key.Breakpoints (value_at key.Breakpoints arguments.0) breakpoints.0 (λ d ns. then-each line_in line-small (as_array d) ns) breakpoints.1 in
     let second = optional-some lines_of key.Lines (value_at key.Lines arguments.0) lines.0 (λ d ns. then-each number_of number-small (as_array d) ns) lines.1 in
-    subst (λ (x : Call). SetsLines x) same (or-none breakpoints.0 (unwrap_or lines.0 []) first (or-none lines.0 [] second tt))
+    subst (λ (x : Call). SetsLines x) same (or-none breakpoints.0 (unwrap_or lines.0 []) first (or-none lines.0 [] second no-lines))
 
 -- ---- a call is one that has the effect of its command
 
@@ -112,7 +121,7 @@ lines-suit : (e : Effect) (asked : Call) → SetsLines asked → Suits e asked
 lines-suit effect.SetBreakpoints asked h = h
 lines-suit _ asked h = tt
 
-all-if : (b c : Bool) → (if b then c else false) ≡ true → (b ≡ true) × (c ≡ true)
+all-if : (b c : Bool) → (b && c) ≡ true → (b ≡ true) × (c ≡ true)
 all-if true c h = (refl, h)
 all-if false c h = absurd (true≢false (sym h))
 
@@ -128,7 +137,35 @@ found-none phase (r ∷ rows) e a h =
 
 pub call-suits : (c : Command) (phase : Phase) (given : Option Data) (e : Effect) (asked : Call) → effect_in c phase ≡ Some e → call_of c given ≡ Ok asked → Suits e asked
 call-suits command.SetBreakpoints phase given e asked h r = lines-suit e asked (reads-lines given asked r)
-call-suits _ phase given e asked h r = none-suits e asked (found-none phase (rows_of _) e refl h)
+call-suits command.Initialize phase given e asked h r = none-suits e asked (found-none phase (rows_of command.Initialize) e refl h)
+call-suits command.Launch phase given e asked h r = none-suits e asked (found-none phase (rows_of command.Launch) e refl h)
+call-suits command.Attach phase given e asked h r = none-suits e asked (found-none phase (rows_of command.Attach) e refl h)
+call-suits command.ConfigurationDone phase given e asked h r = none-suits e asked (found-none phase (rows_of command.ConfigurationDone) e refl h)
+call-suits command.Disconnect phase given e asked h r = none-suits e asked (found-none phase (rows_of command.Disconnect) e refl h)
+call-suits command.Threads phase given e asked h r = none-suits e asked (found-none phase (rows_of command.Threads) e refl h)
+call-suits command.Terminate phase given e asked h r = none-suits e asked (found-none phase (rows_of command.Terminate) e refl h)
+call-suits command.Cancel phase given e asked h r = none-suits e asked (found-none phase (rows_of command.Cancel) e refl h)
+call-suits command.SetFunctionBreakpoints phase given e asked h r = none-suits e asked (found-none phase (rows_of command.SetFunctionBreakpoints) e refl h)
+call-suits command.SetExceptionBreakpoints phase given e asked h r = none-suits e asked (found-none phase (rows_of command.SetExceptionBreakpoints) e refl h)
+call-suits command.Continue phase given e asked h r = none-suits e asked (found-none phase (rows_of command.Continue) e refl h)
+call-suits command.Next phase given e asked h r = none-suits e asked (found-none phase (rows_of command.Next) e refl h)
+call-suits command.StepIn phase given e asked h r = none-suits e asked (found-none phase (rows_of command.StepIn) e refl h)
+call-suits command.StepOut phase given e asked h r = none-suits e asked (found-none phase (rows_of command.StepOut) e refl h)
+call-suits command.Pause phase given e asked h r = none-suits e asked (found-none phase (rows_of command.Pause) e refl h)
+call-suits command.StepBack phase given e asked h r = none-suits e asked (found-none phase (rows_of command.StepBack) e refl h)
+call-suits command.ReverseContinue phase given e asked h r = none-suits e asked (found-none phase (rows_of command.ReverseContinue) e refl h)
+call-suits command.StackTrace phase given e asked h r = none-suits e asked (found-none phase (rows_of command.StackTrace) e refl h)
+call-suits command.Scopes phase given e asked h r = none-suits e asked (found-none phase (rows_of command.Scopes) e refl h)
+call-suits command.Variables phase given e asked h r = none-suits e asked (found-none phase (rows_of command.Variables) e refl h)
+call-suits command.Evaluate phase given e asked h r = none-suits e asked (found-none phase (rows_of command.Evaluate) e refl h)
+call-suits command.Source phase given e asked h r = none-suits e asked (found-none phase (rows_of command.Source) e refl h)
+call-suits command.LoadedSources phase given e asked h r = none-suits e asked (found-none phase (rows_of command.LoadedSources) e refl h)
+call-suits command.SetVariable phase given e asked h r = none-suits e asked (found-none phase (rows_of command.SetVariable) e refl h)
+call-suits command.Restart phase given e asked h r = none-suits e asked (found-none phase (rows_of command.Restart) e refl h)
+call-suits command.Modules phase given e asked h r = none-suits e asked (found-none phase (rows_of command.Modules) e refl h)
+call-suits command.ExceptionInfo phase given e asked h r = none-suits e asked (found-none phase (rows_of command.ExceptionInfo) e refl h)
+call-suits command.BreakpointLocations phase given e asked h r = none-suits e asked (found-none phase (rows_of command.BreakpointLocations) e refl h)
+call-suits command.Completions phase given e asked h r = none-suits e asked (found-none phase (rows_of command.Completions) e refl h)
 
 -- ---- one message is due
 
@@ -143,3 +180,20 @@ verified-one s r key lines (Some verified) = either-one (are_too_many s.limits k
 pub one-due : (view : Shown) (s : Session) (r : Entry) (asked : Call) → SetsLines asked → due (breakpoints_plan view s r asked) ≡ 1
 one-due view s r (call.SetBreakpoints key lines) h = verified-one s r key lines (view.verify key (lines_asked s.options lines))
 one-due view s r _ h = absurd h
+
+-- ---- lines that are set
+
+pub set-carries : {D : Type 0} (follows : Goes D) (plan : Plan) (old new : Seat D) (r : Entry) (key : SourceKey) (lines : List ℕ) (sheet : Sheet) (bytes : List ℕ) → IsToSet plan old.session r key lines sheet
+    → follows old.debuggee (to_set_breakpoints key lines) done new.debuggee
+    → new.session ≡ record old.session { kept = without r.seq old.session.kept; breakpoints = replaced key lines old.session.breakpoints; used = sheet.numbers.used } → bytes ≡ sheet.bytes.items → Carries follows plan old new bytes
+set-carries follows plan old new r key lines sheet bytes t f s b =
+    rw t.is
+    (record {
+      made = _;
+      carried = (done, f, refl);
+      by = record { session = rw (s, t.holds.count) refl; bytes_are = rw (b, t.holds.bytes) refl };
+    })
+
+pub all-ok : {T E : Type 0} (r : Result T E) (A B : Type 0) (P Q : T → Type 0) → (A → B → (x : T) → P x → Q x) → OnOk r A → OnOk r B → IfOk r P → IfOk r Q
+all-ok (Ok x) A B P Q f a b p = f a b x p
+all-ok (Err e) A B P Q f a b p = p

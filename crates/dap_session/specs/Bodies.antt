@@ -1,7 +1,7 @@
 -- What the requests are answered that tell what the debuggee shows.
 -- Specification, "ThreadsResponse", "StackTraceResponse", "ScopesResponse", "VariablesResponse", "EvaluateResponse", "SourceResponse", "LoadedSourcesResponse" and "Types". Which of what they may tell is told, is this profile's choice.
 use Rattle.std.specs.Prelude.{ℕ, ◌+◌, ◌-◌, List, [], ◌∷◌, length, map, take, drop, nat_lt, Option, Some, None, option_map, option_and_then, unwrap_or, Result, Ok, Err, if◌then◌else◌}
-use Rattle.std.specs.List.{slice_get, zip}
+use Rattle.std.specs.List.{slice_get, zip, range_with_len}
 use Rattle.serde_json.specs.Data.{Data}
 use Rattle.dap_tables.specs.declared.target.Target.{Target}
 use Rattle.dap_message.specs.ResponseBody.{threads_body, stack_trace_body, scopes_body, variables_body, evaluate_body, source_body, loaded_sources_body}
@@ -66,13 +66,16 @@ window start count xs = if nat_lt 0 count then take count (drop start xs) else d
 abbrev pub thread_told : Thread → ThreadBody
 thread_told t = record { id = t.id; name = t.name }
 
+abbrev pub numbered_source : ℕ → Source → SourceBody
+numbered_source number source = record { name = source.name; path = source.path; source_reference = number }
+
+-- each with its number, from 1
+abbrev pub sources_told : List Source → List SourceBody
+sources_told sources = map (λ p. numbered_source p.0 p.1) (zip (range_with_len 1 (length sources)) sources)
+
 -- the source at this index
 abbrev pub source_told : ℕ → Source → SourceBody
-source_told index source = record { name = source.name; path = source.path; source_reference = index + 1 }
-
-abbrev pub sources_told : ℕ → List Source → List SourceBody
-sources_told index [] = []
-sources_told index (source ∷ sources) = source_told index source ∷ sources_told (index + 1) sources
+source_told index source = numbered_source (index + 1) source
 
 -- at an index past the sources, which no frame has
 abbrev pub no_source : SourceBody
@@ -81,8 +84,11 @@ no_source = record { name = []; path = None; source_reference = 0 }
 abbrev pub source_of_frame : List Source → ℕ → SourceBody
 source_of_frame sources index = unwrap_or (option_map (source_told index) (slice_get sources index)) no_source
 
+abbrev pub frame_with : Options → ℕ → Frame → SourceBody → StackFrame
+frame_with options id f source = record { id = id; name = f.name; source = source; line = line_shown options f.line; column = column_shown options }
+
 abbrev pub frame_told : Options → List Source → ℕ → Frame → StackFrame
-frame_told options sources id f = record { id = id; name = f.name; source = source_of_frame sources f.source; line = line_shown options f.line; column = column_shown options }
+frame_told options sources id f = frame_with options id f (source_of_frame sources f.source)
 
 abbrev pub scope_told : ℕ → Scope → ScopeBody
 scope_told number scope = record { name = scope.name; variables_reference = number }
@@ -132,5 +138,5 @@ telling view s (call.Variables asked) =
 telling view s (call.Evaluate asked) =
     asked_for (view.evaluate (option_and_then (object_of s.references) asked.frame_id) asked.expression) (value_told s)
 telling view s (call.Source number) = asked_for (view.content (number - 1)) (λ text. tells_only s (Some (source_body text)))
-telling view s call.LoadedSources = tells_only s (Some (loaded_sources_body (sources_told 0 view.sources)))
+telling view s call.LoadedSources = tells_only s (Some (loaded_sources_body (sources_told view.sources)))
 telling view s _ = tells_only s None

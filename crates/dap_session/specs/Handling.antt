@@ -1,6 +1,7 @@
 -- How a kept request is handled: what the debuggee is asked, what is written, what is left.
 -- Overview, "Initialization" to "Debug session end"; the responses of the Specification. What of this the protocol leaves open is this profile's choice.
 use Rattle.std.specs.Prelude.{ℕ, ℤ, pos, ◌+◌, List, [], ◌∷◌, ◌++◌, length, map, Bool, true, false, nat_le, Option, Some, None, unwrap_or, Result, Ok, Err, if◌then◌else◌}
+use Rattle.std.specs.List.{zip, range_with_len}
 use Rattle.serde_json.specs.Data.{Data}
 use Rattle.dap_message.specs.Argument.{Read}
 use Rattle.dap_message.specs.Canon.{canon}
@@ -152,10 +153,9 @@ told s r (Ok t) =
 abbrev pub lines_asked : Options → List ℕ → List ℕ
 lines_asked options lines = if options.lines_start_at_1 then lines else map (λ n. n + 1) lines
 
+-- an answer to each line, with ids from the first on
 abbrev pub answers_to : ℕ → List ℕ → List Bool → List BreakpointBody
-answers_to id [] verified = []
-answers_to id (line ∷ lines) [] = []
-answers_to id (line ∷ lines) (v ∷ verified) = record { id = id; line = line; verified = v } ∷ answers_to (id + 1) lines verified
+answers_to first lines verified = map (λ p. record { id = p.0; line = p.1.0; verified = p.1.1 }) (zip (range_with_len first (length lines)) (zip lines verified))
 
 abbrev pub breakpoints_set : Session → Entry → SourceKey → List ℕ → Option Data → Plan
 breakpoints_set s r key lines body = asking (to_set_breakpoints key lines)

@@ -1,16 +1,38 @@
 //! What a debuggee told, in the forms that bodies have: its lists, each with the numbers that were given for it.
-ghost use Rattle.std.specs.Prelude.{◌≡◌, ◌+◌, ◌≤◌, map, length, Some, IfOk, option_map};
+ghost use Rattle.std.specs.Prelude.{◌≡◌, ◌≤◌, map, length, take, drop, Some, IfOk, option_map};
+ghost use Rattle.std.specs.List.{zip};
 ghost use Rattle.dap_debuggee.specs.declared.answers.Frame.{Frame as FrameWord};
 ghost use Rattle.dap_debuggee.specs.declared.answers.Scope.{Scope as ScopeWord};
 ghost use Rattle.dap_debuggee.specs.declared.answers.Variable.{Variable as VariableWord};
 ghost use Rattle.dap_tables.specs.References.{frame_of, holder_of};
-ghost use Rattle.dap_session.specs.Bodies.{thread_told, source_told, sources_told, source_of_frame, line_shown, column_shown, frame_told, scope_told, variable_told, with_numbers, window};
+ghost use Rattle.dap_session.specs.Bodies.{thread_told, numbered_source, sources_told, source_of_frame, line_shown, column_shown, frame_with, frame_told, scope_told, variable_told, with_numbers, window};
 
 use crate::options::Options;
 use dap_debuggee::{Frame, Scope, Source, Thread, Variable};
 use dap_message::{StackFrame, Text};
 use dap_tables::{ReferenceKind, Target};
 use std::alloc::{AllocError, Global};
+
+fn from_start<T: Drop>(alloc: Global, start: u32, items: Vec<T>) -> Result<Vec<T>, AllocError>
+    ensures { IfOk result (λ part. part.items ≡ drop start items.items) }
+{
+    items.into_iter().skip(start as usize).collect(alloc)
+}
+
+fn part<T: Drop>(
+    alloc: Global,
+    start: u32,
+    count: u32,
+    items: Vec<T>,
+) -> Result<Vec<T>, AllocError>
+    ensures { IfOk result (λ part. part.items ≡ take count (drop start items.items)) }
+{
+    items
+        .into_iter()
+        .skip(start as usize)
+        .take(count as usize)
+        .collect(alloc)
+}
 
 /// From `start` on, at most `count` where that is above 0.
 pub(crate) fn window<T: Drop>(
@@ -21,14 +43,11 @@ pub(crate) fn window<T: Drop>(
 ) -> Result<Vec<T>, AllocError>
     ensures { IfOk result (λ part. part.items ≡ window start count items.items) }
 {
-    if count == 0 {
-        return items.into_iter().skip(start as usize).collect(alloc);
+    if 0 < count {
+        part(alloc, start, count, items)
+    } else {
+        from_start(alloc, start, items)
     }
-    items
-        .into_iter()
-        .skip(start as usize)
-        .take(count as usize)
-        .collect(alloc)
 }
 
 // ---- what has a number
@@ -119,7 +138,7 @@ pub(crate) fn threads_told(
 }
 
 fn numbered_source(number: u32, source: Source) -> dap_message::Source
-    ensures { result ≡ record { name = source.name; path = source.path; source_reference = number } }
+    ensures { result ≡ numbered_source number source }
 {
     let Source { name, path } = source;
     dap_message::Source {
@@ -135,7 +154,7 @@ pub(crate) fn sources_told(
     sources: Vec<Source>,
 ) -> Result<Vec<dap_message::Source>, AllocError>
     requires { length sources.items ≤ 65536 }
-    ensures { IfOk result (λ told. told.items ≡ sources_told 0 sources.items) }
+    ensures { IfOk result (λ told. told.items ≡ sources_told sources.items) }
 {
     let past = sources.len() as u32 + 1;
     (1..past)
@@ -205,13 +224,8 @@ fn column_shown(options: Options) -> u32
     if options.columns_start_at_1 { 1 } else { 0 }
 }
 
-fn frame_told(
-    options: Options,
-    id: u32,
-    frame: Frame,
-    source: dap_message::Source,
-) -> StackFrame
-    ensures { result ≡ record { id = id; name = frame.name; source = source; line = line_shown options frame.line; column = column_shown options } }
+fn frame_with(options: Options, id: u32, frame: Frame, source: dap_message::Source) -> StackFrame
+    ensures { result ≡ frame_with options id frame source }
 {
     let Frame {
         object: _,
@@ -228,6 +242,21 @@ fn frame_told(
     }
 }
 
+fn frames_with(
+    alloc: Global,
+    options: Options,
+    ids: Vec<u32>,
+    frames: Vec<Frame>,
+    sources: Vec<dap_message::Source>,
+) -> Result<Vec<StackFrame>, AllocError>
+    ensures { IfOk result (λ told. told.items ≡ map (λ p. frame_with options p.0 p.1.0 p.1.1) (zip ids.items (zip frames.items sources.items))) }
+{
+    ids.into_iter()
+        .zip(frames.into_iter().zip(sources))
+        .map(|(id, (frame, source))| frame_with(options, id, frame, source))
+        .collect(alloc)
+}
+
 /// Frames with their numbers and their sources.
 pub(crate) fn frames_told(
     alloc: Global,
@@ -240,10 +269,7 @@ pub(crate) fn frames_told(
     ensures { IfOk result (λ told. told.items ≡ with_numbers (frame_told options sources.now) ids.items frames.items) }
 {
     let sources = sources_of_frames(alloc, sources, &frames)?;
-    ids.into_iter()
-        .zip(frames.into_iter().zip(sources))
-        .map(|(id, (frame, source))| frame_told(options, id, frame, source))
-        .collect(alloc)
+    frames_with(alloc, options, ids, frames, sources)
 }
 
 fn scope_told(number: u32, scope: Scope) -> dap_message::Scope

@@ -125,7 +125,7 @@ impl Breakpoints {
         Ok(first)
     }
 
-    /// Whether `replace` would set these lines, if memory is given.
+    /// Whether `replace` would set these lines, if memory is given. No lines are never refused.
     ///
     /// # Errors
     /// `Full` and `Exhausted`, where `replace` would answer them.
@@ -134,6 +134,7 @@ impl Breakpoints {
         ensures full { (result ≡ Err BpFault.Full) ↔ IsRefusedForRoom source.now lines.now self.now }
         ensures exhausted { (result ≡ Err BpFault.Exhausted) ↔ IsRefusedForIds source.now lines.now self.now }
         ensures memory { result ≡ Err BpFault.OutOfMemory → ⊥ }
+        ensures none { OnErr result (0 < length lines.now) }
     {
         if lines.len() > self.room - self.count_of_others(source) {
             return Err(BpFault::Full);

@@ -1,0 +1,90 @@
+-- What is told of lists of the debuggee, each with its numbers.
+use Rattle.std.proofs.Common.{◌≡◌, ℕ, List, [], ◌∷◌, ◌++◌, Option, Some, None, Result, Ok, Err, length, map, refl, sym, ap, ◌∙◌}
+use Rattle.std.specs.Prelude.{option_and_then, option_map}
+use Rattle.std.specs.List.{zip}
+use Rattle.serde_json.specs.Data.{Data}
+use Rattle.dap_message.specs.ResponseBody.{stack_trace_body, scopes_body, variables_body}
+use Rattle.dap_message.specs.Types.Call.{Call}
+use Rattle.dap_message.specs.Types.Call.TheVariants as call
+use Rattle.dap_message.specs.Types.Failure.{Failure}
+use Rattle.dap_message.specs.Types.Scope.{Scope as ScopeBody}
+use Rattle.dap_message.specs.Types.Source.{Source as SourceBody}
+use Rattle.dap_message.specs.Types.StackFrame.{StackFrame as FrameBody}
+use Rattle.dap_message.specs.Types.StackTrace.{StackTrace}
+use Rattle.dap_message.specs.Types.Variable.{Variable as VariableBody}
+use Rattle.dap_message.specs.Types.Variables.{Variables}
+use Rattle.dap_debuggee.specs.Shown.{Shown}
+use Rattle.dap_debuggee.specs.declared.answers.Frame.{Frame}
+use Rattle.dap_debuggee.specs.declared.answers.Scope.{Scope}
+use Rattle.dap_debuggee.specs.declared.answers.Source.{Source}
+use Rattle.dap_debuggee.specs.declared.answers.Variable.{Variable}
+use Rattle.dap_tables.specs.References.{LiveReferences, frame_of, holder_of}
+use Rattle.dap_tables.specs.declared.target.Target.{Target}
+use Rattle.dap_session.specs.declared.options.Options.{Options}
+use Rattle.dap_session.specs.declared.untold.Untold.{Untold}
+use Rattle.dap_session.specs.declared.untold.Untold.TheVariants.{Fails, OutOfMemory}
+use Rattle.dap_session.specs.Bodies.{Telling, telling, tells_with, with_numbers, frame_with, frame_told, scope_told, variable_told, source_of_frame, window, page, object_of}
+use Rattle.dap_session.specs.References.{intern_each}
+use Rattle.dap_session.specs.Session.{Session}
+use Rattle.dap_session.specs.Telling.{Says, Tells}
+use Rattle.dap_session.proofs.GivenNumbers.{told-with, fails-with}
+
+pub frames-zipped : (options : Options) (sources : List Source) (ids : List ℕ) (frames : List Frame)
+    → map (λ p. frame_with options p.0 p.1.0 p.1.1) (zip ids (zip frames (map (λ (f : Frame). source_of_frame sources f.source) frames))) ≡ with_numbers (frame_told options sources) ids frames
+frames-zipped options sources [] frames = refl
+frames-zipped options sources (id ∷ ids) [] = refl
+frames-zipped options sources (id ∷ ids) (f ∷ frames) = ap (λ (xs : List FrameBody). frame_told options sources id f ∷ xs) (frames-zipped options sources ids frames)
+
+-- where one of the objects has no number
+says-with : (u : Untold) (s : Session) (objects : List (Option Target)) (body : List ℕ → Data) → Says u (intern_each s.limits objects s.references) → Says u (tells_with s objects body)
+says-with (Fails f) s objects body h = fails-with s objects body f h
+says-with OutOfMemory s objects body h = tt
+
+-- ---- frames
+
+pub frames-told : (view : Shown) (s : Session) (asked : StackTrace) (all shown : List Frame) (named : List (Option Target)) (ns : List ℕ) (refs : LiveReferences) (frames : List FrameBody) (d : Data)
+    → view.frames asked.thread_id ≡ Some all → shown ≡ window asked.start_frame asked.levels all → named ≡ map (λ (f : Frame). Some (frame_of f.object)) shown → intern_each s.limits named s.references ≡ Ok (ns, refs)
+    → frames ≡ with_numbers (frame_told s.options view.sources) ns shown → d ≡ stack_trace_body frames (length all) → Tells (telling view s (call.StackTrace asked)) (Some d) refs
+unfolding telling
+frames-told view s asked all shown named ns refs frames d e w n g f b =
+    rw (e, b, f, w)
+    (told-with s (map (λ (x : Frame). Some (frame_of x.object)) (window asked.start_frame asked.levels all)) (λ ids. stack_trace_body (with_numbers (frame_told s.options view.sources) ids (window asked.start_frame asked.levels all)) (length all)) ns refs (rw (n, w) at g))
+
+pub frames-fail : (view : Shown) (s : Session) (asked : StackTrace) (all shown : List Frame) (named : List (Option Target)) (u : Untold) → view.frames asked.thread_id ≡ Some all → shown ≡ window asked.start_frame asked.levels all
+    → named ≡ map (λ (f : Frame). Some (frame_of f.object)) shown → Says u (intern_each s.limits named s.references) → Says u (telling view s (call.StackTrace asked))
+unfolding telling
+frames-fail view s asked all shown named u e w n g =
+    rw e
+    (says-with u s (map (λ (x : Frame). Some (frame_of x.object)) (window asked.start_frame asked.levels all)) (λ ids. stack_trace_body (with_numbers (frame_told s.options view.sources) ids (window asked.start_frame asked.levels all)) (length all)) (rw (n, w) at g))
+
+-- ---- scopes
+
+pub scopes-told : (view : Shown) (s : Session) (number frame : ℕ) (shown : List Scope) (named : List (Option Target)) (ns : List ℕ) (refs : LiveReferences) (scopes : List ScopeBody) (d : Data)
+    → object_of s.references number ≡ Some frame → view.scopes frame ≡ Some shown → named ≡ map (λ (x : Scope). Some (holder_of x.holder)) shown → intern_each s.limits named s.references ≡ Ok (ns, refs)
+    → scopes ≡ with_numbers scope_told ns shown → d ≡ scopes_body scopes → Tells (telling view s (call.Scopes number)) (Some d) refs
+unfolding telling
+scopes-told view s number frame shown named ns refs scopes d o e n g f b =
+    rw (o, e, b, f) (told-with s (map (λ (x : Scope). Some (holder_of x.holder)) shown) (λ numbers. scopes_body (with_numbers scope_told numbers shown)) ns refs (rw n at g))
+
+pub scopes-fail : (view : Shown) (s : Session) (number frame : ℕ) (shown : List Scope) (named : List (Option Target)) (u : Untold) → object_of s.references number ≡ Some frame → view.scopes frame ≡ Some shown
+    → named ≡ map (λ (x : Scope). Some (holder_of x.holder)) shown → Says u (intern_each s.limits named s.references) → Says u (telling view s (call.Scopes number))
+unfolding telling
+scopes-fail view s number frame shown named u o e n g =
+    rw (o, e) (says-with u s (map (λ (x : Scope). Some (holder_of x.holder)) shown) (λ numbers. scopes_body (with_numbers scope_told numbers shown)) (rw n at g))
+
+-- ---- variables
+
+pub variables-told : (view : Shown) (s : Session) (asked : Variables) (holder : ℕ) (all shown : List Variable) (named : List (Option Target)) (ns : List ℕ) (refs : LiveReferences) (variables : List VariableBody) (d : Data)
+    → object_of s.references asked.variables_reference ≡ Some holder → view.children holder ≡ Some all → shown ≡ page s.options asked.start asked.count all → named ≡ map (λ (x : Variable). option_map holder_of x.holder) shown
+    → intern_each s.limits named s.references ≡ Ok (ns, refs) → variables ≡ with_numbers variable_told ns shown → d ≡ variables_body variables → Tells (telling view s (call.Variables asked)) (Some d) refs
+unfolding telling
+variables-told view s asked holder all shown named ns refs variables d o e w n g f b =
+    rw (o, e, b, f, w)
+    (told-with s (map (λ (x : Variable). option_map holder_of x.holder) (page s.options asked.start asked.count all)) (λ numbers. variables_body (with_numbers variable_told numbers (page s.options asked.start asked.count all))) ns refs (rw (n, w) at g))
+
+pub variables-fail : (view : Shown) (s : Session) (asked : Variables) (holder : ℕ) (all shown : List Variable) (named : List (Option Target)) (u : Untold) → object_of s.references asked.variables_reference ≡ Some holder → view.children holder ≡ Some all
+    → shown ≡ page s.options asked.start asked.count all → named ≡ map (λ (x : Variable). option_map holder_of x.holder) shown → Says u (intern_each s.limits named s.references) → Says u (telling view s (call.Variables asked))
+unfolding telling
+variables-fail view s asked holder all shown named u o e w n g =
+    rw (o, e)
+    (says-with u s (map (λ (x : Variable). option_map holder_of x.holder) (page s.options asked.start asked.count all)) (λ numbers. variables_body (with_numbers variable_told numbers (page s.options asked.start asked.count all))) (rw (n, w) at g))

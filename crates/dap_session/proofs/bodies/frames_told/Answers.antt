@@ -1,0 +1,11 @@
+use Rattle.std.proofs.Common.{◌∙◌, ap}
+use Rattle.std.specs.List.{zip}
+use Rattle.std.proofs.lemmas.Result.{IfOk-weaker}
+use Rattle.dap_session.proofs.ToldLists.{frames-zipped}
+use Rattle.dap_session.proofs.bodies.frames_told.Goals as goal
+
+pub returns : goal.returns
+returns c =
+    IfOk-weaker c.frames_with.result _ _
+    (λ told is. rw (c.in_ok-sources.ensures, c.deref.ensures.value) at is ∙ frames-zipped c.args.options c.args.sources.now c.args.ids.items c.args.frames.items)
+    c.frames_with.ensures
