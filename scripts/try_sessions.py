@@ -6,9 +6,11 @@ ones, are compared with scripts/session_model.py to the byte.
 import json
 import os
 import random
+import subprocess
 
 from session_model import FAILURES, RESUMING, Session
-from trial import CAPABILITIES, FOLDER, RECORDING, RECORDINGS, expect, frame, frames_of, recording_of, request, run, split
+from trial import CAPABILITIES, DAP, FOLDER, HERE, RECORDING, RECORDINGS, expect, frame, frames_of, recording_of, request
+from trial import run, split
 
 # The messages that come for a request, each by the request's number and command: a success, a failure, an event.
 def ok(body=None):
@@ -739,9 +741,13 @@ def mixed():
     for seed in range(12 * len(paths)):
         choice = random.Random(seed)
         path = paths[seed % len(paths)]
-        limits = {"max_references": choice.choice([0, 0, 0, 2, 5, 9]), "max_reference": choice.choice([0, 0, 0, 0, 9, 30])}
-        limits |= {"max_breakpoints": choice.choice([0, 1, 2, 5]), "max_body": choice.choice([0, 0, 1024])}
-        guided = Mixed(choice, path, **{name: value for name, value in limits.items() if value})
+        limits = {
+            "max_references": choice.choice([None, None, None, 2, 5, 9]),
+            "max_reference": choice.choice([None, None, None, None, 9, 30]),
+            "max_breakpoints": choice.choice([None, 1, 2, 5]),
+            "max_body": choice.choice([None, None, 1024]),
+        }
+        guided = Mixed(choice, path, **{name: most for name, most in limits.items() if most is not None})
         flags = ("linesStartAt1", "columnsStartAt1", "supportsVariablePaging")
         if choice.randrange(8):
             guided.ask("initialize", {flag: choice.choice([None, True, False]) for flag in flags})
@@ -752,6 +758,14 @@ def mixed():
         guided.compare(f"mixed: {seed}, over {os.path.basename(path)}, {' '.join(guided.words)}")
 
 
+def follow():
+    """scripts/follow-session finds nothing wrong."""
+    for path in RECORDINGS:
+        words = [os.path.join(HERE, "scripts", "follow-session"), "--program", DAP, "--recording", path]
+        done = subprocess.run(words, capture_output=True, timeout=300)
+        expect(f"follow-session {os.path.basename(path)}", (done.returncode, done.stderr), (0, b""))
+
+
 GROUPS = {
     "references": references,
     "breakpoints": breakpoints,
@@ -759,4 +773,5 @@ GROUPS = {
     "too_large": too_large,
     "walks": walks,
     "mixed": mixed,
+    "follow": follow,
 }
