@@ -1,10 +1,15 @@
+#!/usr/bin/env python3
 """A model of an adapter over a recorded run, for trying the program: from requests to the bytes that `serve` writes.
 
 It is written from the tables of docs/PROFILE.md and docs/RECORDINGS.md, on Python's own JSON, and shares nothing with the
 crates. Each message is answered, and the debuggee is polled, before the next one is read: so at most a launch that waits for
 `configurationDone` is kept.
+
+    scripts/session_model.py serve RECORDING [--max-body N] ..  (in the program's place, to try what tries the program)
 """
+import argparse
 import json
+import sys
 
 FAILURES = {
     "notInitialized": (1001, "The session is not initialized."),
@@ -15,12 +20,18 @@ FAILURES = {
     "notStopped": (1006, "The debuggee is not stopped."),
     "wrongPhase": (1007, "The request does not fit the state of the session."),
     "unknownThread": (1008, "The thread does not exist."),
+    "staleReference": (1009, "The reference is not valid in this stop."),
+    "tooManyReferences": (1010, "Too many references are in use."),
     "cancelled": (1012, "The request was cancelled."),
+    "debuggee": (1013, "The debuggee refused."),
+    "unknownSource": (1014, "The source does not exist."),
+    "tooManyBreakpoints": (1015, "Too many breakpoints are set."),
+    "tooLarge": (1016, "The response would be too large."),
+    "referencesExhausted": (1017, "No reference numbers are left."),
 }
 RESUMING = {"continue", "next", "stepIn", "stepOut", "stepBack", "reverseContinue"}
 # Commands that have a name and are not served.
 UNSERVED = {
-    "setBreakpoints", "stackTrace", "scopes", "variables", "evaluate", "source", "loadedSources",
     "setFunctionBreakpoints", "setVariable", "restart", "modules", "exceptionInfo", "breakpointLocations", "completions",
 }
 TO_STOPPED = {"Ready", "Configured", "Parked", "Running", "Stopped"}
@@ -31,10 +42,13 @@ SERVED_IN = {
     "configurationDone": {"Ready", "Parked"},
     "disconnect": TO_STOPPED | {"Fresh", "Exited"},
     "terminate": {"Running", "Stopped"},
+    "setBreakpoints": TO_STOPPED,
     "setExceptionBreakpoints": TO_STOPPED,
     "threads": TO_STOPPED | {"Exited"},
+    "source": TO_STOPPED | {"Exited"},
+    "loadedSources": TO_STOPPED | {"Exited"},
     "pause": {"Running", "Stopped"},
-    **{command: {"Stopped"} for command in RESUMING},
+    **{command: {"Stopped"} for command in RESUMING | {"stackTrace", "scopes", "variables", "evaluate"}},
 }
 CAPABILITIES = {
     f"supports{name}": True
@@ -63,8 +77,35 @@ def is_seq(value):
     return is_int(value) and value >= 0
 
 
-def are_texts(value):
-    return isinstance(value, list) and all(map(is_text, value))
+def is_count(value):
+    """A count, a line or a reference."""
+    return is_int(value) and 0 <= value <= 2147483647
+
+
+def are(is_good):
+    return lambda value: isinstance(value, list) and all(map(is_good, value))
+
+
+def is_breakpoint(value):
+    return isinstance(value, dict) and is_count(value.get("line"))
+
+
+def is_source(value):
+    if not isinstance(value, dict):
+        return False
+    path, reference = value.get("path"), value.get("sourceReference")
+    return (path is None or is_text(path)) and (reference is None or is_count(reference))
+
+
+def is_named_source(value):
+    return is_source(value) and name_of(value) is not None
+
+
+def name_of(source):
+    """What breakpoints are set by: the path where there is one, be it empty, else the reference. 0 is none."""
+    if source.get("path") is not None:
+        return "path", source["path"]
+    return ("reference", source["sourceReference"]) if source.get("sourceReference") else None
 
 
 # The keys of each command's arguments in their order, whether one is required, and what it is.
@@ -78,7 +119,17 @@ KEYS = {
     "launch": [],
     "attach": [],
     "cancel": [("requestId", False, is_seq)],
-    "setExceptionBreakpoints": [("filters", True, are_texts)],
+    "setBreakpoints": [
+        ("source", True, is_named_source),
+        ("breakpoints", False, are(is_breakpoint)),
+        ("lines", False, are(is_count)),
+    ],
+    "setExceptionBreakpoints": [("filters", True, are(is_text))],
+    "stackTrace": THREAD + [("startFrame", False, is_count), ("levels", False, is_count)],
+    "scopes": [("frameId", True, is_count)],
+    "variables": [("variablesReference", True, is_count), ("start", False, is_count), ("count", False, is_count)],
+    "evaluate": [("expression", True, is_text), ("frameId", False, is_count)],
+    "source": [("source", False, is_source), ("sourceReference", False, is_count)],
     "pause": THREAD,
     **{command: THREAD for command in RESUMING},
 }
@@ -113,23 +164,68 @@ def pieces(output):
         yield piece
 
 
+class Failed(Exception):
+    """A request fails, by one of the names of `FAILURES`."""
+
+    def __init__(self, name, key=None):
+        super().__init__(name)
+        self.name = name
+        self.key = key
+
+
 class Recorded:
-    """A recorded run. No breakpoints can be set yet."""
+    """A recorded run. Its frames, and the scopes and variables that hold others, are the objects of the recording itself."""
 
     def __init__(self, recording):
+        self.sources = recording["sources"]
         self.moments = recording["moments"]
         self.exit = recording["exit"]
         self.at = None
         self.told = []
         self.goal = None
         self.held = False
+        # The lines last set, by the name of a source.
+        self.lines = {}
 
     def threads(self):
         return self.moments[self.at]["threads"] if self.at is not None else []
 
-    def depth(self, place):
+    def scopes(self, frame):
+        return frame.get("scopes", [])
+
+    def children(self, holder):
+        return holder.get("variables", [])
+
+    def evaluate(self, frame, text):
+        """The first variable of that name that stands directly in a scope of the frame."""
+        for scope in self.scopes(frame) if frame is not None else []:
+            for variable in self.children(scope):
+                if variable["name"] == text:
+                    return variable
+        raise Failed("debuggee")
+
+    def names(self, place):
+        """The names of a source: its place from 1, and its path, where it has one."""
+        path = self.sources[place].get("path")
+        return [("reference", place + 1)] + ([("path", path)] if path is not None else [])
+
+    def verify(self, name, lines):
+        """Of each line whether some source of that name has it."""
+        texts = [source["text"] for place, source in enumerate(self.sources) if name in self.names(place)]
+        counts = [text.count("\n") + (text[-1:] not in ("", "\n")) for text in texts]
+        return [any(1 <= line <= count for count in counts) for line in lines]
+
+    def frames(self, place):
+        """The frames of the thread that came to a moment."""
         moment = self.moments[place]
-        return next(len(thread["frames"]) for thread in moment["threads"] if thread["id"] == moment["thread"])
+        return next(thread["frames"] for thread in moment["threads"] if thread["id"] == moment["thread"])
+
+    def depth(self, place):
+        return len(self.frames(place))
+
+    def is_at_breakpoint(self, place):
+        top = self.frames(place)[0]
+        return any(top["line"] in self.lines.get(name, []) for name in self.names(top["source"]))
 
     def start(self):
         self.at = 0
@@ -145,10 +241,11 @@ class Recorded:
         if how == "stepOut":
             return next((k for k in range(at + 1, last) if self.depth(k) < self.depth(at)), last), "step"
         if how == "continue":
-            return last, "breakpoint"
+            return next(filter(self.is_at_breakpoint, range(at + 1, last)), last), "breakpoint"
         if how == "stepBack":
             return max(at - 1, 0), "step"
-        return 0, "entry"
+        behind = next(filter(self.is_at_breakpoint, range(at - 1, -1, -1)), None)
+        return (0, "entry") if behind is None else (behind, "breakpoint")
 
     def resume(self, how):
         place, reason = self.target(how)
@@ -165,6 +262,9 @@ class Recorded:
     def pause(self):
         self.held = False
 
+    def end(self):
+        self.at = None
+
     def poll(self):
         """What happens while it runs: a piece of output, nothing, a stop or the exit."""
         if self.told:
@@ -179,24 +279,84 @@ class Recorded:
         return "stopped", reason
 
 
-class Session:
-    """The adapter: `handle` answers a body with the bytes that come for it."""
+class References:
+    """What was named in this stop, each with its number: the numbers rise from 1, and go on after those that died."""
 
-    def __init__(self, recording):
+    def __init__(self, most, greatest):
+        self.most = most
+        self.greatest = greatest
+        self.live = []
+        self.dead = 0
+
+    def number(self, kind, thing):
+        for place, (_, known) in enumerate(self.live):
+            if known is thing:
+                return self.dead + place + 1
+        if len(self.live) >= self.most:
+            raise Failed("tooManyReferences")
+        if self.dead + len(self.live) >= self.greatest:
+            raise Failed("referencesExhausted")
+        self.live.append((kind, thing))
+        return self.dead + len(self.live)
+
+    def thing(self, kind, number):
+        place = number - self.dead - 1
+        if 0 <= place < len(self.live) and self.live[place][0] == kind:
+            return self.live[place][1]
+        raise Failed("staleReference")
+
+    def clear(self):
+        self.dead += len(self.live)
+        self.live = []
+
+
+def window(items, start, count):
+    """The items from `start` on, at most so many; 0 asks for all."""
+    return items[start or 0 :][: count or None]
+
+
+class Session:
+    """The adapter: `handle` answers a request with the bytes that come for it."""
+
+    def __init__(self, recording, max_body=4194304, max_references=65536, max_breakpoints=4096, max_reference=2147483647):
         self.debuggee = Recorded(recording)
+        self.references = References(max_references, max_reference)
+        self.max_body = max_body
+        self.max_breakpoints = max_breakpoints
+        self.next_breakpoint = 1
         self.phase = "Fresh"
         self.seq = 0
         self.parked = None
         self.out = b""
+        # What the client counts from, and whether it asks for parts of lists.
+        self.first_line = self.first_column = 1
+        self.paging = False
+        self.bodies = {
+            "threads": self.threads,
+            "stackTrace": self.stack_trace,
+            "scopes": self.scopes,
+            "variables": self.variables,
+            "evaluate": self.evaluate,
+            "source": self.content,
+            "loadedSources": self.loaded_sources,
+        }
+
+    def text(self, message):
+        """The message as it is written next."""
+        message = {**message, "seq": self.seq + 1}
+        return json.dumps(message, sort_keys=True, separators=(",", ":"), ensure_ascii=False).encode()
 
     def write(self, message):
+        self.out += frame(self.text(message))
         self.seq += 1
-        text = json.dumps({**message, "seq": self.seq}, sort_keys=True, separators=(",", ":"), ensure_ascii=False)
-        self.out += frame(text.encode())
 
     def respond(self, request, body=None):
+        """Where a response may be too long, nothing but references has changed before it."""
         message = {"type": "response", "request_seq": request["seq"], "success": True, "command": request["command"]}
-        self.write(message if body is None else {**message, "body": body})
+        message = message if body is None else {**message, "body": body}
+        if len(self.text(message)) > self.max_body:
+            raise Failed("tooLarge")
+        self.write(message)
 
     def fail(self, request, name, key=None):
         number, text = FAILURES[name]
@@ -215,35 +375,42 @@ class Session:
         self.write({"type": "event", "event": name} if body is None else {"type": "event", "event": name, "body": body})
 
     def handle(self, request):
+        """Nothing is looked at once the session has ended."""
         self.out = b""
-        command = request["command"]
-        arguments = request.get("arguments")
-        key = bad_key(command, arguments)
-        if self.phase == "Fresh" and command not in ("initialize", "disconnect"):
-            self.fail(request, "notInitialized")
-        elif self.phase != "Fresh" and command == "initialize":
-            self.fail(request, "alreadyInitialized")
-        elif command in UNSERVED:
-            self.fail(request, "unsupported")
-        elif command == "cancel" and key is None:
-            self.respond(request)
-        elif command not in SERVED_IN and command != "cancel":
-            self.fail(request, "unknownCommand")
-        elif key is not None:
-            self.fail(request, "badArguments", key)
-        elif self.phase not in SERVED_IN[command]:
-            late = SERVED_IN[command] == {"Stopped"} and self.phase == "Running"
-            self.fail(request, "notStopped" if late else "wrongPhase")
-        elif command in RESUMING and arguments["threadId"] not in [t["id"] for t in self.debuggee.threads()]:
-            self.fail(request, "unknownThread")
-        else:
-            self.serve(request, command)
+        if self.phase == "Ended":
+            return b""
+        told = len(self.references.live)
+        try:
+            self.test(request["command"], request.get("arguments"))
+            self.serve(request, request["command"], request.get("arguments"))
+        except Failed as failure:
+            # What a refused answer named was not told.
+            del self.references.live[told:]
+            self.fail(request, failure.name, failure.key)
         self.polls()
         return self.out
 
-    def serve(self, request, command):
+    def test(self, command, arguments):
+        """The failures that hold of the name, the arguments and the phase, in their order."""
+        key = bad_key(command, arguments)
+        if self.phase == "Fresh" and command not in ("initialize", "disconnect"):
+            raise Failed("notInitialized")
+        if self.phase != "Fresh" and command == "initialize":
+            raise Failed("alreadyInitialized")
+        if command in UNSERVED:
+            raise Failed("unsupported")
+        if command not in SERVED_IN and command != "cancel":
+            raise Failed("unknownCommand")
+        if key is not None:
+            raise Failed("badArguments", key)
+        if command != "cancel" and self.phase not in SERVED_IN[command]:
+            late = SERVED_IN[command] == {"Stopped"} and self.phase == "Running"
+            raise Failed("notStopped" if late else "wrongPhase")
+
+    def serve(self, request, command, arguments):
         if command == "initialize":
             self.phase = "Ready"
+            self.count_as(arguments or {})
             self.respond(request, CAPABILITIES)
             self.event("initialized")
         elif command in ("launch", "attach") and self.phase == "Ready":
@@ -261,17 +428,19 @@ class Session:
             if self.parked is not None:
                 self.fail(self.parked, "cancelled")
             self.respond(request)
-            self.parked = None
-            self.phase = "Ended"
+            self.end("Ended")
         elif command == "terminate":
             self.respond(request)
             self.event("terminated")
-            self.phase = "Exited"
-        elif command == "threads":
-            there = self.debuggee.threads() if self.phase in ("Running", "Stopped") else []
-            self.respond(request, {"threads": [{"id": t["id"], "name": t["name"]} for t in there]})
+            self.end("Exited")
+        elif command == "setBreakpoints":
+            self.set_breakpoints(request, arguments)
+        elif command in self.bodies:
+            self.respond(request, self.bodies[command](arguments or {}))
         elif command in RESUMING:
+            self.thread(arguments)
             self.debuggee.resume(command)
+            self.references.clear()
             self.phase = "Running"
             self.respond(request, {"allThreadsContinued": True} if command == "continue" else None)
         else:
@@ -279,11 +448,108 @@ class Session:
                 self.debuggee.pause()
             self.respond(request)
 
+    def count_as(self, options):
+        """Lines and columns count from 1 where nothing else is said; `null` says nothing."""
+        self.first_line = 0 if options.get("linesStartAt1") is False else 1
+        self.first_column = 0 if options.get("columnsStartAt1") is False else 1
+        self.paging = options.get("supportsVariablePaging") is True
+
     def start(self, launch):
         self.debuggee.start()
         self.phase = "Running"
         self.parked = None
         self.respond(launch)
+
+    def end(self, phase):
+        self.debuggee.end()
+        self.references.clear()
+        self.parked = None
+        self.phase = phase
+
+    def set_breakpoints(self, request, arguments):
+        """The answer is measured before anything changes. The debuggee counts lines from 1; the answer has them as asked."""
+        name = name_of(arguments["source"])
+        asked = arguments.get("lines") or []
+        if arguments.get("breakpoints") is not None:
+            asked = [one["line"] for one in arguments["breakpoints"]]
+        lines = [line + 1 - self.first_line for line in asked]
+        others = sum(len(there) for other, there in self.debuggee.lines.items() if other != name)
+        if others + len(lines) > self.max_breakpoints:
+            raise Failed("tooManyBreakpoints")
+        verified = self.debuggee.verify(name, lines)
+        rows = [
+            {"id": self.next_breakpoint + place, "line": line, "verified": is_there}
+            for place, (line, is_there) in enumerate(zip(asked, verified))
+        ]
+        self.respond(request, {"breakpoints": rows})
+        self.next_breakpoint += len(lines)
+        self.debuggee.lines[name] = lines
+
+    def threads(self, _):
+        return {"threads": [{"id": thread["id"], "name": thread["name"]} for thread in self.debuggee.threads()]}
+
+    def thread(self, arguments):
+        for thread in self.debuggee.threads():
+            if thread["id"] == arguments["threadId"]:
+                return thread
+        raise Failed("unknownThread")
+
+    def stack_trace(self, arguments):
+        frames = self.thread(arguments)["frames"]
+        rows = [
+            {
+                "column": self.first_column,
+                "id": self.references.number("frame", one),
+                "line": one["line"] - 1 + self.first_line,
+                "name": one["name"],
+                "source": self.source(one["source"]),
+            }
+            for one in window(frames, arguments.get("startFrame"), arguments.get("levels"))
+        ]
+        return {"stackFrames": rows, "totalFrames": len(frames)}
+
+    def scopes(self, arguments):
+        frame = self.references.thing("frame", arguments["frameId"])
+        rows = [
+            {"expensive": False, "name": scope["name"], "variablesReference": self.references.number("holder", scope)}
+            for scope in self.debuggee.scopes(frame)
+        ]
+        return {"scopes": rows}
+
+    def holder(self, variable):
+        """The number of a variable that has children; else 0."""
+        return self.references.number("holder", variable) if self.debuggee.children(variable) else 0
+
+    def variables(self, arguments):
+        """A part of them only where the client has said that it asks for parts."""
+        there = self.debuggee.children(self.references.thing("holder", arguments["variablesReference"]))
+        if self.paging:
+            there = window(there, arguments.get("start"), arguments.get("count"))
+        rows = [
+            {"name": one["name"], "value": one["value"], "variablesReference": self.holder(one)} for one in there
+        ]
+        return {"variables": rows}
+
+    def evaluate(self, arguments):
+        number = arguments.get("frameId")
+        frame = None if number is None else self.references.thing("frame", number)
+        found = self.debuggee.evaluate(frame, arguments["expression"])
+        return {"result": found["value"], "variablesReference": self.holder(found)}
+
+    def content(self, arguments):
+        inner = (arguments.get("source") or {}).get("sourceReference")
+        place = (inner or arguments.get("sourceReference") or 0) - 1
+        if not 0 <= place < len(self.debuggee.sources):
+            raise Failed("unknownSource")
+        return {"content": self.debuggee.sources[place]["text"]}
+
+    def source(self, place):
+        told = self.debuggee.sources[place]
+        path = {"path": told["path"]} if "path" in told else {}
+        return {"name": told["name"], **path, "sourceReference": place + 1}
+
+    def loaded_sources(self, _):
+        return {"sources": [self.source(place) for place in range(len(self.debuggee.sources))]}
 
     def polls(self):
         while self.phase == "Running":
@@ -297,6 +563,28 @@ class Session:
                 thread = self.debuggee.moments[self.debuggee.at]["thread"]
                 self.event("stopped", {"allThreadsStopped": True, "reason": value, "threadId": thread})
             else:
-                self.phase = "Exited"
+                self.end("Exited")
                 self.event("exited", {"exitCode": value})
                 self.event("terminated")
+
+
+def main():
+    words = argparse.ArgumentParser(description="Serves a recording, as the model has it.")
+    words.add_argument("--version", action="version", version="a model of dap")
+    serve = words.add_subparsers(required=True).add_parser("serve")
+    serve.add_argument("recording")
+    for name in ("body", "references", "breakpoints", "reference"):
+        serve.add_argument(f"--max-{name}", type=int, default=argparse.SUPPRESS)
+    limits = vars(words.parse_args())
+    with open(limits.pop("recording"), encoding="utf-8") as file:
+        session = Session(json.load(file), **limits)
+    while session.phase != "Ended" and (line := sys.stdin.buffer.readline()):
+        sys.stdin.buffer.readline()
+        message = json.loads(sys.stdin.buffer.read(int(line.partition(b":")[2])))
+        if message["type"] == "request":
+            sys.stdout.buffer.write(session.handle(message))
+            sys.stdout.buffer.flush()
+
+
+if __name__ == "__main__":
+    main()
