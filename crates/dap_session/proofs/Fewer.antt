@@ -164,7 +164,6 @@ plan-fewer effect.Tell view s r asked made n c u m = once s _ made m (told-fewer
 
 -- ---- a plan that was carried out
 
-
 pub carried-fewer : {D : Type 0} (follows : Goes D) (e : Effect) (view : Shown) (r : Request) (asked : Call) (old new : Seat D) (bytes : List ℕ) → contains_seq r.seq old.session.kept ≡ true → is_parked r.seq old.session.kept ≡ false
     → Suits e asked → Carries follows (plan_for e view old.session r asked) old new bytes → to_handle new.session.kept < to_handle old.session.kept
 carried-fewer follows e view r asked old new bytes c u n t =

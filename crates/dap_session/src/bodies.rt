@@ -19,12 +19,7 @@ fn from_start<T: Drop>(alloc: Global, start: u32, items: Vec<T>) -> Result<Vec<T
     items.into_iter().skip(start as usize).collect(alloc)
 }
 
-fn part<T: Drop>(
-    alloc: Global,
-    start: u32,
-    count: u32,
-    items: Vec<T>,
-) -> Result<Vec<T>, AllocError>
+fn part<T: Drop>(alloc: Global, start: u32, count: u32, items: Vec<T>) -> Result<Vec<T>, AllocError>
     ensures { IfOk result (λ part. part.items ≡ take count (drop start items.items)) }
 {
     items
@@ -134,7 +129,10 @@ pub(crate) fn threads_told(
 ) -> Result<Vec<dap_message::Thread>, AllocError>
     ensures { IfOk result (λ told. told.items ≡ map thread_told threads.items) }
 {
-    threads.into_iter().map(|told| thread_told(told)).collect(alloc)
+    threads
+        .into_iter()
+        .map(|told| thread_told(told))
+        .collect(alloc)
 }
 
 fn numbered_source(number: u32, source: Source) -> dap_message::Source

@@ -31,7 +31,10 @@ fn one_source(rt: HostRuntime) -> Result<(), Fail> {
     let source = path(alloc, "/a.c")?;
     assert_eq!(rt; table.check(&source, &[1, 1, 1, 1]), Ok(()));
     assert_eq!(rt; table.check(&source, &[1, 1, 1, 1, 1]), Err(BpFault::Full));
-    assert_eq!(rt; table.check(&SourceKey::Reference(1), &[1, 1, 1, 1]), Err(BpFault::Full));
+    assert_eq!(rt;
+        table.check(&SourceKey::Reference(1), &[1, 1, 1, 1]),
+        Err(BpFault::Full)
+    );
     assert_eq!(rt;
         table.replace(source.clone()?, &[1, 1, 1, 1, 1]),
         Err(BpFault::Full)
