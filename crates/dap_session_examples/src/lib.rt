@@ -4,8 +4,6 @@
 #[cfg(test)]
 mod limits;
 #[cfg(test)]
-mod references;
-#[cfg(test)]
 mod runs;
 #[cfg(test)]
 mod sessions;
