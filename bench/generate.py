@@ -3,20 +3,27 @@
 
     generate.py KIND SIZE SEED > FILE
 
+or, where KIND is `recording`, a recording for a server.
+
 KIND `large` is what an adapter sends where the debuggee is big: `stackTrace`, `variables`, `loadedSources` and
 `modules` responses and long `output` events, of some 4 KB to 170 KB each. KIND `small` is both ends of sessions
 that step and look around: requests, short responses and short events, of some 50 to 400 bytes each.
 
 These two end with the first frame that reaches SIZE bytes. KIND `requests` is one client's side of a session: an
-`initialize`, and SIZE more requests that leave the session in the phase after it. The same KIND, SIZE and SEED give
-the same bytes on every machine: of Python's generator only `random()` is used, whose sequence does not change
-between versions.
+`initialize`, and SIZE more requests that leave the session in the phase after it. KIND `stopped` is another's: three
+requests until the debuggee has stopped, and SIZE more that look around there. They are for the server of a
+`recording` with the same SEED; its SIZE is how many moments it has, at least two.
+
+The same KIND, SIZE and SEED give the same bytes on every machine: of Python's generator only `random()` is used, whose
+sequence does not change between versions.
 
 A stream of the first two kinds is sessions, one after the other. Each session has an adapter and a client, after the
 wire habits of real ones: the order of keys, blanks after colons, which characters are escaped, and how `seq` counts.
 """
 
 import argparse
+import copy
+import itertools
 import json
 import random
 import sys
@@ -433,11 +440,10 @@ FILTERS = ["raised", "uncaught", "userUnhandled", "cpp_throw", "cpp_catch", "any
            "unrecovered-panic", "fatal-throw"]
 
 
-class Requests:
-    """A client that asks again and again before it starts the debuggee."""
+class Client:
+    """A client: it numbers its requests and writes them."""
 
-    def __init__(self, draw):
-        self.world = World(draw, "debugpy")
+    def __init__(self):
         self.asked = 0
 
     def frame(self, command, arguments=None):
@@ -452,6 +458,14 @@ class Requests:
             "clientID": "editor", "clientName": "Editor", "adapterID": "rec", "pathFormat": "path",
             "linesStartAt1": True, "columnsStartAt1": True, "supportsVariableType": True,
             "supportsVariablePaging": True, "supportsRunInTerminalRequest": True, "locale": "en"})
+
+
+class Requests(Client):
+    """A client that asks again and again before it starts the debuggee."""
+
+    def __init__(self, draw):
+        super().__init__()
+        self.world = World(draw, "debugpy")
 
     def next(self):
         world = self.world
@@ -541,6 +555,158 @@ def requests(count, seed, write):
         write(client.next())
 
 
+# ---- A recording, and requests at its stops ----------------------------------------------------------------
+
+SOURCES = 6
+SOURCE_LINES = 300
+STACK = 20
+TOP_SCOPES = (("Locals", 100), ("Arguments", 6), ("Globals", 30))
+CHILDREN = 3
+THREAD = {"threadId": 1}
+ASKED_LINES = 50
+
+
+class Recording:
+    """What is recorded of one thread: at each moment the same frames, the newest at another line and with other values."""
+
+    def __init__(self, seed):
+        self.world = World(random.Random("recording %d" % seed).random, "lldb")
+        self.sources = [self.source() for _ in range(SOURCES)]
+        self.frames = [self.stack_frame(place) for place in range(STACK)]
+
+    def source(self):
+        world = self.world
+        file = world.file()
+        text = "".join("    " * world.below(4) + world.words(world.below(7)) + "\n" for _ in range(SOURCE_LINES))
+        return {"name": file, "path": world.path(file), "text": text}
+
+    def variable(self, names):
+        """A variable with a name of its own; one that shows what it holds has children."""
+        world = self.world
+        made = world.variable()
+        name = made["name"]
+        while name in names:
+            name = name + "_" + world.word()
+        names.add(name)
+        told = {"name": name, "value": made["value"]}
+        if made["variablesReference"]:
+            told["variables"] = [{"name": world.word(), "value": str(world.below(1000))} for _ in range(CHILDREN)]
+        return told
+
+    def stack_frame(self, place):
+        world = self.world
+        names = set()
+        scopes = [{"name": name, "variables": [self.variable(names) for _ in range(count)]}
+                  for name, count in (TOP_SCOPES if place == 0 else [("Locals", world.between(1, 9))])]
+        return {"name": world.function(), "source": world.below(SOURCES), "line": world.between(1, SOURCE_LINES),
+                "scopes": scopes}
+
+    def moments(self):
+        while True:
+            frames = copy.deepcopy(self.frames)
+            yield {"thread": 1, "threads": [{"id": 1, "name": "main", "frames": frames}]}
+            top = self.frames[0]
+            top["line"] = top["line"] % SOURCE_LINES + 1
+            for scope in top["scopes"]:
+                for variable in scope["variables"][:10]:
+                    if "variables" not in variable:
+                        variable["value"] = str(self.world.below(1000))
+
+
+def recording(moments, seed, write):
+    told = Recording(seed)
+    made = {"exit": 0, "sources": told.sources, "moments": list(itertools.islice(told.moments(), moments))}
+    write(PLAIN.encode(made).encode("utf-8"))
+
+
+class Stopped(Client):
+    """A client that looks around where the debuggee has stopped. It knows which number each thing gets: those asked for
+    in a stop count on from the last one, in the order in which they are first told."""
+
+    def __init__(self, draw, seed):
+        super().__init__()
+        self.world = World(draw, "lldb")
+        told = Recording(seed)
+        self.sources = told.sources
+        self.variables = [scope["variables"] for scope in told.frames[0]["scopes"]]
+        self.last = 0
+        self.numbers = {}
+
+    def number(self, *thing):
+        if thing not in self.numbers:
+            self.last += 1
+            self.numbers[thing] = self.last
+        return self.numbers[thing]
+
+    def launched(self):
+        return [self.initialize(), self.frame("launch", {"program": "recorded"}), self.frame("configurationDone")]
+
+    def stack_trace(self):
+        for place in range(STACK):
+            self.number("frame", place)
+        return self.frame("stackTrace", {**THREAD, "startFrame": 0, "levels": STACK})
+
+    def scopes(self):
+        for place, _ in enumerate(self.variables):
+            self.number("scope", place)
+        return self.frame("scopes", {"frameId": self.number("frame", 0)})
+
+    def locals(self):
+        for place, variable in enumerate(self.variables[0]):
+            if "variables" in variable:
+                self.number("variable", place)
+        return self.frame("variables", {"variablesReference": self.number("scope", 0)})
+
+    def evaluate(self):
+        place = self.world.below(len(self.variables[0]))
+        return self.frame("evaluate", {"expression": self.variables[0][place]["name"],
+                                       "frameId": self.number("frame", 0), "context": "hover"})
+
+    def breakpoints(self):
+        """Lines of a source, in order; a few are past its end. Both lists are there, as editors send them."""
+        world = self.world
+        source = world.pick(self.sources)
+        every = SOURCE_LINES // ASKED_LINES
+        lines = [every * place + world.between(1, 2 * every) for place in range(ASKED_LINES)]
+        return self.frame("setBreakpoints", {
+            "source": {"name": source["name"], "path": source["path"]}, "lines": lines,
+            "breakpoints": [{"line": line} for line in lines], "sourceModified": False})
+
+    def look(self):
+        return [self.stack_trace(), self.scopes(), self.locals()]
+
+    def move(self, command):
+        self.numbers = {}
+        return [self.frame(command, dict(THREAD)), *self.look()]
+
+    def looks(self):
+        """All that it asks. Once it has looked, it asks for things that have a number."""
+        yield from self.look()
+        while True:
+            kind = self.world.below(100)
+            if kind < 22:
+                yield self.stack_trace()
+            elif kind < 44:
+                yield self.scopes()
+            elif kind < 66:
+                yield self.locals()
+            elif kind < 89:
+                yield self.evaluate()
+            elif kind < 99:
+                yield self.breakpoints()
+            else:
+                yield from self.move("next")
+                yield from self.move("stepBack")
+
+
+def stopped(count, seed, write):
+    client = Stopped(random.Random(seed).random, seed)
+    for made in client.launched():
+        write(made)
+    for made in itertools.islice(client.looks(), count):
+        write(made)
+
+
 def stream(kind, total, seed, write):
     draw = random.Random(seed).random
     written = 0
@@ -559,15 +725,20 @@ def stream(kind, total, seed, write):
                 written += len(made)
 
 
+KINDS = {"requests": requests, "stopped": stopped, "recording": recording}
+
+
 def main():
-    words = argparse.ArgumentParser(description="Writes a stream of framed messages to standard output.")
-    words.add_argument("kind", choices=["large", "small", "requests"], metavar="KIND", help="large, small or requests")
+    words = argparse.ArgumentParser(description="Writes a stream of framed messages, or a recording, to standard output.")
+    words.add_argument("kind", choices=["large", "small", *KINDS], metavar="KIND",
+                       help="large, small, requests, stopped or recording")
     words.add_argument("size", type=int, metavar="SIZE",
-                       help="the stream ends with the frame that reaches these bytes; of requests: how many")
+                       help="the stream ends with the frame that reaches these bytes; of requests and stopped: how many; "
+                       "of a recording: how many moments")
     words.add_argument("seed", type=int, metavar="SEED", help="a whole number")
     words = words.parse_args()
-    if words.kind == "requests":
-        requests(words.size, words.seed, sys.stdout.buffer.write)
+    if words.kind in KINDS:
+        KINDS[words.kind](words.size, words.seed, sys.stdout.buffer.write)
     else:
         stream(words.kind, words.size, words.seed, sys.stdout.buffer.write)
     sys.stdout.buffer.flush()

@@ -1,8 +1,8 @@
 // The Go baseline: the same tasks as the Rust baseline's, over Google's package go-dap 0.7.0.
 //
-//	baseline show FILE      one line for each message
-//	baseline frames FILE    framing alone: the count of frames and the sum of their body lengths
-//	baseline serve          answers the requests of standard input on standard output
+//	baseline show FILE          one line for each message
+//	baseline frames FILE        framing alone: the count of frames and the sum of their body lengths
+//	baseline serve RECORDING    answers the requests of standard input on standard output
 //
 // Each message is read by dap.ReadProtocolMessage (for `frames` by dap.ReadBaseMessage) from a bufio.Reader over
 // the open file. So, unlike the other programs, this one never holds the whole file. What differs by go-dap:
@@ -14,8 +14,9 @@
 //     Commands of any length are taken.
 //   - A message of an unknown type, command or event comes as an error that has `seq` and the name. The line
 //     can be had from it, but for an unknown command's response: its REQUEST_SEQ is printed as `?`.
-//   - `serve` writes the package's own responses: keys in the order of its types, and `showUser` in each error. An
-//     absent number or object can't be told from one that is 0 or empty.
+//   - `serve` writes the package's own responses: keys in the order of its types, `showUser` in each error, and an
+//     empty `source` or `presentationHint` where there is none. An absent number, flag, text or object can't be told
+//     from one that is 0, false or empty.
 package main
 
 import (
@@ -135,16 +136,16 @@ func frames(in *bufio.Reader, used func() int64, out *bufio.Writer) {
 }
 
 func main() {
-	if len(os.Args) == 2 && os.Args[1] == "serve" {
-		if err := serve(); err != nil {
+	if len(os.Args) != 3 || os.Args[1] != "show" && os.Args[1] != "frames" && os.Args[1] != "serve" {
+		fmt.Fprintln(os.Stderr, "usage: baseline show FILE | baseline frames FILE | baseline serve RECORDING")
+		os.Exit(2)
+	}
+	if os.Args[1] == "serve" {
+		if err := serve(os.Args[2]); err != nil {
 			fmt.Fprintln(os.Stderr, "baseline:", err)
 			os.Exit(5)
 		}
 		return
-	}
-	if len(os.Args) != 3 || os.Args[1] != "show" && os.Args[1] != "frames" {
-		fmt.Fprintln(os.Stderr, "usage: baseline show FILE | baseline frames FILE | baseline serve")
-		os.Exit(2)
 	}
 	file, err := os.Open(os.Args[2])
 	if err != nil {

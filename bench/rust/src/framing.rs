@@ -1,5 +1,7 @@
 //! Frames: a header block with `Content-Length`, and a body.
 
+use std::io::Write;
+
 pub type Fault = &'static str;
 
 /// The frames of a stream that is there whole, in order; a fault ends them.
@@ -62,6 +64,12 @@ fn content_length(block: &[u8]) -> Result<usize, Fault> {
         }
     }
     length.ok_or("no length")
+}
+
+pub fn push_frame(out: &mut Vec<u8>, body: &[u8]) {
+    // Writing to a vector cannot fail.
+    let _ = write!(out, "Content-Length: {}\r\n\r\n", body.len());
+    out.extend_from_slice(body);
 }
 
 fn trim(mut value: &[u8]) -> &[u8] {

@@ -1,19 +1,28 @@
 //! The Rust baseline: what a Rust programmer writes for the tasks of `dap` with `serde_json`.
 //!
-//!     baseline show FILE      one line for each message
-//!     baseline frames FILE    framing alone: the count of frames and the sum of their body lengths
-//!     baseline serve          answers the requests of standard input on standard output
-//!     baseline echo           gives each body of standard input back on standard output
+//!     baseline show FILE          one line for each message
+//!     baseline frames FILE        framing alone: the count of frames and the sum of their body lengths
+//!     baseline serve RECORDING    answers the requests of standard input on standard output
+//!     baseline trees RECORDING    the same, with each message a tree on its way in and out
+//!     baseline echo               gives each body of standard input back on standard output
 //!
 //! A file is read whole. Bodies are slices of it and are parsed to `serde_json::Value`. The lines gather in one
 //! buffer that is written once. What is malformed gives a message on standard error and status 3; the lines of
-//! the messages before it are written all the same. `serve.rs` says how the other two read and write.
+//! the messages before it are written all the same. `serve.rs` says how the other two read and write, `session.rs`
+//! what is answered.
 
+mod answers;
+mod call;
+mod failure;
 mod framing;
+mod recorded;
+mod references;
 mod serve;
+mod session;
 
 use framing::{Fault, Frames};
 use serde_json::Value;
+use session::Style;
 use std::io::Write;
 use std::process::ExitCode;
 
@@ -114,11 +123,16 @@ fn main() -> ExitCode {
     let (task, path): (Task, _) = match &words[..] {
         [mode, path] if mode == "show" => (show, path),
         [mode, path] if mode == "frames" => (frames, path),
-        [mode] if mode == "serve" => return serve::serve(),
+        [mode, recording] if mode == "serve" => return serve::serve(recording, Style::Types),
+        [mode, recording] if mode == "trees" => return serve::serve(recording, Style::Trees),
         [mode] if mode == "echo" => return serve::echo(),
+        [mode] if mode == "--version" => {
+            println!("baseline {}", env!("CARGO_PKG_VERSION"));
+            return ExitCode::SUCCESS;
+        }
         _ => {
             eprintln!(
-                "usage: baseline show FILE | baseline frames FILE | baseline serve | baseline echo"
+                "usage: baseline show|frames FILE | baseline serve|trees RECORDING | baseline echo"
             );
             return ExitCode::from(2);
         }
