@@ -1,3 +1,5 @@
 pub mod Failure
 pub mod ResponseBody
 pub mod EventBody
+pub mod Body
+pub mod Text

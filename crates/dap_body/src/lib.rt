@@ -5,10 +5,12 @@
 //! fields.
 #![tactic(auto)]
 
+mod body;
 mod event;
 mod failure;
 mod response;
 
+pub use body::{Body, body_text};
 pub use event::{body_continued, body_exited, body_output, body_stopped};
 pub use failure::{Failure, body_failure, failure_text};
 pub use response::{

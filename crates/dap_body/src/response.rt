@@ -1,4 +1,4 @@
-//! The bodies of an adapter's responses: Specification, the types whose names end in "Response", and "Types".
+//! The bodies of an adapter's responses as trees: Specification, the types whose names end in "Response", and "Types".
 //!
 //! Texts and lists are moved into the body, not copied. Lines and columns are written as they stand: whether they
 //! count from 0 or 1 is the caller's part.

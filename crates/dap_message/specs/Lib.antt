@@ -15,6 +15,7 @@ pub use Rattle.dap_call.specs.Key
 pub use Rattle.dap_call.specs.Lent
 pub use Rattle.dap_call.specs.CallTree
 pub use Rattle.dap_call.specs.PlainCall
+pub use Rattle.dap_body.specs.Body
 pub use Rattle.dap_body.specs.EventBody
 pub use Rattle.dap_body.specs.Failure
 pub use Rattle.dap_body.specs.ResponseBody

@@ -14,6 +14,7 @@ pub use Rattle.dap_call.specs.declared.capabilities.Capabilities
 pub use Rattle.dap_call.specs.declared.command.Command
 pub use Rattle.dap_call.specs.declared.command.Gate
 pub use Rattle.dap_call.specs.declared.key.Key
+pub use Rattle.dap_body.specs.declared.body.Body
 pub use Rattle.dap_body.specs.declared.failure.Failure
 pub use Rattle.dap_body.specs.declared.response.Breakpoint
 pub use Rattle.dap_body.specs.declared.response.Scope

@@ -1,16 +1,17 @@
 //! The texts of what an adapter says: responses and events, written with no tree of the message.
 //!
 //! Specification, "Response", "ErrorResponse", "Event". Each is the text that `write_message` gives of that message.
-ghost use Rattle.std.specs.Prelude.{◌≡◌, ◌++◌, IfOk, IsTrue, None, Some, false};
+ghost use Rattle.std.specs.Prelude.{◌≡◌, ◌++◌, IfOk, IsTrue, None, Some, false, true};
 ghost use Rattle.json.specs.Print.{print};
 ghost use Rattle.serde_json.specs.Written.{members_text};
 ghost use Rattle.dap_json.specs.Writable.{is_plain_tree};
+ghost use Rattle.dap_body.specs.Body.{data_in};
 ghost use Rattle.dap_body.specs.Failure.{failure_body};
 ghost use Rattle.dap_message.specs.Answering.{with_body, response_end};
-ghost use Rattle.dap_message.specs.Canon.{canon, event_members};
+ghost use Rattle.dap_message.specs.Canon.{canon, event_members, response_members};
 ghost use Rattle.dap_message.specs.Lengths.{failed, succeeded, happened};
 
-use dap_body::{Failure, failure_text};
+use dap_body::{Body, Failure, body_text, failure_text};
 use dap_json::Tree;
 use json::Writer;
 use std::alloc::{AllocError, Global};
@@ -33,6 +34,25 @@ fn open(alloc: Global, body: &Option<Tree>) -> Result<Vec<u8>, AllocError>
         }
     }
     Ok(out)
+}
+
+/// The same of a body that is given by its parts.
+fn open_answer(alloc: Global, body: &Option<Body>) -> Result<Vec<u8>, AllocError>
+    ensures { IfOk result (λ text. text.items ≡ with_body (data_in body.now)) }
+{
+    let mut out = Vec::with_capacity(alloc, ROOM)?;
+    match body {
+        None => {
+            out.push(b'{')?;
+            Ok(out)
+        }
+        Some(body) => {
+            out.extend_from_slice(b"{\"body\":")?;
+            let mut out = body_text(out, body)?;
+            out.push(b',')?;
+            Ok(out)
+        }
+    }
 }
 
 /// The same of a failure's body.
@@ -66,6 +86,21 @@ fn close_response(
     out.string("response")?;
     out.end_object()?;
     Ok(out.into_inner())
+}
+
+/// Appends what a success has after its body.
+fn close_success(
+    out: Vec<u8>,
+    seq: u64,
+    request_seq: u64,
+    command: &str,
+) -> Result<Vec<u8>, AllocError>
+    ensures { IfOk result (λ text. text.items ≡ out.items ++ members_text false (response_members seq request_seq true command.now None None)) }
+{
+    let mut out = Writer::new(out);
+    out.key("command")?;
+    out.string(command)?;
+    close_response(out, seq, request_seq, true)
 }
 
 /// Appends what an event has after its body.
@@ -112,10 +147,22 @@ pub fn write_success(
     requires { IsTrue (is_plain_tree body.now) }
     ensures { IfOk result (λ text. text.items ≡ canon (succeeded seq request_seq command.now body.now)) }
 {
-    let mut out = Writer::new(open(alloc, body)?);
-    out.key("command")?;
-    out.string(command)?;
-    close_response(out, seq, request_seq, true)
+    let text = open(alloc, body)?;
+    close_success(text, seq, request_seq, command)
+}
+
+/// The same of a body that is given by its parts, with no tree of it either.
+pub fn write_answer(
+    alloc: Global,
+    seq: u64,
+    request_seq: u64,
+    command: &str,
+    body: &Option<Body>,
+) -> Result<Vec<u8>, AllocError>
+    ensures { IfOk result (λ text. text.items ≡ canon (succeeded seq request_seq command.now (data_in body.now))) }
+{
+    let out = open_answer(alloc, body)?;
+    close_success(out, seq, request_seq, command)
 }
 
 /// The text of an event.

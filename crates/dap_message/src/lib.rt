@@ -13,9 +13,9 @@ mod message;
 mod reading;
 mod writing;
 
-pub use answering::{write_event, write_failure, write_success};
+pub use answering::{write_answer, write_event, write_failure, write_success};
 pub use dap_body::{
-    Breakpoint, Failure, Scope, Source, StackFrame, Thread, Variable, body_continue,
+    Body, Breakpoint, Failure, Scope, Source, StackFrame, Thread, Variable, body_continue,
     body_continued, body_evaluate, body_exited, body_failure, body_loaded_sources, body_output,
     body_scopes, body_set_breakpoints, body_source, body_stack_trace, body_stopped, body_threads,
     body_variables,

@@ -42,11 +42,11 @@ says-with OutOfMemory s objects body h = tt
 
 -- ---- frames
 
-pub frames-told : (view : Shown) (s : Session) (asked : StackTrace) (all shown : List Frame) (named : List (Option Target)) (ns : List ℕ) (refs : LiveReferences) (frames : List FrameBody) (d : Data)
+pub frames-told : (view : Shown) (s : Session) (asked : StackTrace) (all shown : List Frame) (named : List (Option Target)) (ns : List ℕ) (refs : LiveReferences) (frames : List FrameBody) (total : ℕ)
     → view.frames asked.thread_id ≡ Some all → shown ≡ window asked.start_frame asked.levels all → named ≡ map (λ (f : Frame). Some (frame_of f.object)) shown → intern_each s.limits named s.references ≡ Ok (ns, refs)
-    → frames ≡ with_numbers (frame_told s.options view.sources) ns shown → d ≡ stack_trace_body frames (length all) → Tells (telling view s (call.StackTrace asked)) (Some d) refs
+    → frames ≡ with_numbers (frame_told s.options view.sources) ns shown → total ≡ length all → Tells (telling view s (call.StackTrace asked)) (Some (stack_trace_body frames total)) refs
 unfolding telling
-frames-told view s asked all shown named ns refs frames d e w n g f b =
+frames-told view s asked all shown named ns refs frames total e w n g f b =
     rw (e, b, f, w)
     (told-with s (map (λ (x : Frame). Some (frame_of x.object)) (window asked.start_frame asked.levels all)) (λ ids. stack_trace_body (with_numbers (frame_told s.options view.sources) ids (window asked.start_frame asked.levels all)) (length all)) ns refs (rw (n, w) at g))
 
@@ -59,12 +59,12 @@ frames-fail view s asked all shown named u e w n g =
 
 -- ---- scopes
 
-pub scopes-told : (view : Shown) (s : Session) (number frame : ℕ) (shown : List Scope) (named : List (Option Target)) (ns : List ℕ) (refs : LiveReferences) (scopes : List ScopeBody) (d : Data)
+pub scopes-told : (view : Shown) (s : Session) (number frame : ℕ) (shown : List Scope) (named : List (Option Target)) (ns : List ℕ) (refs : LiveReferences) (scopes : List ScopeBody)
     → object_of s.references number ≡ Some frame → view.scopes frame ≡ Some shown → named ≡ map (λ (x : Scope). Some (holder_of x.holder)) shown → intern_each s.limits named s.references ≡ Ok (ns, refs)
-    → scopes ≡ with_numbers scope_told ns shown → d ≡ scopes_body scopes → Tells (telling view s (call.Scopes number)) (Some d) refs
+    → scopes ≡ with_numbers scope_told ns shown → Tells (telling view s (call.Scopes number)) (Some (scopes_body scopes)) refs
 unfolding telling
-scopes-told view s number frame shown named ns refs scopes d o e n g f b =
-    rw (o, e, b, f) (told-with s (map (λ (x : Scope). Some (holder_of x.holder)) shown) (λ numbers. scopes_body (with_numbers scope_told numbers shown)) ns refs (rw n at g))
+scopes-told view s number frame shown named ns refs scopes o e n g f =
+    rw (o, e, f) (told-with s (map (λ (x : Scope). Some (holder_of x.holder)) shown) (λ numbers. scopes_body (with_numbers scope_told numbers shown)) ns refs (rw n at g))
 
 pub scopes-fail : (view : Shown) (s : Session) (number frame : ℕ) (shown : List Scope) (named : List (Option Target)) (u : Untold) → object_of s.references number ≡ Some frame → view.scopes frame ≡ Some shown
     → named ≡ map (λ (x : Scope). Some (holder_of x.holder)) shown → Says u (intern_each s.limits named s.references) → Says u (telling view s (call.Scopes number))
@@ -74,12 +74,12 @@ scopes-fail view s number frame shown named u o e n g =
 
 -- ---- variables
 
-pub variables-told : (view : Shown) (s : Session) (asked : Variables) (holder : ℕ) (all shown : List Variable) (named : List (Option Target)) (ns : List ℕ) (refs : LiveReferences) (variables : List VariableBody) (d : Data)
+pub variables-told : (view : Shown) (s : Session) (asked : Variables) (holder : ℕ) (all shown : List Variable) (named : List (Option Target)) (ns : List ℕ) (refs : LiveReferences) (variables : List VariableBody)
     → object_of s.references asked.variables_reference ≡ Some holder → view.children holder ≡ Some all → shown ≡ page s.options asked.start asked.count all → named ≡ map (λ (x : Variable). option_map holder_of x.holder) shown
-    → intern_each s.limits named s.references ≡ Ok (ns, refs) → variables ≡ with_numbers variable_told ns shown → d ≡ variables_body variables → Tells (telling view s (call.Variables asked)) (Some d) refs
+    → intern_each s.limits named s.references ≡ Ok (ns, refs) → variables ≡ with_numbers variable_told ns shown → Tells (telling view s (call.Variables asked)) (Some (variables_body variables)) refs
 unfolding telling
-variables-told view s asked holder all shown named ns refs variables d o e w n g f b =
-    rw (o, e, b, f, w)
+variables-told view s asked holder all shown named ns refs variables o e w n g f =
+    rw (o, e, f, w)
     (told-with s (map (λ (x : Variable). option_map holder_of x.holder) (page s.options asked.start asked.count all)) (λ numbers. variables_body (with_numbers variable_told numbers (page s.options asked.start asked.count all))) ns refs (rw (n, w) at g))
 
 pub variables-fail : (view : Shown) (s : Session) (asked : Variables) (holder : ℕ) (all shown : List Variable) (named : List (Option Target)) (u : Untold) → object_of s.references asked.variables_reference ≡ Some holder → view.children holder ≡ Some all

@@ -2,6 +2,8 @@
 use Rattle.std.specs.Prelude.{◌≡◌, ◌+◌, ⊤, List, ◌++◌, length, Option, Result, Ok, Err}
 use Rattle.serde_json.specs.Data.{Data}
 use Rattle.dap_json.specs.Steps.{Returns}
+use Rattle.dap_message.specs.Body.{data_in}
+use Rattle.dap_message.specs.Types.Body.{Body}
 use Rattle.dap_message.specs.Types.Failure.{Failure}
 use Rattle.dap_message.specs.Types.Failure.TheVariants.{Debuggee}
 use Rattle.dap_debuggee.specs.declared.answers.DebuggeeFault.{DebuggeeFault}
@@ -61,8 +63,8 @@ pub record Tells (told : Telling) (body : Option Data) (references : LiveReferen
   pub names : List Target
   pub is : told ≡ Ok (record { body = body; names = names; references = references })
 
-abbrev pub IsTold : Result (Option Data) Untold → Telling → LiveReferences → Type 0
-IsTold (Ok body) told references = Tells told body references
+abbrev pub IsTold : Result (Option Body) Untold → Telling → LiveReferences → Type 0
+IsTold (Ok body) told references = Tells told (data_in body) references
 IsTold (Err fault) told references = Says fault told
 
 -- ---- what is written

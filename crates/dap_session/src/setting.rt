@@ -2,7 +2,6 @@
 //!
 //! The answer is measured before the table and the debuggee change.
 ghost use Rattle.std.specs.Prelude.{◌≡◌, ◌+◌, ◌≤◌, map, length, Ok, Some, IfOk, IfErr, OnOk, OnErr, IsTrue, false};
-ghost use Rattle.dap_json.specs.Writable.{is_plain_tree};
 ghost use Rattle.dap_message.specs.Types.Call.{Call};
 ghost use Rattle.dap_tables.specs.Breakpoints.{max_id, replaced};
 ghost use Rattle.dap_tables.specs.Outstanding.{without};
@@ -18,8 +17,7 @@ use crate::session::Session;
 use crate::sheet::{Answer, Sheet};
 use crate::untold::Untold;
 use dap_debuggee::Debuggee;
-use dap_message::laws::bodies_are_plain;
-use dap_message::{Breakpoint, Call, Failure, SourceKey, Tree, body_set_breakpoints};
+use dap_message::{Body, Breakpoint, Call, Failure, SourceKey};
 use dap_tables::{BpFault, Entry};
 use std::alloc::{AllocError, Global};
 
@@ -70,13 +68,14 @@ impl<D: Debuggee + Drop> Session<D> {
         ensures sets { IfOk result (λ sheet. IsToSet (breakpoints_plan (D.shown self.now.debuggee) self.now.session request.now (Call.SetBreakpoints source.now lines.now)) self.now.session request.now source.now asked.now sheet) }
         ensures fails { IfErr result (λ untold. IsToFail untold (breakpoints_plan (D.shown self.now.debuggee) self.now.session request.now (Call.SetBreakpoints source.now lines.now)) self.now.session request.now) }
     {
-        bodies_are_plain();
         let verified = self.debuggee.verify(alloc, source, asked)?;
         if self.are_too_many(source, lines) {
             return Err(Untold::Fails(Failure::TooManyBreakpoints));
         }
         let answers = answers_to(alloc, self.breakpoints.next_id(), lines, verified)?;
-        let body = Some(Tree::new(body_set_breakpoints(alloc, answers)?));
+        let body = Some(Body::SetBreakpoints {
+            breakpoints: answers,
+        });
         match self.measured(alloc, request, body)? {
             Some(sheet) => Ok(sheet),
             None => Err(Untold::Fails(Failure::TooLarge)),

@@ -1,5 +1,6 @@
 //! What a call is about to write: messages with the own numbers, framed.
 ghost use Rattle.std.specs.Prelude.{nat_le, ◌≡◌, ◌+◌, ◌<◌, [], length, IfOk, OnOk, IsTrue};
+ghost use Rattle.dap_message.specs.Body.{data_in};
 ghost use Rattle.dap_message.specs.Canon.{canon};
 ghost use Rattle.dap_session.specs.Plan.{reply, tell, message_of, success as success_word};
 ghost use Rattle.dap_session.specs.Sheet.{answer_of, event_of, IsPlainAnswer, Holds, Writes};
@@ -10,8 +11,8 @@ use dap_debuggee::Category;
 use dap_frame::write_frame;
 use dap_message::laws::bodies_are_plain;
 use dap_message::{
-    Failure, Text, Tree, body_continued, body_exited, body_output, body_stopped, write_event,
-    write_failure, write_success,
+    Body, Failure, Text, Tree, body_continued, body_exited, body_output, body_stopped,
+    write_answer, write_event, write_failure, write_success,
 };
 use dap_tables::{Entry, Seq};
 use std::alloc::{AllocError, Global};
@@ -144,16 +145,15 @@ impl Sheet {
         &mut self,
         alloc: Global,
         request: &Entry,
-        body: Option<Tree>,
+        body: Option<Body>,
         most: usize,
     ) -> Result<bool, AllocError>
         requires left { self.old.numbers.used < self.old.numbers.last }
-        requires plain { IsTrue (is_plain_tree body) }
-        ensures fits { IfOk result (λ ok. ok ≡ nat_le (length (canon (succeeded (self.old.numbers.used + 1) request.now.seq request.now.command body))) most) }
-        ensures writes { IfOk result (λ ok. IsTrue ok → Writes self.old self.new (reply request.now (success_word body []))) }
+        ensures fits { IfOk result (λ ok. ok ≡ nat_le (length (canon (succeeded (self.old.numbers.used + 1) request.now.seq request.now.command (data_in body)))) most) }
+        ensures writes { IfOk result (λ ok. IsTrue ok → Writes self.old self.new (reply request.now (success_word (data_in body) []))) }
     {
         let (seq, numbers) = self.next();
-        let text = write_success(alloc, seq, request.seq, request.command.as_str(), &body)?;
+        let text = write_answer(alloc, seq, request.seq, request.command.as_str(), &body)?;
         if text.len() > most {
             return Ok(false);
         }

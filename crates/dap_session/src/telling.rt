@@ -1,7 +1,7 @@
 //! What the debuggee shows, told to the client: each of its numbers is given while the answer is made, and taken back where
 //! the answer fails.
-ghost use Rattle.std.specs.Prelude.{◌≡◌, ◌+◌, ◌≤◌, [], ◌∷◌, IfOk, IfErr, IfSome, IfNone, OnErr, IsTrue, true, false};
-ghost use Rattle.dap_json.specs.Writable.{is_plain_tree};
+ghost use Rattle.std.specs.Prelude.{◌≡◌, ◌+◌, ◌≤◌, [], ◌∷◌, IfOk, IfErr, IfSome, IfNone, OnErr, true, false};
+ghost use Rattle.dap_message.specs.Body.{data_in};
 ghost use Rattle.dap_message.specs.Types.Call.{Call};
 ghost use Rattle.dap_session.specs.Bodies.{telling, object_of, page};
 ghost use Rattle.dap_session.specs.Seat.{MadeBy};
@@ -18,11 +18,7 @@ use crate::session::Session;
 use crate::sheet::{Answer, Sheet};
 use crate::untold::Untold;
 use dap_debuggee::{Debuggee, Evaluation, Variable};
-use dap_message::laws::bodies_are_plain;
-use dap_message::{
-    Call, Evaluate, Failure, StackTrace, Tree, Variables, body_evaluate, body_loaded_sources,
-    body_scopes, body_source, body_stack_trace, body_threads, body_variables,
-};
+use dap_message::{Body, Call, Evaluate, Failure, StackTrace, Variables};
 use dap_tables::Entry;
 use std::alloc::{AllocError, Global};
 
@@ -38,22 +34,18 @@ impl<D: Debuggee + Drop> Session<D> {
     }
 
     #[tactic(auto, unfolding(crate::specs::Bodies::telling))]
-    fn tell_threads(&self, alloc: Global) -> Result<Option<Tree>, AllocError>
-        ensures told { IfOk result (λ body. Tells (telling (D.shown self.now.debuggee) self.now.session Call.Threads) body self.now.session.references) }
-        ensures plain { IfOk result (λ body. IsTrue (is_plain_tree body)) }
+    fn tell_threads(&self, alloc: Global) -> Result<Option<Body>, AllocError>
+        ensures told { IfOk result (λ body. Tells (telling (D.shown self.now.debuggee) self.now.session Call.Threads) (data_in body) self.now.session.references) }
     {
-        bodies_are_plain();
         let threads = threads_told(alloc, self.debuggee.threads(alloc)?)?;
-        Ok(Some(Tree::new(body_threads(alloc, threads)?)))
+        Ok(Some(Body::Threads { threads }))
     }
 
     #[tactic(auto, unfolding(crate::specs::Bodies::telling))]
-    fn tell_frames(&mut self, alloc: Global, asked: StackTrace) -> Result<Option<Tree>, Untold>
+    fn tell_frames(&mut self, alloc: Global, asked: StackTrace) -> Result<Option<Body>, Untold>
         ensures told { IsTold result (telling (D.shown self.old.debuggee) self.old.session (Call.StackTrace asked)) self.new.session.references }
-        ensures plain { IfOk result (λ body. IsTrue (is_plain_tree body)) }
         ensures only { OnlyGives self.old self.new }
     {
-        bodies_are_plain();
         let all = self.debuggee.frames(alloc, asked.thread_id)?;
         let total = all.len() as u64;
         let frames = window(alloc, asked.start_frame, asked.levels, all)?;
@@ -61,16 +53,17 @@ impl<D: Debuggee + Drop> Session<D> {
         let sources = self.debuggee.sources(alloc)?;
         let ids = self.number_each(alloc, &named)?;
         let frames = frames_told(alloc, self.options, &sources, ids, frames)?;
-        Ok(Some(Tree::new(body_stack_trace(alloc, frames, total)?)))
+        Ok(Some(Body::StackTrace {
+            stack_frames: frames,
+            total_frames: total,
+        }))
     }
 
     #[tactic(auto, unfolding(crate::specs::Bodies::telling))]
-    fn tell_scopes(&mut self, alloc: Global, frame_id: u32) -> Result<Option<Tree>, Untold>
+    fn tell_scopes(&mut self, alloc: Global, frame_id: u32) -> Result<Option<Body>, Untold>
         ensures told { IsTold result (telling (D.shown self.old.debuggee) self.old.session (Call.Scopes frame_id)) self.new.session.references }
-        ensures plain { IfOk result (λ body. IsTrue (is_plain_tree body)) }
         ensures only { OnlyGives self.old self.new }
     {
-        bodies_are_plain();
         let Some(frame) = self.object(frame_id) else {
             return Err(Untold::Fails(Failure::Debuggee));
         };
@@ -78,7 +71,7 @@ impl<D: Debuggee + Drop> Session<D> {
         let named = scopes_named(alloc, &scopes)?;
         let numbers = self.number_each(alloc, &named)?;
         let scopes = scopes_told(alloc, numbers, scopes)?;
-        Ok(Some(Tree::new(body_scopes(alloc, scopes)?)))
+        Ok(Some(Body::Scopes { scopes }))
     }
 
     /// The part of the variables that is asked for: all, where the client did not say that it pages them.
@@ -98,12 +91,10 @@ impl<D: Debuggee + Drop> Session<D> {
     }
 
     #[tactic(auto, unfolding(crate::specs::Bodies::telling))]
-    fn tell_variables(&mut self, alloc: Global, asked: Variables) -> Result<Option<Tree>, Untold>
+    fn tell_variables(&mut self, alloc: Global, asked: Variables) -> Result<Option<Body>, Untold>
         ensures told { IsTold result (telling (D.shown self.old.debuggee) self.old.session (Call.Variables asked)) self.new.session.references }
-        ensures plain { IfOk result (λ body. IsTrue (is_plain_tree body)) }
         ensures only { OnlyGives self.old self.new }
     {
-        bodies_are_plain();
         let Some(holder) = self.object(asked.variables_reference) else {
             return Err(Untold::Fails(Failure::Debuggee));
         };
@@ -112,16 +103,14 @@ impl<D: Debuggee + Drop> Session<D> {
         let named = variables_named(alloc, &variables)?;
         let numbers = self.number_each(alloc, &named)?;
         let variables = variables_told(alloc, numbers, variables)?;
-        Ok(Some(Tree::new(body_variables(alloc, variables)?)))
+        Ok(Some(Body::Variables { variables }))
     }
 
     #[tactic(auto, unfolding(crate::specs::Bodies::telling))]
-    fn tell_value(&mut self, alloc: Global, asked: &Evaluate) -> Result<Option<Tree>, Untold>
+    fn tell_value(&mut self, alloc: Global, asked: &Evaluate) -> Result<Option<Body>, Untold>
         ensures told { IsTold result (telling (D.shown self.old.debuggee) self.old.session (Call.Evaluate asked.now)) self.new.session.references }
-        ensures plain { IfOk result (λ body. IsTrue (is_plain_tree body)) }
         ensures only { OnlyGives self.old self.new }
     {
-        bodies_are_plain();
         let frame = match asked.frame_id {
             None => None,
             Some(number) => self.object(number),
@@ -131,34 +120,32 @@ impl<D: Debuggee + Drop> Session<D> {
             .evaluate(alloc, frame, asked.expression.as_str())?;
         let Evaluation { value, holder } = told;
         let number = self.number(holder_in(holder))?;
-        Ok(Some(Tree::new(body_evaluate(alloc, value, number)?)))
+        Ok(Some(Body::Evaluate {
+            result: value,
+            variables_reference: number,
+        }))
     }
 
     #[tactic(auto, unfolding(crate::specs::Bodies::telling))]
-    fn tell_source(&self, alloc: Global, number: u32) -> Result<Option<Tree>, Untold>
+    fn tell_source(&self, alloc: Global, number: u32) -> Result<Option<Body>, Untold>
         ensures told { IsTold result (telling (D.shown self.now.debuggee) self.now.session (Call.Source number)) self.now.session.references }
-        ensures plain { IfOk result (λ body. IsTrue (is_plain_tree body)) }
     {
-        bodies_are_plain();
-        let text = self.debuggee.content(alloc, number.saturating_sub(1))?;
-        Ok(Some(Tree::new(body_source(alloc, text)?)))
+        let content = self.debuggee.content(alloc, number.saturating_sub(1))?;
+        Ok(Some(Body::Source { content }))
     }
 
     #[tactic(auto, unfolding(crate::specs::Bodies::telling))]
-    fn tell_sources(&self, alloc: Global) -> Result<Option<Tree>, AllocError>
-        ensures told { IfOk result (λ body. Tells (telling (D.shown self.now.debuggee) self.now.session Call.LoadedSources) body self.now.session.references) }
-        ensures plain { IfOk result (λ body. IsTrue (is_plain_tree body)) }
+    fn tell_sources(&self, alloc: Global) -> Result<Option<Body>, AllocError>
+        ensures told { IfOk result (λ body. Tells (telling (D.shown self.now.debuggee) self.now.session Call.LoadedSources) (data_in body) self.now.session.references) }
     {
-        bodies_are_plain();
         let sources = sources_told(alloc, self.debuggee.sources(alloc)?)?;
-        Ok(Some(Tree::new(body_loaded_sources(alloc, sources)?)))
+        Ok(Some(Body::LoadedSources { sources }))
     }
 
     /// The body of what a call is told. Where it fails, some numbers may be given.
     #[tactic(auto, unfolding(crate::specs::Bodies::telling))]
-    fn telling(&mut self, alloc: Global, call: &Call) -> Result<Option<Tree>, Untold>
+    fn telling(&mut self, alloc: Global, call: &Call) -> Result<Option<Body>, Untold>
         ensures told { IsTold result (telling (D.shown self.old.debuggee) self.old.session call.now) self.new.session.references }
-        ensures plain { IfOk result (λ body. IsTrue (is_plain_tree body)) }
         ensures only { OnlyGives self.old self.new }
     {
         match call {
@@ -178,14 +165,13 @@ impl<D: Debuggee + Drop> Session<D> {
         &self,
         alloc: Global,
         request: &Entry,
-        body: Option<Tree>,
+        body: Option<Body>,
     ) -> Result<Option<Sheet>, AllocError>
         requires room { self.now.session.used + 1 ≤ self.now.session.limits.seq }
-        requires plain { IsTrue (is_plain_tree body) }
-        ensures fits { IfOk result (λ o. IfSome o (λ sheet. fits self.now.session request.now body ≡ true)) }
+        ensures fits { IfOk result (λ o. IfSome o (λ sheet. fits self.now.session request.now (data_in body) ≡ true)) }
         ensures last { IfOk result (λ o. IfSome o (λ sheet. sheet.numbers.last ≡ self.now.session.limits.seq)) }
-        ensures holds { IfOk result (λ o. IfSome o (λ sheet. Holds sheet self.now.session.used (reply request.now (success body []) ∷ []))) }
-        ensures too_large { IfOk result (λ o. IfNone o (fits self.now.session request.now body ≡ false)) }
+        ensures holds { IfOk result (λ o. IfSome o (λ sheet. Holds sheet self.now.session.used (reply request.now (success (data_in body) []) ∷ []))) }
+        ensures too_large { IfOk result (λ o. IfNone o (fits self.now.session request.now (data_in body) ≡ false)) }
     {
         let mut sheet = Sheet::open(alloc, self.numbers());
         if sheet.reply_within(alloc, request, body, self.limits.body())? {

@@ -1,19 +1,7 @@
-use Rattle.std.proofs.Common.{◌≡◌, ◌∙◌, ◌++◌, ap, None, true}
+use Rattle.std.proofs.Common.{◌∙◌, None, true}
 use Rattle.std.proofs.lemmas.Result.{IfOk-weaker}
-use Rattle.json.specs.Tree.{members_tokens}
-use Rattle.serde_json.specs.Written.{members_outline}
-use Rattle.dap_message.specs.Answering.{with_body, response_end}
-use Rattle.dap_message.specs.Canon.{response_members}
-use Rattle.dap_message.proofs.AnswerTexts.{print-members, canon-response}
+use Rattle.dap_message.proofs.AnswerTexts.{canon-response}
 use Rattle.dap_message.proofs.answering.write_success.Goals as goal
 
 pub returns : goal.returns
-unfolding response_members
-returns c =
-    let s1 = c.in_ok-key.ensures in
-    let s2 = c.in_ok-string.ensures in
-    let body = c.args.body.now in
-    let ms = response_members c.args.seq c.args.request_seq true c.args.command.now None None in
-    let before : c.string.new.self.before ≡ with_body body = s2.room.0 ∙ s1.room.0 ∙ c.new-out.ensures.before ∙ c.in_ok-open.ensures in
-    let tokens : c.string.new.self.tokens ++ response_end c.args.seq c.args.request_seq true ≡ members_tokens (members_outline ms) = rw (s2.ok, s1.ok, c.new-out.ensures.tokens) in
-    IfOk-weaker c.close_response.result _ _ (λ text e. e ∙ rw (before, tokens) (ap (λ s. with_body body ++ s) (print-members ms) ∙ canon-response c.args.seq c.args.request_seq true c.args.command.now None body)) c.close_response.ensures
+returns c = IfOk-weaker c.close_success.result _ _ (λ text e. e ∙ rw c.in_ok-text.ensures (canon-response c.args.seq c.args.request_seq true c.args.command.now None c.args.body.now)) c.close_success.ensures

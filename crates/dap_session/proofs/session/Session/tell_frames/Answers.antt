@@ -9,7 +9,4 @@ returns-in_err-ids-clause-told g c =
 
 pub returns-clause-told : goal.returns-clause-told
 returns-clause-told g c =
-    frames-told _ _ c.args.asked c.in_ok-all.all.items c.in_ok-frames.frames.items c.in_ok-named.named.items c.in_ok-ids.ids.items _ c.in_ok-frames-2.frames.items c.new.result (search rules) (search rules) (search rules) (search rules) (search rules) (search rules)
-
-pub returns-clause-plain : goal.returns-clause-plain
-returns-clause-plain g c = rw (c.new.ensures, c.in_ok-body_stack_trace.ensures) (c.bodies_are_plain.ensures.responses.stack_trace c.in_ok-frames-2.frames.items c.len-total.result)
+    frames-told _ _ c.args.asked c.in_ok-all.all.items c.in_ok-frames.frames.items c.in_ok-named.named.items c.in_ok-ids.ids.items _ c.in_ok-frames-2.frames.items c.len-total.result (search rules) (search rules) (search rules) (search rules) (search rules) (search rules)

@@ -9,4 +9,4 @@ returns-in_err-numbers-clause-told g c =
 
 pub returns-clause-told : goal.returns-clause-told
 returns-clause-told g c =
-    scopes-told _ _ c.args.frame_id c.in-Some.frame c.in_ok-scopes.scopes.items c.in_ok-named.named.items c.in_ok-numbers.numbers.items _ c.in_ok-scopes-2.scopes.items c.new.result (search rules) (search rules) (search rules) (search rules) (search rules) (search rules)
+    scopes-told _ _ c.args.frame_id c.in-Some.frame c.in_ok-scopes.scopes.items c.in_ok-named.named.items c.in_ok-numbers.numbers.items _ c.in_ok-scopes-2.scopes.items (search rules) (search rules) (search rules) (search rules) (search rules)

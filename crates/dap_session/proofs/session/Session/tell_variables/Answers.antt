@@ -9,4 +9,4 @@ returns-in_err-numbers-clause-told g c =
 
 pub returns-clause-told : goal.returns-clause-told
 returns-clause-told g c =
-    variables-told _ _ c.args.asked c.in-Some.holder c.in_ok-all.all.items c.in_ok-variables.variables.items c.in_ok-named.named.items c.in_ok-numbers.numbers.items _ c.in_ok-variables-2.variables.items c.new.result (search rules) (search rules) (search rules) (search rules) (search rules) (search rules) (search rules)
+    variables-told _ _ c.args.asked c.in-Some.holder c.in_ok-all.all.items c.in_ok-variables.variables.items c.in_ok-named.named.items c.in_ok-numbers.numbers.items _ c.in_ok-variables-2.variables.items (search rules) (search rules) (search rules) (search rules) (search rules) (search rules)

@@ -1,0 +1,26 @@
+-- What is added in several steps, and the tokens of a list.
+use Rattle.std.proofs.Common.{Result, ◌≡◌, ◌∙◌, ◌++◌, ℕ, List, [], ◌∷◌, Option, Some, None, map, refl, sym, ap, append_assoc}
+use Rattle.std.specs.List.{flat_map}
+use Rattle.json.specs.Token.{Token, end_array}
+use Rattle.json.specs.Tree.{items_tokens, members_tokens}
+use Rattle.json.specs.Written.{Written, Writes}
+use Rattle.serde_json.specs.Data.{Data, Members}
+use Rattle.serde_json.specs.View.{items_of}
+use Rattle.serde_json.specs.Written.{items_outline, members_outline}
+use Rattle.dap_body.specs.ResponseBody.{with_path}
+use Rattle.dap_body.specs.Text.{Adds, path_tokens, tokens_of}
+
+pub one : {E : Type 0} {r : Result (Unit {0}) E} {old new : Written} {t : Token} → Writes r old new t → new.tokens ≡ old.tokens ++ t ∷ [] → Adds old new (t ∷ [])
+one w tokens = record { before = w.room.0; tokens = tokens }
+
+-- these, and then those
+pub next : {a b c : Written} {xs ys : List Token} → Adds a b xs → Adds b c ys → Adds a c (xs ++ ys)
+next {a} {b} {c} {xs} {ys} p q = record { before = q.before ∙ p.before; tokens = q.tokens ∙ ap (λ ts. ts ++ ys) p.tokens ∙ append_assoc a.tokens xs ys }
+
+pub tokens-of-items : {A : Type 0} (written : A → Data) (xs : List A) → items_tokens (items_outline (items_of (map written xs))) ≡ flat_map (λ x. tokens_of (written x)) xs ++ end_array ∷ []
+tokens-of-items written [] = refl
+tokens-of-items written (x ∷ xs) = ap (λ ts. tokens_of (written x) ++ ts) (tokens-of-items written xs) ∙ sym (append_assoc (tokens_of (written x)) _ _)
+
+pub tokens-of-path : (path : Option (List ℕ)) (rest : Members) → path_tokens path ++ members_tokens (members_outline rest) ≡ members_tokens (members_outline (with_path path rest))
+tokens-of-path None rest = refl
+tokens-of-path (Some path) rest = refl

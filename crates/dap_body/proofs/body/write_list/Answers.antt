@@ -1,0 +1,10 @@
+use Rattle.std.proofs.lemmas.List.{take_all}
+use Rattle.std.proofs.lemmas.Result.{on_ok_weaker}
+use Rattle.dap_body.proofs.Tokens.{next, one, tokens-of-items}
+use Rattle.dap_body.proofs.body.write_list.Goals as goal
+
+pub returns : goal.returns
+returns g c =
+    let all = take_all c.loop-element.element-index c.args.elements.now c.loop-element-test.false in
+    let written = rw all at c.loop-element.invariant in
+    on_ok_weaker c.end_array.result (λ e. rw (tokens-of-items g.T.Part.written c.args.elements.now) (next written (one c.end_array.ensures e))) c.end_array.ensures.ok

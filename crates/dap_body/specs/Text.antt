@@ -1,0 +1,20 @@
+-- What a writer is given for a body.
+use Rattle.std.specs.Prelude.{◌≡◌, ℕ, List, [], ◌∷◌, ◌++◌, codes, Option, Some, None}
+use Rattle.json.specs.Token.{Token, key, string}
+use Rattle.json.specs.Tree.{json_tokens}
+use Rattle.json.specs.Written.{Written}
+use Rattle.serde_json.specs.Data.{Data}
+use Rattle.serde_json.specs.Written.{outline}
+
+abbrev pub tokens_of : Data → List Token
+tokens_of d = json_tokens (outline d)
+
+-- the member of a path, where there is one
+abbrev pub path_tokens : Option (List ℕ) → List Token
+path_tokens None = []
+path_tokens (Some path) = key (codes "path") ∷ string path ∷ []
+
+-- these tokens more
+pub record Adds (old new : Written) (ts : List Token) : Type 0 where
+  pub before : new.before ≡ old.before
+  pub tokens : new.tokens ≡ old.tokens ++ ts

@@ -1,0 +1,252 @@
+//! The bodies of an adapter's responses as their parts, and their texts, written with no tree: Specification, the types
+//! whose names end in "Response", and "Types".
+ghost use Rattle.std.specs.Prelude.{◌≡◌, [], ◌∷◌, ◌++◌, decimal, IfOk, OnOk};
+ghost use Rattle.json.specs.Token.{key as key_token, number as number_token, string as string_token, boolean as boolean_token};
+ghost use Rattle.serde_json.specs.Written.{compact_text};
+ghost use Rattle.dap_body.specs.Body.{data_of};
+ghost use Rattle.dap_body.specs.ResponseBody.{list_of, only as only_member, stack_trace_body, evaluate_body, source_body};
+ghost use Rattle.dap_body.specs.Text.{Adds, path_tokens, tokens_of};
+
+use crate::response::{Breakpoint, Scope, Source, StackFrame, Thread, Variable};
+use dap_json::Text;
+use json::Writer;
+use std::alloc::AllocError;
+
+/// The body of a response that succeeded. Its text has the keys in byte order.
+#[derive(Debug, Drop)]
+pub enum Body {
+    /// An answer to each line that was asked for, in order.
+    SetBreakpoints { breakpoints: Vec<Breakpoint> },
+    Threads { threads: Vec<Thread> },
+    /// The frames asked for, and how many the thread has in all.
+    StackTrace {
+        stack_frames: Vec<StackFrame>,
+        total_frames: u64,
+    },
+    Scopes { scopes: Vec<Scope> },
+    Variables { variables: Vec<Variable> },
+    /// The result as text, and the number by which a client asks for its parts, 0 where it has none.
+    Evaluate {
+        result: Text,
+        variables_reference: u32,
+    },
+    /// The text of a source.
+    Source { content: Text },
+    LoadedSources { sources: Vec<Source> },
+}
+
+/// What is written as an object of a list.
+trait Part: Drop {
+    ghost use Rattle.serde_json.specs.Data.{Data};
+    ghost use Rattle.dap_body.specs.Text.{tokens_of, Adds};
+
+    ghost written: { Self → Data };
+
+    fn write(&self, out: &mut Writer) -> Result<(), AllocError>
+        ensures { OnOk result (Adds out.old out.new (tokens_of (written self.now))) };
+}
+
+impl Part for Breakpoint {
+    ghost use Rattle.dap_body.specs.ResponseBody.{breakpoint};
+
+    ghost written = { breakpoint };
+
+    fn write(&self, out: &mut Writer) -> Result<(), AllocError> {
+        out.begin_object()?;
+        number(out, "id", self.id)?;
+        short(out, "line", self.line)?;
+        flag(out, "verified", self.verified)?;
+        out.end_object()
+    }
+}
+
+impl Part for Thread {
+    ghost use Rattle.dap_body.specs.ResponseBody.{thread};
+
+    ghost written = { thread };
+
+    fn write(&self, out: &mut Writer) -> Result<(), AllocError> {
+        out.begin_object()?;
+        out.key("id")?;
+        out.i64(self.id)?;
+        text(out, "name", &self.name)?;
+        out.end_object()
+    }
+}
+
+impl Part for Source {
+    ghost use Rattle.dap_body.specs.ResponseBody.{source};
+
+    ghost written = { source };
+
+    fn write(&self, out: &mut Writer) -> Result<(), AllocError> {
+        out.begin_object()?;
+        text(out, "name", &self.name)?;
+        write_path(out, &self.path)?;
+        short(out, "sourceReference", self.source_reference)?;
+        out.end_object()
+    }
+}
+
+impl Part for StackFrame {
+    ghost use Rattle.dap_body.specs.ResponseBody.{stack_frame};
+
+    ghost written = { stack_frame };
+
+    fn write(&self, out: &mut Writer) -> Result<(), AllocError> {
+        out.begin_object()?;
+        short(out, "column", self.column)?;
+        short(out, "id", self.id)?;
+        short(out, "line", self.line)?;
+        text(out, "name", &self.name)?;
+        out.key("source")?;
+        self.source.write(out)?;
+        out.end_object()
+    }
+}
+
+impl Part for Scope {
+    ghost use Rattle.dap_body.specs.ResponseBody.{scope};
+
+    ghost written = { scope };
+
+    fn write(&self, out: &mut Writer) -> Result<(), AllocError> {
+        out.begin_object()?;
+        flag(out, "expensive", false)?;
+        text(out, "name", &self.name)?;
+        short(out, "variablesReference", self.variables_reference)?;
+        out.end_object()
+    }
+}
+
+impl Part for Variable {
+    ghost use Rattle.dap_body.specs.ResponseBody.{variable};
+
+    ghost written = { variable };
+
+    fn write(&self, out: &mut Writer) -> Result<(), AllocError> {
+        out.begin_object()?;
+        text(out, "name", &self.name)?;
+        text(out, "value", &self.value)?;
+        short(out, "variablesReference", self.variables_reference)?;
+        out.end_object()
+    }
+}
+
+// ---- members
+
+fn number(out: &mut Writer, key: &str, n: u64) -> Result<(), AllocError>
+    ensures { OnOk result (Adds out.old out.new (key_token key.now ∷ number_token (decimal n) ∷ [])) }
+{
+    out.key(key)?;
+    out.u64(n)
+}
+
+fn short(out: &mut Writer, key: &str, n: u32) -> Result<(), AllocError>
+    ensures { OnOk result (Adds out.old out.new (key_token key.now ∷ number_token (decimal n) ∷ [])) }
+{
+    number(out, key, n.into())
+}
+
+fn text(out: &mut Writer, key: &str, text: &Text) -> Result<(), AllocError>
+    ensures { OnOk result (Adds out.old out.new (key_token key.now ∷ string_token text.now ∷ [])) }
+{
+    out.key(key)?;
+    out.string(text.as_str())
+}
+
+fn flag(out: &mut Writer, key: &str, flag: bool) -> Result<(), AllocError>
+    ensures { OnOk result (Adds out.old out.new (key_token key.now ∷ boolean_token flag ∷ [])) }
+{
+    out.key(key)?;
+    out.boolean(flag)
+}
+
+/// The member of a path, where there is one.
+fn write_path(out: &mut Writer, path: &Option<Text>) -> Result<(), AllocError>
+    ensures { OnOk result (Adds out.old out.new (path_tokens path.now)) }
+{
+    match path {
+        None => Ok(()),
+        Some(path) => text(out, "path", path),
+    }
+}
+
+fn write_list<T: Part>(out: &mut Writer, elements: &[T]) -> Result<(), AllocError>
+    ensures { OnOk result (Adds out.old out.new (tokens_of (list_of T.written elements.now))) }
+{
+    out.begin_array()?;
+    for element in elements {
+        element.write(out)?;
+    }
+    out.end_array()
+}
+
+/// An object of one list.
+fn write_only<T: Part>(out: &mut Writer, key: &str, elements: &[T]) -> Result<(), AllocError>
+    ensures { OnOk result (Adds out.old out.new (tokens_of (only_member key.now (list_of T.written elements.now)))) }
+{
+    out.begin_object()?;
+    out.key(key)?;
+    write_list(out, elements)?;
+    out.end_object()
+}
+
+fn write_frames(out: &mut Writer, frames: &[StackFrame], total: u64) -> Result<(), AllocError>
+    ensures { OnOk result (Adds out.old out.new (tokens_of (stack_trace_body frames.now total))) }
+{
+    out.begin_object()?;
+    out.key("stackFrames")?;
+    write_list(out, frames)?;
+    number(out, "totalFrames", total)?;
+    out.end_object()
+}
+
+fn write_value(out: &mut Writer, value: &Text, reference: u32) -> Result<(), AllocError>
+    ensures { OnOk result (Adds out.old out.new (tokens_of (evaluate_body value.now reference))) }
+{
+    out.begin_object()?;
+    text(out, "result", value)?;
+    short(out, "variablesReference", reference)?;
+    out.end_object()
+}
+
+fn write_content(out: &mut Writer, content: &Text) -> Result<(), AllocError>
+    ensures { OnOk result (Adds out.old out.new (tokens_of (source_body content.now))) }
+{
+    out.begin_object()?;
+    text(out, "content", content)?;
+    out.end_object()
+}
+
+fn write(out: &mut Writer, body: &Body) -> Result<(), AllocError>
+    ensures { OnOk result (Adds out.old out.new (tokens_of (data_of body.now))) }
+{
+    match body {
+        Body::SetBreakpoints { breakpoints } => {
+            write_only(out, "breakpoints", breakpoints.as_slice())
+        }
+        Body::Threads { threads } => write_only(out, "threads", threads.as_slice()),
+        Body::StackTrace {
+            stack_frames,
+            total_frames,
+        } => write_frames(out, stack_frames.as_slice(), *total_frames),
+        Body::Scopes { scopes } => write_only(out, "scopes", scopes.as_slice()),
+        Body::Variables { variables } => write_only(out, "variables", variables.as_slice()),
+        Body::Evaluate {
+            result,
+            variables_reference,
+        } => write_value(out, result, *variables_reference),
+        Body::Source { content } => write_content(out, content),
+        Body::LoadedSources { sources } => write_only(out, "sources", sources.as_slice()),
+    }
+}
+
+/// Appends the text of a body.
+pub fn body_text(out: Vec<u8>, body: &Body) -> Result<Vec<u8>, AllocError>
+    ensures { IfOk result (λ text. text.items ≡ out.items ++ compact_text (data_of body.now)) }
+{
+    let mut out = Writer::new(out);
+    write(&mut out, body)?;
+    Ok(out.into_inner())
+}
