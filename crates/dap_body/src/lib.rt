@@ -18,6 +18,3 @@ pub use response::{
     body_loaded_sources, body_scopes, body_set_breakpoints, body_source, body_stack_trace,
     body_threads, body_variables,
 };
-
-#[cfg(test)]
-mod tests;

@@ -28,12 +28,3 @@ pub use given::{FramesGiven, HoldersGiven, frames_given, holders_given};
 pub use key::Key;
 pub use plain::MAX_ARGUMENTS;
 pub use writing::write_call;
-
-#[cfg(test)]
-mod call_tests;
-#[cfg(test)]
-mod real_tests;
-#[cfg(test)]
-mod tests;
-#[cfg(test)]
-mod writing_tests;

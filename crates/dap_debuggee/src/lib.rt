@@ -33,8 +33,3 @@ pub use laws::{held_gives_nothing, pieces_are_the_output, polls_tell_the_pieces}
 pub use reading::{RecordingFault, RecordingKey};
 pub use recorded::Recorded;
 pub use stubborn::Stubborn;
-
-#[cfg(test)]
-mod reading_tests;
-#[cfg(test)]
-mod tests;

@@ -32,6 +32,3 @@ pub use heading::{Heading, HeadingKind, read_heading};
 pub use message::{Kind, MAX_COMMAND, Message};
 pub use reading::read_message;
 pub use writing::write_message;
-
-#[cfg(test)]
-mod tests;

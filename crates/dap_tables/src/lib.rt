@@ -8,8 +8,6 @@
 #![tactic(auto)]
 
 mod bp_fault;
-#[cfg(test)]
-mod breakpoint_tests;
 mod breakpoints;
 mod entry;
 mod in_order;
@@ -20,15 +18,11 @@ mod outstanding;
 mod put_fault;
 mod ref_fault;
 mod reference_kind;
-#[cfg(test)]
-mod reference_tests;
 mod references;
 mod seq;
 mod slot;
 mod source_sets;
 mod target;
-#[cfg(test)]
-mod tests;
 
 pub use bp_fault::BpFault;
 pub use breakpoints::Breakpoints;

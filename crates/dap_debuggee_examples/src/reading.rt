@@ -1,7 +1,9 @@
 //! Recordings that are read, and why others are not.
-use crate::tests::THREE_MOMENTS;
-use crate::{Recorded, RecordingFault, RecordingKey};
-use std::alloc::Global;
+
+use crate::playing::{THREE_MOMENTS, played, three_moments, told};
+use dap_call::SourceKey;
+use dap_debuggee::{Debuggee, Happening, How, Recorded, RecordingFault, RecordingKey};
+use std::alloc::{AllocError, Global};
 use std::test::Fail;
 
 /// Every key of the format, with no two names alike.
@@ -13,42 +15,59 @@ fn refusal(alloc: Global, bytes: &[u8]) -> Option<RecordingFault> {
     Recorded::read(alloc, bytes).err()
 }
 
+/// It has one source of three lines and three moments; a run that goes on is held at the third, not at the second.
 #[test]
 fn reads_a_recording(rt: HostRuntime) -> Result<(), Fail> {
-    let Ok(recorded) = Recorded::read(rt.alloc(), THREE_MOMENTS.as_bytes()) else {
-        return Err("not read")?;
-    };
-    let recording = &recorded.recording;
-    assert_eq!(rt; recording.exit, 0);
-    let sources = recording.sources.as_slice();
+    let alloc = rt.alloc();
+    let mut recorded = three_moments(alloc)?;
+    let sources = recorded.sources(alloc)?;
     assert_eq!(rt; sources.len(), 1);
-    assert_eq!(rt; sources[0].lines, 3);
-    let moments = recording.moments.as_slice();
-    assert_eq!(rt; moments.len(), 3);
-    assert!(rt; !moments[1].waits && moments[2].waits);
+    let lines = told(recorded.verify(alloc, &SourceKey::Reference(1), &[1, 2, 3, 4]))?;
+    assert_eq!(rt; lines.as_slice(), [true, true, true, false].as_slice());
+    let stepped = played(
+        alloc,
+        &mut recorded,
+        "start poll poll stepIn poll stepIn poll stepIn poll",
+    )?;
+    assert_eq!(rt;
+        stepped.as_str(),
+        "done; stdout 3 go\n; entry 1 line 1; done; step 1 line 3; done; step 1 line 2; done; exited 0; "
+    );
+    let mut recorded = three_moments(alloc)?;
+    let held = played(
+        alloc,
+        &mut recorded,
+        "start poll poll continue poll pause poll",
+    )?;
+    assert_eq!(rt;
+        held.as_str(),
+        "done; stdout 3 go\n; entry 1 line 1; done; nothing; done; pause 1 line 2; "
+    );
     Ok(())
 }
 
-/// Frames and holders count over the whole recording.
+/// Frames and holders count over the whole recording: four frames, and two holders at the first stop.
 #[test]
 fn numbers_frames(rt: HostRuntime) -> Result<(), Fail> {
-    let Ok(recorded) = Recorded::read(rt.alloc(), THREE_MOMENTS.as_bytes()) else {
-        return Err("not read")?;
-    };
-    let recording = &recorded.recording;
-    assert_eq!(rt; recording.scopes.as_slice().len(), 4);
-    assert_eq!(rt; recording.variables.as_slice().len(), 2);
-    let Some(thread) = recording
-        .moments
-        .as_slice()
-        .get(1)
-        .and_then(|m| m.threads.as_slice().first())
-    else {
-        return Err("no thread")?;
-    };
-    let frames = thread.frames.as_slice();
-    assert_eq!(rt; frames.len(), 2);
-    assert_eq!(rt; (frames[0].object, frames[1].object), (1, 2));
+    let alloc = rt.alloc();
+    let mut recorded = three_moments(alloc)?;
+    let stops: [(&str, &[u64], bool); 3] = [
+        ("start poll poll", &[0], true),
+        ("stepIn poll", &[1, 2], false),
+        ("stepIn poll", &[3], false),
+    ];
+    for (words, numbers, has_holders) in &stops {
+        let _answers = played(alloc, &mut recorded, words)?;
+        let frames = told(recorded.frames(alloc, 1))?;
+        let objects: Vec<u64> = frames.iter().map(|frame| frame.object).collect(alloc)?;
+        assert_eq!(rt; objects.as_slice(), *numbers, "after {words}");
+        assert!(rt; recorded.scopes(alloc, 4).is_err());
+        for holder in [0, 1] {
+            let is_held = recorded.children(alloc, holder).is_ok();
+            assert_eq!(rt; is_held, *has_holders, "{holder} after {words}");
+        }
+        assert!(rt; recorded.children(alloc, 2).is_err());
+    }
     Ok(())
 }
 
@@ -575,11 +594,28 @@ fn counts_the_sources(rt: HostRuntime) -> Result<(), Fail> {
     Ok(())
 }
 
-/// For `rt try --test --fail-alloc N`: the recording, or want of memory.
+/// How often a recording stops that is stepped from its start to its exit.
+fn stops(alloc: Global, recorded: &mut Recorded) -> Result<u64, AllocError> {
+    let mut count = 0u64;
+    let _started = recorded.start(alloc);
+    for _ in 0..10 {
+        if let Happening::Stopped { .. } = recorded.poll(alloc)? {
+            count = count.saturating_add(1);
+            let _resumed = recorded.resume(alloc, How::StepIn, 1);
+        }
+    }
+    Ok(count)
+}
+
+/// For `rt try --test --fail-alloc N`: the recording with its three moments, or want of memory.
 #[test]
 fn reads_or_runs_out_of_memory(rt: HostRuntime) {
     match Recorded::read(rt.alloc(), THREE_MOMENTS.as_bytes()) {
         Err(fault) => assert_eq!(rt; fault, RecordingFault::OutOfMemory),
-        Ok(recorded) => assert_eq!(rt; recorded.recording.moments.as_slice().len(), 3),
+        Ok(mut recorded) => {
+            if let Ok(count) = stops(rt.alloc(), &mut recorded) {
+                assert_eq!(rt; count, 3);
+            }
+        }
     }
 }

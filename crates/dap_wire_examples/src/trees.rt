@@ -1,7 +1,8 @@
-//! Each public call once, with ample memory.
-use crate::members::{Members, put_optional_text, put_text, put_tree};
-use crate::plain::is_plain;
-use crate::{ParseFault, Text, Tree, field, parse, write};
+//! Texts, trees and members of objects: each public call once, with ample memory.
+
+use dap_json::members::{Members, put_optional_text, put_text, put_tree};
+use dap_json::plain::is_plain;
+use dap_json::{ParseFault, Text, Tree, field, parse, write};
 use serde_json::{Map, Value};
 use std::test::Fail;
 

@@ -1,7 +1,8 @@
-//! Tests of the table of breakpoints.
-use crate::{BpFault, Breakpoints};
+//! The table of breakpoints.
+
 use dap_call::SourceKey;
 use dap_json::Text;
+use dap_tables::{BpFault, Breakpoints};
 use std::alloc::{AllocError, Global};
 use std::test::Fail;
 

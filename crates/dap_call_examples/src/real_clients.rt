@@ -1,6 +1,6 @@
 //! The arguments that real clients sent to real debuggers, each once: all are read as calls.
 
-use crate::{Command, read_call};
+use dap_call::{Command, read_call};
 use serde_json::Value;
 use std::test::Fail;
 

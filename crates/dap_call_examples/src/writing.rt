@@ -1,6 +1,6 @@
 //! For every command what its arguments are written as again, and which calls are not plain.
 
-use crate::{
+use dap_call::{
     BreakpointLocations, Call, CallFault, Command, Completions, Evaluate, Modules, SetVariable,
     SourceKey, StackTrace, Variables, read_call, write_call,
 };

@@ -1,4 +1,6 @@
-use crate::{Capabilities, Command, Gate, frames_given, holders_given};
+//! Commands with their gates, capabilities, and the references that a body gives.
+
+use dap_call::{Capabilities, Command, Gate, frames_given, holders_given};
 use serde_json::Value;
 use std::test::Fail;
 

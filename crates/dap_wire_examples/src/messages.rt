@@ -1,5 +1,6 @@
-//! What no clause says: rows from outside, and that each call answers where memory is ample.
-use crate::{BodyFault, BodyRefusal, Kind, read_message, write_message};
+//! Messages that are read and written: rows from outside, and that each call answers where memory is ample.
+
+use dap_message::{BodyFault, BodyRefusal, Kind, read_message, write_message};
 use std::alloc::{AllocError, Global};
 use std::test::Fail;
 

@@ -1,6 +1,11 @@
 //! Each builder with ample memory, and the text of what it builds; every failure, row by row.
 
-use crate::*;
+use dap_body::{
+    Breakpoint, Failure, Scope, Source, StackFrame, Thread, Variable, body_continue,
+    body_continued, body_evaluate, body_exited, body_failure, body_loaded_sources, body_output,
+    body_scopes, body_set_breakpoints, body_source, body_stack_trace, body_stopped, body_threads,
+    body_variables,
+};
 use dap_call::Key;
 use dap_json::Text;
 use serde_json::Value;

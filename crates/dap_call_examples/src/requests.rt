@@ -1,8 +1,10 @@
+//! The table of requests, and the numbers that an end gives.
+
 ghost use Rattle.std.specs.Prelude.{◌≡◌, ◌↔◌, map, IfOk, IsSome, Some};
 ghost use Rattle.dap_tables.specs.Outstanding.{entries, is_parked, oldest_unparked};
 
-use crate::{Entry, Outstanding, PutFault, Seq};
 use dap_json::{Text, Tree};
+use dap_tables::{Entry, Outstanding, PutFault, Seq};
 use serde_json::Value;
 use std::alloc::{AllocError, Global};
 use std::test::Fail;

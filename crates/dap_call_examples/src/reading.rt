@@ -1,6 +1,6 @@
 //! For every command good and bad arguments, with what they are read as.
 
-use crate::{Call, CallFault, Command, SourceKey, read_call};
+use dap_call::{Call, CallFault, Command, SourceKey, read_call};
 use serde_json::Value;
 use std::alloc::Global;
 use std::test::Fail;

@@ -1,6 +1,6 @@
-//! Tests of the table of references.
+//! The table of references.
 
-use crate::{RefFault, ReferenceKind, References, Target};
+use dap_tables::{RefFault, ReferenceKind, References, Target};
 use std::alloc::{AllocError, Global};
 use std::test::Fail;
 

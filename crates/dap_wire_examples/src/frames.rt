@@ -1,6 +1,6 @@
-//! What streams give, with values worked out by hand.
+//! What streams give, and which limits there are, with values worked out by hand.
 
-use super::*;
+use dap_frame::{Cause, End, Fed, FrameFault, Frames, LimitFault, Limits, Refusal, write_frame};
 use std::alloc::Global;
 use std::test::Fail;
 

@@ -1,0 +1,17 @@
+//! Worked examples of commands with their arguments, and of the tables of an end, as tests alone.
+#![tactic(auto)]
+
+#[cfg(test)]
+mod breakpoints;
+#[cfg(test)]
+mod commands;
+#[cfg(test)]
+mod reading;
+#[cfg(test)]
+mod real_clients;
+#[cfg(test)]
+mod references;
+#[cfg(test)]
+mod requests;
+#[cfg(test)]
+mod writing;

@@ -1,0 +1,9 @@
+//! Worked examples of recordings that are read and played, as tests alone.
+#![tactic(auto)]
+
+#[cfg(test)]
+mod playing;
+#[cfg(test)]
+mod reading;
+#[cfg(test)]
+mod runs;

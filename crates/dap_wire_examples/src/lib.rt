@@ -1,0 +1,11 @@
+//! Worked examples of frames, of JSON, of bodies and of messages, as tests alone.
+#![tactic(auto)]
+
+#[cfg(test)]
+mod bodies;
+#[cfg(test)]
+mod frames;
+#[cfg(test)]
+mod messages;
+#[cfg(test)]
+mod trees;
