@@ -16,23 +16,35 @@ use std::alloc::AllocError;
 #[derive(Debug, Drop)]
 pub enum Body {
     /// An answer to each line that was asked for, in order.
-    SetBreakpoints { breakpoints: Vec<Breakpoint> },
-    Threads { threads: Vec<Thread> },
+    SetBreakpoints {
+        breakpoints: Vec<Breakpoint>,
+    },
+    Threads {
+        threads: Vec<Thread>,
+    },
     /// The frames asked for, and how many the thread has in all.
     StackTrace {
         stack_frames: Vec<StackFrame>,
         total_frames: u64,
     },
-    Scopes { scopes: Vec<Scope> },
-    Variables { variables: Vec<Variable> },
+    Scopes {
+        scopes: Vec<Scope>,
+    },
+    Variables {
+        variables: Vec<Variable>,
+    },
     /// The result as text, and the number by which a client asks for its parts, 0 where it has none.
     Evaluate {
         result: Text,
         variables_reference: u32,
     },
     /// The text of a source.
-    Source { content: Text },
-    LoadedSources { sources: Vec<Source> },
+    Source {
+        content: Text,
+    },
+    LoadedSources {
+        sources: Vec<Source>,
+    },
 }
 
 /// What is written as an object of a list.
