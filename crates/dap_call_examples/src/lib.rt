@@ -6,6 +6,8 @@ mod breakpoints;
 #[cfg(test)]
 mod commands;
 #[cfg(test)]
+mod known;
+#[cfg(test)]
 mod reading;
 #[cfg(test)]
 mod real_clients;

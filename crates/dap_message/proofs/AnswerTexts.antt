@@ -1,13 +1,13 @@
--- The text of a response or of an event is that of its parts.
+-- The text of a request, a response or an event is that of its parts.
 use Rattle.std.proofs.Common.{◌≡◌, ◌++◌, ℕ, List, [], ◌∷◌, Bool, false, Option, Some, None, refl, ap, append_assoc}
 use Rattle.json.specs.Print.{print, print_from, escape_byte}
 use Rattle.json.specs.Tree.{members_tokens}
 use Rattle.serde_json.specs.Data.{Data, object, Members}
 use Rattle.serde_json.specs.Written.{members_outline, members_text, compact_text}
 use Rattle.serde_json.proofs.Texts.{print-outline}
-use Rattle.dap_message.specs.Answering.{with_body}
-use Rattle.dap_message.specs.Canon.{canon, tree_of, response_members, event_members}
-use Rattle.dap_message.specs.declared.message.Kind.TheVariants.{Response, Event}
+use Rattle.dap_message.specs.Answering.{with_body, with_arguments}
+use Rattle.dap_message.specs.Canon.{canon, tree_of, request_members, response_members, event_members}
+use Rattle.dap_message.specs.declared.message.Kind.TheVariants.{Request, Response, Event}
 
 tail : List ℕ → List ℕ
 tail [] = []
@@ -30,3 +30,8 @@ pub canon-event : (seq : ℕ) (event : List ℕ) (body : Option Data) → with_b
 unfolding canon tree_of event_members escape_byte
 canon-event seq event None = refl
 canon-event seq event (Some d) = ap (λ s. 123 ∷ 34 ∷ 98 ∷ 111 ∷ 100 ∷ 121 ∷ 34 ∷ 58 ∷ s) (append_assoc (compact_text d) _ _)
+
+pub canon-request : (seq : ℕ) (command : List ℕ) (arguments : Option Data) → with_arguments arguments ++ members_text false (request_members seq command None) ≡ canon (record { seq = seq; kind = Request command arguments })
+unfolding canon tree_of request_members escape_byte
+canon-request seq command None = refl
+canon-request seq command (Some d) = ap (λ s. 123 ∷ 34 ∷ 97 ∷ 114 ∷ 103 ∷ 117 ∷ 109 ∷ 101 ∷ 110 ∷ 116 ∷ 115 ∷ 34 ∷ 58 ∷ s) (append_assoc (compact_text d) _ _)

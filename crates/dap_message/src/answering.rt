@@ -1,15 +1,16 @@
-//! The texts of what an adapter says: responses and events, written with no tree of the message.
+//! The texts of requests, responses and events, written with no tree of the message.
 //!
-//! Specification, "Response", "ErrorResponse", "Event". Each is the text that `write_message` gives of that message.
+//! Specification, "Request", "Response", "ErrorResponse", "Event". Each is the text that `write_message` gives of that message.
 ghost use Rattle.std.specs.Prelude.{◌≡◌, ◌++◌, IfOk, IsTrue, None, Some, false, true};
 ghost use Rattle.json.specs.Print.{print};
 ghost use Rattle.serde_json.specs.Written.{members_text};
 ghost use Rattle.dap_json.specs.Writable.{is_plain_tree};
 ghost use Rattle.dap_body.specs.Body.{data_in};
 ghost use Rattle.dap_body.specs.Failure.{failure_body};
-ghost use Rattle.dap_message.specs.Answering.{with_body, response_end};
-ghost use Rattle.dap_message.specs.Canon.{canon, event_members, response_members};
+ghost use Rattle.dap_message.specs.Answering.{with_body, with_arguments, response_end};
+ghost use Rattle.dap_message.specs.Canon.{canon, request_members, event_members, response_members};
 ghost use Rattle.dap_message.specs.Lengths.{failed, succeeded, happened};
+ghost use Rattle.dap_message.specs.declared.message.Kind.TheVariants.{Request};
 
 use dap_body::{Body, Failure, body_text, failure_text};
 use dap_json::Tree;
@@ -64,6 +65,38 @@ fn open_failure(alloc: Global, failure: Failure) -> Result<Vec<u8>, AllocError>
     let mut out = failure_text(alloc, out, failure)?;
     out.push(b',')?;
     Ok(out)
+}
+
+/// A text up to the end of its arguments, with the comma after them.
+fn open_request(alloc: Global, arguments: &Option<Tree>) -> Result<Vec<u8>, AllocError>
+    requires { IsTrue (is_plain_tree arguments.now) }
+    ensures { IfOk result (λ text. text.items ≡ with_arguments arguments.now) }
+{
+    let mut out = Vec::with_capacity(alloc, ROOM)?;
+    match arguments {
+        None => out.push(b'{')?,
+        Some(arguments) => {
+            out.extend_from_slice(b"{\"arguments\":")?;
+            out.extend_from_slice(&dap_json::write(alloc, arguments.value())?)?;
+            out.push(b',')?;
+        }
+    }
+    Ok(out)
+}
+
+/// Appends what a request has after its arguments.
+fn close_request(out: Vec<u8>, seq: u64, command: &str) -> Result<Vec<u8>, AllocError>
+    ensures { IfOk result (λ text. text.items ≡ out.items ++ members_text false (request_members seq command.now None)) }
+{
+    let mut out = Writer::new(out);
+    out.key("command")?;
+    out.string(command)?;
+    out.key("seq")?;
+    out.u64(seq)?;
+    out.key("type")?;
+    out.string("request")?;
+    out.end_object()?;
+    Ok(out.into_inner())
 }
 
 /// Appends what a response ends with, and gives the text.
@@ -177,4 +210,18 @@ pub fn write_event(
 {
     let out = open(alloc, body)?;
     close_event(out, seq, event)
+}
+
+/// The text of a request. Its number may be past the greatest, so that a request can be measured that has none.
+pub fn write_request(
+    alloc: Global,
+    seq: u64,
+    command: &str,
+    arguments: &Option<Tree>,
+) -> Result<Vec<u8>, AllocError>
+    requires { IsTrue (is_plain_tree arguments.now) }
+    ensures { IfOk result (λ text. text.items ≡ canon (record { seq = seq; kind = Request command.now arguments.now })) }
+{
+    let out = open_request(alloc, arguments)?;
+    close_request(out, seq, command)
 }

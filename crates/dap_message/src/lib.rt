@@ -13,7 +13,7 @@ mod message;
 mod reading;
 mod writing;
 
-pub use answering::{write_answer, write_event, write_failure, write_success};
+pub use answering::{write_answer, write_event, write_failure, write_request, write_success};
 pub use dap_body::{
     Body, Breakpoint, Failure, Scope, Source, StackFrame, Thread, Variable, body_continue,
     body_continued, body_evaluate, body_exited, body_failure, body_loaded_sources, body_output,

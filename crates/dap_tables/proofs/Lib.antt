@@ -5,6 +5,7 @@ pub mod SeqLemmas
 pub mod Places
 pub mod ReferenceLemmas
 pub mod IndexLemmas
+pub mod KnownLemmas
 pub mod SourceLemmas
 pub mod StoreLemmas
 pub mod SetLemmas
@@ -12,3 +13,4 @@ pub mod LawLemmas
 mod Examples
 mod ReferenceExamples
 mod BreakpointExamples
+mod KnownExamples

@@ -6,4 +6,7 @@ pub mod References
 pub mod ReferenceStore
 pub mod Breakpoints
 pub mod BreakpointStore
+pub mod Known
+pub mod KnownStore
+pub mod KnownLaws
 pub mod TableLaws

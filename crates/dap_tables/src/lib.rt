@@ -1,16 +1,17 @@
 //! Tables of an end of a Debug Adapter Protocol session: the requests that it has still to answer,
-//! the sequence numbers that it gives its own messages, the references that a client may ask for, and
-//! the breakpoints that are set.
+//! the sequence numbers that it gives its own messages, the references that a client may ask for, those
+//! that an adapter gave, and the breakpoints that are set.
 //!
 //! Each table is seen by contracts as plain data: the requests as a list by arrival, the sequence
-//! numbers as how many were given of how many there are, the references as a base and a list, the
-//! breakpoints as a map from sources to lists.
+//! numbers as how many were given of how many there are, the references as a base and a list, those that
+//! are known as a set, the breakpoints as a map from sources to lists.
 #![tactic(auto)]
 
 mod bp_fault;
 mod breakpoints;
 mod entry;
 mod in_order;
+mod known;
 pub mod laws;
 mod live_targets;
 mod mark;
@@ -28,6 +29,7 @@ pub use bp_fault::BpFault;
 pub use breakpoints::Breakpoints;
 pub use entry::Entry;
 pub use in_order::InOrder;
+pub use known::{Known, KnownFault};
 pub use mark::Mark;
 pub use outstanding::Outstanding;
 pub use put_fault::PutFault;
