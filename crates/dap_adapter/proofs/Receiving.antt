@@ -6,7 +6,6 @@ use Rattle.dap_frame.specs.Intake.{Intake, IsUnderWay, StandsFor as StandsForStr
 use Rattle.dap_frame.specs.Settings.{bounds_of}
 use Rattle.dap_history.specs.History.{In, ins_of}
 use Rattle.dap_history.specs.HistoryLaws.{HistoriesGrow}
-use Rattle.dap_history.specs.Received.{AreRead}
 use Rattle.dap_message.specs.Meaning.{Msg}
 use Rattle.dap_message.specs.declared.message.Message.{Message}
 use Rattle.dap_session.specs.Carried.{Goes}
@@ -39,12 +38,6 @@ waits-goes_on old new piece n g same fault s h st =
       bounds = rw same (g.bounds ∙ st.bounds);
     }
 
-read-more : (xs : List (List ℕ)) (ms : List Message) (x : List ℕ) (m : Message) → AreRead xs ms → Msg x m → AreRead (xs ++ x ∷ []) (ms ++ m ∷ [])
-read-more [] [] x m r e = (e, tt)
-read-more [] (y ∷ ms) x m r e = absurd r
-read-more (y ∷ xs) [] x m r e = absurd r
-read-more (y ∷ xs) (z ∷ ms) x m r e = (r.0, read-more xs ms x m r.1 e)
-
 -- a body came whole, was read, given up, and something was made of it
 delivers-goes_on : {D : Type 0} (grow : HistoriesGrow) (laws : EachStepGoesOn) (within : EachStepStaysWithin) (old new : End D) (ready : Intake) (piece : List ℕ) (n : ℕ) (m : Message) (plan : Plan) (made : Made)
     → Completes old.intake ready piece n → Msg ready.held m
@@ -65,7 +58,7 @@ delivers-goes_on grow laws within old new ready piece n m plan made c read gathe
             bodies = r.bodies ++ ready.held ∷ [];
             rest = [];
             stream = released (s ++ take n piece) (r.bodies ++ ready.held ∷ []) [] (c.stands s r.bodies r.rest r.stream);
-            read = rw ins (read-more r.bodies (ins_of h) ready.held m r.read read);
+            read = rw ins (grow.read_then r.bodies (ins_of h) ready.held m r.read read);
           };
       session = rw same (laws.take old.session m plan made h st.within.distinct is can st.session);
       within = rw same (within.take old.session m plan made st.within is can);

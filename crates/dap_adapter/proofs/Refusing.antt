@@ -19,7 +19,8 @@ use Rattle.dap_session.specs.Seat.{NotTaken}
 use Rattle.dap_session.specs.Session.{Session}
 use Rattle.dap_session.specs.Table.{is_phase}
 use Rattle.dap_session.specs.Taking.{takes_as, taken_in}
-use Rattle.dap_adapter.specs.Calls.{TakeRefused, IsRefusal, FrameClosed, to_hold, to_read}
+use Rattle.dap_history.specs.Pieces.{IsRefusal, FrameClosed, to_hold, to_read}
+use Rattle.dap_adapter.specs.Calls.{TakeRefused}
 use Rattle.dap_adapter.specs.Receives.{IsUnread, fault_of_cause, fault_of_frame}
 
 by_cause : (old new : Intake) (s : Session) (piece : List ℕ) (cause : Cause) (fault : FrameFault) → fault.cause ≡ cause → 0 < length piece → Closes old new piece fault → TakeRefused old s piece (fault_of_cause cause fault)

@@ -17,7 +17,8 @@ use Rattle.dap_session.specs.Carried.{Goes}
 use Rattle.dap_session.specs.Handling.{turns, turn_of, some_plan, plan}
 use Rattle.dap_session.specs.Plan.{Plan, due}
 use Rattle.dap_session.specs.Session.{Session, oldest}
-use Rattle.dap_adapter.specs.Calls.{TakeRefused, TurnRefused, PollRefused, FrameClosed, BodyRefused, ClosedBy, IsRefusal}
+use Rattle.dap_history.specs.Pieces.{FrameClosed, BodyRefused, IsRefusal}
+use Rattle.dap_adapter.specs.Calls.{TakeRefused, TurnRefused, PollRefused, ClosedBy}
 use Rattle.dap_adapter.specs.End.{End}
 use Rattle.dap_adapter.specs.Run.{Next, to_take, to_turn, to_poll, has_ended}
 use Rattle.dap_adapter.specs.Served.{Start, FrameRefused, BodyRefused as RunBodyRefused, IsRefused, in_take, in_turn, in_poll}

@@ -1,15 +1,11 @@
 -- What the calls of an adapter do, as their contracts say it.
 use Rattle.std.specs.Prelude.{◌≡◌, ℕ, ◌+◌, ◌<◌, ◌≤◌, List, [], ◌∷◌, ◌++◌, length, take, Option, Some, None, Ok, Err, ⊤, true}
-use Rattle.dap_frame.specs.Feeds.{Completes, Gathers, Closes}
+use Rattle.dap_frame.specs.Feeds.{Gathers}
 use Rattle.dap_frame.specs.Intake.{Intake, IsUnderWay}
 use Rattle.dap_frame.specs.Settings.{Settings, bounds_of}
-use Rattle.dap_frame.specs.declared.frames.FrameFault.{FrameFault}
-use Rattle.dap_frame.specs.declared.Cause.{Cause}
-use Rattle.dap_frame.specs.declared.Cause.TheVariants.{Refused, OutOfMemory as NoMemory}
 use Rattle.dap_history.specs.History.{Entry, In}
+use Rattle.dap_history.specs.Pieces.{Whole, FrameClosed, BodyRefused, NeedsMemory, IsRefusal}
 use Rattle.dap_message.specs.Meaning.{Msg}
-use Rattle.dap_message.specs.Refusals.{Bad}
-use Rattle.dap_message.specs.declared.fault.BodyRefusal.{BodyRefusal}
 use Rattle.dap_message.specs.declared.message.Message.{Message}
 use Rattle.dap_debuggee.specs.Shown.{Shown}
 use Rattle.dap_tables.specs.Outstanding.{Kept}
@@ -38,11 +34,6 @@ pub record Step {D : Type 0} (follows : Goes D) (plan : Plan) (old new : End D) 
 
 -- ---- take
 
--- a body is whole, after the first n bytes of the piece
-pub record Whole (old : Intake) (piece : List ℕ) (n : ℕ) : Type 0 where
-  pub ready : Intake
-  pub completes : Completes old ready piece n
-
 -- a message came whole, and this was made of it
 pub record Delivers {D : Type 0} (follows : Goes D) (old : End D) (piece : List ℕ) (taken : Taken) (m : Message) (new : End D) : Type 0 where
   pub whole : Whole old.intake piece taken.used
@@ -63,19 +54,6 @@ abbrev pub Takes : {D : Type 0} → Goes D → End D → List ℕ → Taken → 
 Takes follows old piece taken None new = Waits old piece taken new
 Takes follows old piece taken (Some m) new = Delivers follows old piece taken m new
 
--- the framing of the piece is refused with this cause, after some of its first bytes
-pub record FrameClosed (old : Intake) (piece : List ℕ) (fault : FrameFault) : Type 0 where
-  pub some : 0 < length piece
-  pub closed : Intake
-  pub closes : Closes old closed piece fault
-
--- a body came whole that is no message
-pub record BodyRefused (old : Intake) (piece : List ℕ) (cause : BodyRefusal) (offset : ℕ) : Type 0 where
-  pub n : ℕ
-  pub whole : Whole old piece n
-  pub bad : Bad whole.ready.held cause
-  pub starts : offset ≡ whole.ready.start
-
 -- a message came whole that closes the adapter
 pub record ClosedBy (old : Intake) (s : Session) (piece : List ℕ) (fault : AdapterFault) : Type 0 where
   pub n : ℕ
@@ -83,15 +61,6 @@ pub record ClosedBy (old : Intake) (s : Session) (piece : List ℕ) (fault : Ada
   pub message : Message
   pub read : Msg whole.ready.held message
   pub closes : takes message s ≡ Err fault
-
--- memory may be refused where bytes of a frame are held, and once a body is whole
-pub data NeedsMemory (old : Intake) (piece : List ℕ) : Type 0 where
-  to_hold : (offset : ℕ) → FrameClosed old piece (record { cause = NoMemory; offset = offset }) → NeedsMemory old piece
-  to_read : (n : ℕ) → Whole old piece n → NeedsMemory old piece
-
-abbrev pub IsRefusal : Cause → Type 0
-IsRefusal (Refused refusal) = ⊤
-IsRefusal NoMemory = ⊥
 
 -- why a call on a piece was refused
 abbrev pub TakeRefused : Intake → Session → List ℕ → AdapterFault → Type 0

@@ -11,7 +11,7 @@ use Rattle.dap_message.specs.declared.message.Message.{Message}
 use Rattle.dap_session.specs.Seat.{Seat, HasTaken}
 use Rattle.dap_session.specs.declared.fault.AdapterFault.{AdapterFault}
 use Rattle.dap_session.specs.declared.fault.AdapterFault.TheVariants.{Frame, Body, OutOfMemory}
-use Rattle.dap_adapter.specs.Calls.{Whole}
+use Rattle.dap_history.specs.Pieces.{Whole}
 use Rattle.dap_adapter.specs.declared.taken.Taken.{Taken}
 
 -- nothing came whole

@@ -1,5 +1,5 @@
 -- One entry more at the end of a history.
-use Rattle.std.proofs.Common.{◌≡◌, List, [], ◌∷◌, ◌++◌, Bool, true, false, not, Option, Some, None, filter, refl, sym, ap, ◌∙◌, ◌⊎◌, inl, inr, append_assoc}
+use Rattle.std.proofs.Common.{◌≡◌, ℕ, List, [], ◌∷◌, ◌++◌, Bool, true, false, not, Option, Some, None, filter, refl, sym, ap, ◌∙◌, ◌⊎◌, inl, inr, append_assoc}
 use Rattle.std.specs.Prelude.{if◌then◌else◌, ◌||◌, option_to_list}
 use Rattle.std.specs.List.{list_any}
 use Rattle.std.proofs.lemmas.List.Folds.{list_any-append}
@@ -8,6 +8,8 @@ use Rattle.dap_history.specs.History.{Entry, Way, Asked, Answered, waiting, unan
 use Rattle.dap_message.specs.declared.message.Message.{Message}
 use Rattle.dap_history.specs.Answers.{Answers, AnswersOne}
 use Rattle.dap_history.specs.HistoryLaws.{HistoriesGrow}
+use Rattle.dap_history.specs.Received.{AreRead}
+use Rattle.dap_message.specs.Meaning.{Msg}
 
 cut-unanswered : (a b : Bool) (q : Asked) → (if a || b then [] else q ∷ []) ≡ filter (λ (p : Asked). not b) (if a then [] else q ∷ [])
 cut-unanswered true true q = refl
@@ -80,6 +82,12 @@ outs_of-append (In m ∷ h) k = outs_of-append h k
 outs_of-append (Out m names ∷ h) k = ap (λ (ms : List Message). m ∷ ms) (outs_of-append h k)
 outs_of-append (Drop ∷ h) k = outs_of-append h k
 
+read-more : (xs : List (List ℕ)) (ms : List Message) (x : List ℕ) (m : Message) → AreRead xs ms → Msg x m → AreRead (xs ++ x ∷ []) (ms ++ m ∷ [])
+read-more [] [] x m r e = (e, tt)
+read-more [] (y ∷ ms) x m r e = absurd r
+read-more (y ∷ xs) [] x m r e = absurd r
+read-more (y ∷ xs) (z ∷ ms) x m r e = (r.0, read-more xs ms x m r.1 e)
+
 pub histories_grow : HistoriesGrow
 histories_grow = record {
   waiting_then = waiting-snoc;
@@ -87,4 +95,5 @@ histories_grow = record {
   answers_then = Answers-snoc;
   ins_append = ins_of-append;
   outs_append = outs_of-append;
+  read_then = read-more;
 }

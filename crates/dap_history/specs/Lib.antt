@@ -3,3 +3,4 @@ pub mod Answers
 pub mod HistoryLaws
 pub mod Requests
 pub mod Received
+pub mod Pieces

@@ -1,0 +1,14 @@
+pub mod Waiting
+pub mod Growing
+pub mod Going
+pub mod Refusals
+pub mod Answered
+pub mod Staying
+pub mod SendsProject
+pub mod AnswersProject
+pub mod Projecting
+pub mod Ends
+pub mod Refusing
+pub mod Played
+mod LifeExamples
+mod ReferencesExamples

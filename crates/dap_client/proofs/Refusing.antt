@@ -1,0 +1,87 @@
+-- Why a call on a piece is refused, from what the reader of frames, the reader of messages and the session say.
+use Rattle.std.proofs.Common.{◌≡◌, ℕ, ◌<◌, length, List, Bool, true, false, not, IsTrue, Option, Some, None, Result, Ok, Err, refl, sym, subst, true≢false}
+use Rattle.std.specs.Prelude.{bytes_eq, nat_le, nat_lt, if◌then◌else◌}
+use Rattle.serde_json.specs.Data.{Data}
+use Rattle.dap_frame.specs.declared.Cause.{Cause}
+use Rattle.dap_frame.specs.declared.Cause.TheVariants.{Refused, OutOfMemory as NoMemory}
+use Rattle.dap_frame.specs.declared.frames.FrameFault.{FrameFault}
+use Rattle.dap_frame.specs.Feeds.{Completes, Closes}
+use Rattle.dap_frame.specs.Intake.{Intake}
+use Rattle.dap_history.specs.Pieces.{IsRefusal, FrameClosed, to_hold, to_read}
+use Rattle.dap_message.specs.Command.{command_named}
+use Rattle.dap_message.specs.Meaning.{Msg}
+use Rattle.dap_message.specs.declared.message.Message.{Message}
+use Rattle.dap_message.specs.declared.message.Kind.{Kind}
+use Rattle.dap_message.specs.declared.message.Kind.TheVariants.{Request, Response, Event, Other}
+use Rattle.dap_tables.specs.Outstanding.{entry_with}
+use Rattle.dap_tables.specs.declared.entry.Entry.{Entry as Waiting}
+use Rattle.dap_client.specs.declared.fault.ClientFault.{ClientFault}
+use Rattle.dap_client.specs.declared.fault.ClientFault.TheVariants as fault
+use Rattle.dap_client.specs.Calls.{TakeRefused}
+use Rattle.dap_client.specs.Keeping.{IsWhyClosed}
+use Rattle.dap_client.specs.Receives.{IsUnread, fault_of_cause, fault_of_frame}
+use Rattle.dap_client.specs.Seen.{learned, after_response}
+use Rattle.dap_client.specs.Session.{Session}
+use Rattle.dap_client.specs.Taking.{Made, takes, takes_as, takes_answer, answered_within, declined, answered}
+
+by_cause : (old new : Intake) (s : Session) (piece : List ℕ) (cause : Cause) (x : FrameFault) → x.cause ≡ cause → 0 < length piece → Closes old new piece x → TakeRefused old s piece (fault_of_cause cause x)
+by_cause old new s piece (Refused refusal) x is h c = (subst IsRefusal (sym is) tt, record { some = h; closed = new; closes = c })
+by_cause old new s piece NoMemory x is h c =
+    let closed : FrameClosed old piece (record { cause = x.cause; offset = x.offset }) = record { some = h; closed = new; closes = c } in
+    to_hold x.offset (subst (λ (k : Cause). FrameClosed old piece (record { cause = k; offset = x.offset })) is closed)
+
+pub closed_refused : (old new : Intake) (s : Session) (piece : List ℕ) (x : FrameFault) → 0 < length piece → Closes old new piece x → TakeRefused old s piece (fault_of_frame x)
+closed_refused old new s piece x h c = by_cause old new s piece x.cause x refl h c
+
+pub unread_refused : (old ready : Intake) (s : Session) (piece : List ℕ) (n : ℕ) (f : ClientFault) → Completes old ready piece n → IsUnread ready f → TakeRefused old s piece f
+unread_refused old ready s piece n (fault.Body cause offset) c u = record { n = n; whole = record { ready = ready; completes = c }; bad = u.0; starts = u.1 }
+unread_refused old ready s piece n fault.OutOfMemory c u = to_read n (record { ready = ready; completes = c })
+unread_refused old ready s piece n (fault.Frame x) c u = absurd u
+unread_refused old ready s piece n (fault.Unmatched seq) c u = absurd u
+unread_refused old ready s piece n (fault.CommandMismatch seq) c u = absurd u
+unread_refused old ready s piece n (fault.RepeatedSeq seq) c u = absurd u
+unread_refused old ready s piece n fault.ReferenceLimit c u = absurd u
+unread_refused old ready s piece n fault.SeqExhausted c u = absurd u
+
+-- a fault of the stream, not of a message
+abbrev is_of_stream : ClientFault → Bool
+is_of_stream (fault.Frame x) = true
+is_of_stream (fault.Body x y) = true
+is_of_stream _ = false
+
+abbrev OfMessage : Result Made ClientFault → Type 0
+OfMessage given = (f : ClientFault) → given ≡ Err f → is_of_stream f ≡ false
+
+of-message-if : (b : Bool) (given : Result Made ClientFault) (g : ClientFault) → is_of_stream g ≡ false → OfMessage given → OfMessage (if b then given else Err g)
+of-message-if true given g other inner f e = inner f e
+of-message-if false given g other inner f e = let same : g ≡ f = cc in subst (λ x. is_of_stream x ≡ false) same other
+
+of-ok : (m : Made) → OfMessage (Ok m)
+of-ok m f e = cc
+
+of-answer : (o : Option Waiting) (request_seq : ℕ) (ok : Bool) (name : List ℕ) (body : Option Data) (s : Session) → OfMessage (takes_answer o request_seq ok name body s)
+of-answer None request_seq ok name body s f e = let same : fault.Unmatched request_seq ≡ f = cc in subst (λ x. is_of_stream x ≡ false) same refl
+of-answer (Some r) request_seq ok name body s f e =
+    let within : OfMessage (answered_within request_seq ok name body s) =
+    of-message-if (nat_le (length (learned ok (command_named name) body s.seen)) s.limits.references) (Ok (answered request_seq (after_response request_seq ok (command_named name) body s.seen) s)) fault.ReferenceLimit refl (of-ok (answered request_seq (after_response request_seq ok (command_named name) body s.seen) s)) in
+    of-message-if (bytes_eq name r.command) (answered_within request_seq ok name body s) (fault.CommandMismatch request_seq) refl within f e
+
+of-kind : (seq : ℕ) (kind : Kind) (s : Session) → OfMessage (takes_as seq kind s)
+of-kind seq (Request command arguments) s f e = of-message-if (nat_lt s.used s.limits.seq) (Ok (declined seq command s)) fault.SeqExhausted refl (of-ok (declined seq command s)) f e
+of-kind seq (Response request_seq ok name message body) s f e = of-answer (entry_with request_seq s.outstanding) request_seq ok name body s f e
+of-kind seq (Event event body) s f e = cc
+of-kind seq (Other tag) s f e = cc
+
+pub untaken_refused : (old ready : Intake) (s : Session) (piece : List ℕ) (n : ℕ) (m : Message) (f : ClientFault) → Completes old ready piece n → Msg ready.held m → IsWhyClosed f (takes m s) → TakeRefused old s piece f
+untaken_refused old ready s piece n m (fault.Frame x) c read why = absurd (true≢false (of-kind m.seq m.kind s (fault.Frame x) why))
+untaken_refused old ready s piece n m (fault.Body x y) c read why = absurd (true≢false (of-kind m.seq m.kind s (fault.Body x y) why))
+untaken_refused old ready s piece n m fault.OutOfMemory c read why = to_read n (record { ready = ready; completes = c })
+untaken_refused old ready s piece n m (fault.Unmatched x) c read why = record { n = n; whole = record { ready = ready; completes = c }; message = m; read = read; closes = why }
+untaken_refused old ready s piece n m (fault.CommandMismatch x) c read why = record { n = n; whole = record { ready = ready; completes = c }; message = m; read = read; closes = why }
+untaken_refused old ready s piece n m (fault.RepeatedSeq x) c read why = record { n = n; whole = record { ready = ready; completes = c }; message = m; read = read; closes = why }
+untaken_refused old ready s piece n m fault.ReferenceLimit c read why = record { n = n; whole = record { ready = ready; completes = c }; message = m; read = read; closes = why }
+untaken_refused old ready s piece n m fault.SeqExhausted c read why = record { n = n; whole = record { ready = ready; completes = c }; message = m; read = read; closes = why }
+
+pub not_untrue : (b : Bool) → not b ≡ false → IsTrue b
+not_untrue true e = refl
+not_untrue false e = cc

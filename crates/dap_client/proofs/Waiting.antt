@@ -1,0 +1,66 @@
+-- The request that a response answers, among those that wait.
+use Rattle.std.proofs.Common.{◌≡◌, ℕ, List, [], ◌∷◌, ◌++◌, Bool, true, false, Some, None, refl, ap, ◌∙◌, subst, arith, filter, true≢false}
+use Rattle.std.specs.Prelude.{◌==◌, ◌||◌, not, cond}
+use Rattle.std.proofs.lemmas.Bool.Decides.{nat_tests}
+use Rattle.std.proofs.lemmas.Bool.{eqb-true}
+use Rattle.std.proofs.lemmas.List.{map-append}
+use Rattle.dap_history.specs.History.{Asked, Answered, left_open}
+use Rattle.dap_tables.specs.Outstanding.{Kept, contains_seq, entry_with, without, HasDistinctSeqs}
+use Rattle.dap_tables.specs.declared.entry.Entry.{Entry as Request}
+use Rattle.dap_history.specs.Requests.{asked_of, asks}
+
+pub eqb-self : (n : ℕ) → (n == n) ≡ true
+eqb-self n = grind (arith, nat_tests)
+
+pub false-left : (a b : Bool) → (a || b) ≡ false → a ≡ false
+false-left true b e = e
+false-left false b e = refl
+
+pub false-right : (a b : Bool) → (a || b) ≡ false → b ≡ false
+false-right true b e = absurd (true≢false e)
+false-right false b e = e
+
+pub all_left : (open_requests : List Asked) → left_open None open_requests ≡ open_requests
+all_left [] = refl
+all_left (q ∷ qs) = ap (λ (xs : List Asked). q ∷ xs) (all_left qs)
+
+pub asks-append : (xs ys : List Kept) → asks (xs ++ ys) ≡ asks xs ++ asks ys
+asks-append xs ys = map-append (λ (k : Kept). asked_of k.entry) xs ys
+
+-- ---- the requests of a number
+
+abbrev pub with_seq : ℕ → List Asked → List Asked
+with_seq seq open_requests = filter (λ q. q.seq == seq) open_requests
+
+none-with : (seq : ℕ) (kept : List Kept) → contains_seq seq kept ≡ false → with_seq seq (asks kept) ≡ []
+none-with seq [] h = refl
+none-with seq (k ∷ kept) h =
+    rw (false-left (k.entry.seq == seq) (contains_seq seq kept) h) (none-with seq kept (false-right (k.entry.seq == seq) (contains_seq seq kept) h))
+
+-- the first one, if it has the number
+found-if : (b : Bool) (seq : ℕ) (k : Kept) (kept : List Kept) (r : Request) → (k.entry.seq == seq) ≡ b → contains_seq k.entry.seq kept ≡ false
+    → (entry_with seq kept ≡ Some r → with_seq seq (asks kept) ≡ asked_of r ∷ [])
+    → cond b (Some k.entry) (entry_with seq kept) ≡ Some r
+    → cond b (asked_of k.entry ∷ with_seq seq (asks kept)) (with_seq seq (asks kept)) ≡ asked_of r ∷ []
+found-if true seq k kept r is apart ih e =
+    let same : k.entry ≡ r = cc in
+    let number : k.entry.seq ≡ seq = eqb-true k.entry.seq seq is in
+    let none : with_seq seq (asks kept) ≡ [] = none-with seq kept (subst (λ n. contains_seq n kept ≡ false) number apart) in
+    ap (λ (xs : List Asked). asked_of k.entry ∷ xs) none ∙ ap (λ (x : Request). asked_of x ∷ []) same
+found-if false seq k kept r is apart ih e = ih e
+
+pub found : (seq : ℕ) (kept : List Kept) (r : Request) → HasDistinctSeqs kept → entry_with seq kept ≡ Some r → with_seq seq (asks kept) ≡ asked_of r ∷ []
+found seq [] r d e = cc
+found seq (k ∷ kept) r d e =
+    let b : Bool = k.entry.seq == seq in
+    found-if (k.entry.seq == seq) seq k kept r refl d.0 (found seq kept r d.1) e
+
+-- ---- what is left without it
+
+without-if : (b : Bool) (k : Kept) (qs : List Asked) (kept : List Kept) → qs ≡ asks kept → cond (not b) (asked_of k.entry ∷ qs) qs ≡ asks (cond (not b) (k ∷ kept) kept)
+without-if true k qs kept e = e
+without-if false k qs kept e = ap (λ (xs : List Asked). asked_of k.entry ∷ xs) e
+
+pub left-without : (a : Answered) (kept : List Kept) → left_open (Some a) (asks kept) ≡ asks (without a.request_seq kept)
+left-without a [] = refl
+left-without a (k ∷ kept) = without-if (k.entry.seq == a.request_seq) k (left_open (Some a) (asks kept)) (without a.request_seq kept) (left-without a kept)

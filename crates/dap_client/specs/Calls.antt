@@ -1,0 +1,77 @@
+-- What the calls of a client do, as their contracts say it.
+use Rattle.std.specs.Prelude.{◌≡◌, ℕ, List, [], ◌∷◌, take, Option, Some, None, Ok, Err, is_some}
+use Rattle.dap_frame.specs.Feeds.{Gathers}
+use Rattle.dap_frame.specs.Intake.{Intake, IsUnderWay}
+use Rattle.dap_frame.specs.Settings.{Settings, bounds_of}
+use Rattle.dap_history.specs.History.{In}
+use Rattle.dap_history.specs.Pieces.{Whole, FrameClosed, BodyRefused, NeedsMemory, IsRefusal}
+use Rattle.dap_message.specs.Meaning.{Msg}
+use Rattle.dap_message.specs.Types.Call.{Call}
+use Rattle.dap_message.specs.declared.message.Message.{Message}
+use Rattle.dap_client.specs.declared.fault.ClientFault.{ClientFault}
+use Rattle.dap_client.specs.declared.fault.ClientFault.TheVariants.{Frame, Body, OutOfMemory}
+use Rattle.dap_client.specs.declared.fault.SendFault.{SendFault}
+use Rattle.dap_client.specs.declared.got.Got.{Got}
+use Rattle.dap_client.specs.End.{End}
+use Rattle.dap_client.specs.Keeping.{IsWhyNotSent}
+use Rattle.dap_client.specs.Sending.{first_of, refusals_in_order}
+use Rattle.dap_client.specs.Session.{Session}
+use Rattle.dap_client.specs.StandsFor.{GoesOn}
+use Rattle.dap_client.specs.Taking.{Made, takes, entries_of, bytes_of}
+
+-- ---- send
+
+-- the first refusal that holds of a call
+abbrev pub refusal_of : Call → End → Option SendFault
+refusal_of c e = first_of refusals_in_order c (is_some e.fault) e.session
+
+-- why a call was not sent
+abbrev pub NotSent : SendFault → Call → End → Type 0
+NotSent f c e = IsWhyNotSent f c (is_some e.fault) e.session
+
+-- ---- take
+
+-- a message came whole, and this was made of it
+pub record Delivers (old : End) (piece : List ℕ) (got : Got) (m : Message) (new : End) : Type 0 where
+  pub whole : Whole old.intake piece got.used
+  pub read : Msg whole.ready.held m
+  pub made : Made
+  pub is : takes m old.session ≡ Ok made
+  pub session : new.session ≡ made.after
+  pub bytes_are : got.bytes.items ≡ bytes_of made
+  pub goes_on : GoesOn old new (take got.used piece) (In m ∷ entries_of made)
+
+-- the frame is still under way, and nothing else changed
+pub record Waits (old : End) (piece : List ℕ) (got : Got) (new : End) : Type 0 where
+  pub gathers : Gathers old.intake new.intake piece got.used
+  pub none_written : got.bytes.items ≡ []
+  pub session : new.session ≡ old.session
+  pub goes_on : GoesOn old new piece []
+
+abbrev pub Takes : End → List ℕ → Got → Option Message → End → Type 0
+Takes old piece got None new = Waits old piece got new
+Takes old piece got (Some m) new = Delivers old piece got m new
+
+-- a message came whole that closes the client
+pub record ClosedBy (old : Intake) (s : Session) (piece : List ℕ) (fault : ClientFault) : Type 0 where
+  pub n : ℕ
+  pub whole : Whole old piece n
+  pub message : Message
+  pub read : Msg whole.ready.held message
+  pub closes : takes message s ≡ Err fault
+
+-- why a call on a piece was refused
+abbrev pub TakeRefused : Intake → Session → List ℕ → ClientFault → Type 0
+TakeRefused old s piece (Frame fault) = IsRefusal fault.cause × FrameClosed old piece fault
+TakeRefused old s piece (Body cause offset) = BodyRefused old piece cause offset
+TakeRefused old s piece OutOfMemory = NeedsMemory old piece
+TakeRefused old s piece fault = ClosedBy old s piece fault
+
+-- ---- what holds between calls
+
+-- what holds of every client
+pub record IsClient (limits : Settings) (intake : Intake) (fault : Option ClientFault) : Type 0 where
+  pub bounds : intake.bounds ≡ bounds_of limits
+  pub under_way : fault ≡ None → IsUnderWay intake
+  -- after a fault nothing is held
+  pub given_up : (f : ClientFault) → fault ≡ Some f → intake.held ≡ []

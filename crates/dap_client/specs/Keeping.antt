@@ -1,0 +1,62 @@
+-- The code's words for a session without the bytes that come.
+use Rattle.std.specs.Prelude.{◌≡◌, ℕ, ◌≤◌, ◌<◌, List, Bool, false, ⊤, Option, Some, None, Result, Ok, Err, bytes_eq, if◌then◌else◌}
+use Rattle.dap_frame.specs.Settings.{Settings}
+use Rattle.dap_json.specs.Field.{max_seq}
+use Rattle.dap_message.specs.Types.Call.{Call}
+use Rattle.dap_tables.specs.Known.{KnownReferences}
+use Rattle.dap_tables.specs.Outstanding.{KeptRequests, IsOrderly}
+use Rattle.dap_tables.specs.Seq.{Numbers}
+use Rattle.dap_tables.specs.declared.entry.Entry.{Entry as Waiting}
+use Rattle.dap_client.specs.declared.fault.ClientFault.{ClientFault}
+use Rattle.dap_client.specs.declared.fault.ClientFault.TheVariants.{Unmatched, CommandMismatch, ReferenceLimit, OutOfMemory as NoMemory}
+use Rattle.dap_client.specs.declared.fault.SendFault.{SendFault}
+use Rattle.dap_client.specs.declared.fault.SendFault.TheVariants.{OutOfMemory}
+use Rattle.dap_client.specs.Sending.{first_of, early_refusals, late_refusals, refusals_in_order}
+use Rattle.dap_client.specs.Session.{Session}
+use Rattle.dap_client.specs.Taking.{Made, bytes_of}
+use Rattle.dap_client.specs.Within.{AreSent}
+
+-- what holds of every session
+pub record IsSession (limits : Settings) (known : KnownReferences) (table : KeptRequests) (numbers : Numbers) : Type 0 where
+  pub known_room : known.room ≡ limits.references
+  pub room : table.room ≡ limits.requests
+  pub orderly : IsOrderly table
+  pub last : numbers.last ≡ limits.seq
+  pub used : numbers.used ≤ numbers.last
+  pub greatest : limits.seq ≤ max_seq
+  pub sent : AreSent numbers.used table.kept
+
+-- ---- sending
+
+-- why a request is not prepared: the first late refusal that holds, or memory was refused
+abbrev pub IsWhyLate : SendFault → Call → Session → Type 0
+IsWhyLate OutOfMemory c s = ⊤
+IsWhyLate f c s = first_of late_refusals c false s ≡ Some f
+
+-- why a call was not sent: the first refusal that holds; or memory was refused, and none of those holds that are told without
+abbrev pub IsWhyNotSent : SendFault → Call → Bool → Session → Type 0
+IsWhyNotSent OutOfMemory c closed s = first_of early_refusals c closed s ≡ None
+IsWhyNotSent f c closed s = first_of refusals_in_order c closed s ≡ Some f
+
+-- ---- taking
+
+-- whether a response answers the request that waits, if one does
+abbrev pub matched : Option Waiting → ℕ → List ℕ → Result (Unit {0}) ClientFault
+matched None request_seq command = Err (Unmatched request_seq)
+matched (Some r) request_seq command = if bytes_eq command r.command then Ok tt else Err (CommandMismatch request_seq)
+
+-- what was made of a message
+abbrev pub IsMade : Result Made ClientFault → Session → List ℕ → Type 0
+IsMade (Ok m) new bytes = (new ≡ m.after) × (bytes ≡ bytes_of m)
+IsMade (Err fault) new bytes = ⊥
+
+-- why nothing was, memory aside
+abbrev pub IsWhyClosed : ClientFault → Result Made ClientFault → Type 0
+IsWhyClosed NoMemory given = ⊤
+IsWhyClosed fault given = given ≡ Err fault
+
+-- why references are not learned
+abbrev pub IsWhyUnlearned : ClientFault → ℕ → ℕ → Type 0
+IsWhyUnlearned ReferenceLimit most count = most < count
+IsWhyUnlearned NoMemory most count = ⊤
+IsWhyUnlearned fault most count = ⊥

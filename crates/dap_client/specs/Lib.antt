@@ -1,0 +1,17 @@
+pub mod Phases
+pub mod Table
+pub mod Changes
+pub mod References
+pub mod Seen
+pub mod Session
+pub mod Sending
+pub mod Taking
+pub mod Follows
+pub mod Within
+pub mod End
+pub mod StandsFor
+pub mod Laws
+pub mod Seat
+pub mod Keeping
+pub mod Receives
+pub mod Calls

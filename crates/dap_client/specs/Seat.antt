@@ -1,0 +1,267 @@
+-- A smaller client: its commands in classes, and of its state only what a law over both ends goes by. Capabilities, arguments, limits and bytes are left out.
+use Rattle.std.specs.Prelude.{◌≡◌, ℕ, ◌+◌, ◌==◌, ◌&&◌, List, [], ◌∷◌, ◌++◌, Bool, true, false, if◌then◌else◌, Option, Some, None, Ok}
+use Rattle.serde_json.specs.Data.{Data}
+use Rattle.dap_message.specs.CallTree.{command_of}
+use Rattle.dap_message.specs.Command.{command_named}
+use Rattle.dap_message.specs.Types.Call.{Call}
+use Rattle.dap_message.specs.Types.Command.{Command}
+use Rattle.dap_message.specs.Types.Command.TheVariants as command
+use Rattle.dap_message.specs.declared.message.Kind.{Kind}
+use Rattle.dap_message.specs.declared.message.Kind.TheVariants.{Request, Response, Event, Other}
+use Rattle.dap_message.specs.declared.message.Message.{Message}
+use Rattle.dap_tables.specs.Known.{with_pairs}
+use Rattle.dap_tables.specs.Outstanding.{Kept, unparked, without}
+use Rattle.dap_tables.specs.declared.entry.Entry.{Entry}
+use Rattle.dap_tables.specs.declared.reference_kind.ReferenceKind.{ReferenceKind}
+use Rattle.dap_client.specs.declared.phase.Phase.{Phase}
+use Rattle.dap_client.specs.declared.phase.Phase.TheVariants.{Fresh, Initializing, Configuring, Running, Stopped, Resuming, Exited, Ended}
+use Rattle.dap_client.specs.declared.signal.Signal.{Signal}
+use Rattle.dap_client.specs.declared.signal.Signal.TheVariants as signal
+use Rattle.dap_client.specs.Changes.{signal_named}
+use Rattle.dap_client.specs.References.{used_by, given_by, given_in}
+use Rattle.dap_client.specs.Sending.{request_of, after_send}
+use Rattle.dap_client.specs.Session.{Session}
+use Rattle.dap_client.specs.Table.{is_sent_in}
+use Rattle.dap_client.specs.Taking.{Made, takes}
+
+-- commands that a client treats alike
+pub data Class : Type 0 where
+  Initialize : Class
+  Launch : Class
+  ConfigurationDone : Class
+  Disconnect : Class
+  Terminate : Class
+  Cancel : Class
+  Setter : Class
+  Lookup : Class
+  Resume : Class
+  Pause : Class
+  Inspect : Class
+
+abbrev pub class_of : Command → Class
+class_of command.Initialize = Initialize
+class_of command.Launch = Launch
+class_of command.Attach = Launch
+class_of command.ConfigurationDone = ConfigurationDone
+class_of command.SetBreakpoints = Setter
+class_of command.SetFunctionBreakpoints = Setter
+class_of command.SetExceptionBreakpoints = Setter
+class_of command.Disconnect = Disconnect
+class_of command.Threads = Lookup
+class_of command.Source = Lookup
+class_of command.LoadedSources = Lookup
+class_of command.Modules = Lookup
+class_of command.BreakpointLocations = Lookup
+class_of command.Cancel = Cancel
+class_of command.Terminate = Terminate
+class_of command.Restart = Terminate
+class_of command.Pause = Pause
+class_of command.Continue = Resume
+class_of command.Next = Resume
+class_of command.StepIn = Resume
+class_of command.StepOut = Resume
+class_of command.StepBack = Resume
+class_of command.ReverseContinue = Resume
+class_of command.StackTrace = Inspect
+class_of command.Scopes = Inspect
+class_of command.Variables = Inspect
+class_of command.Evaluate = Inspect
+class_of command.SetVariable = Inspect
+class_of command.ExceptionInfo = Inspect
+class_of command.Completions = Inspect
+
+abbrev pub is_inspect : Class → Bool
+is_inspect Inspect = true
+is_inspect _ = false
+
+-- what is left of a session
+pub record Seat : Type 0 where
+  pub phase : Phase
+  pub ready : Bool
+  -- own numbers that were given
+  pub last : ℕ
+  pub asked : List Kept
+  -- the number of the request that made the phase Resuming
+  pub resumer : ℕ
+  -- the references that are known
+  pub given : List (ReferenceKind × ℕ)
+
+abbrev pub seat_of : Session → Seat
+seat_of s = record { phase = s.seen.phase; ready = s.seen.ready; last = s.used; asked = s.outstanding; resumer = s.seen.resumer; given = s.seen.known }
+
+-- ---- a request is sent
+
+-- what the phase lets it send
+abbrev pub allows : Phase → Bool → Class → Bool
+allows Fresh ready Initialize = true
+allows Configuring ready Launch = true
+allows Configuring ready ConfigurationDone = ready
+allows Running ready ConfigurationDone = ready
+allows Stopped ready ConfigurationDone = ready
+allows Resuming ready ConfigurationDone = ready
+allows Configuring ready Setter = ready
+allows Running ready Setter = ready
+allows Stopped ready Setter = ready
+allows Resuming ready Setter = ready
+allows Configuring ready Disconnect = true
+allows Running ready Disconnect = true
+allows Stopped ready Disconnect = true
+allows Resuming ready Disconnect = true
+allows Exited ready Disconnect = true
+allows Configuring ready Lookup = true
+allows Running ready Lookup = true
+allows Stopped ready Lookup = true
+allows Resuming ready Lookup = true
+allows Exited ready Lookup = true
+allows Configuring ready Cancel = true
+allows Running ready Cancel = true
+allows Stopped ready Cancel = true
+allows Resuming ready Cancel = true
+allows Exited ready Cancel = true
+allows Configuring ready Terminate = true
+allows Running ready Terminate = true
+allows Stopped ready Terminate = true
+allows Running ready Pause = true
+allows Stopped ready Pause = true
+allows Resuming ready Pause = true
+allows Stopped ready Resume = true
+allows Stopped ready Inspect = true
+allows _ _ _ = false
+
+-- the phase afterwards, where the request was allowed
+abbrev pub phase_sent : Phase → Class → Phase
+phase_sent p Disconnect = Ended
+phase_sent Fresh Initialize = Initializing
+phase_sent Stopped Resume = Resuming
+phase_sent Stopped Terminate = Resuming
+phase_sent p _ = p
+
+abbrev pub resumer_sent : Phase → Class → ℕ → ℕ → ℕ
+resumer_sent Stopped Resume seq before = seq
+resumer_sent Stopped Terminate seq before = seq
+resumer_sent _ _ seq before = before
+
+-- a disconnect ends all references
+abbrev pub given_sent : Class → List (ReferenceKind × ℕ) → List (ReferenceKind × ℕ)
+given_sent Disconnect given = []
+given_sent _ given = given
+
+abbrev pub seat_sent : Class → Entry → Seat → Seat
+seat_sent class r e = record {
+  phase = phase_sent e.phase class;
+  ready = e.ready;
+  last = e.last + 1;
+  asked = e.asked ++ unparked r ∷ [];
+  resumer = resumer_sent e.phase class (e.last + 1) e.resumer;
+  given = given_sent class e.given;
+}
+
+-- ---- a response comes
+
+-- the phase afterwards; whether it is the one that is waited for in Resuming
+abbrev pub answered_phase : Phase → Bool → Class → Bool → Phase
+answered_phase Initializing resumes Initialize true = Configuring
+answered_phase Initializing resumes Initialize false = Fresh
+answered_phase Configuring resumes Launch true = Running
+answered_phase Resuming true class true = Running
+answered_phase Resuming true class false = Stopped
+answered_phase p resumes class ok = p
+
+-- the phases in which references are taken in
+abbrev pub has_stop : Phase → Bool
+has_stop Stopped = true
+has_stop Resuming = true
+has_stop _ = false
+
+abbrev pub is_resuming : Phase → Bool
+is_resuming Resuming = true
+is_resuming _ = false
+
+-- the references afterwards
+abbrev pub given_answered : Phase → Bool → Class → Bool → List (ReferenceKind × ℕ) → List (ReferenceKind × ℕ) → List (ReferenceKind × ℕ)
+given_answered p resumes class ok refs given =
+    if (is_resuming p && resumes) && ok then []
+    else if has_stop p && (ok && is_inspect class) then with_pairs refs given
+    else given
+
+abbrev pub seat_answered : ℕ → Class → Bool → List (ReferenceKind × ℕ) → Seat → Seat
+seat_answered request_seq class ok refs e = record e {
+  phase = answered_phase e.phase (request_seq == e.resumer) class ok;
+  asked = without request_seq e.asked;
+  given = given_answered e.phase (request_seq == e.resumer) class ok refs e.given;
+}
+
+-- ---- an event comes
+
+abbrev pub event_phase : Phase → Signal → Phase
+event_phase Configuring signal.Stopped = Stopped
+event_phase Running signal.Stopped = Stopped
+event_phase Resuming signal.Stopped = Stopped
+event_phase Stopped signal.Continued = Running
+event_phase Resuming signal.Continued = Running
+event_phase Configuring signal.Exited = Exited
+event_phase Running signal.Exited = Exited
+event_phase Stopped signal.Exited = Exited
+event_phase Resuming signal.Exited = Exited
+event_phase Configuring signal.Terminated = Exited
+event_phase Running signal.Terminated = Exited
+event_phase Stopped signal.Terminated = Exited
+event_phase Resuming signal.Terminated = Exited
+event_phase p _ = p
+
+abbrev pub event_ready : Bool → Signal → Bool
+event_ready ready signal.Initialized = true
+event_ready ready _ = ready
+
+-- the events at which all references end
+abbrev pub ends_stop : Phase → Signal → Bool
+ends_stop Resuming signal.Stopped = true
+ends_stop Stopped signal.Continued = true
+ends_stop Resuming signal.Continued = true
+ends_stop Configuring signal.Exited = true
+ends_stop Running signal.Exited = true
+ends_stop Stopped signal.Exited = true
+ends_stop Resuming signal.Exited = true
+ends_stop Configuring signal.Terminated = true
+ends_stop Running signal.Terminated = true
+ends_stop Stopped signal.Terminated = true
+ends_stop Resuming signal.Terminated = true
+ends_stop _ _ = false
+
+abbrev pub seat_told : Signal → Seat → Seat
+seat_told x e = record e {
+  phase = event_phase e.phase x;
+  ready = event_ready e.ready x;
+  given = if ends_stop e.phase x then [] else e.given;
+}
+
+-- ---- any message
+
+-- of a command that is not known only the waiting ends; no call that is sent has such a one
+abbrev pub seat_responded : ℕ → Bool → Option Command → Option Data → Seat → Seat
+seat_responded request_seq ok None body e = record e { asked = without request_seq e.asked }
+seat_responded request_seq ok (Some c) body e = seat_answered request_seq (class_of c) ok (given_in (Some c) body) e
+
+abbrev pub seat_signalled : Option Signal → Seat → Seat
+seat_signalled None e = e
+seat_signalled (Some x) e = seat_told x e
+
+-- a request of the adapter takes a number
+abbrev pub seat_taken : Kind → Seat → Seat
+seat_taken (Request name arguments) e = record e { last = e.last + 1 }
+seat_taken (Response request_seq ok name message body) e = seat_responded request_seq ok (command_named name) body e
+seat_taken (Event name body) e = seat_signalled (signal_named name) e
+seat_taken (Other tag) e = e
+
+-- ---- the law
+
+pub record EachStepProjects : Type 0 where
+  -- what the phase lets a client send
+  pub allowed : (c : Command) (p : Phase) (ready : Bool) → is_sent_in c p ready ≡ allows p ready (class_of c)
+  -- a call that the phase lets it send
+  pub sent : (s : Session) (c : Call) → is_sent_in (command_of c) s.seen.phase s.seen.ready ≡ true → seat_of (after_send c s) ≡ seat_sent (class_of (command_of c)) (request_of (s.used + 1) c) (seat_of s)
+  -- a message that does not close the client
+  pub taken : (s : Session) (m : Message) (made : Made) → takes m s ≡ Ok made → seat_of made.after ≡ seat_taken m.kind (seat_of s)
+  -- only inspections give references, and only they name some
+  pub gives : (c : Command) (body : Data) → is_inspect (class_of c) ≡ false → given_by c body ≡ []
+  pub names : (c : Call) → is_inspect (class_of (command_of c)) ≡ false → used_by c ≡ []

@@ -1,0 +1,77 @@
+-- What comes of a message that is delivered.
+-- Specification, "Response", "Event", and the requests of an adapter. What closes the client, and that a request of the adapter is answered `unsupported`, is this profile's choice.
+use Rattle.std.specs.Prelude.{ℕ, ◌+◌, List, [], ◌∷◌, length, map, Bool, nat_le, nat_lt, bytes_eq, Option, Some, None, Result, Ok, Err, if◌then◌else◌}
+use Rattle.std.specs.List.{flat_map}
+use Rattle.serde_json.specs.Data.{Data}
+use Rattle.dap_frame.specs.Written.{frame_of}
+use Rattle.dap_message.specs.Canon.{canon}
+use Rattle.dap_message.specs.Command.{command_named}
+use Rattle.dap_history.specs.History.{Entry, Out}
+use Rattle.dap_message.specs.Lengths.{failed}
+use Rattle.dap_message.specs.Types.Failure.TheVariants.{Unsupported}
+use Rattle.dap_message.specs.declared.message.Message.{Message}
+use Rattle.dap_message.specs.declared.message.Kind.{Kind}
+use Rattle.dap_message.specs.declared.message.Kind.TheVariants.{Request, Response, Event, Other}
+use Rattle.dap_tables.specs.Outstanding.{entry_with, without}
+use Rattle.dap_tables.specs.declared.entry.Entry.{Entry as Waiting}
+use Rattle.dap_client.specs.declared.fault.ClientFault.{ClientFault}
+use Rattle.dap_client.specs.declared.fault.ClientFault.TheVariants.{Unmatched, CommandMismatch, ReferenceLimit, SeqExhausted}
+use Rattle.dap_client.specs.Changes.{signal_named}
+use Rattle.dap_client.specs.Seen.{Seen, learned, after_response, after_event}
+use Rattle.dap_client.specs.Session.{Session}
+
+-- what is written, and the session afterwards
+pub record Made : Type 0 where
+  pub written : List Message
+  pub after : Session
+
+-- nothing is written
+abbrev pub silently : Session → Made
+silently s = record { written = []; after = s }
+
+-- as it stands in a history
+abbrev pub entries_of : Made → List Entry
+entries_of m = map (λ written. Out written []) m.written
+
+-- as it is handed out
+abbrev pub bytes_of : Made → List ℕ
+bytes_of m = flat_map (λ written. frame_of (canon written)) m.written
+
+-- ---- a request of the adapter
+
+-- answered at once
+abbrev pub declined : ℕ → List ℕ → Session → Made
+declined seq command s = record { written = failed (s.used + 1) seq command Unsupported ∷ []; after = record s { used = s.used + 1 } }
+
+abbrev pub takes_request : ℕ → List ℕ → Session → Result Made ClientFault
+takes_request seq command s = if nat_lt s.used s.limits.seq then Ok (declined seq command s) else Err SeqExhausted
+
+-- ---- a response
+
+-- its request is answered
+abbrev pub answered : ℕ → Seen → Session → Made
+answered request_seq seen s = silently (record s { seen = seen; outstanding = without request_seq s.outstanding })
+
+-- unless more references would be known than there may be
+abbrev pub answered_within : ℕ → Bool → List ℕ → Option Data → Session → Result Made ClientFault
+answered_within request_seq ok command body s =
+    if nat_le (length (learned ok (command_named command) body s.seen)) s.limits.references
+    then Ok (answered request_seq (after_response request_seq ok (command_named command) body s.seen) s)
+    else Err ReferenceLimit
+
+-- of the request that waits, if one does
+abbrev pub takes_answer : Option Waiting → ℕ → Bool → List ℕ → Option Data → Session → Result Made ClientFault
+takes_answer None request_seq ok command body s = Err (Unmatched request_seq)
+takes_answer (Some r) request_seq ok command body s = if bytes_eq command r.command then answered_within request_seq ok command body s else Err (CommandMismatch request_seq)
+
+-- ---- messages
+
+abbrev pub takes_as : ℕ → Kind → Session → Result Made ClientFault
+takes_as seq (Request command arguments) s = takes_request seq command s
+takes_as seq (Response request_seq ok command message body) s = takes_answer (entry_with request_seq s.outstanding) request_seq ok command body s
+takes_as seq (Event event body) s = Ok (silently (record s { seen = after_event (signal_named event) body s.seen }))
+takes_as seq (Other tag) s = Ok (silently s)
+
+-- what a delivered message comes to, or why it closes the client
+abbrev pub takes : Message → Session → Result Made ClientFault
+takes m s = takes_as m.seq m.kind s

@@ -1,0 +1,254 @@
+//! A client, call by call.
+ghost use Rattle.std.specs.Prelude.{◌≡◌, ℕ, ◌+◌, ◌<◌, ◌≤◌, List, [], ◌∷◌, length, max, IfOk, IfErr, OnOk, OnErr, IfSome, IsTrue, None, Some, Err};
+ghost use Rattle.dap_frame.specs.Intake.{IsReady, IsUnderWay};
+ghost use Rattle.dap_history.specs.History.{Entry, Out, Went, waiting};
+ghost use Rattle.dap_message.specs.Meaning.{Msg};
+ghost use Rattle.dap_message.specs.PlainCall.{is_plain_call};
+ghost use Rattle.dap_client.specs.Calls.{refusal_of, NotSent, Takes, TakeRefused};
+ghost use Rattle.dap_client.specs.Receives.{HasReceived, IsUnread, fault_of_frame};
+ghost use Rattle.dap_client.specs.Seen.{phase_in, ready_in, capabilities_in, references_in};
+ghost use Rattle.dap_client.specs.Sending.{next_message, sent_bytes, after_send};
+ghost use Rattle.dap_client.specs.Session.{fresh_session};
+ghost use Rattle.dap_client.specs.StandsFor.{StandsFor, GoesOn};
+
+use crate::fault::{ClientFault, SendFault};
+use crate::got::{Got, Sent};
+use crate::laws::{each_step_goes_on, each_step_stays_within};
+use crate::phase::Phase;
+use crate::session::Session;
+use dap_frame::{Cause, FrameFault, Frames, Limits};
+use dap_history::laws::histories_grow;
+use dap_message::{BodyFault, Call, Capabilities, Message, read_message};
+use std::alloc::{AllocError, Global};
+use std::marker::Model;
+
+/// A client: it sends requests, and takes what the adapter writes.
+#[derive(Drop)]
+pub struct Client {
+    session: Session,
+    frames: Frames,
+    fault: Option<ClientFault>,
+}
+
+impl Model for Client {
+    ghost use Rattle.std.specs.Coded.{codes};
+    ghost use Rattle.dap_json.specs.Stored.{coded_data};
+    ghost use Rattle.dap_client.specs.End.{End};
+    ghost use Rattle.dap_client.specs.Calls.{IsClient};
+
+    ghost Value = { End };
+
+    ghost coded = { Prim.hlevel (codes, coded_data) };
+
+    ghost view = { λ c. record { session = c.session; intake = c.frames; fault = c.fault } };
+
+    ghost invariant = { λ c. IsClient c.session.limits c.frames c.fault };
+}
+
+impl Client {
+    /// A fresh end: nothing was sent, and nothing came.
+    pub fn open(alloc: Global, limits: Limits) -> Result<Client, AllocError>
+        ensures session { IfOk result (λ c. c.session ≡ fresh_session limits) }
+        ensures fault { IfOk result (λ c. c.fault ≡ None) }
+        ensures stands { IfOk result (λ c. StandsFor c [] []) }
+    {
+        each_step_goes_on();
+        each_step_stays_within();
+        let frames = Frames::open(alloc, &limits)?;
+        let session = Session::open(alloc, limits)?;
+        Ok(Client {
+            session,
+            frames,
+            fault: None,
+        })
+    }
+
+    /// How many requests that were sent are not answered yet.
+    pub fn outstanding(&self) -> usize
+        ensures count { result ≡ length self.now.session.outstanding }
+        ensures bound { result ≤ self.now.session.limits.requests }
+        ensures waiting { (s : List ℕ) (h : List Entry) → StandsFor self.now s h → result ≡ length (waiting Went h) }
+    {
+        self.session.outstanding()
+    }
+
+    /// How many references are known: those that the adapter gave in this stop, each counted once by kind and number.
+    pub fn references(&self) -> usize
+        ensures count { result ≡ length self.now.session.seen.known }
+        ensures bound { result ≤ self.now.session.limits.references }
+        ensures given { (s : List ℕ) (h : List Entry) → StandsFor self.now s h → result ≡ length (references_in h) }
+    {
+        self.session.references()
+    }
+
+    /// The flags of the last success of `initialize`, changed by each `capabilities` event after it; before a success,
+    /// those that such events named.
+    pub fn capabilities(&self) -> Capabilities
+        ensures value { result ≡ self.now.session.seen.capabilities }
+        ensures seen { (s : List ℕ) (h : List Entry) → StandsFor self.now s h → result ≡ capabilities_in h }
+    {
+        self.session.capabilities()
+    }
+
+    /// Whether the event `initialized` came.
+    pub fn ready(&self) -> bool
+        ensures value { result ≡ self.now.session.seen.ready }
+        ensures seen { (s : List ℕ) (h : List Entry) → StandsFor self.now s h → result ≡ ready_in h }
+    {
+        self.session.ready()
+    }
+
+    /// How far the session is. A fault leaves the phase as it was.
+    pub fn phase(&self) -> Phase
+        ensures value { result ≡ self.now.session.seen.phase }
+        ensures seen { (s : List ℕ) (h : List Entry) → StandsFor self.now s h → result ≡ phase_in h }
+    {
+        self.session.phase()
+    }
+
+    /// The bytes held of the frame under way. After a fault there are none.
+    pub fn held(&self) -> usize
+        ensures held { result ≡ length self.now.intake.held }
+        ensures bounded { result ≤ max self.now.session.limits.header self.now.session.limits.body }
+        ensures closed { IfSome self.now.fault (λ fault. result ≡ 0) }
+    {
+        let _ = &self.fault;
+        self.frames.held()
+    }
+
+    /// Sends a call: the framed request, with the next own number. A refused call changes nothing, and the client goes on.
+    ///
+    /// # Errors
+    /// The first of these that holds: `Ended` after `disconnect` was sent or a fault closed the client; `WrongPhase` where
+    /// the phase does not let the command be sent, and it does not merely wait for a stop; `NotSupported` where the adapter
+    /// does not offer it; `NotStopped` where it is sent in a stop alone and the debuggee runs or resumes;
+    /// `UnknownReference` where a reference among the arguments is not known; `TooLarge` where the body would be longer than
+    /// its limit; `Full` where as many requests are outstanding as may be; `SeqExhausted` where no own number is left.
+    /// `OutOfMemory` where memory for the request is refused: never where one of the first five holds.
+    pub fn send(&mut self, alloc: Global, call: &Call) -> Result<Sent, SendFault>
+        requires plain { IsTrue (is_plain_call call.now) }
+        ensures sent { OnOk result (refusal_of call.now self.old ≡ None) }
+        ensures seq { IfOk result (λ sent. sent.seq ≡ self.old.session.used + 1) }
+        ensures bytes { IfOk result (λ sent. sent.bytes.items ≡ sent_bytes self.old.session call.now) }
+        ensures session { OnOk result (self.new ≡ record self.old { session = after_send call.now self.old.session }) }
+        ensures goes_on { OnOk result (GoesOn self.old self.new [] (Out (next_message self.old.session call.now) [] ∷ [])) }
+
+        // Why it is refused; then nothing has changed.
+        ensures refused { IfErr result (λ fault. NotSent fault call.now self.old) }
+        ensures unchanged { OnErr result (self.new ≡ self.old) }
+    {
+        histories_grow();
+        each_step_goes_on();
+        each_step_stays_within();
+        let closed = self.fault.is_some();
+        self.session.send(alloc, closed, call)
+    }
+
+    /// Uses the bytes of a piece up to the end of one frame at most, and delivers the message that becomes whole.
+    ///
+    /// A response ends the waiting of the request that it answers, and a success in a stop makes its references known. A
+    /// request of the adapter is answered `unsupported` at once. An event changes what it says. Any other message has no
+    /// effect.
+    ///
+    /// # Errors
+    /// `Frame` and `Body` where the framing or a body is refused, at the offset of the refused frame; `Unmatched` for a
+    /// response to a number that no outstanding request has; `CommandMismatch` where that request has another command;
+    /// `ReferenceLimit` where more references would be known than may be; `SeqExhausted` where a request of the adapter is
+    /// to be answered and no own number is left; `OutOfMemory` where memory is refused for the bytes of a frame, or once a
+    /// body is whole. Then the tables are as they were, every later `take` answers it again, and `send` answers `Ended`.
+    pub fn take(&mut self, alloc: Global, piece: &[u8]) -> Result<Got, ClientFault>
+        ensures takes { IfOk result (λ got. Takes self.old piece.now got got.delivered self.new) }
+        ensures progress { IfOk result (λ got. 0 < length piece.now → 0 < got.used) }
+        ensures within { IfOk result (λ got. got.used ≤ length piece.now) }
+        ensures open { OnOk result (self.new.fault ≡ None) }
+        ensures limits { self.new.session.limits ≡ self.old.session.limits }
+
+        // Why it is refused; then the tables are as they were, and nothing is held.
+        ensures refused { IfErr result (λ fault. self.old.fault ≡ None → TakeRefused self.old.intake self.old.session piece.now fault) }
+        ensures tables { OnErr result (self.new.session ≡ self.old.session) }
+        ensures held { OnErr result (self.new.intake.held ≡ []) }
+        ensures latches { IfErr result (λ fault. self.new.fault ≡ Some fault) }
+        ensures latched { IfSome self.old.fault (λ fault. (result ≡ Err fault) × (self.new ≡ self.old)) }
+    {
+        if let Some(fault) = self.fault {
+            return Err(fault);
+        }
+        histories_grow();
+        each_step_goes_on();
+        each_step_stays_within();
+        match receive(alloc, &mut self.frames, &mut self.session, piece) {
+            Ok(got) => Ok(got),
+            Err(fault) => {
+                self.frames.close();
+                self.fault = Some(fault);
+                Err(fault)
+            }
+        }
+    }
+}
+
+/// The message that the ready body is.
+fn read_body(alloc: Global, frames: &mut Frames) -> Result<Message, ClientFault>
+    requires { IsReady frames.old }
+    ensures same { frames.new ≡ frames.old }
+    ensures read { IfOk result (Msg frames.old.held) }
+    ensures fault { IfErr result (IsUnread frames.old) }
+{
+    let offset = frames.offset();
+    let Some(body) = frames.body() else {
+        unreachable!()
+    };
+    match read_message(alloc, body) {
+        Ok(message) => Ok(message),
+        Err(BodyFault::Refused(cause)) => Err(ClientFault::Body { cause, offset }),
+        Err(BodyFault::OutOfMemory) => Err(ClientFault::OutOfMemory),
+    }
+}
+
+/// Why a stream is closed.
+fn frame_fault(fault: FrameFault) -> ClientFault
+    ensures { result ≡ fault_of_frame fault }
+{
+    match fault.cause {
+        Cause::Refused(_) => ClientFault::Frame(fault),
+        Cause::OutOfMemory => ClientFault::OutOfMemory,
+    }
+}
+
+/// Takes bytes up to the end of a frame at most, and hands its message to the session.
+fn receive(
+    alloc: Global,
+    frames: &mut Frames,
+    session: &mut Session,
+    piece: &[u8],
+) -> Result<Got, ClientFault>
+    requires { IsUnderWay frames.old }
+    ensures bounds { frames.new.bounds ≡ frames.old.bounds }
+    ensures under_way { OnOk result (IsUnderWay frames.new) }
+    ensures received { IfOk result (λ got. HasReceived frames.old frames.new session.old session.new piece.now got got.delivered) }
+    ensures progress { IfOk result (λ got. 0 < length piece.now → 0 < got.used) }
+    ensures within { IfOk result (λ got. got.used ≤ length piece.now) }
+    ensures refused { IfErr result (λ fault. TakeRefused frames.old session.old piece.now fault) }
+    ensures err { OnErr result (session.new ≡ session.old) }
+    ensures limits { session.new.limits ≡ session.old.limits }
+{
+    let fed = match frames.feed(piece) {
+        Ok(fed) => fed,
+        Err(fault) => return Err(frame_fault(fault)),
+    };
+    if !fed.ready {
+        return Ok(Got {
+            used: fed.used,
+            delivered: None,
+            bytes: Vec::new(alloc),
+        });
+    }
+    let message = read_body(alloc, frames)?;
+    frames.release();
+    let bytes = session.take(alloc, &message)?;
+    Ok(Got {
+        used: fed.used,
+        delivered: Some(message),
+        bytes,
+    })
+}

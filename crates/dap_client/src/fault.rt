@@ -1,0 +1,71 @@
+//! Why a client sends nothing, and why it is closed.
+
+use dap_frame::FrameFault;
+use dap_message::BodyRefusal;
+use std::alloc::AllocError;
+
+/// Why a request is not sent: the first of these that holds, in this order. Nothing changes then.
+#[derive(Clone, Copy, Debug, PartialEq, Eq)]
+pub enum SendFault {
+    /// `disconnect` was sent, or the client is closed by a fault.
+    Ended,
+    /// The phase does not let the command be sent, and it does not merely wait for a stop.
+    WrongPhase,
+    /// The adapter does not offer the command.
+    NotSupported,
+    /// The command is sent while the debuggee is stopped, and it is not.
+    NotStopped,
+    /// A reference among the arguments is not known.
+    UnknownReference,
+    /// The body would be longer than the limit.
+    TooLarge,
+    /// As many requests are outstanding as there may be.
+    Full,
+    /// No own sequence number is left.
+    SeqExhausted,
+    /// Memory was refused.
+    OutOfMemory,
+}
+
+impl From<AllocError> for SendFault {
+    ghost use Rattle.std.specs.Prelude.{◌≡◌};
+    ghost use Rattle.dap_client.specs.declared.fault.SendFault.{SendFault};
+
+    ghost from_gives = { λ _ fault. fault ≡ SendFault.OutOfMemory };
+
+    fn from(_: AllocError) -> Self {
+        SendFault::OutOfMemory
+    }
+}
+
+/// Why a client is closed. It is answered by every later `take`, `send` answers `Ended`, and nothing more is written.
+#[derive(Clone, Copy, Debug, PartialEq, Eq)]
+pub enum ClientFault {
+    /// The stream is no frame at this offset, in bytes.
+    Frame(FrameFault),
+    /// The body of the frame at this offset, in bytes, is no message.
+    Body { cause: BodyRefusal, offset: u64 },
+    /// No request with this seq is outstanding.
+    Unmatched { request_seq: u64 },
+    /// The request with this seq has another command.
+    CommandMismatch { request_seq: u64 },
+    /// A request of the adapter with this seq is not answered yet. As long as each is answered when it comes, there is none.
+    RepeatedSeq { seq: u64 },
+    /// More references would be known than there may be.
+    ReferenceLimit,
+    /// A request of the adapter was to be answered, and no own sequence number is left.
+    SeqExhausted,
+    /// Memory was refused.
+    OutOfMemory,
+}
+
+impl From<AllocError> for ClientFault {
+    ghost use Rattle.std.specs.Prelude.{◌≡◌};
+    ghost use Rattle.dap_client.specs.declared.fault.ClientFault.{ClientFault};
+
+    ghost from_gives = { λ _ fault. fault ≡ ClientFault.OutOfMemory };
+
+    fn from(_: AllocError) -> Self {
+        ClientFault::OutOfMemory
+    }
+}

@@ -1,0 +1,31 @@
+//! Laws of the definitions, each on a function with nothing to run.
+ghost use Rattle.dap_client.specs.Laws.{EachStepGoesOn};
+ghost use Rattle.dap_client.specs.Seat.{EachStepProjects};
+ghost use Rattle.dap_client.specs.Within.{EachStepStaysWithin};
+
+use dap_history::laws::histories_grow;
+use dap_tables::laws::known_is_a_set;
+
+/// Each step goes on as its history does: a request is outstanding exactly while it is unanswered, each response that is
+/// accepted or written answers exactly one request that was unanswered, and the phase, the capabilities and the references
+/// are those of the history.
+pub fn each_step_goes_on()
+    ensures { EachStepGoesOn }
+{
+    histories_grow();
+}
+
+/// What is true of every session stays true: no two outstanding requests have the same number, no more are outstanding and
+/// no more references are known than there is room for, each reference is known once, and no number is given past the
+/// greatest.
+pub fn each_step_stays_within()
+    ensures { EachStepStaysWithin }
+{
+    known_is_a_set();
+}
+
+/// Each step is one of the smaller client, `Seat`, which sees classes of commands in place of commands, and of the state
+/// the phase, `ready`, the numbers, the outstanding requests and the references alone. A law over both ends goes by that.
+pub fn each_step_projects()
+    ensures { EachStepProjects }
+{}

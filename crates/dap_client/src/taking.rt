@@ -1,0 +1,256 @@
+//! What comes of a message that is delivered.
+ghost use Rattle.std.specs.Prelude.{◌≡◌, ◌+◌, ◌≤◌, ◌<◌, [], ◌∷◌, ◌++◌, length, if◌then◌else◌, ◌&&◌, IfOk, IfErr, OnOk, OnErr, IsTrue, Some, None, codes, option_and_then};
+ghost use Rattle.dap_json.specs.Field.{tree_at};
+ghost use Rattle.dap_frame.specs.Written.{frame_of};
+ghost use Rattle.dap_message.specs.Canon.{canon};
+ghost use Rattle.dap_message.specs.Lengths.{failed};
+ghost use Rattle.dap_message.specs.Types.Failure.{Failure};
+ghost use Rattle.dap_tables.specs.Outstanding.{entry_with};
+ghost use Rattle.dap_client.specs.Changes.{change_in, signal_named};
+ghost use Rattle.dap_client.specs.Keeping.{matched, IsMade, IsWhyClosed, IsWhyUnlearned};
+ghost use Rattle.dap_client.specs.declared.phase.Phase.TheVariants.{Initializing};
+ghost use Rattle.dap_message.specs.Capabilities.{offered_by};
+ghost use Rattle.dap_client.specs.Phases.{is_phase, is_among, in_a_stop};
+ghost use Rattle.dap_client.specs.Seen.{is_initialize, lesson, learned, offered, cause_of, changed, told, after_answer, after_signal, after_event, updated_from, is_ready_after};
+ghost use Rattle.dap_client.specs.Taking.{takes, takes_answer, takes_request};
+
+use crate::changes;
+use crate::fault::ClientFault;
+use crate::giving::given_in;
+use crate::phase::Phase;
+use crate::session::Session;
+use crate::signal::Signal;
+use dap_frame::write_frame;
+use dap_message::{Capabilities, Command, Failure, Kind, Message, Text, Tree, write_failure};
+use dap_tables::{KnownFault, ReferenceKind};
+use std::alloc::{AllocError, Global};
+
+/// Whether references are known in a phase.
+fn is_in_a_stop(phase: Phase) -> bool
+    ensures { result ≡ is_among phase in_a_stop }
+{
+    match phase {
+        Phase::Stopped => true,
+        Phase::Resuming => true,
+        _ => false,
+    }
+}
+
+/// The references that a response gives in a phase.
+fn lesson(
+    alloc: Global,
+    success: bool,
+    command: Option<Command>,
+    body: &Option<Tree>,
+    phase: Phase,
+) -> Result<Vec<(ReferenceKind, u32)>, AllocError>
+    ensures { IfOk result (λ pairs. pairs.items ≡ lesson success command body.now phase) }
+{
+    if success && is_in_a_stop(phase) {
+        given_in(alloc, command, body)
+    } else {
+        Ok(Vec::new(alloc))
+    }
+}
+
+/// What the adapter offers, once a response to a command came.
+fn offered(
+    phase: Phase,
+    before: Capabilities,
+    success: bool,
+    command: Command,
+    body: &Option<Tree>,
+) -> Capabilities
+    ensures { result ≡ (if is_phase Initializing phase && (success && is_initialize command) then offered_by body.now else before) }
+{
+    match phase {
+        Phase::Initializing => match command {
+            Command::Initialize => {
+                if !success {
+                    return before;
+                }
+                match body {
+                    None => Capabilities::read(None),
+                    Some(body) => Capabilities::read(Some(body.value())),
+                }
+            }
+            _ => before,
+        },
+        _ => before,
+    }
+}
+
+impl Session {
+    /// Whether a response answers the request that waits, if one does.
+    fn matches(&self, request_seq: u64, command: &Text) -> Result<(), ClientFault>
+        ensures { result ≡ matched (entry_with request_seq self.now.outstanding) request_seq command.now }
+    {
+        match self.waiting(request_seq) {
+            None => Err(ClientFault::Unmatched { request_seq }),
+            Some(entry) => {
+                if entry.command.as_str() == command.as_str() {
+                    Ok(())
+                } else {
+                    Err(ClientFault::CommandMismatch { request_seq })
+                }
+            }
+        }
+    }
+
+    /// Learns the references that a response gives, or none of them.
+    fn learn(
+        &mut self,
+        alloc: Global,
+        success: bool,
+        command: Option<Command>,
+        body: &Option<Tree>,
+    ) -> Result<(), ClientFault>
+        ensures ok { OnOk result (self.new ≡ record self.old { seen = record self.old.seen { known = learned success command body.now self.old.seen } }) }
+        ensures within { OnOk result (length (learned success command body.now self.old.seen) ≤ self.old.limits.references) }
+        ensures refused { IfErr result (λ fault. IsWhyUnlearned fault self.old.limits.references (length (learned success command body.now self.old.seen))) }
+        ensures err { OnErr result (self.new ≡ self.old) }
+    {
+        let pairs = lesson(alloc, success, command, body, self.phase)?;
+        match self.known.add(&pairs) {
+            Ok(()) => Ok(()),
+            Err(KnownFault::Full) => Err(ClientFault::ReferenceLimit),
+            Err(KnownFault::OutOfMemory) => Err(ClientFault::OutOfMemory),
+        }
+    }
+
+    /// What the response to a request changes, once its references are known.
+    fn note_answer(
+        &mut self,
+        request_seq: u64,
+        success: bool,
+        command: Command,
+        body: &Option<Tree>,
+    )
+        ensures { self.new ≡ record self.old { seen = changed (change_in (cause_of request_seq command success self.old.seen) self.old.seen.phase) (record self.old.seen { capabilities = offered success command body.now self.old.seen }) } }
+    {
+        let resumes = self.phase == Phase::Resuming && request_seq == self.resumer;
+        let change = if resumes {
+            changes::by_resuming(success, self.phase)
+        } else {
+            changes::by_answer(command, success, self.phase)
+        };
+        self.capabilities = offered(self.phase, self.capabilities, success, command, body);
+        self.change(change);
+    }
+
+    /// What an event changes.
+    fn note_event(&mut self, event: &Text, body: &Option<Tree>)
+        ensures { self.new ≡ record self.old { seen = after_event (signal_named event.now) body.now self.old.seen } }
+    {
+        if let Some(signal) = Signal::named(event.as_str()) {
+            let change = changes::by_signal(signal, self.phase);
+            match signal {
+                Signal::Initialized => self.ready = true,
+                Signal::Capabilities => self.capabilities = updated(self.capabilities, body),
+                _ => {}
+            }
+            self.change(change);
+        }
+    }
+
+    /// Takes a response, or refuses it.
+    fn take_response(
+        &mut self,
+        alloc: Global,
+        request_seq: u64,
+        success: bool,
+        command: &Text,
+        body: &Option<Tree>,
+    ) -> Result<(), ClientFault>
+        ensures limits { self.new.limits ≡ self.old.limits }
+        ensures ok { OnOk result (IsMade (takes_answer (entry_with request_seq self.old.outstanding) request_seq success command.now body.now self.old) self.new []) }
+        ensures refused { IfErr result (λ fault. IsWhyClosed fault (takes_answer (entry_with request_seq self.old.outstanding) request_seq success command.now body.now self.old)) }
+        ensures err { OnErr result (self.new ≡ self.old) }
+    {
+        match self.matches(request_seq, command) {
+            Ok(()) => {}
+            Err(fault) => return Err(fault),
+        }
+        let known = Command::of_name(command.as_str());
+        match self.learn(alloc, success, known, body) {
+            Ok(()) => {}
+            Err(fault) => return Err(fault),
+        }
+        self.settle(request_seq);
+        if let Some(command) = known {
+            self.note_answer(request_seq, success, command, body);
+        }
+        Ok(())
+    }
+
+    /// Answers a request of the adapter that it is not supported.
+    fn decline(&mut self, alloc: Global, seq: u64, command: &Text) -> Result<Vec<u8>, ClientFault>
+        ensures limits { self.new.limits ≡ self.old.limits }
+        ensures ok { IfOk result (λ bytes. IsMade (takes_request seq command.now self.old) self.new bytes.items) }
+        ensures refused { IfErr result (λ fault. IsWhyClosed fault (takes_request seq command.now self.old)) }
+        ensures err { OnErr result (self.new ≡ self.old) }
+    {
+        let _ = &self.limits;
+        let mut numbers = self.numbers;
+        let number = match numbers.next() {
+            Some(number) => number,
+            None => return Err(ClientFault::SeqExhausted),
+        };
+        let bytes = declined(alloc, number, seq, command)?;
+        self.numbers = numbers;
+        Ok(bytes)
+    }
+
+    /// Takes a message, or refuses it: what is to be written.
+    pub(crate) fn take(&mut self, alloc: Global, message: &Message) -> Result<Vec<u8>, ClientFault>
+        ensures limits { self.new.limits ≡ self.old.limits }
+        ensures ok { IfOk result (λ bytes. IsMade (takes message.now self.old) self.new bytes.items) }
+        ensures refused { IfErr result (λ fault. IsWhyClosed fault (takes message.now self.old)) }
+        ensures err { OnErr result (self.new ≡ self.old) }
+    {
+        let _ = &self.limits;
+        match &message.kind {
+            Kind::Request { command, .. } => self.decline(alloc, message.seq, command),
+            Kind::Response {
+                request_seq,
+                success,
+                command,
+                body,
+                ..
+            } => match self.take_response(alloc, *request_seq, *success, command, body) {
+                Ok(()) => Ok(Vec::new(alloc)),
+                Err(fault) => Err(fault),
+            },
+            Kind::Event { event, body } => {
+                self.note_event(event, body);
+                Ok(Vec::new(alloc))
+            }
+            Kind::Other { .. } => Ok(Vec::new(alloc)),
+        }
+    }
+}
+
+/// The answer to a request of the adapter, as it is written.
+fn declined(alloc: Global, number: u64, seq: u64, command: &Text) -> Result<Vec<u8>, AllocError>
+    ensures { IfOk result (λ bytes. bytes.items ≡ frame_of (canon (failed number seq command.now Failure.Unsupported))) }
+{
+    let text = write_failure(alloc, number, seq, command.as_str(), Failure::Unsupported)?;
+    let mut bytes = Vec::new(alloc);
+    write_frame(&mut bytes, &text)?;
+    Ok(bytes)
+}
+
+/// The flags, once those that the body of an event names have replaced the old ones.
+fn updated(before: Capabilities, body: &Option<Tree>) -> Capabilities
+    ensures { result ≡ updated_from (option_and_then (tree_at (codes "capabilities")) body.now) before }
+{
+    let mut capabilities = before;
+    if let Some(body) = body {
+        if let Some(object) = body.value().get("capabilities") {
+            if !object.is_null() {
+                capabilities.update(object);
+            }
+        }
+    }
+    capabilities
+}
