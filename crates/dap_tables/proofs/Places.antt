@@ -4,7 +4,7 @@ use Rattle.std.specs.Prelude.{nat_lt}
 use Rattle.std.specs.List.{position_or_len}
 use Rattle.std.proofs.lemmas.Bool.Decides.{nat_tests}
 
-lt-true : (a b : ℕ) → a < b → nat_lt a b ≡ true
+pub lt-true : (a b : ℕ) → a < b → nat_lt a b ≡ true
 lt-true a b h = grind (arith, nat_tests)
 
 lt-suc : (a b : ℕ) → nat_lt (1 + a) (suc b) ≡ nat_lt a b

@@ -1,17 +1,20 @@
 -- The stored requests and what a contract sees of them.
-use Rattle.std.proofs.Common.{length, arith, ◌≤◌, ◌≡◌, ◌≢◌, ℕ, ◌+◌, List, [], ◌∷◌, ◌++◌, Bool, true, false, not, Option, Some, map, refl, sym, ap, ◌∙◌, cond, subst}
-use Rattle.std.specs.Prelude.{◌==◌, ◌&&◌, if◌then◌else◌, find, filter}
+use Rattle.std.proofs.Common.{length, arith, ◌≤◌, ◌<◌, zero, suc, ◌-◌, get_or, position, None, ◌≡◌, ◌≢◌, ℕ, ◌+◌, List, [], ◌∷◌, ◌++◌, Bool, true, false, not, Option, Some, map, refl, sym, ap, ◌∙◌, cond, subst}
+use Rattle.std.specs.Prelude.{◌==◌, ◌&&◌, nat_lt, slice_get, if◌then◌else◌, find, filter}
 use Rattle.std.specs.List.{list_any, position_or_len, remove, count_by}
 use Rattle.std.proofs.lemmas.List.Recursion.{is_count_by}
 use Rattle.std.specs.Option.{option_map}
 use Rattle.std.proofs.Math.Numerals.{one-add}
 use Rattle.std.proofs.lemmas.List.{map-append, length-map}
+use Rattle.std.proofs.lemmas.List.Sums.{position_or_len_is}
+use Rattle.std.proofs.lemmas.Option.{get_or_from_slice_get, slice_get_within}
 use Rattle.dap_tables.specs.declared.entry.Entry.{Entry}
 use Rattle.dap_tables.specs.declared.slot.Slot.{Slot}
 use Rattle.dap_tables.specs.Slot.{kept_of, table_of, slot_marked}
 use Rattle.dap_tables.specs.Outstanding.{Kept, KeptRequests, entries, contains_seq, entry_with, without, is_parked, with_mark, marked, unparked, oldest_unparked, parked_ones, unparked_ones, HasDistinctSeqs, IsOrderly}
-use Rattle.dap_tables.proofs.Lists.{list_any-map, map-map}
-use Rattle.dap_tables.proofs.KeptLemmas.{eqb-self, eqb-other, without-absent, without-none, same-seq, finding, contains_from_is_parked, contains_from_oldest, unparked_from_oldest, IsOrderly-push, contains_seq-push, entry_with-push, without-push, IsOrderly-without, IsOrderly-unparked, length-filter, contains_seq-without}
+use Rattle.dap_tables.proofs.Places.{lt-true}
+use Rattle.dap_tables.proofs.Lists.{list_any-map, map-map, or-left, or-right}
+use Rattle.dap_tables.proofs.KeptLemmas.{eqb-flip, eqb-self, eqb-other, without-absent, without-none, same-seq, finding, contains_from_is_parked, contains_from_oldest, unparked_from_oldest, IsOrderly-push, contains_seq-push, entry_with-push, without-push, IsOrderly-without, IsOrderly-unparked, length-filter, contains_seq-without}
 
 pub contains_seq-slots : (seq : ℕ) (slots : List Slot) → list_any (λ slot. slot.entry.seq == seq) slots ≡ contains_seq seq (map kept_of slots)
 contains_seq-slots seq slots = sym (list_any-map kept_of (λ (k : Kept). k.entry.seq == seq) slots)
@@ -39,6 +42,28 @@ oldest_unparked-slots [] = refl
 oldest_unparked-slots (s ∷ slots) = oldest-cases (not s.parked) s (find (λ (t : Slot). not t.parked) slots) (find (λ (k : Kept). not k.parked) (map kept_of slots)) (oldest_unparked-slots slots)
 
 -- ---- the stored requests without one
+
+-- a request that is not kept stands at no place
+absent-at : (seq : ℕ) (slots : List Slot) (j : ℕ) (d : Slot) → contains_seq seq (map kept_of slots) ≡ false → j < length slots → ((get_or slots j d).entry.seq == seq) ≡ false
+absent-at seq [] j d h l = grind arith
+absent-at seq (s ∷ slots) zero d h l = or-left (s.entry.seq == seq) (contains_seq seq (map kept_of slots)) h
+absent-at seq (s ∷ slots) (suc j) d h l = absent-at seq slots j d (or-right (s.entry.seq == seq) (contains_seq seq (map kept_of slots)) h) (omega arith)
+
+-- requests at two places have two numbers
+apart-at : (slots : List Slot) (i j : ℕ) (d : Slot) → HasDistinctSeqs (map kept_of slots) → i < j → j < length slots → ((get_or slots i d).entry.seq == (get_or slots j d).entry.seq) ≡ false
+apart-at [] i j d h l m = grind arith
+apart-at (s ∷ slots) i zero d h l m = grind arith
+apart-at (s ∷ slots) zero (suc j) d h l m = eqb-flip s.entry.seq (get_or slots j d).entry.seq ∙ absent-at s.entry.seq slots j d h.0 (omega arith)
+apart-at (s ∷ slots) (suc i) (suc j) d h l m = apart-at slots i j d h.1 (omega arith) (omega arith)
+
+-- where the last one has this number, it is the first with it
+pub last-place : (seq : ℕ) (slots : List Slot) (s : Slot) → HasDistinctSeqs (map kept_of slots) → slice_get slots (length slots - 1) ≡ Some s → s.entry.seq ≡ seq → position (λ slot. slot.entry.seq == seq) slots ≡ Some (length slots - 1)
+last-place seq slots s h e f =
+    let l : length slots - 1 < length slots = slice_get_within slots (length slots - 1) s e in
+    let is : (get_or slots (length slots - 1) s).entry.seq ≡ seq = ap (λ (t : Slot). t.entry.seq) (get_or_from_slice_get slots (length slots - 1) s s e) ∙ f in
+    let before : (k : ℕ) → k < length slots - 1 → ((get_or slots k s).entry.seq == seq) ≡ false = λ k m. ap (λ (n : ℕ). (get_or slots k s).entry.seq == n) (sym is) ∙ apart-at slots k (length slots - 1) s h m l in
+    let place : position_or_len (λ (slot : Slot). slot.entry.seq == seq) slots ≡ length slots - 1 = position_or_len_is (λ (slot : Slot). slot.entry.seq == seq) slots (length slots - 1) s (omega arith) before (λ _. ap (λ (n : ℕ). n == seq) is ∙ eqb-self seq) in
+    ap (λ (n : ℕ). cond (nat_lt n (length slots)) (Some n) None) place ∙ ap (λ (b : Bool). cond b (Some (length slots - 1)) None) (lt-true (length slots - 1) (length slots) l)
 
 remove-cases : (b : Bool) (n : ℕ) (s : Slot) (slots : List Slot) (kept : List Kept) → (b ≡ true → map kept_of slots ≡ kept) → map kept_of (remove slots n) ≡ kept → map kept_of (remove (s ∷ slots) (cond (not b) (1 + n) 0)) ≡ cond (not b) (kept_of s ∷ kept) kept
 remove-cases true n s slots kept f h = f refl

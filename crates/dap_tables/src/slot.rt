@@ -29,13 +29,12 @@ pub(crate) fn is_parked(slots: &[Slot], seq: u64) -> bool
 }
 
 pub(crate) fn entry_with(slots: &[Slot], seq: u64) -> Option<&Entry>
+    requires { HasDistinctSeqs (map kept_of slots.now) }
     ensures { let found = find (λ slot. slot.entry.seq == seq) slots.now in
         option_copied result ≡ option_map (λ slot. slot.entry) found }
 {
-    slots
-        .iter()
-        .find(|slot| slot.entry.seq == seq)
-        .map(|slot| &slot.entry)
+    let place = place_of(slots, seq)?;
+    Some(&slots[place].entry)
 }
 
 pub(crate) fn oldest_unparked(slots: &[Slot]) -> Option<u64>
@@ -48,10 +47,15 @@ pub(crate) fn oldest_unparked(slots: &[Slot]) -> Option<u64>
         .map(|slot| slot.entry.seq)
 }
 
+/// The place of a request. The one that came last is looked at first: where the last is answered first, none is walked past.
 fn place_of(slots: &[Slot], seq: u64) -> Option<usize>
+    requires { HasDistinctSeqs (map kept_of slots.now) }
     ensures { result ≡ position (λ slot. slot.entry.seq == seq) slots.now }
 {
-    slots.iter().position(|slot| slot.entry.seq == seq)
+    match slots.last() {
+        Some(last) if last.entry.seq == seq => Some(slots.len() - 1),
+        _ => slots.iter().position(|slot| slot.entry.seq == seq),
+    }
 }
 
 pub(crate) fn take(slots: &mut Vec<Slot>, seq: u64) -> Option<Entry>
