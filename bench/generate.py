@@ -14,6 +14,10 @@ These two end with the first frame that reaches SIZE bytes. KIND `requests` is o
 requests until the debuggee has stopped, and SIZE more that look around there. They are for the server of a
 `recording` with the same SEED; its SIZE is how many moments it has, at least two.
 
+KIND `client_mixed` is an adapter's side of one session that stops again and again, and `client_events` of one with
+little but events: what comes back where a client sends the requests of `client_mixed_requests` or
+`client_events_requests`. SIZE is that of the adapter's side, which ends with the first stop that reaches it.
+
 The same KIND, SIZE and SEED give the same bytes on every machine: of Python's generator only `random()` is used, whose
 sequence does not change between versions.
 
@@ -263,14 +267,18 @@ class Session:
     """Two ends: what each of them writes, as frames in the order of the wire."""
 
     def __init__(self, draw):
-        self.adapter = list(ADAPTERS)[int(draw() * len(ADAPTERS))]
+        adapter = list(ADAPTERS)[int(draw() * len(ADAPTERS))]
         self.client = list(CLIENTS)[int(draw() * len(CLIENTS))]
-        self.world = World(draw, self.adapter)
-        self.adapter_writer, self.counts = ADAPTERS[self.adapter]
         self.client_writer = CLIENTS[self.client]
+        self.speak_as(adapter, draw)
         self.asked = 0
         self.told = 0
         self.frames = []
+
+    def speak_as(self, adapter, draw):
+        self.adapter = adapter
+        self.world = World(draw, adapter)
+        self.adapter_writer, self.counts = ADAPTERS[adapter]
 
     def take(self):
         frames, self.frames = self.frames, []
@@ -293,13 +301,14 @@ class Session:
             del message["arguments"]
         self.frames.append(frame(self.client_writer(message)))
 
-    def respond(self, command, body=None, failure=None):
-        number = self.next_told()
+    def respond(self, command, body=None, failure=None, to=None):
+        """Answers a request by its number, or the last one."""
+        number, to = self.next_told(), to or self.asked
         if self.adapter == "rdbg":
-            message = {"type": "response", "command": command, "request_seq": self.asked, "success": failure is None,
+            message = {"type": "response", "command": command, "request_seq": to, "success": failure is None,
                        "message": failure or "Success"}
         else:
-            message = {"seq": number, "type": "response", "request_seq": self.asked, "success": failure is None,
+            message = {"seq": number, "type": "response", "request_seq": to, "success": failure is None,
                        "command": command}
             if failure is not None:
                 message["message"] = failure
@@ -407,12 +416,19 @@ class Session:
         expression = world.pick(["%s", "%s + 1", "len(%s)", "%s[0]", "%s == \"x\" && true"]) % world.name()
         self.request("evaluate", {"expression": expression, "frameId": world.between(1, 600000),
                                   "context": world.pick(["watch", "hover", "repl"])})
+        self.tell_value(lambda: world.below(4))
+
+    def tell_value(self, reference, to=None):
+        """Answers an `evaluate`, where there is a value with the reference that a function gives."""
+        world = self.world
         if world.chance(0.25):
             text = "could not find symbol value for " + world.name()
-            self.respond("evaluate", {"error": {"id": 2009, "format": text, "showUser": False}}, "Unable to evaluate")
+            body = {"error": {"id": 2009, "format": text, "showUser": False}}
+            self.respond("evaluate", body, "Unable to evaluate", to=to)
         else:
             kind = world.pick(TYPES[self.adapter])
-            self.respond("evaluate", {"result": world.value(kind), "type": kind, "variablesReference": world.below(4)})
+            body = {"result": world.value(kind), "type": kind, "variablesReference": reference()}
+            self.respond("evaluate", body, to=to)
 
     def breakpoints(self):
         world = self.world
@@ -425,6 +441,173 @@ class Session:
         self.request("setBreakpoints", {"source": {"name": file, "path": world.path(file)}, "breakpoints": asked})
         self.respond("setBreakpoints", {"breakpoints": [{"id": place + 1, "verified": True, "line": line}
                                                         for place, line in enumerate(lines)]})
+
+
+# ---- One session at a client -------------------------------------------------------------------------------
+
+OFFERED = ["supportsConfigurationDoneRequest", "supportsFunctionBreakpoints", "supportsConditionalBreakpoints",
+           "supportsEvaluateForHovers", "supportsSetVariable", "supportsCompletionsRequest", "supportsModulesRequest",
+           "supportsRestartRequest", "supportsExceptionInfoRequest", "supportTerminateDebuggee", "supportsLogPoints",
+           "supportsTerminateRequest", "supportsCancelRequest", "supportsBreakpointLocationsRequest"]
+RESUMING = ["continue", "continue", "next", "next", "stepIn", "stepOut"]
+
+
+class Conversation(Session):
+    """A session from its start to its end, with the frames of its two sides apart.
+
+    The client sends each request once fewer than two wait and the session allows it. So each request is made below
+    after the message that lets it go, and its number is known: the client numbers all that it sends, its answers to
+    requests of the adapter too. Each stop is written in the ways of one of the adapters.
+    """
+
+    def __init__(self, draw, mixed):
+        super().__init__(draw)
+        self.mixed = mixed
+        self.requests = []
+        self.given = 0
+
+    def request(self, command, arguments=None):
+        """Its number."""
+        super().request(command, arguments)
+        self.requests.append(self.frames.pop())
+        return self.asked
+
+    def parts(self, total):
+        """The requests, and what comes back, part by part; this has at least so many bytes."""
+        threads, told = self.start(), 0
+        while told < total:
+            threads = self.stop(threads)
+            told += sum(map(len, self.frames))
+            yield self.take_both()
+        self.end(threads)
+        yield self.take_both()
+
+    def take_both(self):
+        requests, self.requests = self.requests, []
+        return requests, self.take()
+
+    def reference(self):
+        """Those of a stop are numbered one after the other."""
+        self.given += 1
+        return self.given
+
+    def start(self):
+        world = self.world
+        begun = self.request("initialize", {
+            "clientID": "editor", "clientName": "Editor", "adapterID": self.adapter, "pathFormat": "path",
+            "linesStartAt1": True, "columnsStartAt1": True, "supportsVariableType": True, "locale": "en"})
+        self.respond("initialize", {flag: True for flag in OFFERED}, to=begun)
+        launched = self.request("launch", {"program": world.path(world.file()), "cwd": "/home/user/project", "args": [],
+                                           "env": {"LANG": "C.UTF-8"}, "stopOnEntry": False})
+        self.event("initialized")
+        self.breakpoints()
+        configured = self.request("configurationDone")
+        self.respond("configurationDone", to=configured)
+        threads = self.request("threads")
+        self.respond("launch", to=launched)
+        return threads
+
+    def stop(self, threads):
+        """A stop, before which the client has asked for the threads, and the number of the next such request."""
+        self.speak_as(self.world.pick(list(ADAPTERS)), self.world.draw)
+        world = self.world
+        self.given = world.below(1000)
+        thread = world.between(4000, 30000) if self.adapter == "lldb" else world.between(1, 9)
+        self.run(thread)
+        self.event("stopped", {"reason": world.pick(["breakpoint", "step", "pause"]), "threadId": thread,
+                               "allThreadsStopped": True})
+        frame = self.stack(thread, threads)
+        holder = self.scopes(frame)
+        return self.values(thread, frame, holder)
+
+    def run(self, thread):
+        """What happens before a stop. The client waits for it with the threads asked for and nothing else to send."""
+        world = self.world
+        for _ in range(world.below(4) if self.mixed else world.between(4, 24)):
+            kind = world.below(100)
+            if kind < 8:
+                self.event("thread", {"reason": world.pick(["started", "exited"]), "threadId": thread + world.below(9)})
+            elif kind < 14:
+                self.event("breakpoint", {"reason": "changed", "breakpoint": world.breakpoint(world.between(1, 60))})
+            elif kind < 18:
+                self.event("module", {"reason": "new", "module": {"id": world.below(400), "name": world.file()}})
+            else:
+                self.output()
+        if world.chance(0.02):
+            self.ask()
+
+    def output(self):
+        world = self.world
+        text = world.log(150)[-world.between(30, 200):] if self.mixed else world.log(1)[-world.between(4, 64):]
+        self.event("output", {"category": world.category(), "output": text})
+
+    def ask(self):
+        """A request of the adapter's. The client's answer takes a number."""
+        world = self.world
+        shown = {"kind": "integrated", "title": world.name(), "cwd": "/home/user/project",
+                 "args": [world.path(world.file())]}
+        self.tell({"seq": self.next_told(), "type": "request", "command": "runInTerminal", "arguments": shown})
+        self.asked += 1
+
+    def stack(self, thread, threads):
+        """The newest frame's id."""
+        world = self.world
+        levels = STACK if self.mixed else 1
+        asked = self.request("stackTrace", {"threadId": thread, "startFrame": 0, "levels": levels})
+        self.respond("threads", {"threads": [{"id": thread + place, "name": world.name() if place else "main"}
+                                             for place in range(world.between(1, 4))]}, to=threads)
+        frames = [world.stack_frame(self.reference()) for _ in range(levels)]
+        self.respond("stackTrace", {"stackFrames": frames, "totalFrames": levels}, to=asked)
+        return frames[0]["id"]
+
+    def scopes(self, frame):
+        """The reference of the first scope."""
+        asked = self.request("scopes", {"frameId": frame})
+        if self.mixed:
+            self.output()
+        shown = [{"name": name, "presentationHint": name.lower(), "variablesReference": self.reference(),
+                  "expensive": False} for name in ("Locals", "Arguments", "Globals")[:3 if self.mixed else 1]]
+        self.respond("scopes", {"scopes": shown}, to=asked)
+        return shown[0]["variablesReference"]
+
+    def values(self, thread, frame, holder):
+        """The client asks for two things at once, and goes on once the first is there; the number of its `threads`."""
+        world = self.world
+        listed = self.request("variables", {"variablesReference": holder})
+        expression = world.pick(["%s", "%s + 1", "len(%s)", "%s[0]", "%s == \"x\" && true"]) % world.name()
+        evaluated = self.request("evaluate", {"expression": expression, "frameId": frame, "context": "watch"})
+        variables = [world.variable() for _ in range(100 if self.mixed else world.below(3))]
+        for variable in variables:
+            if variable["variablesReference"]:
+                variable["variablesReference"] = self.reference()
+        self.respond("variables", {"variables": variables}, to=listed)
+        command = world.pick(RESUMING)
+        resumed = self.request(command, {"threadId": thread})
+        self.tell_value(self.reference, to=evaluated)
+        threads = self.request("threads")
+        continued = world.below(3)
+        if continued == 0:
+            self.event("continued", {"threadId": thread, "allThreadsContinued": True})
+        self.respond(command, {"allThreadsContinued": True} if command == "continue" else None, to=resumed)
+        if continued == 1:
+            self.event("continued", {"threadId": thread, "allThreadsContinued": True})
+        return threads
+
+    def end(self, threads):
+        left = self.request("disconnect", {"terminateDebuggee": True})
+        self.respond("threads", {"threads": []}, to=threads)
+        self.event("exited", {"exitCode": 0})
+        self.event("terminated")
+        self.respond("disconnect", to=left)
+
+
+def side(place, mixed):
+    """What writes the requests (0) or what comes back (1), once that has so many bytes."""
+    def write_side(total, seed, write):
+        for part in Conversation(random.Random(seed).random, mixed).parts(total):
+            for made in part[place]:
+                write(made)
+    return write_side
 
 
 # ---- Requests to one server --------------------------------------------------------------------------------
@@ -725,16 +908,20 @@ def stream(kind, total, seed, write):
                 written += len(made)
 
 
-KINDS = {"requests": requests, "stopped": stopped, "recording": recording}
+KINDS = {
+    "requests": requests, "stopped": stopped, "recording": recording,
+    "client_mixed": side(1, True), "client_mixed_requests": side(0, True),
+    "client_events": side(1, False), "client_events_requests": side(0, False),
+}
 
 
 def main():
     words = argparse.ArgumentParser(description="Writes a stream of framed messages, or a recording, to standard output.")
     words.add_argument("kind", choices=["large", "small", *KINDS], metavar="KIND",
-                       help="large, small, requests, stopped or recording")
+                       help="large, small, %s" % ", ".join(KINDS))
     words.add_argument("size", type=int, metavar="SIZE",
-                       help="the stream ends with the frame that reaches these bytes; of requests and stopped: how many; "
-                       "of a recording: how many moments")
+                       help="the stream ends with the frame or the stop that reaches these bytes; of requests and "
+                       "stopped: how many; of a recording: how many moments")
     words.add_argument("seed", type=int, metavar="SEED", help="a whole number")
     words = words.parse_args()
     if words.kind in KINDS:

@@ -307,7 +307,7 @@ fn at<'a>(object: Option<&'a Value>, key: &str) -> Option<&'a Value> {
 }
 
 /// A count, a line or a reference.
-fn as_count(value: &Value) -> Option<u32> {
+pub fn as_count(value: &Value) -> Option<u32> {
     value
         .as_u64()
         .filter(|&count| count <= MAX_COUNT)

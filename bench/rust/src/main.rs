@@ -1,33 +1,35 @@
 //! The Rust baseline: what a Rust programmer writes for the tasks of `dap` with `serde_json`.
 //!
-//!     baseline show FILE          one line for each message
-//!     baseline frames FILE        framing alone: the count of frames and the sum of their body lengths
-//!     baseline serve RECORDING    answers the requests of standard input on standard output
-//!     baseline trees RECORDING    the same, with each message a tree on its way in and out
-//!     baseline echo               gives each body of standard input back on standard output
+//!     baseline show FILE                  one line for each message
+//!     baseline frames FILE                framing alone: the count of frames and the sum of their body lengths
+//!     baseline serve RECORDING            answers the requests of standard input on standard output
+//!     baseline trees RECORDING            the same, with each message a tree on its way in and out
+//!     baseline echo                       gives each body of standard input back on standard output
+//!     baseline client REQUESTS ANSWERS    a client sends the requests of one file and takes the answers of the other
 //!
 //! A file is read whole. Bodies are slices of it and are parsed to `serde_json::Value`. The lines gather in one
 //! buffer that is written once. What is malformed gives a message on standard error and status 3; the lines of
-//! the messages before it are written all the same. `serve.rs` says how the other two read and write, `session.rs`
-//! what is answered.
+//! the messages before it are written all the same. `serve.rs` says how the servers read and write, `session.rs`
+//! what is answered, `client.rs` what a client does.
 
 mod answers;
 mod call;
+mod client;
 mod failure;
 mod framing;
+mod heading;
 mod recorded;
 mod references;
+mod replay;
 mod serve;
 mod session;
 
 use framing::{Fault, Frames};
+use heading::{Heading, Kind};
 use serde_json::Value;
 use session::Style;
 use std::io::Write;
 use std::process::ExitCode;
-
-const MAX_SEQ: u64 = (1 << 53) - 1;
-const MAX_COMMAND: usize = 64;
 
 /// How a task ends: well, or by a fault at the offset of a frame.
 type Outcome = Result<(), (Fault, usize)>;
@@ -55,53 +57,28 @@ fn show(input: &[u8], out: &mut Vec<u8>) -> Outcome {
 }
 
 fn show_message(offset: usize, value: &Value, out: &mut Vec<u8>) -> Result<(), Fault> {
-    let message = value.as_object().ok_or("no object")?;
-    let text = |key: &str| message.get(key).and_then(Value::as_str);
-    let whole = |key: &str| {
-        message
-            .get(key)
-            .and_then(Value::as_u64)
-            .filter(|&seq| seq <= MAX_SEQ)
-    };
-    let command = || {
-        text("command")
-            .filter(|command| command.len() <= MAX_COMMAND)
-            .ok_or("a bad command")
-    };
-
+    let Heading { seq, kind } = Heading::of(value)?;
     // Writing to a vector cannot fail.
-    let seq = whole("seq").ok_or("a bad seq")?;
-    let kind = text("type").ok_or("a bad type")?;
     match kind {
-        "request" => {
-            let command = command()?;
+        Kind::Request { command } => {
             let _ = write!(out, "{offset} {seq} request ");
             push_plain(out, command);
         }
-        "response" => {
-            let command = command()?;
-            let request_seq = whole("request_seq").ok_or("a bad request_seq")?;
-            let success = message
-                .get("success")
-                .and_then(Value::as_bool)
-                .ok_or("a bad success")?;
-            if !matches!(
-                message.get("message"),
-                None | Some(Value::Null | Value::String(_))
-            ) {
-                return Err("a bad message");
-            }
+        Kind::Response {
+            command,
+            request_seq,
+            success,
+        } => {
             let _ = write!(out, "{offset} {seq} response ");
             push_plain(out, command);
             let outcome = if success { "ok" } else { "failed" };
             let _ = write!(out, " {request_seq} {outcome}");
         }
-        "event" => {
-            let event = text("event").ok_or("a bad event")?;
+        Kind::Event { event } => {
             let _ = write!(out, "{offset} {seq} event ");
             push_plain(out, event);
         }
-        _ => {
+        Kind::Other(kind) => {
             let _ = write!(out, "{offset} {seq} other ");
             push_plain(out, kind);
         }
@@ -118,6 +95,12 @@ fn push_plain(out: &mut Vec<u8>, text: &str) {
     );
 }
 
+/// What is told where the system fails.
+fn failed(error: std::io::Error) -> ExitCode {
+    eprintln!("baseline: {error}");
+    ExitCode::from(5)
+}
+
 fn main() -> ExitCode {
     let words: Vec<_> = std::env::args_os().skip(1).collect();
     let (task, path): (Task, _) = match &words[..] {
@@ -126,29 +109,27 @@ fn main() -> ExitCode {
         [mode, recording] if mode == "serve" => return serve::serve(recording, Style::Types),
         [mode, recording] if mode == "trees" => return serve::serve(recording, Style::Trees),
         [mode] if mode == "echo" => return serve::echo(),
+        [mode, requests, answers] if mode == "client" => return replay::client(requests, answers),
         [mode] if mode == "--version" => {
             println!("baseline {}", env!("CARGO_PKG_VERSION"));
             return ExitCode::SUCCESS;
         }
         _ => {
             eprintln!(
-                "usage: baseline show|frames FILE | baseline serve|trees RECORDING | baseline echo"
+                "usage: baseline show|frames FILE | baseline serve|trees RECORDING | baseline echo | \
+                 baseline client REQUESTS ANSWERS"
             );
             return ExitCode::from(2);
         }
     };
     let input = match std::fs::read(path) {
         Ok(input) => input,
-        Err(error) => {
-            eprintln!("baseline: {error}");
-            return ExitCode::from(5);
-        }
+        Err(error) => return failed(error),
     };
     let mut out = Vec::new();
     let outcome = task(&input, &mut out);
     if let Err(error) = std::io::stdout().lock().write_all(&out) {
-        eprintln!("baseline: {error}");
-        return ExitCode::from(5);
+        return failed(error);
     }
     if let Err((fault, offset)) = outcome {
         eprintln!("baseline: {fault} at {offset}");

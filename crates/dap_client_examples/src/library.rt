@@ -5,7 +5,8 @@ use dap_client::{Client, Phase};
 use dap_debuggee::Recorded;
 use dap_frame::Limits;
 use dap_message::{
-    Call, Command, Initialize, Kind, StackTrace, Text, Tree, Variables, frames_given, holders_given,
+    Call, Command, Initialize, Kind, Message, StackTrace, Text, Tree, Variables, frames_given,
+    holders_given,
 };
 use dap_samples::calls::RECORDING;
 use std::alloc::Global;
@@ -20,97 +21,100 @@ struct Ends {
 }
 
 impl Ends {
-    /// Sends a call, and tells the client all that comes of it: the body of the response, if it has one.
+    fn open(alloc: Global, recording: &[u8]) -> Option<Ends> {
+        let debuggee = Recorded::read(alloc, recording).ok()?;
+        Some(Ends {
+            client: Client::open(alloc, Limits::usual()).ok()?,
+            adapter: Adapter::open(alloc, Limits::usual(), debuggee).ok()?,
+        })
+    }
+
+    /// Sends a call, lets the adapter answer, and takes what it wrote: the body of the response.
     fn ask(&mut self, alloc: Global, call: &Call) -> Option<Tree> {
         if !call.plain() {
             return None;
         }
         let sent = self.client.send(alloc, call).ok()?;
-        let mut bytes = self.adapter.take(alloc, &sent.bytes).ok()?.bytes;
-        if let Turned::Done { bytes: answer } = self.adapter.turn(alloc).ok()? {
-            bytes.extend_from_slice(&answer).ok()?;
+        let mut written = self.adapter.take(alloc, &sent.bytes).ok()?.bytes;
+        if let Turned::Done { bytes } = self.adapter.turn(alloc).ok()? {
+            written.extend_from_slice(&bytes).ok()?;
         }
         for _poll in 0..8 {
-            bytes
-                .extend_from_slice(&self.adapter.poll(alloc).ok()?)
-                .ok()?;
+            let told = self.adapter.poll(alloc).ok()?;
+            written.extend_from_slice(&told).ok()?;
         }
-        self.hear(alloc, &bytes, sent.seq)
+        self.hear(alloc, &written, sent.seq)
     }
 
-    /// Takes what the adapter wrote: the body of the response to this request, if it has one.
-    fn hear(&mut self, alloc: Global, bytes: &[u8], seq: u64) -> Option<Tree> {
+    /// Takes bytes of the adapter: the body of the response to this request, if one came with a body.
+    fn hear(&mut self, alloc: Global, written: &[u8], seq: u64) -> Option<Tree> {
         let mut found = None;
-        let mut rest = bytes;
+        let mut rest = written;
         // Each `take` uses a byte at least.
-        for _take in 0..bytes.len() {
+        for _take in 0..written.len() {
             let got = self.client.take(alloc, rest).ok()?;
             let (_, later) = rest.split_at(got.used);
             rest = later;
-            if let Some(message) = got.delivered {
-                if let Kind::Response {
-                    request_seq,
-                    body,
-                    ..
-                } = message.kind
-                {
-                    if request_seq == seq {
-                        found = body;
-                    }
-                }
+            if let Some(body) = answer_to(seq, got.delivered) {
+                found = Some(body);
             }
         }
         found
     }
-}
 
-/// The variables of the frame where a recording stops first, a line each.
-fn variables(alloc: Global, recording: &[u8]) -> Option<String> {
-    let mut ends = Ends {
-        client: Client::open(alloc, Limits::usual()).ok()?,
-        adapter: Adapter::open(
-            alloc,
-            Limits::usual(),
-            Recorded::read(alloc, recording).ok()?,
-        )
-        .ok()?,
-    };
-    ends.ask(
-        alloc,
-        &Call::Initialize(Initialize {
-            adapter_id: Text::copied(alloc, "rec").ok()?,
-            lines_start_at_1: true,
-            columns_start_at_1: true,
-            supports_variable_paging: false,
-            supports_run_in_terminal_request: false,
-        }),
-    )?;
-    ends.ask(alloc, &Call::Launch(None));
-    ends.ask(alloc, &Call::ConfigurationDone);
-    if ends.client.phase() != Phase::Stopped {
-        return None;
-    }
-    let frames = ends.ask(
-        alloc,
-        &Call::StackTrace(StackTrace {
+    /// The variables of the frame where the run stops first.
+    fn variables(&mut self, alloc: Global) -> Option<Tree> {
+        self.ask(alloc, &initialize(alloc)?)?;
+        self.ask(alloc, &Call::Launch(None));
+        self.ask(alloc, &Call::ConfigurationDone);
+        let asked = StackTrace {
             thread_id: 1,
             start_frame: 0,
             levels: 1,
-        }),
-    )?;
-    let frame_id = frames_given(frames.value()).next()?;
-    let scopes = ends.ask(alloc, &Call::Scopes { frame_id })?;
-    let variables_reference = holders_given(Command::Scopes, scopes.value()).next()?;
-    let told = ends.ask(
-        alloc,
-        &Call::Variables(Variables {
-            variables_reference,
+        };
+        let frames = self.ask(alloc, &Call::StackTrace(asked))?;
+        let frame_id = frames_given(frames.value()).next()?;
+        let scopes = self.ask(alloc, &Call::Scopes { frame_id })?;
+        let asked = Variables {
+            variables_reference: holders_given(Command::Scopes, scopes.value()).next()?,
             start: 0,
             count: 0,
-        }),
-    )?;
+        };
+        self.ask(alloc, &Call::Variables(asked))
+    }
+}
+
+/// The body of a message, where it is the response to this request and has one.
+fn answer_to(seq: u64, delivered: Option<Message>) -> Option<Tree> {
+    match delivered?.kind {
+        Kind::Response {
+            request_seq,
+            body,
+            ..
+        } if request_seq == seq => body,
+        _ => None,
+    }
+}
+
+fn initialize(alloc: Global) -> Option<Call> {
+    Some(Call::Initialize(Initialize {
+        adapter_id: Text::copied(alloc, "rec").ok()?,
+        lines_start_at_1: true,
+        columns_start_at_1: true,
+        supports_variable_paging: false,
+        supports_run_in_terminal_request: false,
+    }))
+}
+
+/// The variables of a recording's first stop, a line each.
+fn told(alloc: Global, recording: &[u8]) -> Option<String> {
+    let mut ends = Ends::open(alloc, recording)?;
+    let variables = ends.variables(alloc)?;
+    if ends.client.phase() != Phase::Stopped {
+        return None;
+    }
     let mut lines = String::new(alloc);
-    for variable in told.value().get("variables")?.as_array()? {
+    for variable in variables.value().get("variables")?.as_array()? {
         let name = variable.get("name")?.as_str()?;
         let value = variable.get("value")?.as_str()?;
         writeln!(lines, "{name} = {value}").ok()?;
@@ -120,10 +124,10 @@ fn variables(alloc: Global, recording: &[u8]) -> Option<String> {
 
 #[test]
 fn the_readme_prints_variables(rt: HostRuntime) -> Result<(), Fail> {
-    let Some(lines) = variables(rt.alloc(), RECORDING) else {
+    let Some(lines) = told(rt.alloc(), RECORDING) else {
         return Err(Fail::from("refused"));
     };
     assert_eq!(rt; lines.as_str(), "x = 1\np = P\n");
-    assert!(rt; variables(rt.alloc(), b"{}").is_none());
+    assert!(rt; told(rt.alloc(), b"{}").is_none());
     Ok(())
 }

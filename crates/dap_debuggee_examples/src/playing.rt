@@ -108,3 +108,27 @@ pub(crate) fn told<T>(answer: Result<T, DebuggeeFault>) -> Result<T, Fail> {
         Err(_) => Err(Fail::from("refused")),
     }
 }
+
+/// Which of the lines of a source are verified, `y` or `n` for each.
+pub(crate) fn verified(
+    alloc: Global,
+    recorded: &Recorded,
+    source: &SourceKey,
+    lines: &[u32],
+) -> Result<String, Fail> {
+    let mut text = String::new(alloc);
+    for is_verified in told(recorded.verify(alloc, source, lines))? {
+        text.push_str(if is_verified { "y" } else { "n" })?;
+    }
+    Ok(text)
+}
+
+/// The objects of a thread's frames, one after the other.
+pub(crate) fn objects(alloc: Global, recorded: &Recorded, thread: i64) -> Result<String, Fail> {
+    let mut text = String::new(alloc);
+    for frame in told(recorded.frames(alloc, thread))? {
+        let object = frame.object;
+        text.push_str(format!(in alloc; "{object} ")?.as_str())?;
+    }
+    Ok(text)
+}

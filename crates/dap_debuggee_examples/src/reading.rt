@@ -1,7 +1,6 @@
 //! Recordings that are read, and why others are not.
 
-use crate::playing::{THREE_MOMENTS, played, three_moments, told};
-use dap_call::SourceKey;
+use crate::playing::{THREE_MOMENTS, objects, played, three_moments};
 use dap_debuggee::{Debuggee, Happening, How, Recorded, RecordingFault, RecordingKey};
 use std::alloc::{AllocError, Global};
 use std::test::Fail;
@@ -15,17 +14,12 @@ fn refusal(alloc: Global, bytes: &[u8]) -> Option<RecordingFault> {
     Recorded::read(alloc, bytes).err()
 }
 
-/// It has one source of three lines and three moments; a run that goes on is held at the third, not at the second.
+/// It has one source and three moments.
 #[test]
 fn reads_a_recording(rt: HostRuntime) -> Result<(), Fail> {
-    let alloc = rt.alloc();
-    let mut recorded = three_moments(alloc)?;
-    let sources = recorded.sources(alloc)?;
-    assert_eq!(rt; sources.len(), 1);
-    let lines = told(recorded.verify(alloc, &SourceKey::Reference(1), &[1, 2, 3, 4]))?;
-    assert_eq!(rt; lines.as_slice(), [true, true, true, false].as_slice());
+    let mut recorded = three_moments(rt.alloc())?;
     let stepped = played(
-        alloc,
+        rt.alloc(),
         &mut recorded,
         "start poll poll stepIn poll stepIn poll stepIn poll",
     )?;
@@ -33,9 +27,17 @@ fn reads_a_recording(rt: HostRuntime) -> Result<(), Fail> {
         stepped.as_str(),
         "done; stdout 3 go\n; entry 1 line 1; done; step 1 line 3; done; step 1 line 2; done; exited 0; "
     );
-    let mut recorded = three_moments(alloc)?;
+    let sources = recorded.sources(rt.alloc())?;
+    assert_eq!(rt; sources.len(), 1);
+    Ok(())
+}
+
+/// A run that goes on is held at the third moment, not at the second.
+#[test]
+fn the_last_moment_waits(rt: HostRuntime) -> Result<(), Fail> {
+    let mut recorded = three_moments(rt.alloc())?;
     let held = played(
-        alloc,
+        rt.alloc(),
         &mut recorded,
         "start poll poll continue poll pause poll",
     )?;
@@ -46,28 +48,31 @@ fn reads_a_recording(rt: HostRuntime) -> Result<(), Fail> {
     Ok(())
 }
 
+/// The objects of the frames after some words, and whether there are two holders then.
+fn numbered(
+    alloc: Global,
+    recorded: &mut Recorded,
+    words: &str,
+    wanted: &str,
+    has_holders: bool,
+) -> Result<bool, Fail> {
+    let _answers = played(alloc, recorded, words)?;
+    let given = objects(alloc, recorded, 1)?;
+    let holders = recorded.children(alloc, 0).is_ok() && recorded.children(alloc, 1).is_ok();
+    let none = recorded.children(alloc, 0).is_err() && recorded.children(alloc, 1).is_err();
+    let no_more = recorded.children(alloc, 2).is_err() && recorded.scopes(alloc, 4).is_err();
+    let is_right = if has_holders { holders } else { none };
+    Ok(given.as_str() == wanted && is_right && no_more)
+}
+
 /// Frames and holders count over the whole recording: four frames, and two holders at the first stop.
 #[test]
 fn numbers_frames(rt: HostRuntime) -> Result<(), Fail> {
     let alloc = rt.alloc();
     let mut recorded = three_moments(alloc)?;
-    let stops: [(&str, &[u64], bool); 3] = [
-        ("start poll poll", &[0], true),
-        ("stepIn poll", &[1, 2], false),
-        ("stepIn poll", &[3], false),
-    ];
-    for (words, numbers, has_holders) in &stops {
-        let _answers = played(alloc, &mut recorded, words)?;
-        let frames = told(recorded.frames(alloc, 1))?;
-        let objects: Vec<u64> = frames.iter().map(|frame| frame.object).collect(alloc)?;
-        assert_eq!(rt; objects.as_slice(), *numbers, "after {words}");
-        assert!(rt; recorded.scopes(alloc, 4).is_err());
-        for holder in [0, 1] {
-            let is_held = recorded.children(alloc, holder).is_ok();
-            assert_eq!(rt; is_held, *has_holders, "{holder} after {words}");
-        }
-        assert!(rt; recorded.children(alloc, 2).is_err());
-    }
+    assert!(rt; numbered(alloc, &mut recorded, "start poll poll", "0 ", true)?);
+    assert!(rt; numbered(alloc, &mut recorded, "stepIn poll", "1 2 ", false)?);
+    assert!(rt; numbered(alloc, &mut recorded, "stepIn poll", "3 ", false)?);
     Ok(())
 }
 
