@@ -17,6 +17,8 @@ pub(crate) enum Deed<'a> {
     Takes(&'a [u8], &'a [u8]),
     /// It closes the client.
     Closes(&'a [u8], ClientFault),
+    /// Whether the event `initialized` came is asked.
+    IsReady(bool),
 }
 
 /// A deed, the phase after it, how many requests are outstanding, and how many references are known.
@@ -100,6 +102,7 @@ fn is_done(alloc: Global, client: &mut Client, deed: Deed<'_>) -> Result<bool, F
             Ok(_) => Ok(false),
             Err(found) => Ok(found == fault && client.held() == 0),
         },
+        Deed::IsReady(wanted) => Ok(client.ready() == wanted),
     }
 }
 
@@ -116,26 +119,35 @@ pub(crate) fn go_on(rt: &HostRuntime, client: &mut Client, rows: &[Row<'_>]) -> 
     Ok(())
 }
 
-/// Does the rows with a fresh client.
-pub(crate) fn follow(rt: &HostRuntime, limits: Limits, rows: &[Row<'_>]) -> Result<(), Fail> {
+/// Does the rows of two lists with a fresh client.
+pub(crate) fn follow(
+    rt: &HostRuntime,
+    limits: Limits,
+    first: &[Row<'_>],
+    then: &[Row<'_>],
+) -> Result<(), Fail> {
     let mut client = Client::open(rt.alloc(), limits)?;
-    go_on(rt, &mut client, rows)
+    go_on(rt, &mut client, first)?;
+    go_on(rt, &mut client, then)
 }
 
 pub(crate) const INITIALIZE: &[u8; 81] =
     b"{\"seq\":1,\"type\":\"request\",\"command\":\"initialize\",\"arguments\":{\"adapterID\":\"rec\"}}";
 
+/// The first request.
+pub(crate) const SENT: Row<'static> = (
+    Deed::Sends(
+        INITIALIZE,
+        b"{\"arguments\":{\"adapterID\":\"rec\"},\"command\":\"initialize\",\"seq\":1,\"type\":\"request\"}",
+    ),
+    Phase::Initializing,
+    1,
+    0,
+);
+
 /// Up to the event `initialized`: one request was sent, and none is outstanding.
 pub(crate) static INITIALIZED: [Row<'static>; 3] = [
-    (
-        Deed::Sends(
-            INITIALIZE,
-            b"{\"arguments\":{\"adapterID\":\"rec\"},\"command\":\"initialize\",\"seq\":1,\"type\":\"request\"}",
-        ),
-        Phase::Initializing,
-        1,
-        0,
-    ),
+    SENT,
     (
         Deed::Takes(
             b"{\"body\":{\"supportsCancelRequest\":true,\"supportsConfigurationDoneRequest\":true,\"supportsLoadedSourcesRequest\":true,\"supportsStepBack\":true,\"supportsTerminateRequest\":true},\"command\":\"initialize\",\"request_seq\":1,\"seq\":1,\"success\":true,\"type\":\"response\"}",

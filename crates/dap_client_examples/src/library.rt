@@ -1,7 +1,7 @@
 //! The library code of the README, as a test: an editor's side that drives an adapter in the same process.
 
 use dap_adapter::{Adapter, Turned};
-use dap_client::{Client, Phase};
+use dap_client::Client;
 use dap_debuggee::Recorded;
 use dap_frame::Limits;
 use dap_message::{
@@ -9,6 +9,7 @@ use dap_message::{
     holders_given,
 };
 use dap_samples::calls::RECORDING;
+use serde_json::Value;
 use std::alloc::Global;
 use std::fmt::Write;
 use std::test::Fail;
@@ -62,21 +63,30 @@ impl Ends {
         found
     }
 
-    /// The variables of the frame where the run stops first.
-    fn variables(&mut self, alloc: Global) -> Option<Tree> {
+    /// Starts the run, which goes on to its first stop.
+    fn start(&mut self, alloc: Global) -> Option<()> {
         self.ask(alloc, &initialize(alloc)?)?;
         self.ask(alloc, &Call::Launch(None));
         self.ask(alloc, &Call::ConfigurationDone);
+        Some(())
+    }
+
+    /// The newest frame of a thread.
+    fn frame(&mut self, alloc: Global, thread_id: i64) -> Option<u32> {
         let asked = StackTrace {
-            thread_id: 1,
+            thread_id,
             start_frame: 0,
             levels: 1,
         };
-        let frames = self.ask(alloc, &Call::StackTrace(asked))?;
-        let frame_id = frames_given(frames.value()).next()?;
-        let scopes = self.ask(alloc, &Call::Scopes { frame_id })?;
+        let told = self.ask(alloc, &Call::StackTrace(asked))?;
+        frames_given(told.value()).next()
+    }
+
+    /// The variables of a frame's first scope.
+    fn variables(&mut self, alloc: Global, frame_id: u32) -> Option<Tree> {
+        let told = self.ask(alloc, &Call::Scopes { frame_id })?;
         let asked = Variables {
-            variables_reference: holders_given(Command::Scopes, scopes.value()).next()?,
+            variables_reference: holders_given(Command::Scopes, told.value()).next()?,
             start: 0,
             count: 0,
         };
@@ -106,20 +116,24 @@ fn initialize(alloc: Global) -> Option<Call> {
     }))
 }
 
-/// The variables of a recording's first stop, a line each.
-fn told(alloc: Global, recording: &[u8]) -> Option<String> {
-    let mut ends = Ends::open(alloc, recording)?;
-    let variables = ends.variables(alloc)?;
-    if ends.client.phase() != Phase::Stopped {
-        return None;
-    }
+/// Variables, a line each.
+fn lines_of(alloc: Global, told: &Value) -> Option<String> {
     let mut lines = String::new(alloc);
-    for variable in variables.value().get("variables")?.as_array()? {
+    for variable in told.get("variables")?.as_array()? {
         let name = variable.get("name")?.as_str()?;
         let value = variable.get("value")?.as_str()?;
         writeln!(lines, "{name} = {value}").ok()?;
     }
     Some(lines)
+}
+
+/// The variables of a recording's first stop.
+fn told(alloc: Global, recording: &[u8]) -> Option<String> {
+    let mut ends = Ends::open(alloc, recording)?;
+    ends.start(alloc)?;
+    let frame = ends.frame(alloc, 1)?;
+    let variables = ends.variables(alloc, frame)?;
+    lines_of(alloc, variables.value())
 }
 
 #[test]

@@ -78,7 +78,7 @@ fn asks(alloc: Global, client: &mut Client, number: u32, is_frame: bool) -> bool
             count: 0,
         })
     };
-    client.send(alloc, &call).is_ok()
+    call.plain() && client.send(alloc, &call).is_ok()
 }
 
 /// A client of an adapter that has stopped.

@@ -1,12 +1,14 @@
 //! What a client refuses to send, and what closes it.
 
-use crate::deeds::{Deed, INITIALIZED, Row, STOPPED, THREADS, follow, go_on};
+use crate::deeds::{Deed, INITIALIZED, Row, SENT, STOPPED, THREADS, follow};
 use dap_client::{Client, ClientFault, Phase, SendFault};
 use dap_frame::Limits;
 use dap_message::BodyRefusal;
+use std::alloc::Global;
 use std::test::Fail;
 
-static ANSWERED_TWICE: [Row<'static>; 2] = [
+static ANSWERED_TWICE: [Row<'static>; 4] = [
+    (Deed::IsReady(true), Phase::Configuring, 0, 0),
     (
         Deed::Closes(
             b"{\"command\":\"initialize\",\"request_seq\":1,\"seq\":3,\"success\":true,\"type\":\"response\"}",
@@ -23,81 +25,77 @@ static ANSWERED_TWICE: [Row<'static>; 2] = [
         0,
         0,
     ),
+    (
+        Deed::Refuses(THREADS, SendFault::Ended),
+        Phase::Configuring,
+        0,
+        0,
+    ),
 ];
 
 /// A second response to a request closes the client, and the fault stays.
 #[test]
 fn a_second_response_is_unmatched(rt: HostRuntime) -> Result<(), Fail> {
-    let mut client = Client::open(rt.alloc(), Limits::usual())?;
-    go_on(&rt, &mut client, &INITIALIZED)?;
-    assert!(rt; client.ready());
-    go_on(&rt, &mut client, &ANSWERED_TWICE)?;
-    go_on(
-        &rt,
-        &mut client,
-        &[(
-            Deed::Refuses(THREADS, SendFault::Ended),
-            Phase::Configuring,
-            0,
-            0,
-        )],
-    )
+    follow(&rt, Limits::usual(), &INITIALIZED, &ANSWERED_TWICE)
 }
+
+static OTHER_COMMAND: [Row<'static>; 3] = [
+    SENT,
+    (
+        Deed::Closes(
+            b"{\"command\":\"threads\",\"request_seq\":1,\"seq\":1,\"success\":true,\"type\":\"response\"}",
+            ClientFault::CommandMismatch { request_seq: 1 },
+        ),
+        Phase::Initializing,
+        1,
+        0,
+    ),
+    (
+        Deed::Refuses(THREADS, SendFault::Ended),
+        Phase::Initializing,
+        1,
+        0,
+    ),
+];
 
 /// A response to another command closes it, and what was outstanding is.
 #[test]
 fn another_command_is_a_mismatch(rt: HostRuntime) -> Result<(), Fail> {
-    let mut client = Client::open(rt.alloc(), Limits::usual())?;
-    let [sends, _, _] = INITIALIZED;
-    go_on(&rt, &mut client, &[sends])?;
-    let rows = [
-        (
-            Deed::Closes(
-                b"{\"command\":\"threads\",\"request_seq\":1,\"seq\":1,\"success\":true,\"type\":\"response\"}",
-                ClientFault::CommandMismatch { request_seq: 1 },
-            ),
-            Phase::Initializing,
-            1,
-            0,
-        ),
-        (
-            Deed::Refuses(THREADS, SendFault::Ended),
-            Phase::Initializing,
-            1,
-            0,
-        ),
-    ];
-    go_on(&rt, &mut client, &rows)
+    follow(&rt, Limits::usual(), &[], &OTHER_COMMAND)
 }
 
-/// Framings and bodies are refused by name and offset.
+static NO_OBJECT: [Row<'static>; 1] = [(
+    Deed::Closes(
+        b"[]",
+        ClientFault::Body {
+            cause: BodyRefusal::NotObject,
+            offset: 342,
+        },
+    ),
+    Phase::Configuring,
+    0,
+    0,
+)];
+
+/// A body is refused by name and offset.
 #[test]
-fn bad_bytes_are_named(rt: HostRuntime) -> Result<(), Fail> {
-    let mut client = Client::open(rt.alloc(), Limits::usual())?;
-    go_on(&rt, &mut client, &INITIALIZED)?;
-    let rows = [(
-        Deed::Closes(
-            b"[]",
-            ClientFault::Body {
-                cause: BodyRefusal::NotObject,
-                offset: 342,
-            },
-        ),
-        Phase::Configuring,
-        0,
-        0,
-    )];
-    go_on(&rt, &mut client, &rows)?;
-    let mut other = Client::open(rt.alloc(), Limits::usual())?;
-    assert!(rt; other.take(rt.alloc(), b"A: ").is_ok());
-    assert_eq!(rt; other.held(), 3);
-    assert!(rt;
-        matches!(
-            other.take(rt.alloc(), b"b\r\n\r\n"),
-            Err(ClientFault::Frame(_))
-        )
-    );
-    assert_eq!(rt; other.held(), 0);
+fn a_bad_body_is_named(rt: HostRuntime) -> Result<(), Fail> {
+    follow(&rt, Limits::usual(), &INITIALIZED, &NO_OBJECT)
+}
+
+/// Whether a header block without a length is held, and then refused.
+fn header_is_refused(alloc: Global) -> Result<bool, Fail> {
+    let mut client = Client::open(alloc, Limits::usual())?;
+    let is_held = client.take(alloc, b"A: ").is_ok() && client.held() == 3;
+    match client.take(alloc, b"b\r\n\r\n") {
+        Err(ClientFault::Frame(_)) => Ok(is_held && client.held() == 0),
+        _ => Ok(false),
+    }
+}
+
+#[test]
+fn a_bad_header_is_named(rt: HostRuntime) -> Result<(), Fail> {
+    assert!(rt; header_is_refused(rt.alloc())?);
     Ok(())
 }
 
@@ -133,10 +131,8 @@ static NOT_OFFERED: [Row<'static>; 3] = [
 /// The phase comes before the gate, and the gate before the references.
 #[test]
 fn calls_are_refused_by_name(rt: HostRuntime) -> Result<(), Fail> {
-    follow(&rt, Limits::usual(), &TOO_EARLY)?;
-    let mut client = Client::open(rt.alloc(), Limits::usual())?;
-    go_on(&rt, &mut client, &INITIALIZED)?;
-    go_on(&rt, &mut client, &NOT_OFFERED)
+    follow(&rt, Limits::usual(), &TOO_EARLY, &[])?;
+    follow(&rt, Limits::usual(), &INITIALIZED, &NOT_OFFERED)
 }
 
 static RESUMES: [Row<'static>; 9] = [
@@ -219,10 +215,44 @@ fn a_third_request_finds_no_room(rt: HostRuntime) -> Result<(), Fail> {
     let limits = Limits::new(8192, 1024, 2, 65536, 4096, 9007199254740991, 2147483647)
         .ok()
         .ok_or("limits")?;
-    let mut client = Client::open(rt.alloc(), limits)?;
-    go_on(&rt, &mut client, &INITIALIZED)?;
-    go_on(&rt, &mut client, &RESUMES)
+    follow(&rt, limits, &INITIALIZED, &RESUMES)
 }
+
+static THREE_NUMBERS: [Row<'static>; 4] = [
+    (
+        Deed::Sends(
+            THREADS,
+            b"{\"command\":\"threads\",\"seq\":2,\"type\":\"request\"}",
+        ),
+        Phase::Configuring,
+        1,
+        0,
+    ),
+    (
+        Deed::Sends(
+            THREADS,
+            b"{\"command\":\"threads\",\"seq\":3,\"type\":\"request\"}",
+        ),
+        Phase::Configuring,
+        2,
+        0,
+    ),
+    (
+        Deed::Refuses(THREADS, SendFault::SeqExhausted),
+        Phase::Configuring,
+        2,
+        0,
+    ),
+    (
+        Deed::Closes(
+            b"{\"command\":\"runInTerminal\",\"seq\":9,\"type\":\"request\"}",
+            ClientFault::SeqExhausted,
+        ),
+        Phase::Configuring,
+        2,
+        0,
+    ),
+];
 
 /// Three own numbers: the fourth request is refused, and a request of the adapter closes the client.
 #[test]
@@ -230,44 +260,7 @@ fn numbers_run_out(rt: HostRuntime) -> Result<(), Fail> {
     let limits = Limits::new(8192, 4194304, 64, 65536, 4096, 3, 2147483647)
         .ok()
         .ok_or("limits")?;
-    let mut client = Client::open(rt.alloc(), limits)?;
-    go_on(&rt, &mut client, &INITIALIZED)?;
-    let rows = [
-        (
-            Deed::Sends(
-                THREADS,
-                b"{\"command\":\"threads\",\"seq\":2,\"type\":\"request\"}",
-            ),
-            Phase::Configuring,
-            1,
-            0,
-        ),
-        (
-            Deed::Sends(
-                THREADS,
-                b"{\"command\":\"threads\",\"seq\":3,\"type\":\"request\"}",
-            ),
-            Phase::Configuring,
-            2,
-            0,
-        ),
-        (
-            Deed::Refuses(THREADS, SendFault::SeqExhausted),
-            Phase::Configuring,
-            2,
-            0,
-        ),
-        (
-            Deed::Closes(
-                b"{\"command\":\"runInTerminal\",\"seq\":9,\"type\":\"request\"}",
-                ClientFault::SeqExhausted,
-            ),
-            Phase::Configuring,
-            2,
-            0,
-        ),
-    ];
-    go_on(&rt, &mut client, &rows)
+    follow(&rt, limits, &INITIALIZED, &THREE_NUMBERS)
 }
 
 static ONE_REFERENCE: [Row<'static>; 3] = [
@@ -298,7 +291,5 @@ fn references_find_no_room(rt: HostRuntime) -> Result<(), Fail> {
     let limits = Limits::new(8192, 4194304, 64, 1, 4096, 9007199254740991, 2147483647)
         .ok()
         .ok_or("limits")?;
-    let mut client = Client::open(rt.alloc(), limits)?;
-    go_on(&rt, &mut client, &INITIALIZED)?;
-    go_on(&rt, &mut client, &ONE_REFERENCE)
+    follow(&rt, limits, &INITIALIZED, &ONE_REFERENCE)
 }

@@ -118,7 +118,7 @@ static LENIENT: [Row<'static>; 12] = [
 
 #[test]
 fn a_lenient_adapter_is_served(rt: HostRuntime) -> Result<(), Fail> {
-    follow(&rt, Limits::usual(), &LENIENT)
+    follow(&rt, Limits::usual(), &LENIENT, &[])
 }
 
 /// How many messages a client delivers of a stream that comes in pieces of one size, once `initialize` was sent.
@@ -127,7 +127,7 @@ fn delivered(alloc: Global, stream: &[u8], size: usize) -> Result<usize, Fail> {
     if send(alloc, &mut client, INITIALIZE)?.is_err() {
         return Err(Fail::from("not sent"));
     }
-    let mut count = 0;
+    let mut count: usize = 0;
     let mut rest = stream;
     // Each `take` uses a byte at least.
     for _take in 0..stream.len() {
@@ -139,7 +139,7 @@ fn delivered(alloc: Global, stream: &[u8], size: usize) -> Result<usize, Fail> {
         let (_, later) = rest.split_at(got.used);
         rest = later;
         if got.delivered.is_some() {
-            count += 1;
+            count = count.saturating_add(1);
         }
     }
     Ok(count)

@@ -5,12 +5,16 @@ use dap_call::SourceKey;
 use dap_debuggee::{Category, Debuggee, Recorded, Stubborn};
 use dap_json::Text;
 use std::alloc::Global;
-use std::fmt::Write;
 use std::test::Fail;
+
+/// What a fresh run answers to some words.
+fn moved(alloc: Global, words: &str) -> Result<String, Fail> {
+    let mut recorded = three_moments(alloc)?;
+    played(alloc, &mut recorded, words)
+}
 
 #[test]
 fn moves(rt: HostRuntime) -> Result<(), Fail> {
-    let alloc = rt.alloc();
     let cases: [(&str, &str); 11] = [
         (
             "start poll poll poll",
@@ -58,8 +62,7 @@ fn moves(rt: HostRuntime) -> Result<(), Fail> {
         ),
     ];
     for (words, wanted) in &cases {
-        let mut recorded = three_moments(alloc)?;
-        let told = played(alloc, &mut recorded, words)?;
+        let told = moved(rt.alloc(), words)?;
         assert_eq!(rt; told.as_str(), *wanted);
     }
     Ok(())
@@ -76,96 +79,52 @@ fn at_the_first(alloc: Global) -> Result<Recorded, Fail> {
     }
 }
 
-/// What stands for a query that is refused.
-const REFUSED: &str = "refused";
-
-/// The threads, each with its id.
-fn threads(alloc: Global, recorded: &Recorded) -> Result<String, Fail> {
-    let mut text = String::new(alloc);
-    for thread in recorded.threads(alloc)? {
-        let (id, name) = (thread.id, thread.name.as_str());
-        write!(text, "{id} {name}; ")?;
-    }
-    Ok(text)
-}
-
-/// The frames of a thread, each with its object, its source and its line.
-fn frames(alloc: Global, recorded: &Recorded, thread: i64) -> Result<String, Fail> {
-    let mut text = String::new(alloc);
-    let Ok(answers) = recorded.frames(alloc, thread) else {
-        text.push_str(REFUSED)?;
-        return Ok(text);
-    };
-    for frame in answers {
-        let (object, name) = (frame.object, frame.name.as_str());
-        let (source, line) = (frame.source, frame.line);
-        write!(text, "{object} {name} {source} {line}; ")?;
-    }
-    Ok(text)
-}
-
-/// The scopes of a frame, each with its holder.
-fn scopes(alloc: Global, recorded: &Recorded, object: u64) -> Result<String, Fail> {
-    let mut text = String::new(alloc);
-    let Ok(answers) = recorded.scopes(alloc, object) else {
-        text.push_str(REFUSED)?;
-        return Ok(text);
-    };
-    for scope in answers {
-        let (name, holder) = (scope.name.as_str(), scope.holder);
-        write!(text, "{name} {holder}; ")?;
-    }
-    Ok(text)
-}
-
-/// The variables of a holder, each with its value, and with its holder where it has one.
-fn variables(alloc: Global, recorded: &Recorded, holder: u64) -> Result<String, Fail> {
-    let mut text = String::new(alloc);
-    let Ok(answers) = recorded.children(alloc, holder) else {
-        text.push_str(REFUSED)?;
-        return Ok(text);
-    };
-    for variable in answers {
-        let (name, value) = (variable.name.as_str(), variable.value.as_str());
-        write!(text, "{name} {value}")?;
-        if let Some(holder) = variable.holder {
-            write!(text, " {holder}")?;
-        }
-        text.push_str("; ")?;
-    }
-    Ok(text)
-}
-
 #[test]
 fn nothing_before_the_start(rt: HostRuntime) -> Result<(), Fail> {
     let recorded = three_moments(rt.alloc())?;
-    assert_eq!(rt; threads(rt.alloc(), &recorded)?.as_str(), "");
-    assert_eq!(rt; frames(rt.alloc(), &recorded, 1)?.as_str(), REFUSED);
-    assert_eq!(rt; scopes(rt.alloc(), &recorded, 0)?.as_str(), REFUSED);
-    assert_eq!(rt; variables(rt.alloc(), &recorded, 0)?.as_str(), REFUSED);
+    assert!(rt; recorded.threads(rt.alloc())?.is_empty());
+    assert!(rt; recorded.frames(rt.alloc(), 1).is_err());
+    assert!(rt; recorded.scopes(rt.alloc(), 0).is_err());
+    assert!(rt; recorded.children(rt.alloc(), 0).is_err());
     Ok(())
 }
 
 #[test]
 fn threads_and_frames(rt: HostRuntime) -> Result<(), Fail> {
     let recorded = at_the_first(rt.alloc())?;
-    assert_eq!(rt; threads(rt.alloc(), &recorded)?.as_str(), "1 main; ");
-    assert_eq!(rt; frames(rt.alloc(), &recorded, 1)?.as_str(), "0 main 0 1; ");
-    assert_eq!(rt; frames(rt.alloc(), &recorded, 2)?.as_str(), REFUSED);
+    let threads = recorded.threads(rt.alloc())?;
+    assert_eq!(rt; threads.len(), 1);
+    assert_eq!(rt; (threads[0].id, threads[0].name.as_str()), (1, "main"));
+    let frames = told(recorded.frames(rt.alloc(), 1))?;
+    assert_eq!(rt; frames.len(), 1);
+    assert_eq!(rt;
+        (
+            frames[0].object,
+            frames[0].name.as_str(),
+            frames[0].source,
+            frames[0].line
+        ),
+        (0, "main", 0, 1)
+    );
+    assert!(rt; recorded.frames(rt.alloc(), 2).is_err());
     Ok(())
 }
 
 #[test]
 fn scopes_and_variables(rt: HostRuntime) -> Result<(), Fail> {
     let recorded = at_the_first(rt.alloc())?;
-    assert_eq!(rt; scopes(rt.alloc(), &recorded, 0)?.as_str(), "Locals 1; ");
+    let scopes = told(recorded.scopes(rt.alloc(), 0))?;
+    assert_eq!(rt; scopes.len(), 1);
+    assert_eq!(rt; scopes[0].name.as_str(), "Locals");
+    let variables = told(recorded.children(rt.alloc(), scopes[0].holder))?;
+    assert_eq!(rt; variables.len(), 2);
     assert_eq!(rt;
-        variables(rt.alloc(), &recorded, 1)?.as_str(),
-        "x 1; p P 0; "
+        (variables[0].name.as_str(), variables[0].value.as_str()),
+        ("x", "1")
     );
-    assert_eq!(rt; variables(rt.alloc(), &recorded, 0)?.as_str(), "a 7; ");
-    assert_eq!(rt; scopes(rt.alloc(), &recorded, 9)?.as_str(), REFUSED);
-    assert_eq!(rt; variables(rt.alloc(), &recorded, 9)?.as_str(), REFUSED);
+    assert!(rt; variables[0].holder.is_none() && variables[1].holder.is_some());
+    assert!(rt; recorded.scopes(rt.alloc(), 9).is_err());
+    assert!(rt; recorded.children(rt.alloc(), 9).is_err());
     Ok(())
 }
 
@@ -174,7 +133,10 @@ fn values(rt: HostRuntime) -> Result<(), Fail> {
     let recorded = at_the_first(rt.alloc())?;
     let value = told(recorded.evaluate(rt.alloc(), Some(0), "p"))?;
     assert_eq!(rt; value.value.as_str(), "P");
-    assert_eq!(rt; value.holder, Some(0));
+    let children = told(recorded.children(rt.alloc(), value.holder.unwrap_or(9)))?;
+    assert_eq!(rt; children.len(), 1);
+    assert_eq!(rt; children[0].name.as_str(), "a");
+    assert_eq!(rt; children[0].value.as_str(), "7");
     assert!(rt; recorded.evaluate(rt.alloc(), Some(0), "q").is_err());
     assert!(rt; recorded.evaluate(rt.alloc(), None, "p").is_err());
     Ok(())
@@ -183,29 +145,38 @@ fn values(rt: HostRuntime) -> Result<(), Fail> {
 #[test]
 fn sources(rt: HostRuntime) -> Result<(), Fail> {
     let recorded = three_moments(rt.alloc())?;
-    let mut names = String::new(rt.alloc());
-    for source in recorded.sources(rt.alloc())? {
-        names.push_str(source.name.as_str())?;
-    }
-    assert_eq!(rt; names.as_str(), "a.c");
+    let sources = recorded.sources(rt.alloc())?;
+    assert_eq!(rt; sources.len(), 1);
+    assert_eq!(rt; sources[0].name.as_str(), "a.c");
     let text = told(recorded.content(rt.alloc(), 0))?;
     assert_eq!(rt; text.as_str(), "one\ntwo\nthree\n");
     assert!(rt; recorded.content(rt.alloc(), 1).is_err());
     Ok(())
 }
 
+/// Which lines of a source are verified, before the run.
+fn lines_of(alloc: Global, source: SourceKey, lines: &[u32]) -> Result<String, Fail> {
+    let recorded = three_moments(alloc)?;
+    verified(alloc, &recorded, &source, lines)
+}
+
+/// The same for the source's path.
+fn lines_by_path(alloc: Global, lines: &[u32]) -> Result<String, Fail> {
+    let path = SourceKey::Path(Text::copied(alloc, "/a.c")?);
+    lines_of(alloc, path, lines)
+}
+
 #[test]
 fn lines(rt: HostRuntime) -> Result<(), Fail> {
-    let recorded = three_moments(rt.alloc())?;
-    let path = SourceKey::Path(Text::copied(rt.alloc(), "/a.c")?);
-    let by_path = verified(rt.alloc(), &recorded, &path, &[3, 4, 0, 1, 4294967295])?;
-    assert_eq!(rt; by_path.as_str(), "ynnyn");
-    let first = SourceKey::Reference(1);
-    let by_number = verified(rt.alloc(), &recorded, &first, &[1, 2, 3, 4])?;
-    assert_eq!(rt; by_number.as_str(), "yyyn");
-    let second = SourceKey::Reference(2);
-    let unknown = verified(rt.alloc(), &recorded, &second, &[1])?;
-    assert_eq!(rt; unknown.as_str(), "n");
+    assert_eq!(rt;
+        lines_by_path(rt.alloc(), &[3, 4, 0, 1, 4294967295])?.as_str(),
+        "ynnyn"
+    );
+    for (source, wanted) in [(1, "yyyn"), (2, "nnnn")] {
+        let source = SourceKey::Reference(source);
+        let told = lines_of(rt.alloc(), source, &[1, 2, 3, 4])?;
+        assert_eq!(rt; told.as_str(), wanted);
+    }
     Ok(())
 }
 
