@@ -12,7 +12,7 @@ use Rattle.dap_client.specs.declared.phase.Phase.TheVariants.{Fresh, Initializin
 use Rattle.dap_client.specs.Changes.{Cause, resumed, answered, change_in}
 use Rattle.dap_client.specs.Phases.{is_phase, is_among, in_a_stop}
 use Rattle.dap_client.specs.References.{given_by, given_in}
-use Rattle.dap_client.specs.Seat.{Class, Initialize, Launch, ConfigurationDone, Disconnect, Terminate, Cancel, Setter, Lookup, Resume, Pause, Inspect, class_of, is_inspect, seat_of, answered_phase, has_stop, is_resuming, given_answered, seat_answered}
+use Rattle.dap_client.specs.Seat.{Class, Initialize, Launch, ConfigurationDone, Disconnect, Terminate, Restart, Cancel, Setter, Lookup, Resume, Pause, Inspect, class_of, is_inspect, seat_of, answered_phase, has_stop, is_resuming, given_answered, seat_answered}
 use Rattle.dap_client.specs.Seen.{Seen, changed, told, after_response}
 use Rattle.dap_client.specs.Session.{Session}
 use Rattle.dap_client.specs.Taking.{answered as answered_by}
@@ -43,6 +43,7 @@ quiet-phase Initializing Launch b ok e = cc
 quiet-phase Initializing ConfigurationDone b ok e = refl
 quiet-phase Initializing Disconnect b ok e = refl
 quiet-phase Initializing Terminate b ok e = refl
+quiet-phase Initializing Restart b ok e = refl
 quiet-phase Initializing Cancel b ok e = refl
 quiet-phase Initializing Setter b ok e = refl
 quiet-phase Initializing Lookup b ok e = refl
@@ -54,6 +55,7 @@ quiet-phase Configuring Launch b ok e = cc
 quiet-phase Configuring ConfigurationDone b ok e = refl
 quiet-phase Configuring Disconnect b ok e = refl
 quiet-phase Configuring Terminate b ok e = refl
+quiet-phase Configuring Restart b ok e = refl
 quiet-phase Configuring Cancel b ok e = refl
 quiet-phase Configuring Setter b ok e = refl
 quiet-phase Configuring Lookup b ok e = refl
@@ -167,7 +169,7 @@ each-moves command.Modules p b ok t e = quiet-moves p b ok t e ∙ sym (quiet-ph
 each-moves command.BreakpointLocations p b ok t e = quiet-moves p b ok t e ∙ sym (quiet-phase p Lookup b ok refl)
 each-moves command.Cancel p b ok t e = quiet-moves p b ok t e ∙ sym (quiet-phase p Cancel b ok refl)
 each-moves command.Terminate p b ok t e = quiet-moves p b ok t e ∙ sym (quiet-phase p Terminate b ok refl)
-each-moves command.Restart p b ok t e = quiet-moves p b ok t e ∙ sym (quiet-phase p Terminate b ok refl)
+each-moves command.Restart p b ok t e = quiet-moves p b ok t e ∙ sym (quiet-phase p Restart b ok refl)
 each-moves command.Pause p b ok t e = quiet-moves p b ok t e ∙ sym (quiet-phase p Pause b ok refl)
 each-moves command.Continue p b ok t e = quiet-moves p b ok t e ∙ sym (quiet-phase p Resume b ok refl)
 each-moves command.Next p b ok t e = quiet-moves p b ok t e ∙ sym (quiet-phase p Resume b ok refl)

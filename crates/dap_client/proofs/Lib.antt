@@ -12,3 +12,4 @@ pub mod Refusing
 pub mod Played
 mod LifeExamples
 mod ReferencesExamples
+mod SeatExamples

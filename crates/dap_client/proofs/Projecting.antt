@@ -1,5 +1,5 @@
 -- The steps of a client are those of the smaller one: what events and messages change, and the law.
-use Rattle.std.proofs.Common.{[], ◌≡◌, ℕ, ◌+◌, List, Bool, true, false, Option, Some, None, Result, Ok, Err, length, refl, subst}
+use Rattle.std.proofs.Common.{[], ◌≡◌, ℕ, ◌+◌, List, Bool, true, false, Option, Some, None, Result, Ok, Err, length, refl, ap}
 use Rattle.std.specs.Prelude.{bytes_eq, nat_le, nat_lt, if◌then◌else◌}
 use Rattle.serde_json.specs.Data.{Data}
 use Rattle.dap_message.specs.CallTree.{command_of}
@@ -19,12 +19,13 @@ use Rattle.dap_client.specs.declared.signal.Signal.{Signal}
 use Rattle.dap_client.specs.declared.signal.Signal.TheVariants as signal
 use Rattle.dap_client.specs.Changes.{signal_named}
 use Rattle.dap_client.specs.References.{used_by}
-use Rattle.dap_client.specs.Seat.{class_of, is_inspect, Seat, seat_of, seat_told, seat_responded, seat_signalled, seat_taken, EachStepProjects}
+use Rattle.dap_client.specs.Seat.{class_of, is_inspect, Seat, seat_of, seat_told, seat_responded, seat_signalled, seat_taken, seat_answers, seat_takes, seat_made, EachStepProjects}
 use Rattle.dap_client.specs.Seen.{learned, after_response, after_signal, after_event}
 use Rattle.dap_client.specs.Sending.{request_of}
 use Rattle.dap_client.specs.Session.{Session}
 use Rattle.dap_client.specs.Taking.{Made, silently, declined, answered as answered_by, answered_within, takes_answer, takes_as}
 use Rattle.dap_client.proofs.AnswersProject.{each-answered, none-given}
+use Rattle.dap_client.proofs.Refusals.{none-holds}
 use Rattle.dap_client.proofs.SendsProject.{at, each-allowed, each-sent}
 
 -- ---- an event comes
@@ -114,9 +115,6 @@ none-named (call.Completions a) e = cc
 
 -- ---- any message
 
-abbrev Projects : Session → Kind → Made → Type 0
-Projects s kind made = seat_of made.after ≡ seat_taken kind (seat_of s)
-
 each-responded : (s : Session) (n : ℕ) (ok : Bool) (o : Option Command) (body : Option Data) → seat_of (answered_by n (after_response n ok o body s.seen) s).after ≡ seat_responded n ok o body (seat_of s)
 each-responded s n ok None body = refl
 each-responded s n ok (Some c) body = each-answered s n ok c body
@@ -125,34 +123,36 @@ each-signalled : (s : Session) (o : Option Signal) (body : Option Data) → seat
 each-signalled s None body = refl
 each-signalled s (Some x) body = each-told s.seen.phase x s body
 
-from-ok : (whole made : Made) (e : Seat) → (let given : Result Made ClientFault = Ok whole in given) ≡ Ok made → seat_of whole.after ≡ e → seat_of made.after ≡ e
-from-ok whole made e is h = let same : whole ≡ made = cc in subst (λ (m : Made). seat_of m.after ≡ e) same h
+-- of two answers, under the same test
+made-if : (b : Bool) (x : Result Made ClientFault) (y : Result Seat ClientFault) (f : ClientFault) → seat_made x ≡ y → seat_made (if b then x else Err f) ≡ (if b then y else Err f)
+made-if true x y f h = h
+made-if false x y f h = refl
 
-from-if : (b : Bool) (given : Result Made ClientFault) (f : ClientFault) (made : Made) (e : Seat) → (if b then given else Err f) ≡ Ok made → (given ≡ Ok made → seat_of made.after ≡ e) → seat_of made.after ≡ e
-from-if true given f made e is h = h is
-from-if false given f made e is h = cc
+made-ok : (made : Made) (e : Seat) → seat_of made.after ≡ e → seat_made (Ok made) ≡ Ok e
+made-ok made e h = ap (λ (seat : Seat). Ok seat) h
 
-answer-taken : (o : Option Entry) (n : ℕ) (ok : Bool) (name : List ℕ) (body : Option Data) (s : Session) (made : Made) → takes_answer o n ok name body s ≡ Ok made → seat_of made.after ≡ seat_responded n ok (command_named name) body (seat_of s)
-answer-taken None n ok name body s made is = cc
-answer-taken (Some r) n ok name body s made is =
+answer-taken : (o : Option Entry) (n : ℕ) (ok : Bool) (name : List ℕ) (body : Option Data) (s : Session) → seat_made (takes_answer o n ok name body s) ≡ seat_answers o s.limits n ok name body (seat_of s)
+answer-taken None n ok name body s = refl
+answer-taken (Some r) n ok name body s =
+    let whole : Made = answered_by n (after_response n ok (command_named name) body s.seen) s in
     let e : Seat = seat_responded n ok (command_named name) body (seat_of s) in
-    from-if (bytes_eq name r.command) (answered_within n ok name body s) (CommandMismatch n) made e is
-    (λ within. from-if (nat_le (length (learned ok (command_named name) body s.seen)) s.limits.references) (Ok (answered_by n (after_response n ok (command_named name) body s.seen) s)) ReferenceLimit made e within
-    (λ whole. from-ok (answered_by n (after_response n ok (command_named name) body s.seen) s) made e whole (each-responded s n ok (command_named name) body)))
+    let fits : Bool = nat_le (length (learned ok (command_named name) body s.seen)) s.limits.references in
+    made-if (bytes_eq name r.command) (answered_within n ok name body s) (if fits then Ok e else Err ReferenceLimit) (CommandMismatch n)
+    (made-if fits (Ok whole) (Ok e) ReferenceLimit (made-ok whole e (each-responded s n ok (command_named name) body)))
 
-kind-taken : (seq : ℕ) (kind : Kind) (s : Session) (made : Made) → takes_as seq kind s ≡ Ok made → Projects s kind made
-kind-taken seq (Request name arguments) s made is =
-    from-if (nat_lt s.used s.limits.seq) (Ok (declined seq name s)) SeqExhausted made (seat_taken (Request name arguments) (seat_of s)) is
-    (λ whole. from-ok (declined seq name s) made (seat_taken (Request name arguments) (seat_of s)) whole refl)
-kind-taken seq (Response n ok name message body) s made is = answer-taken (entry_with n s.outstanding) n ok name body s made is
-kind-taken seq (Event event body) s made is = from-ok (silently (record s { seen = after_event (signal_named event) body s.seen })) made (seat_signalled (signal_named event) (seat_of s)) is (each-signalled s (signal_named event) body)
-kind-taken seq (Other tag) s made is = from-ok (silently s) made (seat_of s) is refl
+kind-taken : (seq : ℕ) (kind : Kind) (s : Session) → seat_made (takes_as seq kind s) ≡ seat_takes s.limits kind (seat_of s)
+kind-taken seq (Request name arguments) s =
+    made-if (nat_lt s.used s.limits.seq) (Ok (declined seq name s)) (Ok (seat_taken (Request name arguments) (seat_of s))) SeqExhausted refl
+kind-taken seq (Response n ok name message body) s = answer-taken (entry_with n s.outstanding) n ok name body s
+kind-taken seq (Event event body) s = made-ok (silently (record s { seen = after_event (signal_named event) body s.seen })) (seat_signalled (signal_named event) (seat_of s)) (each-signalled s (signal_named event) body)
+kind-taken seq (Other tag) s = refl
 
 pub each_step_projects : EachStepProjects
 each_step_projects = record {
   allowed = each-allowed;
   sent = λ s c e. each-sent (command_of c) s.seen.phase s (request_of (s.used + 1) c) e;
-  taken = λ s m made e. kind-taken m.seq m.kind s made e;
+  taken = λ s m. kind-taken m.seq m.kind s;
+  free = none-holds;
   gives = none-given;
   names = none-named;
 }

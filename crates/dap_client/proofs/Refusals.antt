@@ -1,5 +1,5 @@
 -- The first refusal of two lists, one behind the other; and numbers that were given.
-use Rattle.std.proofs.Common.{◌≡◌, ℕ, ◌+◌, ◌<◌, List, [], ◌∷◌, ◌++◌, Bool, true, false, Some, None, refl, sym, ap, subst, ◌∙◌, arith, true≢false}
+use Rattle.std.proofs.Common.{◌≡◌, ℕ, ◌+◌, ◌<◌, List, [], ◌∷◌, ◌++◌, Bool, true, false, Option, Some, None, refl, sym, ap, subst, ◌∙◌, arith, true≢false}
 use Rattle.std.specs.Prelude.{find, cond, ◌==◌, ◌||◌, nat_lt, if◌then◌else◌}
 use Rattle.std.proofs.lemmas.Bool.Decides.{nat_tests}
 use Rattle.dap_message.specs.Types.Call.{Call}
@@ -86,6 +86,69 @@ why-then fault.SeqExhausted c closed s none e = late-first c closed s none ∙ e
 -- none holds at all
 pub none-then : (c : Call) (closed : Bool) (s : Session) → first_of early_refusals c closed s ≡ None → first_of late_refusals c false s ≡ None → first_of refusals_in_order c closed s ≡ None
 none-then c closed s early late = late-first c closed s early ∙ late
+
+-- ---- where none is the first, none holds
+
+none-here : {X : Type 0} (b : Bool) (x : X) (o : Option X) → cond b (Some x) o ≡ None → b ≡ false
+none-here true x o e = cc
+none-here false x o e = refl
+
+none-later : {X : Type 0} (b : Bool) (x : X) (o : Option X) → cond b (Some x) o ≡ None → o ≡ None
+none-later true x o e = cc
+none-later false x o e = e
+
+first-not : {X : Type 0} (p : X → Bool) (x : X) (xs : List X) → find p (x ∷ xs) ≡ None → p x ≡ false
+first-not p x xs e = none-here (p x) x (find p xs) e
+
+rest-not : {X : Type 0} (p : X → Bool) (x : X) (xs : List X) → find p (x ∷ xs) ≡ None → find p xs ≡ None
+rest-not p x xs e = none-later (p x) x (find p xs) e
+
+-- the refusals from the second on, from the third on, and so on
+abbrev from_seq : List SendFault
+from_seq = fault.SeqExhausted ∷ []
+
+abbrev from_full : List SendFault
+from_full = fault.Full ∷ from_seq
+
+abbrev from_large : List SendFault
+from_large = fault.TooLarge ∷ from_full
+
+abbrev from_reference : List SendFault
+from_reference = fault.UnknownReference ∷ from_large
+
+abbrev from_stopped : List SendFault
+from_stopped = fault.NotStopped ∷ from_reference
+
+abbrev from_supported : List SendFault
+from_supported = fault.NotSupported ∷ from_stopped
+
+abbrev from_phase : List SendFault
+from_phase = fault.WrongPhase ∷ from_supported
+
+pub none-holds : (c : Call) (closed : Bool) (s : Session) → first_of refusals_in_order c closed s ≡ None → (f : SendFault) → holds f c closed s ≡ false
+none-holds c closed s e f =
+    let p : SendFault → Bool = λ x. holds x c closed s in
+    let phase : find p from_phase ≡ None = rest-not p fault.Ended from_phase e in
+    let supported : find p from_supported ≡ None = rest-not p fault.WrongPhase from_supported phase in
+    let stopped : find p from_stopped ≡ None = rest-not p fault.NotSupported from_stopped supported in
+    let reference : find p from_reference ≡ None = rest-not p fault.NotStopped from_reference stopped in
+    let large : find p from_large ≡ None = rest-not p fault.UnknownReference from_large reference in
+    let full : find p from_full ≡ None = rest-not p fault.TooLarge from_full large in
+    let seq : find p from_seq ≡ None = rest-not p fault.Full from_seq full in
+    each f (first-not p fault.Ended from_phase e) (first-not p fault.WrongPhase from_supported phase) (first-not p fault.NotSupported from_stopped supported) (first-not p fault.NotStopped from_reference stopped)
+    (first-not p fault.UnknownReference from_large reference) (first-not p fault.TooLarge from_full large) (first-not p fault.Full from_seq full) (first-not p fault.SeqExhausted [] seq)
+  where
+    each : (f : SendFault) → holds fault.Ended c closed s ≡ false → holds fault.WrongPhase c closed s ≡ false → holds fault.NotSupported c closed s ≡ false → holds fault.NotStopped c closed s ≡ false
+        → holds fault.UnknownReference c closed s ≡ false → holds fault.TooLarge c closed s ≡ false → holds fault.Full c closed s ≡ false → holds fault.SeqExhausted c closed s ≡ false → holds f c closed s ≡ false
+    each fault.Ended a b d g h i j k = a
+    each fault.WrongPhase a b d g h i j k = b
+    each fault.NotSupported a b d g h i j k = d
+    each fault.NotStopped a b d g h i j k = g
+    each fault.UnknownReference a b d g h i j k = h
+    each fault.TooLarge a b d g h i j k = i
+    each fault.Full a b d g h i j k = j
+    each fault.SeqExhausted a b d g h i j k = k
+    each fault.OutOfMemory a b d g h i j k = refl
 
 -- ---- numbers that were given
 

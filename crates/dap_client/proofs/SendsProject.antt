@@ -6,7 +6,7 @@ use Rattle.dap_tables.specs.Outstanding.{unparked}
 use Rattle.dap_tables.specs.declared.entry.Entry.{Entry}
 use Rattle.dap_client.specs.declared.phase.Phase.{Phase}
 use Rattle.dap_client.specs.declared.phase.Phase.TheVariants.{Fresh, Initializing, Configuring, Running, Stopped, Resuming, Exited, Ended}
-use Rattle.dap_client.specs.Seat.{Initialize, Launch, ConfigurationDone, Disconnect, Terminate, Cancel, Setter, Lookup, Resume, Pause, Inspect, class_of, seat_of, allows, seat_sent}
+use Rattle.dap_client.specs.Seat.{Initialize, Launch, ConfigurationDone, Disconnect, Terminate, Restart, Cancel, Setter, Lookup, Resume, Pause, Inspect, class_of, seat_of, allows, seat_sent}
 use Rattle.dap_client.specs.Seen.{after_sent}
 use Rattle.dap_client.specs.Session.{Session}
 use Rattle.dap_client.specs.Table.{is_sent_in}
@@ -102,6 +102,24 @@ terminate-allowed Exited true = refl
 terminate-allowed Exited false = refl
 terminate-allowed Ended true = refl
 terminate-allowed Ended false = refl
+
+restart-allowed : (p : Phase) (ready : Bool) → is_sent_in command.Restart p ready ≡ allows p ready Restart
+restart-allowed Fresh true = refl
+restart-allowed Fresh false = refl
+restart-allowed Initializing true = refl
+restart-allowed Initializing false = refl
+restart-allowed Configuring true = refl
+restart-allowed Configuring false = refl
+restart-allowed Running true = refl
+restart-allowed Running false = refl
+restart-allowed Stopped true = refl
+restart-allowed Stopped false = refl
+restart-allowed Resuming true = refl
+restart-allowed Resuming false = refl
+restart-allowed Exited true = refl
+restart-allowed Exited false = refl
+restart-allowed Ended true = refl
+restart-allowed Ended false = refl
 
 cancel-allowed : (p : Phase) (ready : Bool) → is_sent_in command.Cancel p ready ≡ allows p ready Cancel
 cancel-allowed Fresh true = refl
@@ -227,7 +245,7 @@ each-allowed command.Modules p ready = lookup-allowed p ready
 each-allowed command.BreakpointLocations p ready = lookup-allowed p ready
 each-allowed command.Cancel p ready = cancel-allowed p ready
 each-allowed command.Terminate p ready = terminate-allowed p ready
-each-allowed command.Restart p ready = terminate-allowed p ready
+each-allowed command.Restart p ready = restart-allowed p ready
 each-allowed command.Pause p ready = pause-allowed p ready
 each-allowed command.Continue p ready = resume-allowed p ready
 each-allowed command.Next p ready = resume-allowed p ready
@@ -303,6 +321,16 @@ terminate-sent Stopped s r e = refl
 terminate-sent Resuming s r e = refl
 terminate-sent Exited s r e = refl
 terminate-sent Ended s r e = refl
+
+restart-sent : (p : Phase) → Sent command.Restart p
+restart-sent Fresh s r e = refl
+restart-sent Initializing s r e = refl
+restart-sent Configuring s r e = refl
+restart-sent Running s r e = refl
+restart-sent Stopped s r e = refl
+restart-sent Resuming s r e = refl
+restart-sent Exited s r e = refl
+restart-sent Ended s r e = refl
 
 cancel-sent : (p : Phase) → Sent command.Cancel p
 cancel-sent Fresh s r e = refl
@@ -380,7 +408,7 @@ each-sent command.Modules p = lookup-sent p
 each-sent command.BreakpointLocations p = lookup-sent p
 each-sent command.Cancel p = cancel-sent p
 each-sent command.Terminate p = terminate-sent p
-each-sent command.Restart p = terminate-sent p
+each-sent command.Restart p = restart-sent p
 each-sent command.Pause p = pause-sent p
 each-sent command.Continue p = resume-sent p
 each-sent command.Next p = resume-sent p

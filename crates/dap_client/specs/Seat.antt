@@ -1,6 +1,7 @@
--- A smaller client: its commands in classes, and of its state only what a law over both ends goes by. Capabilities, arguments, limits and bytes are left out.
-use Rattle.std.specs.Prelude.{◌≡◌, ℕ, ◌+◌, ◌==◌, ◌&&◌, List, [], ◌∷◌, ◌++◌, Bool, true, false, if◌then◌else◌, Option, Some, None, Ok}
+-- A smaller client: its commands in classes, and of its state only what a law over both ends goes by. Capabilities, arguments and bytes are left out.
+use Rattle.std.specs.Prelude.{◌≡◌, ℕ, ◌+◌, ◌==◌, ◌&&◌, List, [], ◌∷◌, ◌++◌, length, nat_le, nat_lt, bytes_eq, Bool, true, false, if◌then◌else◌, Option, Some, None, Result, Ok, Err}
 use Rattle.serde_json.specs.Data.{Data}
+use Rattle.dap_frame.specs.Settings.{Settings}
 use Rattle.dap_message.specs.CallTree.{command_of}
 use Rattle.dap_message.specs.Command.{command_named}
 use Rattle.dap_message.specs.Types.Call.{Call}
@@ -10,16 +11,20 @@ use Rattle.dap_message.specs.declared.message.Kind.{Kind}
 use Rattle.dap_message.specs.declared.message.Kind.TheVariants.{Request, Response, Event, Other}
 use Rattle.dap_message.specs.declared.message.Message.{Message}
 use Rattle.dap_tables.specs.Known.{with_pairs}
-use Rattle.dap_tables.specs.Outstanding.{Kept, unparked, without}
+use Rattle.dap_tables.specs.Outstanding.{Kept, entry_with, unparked, without}
 use Rattle.dap_tables.specs.declared.entry.Entry.{Entry}
 use Rattle.dap_tables.specs.declared.reference_kind.ReferenceKind.{ReferenceKind}
+use Rattle.dap_client.specs.declared.fault.ClientFault.{ClientFault}
+use Rattle.dap_client.specs.declared.fault.ClientFault.TheVariants.{Unmatched, CommandMismatch, ReferenceLimit, SeqExhausted}
+use Rattle.dap_client.specs.declared.fault.SendFault.{SendFault}
 use Rattle.dap_client.specs.declared.phase.Phase.{Phase}
 use Rattle.dap_client.specs.declared.phase.Phase.TheVariants.{Fresh, Initializing, Configuring, Running, Stopped, Resuming, Exited, Ended}
 use Rattle.dap_client.specs.declared.signal.Signal.{Signal}
 use Rattle.dap_client.specs.declared.signal.Signal.TheVariants as signal
 use Rattle.dap_client.specs.Changes.{signal_named}
 use Rattle.dap_client.specs.References.{used_by, given_by, given_in}
-use Rattle.dap_client.specs.Sending.{request_of, after_send}
+use Rattle.dap_client.specs.Sending.{holds, first_of, refusals_in_order, request_of, after_send}
+use Rattle.dap_client.specs.Seen.{lesson}
 use Rattle.dap_client.specs.Session.{Session}
 use Rattle.dap_client.specs.Table.{is_sent_in}
 use Rattle.dap_client.specs.Taking.{Made, takes}
@@ -31,6 +36,8 @@ pub data Class : Type 0 where
   ConfigurationDone : Class
   Disconnect : Class
   Terminate : Class
+  -- the sibling end does not serve it, so that it is never sent there
+  Restart : Class
   Cancel : Class
   Setter : Class
   Lookup : Class
@@ -54,7 +61,7 @@ class_of command.Modules = Lookup
 class_of command.BreakpointLocations = Lookup
 class_of command.Cancel = Cancel
 class_of command.Terminate = Terminate
-class_of command.Restart = Terminate
+class_of command.Restart = Restart
 class_of command.Pause = Pause
 class_of command.Continue = Resume
 class_of command.Next = Resume
@@ -119,8 +126,11 @@ allows Stopped ready Cancel = true
 allows Resuming ready Cancel = true
 allows Exited ready Cancel = true
 allows Configuring ready Terminate = true
+allows Configuring ready Restart = true
 allows Running ready Terminate = true
+allows Running ready Restart = true
 allows Stopped ready Terminate = true
+allows Stopped ready Restart = true
 allows Running ready Pause = true
 allows Stopped ready Pause = true
 allows Resuming ready Pause = true
@@ -134,11 +144,13 @@ phase_sent p Disconnect = Ended
 phase_sent Fresh Initialize = Initializing
 phase_sent Stopped Resume = Resuming
 phase_sent Stopped Terminate = Resuming
+phase_sent Stopped Restart = Resuming
 phase_sent p _ = p
 
 abbrev pub resumer_sent : Phase → Class → ℕ → ℕ → ℕ
 resumer_sent Stopped Resume seq before = seq
 resumer_sent Stopped Terminate seq before = seq
+resumer_sent Stopped Restart seq before = seq
 resumer_sent _ _ seq before = before
 
 -- a disconnect ends all references
@@ -253,6 +265,32 @@ seat_taken (Response request_seq ok name message body) e = seat_responded reques
 seat_taken (Event name body) e = seat_signalled (signal_named name) e
 seat_taken (Other tag) e = e
 
+-- the references known with those of an answer
+abbrev pub seat_learned : Bool → Option Command → Option Data → Seat → List (ReferenceKind × ℕ)
+seat_learned ok c body e = with_pairs (lesson ok c body e.phase) e.given
+
+-- a response to the request that waits, if one does
+abbrev pub seat_answers : Option Entry → Settings → ℕ → Bool → List ℕ → Option Data → Seat → Result Seat ClientFault
+seat_answers None limits request_seq ok name body e = Err (Unmatched request_seq)
+seat_answers (Some r) limits request_seq ok name body e =
+    if bytes_eq name r.command
+    then (if nat_le (length (seat_learned ok (command_named name) body e)) limits.references
+    then Ok (seat_responded request_seq ok (command_named name) body e)
+    else Err ReferenceLimit)
+    else Err (CommandMismatch request_seq)
+
+-- why a message closes a client, or the seat afterwards
+abbrev pub seat_takes : Settings → Kind → Seat → Result Seat ClientFault
+seat_takes limits (Request name arguments) e = if nat_lt e.last limits.seq then Ok (seat_taken (Request name arguments) e) else Err SeqExhausted
+seat_takes limits (Response request_seq ok name message body) e = seat_answers (entry_with request_seq e.asked) limits request_seq ok name body e
+seat_takes limits (Event name body) e = Ok (seat_taken (Event name body) e)
+seat_takes limits (Other tag) e = Ok (seat_taken (Other tag) e)
+
+-- the same of what a client makes of it
+abbrev pub seat_made : Result Made ClientFault → Result Seat ClientFault
+seat_made (Ok made) = Ok (seat_of made.after)
+seat_made (Err fault) = Err fault
+
 -- ---- the law
 
 pub record EachStepProjects : Type 0 where
@@ -260,8 +298,10 @@ pub record EachStepProjects : Type 0 where
   pub allowed : (c : Command) (p : Phase) (ready : Bool) → is_sent_in c p ready ≡ allows p ready (class_of c)
   -- a call that the phase lets it send
   pub sent : (s : Session) (c : Call) → is_sent_in (command_of c) s.seen.phase s.seen.ready ≡ true → seat_of (after_send c s) ≡ seat_sent (class_of (command_of c)) (request_of (s.used + 1) c) (seat_of s)
-  -- a message that does not close the client
-  pub taken : (s : Session) (m : Message) (made : Made) → takes m s ≡ Ok made → seat_of made.after ≡ seat_taken m.kind (seat_of s)
+  -- a message that comes, or why it closes the client
+  pub taken : (s : Session) (m : Message) → seat_made (takes m s) ≡ seat_takes s.limits m.kind (seat_of s)
+  -- of a call that is not refused no refusal holds
+  pub free : (c : Call) (closed : Bool) (s : Session) → first_of refusals_in_order c closed s ≡ None → (f : SendFault) → holds f c closed s ≡ false
   -- only inspections give references, and only they name some
   pub gives : (c : Command) (body : Data) → is_inspect (class_of c) ≡ false → given_by c body ≡ []
   pub names : (c : Call) → is_inspect (class_of (command_of c)) ≡ false → used_by c ≡ []
