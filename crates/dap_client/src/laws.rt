@@ -25,7 +25,8 @@ pub fn each_step_stays_within()
 }
 
 /// Each step is one of the smaller client, `Seat`, which sees classes of commands in place of commands, and of the state
-/// the phase, `ready`, the numbers, the outstanding requests and the references alone. A law over both ends goes by that.
+/// the phase, `ready`, the numbers, the outstanding requests and the references alone; a message closes both or neither, and
+/// of a call that is not refused no refusal holds. A law over both ends goes by that.
 pub fn each_step_projects()
     ensures { EachStepProjects }
 {}
