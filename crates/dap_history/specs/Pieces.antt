@@ -26,7 +26,8 @@ pub record BodyRefused (old : Intake) (piece : List ℕ) (cause : BodyRefusal) (
   pub bad : Bad whole.ready.held cause
   pub starts : offset ≡ whole.ready.start
 
--- memory may be refused where bytes of a frame are held, and once a body is whole
+-- memory may be refused where bytes of a frame are held, and once a body is whole. It says no more than that the piece is not
+-- empty: a reader that want of memory closed at the piece's first byte can always be named
 pub data NeedsMemory (old : Intake) (piece : List ℕ) : Type 0 where
   to_hold : (offset : ℕ) → FrameClosed old piece (record { cause = OutOfMemory; offset = offset }) → NeedsMemory old piece
   to_read : (n : ℕ) → Whole old piece n → NeedsMemory old piece
