@@ -10,7 +10,6 @@ ghost use Rattle.dap_session.specs.Session.{fresh_session};
 use dap_adapter::{Adapter, AdapterFault, Turned};
 use dap_debuggee::{Debuggee, Recorded};
 use dap_frame::{Limits, write_frame};
-use dap_tool::wrap;
 use std::alloc::Global;
 use std::test::Fail;
 
@@ -97,6 +96,17 @@ pub fn call<D: Debuggee + Drop>(
     }
 }
 
+/// The frames of the bodies that stand here, one a line.
+fn framed_lines(alloc: Global, lines: &[u8]) -> Result<Vec<u8>, Fail> {
+    let mut wanted = Vec::new(alloc);
+    for body in lines.split(|byte| *byte == b'\n') {
+        if !body.is_empty() {
+            write_frame(&mut wanted, body)?;
+        }
+    }
+    Ok(wanted)
+}
+
 /// Makes the calls, and tells the place of the first one that hands out something else, or leaves another count of
 /// requests.
 pub fn first_difference<D: Debuggee + Drop>(
@@ -111,7 +121,7 @@ pub fn first_difference<D: Debuggee + Drop>(
         let same = match (&got, wanted) {
             (None, None) => true,
             (Some(bytes), Some(lines)) => {
-                let frames = wrap(alloc, lines, Limits::usual()).ok().ok_or("no bodies")?;
+                let frames = framed_lines(alloc, lines)?;
                 bytes.as_slice() == frames.as_slice()
             }
             _ => false,

@@ -3,21 +3,16 @@
 use dap_adapter::Phase;
 use dap_frame::Limits;
 use dap_samples::calls::{
-    Act, NOT_INITIALIZED, Step, THREADS, adapter, call, first_difference, follow, take_all,
+    Act, NOT_INITIALIZED, Step, THREADS, adapter, call, first_difference, follow, framed, take_all,
     two_kept,
 };
-use dap_tool::wrap;
 use std::test::Fail;
 
 /// A request before `initialize`, cut at each place.
 #[test]
 fn not_initialized_however_cut(rt: HostRuntime) -> Result<(), Fail> {
-    let input = wrap(rt.alloc(), THREADS, Limits::usual())
-        .ok()
-        .ok_or("input")?;
-    let answer = wrap(rt.alloc(), NOT_INITIALIZED, Limits::usual())
-        .ok()
-        .ok_or("answer")?;
+    let input = framed(rt.alloc(), &[THREADS])?;
+    let answer = framed(rt.alloc(), &[NOT_INITIALIZED])?;
     assert_eq!(rt; (input.len(), answer.len()), (68, 201));
     for cut in 1..69 {
         let mut adapter = adapter(rt.alloc(), Limits::usual())?;
