@@ -3,7 +3,7 @@
 
     generate.py KIND SIZE SEED > FILE
 
-or, where KIND is `recording`, a recording for a server.
+or, where KIND is `recording`, a recording for a server, or, where it is `transcript` or `transcript_small`, a transcript.
 
 KIND `large` is what an adapter sends where the debuggee is big: `stackTrace`, `variables`, `loadedSources` and
 `modules` responses and long `output` events, of some 4 KB to 170 KB each. KIND `small` is both ends of sessions
@@ -17,6 +17,10 @@ requests until the debuggee has stopped, and SIZE more that look around there. T
 KIND `client_mixed` is an adapter's side of one session that stops again and again, and `client_events` of one with
 little but events: what comes back where a client sends the requests of `client_mixed_requests` or
 `client_events_requests`. SIZE is that of the adapter's side, which ends with the first stop that reaches it.
+
+KIND `transcript` is both sides of such a session as `client_mixed`, in order, each message a line after `> ` or `< `, and
+`transcript_small` one of short lines. SIZE is that of the lines, also of `transcript_framed` and `transcript_small_framed`,
+which have the same messages as frames. All rules of a transcript are kept.
 
 The same KIND, SIZE and SEED give the same bytes on every machine: of Python's generator only `random()` is used, whose
 sequence does not change between versions.
@@ -284,7 +288,12 @@ class Session:
         frames, self.frames = self.frames, []
         return frames
 
+    def say(self, message):
+        """The client's end writes."""
+        self.frames.append(frame(self.client_writer(message)))
+
     def tell(self, message):
+        """The adapter's end writes."""
         self.frames.append(frame(self.adapter_writer(message)))
 
     def next_told(self):
@@ -299,7 +308,7 @@ class Session:
             message = {"seq": self.asked, "type": "request", "command": command, "arguments": arguments}
         if arguments is None:
             del message["arguments"]
-        self.frames.append(frame(self.client_writer(message)))
+        self.say(message)
 
     def respond(self, command, body=None, failure=None, to=None):
         """Answers a request by its number, or the last one."""
@@ -466,10 +475,12 @@ class Conversation(Session):
         self.requests = []
         self.given = 0
 
+    def say(self, message):
+        self.requests.append(frame(self.client_writer(message)))
+
     def request(self, command, arguments=None):
         """Its number."""
         super().request(command, arguments)
-        self.requests.append(self.frames.pop())
         return self.asked
 
     def parts(self, total):
@@ -581,6 +592,7 @@ class Conversation(Session):
             if variable["variablesReference"]:
                 variable["variablesReference"] = self.reference()
         self.respond("variables", {"variables": variables}, to=listed)
+        self.look_further(holder, variables)
         command = world.pick(RESUMING)
         resumed = self.request(command, {"threadId": thread})
         self.tell_value(self.reference, to=evaluated)
@@ -592,6 +604,9 @@ class Conversation(Session):
         if continued == 1:
             self.event("continued", {"threadId": thread, "allThreadsContinued": True})
         return threads
+
+    def look_further(self, holder, variables):
+        """What else the client asks for before it goes on."""
 
     def end(self, threads):
         left = self.request("disconnect", {"terminateDebuggee": True})
@@ -608,6 +623,105 @@ def side(place, mixed):
             for made in part[place]:
                 write(made)
     return write_side
+
+
+# ---- Transcripts -------------------------------------------------------------------------------------------
+
+
+class Transcript(Conversation):
+    """A session as both sides wrote it, in order, each message a line. The messages of either side count from 1."""
+
+    OPENED = 4
+
+    def speak_as(self, adapter, draw):
+        super().speak_as(adapter, draw)
+        self.counts = True
+
+    def say(self, message):
+        self.frames.append(b"> %s\n" % self.client_writer(message).encode("utf-8"))
+
+    def tell(self, message):
+        self.frames.append(b"< %s\n" % self.adapter_writer(message).encode("utf-8"))
+
+    def ask(self):
+        super().ask()
+        self.say({"seq": self.asked, "type": "response", "request_seq": self.told, "success": True,
+                  "command": "runInTerminal", "body": {"processId": self.world.between(1000, 30000)}})
+
+    def variable(self):
+        """With a number of this stop, where it has one."""
+        made = self.world.variable()
+        if made["variablesReference"]:
+            made["variablesReference"] = self.reference()
+        return made
+
+    def look_further(self, holder, variables):
+        """It opens some of the variables, looks into one deeper each time, and now and then sets one."""
+        world = self.world
+        held = [variable["variablesReference"] for variable in variables if variable["variablesReference"]]
+        for _ in range(self.OPENED if held else 0):
+            asked = self.request("variables", {"variablesReference": world.pick(held)})
+            shown = [self.variable() for _ in range(world.between(1, 6))]
+            self.respond("variables", {"variables": shown}, to=asked)
+            held += [variable["variablesReference"] for variable in shown if variable["variablesReference"]]
+        if world.chance(0.25):
+            made = world.pick(variables)
+            asked = self.request("setVariable", {"variablesReference": holder, "name": made["name"], "value": "0"})
+            self.respond("setVariable", {"value": "0", "type": made["type"], "variablesReference": 0}, to=asked)
+
+
+SHORT_EVENTS = ["breakpoint", "module", "process", "thread", "loadedSource", "memory", "invalidated"]
+SHORT_REQUESTS = ["threads", "threads", "threads", "modules", "loadedSources"]
+
+
+class ShortTranscript(Transcript):
+    """A session whose messages have nothing that the rules of a transcript do not ask for."""
+
+    def __init__(self, draw, mixed):
+        super().__init__(draw, mixed)
+        self.client, self.client_writer = "editor", PLAIN.encode
+        self.speak_as("lldb", draw)
+
+    def start(self):
+        begun = self.request("initialize", {"adapterID": "short"})
+        self.respond("initialize", {flag: True for flag in (*OFFERED, "supportsLoadedSourcesRequest")}, to=begun)
+        self.event("initialized")
+        for command in ("launch", "configurationDone"):
+            self.respond(command, to=self.request(command))
+
+    def stop(self, _):
+        world = self.world
+        for _ in range(world.between(24, 48)):
+            if world.chance(0.15):
+                command = world.pick(SHORT_REQUESTS)
+                self.respond(command, to=self.request(command))
+            else:
+                self.event(world.pick(SHORT_EVENTS))
+        self.event("stopped")
+        frame, holder = self.reference(), self.reference()
+        self.respond("stackTrace", {"stackFrames": [{"id": frame}]}, to=self.request("stackTrace"))
+        self.respond("scopes", {"scopes": [{"variablesReference": holder}]},
+                     to=self.request("scopes", {"frameId": frame}))
+        self.respond("variables", to=self.request("variables", {"variablesReference": holder}))
+        self.respond("next", to=self.request("next"))
+
+    def end(self, _):
+        self.respond("disconnect", to=self.request("disconnect"))
+
+
+def framed(line):
+    """The message of a line, as a frame."""
+    body = line[2:-1]
+    return b"Content-Length: %d\r\n\r\n%s" % (len(body), body)
+
+
+def transcript(make, form=bytes):
+    """What writes the lines until they have so many bytes, each in a form."""
+    def write_lines(total, seed, write):
+        for _, lines in make(random.Random(seed).random, True).parts(total):
+            for line in lines:
+                write(form(line))
+    return write_lines
 
 
 # ---- Requests to one server --------------------------------------------------------------------------------
@@ -912,15 +1026,17 @@ KINDS = {
     "requests": requests, "stopped": stopped, "recording": recording,
     "client_mixed": side(1, True), "client_mixed_requests": side(0, True),
     "client_events": side(1, False), "client_events_requests": side(0, False),
+    "transcript": transcript(Transcript), "transcript_framed": transcript(Transcript, framed),
+    "transcript_small": transcript(ShortTranscript), "transcript_small_framed": transcript(ShortTranscript, framed),
 }
 
 
 def main():
-    words = argparse.ArgumentParser(description="Writes a stream of framed messages, or a recording, to standard output.")
+    words = argparse.ArgumentParser(description="Writes a stream of framed messages, a transcript or a recording to standard output.")
     words.add_argument("kind", choices=["large", "small", *KINDS], metavar="KIND",
                        help="large, small, %s" % ", ".join(KINDS))
     words.add_argument("size", type=int, metavar="SIZE",
-                       help="the stream ends with the frame or the stop that reaches these bytes; of requests and "
+                       help="the stream or transcript ends with the frame or the stop that reaches these bytes; of requests and "
                        "stopped: how many; of a recording: how many moments")
     words.add_argument("seed", type=int, metavar="SEED", help="a whole number")
     words = words.parse_args()

@@ -6,11 +6,12 @@ use crate::call::as_count;
 use crate::failure::Failure;
 use crate::framing::{push_frame, Fault};
 use crate::heading::{Heading, Kind, MAX_SEQ};
+use crate::known::Known;
 use crate::serve::MAX_BODY;
 use serde::de::value::{Error, StrDeserializer};
 use serde::{Deserialize, Serialize};
 use serde_json::{Map, Value};
-use std::collections::{HashMap, HashSet};
+use std::collections::HashMap;
 
 const MOST_REQUESTS: usize = 64;
 const MOST_REFERENCES: usize = 65536;
@@ -63,7 +64,7 @@ pub enum Command {
 }
 
 impl Command {
-    fn named(name: &str) -> Option<Self> {
+    pub fn named(name: &str) -> Option<Self> {
         Command::deserialize(StrDeserializer::<Error>::new(name)).ok()
     }
 
@@ -117,7 +118,7 @@ impl Command {
     }
 
     /// The flag of the capabilities that it needs.
-    fn gate(self) -> Option<&'static str> {
+    pub fn gate(self) -> Option<&'static str> {
         Some(match self {
             Command::ConfigurationDone => "supportsConfigurationDoneRequest",
             Command::Terminate => "supportsTerminateRequest",
@@ -209,8 +210,7 @@ pub struct Client {
     capabilities: Map<String, Value>,
     /// The number of the request that made the phase Resuming.
     resumer: u64,
-    frames: HashSet<u32>,
-    holders: HashSet<u32>,
+    known: Known,
     outstanding: HashMap<u64, Command>,
     seq: u64,
     body: Vec<u8>,
@@ -223,8 +223,7 @@ impl Client {
             ready: false,
             capabilities: Map::new(),
             resumer: 0,
-            frames: HashSet::new(),
-            holders: HashSet::new(),
+            known: Known::default(),
             outstanding: HashMap::new(),
             seq: 0,
             body: Vec::new(),
@@ -291,8 +290,8 @@ impl Client {
         }
         let known = match &call.uses {
             None => true,
-            Some(Reference::Frame(number)) => self.frames.contains(number),
-            Some(Reference::Holder(number)) => self.holders.contains(number),
+            Some(Reference::Frame(number)) => self.known.frames.contains(number),
+            Some(Reference::Holder(number)) => self.known.holders.contains(number),
         };
         if known {
             Ok(())
@@ -307,7 +306,7 @@ impl Client {
 
     /// Takes a body of the adapter's and gives the message that it is. What answers it is appended to `out`.
     pub fn take(&mut self, body: &[u8], out: &mut Vec<u8>) -> Result<Value, Fault> {
-        let message = serde_json::from_slice(body).map_err(|_| "no JSON")?;
+        let message = serde_json::from_slice(body).map_err(|_| "NotJson")?;
         let heading = Heading::of(&message)?;
         match heading.kind {
             Kind::Request { command } => self.decline(heading.seq, command, out)?,
@@ -357,7 +356,10 @@ impl Client {
         }
         if success && matches!(self.phase, Phase::Stopped | Phase::Resuming) {
             if let Some(body) = body {
-                self.learn(sent, body)?;
+                self.known.learn(sent, body);
+                if self.known.len() > MOST_REFERENCES {
+                    return Err("too many references");
+                }
             }
         }
         self.outstanding.remove(&request_seq);
@@ -380,27 +382,6 @@ impl Client {
                 self.phase = Phase::Running;
             }
             _ => {}
-        }
-        Ok(())
-    }
-
-    /// Learns the references that the body of a success gives.
-    fn learn(&mut self, command: Command, body: &Value) -> Result<(), Fault> {
-        match command {
-            Command::StackTrace => self
-                .frames
-                .extend(items(body, "stackFrames").filter_map(|frame| as_count(frame.get("id")?))),
-            Command::Scopes => self
-                .holders
-                .extend(items(body, "scopes").filter_map(holder)),
-            Command::Variables => self
-                .holders
-                .extend(items(body, "variables").filter_map(holder)),
-            Command::Evaluate | Command::SetVariable => self.holders.extend(holder(body)),
-            _ => {}
-        }
-        if self.frames.len() + self.holders.len() > MOST_REFERENCES {
-            return Err("too many references");
         }
         Ok(())
     }
@@ -429,8 +410,7 @@ impl Client {
     /// Changes the phase; all references end.
     fn forget_and(&mut self, phase: Phase) {
         self.phase = phase;
-        self.frames.clear();
-        self.holders.clear();
+        self.known.clear();
     }
 
     fn write(&mut self, message: &impl Serialize) {
@@ -438,16 +418,4 @@ impl Client {
         // These types are written to a vector without fail.
         let _ = serde_json::to_writer(&mut self.body, message);
     }
-}
-
-fn items<'a>(body: &'a Value, key: &str) -> impl Iterator<Item = &'a Value> {
-    body.get(key)
-        .and_then(Value::as_array)
-        .into_iter()
-        .flatten()
-}
-
-/// The number by which variables can be asked for; 0 says that there are none.
-fn holder(value: &Value) -> Option<u32> {
-    as_count(value.get("variablesReference")?).filter(|&number| number > 0)
 }

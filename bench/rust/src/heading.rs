@@ -1,4 +1,5 @@
-//! What a message says of itself, lent from its tree: its kind with the keys that the kind requires.
+//! What a message says of itself, lent from its tree: its kind with the keys that the kind requires. What is wrong has the
+//! name that `dap` gives it.
 
 use crate::framing::Fault;
 use serde_json::Value;
@@ -29,7 +30,7 @@ pub enum Kind<'a> {
 
 impl<'a> Heading<'a> {
     pub fn of(value: &'a Value) -> Result<Self, Fault> {
-        let message = value.as_object().ok_or("no object")?;
+        let message = value.as_object().ok_or("NotObject")?;
         let text = |key: &str| message.get(key).and_then(Value::as_str);
         let whole = |key: &str| {
             message
@@ -40,26 +41,26 @@ impl<'a> Heading<'a> {
         let command = || {
             text("command")
                 .filter(|command| command.len() <= MAX_COMMAND)
-                .ok_or("a bad command")
+                .ok_or("BadCommand")
         };
 
-        let seq = whole("seq").ok_or("a bad seq")?;
-        let kind = match text("type").ok_or("a bad type")? {
+        let seq = whole("seq").ok_or("BadSeq")?;
+        let kind = match text("type").ok_or("BadType")? {
             "request" => Kind::Request {
                 command: command()?,
             },
             "response" => {
                 let command = command()?;
-                let request_seq = whole("request_seq").ok_or("a bad request_seq")?;
+                let request_seq = whole("request_seq").ok_or("BadRequestSeq")?;
                 let success = message
                     .get("success")
                     .and_then(Value::as_bool)
-                    .ok_or("a bad success")?;
+                    .ok_or("BadSuccess")?;
                 if !matches!(
                     message.get("message"),
                     None | Some(Value::Null | Value::String(_))
                 ) {
-                    return Err("a bad message");
+                    return Err("BadMessage");
                 }
                 Kind::Response {
                     command,
@@ -68,7 +69,7 @@ impl<'a> Heading<'a> {
                 }
             }
             "event" => Kind::Event {
-                event: text("event").ok_or("a bad event")?,
+                event: text("event").ok_or("BadEvent")?,
             },
             other => Kind::Other(other),
         };

@@ -6,18 +6,21 @@
 //!     baseline trees RECORDING            the same, with each message a tree on its way in and out
 //!     baseline echo                       gives each body of standard input back on standard output
 //!     baseline client REQUESTS ANSWERS    a client sends the requests of one file and takes the answers of the other
+//!     baseline check FILE [--any-seq]     whether a transcript keeps the seven rules
 //!
 //! A file is read whole. Bodies are slices of it and are parsed to `serde_json::Value`. The lines gather in one
 //! buffer that is written once. What is malformed gives a message on standard error and status 3; the lines of
 //! the messages before it are written all the same. `serve.rs` says how the servers read and write, `session.rs`
-//! what is answered, `client.rs` what a client does.
+//! what is answered, `client.rs` what a client does, `check.rs` what is checked.
 
 mod answers;
 mod call;
+mod check;
 mod client;
 mod failure;
 mod framing;
 mod heading;
+mod known;
 mod recorded;
 mod references;
 mod replay;
@@ -50,7 +53,7 @@ fn frames(input: &[u8], out: &mut Vec<u8>) -> Outcome {
 fn show(input: &[u8], out: &mut Vec<u8>) -> Outcome {
     let mut frames = Frames::new(input);
     while let Some(frame) = frames.next().map_err(|fault| (fault, frames.offset))? {
-        let value = serde_json::from_slice(frame.body).map_err(|_| ("no JSON", frame.offset))?;
+        let value = serde_json::from_slice(frame.body).map_err(|_| ("NotJson", frame.offset))?;
         show_message(frame.offset, &value, out).map_err(|fault| (fault, frame.offset))?;
     }
     Ok(())
@@ -110,6 +113,10 @@ fn main() -> ExitCode {
         [mode, recording] if mode == "trees" => return serve::serve(recording, Style::Trees),
         [mode] if mode == "echo" => return serve::echo(),
         [mode, requests, answers] if mode == "client" => return replay::client(requests, answers),
+        [mode, path] if mode == "check" => return check::run(path, false),
+        [mode, path, any_seq] if mode == "check" && any_seq == "--any-seq" => {
+            return check::run(path, true);
+        }
         [mode] if mode == "--version" => {
             println!("baseline {}", env!("CARGO_PKG_VERSION"));
             return ExitCode::SUCCESS;
@@ -117,7 +124,7 @@ fn main() -> ExitCode {
         _ => {
             eprintln!(
                 "usage: baseline show|frames FILE | baseline serve|trees RECORDING | baseline echo | \
-                 baseline client REQUESTS ANSWERS"
+                 baseline client REQUESTS ANSWERS | baseline check FILE [--any-seq]"
             );
             return ExitCode::from(2);
         }

@@ -44,7 +44,7 @@ impl Replay<'_> {
                 None => return Ok(None),
             };
             let message = serde_json::from_slice(frame.body);
-            let message = message.map_err(|_| refused("no JSON", frame.offset))?;
+            let message = message.map_err(|_| refused("NotJson", frame.offset))?;
             if let Some(call) = Call::of(message).map_err(|fault| refused(fault, frame.offset))? {
                 self.read += 1;
                 return Ok(Some(call));

@@ -39,7 +39,7 @@ impl<'a> Envelope<'a> {
     fn read(style: Style, body: &'a [u8]) -> Result<Self, Fault> {
         match style {
             Style::Types => serde_json::from_slice(body).map_err(|_| "no message"),
-            Style::Trees => Self::of_tree(serde_json::from_slice(body).map_err(|_| "no JSON")?),
+            Style::Trees => Self::of_tree(serde_json::from_slice(body).map_err(|_| "NotJson")?),
         }
     }
 
