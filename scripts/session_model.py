@@ -135,15 +135,15 @@ KEYS = {
 }
 
 
-def bad_key(command, arguments):
+def bad_key(command, arguments, table=KEYS):
     """The first bad key of a command's arguments."""
-    if command not in KEYS:
+    if command not in table:
         return None
     if arguments is None:
-        return "arguments" if any(required for _, required, _ in KEYS[command]) else None
+        return "arguments" if any(required for _, required, _ in table[command]) else None
     if not isinstance(arguments, dict):
         return "arguments"
-    for key, required, is_good in KEYS[command]:
+    for key, required, is_good in table[command]:
         value = arguments.get(key)
         if value is None and not required:
             continue

@@ -1,0 +1,440 @@
+#!/usr/bin/env python3
+"""Checks a transcript of a debug session against seven rules: slowly, each rule a statement on places in the list of lines.
+
+    scripts/slow_check.py session.txt            (`legal`, or `line L rule K` of the first finding)
+    scripts/slow_check.py session.txt --any-seq  (numbers may come in any order: rule 1 is not tested)
+    scripts/slow_check.py session.txt --facts    (after a finding, in which way the rule is broken, and by which lines)
+
+It says what `dap check` says, with the same statuses, shares nothing with it and keeps nothing from line to line. Each line
+is `> ` and a message of the client, or `< ` and one of the adapter. The rules:
+
+1. The k-th message of a side has the seq k.
+2. A response answers an earlier request of the other side, with its seq and its command, that was not answered before. A
+   request has not the seq of an unanswered request of its side.
+3. The client's first request is `initialize`, and its second comes after a response to the first.
+4. The adapter's event `initialized` comes after a successful response to `initialize`.
+5. A request of the client that needs a capability comes where the adapter's capabilities have it: those of the last
+   successful response to `initialize`, as later events `capabilities` have changed them.
+6. A `frameId` of `scopes`, `evaluate` or `completions`, and a `variablesReference` of `variables` or `setVariable`, was
+   given as such by an earlier response, and the debuggee was not resumed since.
+7. After a successful response to `disconnect` comes no request of the client and no message of the adapter.
+"""
+import argparse
+import dataclasses
+import json
+import re
+import sys
+
+MAX_FILE = 67108864
+GREATEST_SEQ = 9007199254740991
+GREATEST_REFERENCE = 2147483647
+MAX_COMMAND = 64
+MAX_NESTING = 127
+
+CLIENT, ADAPTER = ">", "<"
+GATES = {
+    "configurationDone": "supportsConfigurationDoneRequest",
+    "terminate": "supportsTerminateRequest",
+    "cancel": "supportsCancelRequest",
+    "setFunctionBreakpoints": "supportsFunctionBreakpoints",
+    "stepBack": "supportsStepBack",
+    "reverseContinue": "supportsStepBack",
+    "loadedSources": "supportsLoadedSourcesRequest",
+    "setVariable": "supportsSetVariable",
+    "restart": "supportsRestartRequest",
+    "modules": "supportsModulesRequest",
+    "exceptionInfo": "supportsExceptionInfoRequest",
+    "breakpointLocations": "supportsBreakpointLocationsRequest",
+    "completions": "supportsCompletionsRequest",
+}
+RESUMING_COMMANDS = {"continue", "next", "stepIn", "stepOut", "stepBack", "reverseContinue"}
+RESUMING_EVENTS = {"continued", "exited", "terminated"}
+# The key of a request that holds a reference, and the kind of the reference.
+USED_AT = {
+    "scopes": ("frameId", "frame"),
+    "evaluate": ("frameId", "frame"),
+    "completions": ("frameId", "frame"),
+    "variables": ("variablesReference", "variables"),
+    "setVariable": ("variablesReference", "variables"),
+}
+
+
+# Lines and messages
+
+
+class Refused(Exception):
+    """What is no line or no message, by its name and where it stands."""
+
+
+@dataclasses.dataclass
+class Message:
+    """A line of the transcript. What its kind of message does not have is None."""
+
+    line: int
+    side: str
+    seq: int
+    type: str
+    command: str = None
+    arguments: object = None
+    request_seq: int = None
+    success: bool = None
+    body: object = None
+    event: str = None
+
+
+def lines_of(content):
+    """The lines that are not empty, with their numbers. A line ends with LF, or with CR and LF; the last one may have no end."""
+    pieces = content.split(b"\n")
+    last = pieces.pop()
+    pieces = [piece.removesuffix(b"\r") for piece in pieces] + ([last] if last else [])
+    return [(number, piece) for number, piece in enumerate(pieces, 1) if piece]
+
+
+def read_transcript(content):
+    """The messages of a transcript, or the refusal of the first line that is none."""
+    said = []
+    for number, line in lines_of(content):
+        side, body = line[:2], line[2:]
+        if side not in (b"> ", b"< "):
+            raise Refused(f"BadLine at line {number}")
+        try:
+            said.append(read_message(number, side.decode()[0], body))
+        except Refused as refusal:
+            raise Refused(f"{refusal} at line {number}") from None
+    return said
+
+
+def read_message(number, side, body):
+    """The message, or the first refusal. `null` counts as absent where a key may be absent."""
+    told = read_json(body)
+    need(isinstance(told, dict), "NotObject")
+    need(is_seq(told.get("seq")), "BadSeq")
+    need(is_text(told.get("type")), "BadType")
+    message = Message(number, side, told["seq"], told["type"])
+    if message.type in ("request", "response"):
+        need(is_command(told.get("command")), "BadCommand")
+        message.command = told["command"]
+    if message.type == "request":
+        message.arguments = told.get("arguments")
+    if message.type == "response":
+        need(is_seq(told.get("request_seq")), "BadRequestSeq")
+        need(isinstance(told.get("success"), bool), "BadSuccess")
+        message.request_seq, message.success = told["request_seq"], told["success"]
+    if message.type == "event":
+        need(is_text(told.get("event")), "BadEvent")
+        message.event = told["event"]
+    if message.type == "response":
+        need(told.get("message") is None or is_text(told["message"]), "BadMessage")
+    if message.type in ("response", "event"):
+        message.body = told.get("body")
+    return message
+
+
+def need(holds, refusal):
+    if not holds:
+        raise Refused(refusal)
+
+
+def is_text(value):
+    return isinstance(value, str)
+
+
+def is_whole(value):
+    return isinstance(value, int) and not isinstance(value, bool)
+
+
+def is_seq(value):
+    return is_whole(value) and 0 <= value <= GREATEST_SEQ
+
+
+def is_command(value):
+    return is_text(value) and len(value.encode()) <= MAX_COMMAND
+
+
+# JSON, as the crate `serde_json` reads it: Python's own reader takes more, and what it takes more is refused here.
+
+
+def read_json(body):
+    try:
+        text = body.decode("utf-8")
+        refuse_tokens(text)
+        return json.loads(text, parse_int=whole_number, parse_float=float_number, parse_constant=no_number)
+    except ValueError:
+        raise Refused("NotJson") from None
+
+
+def refuse_tokens(text):
+    """Refuses arrays and objects that nest too deep, and halves of characters, also where another member takes the place."""
+    depth = 0
+    for token in re.findall(r'"(?:[^"\\]|\\.)*"|[][{}]', text, re.DOTALL):
+        if token[0] == '"' and "\\u" in token:
+            json.loads(token).encode("utf-8")
+        depth += {"[": 1, "{": 1, "]": -1, "}": -1}.get(token, 0)
+        if depth > MAX_NESTING:
+            raise ValueError("too deep")
+
+
+def whole_number(digits):
+    """A whole number has 64 bits; one of more, and minus zero, is a float."""
+    if len(digits) <= 20 and digits != "-0" and -(2**63) <= int(digits) < 2**64:
+        return int(digits)
+    return float_number(digits)
+
+
+def float_number(digits):
+    value = float(digits)
+    if value in (float("inf"), float("-inf")):
+        raise ValueError("too great")
+    return value
+
+
+def no_number(name):
+    raise ValueError(name)
+
+
+# What the rules speak of
+
+
+def other(side):
+    return ADAPTER if side == CLIENT else CLIENT
+
+
+def before(said, place):
+    return range(place)
+
+
+def between(first, last):
+    return range(first + 1, last)
+
+
+def is_request(message, side):
+    return message.type == "request" and message.side == side
+
+
+def is_response(message, side):
+    return message.type == "response" and message.side == side
+
+
+def is_event(message, name):
+    """Events are the adapter's."""
+    return message.type == "event" and message.side == ADAPTER and message.event == name
+
+
+def succeeds(message, command):
+    """A successful response of the adapter to this command."""
+    return is_response(message, ADAPTER) and message.success and message.command == command
+
+
+def answered(said, request, place):
+    """Where, before this place, the request at another place is answered: the first response to its seq after it."""
+    asked = said[request]
+    for k in between(request, place):
+        if is_response(said[k], other(asked.side)) and said[k].request_seq == asked.seq:
+            return k
+    return None
+
+
+def same_seq(said, side, seq, place):
+    """The places before this one with a request of that side and seq."""
+    return [j for j in before(said, place) if is_request(said[j], side) and said[j].seq == seq]
+
+
+def resumes(message):
+    return any(succeeds(message, command) for command in RESUMING_COMMANDS) or any(
+        is_event(message, name) for name in RESUMING_EVENTS
+    )
+
+
+def given(message):
+    """The references that a message gives, as pairs of kind and number."""
+    body = message.body if isinstance(message.body, dict) else {}
+    if succeeds(message, "stackTrace"):
+        return numbers("frame", body.get("stackFrames"), "id", 0)
+    for command in ("scopes", "variables"):
+        if succeeds(message, command):
+            return numbers("variables", body.get(command), "variablesReference", 1)
+    if succeeds(message, "evaluate") or succeeds(message, "setVariable"):
+        return numbers("variables", [body], "variablesReference", 1)
+    return []
+
+
+def numbers(kind, elements, key, least):
+    elements = elements if isinstance(elements, list) else []
+    found = [element.get(key) for element in elements if isinstance(element, dict)]
+    return [(kind, number) for number in found if is_whole(number) and least <= number <= GREATEST_REFERENCE]
+
+
+# The rules. Each says how the message at a place breaks it, or None.
+
+
+@dataclasses.dataclass
+class Broken:
+    """How a rule is broken, by which earlier lines, and what was wanted."""
+
+    way: str
+    against: list = dataclasses.field(default_factory=list)
+    wanted: object = None
+
+
+def rule_1(said, place):
+    k = 1 + len([j for j in before(said, place) if said[j].side == said[place].side])
+    return None if said[place].seq == k else Broken("the seq is another", [], k)
+
+
+def rule_2(said, place):
+    message = said[place]
+    if message.type == "response":
+        return rule_2_response(said, place)
+    if message.type == "request":
+        for j in same_seq(said, message.side, message.seq, place):
+            if answered(said, j, place) is None:
+                return Broken("an unanswered request has the seq", [said[j].line])
+    return None
+
+
+def rule_2_response(said, place):
+    message = said[place]
+    requests = same_seq(said, other(message.side), message.request_seq, place)
+    if not requests:
+        return Broken("no request has the seq")
+    waiting = [j for j in requests if answered(said, j, place) is None]
+    if not waiting:
+        request = requests[-1]
+        return Broken("the request was answered", [said[request].line, said[answered(said, request, place)].line])
+    if all(said[j].command != message.command for j in waiting):
+        return Broken("the request has another command", [said[waiting[-1]].line], said[waiting[-1]].command)
+    return None
+
+
+def rule_3(said, place):
+    if not is_request(said[place], CLIENT):
+        return None
+    earlier = [j for j in before(said, place) if is_request(said[j], CLIENT)]
+    if not earlier and said[place].command != "initialize":
+        return Broken("the first request is another")
+    if len(earlier) == 1 and answered(said, earlier[0], place) is None:
+        return Broken("the first request is not answered", [said[earlier[0]].line])
+    return None
+
+
+def rule_4(said, place):
+    if not is_event(said[place], "initialized"):
+        return None
+    if any(succeeds(said[j], "initialize") for j in before(said, place)):
+        return None
+    failed = [
+        said[j].line for j in before(said, place) if is_response(said[j], ADAPTER) and said[j].command == "initialize"
+    ]
+    return Broken("no initialize succeeded", failed)
+
+
+def rule_5(said, place):
+    if not is_request(said[place], CLIENT) or said[place].command not in GATES:
+        return None
+    gate = GATES[said[place].command]
+    succeeded = [j for j in before(said, place) if succeeds(said[j], "initialize")]
+    if not succeeded:
+        return Broken("no initialize succeeded", [], gate)
+    last = succeeded[-1]
+    changes = [j for j in between(last, place) if is_event(said[j], "capabilities") and gate in capabilities(said[j])]
+    if changes:
+        allowed = capabilities(said[changes[-1]])[gate] is True
+        return None if allowed else Broken("an event took the capability", [said[last].line, said[changes[-1]].line], gate)
+    body = said[last].body
+    allowed = isinstance(body, dict) and body.get(gate) is True
+    return None if allowed else Broken("the response has not the capability", [said[last].line], gate)
+
+
+def capabilities(event):
+    """The object that an event `capabilities` holds; it changes nothing where there is none."""
+    body = event.body if isinstance(event.body, dict) else {}
+    held = body.get("capabilities")
+    return held if isinstance(held, dict) else {}
+
+
+def rule_6(said, place):
+    message = said[place]
+    if not is_request(message, CLIENT) or message.command not in USED_AT or not isinstance(message.arguments, dict):
+        return None
+    key, kind = USED_AT[message.command]
+    number = message.arguments.get(key)
+    if not is_whole(number):
+        return None
+    givers = [j for j in before(said, place) if (kind, number) in given(said[j])]
+    if not givers:
+        others = [said[j].line for j in before(said, place) if number in [n for _, n in given(said[j])]]
+        return Broken("given as another kind" if others else "never given", others[-1:], number)
+    resumptions = [k for k in between(givers[-1], place) if resumes(said[k])]
+    if resumptions:
+        return Broken("resumed since it was given", [said[givers[-1]].line, said[resumptions[0]].line], number)
+    return None
+
+
+def rule_7(said, place):
+    message = said[place]
+    if message.side == CLIENT and message.type != "request":
+        return None
+    for j in before(said, place):
+        if succeeds(said[j], "disconnect"):
+            return Broken("disconnect was answered", [said[j].line])
+    return None
+
+
+RULES = {1: rule_1, 2: rule_2, 3: rule_3, 4: rule_4, 5: rule_5, 6: rule_6, 7: rule_7}
+
+
+def finding(said, any_seq=False):
+    """The least line, and of it the least rule, that is broken: its place, the rule and how; None where all is legal."""
+    for place in range(len(said)):
+        for rule, test in RULES.items():
+            broken = None if rule == 1 and any_seq else test(said, place)
+            if broken is not None:
+                return place, rule, broken
+    return None
+
+
+def check(content, any_seq=False):
+    """What `dap check` prints of these bytes: the status, its output and its errors."""
+    try:
+        said = read_transcript(content)
+    except Refused as refusal:
+        return 3, "", f"dap: {refusal}\n"
+    found = finding(said, any_seq)
+    if found is None:
+        return 0, "legal\n", ""
+    place, rule, _ = found
+    return 3, f"line {said[place].line} rule {rule}\n", ""
+
+
+def facts(content, any_seq=False):
+    """How the first finding's rule is broken, by which earlier lines, and what was wanted; None where all is legal."""
+    found = finding(read_transcript(content), any_seq)
+    return found[2] if found else None
+
+
+def main():
+    words = argparse.ArgumentParser(description=__doc__, formatter_class=argparse.RawDescriptionHelpFormatter)
+    words.add_argument("file", metavar="FILE")
+    words.add_argument("--any-seq", action="store_true", help="do not test rule 1")
+    words.add_argument("--facts", action="store_true", help="tell how the rule is broken, and by which earlier lines")
+    told = words.parse_args()
+    try:
+        with open(told.file, "rb") as file:
+            content = file.read(MAX_FILE + 1)
+    except OSError:
+        print("dap: Read", file=sys.stderr)
+        return 5
+    if len(content) > MAX_FILE:
+        print("dap: FileTooLong", file=sys.stderr)
+        return 3
+    status, out, err = check(content, told.any_seq)
+    sys.stdout.write(out)
+    sys.stderr.write(err)
+    if told.facts and out and status:
+        broken = facts(content, told.any_seq)
+        print(broken.way, *[f"line {number}" for number in broken.against], sep=", ")
+    return status
+
+
+if __name__ == "__main__":
+    sys.exit(main())

@@ -1,0 +1,379 @@
+#!/usr/bin/env python3
+"""Random scripts for `dap drive`, and the transcripts that it makes of them, broken at random, for `dap check`.
+
+    scripts/try_transcripts.py                 (some hundred scripts, in some 20 seconds)
+    scripts/try_transcripts.py --count 10000   (as many scripts)
+    DAP=PATH scripts/try_transcripts.py        (tries the program at PATH)
+
+Each script asks for what the client may send, in many orders, under small and great limits; some end with a line that is
+refused. What `drive` prints is what scripts/drive_model.py has, byte for byte. Its transcript is legal for `dap check` and
+for scripts/slow_check.py. Then it is broken by one edit or more, mostly with all messages numbered anew so that more than
+the numbers is wrong, and the two say the same of it, with and without --any-seq. The seed is fixed.
+"""
+import argparse
+import collections
+import copy
+import json
+import os
+import random
+import sys
+
+import slow_check
+from drive_model import MAY_SEND, RESUMING, Drive, Fault, drive_of, script_line
+from slow_check import GATES, USED_AT
+from trial import FOLDER, RECORDINGS, expect, failures, recording_of, run
+
+COUNT = 300
+EDITS = 3
+FLAGS = sorted(set(GATES.values()))
+ODD_NUMBERS = [0, 1, 2, 3, 4, 5, -1, 1.0, -0.0, 2147483647, 2147483648, 2**53 - 1, 2**53, 2**64 - 1, 2**64, -(2**63), None]
+
+
+def with_files(*words_and_contents):
+    """The words, each file's bytes in the place of its name."""
+    words = []
+    for place, word in enumerate(words_and_contents):
+        if isinstance(word, bytes):
+            path = os.path.join(FOLDER, f"text{place}")
+            with open(path, "wb") as file:
+                file.write(word)
+            word = path
+        words.append(word)
+    return words
+
+
+def is_known(command):
+    """Whether the program has this command. Where it has not, that is the one failure."""
+    status, _, err = run([command, "--help"])
+    expect(f"the program has the command `{command}`", (status, err), (0, b""))
+    return status == 0
+
+
+# Scripts
+
+
+class Scripted:
+    """A script, each line chosen by what both ends have come to."""
+
+    def __init__(self, choice, recording, limits):
+        self.choice = choice
+        self.drive = Drive(recording, **limits)
+        self.ids = sorted({thread["id"] for moment in recording["moments"] for thread in moment["threads"]})
+        self.names = [source["path"] for source in recording["sources"] if "path" in source]
+        self.lines = []
+        self.is_over = False
+
+    def line(self, line):
+        self.lines.append(line)
+        try:
+            script_line(self.drive, line)
+        except Fault:
+            self.is_over = True
+
+    def number(self, kind):
+        known = sorted(number for its_kind, number in self.drive.client.known if its_kind == kind)
+        return self.choice.choice(known or [1])
+
+    def arguments(self, command):
+        pick = self.choice.choice
+        if command in USED_AT:
+            key, kind = USED_AT[command]
+            told = {key: self.number(kind), "expression": pick(["x", "p", "q"])}
+            return told if command != "evaluate" or self.choice.randrange(6) else {"expression": "x"}
+        if command == "setBreakpoints":
+            source = pick([{"path": pick(self.names)}, {"sourceReference": 1}])
+            return {"source": source, "breakpoints": [{"line": self.choice.randrange(5)} for _ in range(pick([0, 1, 2, 9]))]}
+        if command == "cancel":
+            return pick([None, {"requestId": max(1, self.drive.client.seq - self.choice.randrange(3))}])
+        if command in ("launch", "attach"):
+            return pick([None, {}, {"program": "a", "env": {"\u00e9": [1, None, "\n"]}}])
+        if command == "initialize":
+            return pick([None, {"adapterID": "rec"}, {"linesStartAt1": False, "columnsStartAt1": False}])
+        if command == "source":
+            return {"sourceReference": pick([0, 1, 1, 2])}
+        return {"threadId": pick(self.ids), "filters": [], "levels": pick([0, 0, 1]), "startFrame": pick([None, 0, 1])}
+
+    def send(self):
+        """What may be sent: mostly what leads on, to a stop and from there to variables."""
+        lead = {"Fresh": ["initialize"], "Configuring": ["launch", "configurationDone", "setBreakpoints"]}
+        lead["Stopped"] = ["stackTrace", "scopes", "variables", "evaluate", "scopes", "variables"] + sorted(RESUMING)
+        lead["Running"] = ["pause"]
+        client = self.drive.client
+        if len(client.waiting) >= client.max_requests and self.choice.randrange(8):
+            return self.line(b"run")
+        for _ in range(20):
+            commands = [c for c in MAY_SEND if c not in ("disconnect", "terminate") or self.choice.randrange(8) == 0]
+            command = self.choice.choice(lead.get(client.phase, commands) if self.choice.randrange(3) else commands)
+            arguments = self.arguments(command)
+            if client.refusal(command, arguments) is None:
+                text = "" if arguments is None else " " + json.dumps(arguments, ensure_ascii=self.choice.randrange(2) == 0)
+                return self.line(f"send {command}{text}".encode())
+        return self.line(b"run")
+
+    def step(self):
+        if self.choice.randrange(5) < 3:
+            self.send()
+        else:
+            self.line(self.choice.choice([b"run"] * 6 + [b"turn", b"turn", b"poll", b""]))
+
+    def refused(self):
+        """A line that is refused where it stands, or mostly so."""
+        lines = [b"jump", b"send", b"send jump", b"run ", b"send threads {", b"send  threads", b"\xff", b"send threads \xff"]
+        lines += [b"send next {}", b"send launch []", b'send launch {"a":1.5}', b"send initialize", b"send restart", b"send pause"]
+        lines += [b'send scopes {"frameId":99}', b'send stackTrace {"threadId":1}', b'send variables {"variablesReference":-1}']
+        self.line(self.choice.choice(lines))
+
+
+def random_script(choice, recording):
+    """The bytes of a script, and the limits that it is run under."""
+    limits = {"max_requests": choice.choice([2, 3, 64]), "max_references": choice.choice([2, 9, 65536])}
+    limits["max_reference"] = choice.choice([5, 2147483647])
+    limits["max_seq"] = choice.choice([9007199254740991] * 9 + [choice.randrange(1, 20)])
+    limits["max_body"] = choice.choice([1024, 4194304])
+    scripted = Scripted(choice, recording, limits)
+    for _ in range(choice.randrange(5, 60)):
+        if not scripted.is_over:
+            scripted.step()
+    if choice.randrange(8) == 0 and not scripted.is_over:
+        scripted.refused()
+    end = choice.choice([b"\n", b"\n", b"\n", b"\r\n"])
+    return end.join(scripted.lines) + choice.choice([b"", end]), limits
+
+
+# Edits. A transcript is a list of pairs, the side and the message; an edit changes the list.
+
+
+def some(choice, said, test=lambda message: True):
+    """A place whose message passes; the first one where none does."""
+    return choice.choice([k for k, (_, message) in enumerate(said) if test(message)] or [0])
+
+
+def drop(choice, said):
+    del said[some(choice, said)]
+
+
+def swap(choice, said):
+    one, other = some(choice, said), some(choice, said)
+    said[one], said[other] = said[other], said[one]
+
+
+def move(choice, said):
+    one = said.pop(some(choice, said))
+    said.insert(choice.randrange(len(said) + 1), one)
+
+
+def repeat(choice, said):
+    said.insert(choice.randrange(len(said) + 1), copy.deepcopy(said[some(choice, said, lambda m: m["type"] == "response")]))
+
+
+def other_side(choice, said):
+    said[some(choice, said)][0] = choice.choice("<>")
+
+
+def other_seq(choice, said):
+    said[some(choice, said)][1]["seq"] = choice.choice([0, 1, 2, 3, len(said), 9007199254740991])
+
+
+def other_request_seq(choice, said):
+    message = said[some(choice, said, lambda m: m["type"] == "response")][1]
+    message["request_seq"] = choice.choice([0, 1, 2, message.get("request_seq", 0) + 1])
+
+
+def other_command(choice, said):
+    message = said[some(choice, said, lambda m: "command" in m)][1]
+    message["command"] = choice.choice(["initialize", "disconnect", "next", "stackTrace", "", *GATES])
+
+
+def other_success(choice, said):
+    message = said[some(choice, said, lambda m: m["type"] == "response")][1]
+    message["success"] = not message.get("success")
+
+
+def numbered_keys(value):
+    """Each object within, with a key that has a reference."""
+    if isinstance(value, dict):
+        yield from ((value, key) for key in ("id", "frameId", "variablesReference") if key in value)
+    for inner in value.values() if isinstance(value, dict) else value if isinstance(value, list) else []:
+        yield from numbered_keys(inner)
+
+
+def other_reference(choice, said):
+    there = [one for _, message in said for one in numbered_keys(message)]
+    if there:
+        told, key = choice.choice(there)
+        told[key] = choice.choice(ODD_NUMBERS)
+
+
+def other_flag(choice, said):
+    bodies = [message["body"] for _, message in said if message.get("command") == "initialize" and message.get("body")]
+    if bodies:
+        choice.choice(bodies)[choice.choice(FLAGS)] = choice.choice([True, True, False, None, 1, "true"])
+
+
+def flags(choice):
+    return {flag: choice.choice([True, True, False, None, 1]) for flag in FLAGS if choice.randrange(2)}
+
+
+def put_event(choice, said):
+    """An event of one of the sides, mostly of the adapter."""
+    event = choice.choice(["initialized", "continued", "exited", "terminated", "stopped", "output", "capabilities", "capabilities"])
+    body = choice.choice([{"capabilities": flags(choice)}] * 4 + [None, {}, {"capabilities": None}, {"capabilities": [1]}, 7])
+    message = {"seq": 0, "type": "event", "event": event, "body": body}
+    said.insert(choice.randrange(len(said) + 1), [choice.choice("<<<>"), message])
+
+
+def put_other(choice, said):
+    message = {"seq": 0, "type": choice.choice(["x", "Request", ""]), "command": "disconnect"}
+    said.insert(choice.randrange(len(said) + 1), [choice.choice("<>"), message])
+
+
+def put_request(choice, said):
+    """A request of one of the sides, mostly of the client, and perhaps its answer."""
+    commands = [*GATES, *USED_AT, *USED_AT, *USED_AT, *sorted(RESUMING), "initialize", "stackTrace", "goto"]
+    command = choice.choice([*commands, *["disconnect"] * 4])
+    known = [told[key] for _, message in said for told, key in numbered_keys(message)] or [1]
+    arguments = {
+        key: choice.choice([choice.choice(known), choice.choice(ODD_NUMBERS)])
+        for key in ("frameId", "variablesReference")
+        if choice.randrange(8)
+    }
+    # It is far from all other numbers.
+    seq = 10**6 + choice.randrange(10**6)
+    side = choice.choice(">>>>>><")
+    place = choice.randrange(len(said) + 1)
+    message = {"seq": seq, "type": "request", "command": command}
+    said.insert(place, [side, {**message, "arguments": arguments} if choice.randrange(8) else message])
+    if choice.randrange(3):
+        given = [{"id": number, "variablesReference": number} for number in choice.sample(ODD_NUMBERS, choice.randrange(4))]
+        body = {"stackFrames": given, "scopes": given, "variables": given, "variablesReference": choice.choice(ODD_NUMBERS)}
+        body = {**body, **flags(choice)} if command == "initialize" else body
+        answer = {"seq": 0, "type": "response", "request_seq": seq, "success": choice.randrange(6) > 0, "command": command}
+        later = choice.randrange(place + 1, min(len(said), place + 6) + 1)
+        said.insert(later, ["<" if side == ">" else ">", {**answer, "body": body} if choice.randrange(8) else answer])
+
+
+CHANGES = [drop, swap, move, repeat, other_side, other_seq, other_request_seq, other_command, other_success]
+CHANGES += [other_reference] * 3 + [other_flag, put_other] + [put_event] * 5 + [put_request] * 9
+
+
+def numbered_anew(said):
+    """Each side's messages get the numbers 1, 2, .., and each response the new number of what it answers."""
+    numbers = {"<": {}, ">": {}}
+    counts = {"<": 0, ">": 0}
+    for side, message in said:
+        counts[side] += 1
+        if message["type"] == "request":
+            numbers[side][message["seq"]] = counts[side]
+        if message["type"] == "response":
+            asked = numbers["<" if side == ">" else ">"]
+            message["request_seq"] = asked.get(message.get("request_seq"), message.get("request_seq"))
+        message["seq"] = counts[side]
+
+
+def text_of(said):
+    return "".join(f"{side} {json.dumps(message)}\n" for side, message in said).encode()
+
+
+def broken_text(choice, text):
+    """An edit of the bytes alone."""
+    place = choice.randrange(len(text) + 1)
+    parts = [b"\n", b"\r", b"\r\n", b"\n\n", b"> ", b"<", b"x\n", b"\xff", b"\n> []\n", b"{", b"\n\r\n", b'"', b",", b"0"]
+    return choice.choice(
+        [
+            text.replace(b"\n", b"\r\n"),
+            text.replace(b"\n", b"\n\n", choice.randrange(5)),
+            text[: -choice.randrange(1, 3)],
+            text[:place] + choice.choice(parts) + text[place + choice.randrange(3) :],
+        ]
+    )
+
+
+def edited(choice, transcript):
+    said = [[line[:1].decode(), json.loads(line[2:])] for line in transcript.splitlines()]
+    for _ in range(choice.choice([1, 1, 1, 2, 3])):
+        choice.choice(CHANGES)(choice, said)
+        said = said or [[">", {"seq": 1, "type": "x"}]]
+    if choice.randrange(4):
+        numbered_anew(said)
+    text = text_of(said)
+    return broken_text(choice, text) if choice.randrange(12) == 0 else text
+
+
+# The trial
+
+
+def kind_of(verdict):
+    """What a verdict is counted as."""
+    status, out, err = verdict
+    return (out.split(" ", 2)[-1] if status else out).strip() or err.split()[1]
+
+
+class Trial:
+    def __init__(self):
+        self.wrong = []
+        self.counts = collections.Counter()
+        self.drives = collections.Counter()
+
+    def compare(self, name, text, words=()):
+        """What the program says of a transcript, and what the slow checker does."""
+        wanted = slow_check.check(text, "--any-seq" in words)
+        self.counts[kind_of(wanted)] += 1
+        got = run(with_files("check", text, *words))
+        if got != (wanted[0], wanted[1].encode(), wanted[2].encode()):
+            self.keep(name, text, got, wanted)
+        return wanted
+
+    def keep(self, name, text, got, wanted):
+        """A difference, with what shows it."""
+        self.wrong.append(name)
+        if len(self.wrong) <= 5:
+            print("DIFFERENT", name, "\n  got   ", got, "\n  wanted", wanted, f"\n{text.decode(errors='backslashreplace')}")
+
+    def script(self, seed):
+        choice = random.Random(seed)
+        path = RECORDINGS[seed % len(RECORDINGS)]
+        recording = recording_of(path)
+        script, limits = random_script(choice, recording)
+        words = [word for name, value in limits.items() for word in ("--" + name.replace("_", "-"), str(value))]
+        wanted = drive_of(recording, script, **limits)
+        got = run(with_files("drive", path, script, *words))
+        self.drives[wanted[2].decode().split(" at ")[0].strip() or "done"] += 1
+        if got != wanted:
+            self.keep(f"{seed}: drive {os.path.basename(path)} {' '.join(words)}", script, got, wanted)
+        if wanted[0] or not wanted[1]:
+            return
+        if self.compare(f"{seed}: legal", wanted[1])[0]:
+            self.wrong.append(f"{seed}: what `drive` makes is not legal")
+        for place in range(EDITS):
+            text = edited(choice, wanted[1])
+            for words in ((), ("--any-seq",)):
+                self.compare(f"{seed}: edit {place} {' '.join(words)}", text, words)
+
+
+def random_transcripts(count=COUNT):
+    # Both are asked, so that each that is missing is told.
+    if [command for command in ("drive", "check") if not is_known(command)]:
+        return
+    trial = Trial()
+    for seed in range(count):
+        trial.script(seed)
+    for name, counts in (("drive", trial.drives), ("check", trial.counts)):
+        print(f"{name}:", ", ".join(f"{kind} {times}" for kind, times in sorted(counts.items())))
+    expect(f"{count} random scripts, and their transcripts broken", trial.wrong, [])
+    missed = [kind for kind in ["legal", *(f"rule {k}" for k in range(1, 8))] if not trial.counts[kind]]
+    expect("each rule is broken by some edit", missed, [])
+
+
+GROUPS = {"random_transcripts": random_transcripts}
+
+
+def main():
+    words = argparse.ArgumentParser(description=__doc__, formatter_class=argparse.RawDescriptionHelpFormatter)
+    words.add_argument("--count", type=int, default=COUNT, help="how many scripts")
+    random_transcripts(words.parse_args().count)
+    print(f"{len(failures)} failed")
+    return 1 if failures else 0
+
+
+if __name__ == "__main__":
+    sys.exit(main())
