@@ -151,20 +151,74 @@ fn wrap<'a>(alloc: Global, limit_texts: &'a [String]) -> Result<Command<'a>, All
     Ok(wrap)
 }
 
+/// A flag that is off where it is not given.
+fn flag<'a>(alloc: Global, name: &'static str, help: &'static str) -> Arg<'a> {
+    Arg::new(alloc, name)
+        .long(name)
+        .help(help)
+        .action(ArgAction::SetTrue)
+}
+
+fn check<'a>(alloc: Global) -> Result<Command<'a>, AllocError> {
+    let file = file_of(
+        alloc,
+        "The transcript: one message a line, `> ` before those of the client, `< ` before those of the adapter; of at most 67108864 bytes",
+    );
+    Command::new(alloc, "check")
+        .about("Checks a transcript: which line breaks which rule of the protocol")
+        .after_help(
+            "Prints `legal`, or `line L rule K`: the first line that breaks a rule, and the first rule that it breaks. Empty lines are counted.\n\nRules:\n  1 the messages of each side are numbered from 1, without a gap\n  2 a response answers a request that waits, with its number and command; a request has no number of one that waits\n  3 the first request of the client is `initialize`, and the second comes after its response\n  4 `initialized` comes after `initialize` has succeeded\n  5 the client asks only what the adapter offers\n  6 the client names only references that were given since the debuggee last went on\n  7 nothing comes after `disconnect` has succeeded\n\nStatuses: 0 legal, 2 usage, 3 a rule is broken, a line is no message, or the file is too long, 5 read or write, 6 memory",
+        )
+        .arg(file)?
+        .arg(flag(
+            alloc,
+            "any-seq",
+            "Leaves out rule 1, since some adapters give every message the number 0",
+        ))
+}
+
+fn drive<'a>(alloc: Global, limit_texts: &'a [String]) -> Result<Command<'a>, AllocError> {
+    let recording = Arg::new(alloc, "recording")
+        .value_name("RECORDING")
+        .help("The recorded run that is debugged, as JSON, of at most 67108864 bytes")
+        .required(true)
+        .action(ArgAction::Set);
+    let script = Arg::new(alloc, "script")
+        .value_name("SCRIPT")
+        .help("What is done, one step a line, of at most 67108864 bytes")
+        .required(true)
+        .action(ArgAction::Set);
+    let mut drive = Command::new(alloc, "drive")
+        .about(
+            "Runs a client and an adapter against each other by a script, and prints the transcript",
+        )
+        .after_help(
+            "A line of the script is one of\n  send COMMAND [ARGUMENTS]  the client sends a request; ARGUMENTS is JSON\n  turn                      the adapter handles the oldest request that waits\n  poll                      the adapter tells what happened to the debuggee, once\n  run                       turns until none waits, then polls until nothing comes or the debuggee stops\nEmpty lines are skipped, and counted. Each message is delivered once it is written. At a fault nothing is printed.\n\nStatuses: 0 the script was run, 2 usage, 3 the recording, a line, a request or a message is refused, or a file is too long, 5 read or write, 6 memory",
+        )
+        .arg(recording)?
+        .arg(script)?;
+    for (option, help) in LIMIT_OPTIONS.iter().zip(limit_texts) {
+        drive = drive.arg(limit_option(alloc, option, help.as_str()))?;
+    }
+    Ok(drive)
+}
+
 /// The command line of the program.
 pub(crate) fn command<'a>(
     alloc: Global,
     limit_texts: &'a [String],
 ) -> Result<Command<'a>, AllocError> {
     Command::new(alloc, "dap")
-        .about("Serves, lists and makes streams of the Debug Adapter Protocol")
+        .about("Serves, lists, makes and checks streams of the Debug Adapter Protocol")
         .version("0.1.0")
         .after_help("Statuses: 0 fine, 2 usage, 3 refused, 4 truncated, 5 read or write, 6 memory")
         .subcommand_required(true)
         .arg_required_else_help(true)
         .subcommand(serve(alloc, limit_texts)?)?
         .subcommand(show(alloc, limit_texts)?)?
-        .subcommand(wrap(alloc, limit_texts)?)
+        .subcommand(wrap(alloc, limit_texts)?)?
+        .subcommand(check(alloc)?)?
+        .subcommand(drive(alloc, limit_texts)?)
 }
 
 /// The limits that the options set, and the defaults for the others and for those that the subcommand does not have.

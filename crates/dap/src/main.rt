@@ -11,7 +11,7 @@ use clap::error::ErrorKind;
 use dap_channel::{Input, Pipe};
 use dap_debuggee::Recorded;
 use dap_frame::End;
-use dap_tool::{FileFault, ToolFault, fault_line, read_whole, status};
+use dap_tool::{Checked, FileFault, ToolFault, fault_line, read_whole, status, verdict_line};
 use std::alloc::{AllocError, AllocFailed};
 use std::fs::File;
 use std::io;
@@ -23,6 +23,9 @@ const MAX_READS: u64 = 1000000000;
 
 /// The status of a wrong command line.
 const USAGE: u8 = 2;
+
+/// The status where a transcript breaks a rule.
+const FINDING: u8 = 3;
 
 /// What keeps the program from telling how it ended.
 #[derive(Debug, Drop)]
@@ -94,6 +97,8 @@ fn run(rt: &HostRuntime) -> Result<u8, Failure> {
         Some(("serve", matches)) => Ok(serve(rt, matches)),
         Some(("show", matches)) => Ok(show(rt, matches)),
         Some(("wrap", matches)) => Ok(wrap(rt, matches)),
+        Some(("check", matches)) => Ok(check(rt, matches)),
+        Some(("drive", matches)) => Ok(drive(rt, matches)),
         _ => Ok(USAGE),
     }
 }
@@ -156,6 +161,50 @@ fn wrap(rt: &HostRuntime, matches: &ArgMatches<'_>) -> u8 {
         Err(fault) => return tell(rt, &ToolFault::Wrap(fault)),
     };
     match print(rt, &frames) {
+        Ok(()) => 0,
+        Err(_) => tell(rt, &ToolFault::Write),
+    }
+}
+
+/// Tells whether the transcript that a file is keeps the rules, and answers the exit status.
+fn check(rt: &HostRuntime, matches: &ArgMatches<'_>) -> u8 {
+    let bytes = match read_file(rt, matches, "file") {
+        Ok(bytes) => bytes,
+        Err(fault) => return tell(rt, &ToolFault::File(fault)),
+    };
+    let checked = match dap_tool::check(rt.alloc(), &bytes, matches.get_flag("any-seq")) {
+        Ok(checked) => checked,
+        Err(fault) => return tell(rt, &ToolFault::Check(fault)),
+    };
+    let Ok(text) = verdict_line(rt.alloc(), checked) else {
+        return tell(rt, &ToolFault::OutOfMemory);
+    };
+    match print(rt, &text) {
+        Ok(()) if checked == Checked::Legal => 0,
+        Ok(()) => FINDING,
+        Err(_) => tell(rt, &ToolFault::Write),
+    }
+}
+
+/// Runs both ends by the script that a file is, over the recording that another is, and writes the transcript on standard
+/// output. At a fault nothing is written.
+fn drive(rt: &HostRuntime, matches: &ArgMatches<'_>) -> u8 {
+    let Ok(limits) = command_line::limits(matches) else {
+        return USAGE;
+    };
+    let recording = match read_file(rt, matches, "recording") {
+        Ok(bytes) => bytes,
+        Err(fault) => return tell(rt, &ToolFault::File(fault)),
+    };
+    let script = match read_file(rt, matches, "script") {
+        Ok(bytes) => bytes,
+        Err(fault) => return tell(rt, &ToolFault::File(fault)),
+    };
+    let transcript = match dap_tool::drive(rt.alloc(), &recording, &script, limits) {
+        Ok(transcript) => transcript,
+        Err(fault) => return tell(rt, &ToolFault::Drive(fault)),
+    };
+    match print(rt, &transcript) {
         Ok(()) => 0,
         Err(_) => tell(rt, &ToolFault::Write),
     }

@@ -7,3 +7,5 @@
 mod client;
 #[cfg(test)]
 mod tests;
+#[cfg(test)]
+mod transcripts;

@@ -24,7 +24,7 @@ use std::io::{Read, Write};
 use std::test::Fail;
 
 /// What a test notes where an allocation was refused.
-fn note(rt: &HostRuntime) -> io::Result<()> {
+pub(crate) fn note(rt: &HostRuntime) -> io::Result<()> {
     eprintln!(rt; "refused")
 }
 
@@ -644,7 +644,7 @@ fn building_bodies(rt: HostRuntime) -> Result<(), Fail> {
     Ok(())
 }
 
-static RECORDING: &[u8; 301] =
+pub(crate) static RECORDING: &[u8; 301] =
     b"{\"exit\":0,\"sources\":[{\"name\":\"a.c\",\"path\":\"/a.c\",\"text\":\"one\\ntwo\\n\"}],\"moments\":[{\"thread\":1,\"output\":\"go\\n\",\"threads\":[{\"id\":1,\"name\":\"main\",\"frames\":[{\"name\":\"main\",\"source\":0,\"line\":1,\"scopes\":[{\"name\":\"Locals\",\"variables\":[{\"name\":\"p\",\"value\":\"P\",\"variables\":[{\"name\":\"a\",\"value\":\"7\"}]}]}]}]}]}]}";
 
 fn recorded(rt: &HostRuntime) -> Result<Option<Recorded>, Fail>

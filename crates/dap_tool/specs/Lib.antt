@@ -2,4 +2,5 @@ pub mod Faults
 pub mod Files
 pub mod Listing
 pub mod ShowSteps
+pub mod Verdicts
 pub mod Wrapping

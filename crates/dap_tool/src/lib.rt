@@ -1,15 +1,20 @@
 //! Tools over whole files, and faults as a program tells them.
 //!
-//! What this crate knows: files, listings, statuses and fault lines. What it must not know: header bytes, sessions, and how
-//! a debuggee runs. It relies on the public contracts of the crates below alone.
+//! What this crate knows: files, listings, statuses, and the lines that a program tells. What it must not know: header
+//! bytes, sessions, the rules of a transcript, and how a debuggee runs. It relies on the public contracts of the crates below
+//! alone, and hands on `check` and `drive`.
 #![tactic(auto)]
 
 mod fault;
 mod files;
 mod listing;
+mod verdict;
 mod wrapping;
 
+pub use dap_check::{CheckFault, Checked, Rule, check};
+pub use dap_drive::{DriveFault, drive};
 pub use fault::{ToolFault, fault_line, status};
 pub use files::{FileFault, MAX_FILE, read_channel, read_whole, reading_is_of_the_log};
 pub use listing::{ShowFault, show};
+pub use verdict::verdict_line;
 pub use wrapping::{WrapFault, wrap};
