@@ -10,7 +10,7 @@ use Rattle.dap_message.specs.Command.{flag_of}
 use Rattle.dap_message.specs.Capabilities.{is_flag, has, capabilities_of, offered_by, updated_by, updated_flag, replaced}
 use Rattle.dap_message.specs.Types.Capabilities.{Capabilities}
 use Rattle.dap_message.specs.Types.Gate.{Gate}
-use Rattle.dap_call.specs.declared.command.Gate.TheVariants.{BreakpointLocations, Cancel, Completions, ConfigurationDone, ExceptionInfo, FunctionBreakpoints, LoadedSources, Modules, Restart, SetVariable, StepBack, Terminate}
+use Rattle.dap_message.specs.Types.Gate.TheVariants.{BreakpointLocations, Cancel, Completions, ConfigurationDone, ExceptionInfo, FunctionBreakpoints, LoadedSources, Modules, Restart, SetVariable, StepBack, Terminate}
 use Rattle.dap_check.specs.Since.{is_open, last_since, Past}
 use Rattle.dap_check.specs.Lines.{body_of, succeeds, tells}
 use Rattle.dap_check.specs.Rules.{initialize, offered, offered_since, offered_after, updated_to, after_line}

@@ -20,8 +20,8 @@ use Rattle.dap_check.proofs.Flags.{offered_flag}
 -- ---- tests
 
 not_holds : (b : Bool) → (b ≡ true → ⊥) → not b ≡ true
-not_holds true no = absurd (no refl)
-not_holds false no = refl
+not_holds true wrong = absurd (wrong refl)
+not_holds false wrong = refl
 
 is_false : (b : Bool) → not b ≡ true → b ≡ false
 is_false true e = absurd (cc e)
@@ -31,15 +31,12 @@ both : (a b : Bool) → (a && b) ≡ true → (a ≡ true) × (b ≡ true)
 both true b e = (refl, e)
 both false b e = absurd (cc e)
 
-never : (P : Type 0) → P → false ≡ true → ⊥
-never P p e = absurd (cc e)
-
 -- ---- answers
 
 not_open : (p q : Line → Bool) (xs : List Line) → (not (is_open p q xs) ≡ true) ↔ (¬ OpenAt p q xs)
 not_open p q xs = (
-  λ e at. let open : is_open p q xs ≡ true = (open_is_a_place p q xs).1 at in absurd (cc (e, open)),
-  λ no. not_holds (is_open p q xs) (λ e. no ((open_is_a_place p q xs).0 e)),
+  λ e at. let opened : is_open p q xs ≡ true = (open_is_a_place p q xs).1 at in absurd (cc (e, opened)),
+  λ shut. not_holds (is_open p q xs) (λ e. shut ((open_is_a_place p q xs).0 e)),
 )
 
 out_of_place : (side : Side) (seq : ℕ) (earlier : List Line) (kind : Kind) → (is_out_of_place side seq earlier kind ≡ true) ↔ IsOutOfPlace side seq earlier kind
@@ -54,13 +51,13 @@ answer_is_by_places earlier line = out_of_place line.side line.message.seq earli
 
 -- ---- the client's first request
 
+none_step : (p : Line → Bool) (x : Line) (xs : List Line) (a : Bool) → a ≡ p x → cond a (Some (record { line = x; since = xs })) (first_since p xs) ≡ None → (first_since p xs ≡ None → list_any p xs ≡ false) → (p x || list_any p xs) ≡ false
+none_step p x xs true ea e later = absurd (cc e)
+none_step p x xs false ea e later = ap (λ b. b || list_any p xs) (sym ea) ∙ later e
+
 none_first : (p : Line → Bool) (xs : List Line) → first_since p xs ≡ None → list_any p xs ≡ false
 none_first p [] e = refl
-none_first p (x ∷ xs) e = step (p x) refl e
-  where
-    step : (a : Bool) → a ≡ p x → cond a (Some (record { line = x; since = xs })) (first_since p xs) ≡ None → (p x || list_any p xs) ≡ false
-    step true ea h = absurd (cc h)
-    step false ea h = ap (λ b. b || list_any p xs) (sym ea) ∙ none_first p xs h
+none_first p (x ∷ xs) e = none_step p x xs (p x) refl e (none_first p xs)
 
 module _ (earlier : List Line) (line : Line) where
   some_asked : (past : Past Line) → first_since (asks Client) earlier ≡ Some past → list_any (asks Client) earlier ≡ true
