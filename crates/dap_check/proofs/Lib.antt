@@ -16,3 +16,7 @@ pub mod OneReading
 pub mod ByPlaces
 pub mod RulesByPlaces
 pub mod Flags
+pub mod TrailLemmas
+pub mod Walked
+pub mod Explained
+pub mod ReasonLemmas

@@ -6,3 +6,6 @@ pub mod Laws
 pub mod Places
 pub mod Transcript
 pub mod Kept
+pub mod Reasons
+pub mod Trails
+pub mod Sentences

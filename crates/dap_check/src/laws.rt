@@ -1,5 +1,6 @@
 //! Laws of the definitions, each on a function with nothing to run.
 ghost use Rattle.dap_check.specs.Laws.{EachTranscriptHasOneVerdict, SomeIsAPlace, OpenIsAPlace, FirstIsAPlace, LastIsAPlace};
+ghost use Rattle.dap_check.specs.Reasons.{BrokenRulesHaveReasons};
 ghost use Rattle.dap_check.specs.Places.{AnswerIsByPlaces, FirstRequestIsByPlaces, OfferIsByPlaces, ReferencesAreByPlaces};
 
 /// Each transcript is legal, or has one finding: never both, never two.
@@ -23,4 +24,9 @@ pub fn rules_are_told_by_places()
     ensures first_request { FirstRequestIsByPlaces }
     ensures offer { OfferIsByPlaces }
     ensures references { ReferencesAreByPlaces }
+{}
+
+/// A line has a reason why it breaks a rule just where it breaks it.
+pub fn broken_rules_have_reasons()
+    ensures { BrokenRulesHaveReasons }
 {}

@@ -8,19 +8,27 @@
 mod checking;
 mod counts;
 mod cutting;
+mod explaining;
 mod first;
 pub mod laws;
 mod line;
 mod offer;
 mod pending;
 mod phases;
+mod reason;
 mod references;
 mod rule;
 mod seen;
+mod telling;
+mod trail;
 mod waiting;
+mod walking;
 mod words;
 
 pub use checking::{CheckFault, check};
 pub use cutting::split_line;
+pub use explaining::explain;
 pub use line::{Line, Side};
+pub use reason::{Reason, ReferenceKind};
 pub use rule::{Checked, Rule};
+pub use telling::sentence;
