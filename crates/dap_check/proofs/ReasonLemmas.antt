@@ -45,7 +45,7 @@ from P step earlier (y ∷ later) is = subst P (append_assoc earlier (y ∷ []) 
 
 open_later : (opens_it closes_it : Bool) (line : Line) (n : ℕ) (opened : Option Opened) (closed : Option ℕ)
     → is_open_still (cond opens_it (record { count = n + 1; opened = Some (record { line = line.number; seq = line.message.seq }); closed = None }) (record { count = n; opened = opened; closed = closed_after (λ m x. closes_it) line opened closed }))
-      ≡ (((is_some opened && is_none closed) && not closes_it) || opens_it)
+    ≡ (((is_some opened && is_none closed) && not closes_it) || opens_it)
 open_later true closes_it line n opened closed = or_true ((is_some opened && is_none closed) && not closes_it)
   where
     or_true : (b : Bool) → true ≡ (b || true)
@@ -189,6 +189,7 @@ any_weaker p q weaker (x ∷ xs) e = by_first (p x) (list_any p xs) e (weaker x)
     or_later : (b c : Bool) → c ≡ true → (b || c) ≡ true
     or_later true c h = refl
     or_later false c h = h
+
     by_first : (a b : Bool) → (a || b) ≡ true → (a ≡ true → q x ≡ true) → (b ≡ true → list_any q xs ≡ true) → (q x || list_any q xs) ≡ true
     by_first true b h here later = ap (λ z. z || list_any q xs) (here refl)
     by_first false b h here later = or_later (q x) (list_any q xs) (later h)

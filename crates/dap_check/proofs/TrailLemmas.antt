@@ -31,7 +31,7 @@ found_of closes n last = record { count = n; opened = option_map opening last; c
 
 trail_step : (closes : ℕ → Line → Bool) (line : Line) (b : Bool) (n : ℕ) (last : Option (Past Line))
     → found_of closes (cond b (n + 1) n) (last_later b line last)
-      ≡ cond b (record { count = n + 1; opened = Some (record { line = line.number; seq = line.message.seq }); closed = None }) (record { count = n; opened = option_map opening last; closed = closed_after closes line (option_map opening last) (option_and_then (closing closes) last) })
+    ≡ cond b (record { count = n + 1; opened = Some (record { line = line.number; seq = line.message.seq }); closed = None }) (record { count = n; opened = option_map opening last; closed = closed_after closes line (option_map opening last) (option_and_then (closing closes) last) })
 trail_step closes line true n last = refl
 trail_step closes line false n None = refl
 trail_step closes line false n (Some past) = ap (λ closed. record { count = n; opened = Some (opening past); closed = closed }) (closed_push closes line past)

@@ -76,10 +76,16 @@ session = asked ∷ offered ∷ ready ∷ end ∷ ended ∷ []
 session_text : AreLines 1 (lines (codes "> " ++ asked_body ++ codes "\n< " ++ offered_body ++ codes "\n< " ++ ready_body ++ codes "\n> " ++ end_body ++ codes "\n< " ++ ended_body ++ codes "\n")) session
 session_text = (
   record { numbered = refl; side = refl; message = is_asked },
-  (record { numbered = refl; side = refl; message = is_offered },
-  (record { numbered = refl; side = refl; message = is_ready },
-  (record { numbered = refl; side = refl; message = is_end },
-  (record { numbered = refl; side = refl; message = is_ended }, tt)))),
+  (
+    record { numbered = refl; side = refl; message = is_offered },
+    (
+      record { numbered = refl; side = refl; message = is_ready },
+      (
+        record { numbered = refl; side = refl; message = is_end },
+        (record { numbered = refl; side = refl; message = is_ended }, tt),
+      ),
+    ),
+  ),
 )
 
 begins : IsLegal false (asked ∷ offered ∷ [])

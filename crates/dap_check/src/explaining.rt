@@ -213,11 +213,7 @@ fn number_of_line(alloc: Global, bytes: &[u8], line: &Line) -> Result<Option<Rea
     Ok(explain_number(line.message.seq, &found.first))
 }
 
-fn answer_of_request(
-    alloc: Global,
-    bytes: &[u8],
-    line: &Line,
-) -> Result<Option<Reason>, CheckFault>
+fn answer_of_request(alloc: Global, bytes: &[u8], line: &Line) -> Result<Option<Reason>, CheckFault>
     ensures reason { IfOk result (λ told. (earlier : List TheLine) → AreBefore bytes.now line.now.number earlier → told ≡ why_waiting line.now.message.seq (trail (asks_as line.now.side line.now.message.seq) (λ n. answers (opposite line.now.side) line.now.message.seq) earlier)) }
     ensures refused { IfErr result (IsRefusedIn (lines bytes.now)) }
 {
@@ -409,11 +405,7 @@ fn kind_of_line(line: &Line) -> Option<ReferenceKind>
     }
 }
 
-fn reference_of_line(
-    alloc: Global,
-    bytes: &[u8],
-    line: &Line,
-) -> Result<Option<Reason>, CheckFault>
+fn reference_of_line(alloc: Global, bytes: &[u8], line: &Line) -> Result<Option<Reason>, CheckFault>
     ensures reason { IfOk result (λ told. (earlier : List TheLine) → AreBefore bytes.now line.now.number earlier → told ≡ reason_of Rule.Reference earlier line.now) }
     ensures refused { IfErr result (IsRefusedIn (lines bytes.now)) }
 {

@@ -39,10 +39,15 @@ impl ReferenceKind {
 #[derive(Clone, Copy, Debug, PartialEq, Eq)]
 pub enum Reason {
     /// Another number was due. The last message of the side before stands in the line `after`, if there is one.
-    Numbered { due: u64, after: Option<u64> },
+    Numbered {
+        due: u64,
+        after: Option<u64>,
+    },
 
     /// A response to a request that the other side has not made.
-    NotAsked { request: u64 },
+    NotAsked {
+        request: u64,
+    },
     /// A response to a request that is answered already.
     Answered {
         request: u64,
@@ -50,32 +55,54 @@ pub enum Reason {
         answered: u64,
     },
     /// A response that names another command than the request.
-    OtherCommand { request: u64, asked: u64 },
+    OtherCommand {
+        request: u64,
+        asked: u64,
+    },
     /// A request with the number of one that waits for its response.
-    Waits { request: u64, asked: u64 },
+    Waits {
+        request: u64,
+        asked: u64,
+    },
 
     /// The first request of the client is another one.
     NotInitialize,
     /// The second request of the client, before a response to the first.
-    FirstWaits { asked: u64 },
+    FirstWaits {
+        asked: u64,
+    },
 
     /// The event `initialized` where no `initialize` was asked.
     NeverAsked,
     /// The event before the response to `initialize`.
-    InitializeWaits { asked: u64 },
+    InitializeWaits {
+        asked: u64,
+    },
     /// The event although `initialize` has failed.
-    InitializeFailed { answered: u64 },
+    InitializeFailed {
+        answered: u64,
+    },
 
     /// A request that needs a flag, before a successful response to `initialize`.
-    NotInitialized { gate: Gate },
+    NotInitialized {
+        gate: Gate,
+    },
     /// A request that needs a flag that is not offered. The line has said so last: a response to `initialize`, or a
     /// `capabilities` event that names the flag.
-    NotOffered { gate: Gate, decided: u64 },
+    NotOffered {
+        gate: Gate,
+        decided: u64,
+    },
 
     /// A request names a number below 0, which is no reference.
-    Negative { kind: ReferenceKind },
+    Negative {
+        kind: ReferenceKind,
+    },
     /// A request names a number that no response has given.
-    NeverGiven { kind: ReferenceKind, number: u64 },
+    NeverGiven {
+        kind: ReferenceKind,
+        number: u64,
+    },
     /// A request names a number that was given as a reference of the other kind alone.
     OtherKind {
         kind: ReferenceKind,
@@ -91,5 +118,7 @@ pub enum Reason {
     },
 
     /// A message after the successful response to `disconnect`.
-    Ended { ended: u64 },
+    Ended {
+        ended: u64,
+    },
 }

@@ -47,73 +47,194 @@ fn words_of_other(kind: ReferenceKind) -> &'static str
 fn push_first_number(text: &mut String, due: u64) -> Result<(), AllocError>
     ensures { OnOk result (string_bytes text.new ≡ string_bytes text.old ++ sentence_of (Reason.Numbered due None)) }
 {
-    push(text, &[Part::Words("seq "), Part::Number(due), Part::Words(" was due, in the first message of its side")])
+    push(
+        text,
+        &[
+            Part::Words("seq "),
+            Part::Number(due),
+            Part::Words(" was due, in the first message of its side"),
+        ],
+    )
 }
 
 fn push_number(text: &mut String, due: u64, last: u64) -> Result<(), AllocError>
     ensures { OnOk result (string_bytes text.new ≡ string_bytes text.old ++ sentence_of (Reason.Numbered due (Some last))) }
 {
-    push(text, &[Part::Words("seq "), Part::Number(due), Part::Words(" was due, after the message of line "), Part::Number(last)])
+    push(
+        text,
+        &[
+            Part::Words("seq "),
+            Part::Number(due),
+            Part::Words(" was due, after the message of line "),
+            Part::Number(last),
+        ],
+    )
 }
 
 fn push_not_asked(text: &mut String, request: u64) -> Result<(), AllocError>
     ensures { OnOk result (string_bytes text.new ≡ string_bytes text.old ++ sentence_of (Reason.NotAsked request)) }
 {
-    push(text, &[Part::Words("response to request "), Part::Number(request), Part::Words(", which the other side has not made")])
+    push(
+        text,
+        &[
+            Part::Words("response to request "),
+            Part::Number(request),
+            Part::Words(", which the other side has not made"),
+        ],
+    )
 }
 
-fn push_answered(text: &mut String, request: u64, asked: u64, answered: u64) -> Result<(), AllocError>
+fn push_answered(
+    text: &mut String,
+    request: u64,
+    asked: u64,
+    answered: u64,
+) -> Result<(), AllocError>
     ensures { OnOk result (string_bytes text.new ≡ string_bytes text.old ++ sentence_of (Reason.Answered request asked answered)) }
 {
-    push(text, &[Part::Words("response to request "), Part::Number(request), Part::Words(" of line "), Part::Number(asked), Part::Words(", which line "), Part::Number(answered), Part::Words(" answered already")])
+    push(
+        text,
+        &[
+            Part::Words("response to request "),
+            Part::Number(request),
+            Part::Words(" of line "),
+            Part::Number(asked),
+            Part::Words(", which line "),
+            Part::Number(answered),
+            Part::Words(" answered already"),
+        ],
+    )
 }
 
 fn push_other_command(text: &mut String, request: u64, asked: u64) -> Result<(), AllocError>
     ensures { OnOk result (string_bytes text.new ≡ string_bytes text.old ++ sentence_of (Reason.OtherCommand request asked)) }
 {
-    push(text, &[Part::Words("response to request "), Part::Number(request), Part::Words(", which line "), Part::Number(asked), Part::Words(" made for another command")])
+    push(
+        text,
+        &[
+            Part::Words("response to request "),
+            Part::Number(request),
+            Part::Words(", which line "),
+            Part::Number(asked),
+            Part::Words(" made for another command"),
+        ],
+    )
 }
 
 fn push_waits(text: &mut String, request: u64, asked: u64) -> Result<(), AllocError>
     ensures { OnOk result (string_bytes text.new ≡ string_bytes text.old ++ sentence_of (Reason.Waits request asked)) }
 {
-    push(text, &[Part::Words("request "), Part::Number(request), Part::Words(" again, while request "), Part::Number(request), Part::Words(" of line "), Part::Number(asked), Part::Words(" has no response")])
+    push(
+        text,
+        &[
+            Part::Words("request "),
+            Part::Number(request),
+            Part::Words(" again, while request "),
+            Part::Number(request),
+            Part::Words(" of line "),
+            Part::Number(asked),
+            Part::Words(" has no response"),
+        ],
+    )
 }
 
 fn push_not_initialized(text: &mut String, gate: Gate) -> Result<(), AllocError>
     ensures { OnOk result (string_bytes text.new ≡ string_bytes text.old ++ sentence_of (Reason.NotInitialized gate)) }
 {
-    push(text, &[Part::Words("the request needs "), Part::Words(gate.flag()), Part::Words(", before any successful response to initialize")])
+    push(
+        text,
+        &[
+            Part::Words("the request needs "),
+            Part::Words(gate.flag()),
+            Part::Words(", before any successful response to initialize"),
+        ],
+    )
 }
 
 fn push_not_offered(text: &mut String, gate: Gate, decided: u64) -> Result<(), AllocError>
     ensures { OnOk result (string_bytes text.new ≡ string_bytes text.old ++ sentence_of (Reason.NotOffered gate decided)) }
 {
-    push(text, &[Part::Words("the request needs "), Part::Words(gate.flag()), Part::Words(", which line "), Part::Number(decided), Part::Words(" does not set to true")])
+    push(
+        text,
+        &[
+            Part::Words("the request needs "),
+            Part::Words(gate.flag()),
+            Part::Words(", which line "),
+            Part::Number(decided),
+            Part::Words(" does not set to true"),
+        ],
+    )
 }
 
 fn push_negative(text: &mut String, kind: ReferenceKind) -> Result<(), AllocError>
     ensures { OnOk result (string_bytes text.new ≡ string_bytes text.old ++ sentence_of (Reason.Negative kind)) }
 {
-    push(text, &[Part::Words("the number at "), Part::Words(kind.key()), Part::Words(" is below 0, and no reference")])
+    push(
+        text,
+        &[
+            Part::Words("the number at "),
+            Part::Words(kind.key()),
+            Part::Words(" is below 0, and no reference"),
+        ],
+    )
 }
 
 fn push_never_given(text: &mut String, kind: ReferenceKind, number: u64) -> Result<(), AllocError>
     ensures { OnOk result (string_bytes text.new ≡ string_bytes text.old ++ sentence_of (Reason.NeverGiven kind number)) }
 {
-    push(text, &[Part::Words(kind.key()), Part::Words(" "), Part::Number(number), Part::Words(", which no response has given")])
+    push(
+        text,
+        &[
+            Part::Words(kind.key()),
+            Part::Words(" "),
+            Part::Number(number),
+            Part::Words(", which no response has given"),
+        ],
+    )
 }
 
-fn push_other_kind(text: &mut String, kind: ReferenceKind, number: u64, given: u64) -> Result<(), AllocError>
+fn push_other_kind(
+    text: &mut String,
+    kind: ReferenceKind,
+    number: u64,
+    given: u64,
+) -> Result<(), AllocError>
     ensures { OnOk result (string_bytes text.new ≡ string_bytes text.old ++ sentence_of (Reason.OtherKind kind number given)) }
 {
-    push(text, &[Part::Words(kind.key()), Part::Words(" "), Part::Number(number), Part::Words(", which line "), Part::Number(given), Part::Words(words_of_other(kind))])
+    push(
+        text,
+        &[
+            Part::Words(kind.key()),
+            Part::Words(" "),
+            Part::Number(number),
+            Part::Words(", which line "),
+            Part::Number(given),
+            Part::Words(words_of_other(kind)),
+        ],
+    )
 }
 
-fn push_gone(text: &mut String, kind: ReferenceKind, number: u64, given: u64, resumed: u64) -> Result<(), AllocError>
+fn push_gone(
+    text: &mut String,
+    kind: ReferenceKind,
+    number: u64,
+    given: u64,
+    resumed: u64,
+) -> Result<(), AllocError>
     ensures { OnOk result (string_bytes text.new ≡ string_bytes text.old ++ sentence_of (Reason.Gone kind number given resumed)) }
 {
-    push(text, &[Part::Words(kind.key()), Part::Words(" "), Part::Number(number), Part::Words(", which line "), Part::Number(given), Part::Words(" gave, until the debuggee went on or ended in line "), Part::Number(resumed)])
+    push(
+        text,
+        &[
+            Part::Words(kind.key()),
+            Part::Words(" "),
+            Part::Number(number),
+            Part::Words(", which line "),
+            Part::Number(given),
+            Part::Words(" gave, until the debuggee went on or ended in line "),
+            Part::Number(resumed),
+        ],
+    )
 }
 
 fn push_line(text: &mut String, words: &str, line: u64) -> Result<(), AllocError>
@@ -147,9 +268,7 @@ fn push_reason(text: &mut String, reason: Reason) -> Result<(), AllocError>
             "the second request of the client, before a response to the first, of line ",
             asked,
         ),
-        Reason::NeverAsked => {
-            text.push_str("event initialized, before any initialize request")
-        }
+        Reason::NeverAsked => { text.push_str("event initialized, before any initialize request") }
         Reason::InitializeWaits { asked } => push_line(
             text,
             "event initialized, before the response to the initialize request of line ",

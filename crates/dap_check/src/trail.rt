@@ -37,7 +37,10 @@ pub(crate) enum Watch<'a> {
     /// Messages of a side.
     Of(Side),
     /// Requests of a side with a number, and the responses to them.
-    Asks { side: Side, seq: u64 },
+    Asks {
+        side: Side,
+        seq: u64,
+    },
     /// The same, for a command.
     AsksFor {
         side: Side,
@@ -57,7 +60,10 @@ pub(crate) enum Watch<'a> {
     /// What switches it at all.
     Decides(Gate),
     /// What gives a reference, and what lets the debuggee go on.
-    Gives { kind: ReferenceKind, number: u64 },
+    Gives {
+        kind: ReferenceKind,
+        number: u64,
+    },
 }
 
 /// What a `capabilities` event says of a flag.
@@ -121,9 +127,7 @@ fn gives_frame(number: u64, line: &Line) -> bool
     match words::body(&line.message.kind) {
         None => false,
         Some(body) => {
-            line.is_of(Side::Adapter)
-                && command.as_str() == "stackTrace"
-                && has_frame(body, number)
+            line.is_of(Side::Adapter) && command.as_str() == "stackTrace" && has_frame(body, number)
         }
     }
 }
@@ -163,8 +167,7 @@ impl Watch<'_> {
             }
             Watch::ClientAsks => line.asks(Side::Client),
             Watch::AsksToInitialize => {
-                line.is_of(Side::Client)
-                    && words::is_request_for(&line.message.kind, "initialize")
+                line.is_of(Side::Client) && words::is_request_for(&line.message.kind, "initialize")
             }
             Watch::Initializes => line.succeeds("initialize"),
             Watch::Disconnects => line.succeeds("disconnect"),

@@ -28,18 +28,6 @@ pub(crate) struct Trails {
     pub(crate) third: Trail,
 }
 
-impl<'a> Search<'a> {
-    pub(crate) fn of(first: Watch<'a>, second: Watch<'a>) -> Search<'a>
-        ensures { result ≡ record { first = first; second = second; third = Watch.Nothing } }
-    {
-        Search {
-            first,
-            second,
-            third: Watch::Nothing,
-        }
-    }
-}
-
 impl Trails {
     fn new(search: &Search<'_>) -> Trails
         ensures found { result ≡ trails search.now [] }

@@ -14,16 +14,16 @@ loop-rest-preserved c =
     let P : Found → Type 0 = λ found. Walked c.args.bytes.now c.split_line.result.1.now c.args.number (c.loop-rest.at + 1) c.args.search.now found in
     elim c.if-not-is_empty.branch [
       | then-not-is_empty+in_ok-note_text w ↦
-        let some : 0 < length c.split_line.result.0.now = grind (arith, nat_tests) in
-        let noted = w.in_ok-note_text.ensures.found in
-        subst P (sym w.found-is)
-        (walked_more c.args.bytes.now c.loop-rest.rest.now c.args.number c.loop-rest.at c.args.search.now c.loop-rest.found so c.split_line.result.0.now c.split_line.result.1.now c.split_line.ensures.lines c.split_line.ensures.shorter c.if-at-number.true
-        noted.0 w.note_text.new.found some noted.1 noted.2 (w.in_ok-note_text.ensures.below c.loop-rest.at so.below))
+          let some : 0 < length c.split_line.result.0.now = grind (arith, nat_tests) in
+          let noted = w.in_ok-note_text.ensures.found in
+          subst P (sym w.found-is)
+          (walked_more c.args.bytes.now c.loop-rest.rest.now c.args.number c.loop-rest.at c.args.search.now c.loop-rest.found so c.split_line.result.0.now c.split_line.result.1.now c.split_line.ensures.lines c.split_line.ensures.shorter c.if-at-number.true
+          noted.0 w.note_text.new.found some noted.1 noted.2 (w.in_ok-note_text.ensures.below c.loop-rest.at so.below))
       | else-not-is_empty w ↦
-        let none : length c.split_line.result.0.now ≡ 0 = grind (arith, nat_tests) in
-        subst P (sym w.found-is)
-        (walked_skipped c.args.bytes.now c.loop-rest.rest.now c.args.number c.loop-rest.at c.args.search.now c.loop-rest.found so c.split_line.result.0.now c.split_line.result.1.now c.split_line.ensures.lines c.split_line.ensures.shorter c.if-at-number.true
-        none (record { first = omega (arith, so.below.first); second = omega (arith, so.below.second); third = omega (arith, so.below.third) }))
+          let none : length c.split_line.result.0.now ≡ 0 = grind (arith, nat_tests) in
+          subst P (sym w.found-is)
+          (walked_skipped c.args.bytes.now c.loop-rest.rest.now c.args.number c.loop-rest.at c.args.search.now c.loop-rest.found so c.split_line.result.0.now c.split_line.result.1.now c.split_line.ensures.lines c.split_line.ensures.shorter c.if-at-number.true
+          none (record { first = omega (arith, so.below.first); second = omega (arith, so.below.second); third = omega (arith, so.below.third) }))
     ]
 
 pub returns-else-at-number-clause-found : goal.returns-else-at-number-clause-found
