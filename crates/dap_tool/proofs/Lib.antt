@@ -1,5 +1,4 @@
 mod FileExamples
-pub mod Lines
 mod ListingExamples
 pub mod OneFault
 pub mod ShowLemmas

@@ -1,7 +1,7 @@
 //! Bodies, one a line, to frames.
 
-ghost use Rattle.std.specs.Prelude.{◌≡◌, ◌≢◌, ◌⊎◌, ◌<◌, ◌==◌, ◌∷◌, ◌++◌, length, position, OnOk, IfOk, IfErr};
-ghost use Rattle.std.specs.Str.Lines.{lines, strip_carriage_return};
+ghost use Rattle.std.specs.Prelude.{◌≡◌, ◌≢◌, ◌⊎◌, ◌++◌, OnOk, IfOk, IfErr};
+ghost use Rattle.std.specs.Str.Lines.{lines};
 ghost use Rattle.dap_frame.specs.Written.{frame_of};
 ghost use Rattle.dap_message.specs.Meaning.{Msg};
 ghost use Rattle.dap_message.specs.declared.message.Message.{Message};
@@ -9,6 +9,7 @@ ghost use Rattle.dap_tool.specs.ShowSteps.{IsUnread};
 ghost use Rattle.dap_tool.specs.declared.wrapping.WrapFault.{WrapFault};
 ghost use Rattle.dap_tool.specs.Wrapping.{IsBody, AreBodies, framed, Refuses, FirstRefused};
 
+use dap_check::split_line;
 use dap_frame::{Limits, write_frame};
 use dap_message::laws::each_body_is_one;
 use dap_message::{BodyFault, BodyRefusal, Scratch, read_heading, read_message};
@@ -37,35 +38,6 @@ impl From<AllocError> for WrapFault {
     fn from(_refused: AllocError) -> WrapFault {
         WrapFault::OutOfMemory
     }
-}
-
-/// The place of the first line feed.
-fn line_end(text: &[u8]) -> Option<usize>
-    ensures { result ≡ position (λ byte. byte == 10) text.now }
-{
-    text.iter().position(|byte| *byte == b'\n')
-}
-
-/// A line without the one carriage return at its end, if it has one.
-fn without_carriage_return(line: &[u8]) -> &[u8]
-    ensures { result.now ≡ strip_carriage_return line.now }
-{
-    match line {
-        [text @ .., b'\r'] => text,
-        _ => line,
-    }
-}
-
-/// The first line of a text that has bytes, and what follows it.
-fn split_line(text: &[u8]) -> (&[u8], &[u8])
-    requires { 0 < length text.now }
-    ensures lines { lines text.now ≡ result.0.now ∷ lines result.1.now }
-    ensures shorter { length result.1.now < length text.now }
-{
-    let Some(end) = line_end(text) else {
-        return (text, &[]);
-    };
-    (without_carriage_return(&text[..end]), &text[end + 1..])
 }
 
 /// Whether a line is a message. Only where its heading cannot be read, it is asked why.

@@ -1,0 +1,11 @@
+pub mod Since
+pub mod Lines
+pub mod Rules
+pub mod Legal
+pub mod Laws
+pub mod Places
+pub mod Transcript
+pub mod Kept
+pub mod Reasons
+pub mod Trails
+pub mod Sentences

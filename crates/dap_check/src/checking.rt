@@ -1,0 +1,154 @@
+//! Whether a transcript is legal.
+ghost use Rattle.std.specs.Prelude.{◌≡◌, ◌≢◌, ◌⊎◌, ◌+◌, ◌-◌, ◌^◌, ◌<◌, ◌≤◌, ◌∷◌, ◌++◌, [], List, drop, MatchOption, OnOk, IfOk, IfErr};
+ghost use Rattle.std.specs.Str.Lines.{lines};
+ghost use Rattle.dap_check.specs.Kept.{IsTold};
+ghost use Rattle.dap_check.specs.Legal.{IsVerdict};
+ghost use Rattle.dap_check.specs.Transcript.{side_of, IsLine, AreLines, Refuses, FirstRefused};
+ghost use Rattle.dap_check.specs.declared.checking.CheckFault.{CheckFault};
+ghost use Rattle.dap_check.specs.declared.line.Line.{Line as TheLine};
+ghost use Rattle.dap_check.specs.declared.rule.Checked.{Checked};
+
+use crate::cutting::split_line;
+use crate::line::{Line, Side};
+use crate::rule::Checked;
+use crate::seen::Seen;
+use dap_message::laws::each_body_is_one;
+use dap_message::{BodyFault, BodyRefusal, read_message};
+use std::alloc::{AllocError, Global};
+use thiserror::Error;
+
+/// Why a text is no transcript.
+#[derive(Clone, Copy, Debug, PartialEq, Eq, Error)]
+pub enum CheckFault {
+    /// A line begins neither with `> ` nor with `< `; lines are counted from 1.
+    #[error("line {line} is of neither side")]
+    BadLine { line: u64 },
+    /// What a line has after that is no message.
+    #[error("line {line} is no message")]
+    Body { line: u64, cause: BodyRefusal },
+    /// Memory was refused.
+    #[error("memory is exhausted")]
+    OutOfMemory,
+}
+
+impl From<AllocError> for CheckFault {
+    ghost use Rattle.std.specs.Prelude.{◌≡◌};
+    ghost use Rattle.dap_check.specs.declared.checking.CheckFault.TheVariants.{OutOfMemory};
+
+    ghost from_gives = { λ _ fault. fault ≡ OutOfMemory };
+
+    fn from(_refused: AllocError) -> CheckFault {
+        CheckFault::OutOfMemory
+    }
+}
+
+/// Whose message a line has, and its body.
+fn split_side(text: &[u8]) -> Option<(Side, &[u8])>
+    ensures { MatchOption result (side_of text.now ≡ None) (λ x. (side_of text.now ≡ Some x.0) × (x.1.now ≡ drop 2 text.now)) }
+{
+    if let Some(body) = text.strip_prefix(b"> ") {
+        return Some((Side::Client, body));
+    }
+    match text.strip_prefix(b"< ") {
+        Some(body) => Some((Side::Adapter, body)),
+        None => None,
+    }
+}
+
+/// The line of this number.
+pub(crate) fn read_line(alloc: Global, number: u64, text: &[u8]) -> Result<Line, CheckFault>
+    ensures line { IfOk result (IsLine number text.now) }
+    ensures refused { IfErr result (Refuses number text.now) }
+{
+    let Some((side, body)) = split_side(text) else {
+        return Err(CheckFault::BadLine { line: number });
+    };
+    match read_message(alloc, body) {
+        Ok(message) => Ok(Line {
+            number,
+            side,
+            message,
+        }),
+        Err(BodyFault::Refused(cause)) => Err(CheckFault::Body {
+            line: number,
+            cause,
+        }),
+        Err(BodyFault::OutOfMemory) => Err(CheckFault::OutOfMemory),
+    }
+}
+
+/// What is told after one more line.
+fn take(seen: &mut Seen, any_seq: bool, told: Checked, line: &Line) -> Result<Checked, AllocError>
+    requires { seen.old.counts.client + seen.old.counts.adapter < 2 ^ 64 - 1 }
+    ensures told { IfOk result (λ after. (lines : List TheLine) → IsTold any_seq seen.old lines told → IsTold any_seq seen.new (lines ++ line.now ∷ []) after) }
+    ensures room { OnOk result (seen.new.counts.client + seen.new.counts.adapter ≤ seen.old.counts.client + seen.old.counts.adapter + 1) }
+{
+    match told {
+        Checked::Finding { .. } => Ok(told),
+        Checked::Legal => match seen.least_broken(any_seq, line) {
+            Some(rule) => Ok(Checked::Finding {
+                line: line.number,
+                rule,
+            }),
+            None => {
+                seen.note(line)?;
+                Ok(Checked::Legal)
+            }
+        },
+    }
+}
+
+/// The same of the text of a line.
+fn take_text(
+    alloc: Global,
+    seen: &mut Seen,
+    any_seq: bool,
+    told: Checked,
+    number: u64,
+    text: &[u8],
+) -> Result<Checked, CheckFault>
+    requires { seen.old.counts.client + seen.old.counts.adapter < 2 ^ 64 - 1 }
+    ensures told { IfOk result (λ after. (line : TheLine) × IsLine number text.now line × ((lines : List TheLine) → IsTold any_seq seen.old lines told → IsTold any_seq seen.new (lines ++ line ∷ []) after)) }
+    ensures room { OnOk result (seen.new.counts.client + seen.new.counts.adapter ≤ seen.old.counts.client + seen.old.counts.adapter + 1) }
+    ensures refused { IfErr result (Refuses number text.now) }
+{
+    let line = read_line(alloc, number, text)?;
+    let after = take(seen, any_seq, told, &line)?;
+    Ok(after)
+}
+
+/// What is told of all lines, in one pass.
+fn pass(alloc: Global, bytes: &[u8], any_seq: bool) -> Result<Checked, CheckFault>
+    ensures checked { IfOk result (λ told. (transcript : List TheLine) × AreLines 1 (lines bytes.now) transcript × IsVerdict any_seq transcript told) }
+    ensures refused { IfErr result (FirstRefused (lines bytes.now)) }
+{
+    let mut seen = Seen::new(alloc);
+    let mut told = Checked::Legal;
+    let mut rest = bytes;
+    let mut number = 0;
+    while !rest.is_empty() {
+        let (text, later) = split_line(rest);
+        number += 1;
+        if !text.is_empty() {
+            told = take_text(alloc, &mut seen, any_seq, told, number, text)?;
+        }
+        rest = later;
+    }
+    Ok(told)
+}
+
+/// Whether a transcript keeps the rules. Of one that does not, the least line that breaks a rule is told, and the least
+/// rule that it breaks. With `any_seq` the numbers of messages are not tested. A line that is none, or no message, is
+/// told before any finding.
+pub fn check(alloc: Global, bytes: &[u8], any_seq: bool) -> Result<Checked, CheckFault>
+    ensures checked { IfOk result (λ told. (transcript : List TheLine) × AreLines 1 (lines bytes.now) transcript × IsVerdict any_seq transcript told) }
+    ensures refused { IfErr result (FirstRefused (lines bytes.now)) }
+
+    // And the other way, unless memory runs out.
+    ensures checks { (transcript : List TheLine) (told : Checked) → AreLines 1 (lines bytes.now) transcript → IsVerdict any_seq transcript told → (result ≡ Ok told) ⊎ (result ≡ Err CheckFault.OutOfMemory) }
+    ensures refuses { (fault : CheckFault) → FirstRefused (lines bytes.now) fault → fault ≢ CheckFault.OutOfMemory → (result ≡ Err fault) ⊎ (result ≡ Err CheckFault.OutOfMemory) }
+{
+    // A law for the proof: no line is both a message and refused.
+    each_body_is_one();
+    pass(alloc, bytes, any_seq)
+}

@@ -1,0 +1,34 @@
+//! Whether a recorded conversation keeps the rules of the protocol.
+//!
+//! A transcript is a text with a message a line, each of the client or of the adapter. What this crate knows: lines,
+//! sides, and which earlier lines a message may follow. What it must not know: header bytes, and how JSON is read. It
+//! relies on the public contracts of `dap_message`, and on those by which `dap_json` reads what stands at a key.
+#![tactic(auto)]
+
+mod checking;
+mod counts;
+mod cutting;
+mod explaining;
+mod first;
+pub mod laws;
+mod line;
+mod offer;
+mod pending;
+mod phases;
+mod reason;
+mod references;
+mod rule;
+mod seen;
+mod telling;
+mod trail;
+mod waiting;
+mod walking;
+mod words;
+
+pub use checking::{CheckFault, check};
+pub use cutting::split_line;
+pub use explaining::explain;
+pub use line::{Line, Side};
+pub use reason::{Reason, ReferenceKind};
+pub use rule::{Checked, Rule};
+pub use telling::sentence;
