@@ -167,13 +167,18 @@ fn check<'a>(alloc: Global) -> Result<Command<'a>, AllocError> {
     Command::new(alloc, "check")
         .about("Checks a transcript: which line breaks which rule of the protocol")
         .after_help(
-            "Prints `legal`, or `line L rule K`: the first line that breaks a rule, and the first rule that it breaks. Empty lines are counted.\n\nRules:\n  1 the messages of each side are numbered from 1, without a gap\n  2 a response answers a request that waits, with its number and command; a request has no number of one that waits\n  3 the first request of the client is `initialize`, and the second comes after its response\n  4 `initialized` comes after `initialize` has succeeded\n  5 the client asks only what the adapter offers\n  6 the client names only references that were given since the debuggee last went on\n  7 nothing comes after `disconnect` has succeeded\n\nStatuses: 0 legal, 2 usage, 3 a rule is broken, a line is no message, or the file is too long, 5 read or write, 6 memory",
+            "Prints `legal`, or `line L rule K`: the first line that breaks a rule, and the first rule that it breaks. Empty lines are skipped, and counted.\n\nRules:\n  1 the messages of each side are numbered from 1, without a gap\n  2 a response answers a request that waits, with its number and command; a request has no number of one that waits\n  3 the first request of the client is `initialize`, and the second comes after its response\n  4 `initialized` comes after `initialize` has succeeded\n  5 the client asks only what the adapter offers\n  6 the client names only references that were given since the debuggee last went on\n  7 nothing comes after `disconnect` has succeeded\n\nStatuses: 0 legal, 2 usage, 3 a rule is broken, a line is no message, or the file is too long, 5 read or write, 6 memory",
         )
         .arg(file)?
         .arg(flag(
             alloc,
             "any-seq",
             "Leaves out rule 1, since some adapters give every message the number 0",
+        ))?
+        .arg(flag(
+            alloc,
+            "explain",
+            "Says in a second line why the rule is broken, and against which earlier lines",
         ))
 }
 

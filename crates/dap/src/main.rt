@@ -11,8 +11,10 @@ use clap::error::ErrorKind;
 use dap_channel::{Input, Pipe};
 use dap_debuggee::Recorded;
 use dap_frame::End;
-use dap_tool::{Checked, FileFault, ToolFault, fault_line, read_whole, status, verdict_line};
-use std::alloc::{AllocError, AllocFailed};
+use dap_tool::{
+    Checked, FileFault, ToolFault, explanation_line, fault_line, read_whole, status, verdict_line,
+};
+use std::alloc::{AllocError, AllocFailed, Global};
 use std::fs::File;
 use std::io;
 use std::io::Write;
@@ -166,6 +168,29 @@ fn wrap(rt: &HostRuntime, matches: &ArgMatches<'_>) -> u8 {
     }
 }
 
+/// What is told of a transcript, and why, where that is asked for.
+fn judge(
+    alloc: Global,
+    bytes: &[u8],
+    checked: Checked,
+    explains: bool,
+) -> Result<Vec<u8>, ToolFault> {
+    let Ok(mut text) = verdict_line(alloc, checked) else {
+        return Err(ToolFault::OutOfMemory);
+    };
+    if explains {
+        match explanation_line(alloc, bytes, checked) {
+            Ok(why) => {
+                if text.extend_from_slice(&why).is_err() {
+                    return Err(ToolFault::OutOfMemory);
+                }
+            }
+            Err(fault) => return Err(ToolFault::Check(fault)),
+        }
+    }
+    Ok(text)
+}
+
 /// Tells whether the transcript that a file is keeps the rules, and answers the exit status.
 fn check(rt: &HostRuntime, matches: &ArgMatches<'_>) -> u8 {
     let bytes = match read_file(rt, matches, "file") {
@@ -176,8 +201,9 @@ fn check(rt: &HostRuntime, matches: &ArgMatches<'_>) -> u8 {
         Ok(checked) => checked,
         Err(fault) => return tell(rt, &ToolFault::Check(fault)),
     };
-    let Ok(text) = verdict_line(rt.alloc(), checked) else {
-        return tell(rt, &ToolFault::OutOfMemory);
+    let text = match judge(rt.alloc(), &bytes, checked, matches.get_flag("explain")) {
+        Ok(text) => text,
+        Err(fault) => return tell(rt, &fault),
     };
     match print(rt, &text) {
         Ok(()) if checked == Checked::Legal => 0,

@@ -1,6 +1,8 @@
--- The line that a program tells of a transcript. It is this profile's choice.
-use Rattle.std.specs.Prelude.{ℕ, List, ◌++◌, codes, decimal}
+-- The lines that a program tells of a transcript. They are this profile's choice.
+use Rattle.std.specs.Prelude.{ℕ, List, [], ◌++◌, codes, decimal, Option, Some, None}
 use Rattle.dap_check.specs.Legal.{number_of}
+use Rattle.dap_check.specs.Sentences.{sentence_of}
+use Rattle.dap_check.specs.declared.reason.Reason.{Reason}
 use Rattle.dap_check.specs.declared.rule.Rule.{Rule}
 use Rattle.dap_check.specs.declared.rule.Checked.{Checked}
 use Rattle.dap_check.specs.declared.rule.Checked.TheVariants.{Legal, Finding}
@@ -11,3 +13,11 @@ text_of_finding line rule = codes "line " ++ decimal line ++ codes " rule " ++ d
 abbrev pub text_of_checked : Checked → List ℕ
 text_of_checked Legal = codes "legal\n"
 text_of_checked (Finding line rule) = text_of_finding line rule
+
+-- why a finding is one
+abbrev pub text_of_reason : Reason → List ℕ
+text_of_reason reason = sentence_of reason ++ codes "\n"
+
+abbrev pub text_of_why : Option Reason → List ℕ
+text_of_why None = []
+text_of_why (Some reason) = text_of_reason reason

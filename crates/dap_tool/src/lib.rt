@@ -16,5 +16,5 @@ pub use dap_drive::{DriveFault, drive};
 pub use fault::{ToolFault, fault_line, status};
 pub use files::{FileFault, MAX_FILE, read_channel, read_whole, reading_is_of_the_log};
 pub use listing::{ShowFault, show};
-pub use verdict::verdict_line;
+pub use verdict::{explanation_line, verdict_line};
 pub use wrapping::{WrapFault, wrap};
