@@ -20,3 +20,4 @@ pub mod TrailLemmas
 pub mod Walked
 pub mod Explained
 pub mod ReasonLemmas
+pub mod BareLemmas

@@ -40,7 +40,7 @@ counted : (b : Bool) (n : ℕ) → n + cond b 1 0 ≡ cond b (n + 1) n
 counted true n = refl
 counted false n = omega arith
 
-count_push : (p : Line → Bool) (xs : List Line) (y : Line) → count_by p (xs ++ y ∷ []) ≡ cond (p y) (count_by p xs + 1) (count_by p xs)
+pub count_push : (p : Line → Bool) (xs : List Line) (y : Line) → count_by p (xs ++ y ∷ []) ≡ cond (p y) (count_by p xs + 1) (count_by p xs)
 count_push p xs y = sum_by_push (λ x. cond (p x) 1 0) xs y ∙ counted (p y) (count_by p xs)
 
 pub trail_push : (opens : Line → Bool) (closes : ℕ → Line → Bool) (earlier : List Line) (line : Line) → trail opens closes (earlier ++ line ∷ []) ≡ trail_after opens closes line (trail opens closes earlier)

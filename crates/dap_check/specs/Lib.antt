@@ -9,3 +9,4 @@ pub mod Kept
 pub mod Reasons
 pub mod Trails
 pub mod Sentences
+pub mod Bare

@@ -1,19 +1,21 @@
 //! Whether a transcript is legal.
 ghost use Rattle.std.specs.Prelude.{◌≡◌, ◌≢◌, ◌⊎◌, ◌+◌, ◌-◌, ◌^◌, ◌<◌, ◌≤◌, ◌∷◌, ◌++◌, [], List, drop, MatchOption, OnOk, IfOk, IfErr};
 ghost use Rattle.std.specs.Str.Lines.{lines};
+ghost use Rattle.dap_check.specs.Bare.{IsReadAs};
 ghost use Rattle.dap_check.specs.Kept.{IsTold};
 ghost use Rattle.dap_check.specs.Legal.{IsVerdict};
-ghost use Rattle.dap_check.specs.Transcript.{side_of, IsLine, AreLines, Refuses, FirstRefused};
+ghost use Rattle.dap_check.specs.Transcript.{IsLine, AreLines, Refuses, FirstRefused};
 ghost use Rattle.dap_check.specs.declared.checking.CheckFault.{CheckFault};
 ghost use Rattle.dap_check.specs.declared.line.Line.{Line as TheLine};
 ghost use Rattle.dap_check.specs.declared.rule.Checked.{Checked};
 
 use crate::cutting::split_line;
-use crate::line::{Line, Side};
+use crate::line::Line;
+use crate::reading::read_bare;
 use crate::rule::Checked;
 use crate::seen::Seen;
 use dap_message::laws::each_body_is_one;
-use dap_message::{BodyFault, BodyRefusal, read_message};
+use dap_message::{BodyRefusal, Scratch};
 use std::alloc::{AllocError, Global};
 use thiserror::Error;
 
@@ -42,45 +44,10 @@ impl From<AllocError> for CheckFault {
     }
 }
 
-/// Whose message a line has, and its body.
-fn split_side(text: &[u8]) -> Option<(Side, &[u8])>
-    ensures { MatchOption result (side_of text.now ≡ None) (λ x. (side_of text.now ≡ Some x.0) × (x.1.now ≡ drop 2 text.now)) }
-{
-    if let Some(body) = text.strip_prefix(b"> ") {
-        return Some((Side::Client, body));
-    }
-    match text.strip_prefix(b"< ") {
-        Some(body) => Some((Side::Adapter, body)),
-        None => None,
-    }
-}
-
-/// The line of this number.
-pub(crate) fn read_line(alloc: Global, number: u64, text: &[u8]) -> Result<Line, CheckFault>
-    ensures line { IfOk result (IsLine number text.now) }
-    ensures refused { IfErr result (Refuses number text.now) }
-{
-    let Some((side, body)) = split_side(text) else {
-        return Err(CheckFault::BadLine { line: number });
-    };
-    match read_message(alloc, body) {
-        Ok(message) => Ok(Line {
-            number,
-            side,
-            message,
-        }),
-        Err(BodyFault::Refused(cause)) => Err(CheckFault::Body {
-            line: number,
-            cause,
-        }),
-        Err(BodyFault::OutOfMemory) => Err(CheckFault::OutOfMemory),
-    }
-}
-
-/// What is told after one more line.
+/// What is told after one more line, which may be read without its tree.
 fn take(seen: &mut Seen, any_seq: bool, told: Checked, line: &Line) -> Result<Checked, AllocError>
     requires { seen.old.counts.client + seen.old.counts.adapter < 2 ^ 64 - 1 }
-    ensures told { IfOk result (λ after. (lines : List TheLine) → IsTold any_seq seen.old lines told → IsTold any_seq seen.new (lines ++ line.now ∷ []) after) }
+    ensures told { IfOk result (λ after. (lines : List TheLine) (real : TheLine) → IsReadAs line.now real → IsTold any_seq seen.old lines told → IsTold any_seq seen.new (lines ++ real ∷ []) after) }
     ensures room { OnOk result (seen.new.counts.client + seen.new.counts.adapter ≤ seen.old.counts.client + seen.old.counts.adapter + 1) }
 {
     match told {
@@ -101,6 +68,7 @@ fn take(seen: &mut Seen, any_seq: bool, told: Checked, line: &Line) -> Result<Ch
 /// The same of the text of a line.
 fn take_text(
     alloc: Global,
+    scratch: &mut Scratch,
     seen: &mut Seen,
     any_seq: bool,
     told: Checked,
@@ -112,7 +80,7 @@ fn take_text(
     ensures room { OnOk result (seen.new.counts.client + seen.new.counts.adapter ≤ seen.old.counts.client + seen.old.counts.adapter + 1) }
     ensures refused { IfErr result (Refuses number text.now) }
 {
-    let line = read_line(alloc, number, text)?;
+    let line = read_bare(alloc, scratch, number, text)?;
     let after = take(seen, any_seq, told, &line)?;
     Ok(after)
 }
@@ -122,6 +90,7 @@ fn pass(alloc: Global, bytes: &[u8], any_seq: bool) -> Result<Checked, CheckFaul
     ensures checked { IfOk result (λ told. (transcript : List TheLine) × AreLines 1 (lines bytes.now) transcript × IsVerdict any_seq transcript told) }
     ensures refused { IfErr result (FirstRefused (lines bytes.now)) }
 {
+    let mut scratch = Scratch::new(alloc);
     let mut seen = Seen::new(alloc);
     let mut told = Checked::Legal;
     let mut rest = bytes;
@@ -130,7 +99,7 @@ fn pass(alloc: Global, bytes: &[u8], any_seq: bool) -> Result<Checked, CheckFaul
         let (text, later) = split_line(rest);
         number += 1;
         if !text.is_empty() {
-            told = take_text(alloc, &mut seen, any_seq, told, number, text)?;
+            told = take_text(alloc, &mut scratch, &mut seen, any_seq, told, number, text)?;
         }
         rest = later;
     }

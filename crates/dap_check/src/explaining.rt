@@ -10,8 +10,9 @@ ghost use Rattle.dap_check.specs.Trails.{AreBefore};
 ghost use Rattle.dap_check.specs.Transcript.{AreLines, IsRefusedIn};
 ghost use Rattle.dap_check.specs.declared.line.Line.{Line as TheLine};
 
-use crate::checking::{CheckFault, read_line};
+use crate::checking::CheckFault;
 use crate::line::{Line, Side};
+use crate::reading::read_line;
 use crate::reason::{Reason, ReferenceKind};
 use crate::rule::Rule;
 use crate::trail::{Opened, Trail, Watch};

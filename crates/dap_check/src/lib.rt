@@ -15,6 +15,7 @@ mod line;
 mod offer;
 mod pending;
 mod phases;
+mod reading;
 mod reason;
 mod references;
 mod rule;

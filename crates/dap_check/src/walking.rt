@@ -5,9 +5,10 @@ ghost use Rattle.dap_check.specs.Trails.{trails, AreBefore, AreBelow};
 ghost use Rattle.dap_check.specs.Transcript.{IsLine, IsTextAt, IsRefusedIn, Refuses};
 ghost use Rattle.dap_check.specs.declared.line.Line.{Line as TheLine};
 
-use crate::checking::{CheckFault, read_line};
+use crate::checking::CheckFault;
 use crate::cutting::split_line;
 use crate::line::Line;
+use crate::reading::read_line;
 use crate::trail::{Trail, Watch};
 use dap_message::laws::each_body_is_one;
 use std::alloc::Global;

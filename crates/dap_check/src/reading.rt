@@ -1,0 +1,152 @@
+//! The line that a text is, whole or without what no rule looks at.
+//!
+//! Most messages are long for their trees' sake, and a tree costs most of the time of reading. The rules look at few of
+//! them: at what `initialize` and `capabilities` offer, at what gives references, and at what names one.
+ghost use Rattle.std.specs.Prelude.{◌≡◌, drop, MatchOption, IfOk, IfErr};
+ghost use Rattle.dap_message.specs.Heading.{IsHeadingOf, IsKindOf};
+ghost use Rattle.dap_message.specs.Meaning.{Msg};
+ghost use Rattle.dap_message.specs.declared.message.Kind.{Kind as TheKind};
+ghost use Rattle.dap_message.specs.declared.message.Message.{Message as TheMessage};
+ghost use Rattle.dap_check.specs.Bare.{bare_kind as bare_kind_of, bare_message, is_looked_at as looked_at, IsReadBody, IsReadAs, IsUnread};
+ghost use Rattle.dap_check.specs.Transcript.{side_of, IsLine, Refuses};
+ghost use Rattle.dap_check.specs.declared.line.Line.{Line as TheLine};
+
+use crate::checking::CheckFault;
+use crate::line::{Line, Side};
+use crate::words;
+use dap_message::{
+    BodyFault, Heading, HeadingKind, Kind, Message, Scratch, Text, read_heading, read_message,
+};
+use std::alloc::{AllocError, Global};
+
+/// Whose message a line has, and its body.
+fn split_side(text: &[u8]) -> Option<(Side, &[u8])>
+    ensures { MatchOption result (side_of text.now ≡ None) (λ x. (side_of text.now ≡ Some x.0) × (x.1.now ≡ drop 2 text.now)) }
+{
+    if let Some(body) = text.strip_prefix(b"> ") {
+        return Some((Side::Client, body));
+    }
+    match text.strip_prefix(b"< ") {
+        Some(body) => Some((Side::Adapter, body)),
+        None => None,
+    }
+}
+
+/// The line of this number.
+pub(crate) fn read_line(alloc: Global, number: u64, text: &[u8]) -> Result<Line, CheckFault>
+    ensures line { IfOk result (IsLine number text.now) }
+    ensures refused { IfErr result (Refuses number text.now) }
+{
+    let Some((side, body)) = split_side(text) else {
+        return Err(CheckFault::BadLine { line: number });
+    };
+    match read_message(alloc, body) {
+        Ok(message) => Ok(Line {
+            number,
+            side,
+            message,
+        }),
+        Err(BodyFault::Refused(cause)) => Err(CheckFault::Body {
+            line: number,
+            cause,
+        }),
+        Err(BodyFault::OutOfMemory) => Err(CheckFault::OutOfMemory),
+    }
+}
+
+/// Whether a rule looks at the tree of such a message.
+fn is_looked_at(kind: &HeadingKind<'_>) -> bool
+    ensures { (k : TheKind) → IsKindOf kind.now k → result ≡ looked_at k }
+{
+    match kind {
+        HeadingKind::Request { command } => {
+            words::names_frame(command) || words::names_holder(command)
+        }
+        HeadingKind::Response {
+            success,
+            command,
+            ..
+        } => *success && words::is_telling(command),
+        HeadingKind::Event { event } => *event == "capabilities",
+        HeadingKind::Other { .. } => false,
+    }
+}
+
+fn bare_kind(alloc: Global, kind: &HeadingKind<'_>) -> Result<Kind, AllocError>
+    ensures { IfOk result (λ bare. (k : TheKind) → IsKindOf kind.now k → bare ≡ bare_kind_of k) }
+{
+    match kind {
+        HeadingKind::Request { command } => Ok(Kind::Request {
+            command: Text::copied(alloc, command)?,
+            arguments: None,
+        }),
+        HeadingKind::Response {
+            request_seq,
+            success,
+            command,
+        } => Ok(Kind::Response {
+            request_seq: *request_seq,
+            success: *success,
+            command: Text::copied(alloc, command)?,
+            message: None,
+            body: None,
+        }),
+        HeadingKind::Event { event } => Ok(Kind::Event {
+            event: Text::copied(alloc, event)?,
+            body: None,
+        }),
+        HeadingKind::Other { tag } => Ok(Kind::Other {
+            tag: Text::copied(alloc, tag)?,
+        }),
+    }
+}
+
+/// The message with a heading, without its tree and its reason.
+fn bare(alloc: Global, heading: &Heading<'_>) -> Result<Message, AllocError>
+    ensures { IfOk result (λ bare. (m : TheMessage) → IsHeadingOf heading.now m → bare ≡ bare_message m) }
+{
+    Ok(Message {
+        seq: heading.seq,
+        kind: bare_kind(alloc, &heading.kind)?,
+    })
+}
+
+/// The message that a body is, without its tree where no rule looks at it.
+fn read_body(alloc: Global, scratch: &mut Scratch, body: &[u8]) -> Result<Message, BodyFault>
+    ensures message { IfOk result (λ message. (m : TheMessage) × Msg body.now m × IsReadBody message m) }
+    ensures refused { IfErr result (IsUnread body.now) }
+{
+    if let Some(heading) = read_heading(scratch, body) {
+        if !is_looked_at(&heading.kind) {
+            return Ok(bare(alloc, &heading)?);
+        }
+    }
+    read_message(alloc, body)
+}
+
+/// The line of this number, without its tree where no rule looks at it.
+pub(crate) fn read_bare(
+    alloc: Global,
+    scratch: &mut Scratch,
+    number: u64,
+    text: &[u8],
+) -> Result<Line, CheckFault>
+    ensures line { IfOk result (λ line. (real : TheLine) × IsLine number text.now real × IsReadAs line real) }
+    ensures refused { IfErr result (Refuses number text.now) }
+{
+    let Some((side, body)) = split_side(text) else {
+        return Err(CheckFault::BadLine { line: number });
+    };
+    match read_body(alloc, scratch, body) {
+        Ok(message) => Ok(Line {
+            number,
+            side,
+            message,
+        }),
+        Err(BodyFault::Refused(cause)) => Err(CheckFault::Body {
+            line: number,
+            cause,
+        }),
+        Err(BodyFault::OutOfMemory) => Err(CheckFault::OutOfMemory),
+    }
+}
