@@ -83,7 +83,7 @@ class Message:
 
 
 def lines_of(content):
-    """The lines that are not empty, with their numbers. A line ends with LF, or with CR and LF; the last one may have no end."""
+    """The lines that are not empty, with their numbers. A line ends with LF, or CR LF; the last one may have no end."""
     pieces = content.split(b"\n")
     last = pieces.pop()
     pieces = [piece.removesuffix(b"\r") for piece in pieces] + ([last] if last else [])

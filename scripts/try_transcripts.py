@@ -119,8 +119,9 @@ class Scripted:
     def refused(self):
         """A line that is refused where it stands, or mostly so."""
         lines = [b"jump", b"send", b"send jump", b"run ", b"send threads {", b"send  threads", b"\xff", b"send threads \xff"]
-        lines += [b"send next {}", b"send launch []", b'send launch {"a":1.5}', b"send initialize", b"send restart", b"send pause"]
-        lines += [b'send scopes {"frameId":99}', b'send stackTrace {"threadId":1}', b'send variables {"variablesReference":-1}']
+        lines += [b"send next {}", b"send launch []", b'send launch {"a":1.5}', b"send initialize", b"send restart"]
+        lines += [b'send scopes {"frameId":99}', b'send stackTrace {"threadId":1}']
+        lines += [b'send variables {"variablesReference":-1}', b'send variables {"variablesReference":1}']
         self.line(self.choice.choice(lines))
 
 
@@ -216,9 +217,9 @@ def flags(choice):
 
 def put_event(choice, said):
     """An event of one of the sides, mostly of the adapter."""
-    event = choice.choice(["initialized", "continued", "exited", "terminated", "stopped", "output", "capabilities", "capabilities"])
+    events = ["initialized", "continued", "exited", "terminated", "stopped", "output", "capabilities", "capabilities"]
     body = choice.choice([{"capabilities": flags(choice)}] * 4 + [None, {}, {"capabilities": None}, {"capabilities": [1]}, 7])
-    message = {"seq": 0, "type": "event", "event": event, "body": body}
+    message = {"seq": 0, "type": "event", "event": choice.choice(events), "body": body}
     said.insert(choice.randrange(len(said) + 1), [choice.choice("<<<>"), message])
 
 
