@@ -102,7 +102,7 @@ class Scripted:
         if len(client.waiting) >= client.max_requests and self.choice.randrange(8):
             return self.line(b"run")
         for _ in range(20):
-            commands = [c for c in MAY_SEND if c not in ("disconnect", "terminate") or self.choice.randrange(8) == 0]
+            commands = [c for c in sorted(MAY_SEND) if c not in ("disconnect", "terminate") or self.choice.randrange(8) == 0]
             command = self.choice.choice(lead.get(client.phase, commands) if self.choice.randrange(3) else commands)
             arguments = self.arguments(command)
             if client.refusal(command, arguments) is None:
