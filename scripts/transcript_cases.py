@@ -141,8 +141,34 @@ INITIALIZED = [
     ),
     ("`initialized` twice", [*OPEN, event(2, "initialized"), event(3, "initialized")], LEGAL, None),
     ("`initialized` from the client", [of_other(event(1, "initialized"))], LEGAL, None),
+    (
+        "`initialized` after the client's answer",
+        [of_other(req(1, "initialize")), of_other(ok(1, "initialize")), event(2, "initialized")],
+        found(3, 4),
+        None,
+    ),
 ]
 TERMINATE = {"supportsTerminateRequest": True}
+
+
+# Each command that needs a capability, and which.
+NEEDS = {
+    "configurationDone": "supportsConfigurationDoneRequest",
+    "terminate": "supportsTerminateRequest",
+    "cancel": "supportsCancelRequest",
+    "setFunctionBreakpoints": "supportsFunctionBreakpoints",
+    "stepBack": "supportsStepBack",
+    "reverseContinue": "supportsStepBack",
+    "loadedSources": "supportsLoadedSourcesRequest",
+    "setVariable": "supportsSetVariable",
+    "restart": "supportsRestartRequest",
+    "modules": "supportsModulesRequest",
+    "exceptionInfo": "supportsExceptionInfoRequest",
+    "breakpointLocations": "supportsBreakpointLocationsRequest",
+    "completions": "supportsCompletionsRequest",
+}
+FREE = "attach continue disconnect evaluate goto launch next pause scopes setBreakpoints setExceptionBreakpoints source"
+FREE += " stackTrace stepIn stepOut threads variables"
 
 
 def changed(value, flag="supportsTerminateRequest"):
@@ -150,6 +176,21 @@ def changed(value, flag="supportsTerminateRequest"):
 
 
 GATED = [
+    *[
+        (f"`{command}` and its capability, {is_on}", [*opened({flag: is_on}), req(2, command)], wanted, None)
+        for command, flag in NEEDS.items()
+        for is_on, wanted in ((True, LEGAL), (False, found(3, 5)))
+    ],
+    *[
+        (
+            f"`{command}` with no other capability",
+            [*opened({other: True for other in NEEDS.values() if other != flag}), req(2, command)],
+            found(3, 5),
+            None,
+        )
+        for command, flag in NEEDS.items()
+    ],
+    *[(f"`{command}` needs no capability", [*OPEN, req(2, command)], LEGAL, None) for command in FREE.split()],
     ("no capability", [*OPEN, req(2, "terminate")], found(3, 5), None),
     ("a capability", [*opened(TERMINATE), req(2, "terminate")], LEGAL, None),
     ("a capability of `false`", [*opened({"supportsTerminateRequest": False}), req(2, "terminate")], found(3, 5), None),
@@ -189,6 +230,18 @@ GATED = [
         None,
     ),
     (
+        "an event after a failure changes nothing",
+        [ASK, answer(1, 1, "initialize", success=False), event(2, "capabilities", changed(True)), req(2, "terminate")],
+        found(4, 5),
+        None,
+    ),
+    (
+        "the client's answer to initialize offers nothing",
+        [*OPEN, of_other(req(2, "initialize")), of_other(answer(2, 2, "initialize", TERMINATE)), req(3, "terminate")],
+        found(5, 5),
+        None,
+    ),
+    (
         "a second initialize replaces all",
         [*opened(TERMINATE), req(2, "initialize"), ok(2, "initialize", {}), req(3, "terminate")],
         found(5, 5),
@@ -217,6 +270,7 @@ RESUMES_NOT = [
     ("the event `stopped`, and a `next` under way", [event(3, "stopped"), req(3, "next")]),
     ("the client's `continued`, and the adapter's `next`", [of_other(event(3, "continued")), of_other(req(3, "next"))]),
     ("`pause`", [req(3, "pause"), ok(3, "pause")]),
+    ("a `next` that the client answers", [of_other(req(3, "next")), of_other(ok(3, "next"))]),
 ]
 
 
@@ -264,6 +318,33 @@ REFERENCES = [
     (
         "a failure gives nothing",
         [*OPEN, req(2, "stackTrace"), answer(2, 2, "stackTrace", STACK, False), req(3, "scopes", FRAME)],
+        found(5, 6),
+        None,
+    ),
+    (
+        "a 0 gives nothing",
+        [*stopped_at(), req(3, "evaluate"), ok(3, "evaluate", {"variablesReference": 0})]
+        + [req(4, "variables", {"variablesReference": 0})],
+        found(7, 6),
+        None,
+    ),
+    (
+        "variables in place of a frame",
+        [*stopped_at(), req(3, "scopes"), ok(3, "scopes", {"scopes": [{"variablesReference": 5}]})]
+        + [req(4, "scopes", {"frameId": 5})],
+        found(7, 6),
+        None,
+    ),
+    (
+        "one number in both kinds",
+        [*stopped_at(), req(3, "scopes"), ok(3, "scopes", {"scopes": [{"variablesReference": 1}]})]
+        + [req(4, "scopes", FRAME), req(5, "variables", {"variablesReference": 1})],
+        LEGAL,
+        None,
+    ),
+    (
+        "the client's answer gives nothing",
+        [*OPEN, of_other(req(2, "stackTrace")), of_other(answer(2, 2, "stackTrace", STACK)), req(3, "scopes", FRAME)],
         found(5, 6),
         None,
     ),
@@ -316,6 +397,12 @@ DISCONNECTED = [
     (
         "the client's answer after the end",
         [*OPEN, of_other(req(2, "x")), req(2, "disconnect"), answer(3, 2, "disconnect"), of_other(answer(3, 2, "x"))],
+        LEGAL,
+        None,
+    ),
+    (
+        "a disconnect that the client answers",
+        [*OPEN, of_other(req(2, "disconnect")), of_other(ok(2, "disconnect")), req(3, "threads"), event(3, "output")],
         LEGAL,
         None,
     ),
