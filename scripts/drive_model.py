@@ -12,7 +12,7 @@ import sys
 
 from session_model import GREATEST, KEYS, RESUMING, THREAD, Failed, Session, are, bad_key, is_count, is_named_source, is_text
 from session_model import name_of
-from slow_check import GATES, USED_AT, Message, Refused, given, lines_of, read_json
+from slow_check import GATES, MAX_FILE, USED_AT, Message, Refused, given, lines_of, read_json
 
 SETTERS = {"setBreakpoints", "setFunctionBreakpoints", "setExceptionBreakpoints"}
 GONE = {"exited", "terminated"}
@@ -345,9 +345,9 @@ def main():
         drive.add_argument(f"--max-{name}", type=int, default=argparse.SUPPRESS)
     limits = vars(words.parse_args())
     with open(limits.pop("recording"), encoding="utf-8") as file:
-        recording = json.load(file)
+        recording = json.loads(file.read(MAX_FILE))
     with open(limits.pop("script"), "rb") as file:
-        status, out, err = drive_of(recording, file.read(), **limits)
+        status, out, err = drive_of(recording, file.read(MAX_FILE), **limits)
     sys.stdout.buffer.write(out)
     sys.stderr.buffer.write(err)
     return status

@@ -83,7 +83,7 @@ class Message:
 
 
 def lines_of(content):
-    """The lines that are not empty, with their numbers. A line ends with LF, or with CR and LF; the last one may have no end."""
+    """The lines that are not empty, with their numbers. A line ends with LF, or CR LF; the last one may have no end."""
     pieces = content.split(b"\n")
     last = pieces.pop()
     pieces = [piece.removesuffix(b"\r") for piece in pieces] + ([last] if last else [])
@@ -199,7 +199,7 @@ def other(side):
     return ADAPTER if side == CLIENT else CLIENT
 
 
-def before(said, place):
+def before(place):
     return range(place)
 
 
@@ -236,7 +236,7 @@ def answered(said, request, place):
 
 def same_seq(said, side, seq, place):
     """The places before this one with a request of that side and seq."""
-    return [j for j in before(said, place) if is_request(said[j], side) and said[j].seq == seq]
+    return [j for j in before(place) if is_request(said[j], side) and said[j].seq == seq]
 
 
 def resumes(message):
@@ -277,7 +277,7 @@ class Broken:
 
 
 def rule_1(said, place):
-    k = 1 + len([j for j in before(said, place) if said[j].side == said[place].side])
+    k = 1 + len([j for j in before(place) if said[j].side == said[place].side])
     return None if said[place].seq == k else Broken("the seq is another", [], k)
 
 
@@ -309,7 +309,7 @@ def rule_2_response(said, place):
 def rule_3(said, place):
     if not is_request(said[place], CLIENT):
         return None
-    earlier = [j for j in before(said, place) if is_request(said[j], CLIENT)]
+    earlier = [j for j in before(place) if is_request(said[j], CLIENT)]
     if not earlier and said[place].command != "initialize":
         return Broken("the first request is another")
     if len(earlier) == 1 and answered(said, earlier[0], place) is None:
@@ -320,10 +320,10 @@ def rule_3(said, place):
 def rule_4(said, place):
     if not is_event(said[place], "initialized"):
         return None
-    if any(succeeds(said[j], "initialize") for j in before(said, place)):
+    if any(succeeds(said[j], "initialize") for j in before(place)):
         return None
     failed = [
-        said[j].line for j in before(said, place) if is_response(said[j], ADAPTER) and said[j].command == "initialize"
+        said[j].line for j in before(place) if is_response(said[j], ADAPTER) and said[j].command == "initialize"
     ]
     return Broken("no initialize succeeded", failed)
 
@@ -332,7 +332,7 @@ def rule_5(said, place):
     if not is_request(said[place], CLIENT) or said[place].command not in GATES:
         return None
     gate = GATES[said[place].command]
-    succeeded = [j for j in before(said, place) if succeeds(said[j], "initialize")]
+    succeeded = [j for j in before(place) if succeeds(said[j], "initialize")]
     if not succeeded:
         return Broken("no initialize succeeded", [], gate)
     last = succeeded[-1]
@@ -360,9 +360,9 @@ def rule_6(said, place):
     number = message.arguments.get(key)
     if not is_whole(number):
         return None
-    givers = [j for j in before(said, place) if (kind, number) in given(said[j])]
+    givers = [j for j in before(place) if (kind, number) in given(said[j])]
     if not givers:
-        others = [said[j].line for j in before(said, place) if number in [n for _, n in given(said[j])]]
+        others = [said[j].line for j in before(place) if number in [n for _, n in given(said[j])]]
         return Broken("given as another kind" if others else "never given", others[-1:], number)
     resumptions = [k for k in between(givers[-1], place) if resumes(said[k])]
     if resumptions:
@@ -374,7 +374,7 @@ def rule_7(said, place):
     message = said[place]
     if message.side == CLIENT and message.type != "request":
         return None
-    for j in before(said, place):
+    for j in before(place):
         if succeeds(said[j], "disconnect"):
             return Broken("disconnect was answered", [said[j].line])
     return None

@@ -8,7 +8,7 @@
 Each script asks for what the client may send, in many orders, under small and great limits; some end with a line that is
 refused. What `drive` prints is what scripts/drive_model.py has, byte for byte. Its transcript is legal for `dap check` and
 for scripts/slow_check.py. Then it is broken by one edit or more, mostly with all messages numbered anew so that more than
-the numbers is wrong, and the two say the same of it, with and without --any-seq. The seed is fixed.
+the numbers is wrong, and the two say the same of it, with --any-seq or without. The seed is fixed.
 """
 import argparse
 import collections
@@ -24,7 +24,7 @@ from slow_check import GATES, USED_AT
 from trial import FOLDER, RECORDINGS, expect, failures, recording_of, run
 
 COUNT = 300
-EDITS = 3
+EDITS = 6
 FLAGS = sorted(set(GATES.values()))
 ODD_NUMBERS = [0, 1, 2, 3, 4, 5, -1, 1.0, -0.0, 2147483647, 2147483648, 2**53 - 1, 2**53, 2**64 - 1, 2**64, -(2**63), None]
 
@@ -102,7 +102,7 @@ class Scripted:
         if len(client.waiting) >= client.max_requests and self.choice.randrange(8):
             return self.line(b"run")
         for _ in range(20):
-            commands = [c for c in MAY_SEND if c not in ("disconnect", "terminate") or self.choice.randrange(8) == 0]
+            commands = [c for c in sorted(MAY_SEND) if c not in ("disconnect", "terminate") or self.choice.randrange(8) == 0]
             command = self.choice.choice(lead.get(client.phase, commands) if self.choice.randrange(3) else commands)
             arguments = self.arguments(command)
             if client.refusal(command, arguments) is None:
@@ -119,8 +119,9 @@ class Scripted:
     def refused(self):
         """A line that is refused where it stands, or mostly so."""
         lines = [b"jump", b"send", b"send jump", b"run ", b"send threads {", b"send  threads", b"\xff", b"send threads \xff"]
-        lines += [b"send next {}", b"send launch []", b'send launch {"a":1.5}', b"send initialize", b"send restart", b"send pause"]
-        lines += [b'send scopes {"frameId":99}', b'send stackTrace {"threadId":1}', b'send variables {"variablesReference":-1}']
+        lines += [b"send next {}", b"send launch []", b'send launch {"a":1.5}', b"send initialize", b"send restart"]
+        lines += [b'send scopes {"frameId":99}', b'send stackTrace {"threadId":1}']
+        lines += [b'send variables {"variablesReference":-1}', b'send variables {"variablesReference":1}']
         self.line(self.choice.choice(lines))
 
 
@@ -204,56 +205,141 @@ def other_reference(choice, said):
         told[key] = choice.choice(ODD_NUMBERS)
 
 
-def other_flag(choice, said):
-    bodies = [message["body"] for _, message in said if message.get("command") == "initialize" and message.get("body")]
-    if bodies:
-        choice.choice(bodies)[choice.choice(FLAGS)] = choice.choice([True, True, False, None, 1, "true"])
-
-
 def flags(choice):
     return {flag: choice.choice([True, True, False, None, 1]) for flag in FLAGS if choice.randrange(2)}
 
 
+def event(name, body=None):
+    return {"seq": 0, "type": "event", "event": name, "body": body}
+
+
+def put(choice, said, *lines):
+    """Lines put in at one place, mostly after the start, each with some chance to stand a little later than the one before."""
+    least = min(len(said), choice.choice([0, 2, 2, 2]))
+    place = choice.randrange(least, len(said) + 1)
+    for line in lines:
+        said.insert(place, list(line))
+        place = min(len(said), place + 1 + choice.choice([0, 0, 0, 1, 3]))
+
+
+def ask(choice, command, arguments=None):
+    """A request whose number is far from all others."""
+    told = {"seq": 10**6 + choice.randrange(10**6), "type": "request", "command": command}
+    return told if arguments is None else {**told, "arguments": arguments}
+
+
+def exchange(choice, command, body=None, arguments=None):
+    """A request of the client, and its answer: mostly a success."""
+    request = ask(choice, command, arguments)
+    told = {"seq": 0, "type": "response", "request_seq": request["seq"], "success": choice.randrange(8) > 0}
+    told = {**told, "command": command} if body is None else {**told, "command": command, "body": body}
+    return [(">", request), ("<", told)]
+
+
 def put_event(choice, said):
-    """An event of one of the sides, mostly of the adapter."""
-    event = choice.choice(["initialized", "continued", "exited", "terminated", "stopped", "output", "capabilities", "capabilities"])
-    body = choice.choice([{"capabilities": flags(choice)}] * 4 + [None, {}, {"capabilities": None}, {"capabilities": [1]}, 7])
-    message = {"seq": 0, "type": "event", "event": event, "body": body}
-    said.insert(choice.randrange(len(said) + 1), [choice.choice("<<<>"), message])
+    """An event, mostly of the adapter."""
+    names = ["initialized", "continued", "exited", "terminated", "stopped", "output"]
+    put(choice, said, (choice.choice("<<<>"), event(choice.choice(names))))
+
+
+def put_offer(choice, said):
+    """What changes the capabilities, early or late, and a request that needs one."""
+    bodies = [{"capabilities": flags(choice)}] * 6 + [flags(choice), None, {"capabilities": None}, {"capabilities": [1]}]
+    change = [(choice.choice("<<<<>"), event("capabilities", choice.choice(bodies)))]
+    change = choice.choice([change] * 4 + [exchange(choice, "initialize", flags(choice))])
+    lines = [*change, (choice.choice(">>>>><"), ask(choice, choice.choice(sorted(GATES))))]
+    if choice.randrange(3) == 0:
+        said.insert(0, ["<", event("capabilities", {"capabilities": {flag: True for flag in FLAGS}})])
+        put(choice, said, lines[-1])
+    else:
+        put(choice, said, *lines)
 
 
 def put_other(choice, said):
-    message = {"seq": 0, "type": choice.choice(["x", "Request", ""]), "command": "disconnect"}
-    said.insert(choice.randrange(len(said) + 1), [choice.choice("<>"), message])
+    put(choice, said, (choice.choice("<>"), {"seq": 0, "type": choice.choice(["x", "Request", ""]), "command": "disconnect"}))
 
 
 def put_request(choice, said):
     """A request of one of the sides, mostly of the client, and perhaps its answer."""
-    commands = [*GATES, *USED_AT, *USED_AT, *USED_AT, *sorted(RESUMING), "initialize", "stackTrace", "goto"]
-    command = choice.choice([*commands, *["disconnect"] * 4])
-    known = [told[key] for _, message in said for told, key in numbered_keys(message)] or [1]
-    arguments = {
-        key: choice.choice([choice.choice(known), choice.choice(ODD_NUMBERS)])
-        for key in ("frameId", "variablesReference")
-        if choice.randrange(8)
-    }
-    # It is far from all other numbers.
-    seq = 10**6 + choice.randrange(10**6)
-    side = choice.choice(">>>>>><")
-    place = choice.randrange(len(said) + 1)
-    message = {"seq": seq, "type": "request", "command": command}
-    said.insert(place, [side, {**message, "arguments": arguments} if choice.randrange(8) else message])
-    if choice.randrange(3):
-        given = [{"id": number, "variablesReference": number} for number in choice.sample(ODD_NUMBERS, choice.randrange(4))]
-        body = {"stackFrames": given, "scopes": given, "variables": given, "variablesReference": choice.choice(ODD_NUMBERS)}
-        body = {**body, **flags(choice)} if command == "initialize" else body
-        answer = {"seq": 0, "type": "response", "request_seq": seq, "success": choice.randrange(6) > 0, "command": command}
-        later = choice.randrange(place + 1, min(len(said), place + 6) + 1)
-        said.insert(later, ["<" if side == ">" else ">", {**answer, "body": body} if choice.randrange(8) else answer])
+    command = choice.choice([*GATES, *sorted(RESUMING), "initialize", "stackTrace", "goto", "disconnect"])
+    arguments = {key: choice.choice(ODD_NUMBERS) for key in ("frameId", "variablesReference") if choice.randrange(4) == 0}
+    lines = exchange(choice, command, flags(choice) if command == "initialize" else None, choice.choice([None, arguments]))
+    if choice.randrange(5) == 0:
+        lines = [("<" if side == ">" else ">", message) for side, message in lines]
+    put(choice, said, *lines[: choice.choice([1, 2, 2])])
+
+
+def put_end(choice, said):
+    """The end after some line, and one message more."""
+    del said[choice.randrange(min(len(said), 2), len(said) + 1) :]
+    more = [ask(choice, "threads"), event("output"), {"seq": 0, "type": "x"}, exchange(choice, "threads")[1][1]]
+    said += [list(line) for line in exchange(choice, "disconnect")]
+    said.append([choice.choice("<>>"), choice.choice(more)])
+
+
+def resumption(choice):
+    """What ends the life of references; where it fails, or is of the other side, it does not."""
+    if choice.randrange(2):
+        return exchange(choice, choice.choice(sorted(RESUMING)))
+    return [(choice.choice("<<<>"), event(choice.choice(["continued", "exited", "terminated", "stopped"])))]
+
+
+def use(choice, kind, number):
+    """A request that names a reference, mostly as what it is."""
+    commands = [command for command, (_, its_kind) in USED_AT.items() if its_kind == kind or choice.randrange(8) == 0]
+    command = choice.choice(commands)
+    return choice.choice(">>>>>>>>>>>><"), ask(choice, command, {USED_AT[command][0]: number})
+
+
+GIVERS = {
+    "stackTrace": lambda number: ("frame", {"stackFrames": [{"id": number}, {"id": 77}]}),
+    "scopes": lambda number: ("variables", {"scopes": [{}, {"variablesReference": number}]}),
+    "variables": lambda number: ("variables", {"variables": [{"variablesReference": 0}, {"variablesReference": number}]}),
+    "evaluate": lambda number: ("variables", {"variablesReference": number}),
+    "setVariable": lambda number: ("variables", {"variablesReference": number}),
+}
+
+
+def put_reference(choice, said):
+    """A reference that is given, perhaps a resumption, and a request that names it, or another one."""
+    number = choice.choice([*ODD_NUMBERS, 500, 501, 502, 503, 504, 505])
+    command = choice.choice(sorted(GIVERS))
+    kind, body = GIVERS[command](number)
+    between = choice.choice([[], resumption(choice)])
+    used = number if choice.randrange(8) or not isinstance(number, int) else number + 1
+    put(choice, said, *exchange(choice, command, body), *between, use(choice, kind, used))
+
+
+def put_use(choice, said):
+    """A request that names what was given earlier: it may be of another stop by now."""
+    given = [(kind, number) for side, message in said for kind, number in given_by(side, message)]
+    if given:
+        put(choice, said, *choice.choice([[], [], resumption(choice)]), use(choice, *choice.choice(given)))
+
+
+def given_by(side, message):
+    told = {key: message.get(key) for key in ("type", "command", "success", "body")}
+    return slow_check.given(slow_check.Message(0, side, 0, **told))
+
+
+def same_number(choice, said):
+    """A request with the number of an earlier one of its side, which may wait."""
+    places = [k for k, (side, message) in enumerate(said) if side == ">" and message["type"] == "request"]
+    if len(places) > 1:
+        k = choice.randrange(1, len(places))
+        said[places[k]][1]["seq"] = said[places[k - 1]][1]["seq"]
+
+
+def allow_all(said):
+    """Capabilities that hide no other rule."""
+    for _, message in said:
+        if message.get("command") == "initialize" and isinstance(message.get("body"), dict):
+            message["body"].update({flag: True for flag in FLAGS})
 
 
 CHANGES = [drop, swap, move, repeat, other_side, other_seq, other_request_seq, other_command, other_success]
-CHANGES += [other_reference] * 3 + [other_flag, put_other] + [put_event] * 5 + [put_request] * 9
+CHANGES += [other_reference] * 2 + [put_other] + [put_event] * 3 + [put_request] * 4 + [put_offer] * 4
+CHANGES += [put_reference] * 9 + [put_use] * 6 + [put_end] * 2
 
 
 def numbered_anew(said):
@@ -290,11 +376,15 @@ def broken_text(choice, text):
 
 def edited(choice, transcript):
     said = [[line[:1].decode(), json.loads(line[2:])] for line in transcript.splitlines()]
+    if choice.randrange(2):
+        allow_all(said)
     for _ in range(choice.choice([1, 1, 1, 2, 3])):
         choice.choice(CHANGES)(choice, said)
         said = said or [[">", {"seq": 1, "type": "x"}]]
     if choice.randrange(4):
         numbered_anew(said)
+    if choice.randrange(12) == 0:
+        same_number(choice, said)
     text = text_of(said)
     return broken_text(choice, text) if choice.randrange(12) == 0 else text
 
@@ -309,7 +399,8 @@ def kind_of(verdict):
 
 
 class Trial:
-    def __init__(self):
+    def __init__(self, asks_drive):
+        self.asks_drive = asks_drive
         self.wrong = []
         self.counts = collections.Counter()
         self.drives = collections.Counter()
@@ -336,8 +427,9 @@ class Trial:
         script, limits = random_script(choice, recording)
         words = [word for name, value in limits.items() for word in ("--" + name.replace("_", "-"), str(value))]
         wanted = drive_of(recording, script, **limits)
-        got = run(with_files("drive", path, script, *words))
         self.drives[wanted[2].decode().split(" at ")[0].strip() or "done"] += 1
+        # Before the program has `drive`, the model alone makes the transcripts.
+        got = run(with_files("drive", path, script, *words)) if self.asks_drive else wanted
         if got != wanted:
             self.keep(f"{seed}: drive {os.path.basename(path)} {' '.join(words)}", script, got, wanted)
         if wanted[0] or not wanted[1]:
@@ -345,16 +437,14 @@ class Trial:
         if self.compare(f"{seed}: legal", wanted[1])[0]:
             self.wrong.append(f"{seed}: what `drive` makes is not legal")
         for place in range(EDITS):
-            text = edited(choice, wanted[1])
-            for words in ((), ("--any-seq",)):
-                self.compare(f"{seed}: edit {place} {' '.join(words)}", text, words)
+            words = choice.choice([(), ("--any-seq",)])
+            self.compare(f"{seed}: edit {place} {' '.join(words)}", edited(choice, wanted[1]), words)
 
 
 def random_transcripts(count=COUNT):
-    # Both are asked, so that each that is missing is told.
-    if [command for command in ("drive", "check") if not is_known(command)]:
+    if not is_known("check"):
         return
-    trial = Trial()
+    trial = Trial(run(["drive", "--help"])[0] == 0)
     for seed in range(count):
         trial.script(seed)
     for name, counts in (("drive", trial.drives), ("check", trial.counts)):

@@ -1,0 +1,714 @@
+"""The tools `check` and `drive` by worked cases, as a group of scripts/try-program. Expected texts are written out by hand."""
+import json
+import os
+import subprocess
+
+from drive_model import drive_of
+from trial import CAPABILITIES, DAP, FOLDER, HERE, RECORDING, expect, expect_in, frame, recording_of, run, split
+from try_transcripts import is_known, with_files
+
+LEGAL = (0, b"legal\n", b"")
+MAX_FILE = 67108864
+
+
+def found(line, rule):
+    return 3, b"line %d rule %d\n" % (line, rule), b""
+
+
+def refused(text, status=3):
+    return status, b"", b"dap: " + text.encode() + b"\n"
+
+
+def req(seq, command, arguments=None):
+    told = {"seq": seq, "type": "request", "command": command}
+    return "> " + json.dumps(told if arguments is None else {**told, "arguments": arguments})
+
+
+def answer(seq, request_seq, command, body=None, success=True):
+    told = {"seq": seq, "type": "response", "request_seq": request_seq, "success": success, "command": command}
+    return "< " + json.dumps(told if body is None else {**told, "body": body})
+
+
+def ok(seq, command, body=None):
+    """The success of the request that has the same seq."""
+    return answer(seq, seq, command, body)
+
+
+def event(seq, name, body=None):
+    told = {"seq": seq, "type": "event", "event": name}
+    return "< " + json.dumps(told if body is None else {**told, "body": body})
+
+
+def of_other(line):
+    """The same message, written by the other side."""
+    return ("<" if line[0] == ">" else ">") + line[1:]
+
+
+ASK = req(1, "initialize")
+OPEN = [ASK, ok(1, "initialize")]
+STACK = {"stackFrames": [{"id": 1}, {"id": 2}]}
+FRAME = {"frameId": 1}
+EVERY_FLAG = {"supportsStepBack": True, "supportsSetVariable": True, "supportsCompletionsRequest": True}
+
+
+def opened(flags):
+    return [ASK, ok(1, "initialize", flags)]
+
+
+def stopped_at():
+    """A session in which frames 1 and 2 are known: four lines, two of each side."""
+    return [*opened(EVERY_FLAG), req(2, "stackTrace", {"threadId": 1}), ok(2, "stackTrace", STACK)]
+
+
+def check(text, *words):
+    """What the program says of a text, or of lines."""
+    return run(with_files("check", text if isinstance(text, bytes) else "\n".join(text).encode(), *words))
+
+
+# Of each its lines, and what is found with rule 1 and without it, if that differs.
+NUMBERS = [
+    ("an answer with the seq 0", [ASK, answer(0, 1, "initialize")], found(2, 1), LEGAL),
+    ("a first seq of 0", [req(0, "initialize")], found(1, 1), LEGAL),
+    ("a number left out", [*OPEN, req(3, "threads")], found(3, 1), LEGAL),
+    ("a number that comes again", [*OPEN, req(1, "threads")], found(3, 1), LEGAL),
+    ("the sides count apart", [event(1, "output"), event(2, "output"), ASK, answer(3, 1, "initialize")], LEGAL, None),
+    ("messages of other types count", ['> {"seq":1,"type":"x"}', req(1, "initialize")], found(2, 1), LEGAL),
+    ("rule 1 before rule 3", [req(2, "threads")], found(1, 1), found(1, 3)),
+    ("the least line first", [req(1, "threads"), answer(5, 9, "x")], found(1, 3), None),
+]
+ANSWERS = [
+    ("an answer to nothing", [ok(1, "initialize")], found(1, 2), None),
+    ("an answer before its request", [ok(1, "initialize"), ASK], found(1, 2), None),
+    ("a second answer", [*OPEN, answer(2, 1, "initialize")], found(3, 2), None),
+    (
+        "an answer to a failed request",
+        [ASK, answer(1, 1, "initialize", success=False), answer(2, 1, "initialize")],
+        found(3, 2),
+        None,
+    ),
+    ("an answer with another command", [ASK, ok(1, "threads")], found(2, 2), None),
+    ("an answer with an empty command", [ASK, ok(1, "")], found(2, 2), None),
+    ("an answer to the own side", [ASK, of_other(answer(2, 1, "initialize"))], found(2, 2), None),
+    (
+        "answers in another order",
+        [*OPEN, req(2, "threads"), req(3, "pause"), answer(2, 3, "pause"), answer(3, 2, "threads")],
+        LEGAL,
+        None,
+    ),
+    ("no answer at all", [*OPEN, req(2, "threads"), req(3, "threads")], LEGAL, None),
+    ("the adapter asks", [of_other(req(1, "runInTerminal")), of_other(ok(1, "runInTerminal"))], LEGAL, None),
+    (
+        "the adapter asks, and is answered twice",
+        [of_other(req(1, "x")), of_other(ok(1, "x")), of_other(answer(2, 1, "x"))],
+        found(3, 2),
+        None,
+    ),
+    ("a number that waits", [*OPEN, req(7, "threads"), req(7, "pause")], found(3, 1), found(4, 2)),
+    ("the same number on both sides", [*OPEN, req(2, "threads"), of_other(req(2, "x")), answer(3, 2, "threads")], LEGAL, None),
+    (
+        "a number that was answered",
+        [*OPEN, req(1, "threads"), answer(2, 1, "threads"), req(1, "pause"), answer(3, 1, "pause")],
+        found(3, 1),
+        LEGAL,
+    ),
+    (
+        "a number that was answered, and the old command",
+        [*OPEN, req(1, "threads"), answer(2, 1, "threads"), req(1, "pause"), answer(3, 1, "threads")],
+        found(3, 1),
+        found(6, 2),
+    ),
+]
+FIRST_REQUESTS = [
+    ("another first request", [req(1, "threads")], found(1, 3), None),
+    ("a second request too early", [ASK, req(2, "threads")], found(2, 3), None),
+    (
+        "a second request after another answer",
+        [of_other(req(1, "x")), ASK, of_other(answer(2, 1, "x")), req(3, "threads")],
+        found(4, 3),
+        None,
+    ),
+    ("a second request after a failure", [ASK, answer(1, 1, "initialize", success=False), req(2, "threads")], LEGAL, None),
+    ("the adapter's first request is free", [of_other(req(1, "threads"))], LEGAL, None),
+]
+INITIALIZED = [
+    ("`initialized` before the answer", [ASK, event(1, "initialized")], found(2, 4), None),
+    ("`initialized` before all", [event(1, "initialized")], found(1, 4), None),
+    (
+        "`initialized` after a failure",
+        [ASK, answer(1, 1, "initialize", success=False), event(2, "initialized")],
+        found(3, 4),
+        None,
+    ),
+    ("`initialized` twice", [*OPEN, event(2, "initialized"), event(3, "initialized")], LEGAL, None),
+    ("`initialized` from the client", [of_other(event(1, "initialized"))], LEGAL, None),
+    (
+        "`initialized` after the client's answer",
+        [of_other(req(1, "initialize")), of_other(ok(1, "initialize")), event(2, "initialized")],
+        found(3, 4),
+        None,
+    ),
+]
+TERMINATE = {"supportsTerminateRequest": True}
+
+
+# Each command that needs a capability, and which.
+NEEDS = {
+    "configurationDone": "supportsConfigurationDoneRequest",
+    "terminate": "supportsTerminateRequest",
+    "cancel": "supportsCancelRequest",
+    "setFunctionBreakpoints": "supportsFunctionBreakpoints",
+    "stepBack": "supportsStepBack",
+    "reverseContinue": "supportsStepBack",
+    "loadedSources": "supportsLoadedSourcesRequest",
+    "setVariable": "supportsSetVariable",
+    "restart": "supportsRestartRequest",
+    "modules": "supportsModulesRequest",
+    "exceptionInfo": "supportsExceptionInfoRequest",
+    "breakpointLocations": "supportsBreakpointLocationsRequest",
+    "completions": "supportsCompletionsRequest",
+}
+FREE = "attach continue disconnect evaluate goto launch next pause scopes setBreakpoints setExceptionBreakpoints source"
+FREE += " stackTrace stepIn stepOut threads variables"
+
+
+def changed(value, flag="supportsTerminateRequest"):
+    return {"capabilities": {flag: value}}
+
+
+GATED = [
+    *[
+        (f"`{command}` and its capability, {is_on}", [*opened({flag: is_on}), req(2, command)], wanted, None)
+        for command, flag in NEEDS.items()
+        for is_on, wanted in ((True, LEGAL), (False, found(3, 5)))
+    ],
+    *[
+        (
+            f"`{command}` with no other capability",
+            [*opened({other: True for other in NEEDS.values() if other != flag}), req(2, command)],
+            found(3, 5),
+            None,
+        )
+        for command, flag in NEEDS.items()
+    ],
+    *[(f"`{command}` needs no capability", [*OPEN, req(2, command)], LEGAL, None) for command in FREE.split()],
+    ("no capability", [*OPEN, req(2, "terminate")], found(3, 5), None),
+    ("a capability", [*opened(TERMINATE), req(2, "terminate")], LEGAL, None),
+    ("a capability of `false`", [*opened({"supportsTerminateRequest": False}), req(2, "terminate")], found(3, 5), None),
+    ("a capability of 1", [*opened({"supportsTerminateRequest": 1}), req(2, "terminate")], found(3, 5), None),
+    ("a capability of a failure", [ASK, answer(1, 1, "initialize", TERMINATE, False), req(2, "terminate")], found(3, 5), None),
+    ("a capability that an event gives", [*OPEN, event(2, "capabilities", changed(True)), req(2, "terminate")], LEGAL, None),
+    (
+        "a capability that an event takes",
+        [*opened(TERMINATE), event(2, "capabilities", changed(False)), req(2, "terminate")],
+        found(4, 5),
+        None,
+    ),
+    (
+        "a capability that an event names with `null`",
+        [*opened(TERMINATE), event(2, "capabilities", changed(None)), req(2, "terminate")],
+        found(4, 5),
+        None,
+    ),
+    (
+        "events without the capability, or without any",
+        [
+            *opened(TERMINATE),
+            event(2, "capabilities", changed(False, "supportsStepBack")),
+            event(3, "capabilities"),
+            event(4, "capabilities", {"capabilities": None}),
+            event(5, "capabilities", {"supportsTerminateRequest": False}),
+            of_other(event(2, "capabilities", changed(False))),
+            req(3, "terminate"),
+        ],
+        LEGAL,
+        None,
+    ),
+    (
+        "an event before the answer changes nothing",
+        [ASK, event(1, "capabilities", changed(True)), answer(2, 1, "initialize"), req(2, "terminate")],
+        found(4, 5),
+        None,
+    ),
+    (
+        "an event after a failure changes nothing",
+        [ASK, answer(1, 1, "initialize", success=False), event(2, "capabilities", changed(True)), req(2, "terminate")],
+        found(4, 5),
+        None,
+    ),
+    (
+        "the client's answer to initialize offers nothing",
+        [*OPEN, of_other(req(2, "initialize")), of_other(answer(2, 2, "initialize", TERMINATE)), req(3, "terminate")],
+        found(5, 5),
+        None,
+    ),
+    (
+        "a second initialize replaces all",
+        [*opened(TERMINATE), req(2, "initialize"), ok(2, "initialize", {}), req(3, "terminate")],
+        found(5, 5),
+        None,
+    ),
+    (
+        "a second initialize that fails replaces nothing",
+        [*opened(TERMINATE), req(2, "initialize"), answer(2, 2, "initialize", {}, False), req(3, "terminate")],
+        LEGAL,
+        None,
+    ),
+    ("both commands of one flag", [*opened(EVERY_FLAG), req(2, "stepBack"), req(3, "reverseContinue")], LEGAL, None),
+    ("a command that is not known", [*OPEN, req(2, "goto"), req(3, "Terminate")], LEGAL, None),
+    ("the adapter needs no capability", [*OPEN, of_other(req(2, "terminate"))], LEGAL, None),
+]
+# What ends the life of references, or does not: two lines of each.
+RESUMES = [
+    *[
+        (f"`{command}`", [req(3, command), ok(3, command)])
+        for command in ("continue", "next", "stepIn", "stepOut", "stepBack", "reverseContinue")
+    ],
+    *[(f"the event `{name}`", [event(3, name), req(3, "threads")]) for name in ("continued", "exited", "terminated")],
+]
+RESUMES_NOT = [
+    ("a `next` that fails", [req(3, "next"), answer(3, 3, "next", success=False)]),
+    ("the event `stopped`, and a `next` under way", [event(3, "stopped"), req(3, "next")]),
+    ("the client's `continued`, and the adapter's `next`", [of_other(event(3, "continued")), of_other(req(3, "next"))]),
+    ("`pause`", [req(3, "pause"), ok(3, "pause")]),
+    ("a `next` that the client answers", [of_other(req(3, "next")), of_other(ok(3, "next"))]),
+]
+
+
+def asked(command, key, number):
+    return req(3, command, {key: number})
+
+
+REFERENCES = [
+    ("a frame that was not given", [*OPEN, req(2, "scopes", FRAME)], found(3, 6), None),
+    *[
+        (f"frame {frame}, at `{command}`", [*stopped_at(), asked(command, "frameId", frame)], wanted, None)
+        for command in ("scopes", "evaluate", "completions")
+        for frame, wanted in ((1, LEGAL), (2, LEGAL), (3, found(5, 6)))
+    ],
+    *[
+        (f"a frame in place of variables, at `{c}`", [*stopped_at(), asked(c, "variablesReference", 1)], found(5, 6), None)
+        for c in ("variables", "setVariable")
+    ],
+    *[
+        (f"the number {n}", [*stopped_at(), asked("scopes", "frameId", n)], found(5, 6), None)
+        for n in (-1, 0, 2**31, 2**64 - 1, -(2**63))
+    ],
+    *[
+        (f"no whole number: {n!r}", [*stopped_at(), asked("scopes", "frameId", n)], LEGAL, None)
+        for n in (1.0, 3.5, -0.0, 2**64, "3", None, [3], True)
+    ],
+    ("no arguments", [*stopped_at(), req(3, "scopes"), req(4, "evaluate", {}), req(5, "variables", [3])], LEGAL, None),
+    ("a key of another command", [*stopped_at(), req(3, "stackTrace", {"frameId": 9, "variablesReference": 9})], LEGAL, None),
+    ("variables 0 are none", [*stopped_at(), asked("variables", "variablesReference", 0)], found(5, 6), None),
+    ("the adapter's numbers are free", [*stopped_at(), of_other(req(3, "scopes", {"frameId": 9}))], LEGAL, None),
+    (
+        "a frame 0, and the greatest",
+        [*opened(None), req(2, "stackTrace"), ok(2, "stackTrace", {"stackFrames": [{"id": 0}, {"id": 2147483647}, 7, {}]})]
+        + [req(3, "scopes", {"frameId": 0}), req(4, "scopes", {"frameId": 2147483647})],
+        LEGAL,
+        None,
+    ),
+    (
+        "a frame that is too great is not given",
+        [*opened(None), req(2, "stackTrace"), ok(2, "stackTrace", {"stackFrames": [{"id": 2147483648}]})]
+        + [req(3, "scopes", {"frameId": 2147483648})],
+        found(5, 6),
+        None,
+    ),
+    (
+        "a failure gives nothing",
+        [*OPEN, req(2, "stackTrace"), answer(2, 2, "stackTrace", STACK, False), req(3, "scopes", FRAME)],
+        found(5, 6),
+        None,
+    ),
+    (
+        "a 0 gives nothing",
+        [*stopped_at(), req(3, "evaluate"), ok(3, "evaluate", {"variablesReference": 0})]
+        + [req(4, "variables", {"variablesReference": 0})],
+        found(7, 6),
+        None,
+    ),
+    (
+        "variables in place of a frame",
+        [*stopped_at(), req(3, "scopes"), ok(3, "scopes", {"scopes": [{"variablesReference": 5}]})]
+        + [req(4, "scopes", {"frameId": 5})],
+        found(7, 6),
+        None,
+    ),
+    (
+        "one number in both kinds",
+        [*stopped_at(), req(3, "scopes"), ok(3, "scopes", {"scopes": [{"variablesReference": 1}]})]
+        + [req(4, "scopes", FRAME), req(5, "variables", {"variablesReference": 1})],
+        LEGAL,
+        None,
+    ),
+    (
+        "the client's answer gives nothing",
+        [*OPEN, of_other(req(2, "stackTrace")), of_other(answer(2, 2, "stackTrace", STACK)), req(3, "scopes", FRAME)],
+        found(5, 6),
+        None,
+    ),
+    *[
+        (
+            f"what `{command}` gives",
+            [*stopped_at(), req(3, command), ok(3, command, body), req(4, "variables", {"variablesReference": 5})],
+            LEGAL,
+            None,
+        )
+        for command, body in [
+            ("scopes", {"scopes": [{"variablesReference": 5}]}),
+            ("variables", {"variables": [{"variablesReference": 5}]}),
+            ("evaluate", {"variablesReference": 5}),
+            ("setVariable", {"variablesReference": 5}),
+        ]
+    ],
+    *[
+        (f"a frame after {name}", [*stopped_at(), *lines, req(4, "scopes", FRAME)], wanted, None)
+        for all_lines, wanted in ((RESUMES, found(7, 6)), (RESUMES_NOT, LEGAL))
+        for name, lines in all_lines
+    ],
+    (
+        "given again after a step",
+        [*stopped_at(), req(3, "next"), ok(3, "next"), req(4, "stackTrace"), ok(4, "stackTrace", STACK)]
+        + [req(5, "scopes", FRAME)],
+        LEGAL,
+        None,
+    ),
+]
+LEFT = [*OPEN, req(2, "disconnect"), ok(2, "disconnect")]
+DISCONNECTED = [
+    ("an event after the end", [*LEFT, event(3, "output")], found(5, 7), None),
+    (
+        "an answer after the end",
+        [*OPEN, req(2, "threads"), req(3, "disconnect"), answer(2, 3, "disconnect"), answer(3, 2, "threads")],
+        found(6, 7),
+        None,
+    ),
+    ("a request after the end", [*LEFT, req(3, "threads")], found(5, 7), None),
+    ("a request of the adapter after the end", [*LEFT, of_other(req(3, "x"))], found(5, 7), None),
+    ("another message of the adapter after the end", [*LEFT, '< {"seq":3,"type":"x"}'], found(5, 7), None),
+    (
+        "a request under way at the end",
+        [*OPEN, req(2, "disconnect"), req(3, "threads"), answer(2, 2, "disconnect")],
+        LEGAL,
+        None,
+    ),
+    ("the client's events and others after the end", [*LEFT, of_other(event(3, "x")), '> {"seq":4,"type":"x"}'], LEGAL, None),
+    (
+        "the client's answer after the end",
+        [*OPEN, of_other(req(2, "x")), req(2, "disconnect"), answer(3, 2, "disconnect"), of_other(answer(3, 2, "x"))],
+        LEGAL,
+        None,
+    ),
+    (
+        "a disconnect that the client answers",
+        [*OPEN, of_other(req(2, "disconnect")), of_other(ok(2, "disconnect")), req(3, "threads"), event(3, "output")],
+        LEGAL,
+        None,
+    ),
+    (
+        "a disconnect that fails",
+        [*OPEN, req(2, "disconnect"), answer(2, 2, "disconnect", success=False), event(3, "output")],
+        LEGAL,
+        None,
+    ),
+]
+RULES = [*NUMBERS, *ANSWERS, *FIRST_REQUESTS, *INITIALIZED, *GATED, *REFERENCES, *DISCONNECTED]
+
+
+def transcripts():
+    if not is_known("check"):
+        return
+    expect("check: no bytes", check(b""), LEGAL)
+    for name, lines, wanted, with_any in RULES:
+        expect(f"check: {name}", check(lines), wanted)
+        expect(f"check: {name}: any seq", check(lines, "--any-seq"), wanted if with_any is None else with_any)
+    check_lines()
+    check_bodies()
+    check_files()
+    check_examples()
+
+
+def check_lines():
+    open_text = "\n".join(OPEN).encode()
+    first = ASK.encode()
+    other = req(1, "threads").encode()
+    for name, text, wanted in [
+        ("a last line without an end", open_text, LEGAL),
+        ("a last line with an end", open_text + b"\n", LEGAL),
+        ("CR LF", open_text.replace(b"\n", b"\r\n") + b"\r\n", LEGAL),
+        ("a CR after the last body is a blank", open_text + b"\r", LEGAL),
+        ("two CR before LF", first + b"\r\r\n", LEGAL),
+        ("a CR alone at the end", open_text + b"\n\r", refused("BadLine at line 3")),
+        ("two CR alone", b"\r\r\n", refused("BadLine at line 1")),
+        ("empty lines alone", b"\n\r\n\n", LEGAL),
+        ("empty lines are counted", b"\n\r\n" + other, found(3, 3)),
+        ("empty lines are counted between", open_text.replace(b"\n", b"\n\n\n") + b"\n\n" + other, found(6, 1)),
+        ("a blank", b" \n", refused("BadLine at line 1")),
+        ("a word", open_text + b"\n\nx\n", refused("BadLine at line 4")),
+        ("a prefix without a blank", b">{}", refused("BadLine at line 1")),
+        ("half a prefix", b"<", refused("BadLine at line 1")),
+        ("a blank before the prefix", b" " + first, refused("BadLine at line 1")),
+        ("a byte order mark", b"\xef\xbb\xbf" + first, refused("BadLine at line 1")),
+        ("a tab in the prefix", b">\t{}", refused("BadLine at line 1")),
+        ("no body", b"> ", refused("NotJson at line 1")),
+        ("no body, and CR LF", b"< \r\n", refused("NotJson at line 1")),
+        ("blanks around a body", b">   " + first[2:] + b"\t \r", LEGAL),
+        ("what is no line beats what is found", ok(1, "initialize").encode() + b"\nx", refused("BadLine at line 2")),
+        ("what is no message beats what is found", other + b"\n> {}", refused("BadSeq at line 2")),
+        ("the first that is no line", b"x\n> []", refused("BadLine at line 1")),
+        ("the first that is no message", b"> []\nx", refused("NotObject at line 1")),
+    ]:
+        expect(f"check: {name}", check(text), wanted)
+        if wanted[1] != found(6, 1)[1]:
+            expect(f"check: {name}: any seq", check(text, "--any-seq"), wanted)
+
+
+def check_bodies():
+    deep = b'< {"seq":1,"type":"event","event":"output","body":%s}'
+    for body, name in [
+        (b"{", "NotJson"),
+        (b'{"seq":1,"type":"x","a":"\xff"}', "NotJson"),
+        (b'{"seq":1,"type":"x","a":"\\ud800"}', "NotJson"),
+        (b'{"seq":1,"type":"x","a":NaN}', "NotJson"),
+        (b'{"seq":1,"type":"x","a":1e999}', "NotJson"),
+        (b'{"seq":1,"type":"x","a":"\t"}', "NotJson"),
+        (b'{"seq":1,"type":"x"} {}', "NotJson"),
+        (b'{"seq":1,"type":"x","a":' + b"[" * 127 + b"]" * 127 + b"}", "NotJson"),
+        (b"[]", "NotObject"),
+        (b"null", "NotObject"),
+        (b'{"seq":1.0}', "BadSeq"),
+        (b'{"seq":-0}', "BadSeq"),
+        (b'{"seq":9007199254740992,"type":"x"}', "BadSeq"),
+        (b'{"seq":1}', "BadType"),
+        (b'{"seq":1,"type":"request"}', "BadCommand"),
+        (b'{"seq":1,"type":"request","command":"' + b"c" * 65 + b'"}', "BadCommand"),
+        (b'{"seq":1,"type":"request","command":"' + b"\xc3\xa9" * 33 + b'"}', "BadCommand"),
+        (b'{"seq":1,"type":"response","command":"x"}', "BadRequestSeq"),
+        (b'{"seq":1,"type":"response","command":"x","request_seq":1,"success":null}', "BadSuccess"),
+        (b'{"seq":1,"type":"event","event":null}', "BadEvent"),
+        (b'{"seq":1,"type":"response","command":"x","request_seq":1,"success":true,"message":1}', "BadMessage"),
+    ]:
+        for side in (b"> ", b"< "):
+            expect(f"check: {name}: {body[:60]}", check(b"\n" + side + body), refused(f"{name} at line 2"))
+    for name, text in [
+        ("nested as deep as may be", deep % (b"[" * 126 + b"]" * 126)),
+        ("a command of 64 bytes", ASK.encode() + b'\n< {"seq":1,"type":"request","command":"' + b"\xc3\xa9" * 32 + b'"}'),
+        ("the last of two equal keys", ASK.encode().replace(b'"seq": 1', b'"seq":"x","seq":1')),
+        ("`null` counts as absent", ASK.encode()[:-1] + b',"arguments":null,"body":1,"message":1}'),
+        ("a line of many bytes", deep % (b'"' + b"a" * 20000000 + b'"')),
+        ("many lines", b"".join(event(k + 1, "output").encode() + b"\n" for k in range(50000))),
+    ]:
+        expect(f"check: {name}", check(text), LEGAL)
+
+
+def check_files():
+    long = os.path.join(FOLDER, "long")
+    with open(long, "wb") as file:
+        file.truncate(MAX_FILE + 1)
+    expect("check: a file too long", run(["check", long]), refused("FileTooLong"))
+    os.truncate(long, MAX_FILE)
+    expect("check: a file as long as may be", run(["check", long]), refused("BadLine at line 1"))
+    os.remove(long)
+    expect("check: a device without end", run(["check", "/dev/zero"]), refused("FileTooLong"))
+    expect("check: a missing file", run(["check", os.path.join(FOLDER, "missing")]), refused("Read", 5))
+    expect("check: a folder", run(["check", FOLDER]), refused("Read", 5))
+    expect("check: a pipe", run(["check", "/dev/stdin"], "\n".join(OPEN).encode()), LEGAL)
+    words = with_files("check", "--any-seq", req(0, "initialize").encode())
+    expect("check: the option before the file", run(words), LEGAL)
+    for words, part in [(["check"], b"<FILE>"), (["check", "x", "y"], b"unexpected argument 'y'")]:
+        status, out, err = run(words)
+        expect(f"usage of {' '.join(words)}", (status, out), (2, b""))
+        expect_in(f"usage of {' '.join(words)}: message", err, part)
+
+
+def check_examples():
+    """The transcripts of real debuggers, and those that recorded streams are merged into."""
+    for name, wanted, with_any in [
+        ("debugpy", LEGAL, LEGAL),
+        ("delve", found(2, 1), found(6, 2)),
+    ]:
+        path = os.path.join(HERE, "examples", "transcripts", name + ".txt")
+        expect(f"check: examples/transcripts/{name}.txt", run(["check", path]), wanted)
+        expect(f"check: examples/transcripts/{name}.txt: any seq", run(["check", path, "--any-seq"]), with_any)
+    for up, down, wanted, with_any in [
+        ("editor-to-debugpy", "debugpy-to-editor", LEGAL, LEGAL),
+        # Delve and LLDB number nothing, and Ruby's debug writes number 29 before 28.
+        ("client-to-delve", "delve-to-client", found(2, 1), found(87, 7)),
+        ("client-to-lldb", "lldb-to-client", found(2, 1), LEGAL),
+        ("client-to-ruby", "ruby-to-client", found(52, 1), LEGAL),
+    ]:
+        streams = [os.path.join(HERE, "examples", "streams", name + ".dap") for name in (up, down)]
+        _, text, err = made("streams", *streams)
+        expect(f"transcripts streams: {down}", err, b"")
+        expect(f"transcripts streams: {down}: checked", check(text), wanted)
+        expect(f"transcripts streams: {down}: any seq", check(text, "--any-seq"), with_any)
+
+
+def made(*words, given=b""):
+    """What scripts/transcripts prints."""
+    words = [os.path.join(HERE, "scripts", "transcripts"), *words]
+    done = subprocess.run(words, input=given, capture_output=True, timeout=60)
+    return done.returncode, done.stdout, done.stderr
+
+
+LOGS = [
+    ("delve", '2026-01-01T00:00:00Z debug layer=dap [<- from client]{"a":1}\n', '> {"a":1}\n'),
+    (
+        "delve",
+        '2026-01-01T00:00:00Z debug layer=dap [-> to client]{"a":"}\\n{"}\nlayer=dap config: {\n"b": 2}\n',
+        '< {"a":"}\\n{"}\n',
+    ),
+    ("debugpy", 'D+00000.1: Client[1] --> {\n    "a": "b  c",\n    "d": [1, 2]\n}\n', '> {"a":"b  c","d":[1,2]}\n'),
+    ("debugpy", 'D+00000.1: /handling/\n   Client[1] <-- {"a": 1}\nD+00000.2: Server[1] <-- {"a": 2}\n', '< {"a": 1}\n'),
+    ("lldb", '--> \nContent-Length: 7\r\n\r\n{"a":1}\n<-- \nContent-Length: 7\r\n\r\n{"b":2}\n', '> {"a":1}\n< {"b":2}\n'),
+    ("cpptools", '1: (105) --> C (next-7): {"a":1}\n1: (107) <-- E (stopped): {"b":2}\n', '> {"a":1}\n< {"b":2}\n'),
+    ("tracker", '> {\n  "a": 1\n}\nhello > {\n< {"b":2}\n', '> {"a":1}\n< {"b":2}\n'),
+]
+
+
+def made_transcripts():
+    """What scripts/transcripts makes of logs, of streams in an order that is told, and of a session that it watches."""
+    for name, log, wanted in LOGS:
+        got = made(*with_files("log", name, log.encode()))
+        expect(f"transcripts log {name}: {log[:50]!r}", got, (0, wanted.encode(), b""))
+    ups = [ASK, req(2, "threads"), req(3, "pause"), of_other(ok(9, "x")), req(4, "disconnect")]
+    downs = [event(1, "output"), ok(1, "initialize"), of_other(req(9, "x"))]
+    downs += [ok(3, "pause"), event(4, "output"), ok(2, "threads")]
+    merged = [*downs[:1], ups[0], *downs[1:3], *ups[1:3], *downs[3:], *ups[3:]]
+    streams = [b"".join(frame(line[2:].encode()) for line in lines) for lines in (ups, downs)]
+    wanted = "".join(f"{line}\n" for line in merged).encode()
+    expect("transcripts streams", made(*with_files("streams", *streams)), (0, wanted, b""))
+    with open(os.path.join(HERE, "examples", "session.dap"), "rb") as file:
+        sent = file.read()
+    with open(os.path.join(HERE, "examples", "session.out"), "rb") as file:
+        answered = file.read()
+    watched = os.path.join(FOLDER, "watched")
+    relayed = made("relay", watched, "--", DAP, "serve", os.path.join(HERE, "examples", "a.json"), given=sent)
+    expect("transcripts relay: the bytes", relayed, (0, answered, b""))
+    with open(watched, "rb") as file:
+        lines = file.read().splitlines()
+    for side, stream in ((b">", sent), (b"<", answered)):
+        bodies = [body for _, body in split(stream)]
+        expect(f"transcripts relay: the lines {side}", [line[2:] for line in lines if line[:1] == side], bodies)
+
+
+ANSWERED = b"< " + CAPABILITIES + b'\n< {"event":"initialized","seq":2,"type":"event"}\n'
+BEGUN = b'> {"arguments":{"adapterID":"rec"},"command":"initialize","seq":1,"type":"request"}\n' + ANSWERED
+ENDED = BEGUN + (
+    b'> {"command":"disconnect","seq":2,"type":"request"}\n'
+    b'< {"command":"disconnect","request_seq":2,"seq":3,"success":true,"type":"response"}\n'
+)
+CANCELLED = BEGUN + (
+    b'> {"command":"threads","seq":2,"type":"request"}\n'
+    b'> {"command":"threads","seq":3,"type":"request"}\n'
+    b'> {"arguments":{"requestId":2},"command":"cancel","seq":4,"type":"request"}\n'
+    b'< {"body":{"error":{"format":"The request was cancelled.","id":1012}},"command":"threads","message":"cancelled",'
+    b'"request_seq":2,"seq":3,"success":false,"type":"response"}\n'
+    b'< {"command":"cancel","request_seq":4,"seq":4,"success":true,"type":"response"}\n'
+    b'< {"body":{"threads":[]},"command":"threads","request_seq":3,"seq":5,"success":true,"type":"response"}\n'
+)
+BEGIN = 'send initialize {"adapterID":"rec"}\nrun\n'
+STOP = BEGIN + 'send launch\nsend configurationDone\nrun\nsend stackTrace {"threadId":1}\nrun\n'
+SCOPES = 'send scopes {"frameId":1}'
+NEXT = 'send next {"threadId":1}'
+
+
+def drive(script, *words):
+    return run(with_files("drive", RECORDING, script if isinstance(script, bytes) else script.encode(), *words))
+
+
+def drives():
+    if not is_known("drive"):
+        return
+    checks = is_known("check")
+    for name, script, wanted in [
+        ("no lines", "", b""),
+        ("to the end", BEGIN + "send disconnect\nrun\n", ENDED),
+        ("CR LF, empty lines and no last end", "\r\n" + BEGIN.replace("\n", "\r\n\n") + "send disconnect\r\n\nrun", ENDED),
+        ("a turn and polls", BEGIN.replace("run", "turn") + "poll\nturn\nsend disconnect\nturn\nturn\npoll", ENDED),
+        ("cancelled", BEGIN + 'send threads\nsend threads\nsend cancel {"requestId":2}\nrun\n', CANCELLED),
+        ("arguments that count for nothing", 'send initialize {"adapterID":"rec","x":1.5,"linesStartAt1":null}\nrun', BEGUN),
+    ]:
+        expect(f"drive: {name}", drive(script), (0, wanted, b""))
+        if checks:
+            expect(f"drive: {name}: is legal", check(wanted), LEGAL)
+    drive_faults()
+    drive_stopped(checks)
+    drive_files()
+
+
+def drive_faults():
+    for name, script, words, line in [
+        ("a word that is not known", "jump", (), "Script at line 1"),
+        ("empty lines are counted", "\n\r\n" + BEGIN + "jump", (), "Script at line 5"),
+        ("a blank after a word", "run ", (), "Script at line 1"),
+        ("a blank before a word", " run", (), "Script at line 1"),
+        ("another case", "Run", (), "Script at line 1"),
+        ("no command", "send", (), "Script at line 1"),
+        ("no command, and a blank", "send ", (), "Script at line 1"),
+        ("a command that is not known", "send jump {}", (), "Script at line 1"),
+        ("two blanks", "send  threads", (), "Script at line 1"),
+        ("a blank after the command", "send threads ", (), "Script at line 1"),
+        ("no JSON", "send threads {", (), "Script at line 1"),
+        ("no UTF-8", b"send threads \"\xff\"", (), "Script at line 1"),
+        ("a CR at the end", "run\r", (), "Script at line 1"),
+        ("a missing argument", "send next {}", (), "Call at line 1"),
+        ("no arguments", "send next", (), "Call at line 1"),
+        ("`null` as arguments", "send next null", (), "Call at line 1"),
+        ("a launch that is no object", "send launch []", (), "Call at line 1"),
+        ("a float in a launch", 'send launch {"a":[1.0]}', (), "Call at line 1"),
+        ("a launch nested 101 deep", 'send launch {"a":' + "[" * 100 + "]" * 100 + "}", (), "Call at line 1"),
+        ("a launch nested 100 deep", 'send launch {"a":' + "[" * 99 + "]" * 99 + "}", (), "WrongPhase at line 1"),
+        ("too early", "send threads", (), "WrongPhase at line 1"),
+        ("too early, after an answer", BEGIN + "send pause {\"threadId\":1}", (), "WrongPhase at line 3"),
+        ("not offered", BEGIN + "send restart", (), "NotSupported at line 3"),
+        ("after the end", BEGIN + "send disconnect\nsend threads", (), "Ended at line 4"),
+        ("full", BEGIN + "send threads\nsend threads\nsend threads", ("--max-requests", "2"), "Full at line 5"),
+        ("too large", f'send initialize {{"adapterID":"{"a" * 1024}"}}', ("--max-body", "1024"), "TooLarge at line 1"),
+        ("no number left for the client", BEGIN + "send threads\n" * 3, ("--max-seq", "3"), "SeqExhausted at line 5"),
+        ("no number left for an answer", BEGIN + "send threads\nrun\n" * 2, ("--max-seq", "3"), "Adapter"),
+        ("no number left for the adapter", "send initialize\nrun", ("--max-seq", "1"), "Adapter"),
+        ("a stop is left", STOP + f"{NEXT}\n{SCOPES}", (), "NotStopped at line 9"),
+        ("a stop is gone", STOP + f"{NEXT}\nrun\n{SCOPES}", (), "UnknownReference at line 10"),
+        ("a frame in place of variables", STOP + 'send variables {"variablesReference":1}', (), "UnknownReference at line 8"),
+    ]:
+        expect(f"drive: {name}", drive(script, *words), refused(line))
+
+
+def drive_stopped(checks):
+    """Each message of a session with a stop, as the model has it; what its first lines are is written out above."""
+    script = (STOP + f"{SCOPES}\nrun\n{NEXT}\nrun\nsend continue {{\"threadId\":1}}\nrun\nsend disconnect\nrun\n").encode()
+    wanted = drive_of(recording_of(RECORDING), script)
+    expect("drive: a session with a stop", drive(script), wanted)
+    expect("drive: its first lines", wanted[1][: len(BEGUN)], BEGUN)
+    if checks:
+        expect("drive: a session with a stop: is legal", check(wanted[1]), LEGAL)
+
+
+def drive_files():
+    script = BEGIN.encode()
+    missing = os.path.join(FOLDER, "missing")
+    for name, words, wanted in [
+        ("a recording that is none", with_files("drive", b"[]", script), refused("Recording")),
+        ("a recording that is no JSON", with_files("drive", b"{", script), refused("Recording")),
+        ("a recording with a bad key", with_files("drive", b"{}", script), refused("Recording")),
+        ("the recording before the script", with_files("drive", b"[]", b"jump"), refused("Recording")),
+        ("a missing recording", ["drive", missing, RECORDING], refused("Read", 5)),
+        ("a missing script", with_files("drive", b"[]", missing), refused("Read", 5)),
+        ("a script without end", ["drive", RECORDING, "/dev/zero"], refused("FileTooLong")),
+        ("files are read in their order", ["drive", "/dev/zero", missing], refused("FileTooLong")),
+    ]:
+        expect(f"drive: {name}", run(words), wanted)
+    for words, part in [
+        (["drive", RECORDING], b"<SCRIPT>"),
+        (["drive", RECORDING, RECORDING, "--max-seq", "0"], b"1..=9007199254740991"),
+        (["drive", RECORDING, RECORDING, "--any-seq"], b"--any-seq"),
+    ]:
+        status, out, err = run(words)
+        expect(f"usage of {' '.join(words[:1] + words[2:])}", (status, out), (2, b""))
+        expect_in(f"usage of {' '.join(words[:1] + words[2:])}: message", err, part)
+
+
+# `drives` is no group before the program has the command.
+GROUPS = {"transcripts": transcripts, "made_transcripts": made_transcripts}
