@@ -13,8 +13,8 @@ use std::alloc::{AllocError, Global};
 fn finding_text(alloc: Global, line: u64, rule: Rule) -> Result<String, AllocError>
     ensures { IfOk result (λ text. string_bytes text ≡ text_of_finding line rule) }
 {
-    let number = rule.number();
-    format!(in alloc; "line {line} rule {number}\n")
+    let number = u64::from(rule.number());
+    Ok(format!(in alloc; "line {line} rule {number}\n")?)
 }
 
 /// The line, with its line feed, that a program writes of a transcript: that it is legal, or the first line that breaks a
