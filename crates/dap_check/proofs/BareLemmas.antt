@@ -1,11 +1,10 @@
 -- A line without what no rule looks at is judged as the whole line, and tells the same of later lines.
-use Rattle.std.proofs.Common.{◌≡◌, ℕ, ◌+◌, ◌⊎◌, List, [], ◌∷◌, ◌++◌, Bool, true, false, Option, Some, None, Result, Ok, Err, codes, refl, sym, ap, ◌∙◌, subst, inl, inr}
+use Rattle.std.proofs.Common.{◌≡◌, ℕ, ◌+◌, List, [], ◌∷◌, ◌++◌, Bool, true, false, Option, Some, None, Result, Ok, Err, codes, refl, sym, ap, ◌∙◌, subst, inl, inr}
 use Rattle.std.specs.Prelude.{not, ◌&&◌, ◌||◌, cond, count_by, option_map, bytes_eq, find, IfOk}
 use Rattle.std.specs.List.{list_any}
 use Rattle.std.proofs.lemmas.List.{append_assoc}
 use Rattle.std.proofs.lemmas.Slice.Eq.{bytes_eq-Decides}
 use Rattle.serde_json.specs.Data.{Data}
-use Rattle.dap_message.specs.Capabilities.{offered_by}
 use Rattle.dap_message.specs.Command.{all_commands, name_of, command_named}
 use Rattle.dap_message.specs.Types.Capabilities.{Capabilities}
 use Rattle.dap_message.specs.Types.Command.{Command}
@@ -16,10 +15,10 @@ use Rattle.dap_message.specs.declared.message.Message.{Message}
 use Rattle.dap_message.specs.declared.message.Kind.{Kind}
 use Rattle.dap_message.specs.declared.message.Kind.TheVariants.{Request, Response, Event, Other}
 use Rattle.dap_check.specs.Bare.{telling, is_looked_at, bare_kind, bare_line, IsReadBody, IsReadAs}
-use Rattle.dap_check.specs.Kept.{AreCounts, ArePhases, IsFirst, Begins, AreWaiting, ArePending, IsOffered, offer_after, AreReferences, IsSeen, IsTold}
-use Rattle.dap_check.specs.Legal.{all_rules, least_broken, IsLegal, IsFinding}
-use Rattle.dap_check.specs.Lines.{opposite, is_among, is_of, asks, asks_as, asks_for, answers, succeeds, tells, body_of}
-use Rattle.dap_check.specs.Rules.{waits, waits_for, initialize, disconnect, offered_since, after_line, frames_of_kind, holders_of_kind, holders_for, contains_number, gives_frame, gives_holder, resumes, naming_frames, naming_holders, is_broken}
+use Rattle.dap_check.specs.Kept.{IsFirst, Begins, AreWaiting, IsOffered, offer_after, IsSeen, IsTold}
+use Rattle.dap_check.specs.Legal.{all_rules, least_broken, IsLegal}
+use Rattle.dap_check.specs.Lines.{opposite, is_among, is_of, asks, asks_as, asks_for, answers, succeeds}
+use Rattle.dap_check.specs.Rules.{initialize, disconnect, offered_since, frames_of_kind, holders_of_kind, holders_for, contains_number, gives_frame, gives_holder, resumes, naming_frames, naming_holders, is_broken}
 use Rattle.dap_check.specs.Since.{is_open, first_since, last_since, Past}
 use Rattle.dap_check.specs.declared.line.Line.{Line}
 use Rattle.dap_check.specs.declared.line.Side.{Side}
@@ -29,12 +28,12 @@ use Rattle.dap_check.specs.declared.offer.Offer.{Offer}
 use Rattle.dap_check.specs.declared.rule.Checked.{Checked}
 use Rattle.dap_check.specs.declared.rule.Checked.TheVariants.{Legal, Finding}
 use Rattle.dap_check.specs.declared.rule.Rule.{Rule}
-use Rattle.dap_check.specs.declared.rule.Rule.TheVariants.{Seq, Answer, FirstRequest, Initialized, Gate, Reference, Disconnect}
+use Rattle.dap_check.specs.declared.rule.Rule.TheVariants.{Seq, Reference}
 use Rattle.dap_check.specs.declared.seen.Seen.{Seen}
 use Rattle.dap_check.specs.declared.waiting.Waiting.{Waiting}
 use Rattle.dap_check.proofs.LegalLemmas.{split_push, legal_push, legal_before}
 use Rattle.dap_check.proofs.OfferLemmas.{one_later}
-use Rattle.dap_check.proofs.SinceLemmas.{any_push, open_push, first_push, first_later, last_push, last_later}
+use Rattle.dap_check.proofs.SinceLemmas.{any_push, open_push, first_push, first_later, last_push}
 use Rattle.dap_check.proofs.TrailLemmas.{count_push}
 
 abbrev line_at : ℕ → Side → ℕ → Kind → Line

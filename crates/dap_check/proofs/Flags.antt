@@ -7,18 +7,18 @@ use Rattle.serde_json.specs.Data.{Data}
 use Rattle.serde_json.specs.Find.{get, as_bool}
 use Rattle.dap_message.specs.Field.{tree_at}
 use Rattle.dap_message.specs.Command.{flag_of}
-use Rattle.dap_message.specs.Capabilities.{is_flag, has, capabilities_of, offered_by, updated_by, updated_flag, replaced}
+use Rattle.dap_message.specs.Capabilities.{is_flag, has, capabilities_of, updated_flag, replaced}
 use Rattle.dap_message.specs.Types.Capabilities.{Capabilities}
 use Rattle.dap_message.specs.Types.Gate.{Gate}
 use Rattle.dap_message.specs.Types.Gate.TheVariants.{BreakpointLocations, Cancel, Completions, ConfigurationDone, ExceptionInfo, FunctionBreakpoints, LoadedSources, Modules, Restart, SetVariable, StepBack, Terminate}
 use Rattle.dap_check.specs.Since.{is_open, last_since, Past}
 use Rattle.dap_check.specs.Lines.{body_of, succeeds, tells}
-use Rattle.dap_check.specs.Rules.{initialize, offered, offered_since, offered_after, updated_to, after_line}
+use Rattle.dap_check.specs.Rules.{initialize, offered, offered_since, offered_after, updated_to}
 use Rattle.dap_check.specs.Kept.{offer_after}
-use Rattle.dap_check.specs.Places.{named_by, decided_by, is_on, is_off, switches_on, switches_off}
+use Rattle.dap_check.specs.Places.{named_by, is_on, is_off, switches_on, switches_off}
 use Rattle.dap_check.specs.declared.line.Line.{Line}
-use Rattle.dap_check.proofs.SinceLemmas.{any_push, open_push, last_push, last_later}
-use Rattle.dap_check.proofs.OfferLemmas.{one_later, none_or}
+use Rattle.dap_check.proofs.SinceLemmas.{any_push, open_push, last_push}
+use Rattle.dap_check.proofs.OfferLemmas.{one_later}
 
 -- the flags that pass are those that it has
 has_flag : (is_set : Gate → Bool) (gate : Gate) → has (capabilities_of is_set) gate ≡ is_set gate

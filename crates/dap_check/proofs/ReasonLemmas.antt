@@ -16,8 +16,8 @@ use Rattle.dap_message.specs.declared.message.Kind.{Kind}
 use Rattle.dap_message.specs.declared.message.Kind.TheVariants.{Request, Response, Event, Other}
 use Rattle.dap_check.specs.Lines.{opposite, is_among, is_request_among, is_request_for, arguments_of, body_of, is_of, asks, asks_as, asks_for, answers, succeeds, tells}
 use Rattle.dap_check.specs.Places.{named_by, switches_on, switches_off}
-use Rattle.dap_check.specs.Reasons.{trail, opening, closing, never, is_open_still, why_number, waiting, why_waiting, why_not_asked, not_asked, answer_reason, second, why_early, first_request_reason, unasked, why_uninitialized, initialized_reason, asks_to_initialize, decides, why_refused, gate_reason, gate_asked, gives, other_kind, key_of, unknown, why_unknown, number_reason, kind_named, reference_reason, why_ended, end_reason, reason_of, BrokenRulesHaveReasons}
-use Rattle.dap_check.specs.Rules.{is_out_of_place, is_too_early, initialize, disconnect, offered, permits, is_refused, is_frame, is_holder, is_unknown, number_at, naming_frames, naming_holders, gives_frame, gives_holder, resumes, is_broken, breaks_reference}
+use Rattle.dap_check.specs.Reasons.{trail, opening, closing, never, is_open_still, waiting, not_asked, answer_reason, second, why_early, unasked, why_uninitialized, asks_to_initialize, decides, gate_reason, gate_asked, gives, other_kind, unknown, number_reason, kind_named, reference_reason, why_ended, BrokenRulesHaveReasons}
+use Rattle.dap_check.specs.Rules.{is_out_of_place, is_too_early, initialize, disconnect, offered, permits, is_refused, is_frame, is_holder, is_unknown, number_at, naming_frames, naming_holders, resumes}
 use Rattle.dap_check.specs.Since.{is_open, first_since, last_since, Past}
 use Rattle.dap_check.specs.Trails.{closed_after, trail_after}
 use Rattle.dap_check.specs.declared.line.Line.{Line}
@@ -27,7 +27,6 @@ use Rattle.dap_check.specs.declared.reason.Reason.{Reason}
 use Rattle.dap_check.specs.declared.reason.Reason.TheVariants.{Numbered, NotInitialize, NotOffered, NotInitialized, Ended}
 use Rattle.dap_check.specs.declared.reason.ReferenceKind.{ReferenceKind}
 use Rattle.dap_check.specs.declared.reason.ReferenceKind.TheVariants.{Frame, Variables}
-use Rattle.dap_check.specs.declared.rule.Rule.{Rule}
 use Rattle.dap_check.specs.declared.rule.Rule.TheVariants.{Seq, Answer, FirstRequest, Initialized, Gate as GateRule, Reference, Disconnect}
 use Rattle.dap_check.specs.declared.trail.Opened.{Opened}
 use Rattle.dap_check.specs.declared.trail.Trail.{Trail}

@@ -1,12 +1,10 @@
 -- The rules, told by places.
-use Rattle.std.proofs.Common.{◌≡◌, ℕ, ◌⊎◌, List, [], ◌∷◌, ◌++◌, Bool, true, false, Option, Some, None, refl, sym, ap, ◌∙◌, subst, inl, inr}
+use Rattle.std.proofs.Common.{◌≡◌, ℕ, List, [], ◌∷◌, Bool, true, false, Option, Some, None, refl, sym, ap, ◌∙◌, subst, inl, inr}
 use Rattle.std.specs.Prelude.{◌↔◌, not, ◌&&◌, ◌||◌, cond, codes}
 use Rattle.std.specs.List.{list_any}
-use Rattle.dap_message.specs.Types.Gate.{Gate}
-use Rattle.dap_message.specs.Capabilities.{has}
 use Rattle.dap_message.specs.declared.message.Kind.{Kind}
 use Rattle.dap_message.specs.declared.message.Kind.TheVariants.{Request, Response, Event, Other}
-use Rattle.dap_check.specs.Laws.{SomeAt, OpenAt, FirstAt}
+use Rattle.dap_check.specs.Laws.{SomeAt, OpenAt}
 use Rattle.dap_check.specs.Lines.{opposite, is_request_for, asks, asks_as, asks_for, answers, succeeds}
 use Rattle.dap_check.specs.Places.{IsOutOfPlace, AnswerIsByPlaces, OneIsUnanswered, IsTooEarly, FirstRequestIsByPlaces, OfferIsByPlaces, switches_on, switches_off, ReferencesAreByPlaces}
 use Rattle.dap_check.specs.Rules.{is_out_of_place, is_too_early, initialize, gives_frame, gives_holder, resumes}

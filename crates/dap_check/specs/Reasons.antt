@@ -1,8 +1,7 @@
 -- Why a line breaks a rule, told by the earlier lines that it stands against.
-use Rattle.std.specs.Prelude.{◌≡◌, ℕ, List, [], ◌∷◌, ◌+◌, ◌==◌, Bool, true, false, ◌&&◌, ◌||◌, codes, count_by, if◌then◌else◌, Option, Some, None, is_some, is_none, option_map, option_and_then}
+use Rattle.std.specs.Prelude.{◌≡◌, ℕ, List, [], ◌∷◌, ◌+◌, ◌==◌, Bool, false, ◌&&◌, ◌||◌, codes, count_by, if◌then◌else◌, Option, Some, None, is_some, is_none, option_map, option_and_then}
 use Rattle.serde_json.specs.Data.{Data, Num, unsigned, negative, float}
 use Rattle.dap_message.specs.Command.{command_named, gate_of}
-use Rattle.dap_message.specs.Types.Command.{Command}
 use Rattle.dap_message.specs.Types.Gate.{Gate}
 use Rattle.dap_message.specs.declared.message.Kind.{Kind}
 use Rattle.dap_message.specs.declared.message.Kind.TheVariants.{Request, Response, Event, Other}

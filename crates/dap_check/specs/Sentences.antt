@@ -1,5 +1,5 @@
 -- A finding's reason in one sentence, in the protocol's words. The sentences are this profile's choice.
-use Rattle.std.specs.Prelude.{ℕ, List, [], ◌∷◌, codes, decimal, flat_map, Option, Some, None}
+use Rattle.std.specs.Prelude.{ℕ, List, [], ◌∷◌, codes, decimal, flat_map, Some, None}
 use Rattle.dap_message.specs.Command.{flag_of}
 use Rattle.dap_check.specs.Reasons.{key_of}
 use Rattle.dap_check.specs.declared.reason.Reason.{Reason}

@@ -1,4 +1,4 @@
-use Rattle.std.proofs.Common.{◌<◌, length, arith}
+use Rattle.std.proofs.Common.{arith}
 use Rattle.std.proofs.lemmas.Bool.Decides.{nat_tests}
 use Rattle.dap_check.proofs.Walked.{none_passed, passed_more, empty}
 use Rattle.dap_check.proofs.walking.text_at.Goals as goal
