@@ -710,5 +710,4 @@ def drive_files():
         expect_in(f"usage of {' '.join(words[:1] + words[2:])}: message", err, part)
 
 
-# `drives` is no group before the program has the command.
-GROUPS = {"transcripts": transcripts, "made_transcripts": made_transcripts}
+GROUPS = {"transcripts": transcripts, "drives": drives, "made_transcripts": made_transcripts}

@@ -399,8 +399,7 @@ def kind_of(verdict):
 
 
 class Trial:
-    def __init__(self, asks_drive):
-        self.asks_drive = asks_drive
+    def __init__(self):
         self.wrong = []
         self.counts = collections.Counter()
         self.drives = collections.Counter()
@@ -427,9 +426,8 @@ class Trial:
         script, limits = random_script(choice, recording)
         words = [word for name, value in limits.items() for word in ("--" + name.replace("_", "-"), str(value))]
         wanted = drive_of(recording, script, **limits)
+        got = run(with_files("drive", path, script, *words))
         self.drives[wanted[2].decode().split(" at ")[0].strip() or "done"] += 1
-        # Before the program has `drive`, the model alone makes the transcripts.
-        got = run(with_files("drive", path, script, *words)) if self.asks_drive else wanted
         if got != wanted:
             self.keep(f"{seed}: drive {os.path.basename(path)} {' '.join(words)}", script, got, wanted)
         if wanted[0] or not wanted[1]:
@@ -442,9 +440,10 @@ class Trial:
 
 
 def random_transcripts(count=COUNT):
-    if not is_known("check"):
+    # Both are asked, so that each that is missing is told.
+    if [command for command in ("drive", "check") if not is_known(command)]:
         return
-    trial = Trial(run(["drive", "--help"])[0] == 0)
+    trial = Trial()
     for seed in range(count):
         trial.script(seed)
     for name, counts in (("drive", trial.drives), ("check", trial.counts)):

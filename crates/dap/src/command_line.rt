@@ -182,6 +182,32 @@ fn check<'a>(alloc: Global) -> Result<Command<'a>, AllocError> {
         ))
 }
 
+fn drive<'a>(alloc: Global, limit_texts: &'a [String]) -> Result<Command<'a>, AllocError> {
+    let recording = Arg::new(alloc, "recording")
+        .value_name("RECORDING")
+        .help("The recorded run that is debugged, as JSON, of at most 67108864 bytes")
+        .required(true)
+        .action(ArgAction::Set);
+    let script = Arg::new(alloc, "script")
+        .value_name("SCRIPT")
+        .help("What is done, one step a line, of at most 67108864 bytes")
+        .required(true)
+        .action(ArgAction::Set);
+    let mut drive = Command::new(alloc, "drive")
+        .about(
+            "Runs a client and an adapter against each other by a script, and prints the transcript",
+        )
+        .after_help(
+            "A line of the script is one of\n  send COMMAND [ARGUMENTS]  the client sends a request; ARGUMENTS is JSON\n  turn                      the adapter handles the oldest request that waits\n  poll                      the adapter tells what happened to the debuggee, once\n  run                       turns until none waits, then polls until nothing comes or the debuggee stops\nEmpty lines are skipped, and counted. Each message is delivered once it is written. At a fault nothing is printed.\n\nStatuses: 0 the script was run, 2 usage, 3 the recording, a line, a request or a message is refused, or a file is too long, 5 read or write, 6 memory",
+        )
+        .arg(recording)?
+        .arg(script)?;
+    for (option, help) in LIMIT_OPTIONS.iter().zip(limit_texts) {
+        drive = drive.arg(limit_option(alloc, option, help.as_str()))?;
+    }
+    Ok(drive)
+}
+
 /// The command line of the program.
 pub(crate) fn command<'a>(
     alloc: Global,
@@ -196,7 +222,8 @@ pub(crate) fn command<'a>(
         .subcommand(serve(alloc, limit_texts)?)?
         .subcommand(show(alloc, limit_texts)?)?
         .subcommand(wrap(alloc, limit_texts)?)?
-        .subcommand(check(alloc)?)
+        .subcommand(check(alloc)?)?
+        .subcommand(drive(alloc, limit_texts)?)
 }
 
 /// The limits that the options set, and the defaults for the others and for those that the subcommand does not have.

@@ -100,6 +100,7 @@ fn run(rt: &HostRuntime) -> Result<u8, Failure> {
         Some(("show", matches)) => Ok(show(rt, matches)),
         Some(("wrap", matches)) => Ok(wrap(rt, matches)),
         Some(("check", matches)) => Ok(check(rt, matches)),
+        Some(("drive", matches)) => Ok(drive(rt, matches)),
         _ => Ok(USAGE),
     }
 }
@@ -207,6 +208,30 @@ fn check(rt: &HostRuntime, matches: &ArgMatches<'_>) -> u8 {
     match print(rt, &text) {
         Ok(()) if checked == Checked::Legal => 0,
         Ok(()) => FINDING,
+        Err(_) => tell(rt, &ToolFault::Write),
+    }
+}
+
+/// Runs both ends by the script that a file is, over the recording that another is, and writes the transcript on standard
+/// output. At a fault nothing is written.
+fn drive(rt: &HostRuntime, matches: &ArgMatches<'_>) -> u8 {
+    let Ok(limits) = command_line::limits(matches) else {
+        return USAGE;
+    };
+    let recording = match read_file(rt, matches, "recording") {
+        Ok(bytes) => bytes,
+        Err(fault) => return tell(rt, &ToolFault::File(fault)),
+    };
+    let script = match read_file(rt, matches, "script") {
+        Ok(bytes) => bytes,
+        Err(fault) => return tell(rt, &ToolFault::File(fault)),
+    };
+    let transcript = match dap_tool::drive(rt.alloc(), &recording, &script, limits) {
+        Ok(transcript) => transcript,
+        Err(fault) => return tell(rt, &ToolFault::Drive(fault)),
+    };
+    match print(rt, &transcript) {
+        Ok(()) => 0,
         Err(_) => tell(rt, &ToolFault::Write),
     }
 }

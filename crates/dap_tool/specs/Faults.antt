@@ -14,8 +14,12 @@ use Rattle.dap_debuggee.specs.declared.reading.RecordingFault.{RecordingFault}
 use Rattle.dap_debuggee.specs.declared.reading.RecordingFault.TheVariants.{NotJson as NoJson, NotObject as NoObject, BadKey, OutOfMemory as NoMemoryForRecording}
 use Rattle.dap_check.specs.declared.checking.CheckFault.{CheckFault}
 use Rattle.dap_check.specs.declared.checking.CheckFault.TheVariants.{BadLine, Body as CheckedBody, OutOfMemory as NoMemoryToCheck}
+use Rattle.dap_client.specs.declared.fault.SendFault.{SendFault}
+use Rattle.dap_client.specs.declared.fault.SendFault.TheVariants as unsent
+use Rattle.dap_drive.specs.declared.fault.DriveFault.{DriveFault}
+use Rattle.dap_drive.specs.declared.fault.DriveFault.TheVariants as driven
 use Rattle.dap_tool.specs.declared.fault.ToolFault.{ToolFault}
-use Rattle.dap_tool.specs.declared.fault.ToolFault.TheVariants.{Serve, Recording, Show, Wrap, Check, File, Truncated, Write as OutputFailed, OutOfMemory as NoMemoryAtAll}
+use Rattle.dap_tool.specs.declared.fault.ToolFault.TheVariants.{Serve, Recording, Show, Wrap, Check, Drive, File, Truncated, Write as OutputFailed, OutOfMemory as NoMemoryAtAll}
 use Rattle.dap_tool.specs.declared.listing.ShowFault.{ShowFault}
 use Rattle.dap_tool.specs.declared.listing.ShowFault.TheVariants.{Frame as ShownFrame, Body as ShownBody, OutOfMemory as NoMemoryToShow}
 use Rattle.dap_tool.specs.declared.wrapping.WrapFault.{WrapFault}
@@ -67,6 +71,20 @@ status_of_check (BadLine line) = 3
 status_of_check (CheckedBody line cause) = 3
 status_of_check NoMemoryToCheck = 6
 
+-- a refused call has want of memory as its cause nowhere in `drive`, which tells that apart
+abbrev pub status_of_send : SendFault → ℕ
+status_of_send unsent.OutOfMemory = 6
+status_of_send _ = 3
+
+abbrev pub status_of_drive : DriveFault → ℕ
+status_of_drive driven.Recording = 3
+status_of_drive (driven.Script line) = 3
+status_of_drive (driven.Call line) = 3
+status_of_drive (driven.Send line cause) = status_of_send cause
+status_of_drive driven.Adapter = 3
+status_of_drive driven.Client = 3
+status_of_drive driven.OutOfMemory = 6
+
 abbrev pub status_of_file : FileFault → ℕ
 status_of_file FileUnread = 5
 status_of_file FileTooLong = 3
@@ -78,6 +96,7 @@ status_of (Recording fault) = status_of_recording fault
 status_of (Show fault) = status_of_show fault
 status_of (Wrap fault) = status_of_wrap fault
 status_of (Check fault) = status_of_check fault
+status_of (Drive fault) = status_of_drive fault
 status_of (File fault) = status_of_file fault
 status_of Truncated = 4
 status_of OutputFailed = 5
@@ -155,6 +174,26 @@ line_of_check (BadLine line) = line_at_line (codes "BadLine") line
 line_of_check (CheckedBody line cause) = line_at_line (name_of_body_refusal cause) line
 line_of_check NoMemoryToCheck = named_line (codes "OutOfMemory")
 
+abbrev pub name_of_send : SendFault → List ℕ
+name_of_send unsent.Ended = codes "Ended"
+name_of_send unsent.WrongPhase = codes "WrongPhase"
+name_of_send unsent.NotSupported = codes "NotSupported"
+name_of_send unsent.NotStopped = codes "NotStopped"
+name_of_send unsent.UnknownReference = codes "UnknownReference"
+name_of_send unsent.TooLarge = codes "TooLarge"
+name_of_send unsent.Full = codes "Full"
+name_of_send unsent.SeqExhausted = codes "SeqExhausted"
+name_of_send unsent.OutOfMemory = codes "OutOfMemory"
+
+abbrev pub line_of_drive : DriveFault → List ℕ
+line_of_drive driven.Recording = named_line (codes "Recording")
+line_of_drive (driven.Script line) = line_at_line (codes "Script") line
+line_of_drive (driven.Call line) = line_at_line (codes "Call") line
+line_of_drive (driven.Send line cause) = line_at_line (name_of_send cause) line
+line_of_drive driven.Adapter = named_line (codes "Adapter")
+line_of_drive driven.Client = named_line (codes "Client")
+line_of_drive driven.OutOfMemory = named_line (codes "OutOfMemory")
+
 abbrev pub line_of_file : FileFault → List ℕ
 line_of_file FileUnread = named_line (codes "Read")
 line_of_file FileTooLong = named_line (codes "FileTooLong")
@@ -166,6 +205,7 @@ line_of (Recording fault) = line_of_recording fault
 line_of (Show fault) = line_of_show fault
 line_of (Wrap fault) = line_of_wrap fault
 line_of (Check fault) = line_of_check fault
+line_of (Drive fault) = line_of_drive fault
 line_of (File fault) = line_of_file fault
 line_of Truncated = named_line (codes "Truncated")
 line_of OutputFailed = named_line (codes "Write")

@@ -1,14 +1,16 @@
 //! Why a tool stops, and how a program tells it.
 
 ghost use Rattle.std.specs.Prelude.{◌≡◌, IfOk, string_bytes};
-ghost use Rattle.dap_tool.specs.Faults.{status_of, status_of_cause, status_of_adapter, status_of_serve, status_of_recording, status_of_show, status_of_check, line_of, line_of_adapter, line_of_serve, line_of_recording, line_of_show, line_of_wrap, line_of_check, line_of_file, named_line, line_at, line_at_line, name_of_cause, name_of_refusal, name_of_body_refusal};
+ghost use Rattle.dap_tool.specs.Faults.{status_of, status_of_cause, status_of_adapter, status_of_serve, status_of_recording, status_of_show, status_of_check, status_of_send, status_of_drive, line_of, line_of_adapter, line_of_serve, line_of_recording, line_of_show, line_of_wrap, line_of_check, line_of_drive, line_of_file, named_line, line_at, line_at_line, name_of_cause, name_of_refusal, name_of_body_refusal, name_of_send};
 
 use crate::files::FileFault;
 use crate::listing::ShowFault;
 use crate::wrapping::WrapFault;
 use dap_adapter::{AdapterFault, ServeFault};
 use dap_check::CheckFault;
+use dap_client::SendFault;
 use dap_debuggee::RecordingFault;
+use dap_drive::DriveFault;
 use dap_frame::{Cause, Refusal};
 use dap_message::BodyRefusal;
 use std::alloc::{AllocError, Global};
@@ -30,6 +32,9 @@ pub enum ToolFault {
     /// A file is no transcript.
     #[error("{0}")]
     Check(CheckFault),
+    /// A script was not driven to its end.
+    #[error("{0}")]
+    Drive(DriveFault),
     #[error("{0}")]
     File(FileFault),
     /// The input ended within a frame.
@@ -54,6 +59,7 @@ pub fn status(fault: &ToolFault) -> u8
         ToolFault::Wrap(WrapFault::OutOfMemory) => 6,
         ToolFault::Wrap(_) => 3,
         ToolFault::Check(fault) => check_status(fault),
+        ToolFault::Drive(fault) => drive_status(fault),
         ToolFault::File(FileFault::Read) => 5,
         ToolFault::File(FileFault::FileTooLong) => 3,
         ToolFault::File(FileFault::OutOfMemory) => 6,
@@ -129,6 +135,36 @@ fn check_status(fault: &CheckFault) -> u8
     }
 }
 
+fn send_status(fault: SendFault) -> u8
+    ensures { result ≡ status_of_send fault }
+{
+    match fault {
+        SendFault::Ended => 3,
+        SendFault::WrongPhase => 3,
+        SendFault::NotSupported => 3,
+        SendFault::NotStopped => 3,
+        SendFault::UnknownReference => 3,
+        SendFault::TooLarge => 3,
+        SendFault::Full => 3,
+        SendFault::SeqExhausted => 3,
+        SendFault::OutOfMemory => 6,
+    }
+}
+
+fn drive_status(fault: &DriveFault) -> u8
+    ensures { result ≡ status_of_drive fault.now }
+{
+    match fault {
+        DriveFault::Recording => 3,
+        DriveFault::Script { .. } => 3,
+        DriveFault::Call { .. } => 3,
+        DriveFault::Send { cause, .. } => send_status(*cause),
+        DriveFault::Adapter => 3,
+        DriveFault::Client => 3,
+        DriveFault::OutOfMemory => 6,
+    }
+}
+
 fn refusal_name(refusal: Refusal) -> &'static str
     ensures { result.now ≡ name_of_refusal refusal }
 {
@@ -164,6 +200,22 @@ fn body_refusal_name(refusal: BodyRefusal) -> &'static str
         BodyRefusal::BadSuccess => "BadSuccess",
         BodyRefusal::BadEvent => "BadEvent",
         BodyRefusal::BadMessage => "BadMessage",
+    }
+}
+
+fn send_fault_name(fault: SendFault) -> &'static str
+    ensures { result.now ≡ name_of_send fault }
+{
+    match fault {
+        SendFault::Ended => "Ended",
+        SendFault::WrongPhase => "WrongPhase",
+        SendFault::NotSupported => "NotSupported",
+        SendFault::NotStopped => "NotStopped",
+        SendFault::UnknownReference => "UnknownReference",
+        SendFault::TooLarge => "TooLarge",
+        SendFault::Full => "Full",
+        SendFault::SeqExhausted => "SeqExhausted",
+        SendFault::OutOfMemory => "OutOfMemory",
     }
 }
 
@@ -254,6 +306,20 @@ fn check_line(alloc: Global, fault: &CheckFault) -> Result<String, AllocError>
     }
 }
 
+fn drive_line(alloc: Global, fault: &DriveFault) -> Result<String, AllocError>
+    ensures { IfOk result (λ line. string_bytes line ≡ line_of_drive fault.now) }
+{
+    match fault {
+        DriveFault::Recording => named(alloc, "Recording"),
+        DriveFault::Script { line } => at_line(alloc, "Script", *line),
+        DriveFault::Call { line } => at_line(alloc, "Call", *line),
+        DriveFault::Send { line, cause } => at_line(alloc, send_fault_name(*cause), *line),
+        DriveFault::Adapter => named(alloc, "Adapter"),
+        DriveFault::Client => named(alloc, "Client"),
+        DriveFault::OutOfMemory => named(alloc, "OutOfMemory"),
+    }
+}
+
 fn file_line(alloc: Global, fault: &FileFault) -> Result<String, AllocError>
     ensures { IfOk result (λ line. string_bytes line ≡ line_of_file fault.now) }
 {
@@ -275,6 +341,7 @@ pub fn fault_line(alloc: Global, fault: &ToolFault) -> Result<Vec<u8>, AllocErro
         ToolFault::Show(fault) => show_line(alloc, fault)?,
         ToolFault::Wrap(fault) => wrap_line(alloc, fault)?,
         ToolFault::Check(fault) => check_line(alloc, fault)?,
+        ToolFault::Drive(fault) => drive_line(alloc, fault)?,
         ToolFault::File(fault) => file_line(alloc, fault)?,
         ToolFault::Truncated => named(alloc, "Truncated")?,
         ToolFault::Write => named(alloc, "Write")?,

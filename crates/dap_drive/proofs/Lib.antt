@@ -1,0 +1,8 @@
+mod Texts
+mod Streams
+mod LinesWritten
+mod Delivering
+mod Spending
+mod Doing
+mod Scripting
+mod Recordings

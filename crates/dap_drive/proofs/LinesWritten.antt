@@ -1,0 +1,47 @@
+-- The lines of a transcript, written message by message.
+use Rattle.std.proofs.Common.{◌≡◌, ℕ, ◌+◌, List, [], ◌∷◌, ◌++◌, take, drop, refl, sym, ap, ◌∙◌, subst, append_assoc, append-nil}
+use Rattle.std.proofs.Math.Seq.{take-add}
+use Rattle.dap_frame.specs.Intake.{Intake, IsUnderWay}
+use Rattle.dap_frame.specs.Laws.{EachStreamHasOneSplit}
+use Rattle.dap_frame.specs.Settings.{Settings, bounds_of}
+use Rattle.dap_frame.specs.Stream.{FramesThen, Split}
+use Rattle.dap_check.specs.declared.line.Side.{Side}
+use Rattle.dap_drive.specs.Lines.{IsBetween, WritesLine, WritesLines}
+use Rattle.dap_drive.specs.Transcript.{Said, said_by, mark_of, line_of, text_of}
+use Rattle.dap_drive.proofs.Streams.{joined, behind}
+
+-- lines one after the other
+pub lines_append : (xs ys : List Said) → text_of (xs ++ ys) ≡ text_of xs ++ text_of ys
+lines_append [] ys = refl
+lines_append (x ∷ xs) ys = ap (λ (z : List ℕ). line_of x ++ z) (lines_append xs ys) ∙ sym (append_assoc (line_of x) (text_of xs) (text_of ys))
+
+pub said_append : (side : Side) (xs ys : List (List ℕ)) → said_by side (xs ++ ys) ≡ said_by side xs ++ said_by side ys
+said_append side [] ys = refl
+said_append side (x ∷ xs) ys = ap (λ (z : List Said). record { side = side; body = x } ∷ z) (said_append side xs ys)
+
+-- of no bytes
+pub none_written : (limits : Settings) (i : Intake) (side : Side) (before : List ℕ) → IsBetween limits i → WritesLines limits i side [] before before
+none_written limits i side before b = record { bodies = []; frames = refl; lines = sym (append-nil before); between = b }
+
+-- one line more
+pub line_written : (laws : EachStreamHasOneSplit) (limits : Settings) (i j : Intake) (side : Side) (bytes rest before now after : List ℕ) (at n : ℕ) → rest ≡ drop at bytes
+    → WritesLines limits i side (take at bytes) before now → WritesLine i j side (take n rest) now after → IsUnderWay j → WritesLines limits j side (take (at + n) bytes) before after
+line_written laws limits i j side bytes rest before now after at n is w l gathering =
+    let b = bounds_of limits in
+    let came = l.stands w.between.came w.between.bodies [] w.between.stands in
+    let frame : FramesThen b (l.body ∷ []) [] (take n rest) =
+    behind laws b w.between.bodies (l.body ∷ []) w.between.came (take n rest) [] (subst (λ z. Split z w.between.came w.between.bodies []) w.between.bounds w.between.stands.split) (subst (λ z. Split z (w.between.came ++ take n rest) (w.between.bodies ++ l.body ∷ []) []) (l.bounds ∙ w.between.bounds) came.split) in
+    let bytes_are : take at bytes ++ take n rest ≡ take (at + n) bytes = ap (λ (z : List ℕ). take at bytes ++ take n z) is ∙ sym (take-add at n bytes) in
+    record {
+      bodies = w.bodies ++ l.body ∷ [];
+      frames = subst (λ (z : List ℕ). FramesThen b (w.bodies ++ l.body ∷ []) [] z) bytes_are (joined b w.bodies (l.body ∷ []) [] (take at bytes) (take n rest) w.frames frame);
+      lines = l.line ∙ (ap (λ (z : List ℕ). z ++ text_of (said_by side (l.body ∷ []))) w.lines ∙ (append_assoc before (text_of (said_by side w.bodies)) (text_of (said_by side (l.body ∷ [])))
+          ∙ ap (λ (z : List ℕ). before ++ z) (sym (lines_append (said_by side w.bodies) (said_by side (l.body ∷ []))) ∙ ap text_of (sym (said_append side w.bodies (l.body ∷ []))))));
+      between = record { bounds = l.bounds ∙ w.between.bounds; under_way = gathering; came = w.between.came ++ take n rest; bodies = w.between.bodies ++ l.body ∷ []; stands = came };
+    }
+
+-- a mark, a body and a line feed are a line
+pub one_line : (side : Side) (mark body before marked written ended : List ℕ) → mark ≡ mark_of side → marked ≡ before ++ mark → written ≡ marked ++ body → ended ≡ written ++ 10 ∷ [] → ended ≡ before ++ text_of (said_by side (body ∷ []))
+one_line side mark body before marked written ended is a b d =
+    d ∙ (ap (λ (z : List ℕ). z ++ 10 ∷ []) (b ∙ ap (λ (z : List ℕ). z ++ body) (a ∙ ap (λ (z : List ℕ). before ++ z) is))
+    ∙ (ap (λ (z : List ℕ). z ++ 10 ∷ []) (append_assoc before (mark_of side) body) ∙ (append_assoc before (mark_of side ++ body) (10 ∷ []) ∙ ap (λ (z : List ℕ). before ++ z) (sym (append-nil (mark_of side ++ body ++ 10 ∷ []))))))

@@ -1,0 +1,24 @@
+use Rattle.std.proofs.Common.{List, ℕ, ◌<◌, length, ◌∙◌, subst, arith}
+use Rattle.std.proofs.Math.ListN.{drop_of_length-le}
+use Rattle.dap_drive.specs.Held.{HasDelivered}
+use Rattle.dap_drive.proofs.Doing.{part_by_part}
+use Rattle.dap_drive.proofs.ends.Drive.deliver_up.Goals as goal
+
+pub loop-at-preserved : goal.loop-at-preserved
+loop-at-preserved g c =
+    let some : 0 < length c.split_at.result.1.now = omega (arith, c.split_at.ensures.back_len) in
+    record {
+      within = omega (arith, c.in_ok-at.ensures.within, c.split_at.ensures.back_len);
+      reading = c.in_ok-at.ensures.reading;
+      delivered = λ limits start h. part_by_part
+          (λ z. HasDelivered g.D.Debuggee.follows limits start c.loop-at.self.client c.loop-at.self.adapter c.loop-at.self.reader c.loop-at.self.transcript.items z c.loop-at.down.items)
+          (λ z. HasDelivered g.D.Debuggee.follows limits start c.take_up.new.self.client c.take_up.new.self.adapter c.take_up.new.self.reader c.take_up.new.self.transcript.items z c.take_up.new.down.items)
+          c.loop-at.at c.in_ok-at.field-0 c.args.up.now c.split_at.result.1.now c.split_at.ensures.back (c.in_ok-at.ensures.delivered some limits start) (c.loop-at.invariant.delivered limits start h);
+      client = c.take_up.ensures.client ∙ c.loop-at.invariant.client;
+      limits = c.in_ok-at.ensures.limits ∙ c.loop-at.invariant.limits;
+    }
+
+pub returns-clause-delivered : goal.returns-clause-delivered
+returns-clause-delivered g c = λ limits start h.
+    subst (λ (z : List ℕ). HasDelivered g.D.Debuggee.follows limits start c.loop-at.self.client c.loop-at.self.adapter c.loop-at.self.reader c.loop-at.self.transcript.items z c.loop-at.down.items)
+    (drop_of_length-le c.args.up.now (omega arith)) (c.loop-at.invariant.delivered limits start h)

@@ -1,0 +1,74 @@
+-- What each order of a script does, and a script line by line. The format is this profile's own.
+use Rattle.std.specs.Prelude.{◌≡◌, ◌+◌, ◌<◌, ℕ, List, [], ◌∷◌, ◌++◌, length, Ok}
+use Rattle.dap_frame.specs.Settings.{Settings}
+use Rattle.dap_message.specs.Types.Call.{Call}
+use Rattle.dap_message.specs.declared.message.Message.{Message}
+use Rattle.dap_debuggee.specs.Shown.{Shown}
+use Rattle.dap_session.specs.Carried.{Goes}
+use Rattle.dap_session.specs.Plan.{bytes_of}
+use Rattle.dap_adapter.specs.Run.{Next, to_take, to_turn, to_poll, after_poll}
+use Rattle.dap_drive.specs.Script.{order_of}
+use Rattle.dap_drive.specs.World.{World, fresh_world, Sends, ComesUp, ComesDown, Turns, IsIdle, Polls}
+use Rattle.dap_drive.specs.declared.script.Order.{Order}
+use Rattle.dap_drive.specs.declared.script.Order.TheVariants.{Send, Turn, Poll, Run}
+
+-- some of what is under way is delivered, one message after the other
+pub data Delivers {D : Type 0} (follows : Goes D) (start : World D) : World D → Type 0 where
+  none : Delivers follows start start
+  one_up : (v w : World D) → Delivers follows start v → ComesUp follows v w → Delivers follows start w
+  one_down : (v w : World D) → Delivers follows start v → ComesDown v w → Delivers follows start w
+
+-- all that is under way is delivered, and what is written then
+pub record Settles {D : Type 0} (follows : Goes D) (old new : World D) : Type 0 where
+  pub delivers : Delivers follows old new
+  pub none_up : new.up ≡ []
+  pub none_down : new.down ≡ []
+
+-- ---- orders
+
+-- the call is sent
+pub record DoesSend {D : Type 0} (follows : Goes D) (call : Call) (old new : World D) : Type 0 where
+  pub sent : World D
+  pub sends : Sends call old sent
+  pub settles : Settles follows sent new
+
+-- the adapter handles a request
+pub record Handles {D : Type 0} (shown : D → Shown) (follows : Goes D) (old new : World D) : Type 0 where
+  pub turned : World D
+  pub turns : Turns shown follows old turned
+  pub settles : Settles follows turned new
+
+-- it handles one, or none waits
+pub data DoesTurn {D : Type 0} (shown : D → Shown) (follows : Goes D) (old new : World D) : Type 0 where
+  idle : IsIdle shown old → new ≡ old → DoesTurn shown follows old new
+  handles : Handles shown follows old new → DoesTurn shown follows old new
+
+-- the adapter tells what happened
+pub record DoesPoll {D : Type 0} (follows : Goes D) (old new : World D) : Type 0 where
+  pub outs : List Message
+  pub polled : World D
+  pub polls : Polls follows outs old polled
+  pub settles : Settles follows polled new
+
+-- all requests are handled, then what happens is told, as in serving: until nothing does, in a stop, or after 65536 times
+pub data RunsTo {D : Type 0} (shown : D → Shown) (follows : Goes D) (start : World D) : Next → World D → Type 0 where
+  begins : RunsTo shown follows start to_turn start
+  handled : (v w : World D) → RunsTo shown follows start to_turn v → Handles shown follows v w → RunsTo shown follows start to_turn w
+  idles : (w : World D) → RunsTo shown follows start to_turn w → IsIdle shown w → RunsTo shown follows start (to_poll 0) w
+  polled : (v w : World D) (made : ℕ) → RunsTo shown follows start (to_poll made) v → (p : DoesPoll follows v w)
+      → RunsTo shown follows start (after_poll (made + 1) (bytes_of p.outs) p.polled.adapter.session.phase) w
+
+abbrev pub Does : {D : Type 0} → (D → Shown) → Goes D → Order → World D → World D → Type 0
+Does shown follows (Send call) old new = DoesSend follows call old new
+Does shown follows Turn old new = DoesTurn shown follows old new
+Does shown follows Poll old new = DoesPoll follows old new
+Does shown follows Run old new = RunsTo shown follows old to_take new
+
+-- ---- a script
+
+-- these lines of a script lead from two fresh ends to here; a line without bytes does nothing
+pub data Ran {D : Type 0} (shown : D → Shown) (follows : Goes D) (limits : Settings) (debuggee : D) : List (List ℕ) → World D → Type 0 where
+  starts : Ran shown follows limits debuggee [] (fresh_world limits debuggee)
+  skips : (texts : List (List ℕ)) (w : World D) → Ran shown follows limits debuggee texts w → Ran shown follows limits debuggee (texts ++ [] ∷ []) w
+  does : (texts : List (List ℕ)) (text : List ℕ) (order : Order) (v w : World D) → Ran shown follows limits debuggee texts v → 0 < length text → order_of text ≡ Ok order → Does shown follows order v w
+      → Ran shown follows limits debuggee (texts ++ text ∷ []) w

@@ -1,0 +1,142 @@
+//! A script, line by line, and the transcript of what both ends wrote.
+ghost use Rattle.std.specs.Prelude.{◌≡◌, ◌∷◌, ◌++◌, ◌<◌, ℕ, List, [], length, IfOk, IfErr, OnOk};
+ghost use Rattle.std.specs.Str.Lines.{lines};
+ghost use Rattle.dap_debuggee.specs.declared.answers.State.{State};
+ghost use Rattle.dap_frame.specs.Intake.{IsUnderWay};
+ghost use Rattle.dap_frame.specs.Settings.{Settings};
+ghost use Rattle.dap_drive.specs.Driven.{Drives, Stops, SaysOf, DrivesRecording, StopsOver};
+ghost use Rattle.dap_drive.specs.Held.{IsQuiet, HasDone, DoesLine, HasRun};
+ghost use Rattle.dap_drive.specs.World.{World};
+
+use crate::ends::Drive;
+use crate::fault::DriveFault;
+use crate::script::{LineFault, Order, read_order};
+use dap_check::split_line;
+use dap_debuggee::{Debuggee, Recorded, RecordingFault};
+use dap_frame::Limits;
+use std::alloc::Global;
+
+/// Does what the line of this number asks for, which has bytes.
+fn do_order<D: Debuggee + Drop>(
+    alloc: Global,
+    drive: &mut Drive<D>,
+    text: &[u8],
+    number: u64,
+) -> Result<(), DriveFault>
+    requires reading { IsUnderWay drive.old.reader }
+    ensures reading { OnOk result (IsUnderWay drive.new.reader) }
+    ensures done { OnOk result ((limits : Settings) (start : World D)
+        → IsQuiet limits drive.old.client drive.old.adapter drive.old.reader drive.old.transcript.items start
+        → HasDone (DoesLine D.shown D.follows text.now) limits start drive.new.client drive.new.adapter drive.new.reader drive.new.transcript.items) }
+    ensures stops { IfErr result (λ fault. (limits : Settings) (start : World D)
+        → IsQuiet limits drive.old.client drive.old.adapter drive.old.reader drive.old.transcript.items start
+        → SaysOf fault number text.now start) }
+{
+    match read_order(alloc, text) {
+        Ok(Order::Send(call)) => match drive.send(alloc, &call, number) {
+            Ok(()) => Ok(()),
+            Err(fault) => Err(fault),
+        },
+        Ok(Order::Turn) => match drive.turn(alloc) {
+            Ok(_) => Ok(()),
+            Err(fault) => Err(fault),
+        },
+        Ok(Order::Poll) => match drive.poll(alloc) {
+            Ok(_) => Ok(()),
+            Err(fault) => Err(fault),
+        },
+        Ok(Order::Run) => match drive.run(alloc) {
+            Ok(()) => Ok(()),
+            Err(fault) => Err(fault),
+        },
+        Err(LineFault::Script) => Err(DriveFault::Script { line: number }),
+        Err(LineFault::Call) => Err(DriveFault::Call { line: number }),
+        Err(LineFault::OutOfMemory) => Err(DriveFault::OutOfMemory),
+    }
+}
+
+/// Does what the line of this number asks for, if it has bytes.
+fn do_line<D: Debuggee + Drop>(
+    alloc: Global,
+    drive: &mut Drive<D>,
+    text: &[u8],
+    number: u64,
+) -> Result<(), DriveFault>
+    requires reading { IsUnderWay drive.old.reader }
+    ensures reading { OnOk result (IsUnderWay drive.new.reader) }
+    ensures ran { OnOk result ((limits : Settings) (debuggee : D) (texts : List (List ℕ))
+        → HasRun D.shown D.follows limits debuggee texts drive.old.client drive.old.adapter drive.old.reader drive.old.transcript.items
+        → HasRun D.shown D.follows limits debuggee (texts ++ text.now ∷ []) drive.new.client drive.new.adapter drive.new.reader drive.new.transcript.items) }
+    ensures bytes { IfErr result (λ fault. 0 < length text.now) }
+    ensures stops { IfErr result (λ fault. (limits : Settings) (start : World D)
+        → IsQuiet limits drive.old.client drive.old.adapter drive.old.reader drive.old.transcript.items start
+        → SaysOf fault number text.now start) }
+{
+    if text.is_empty() {
+        return Ok(());
+    }
+    match do_order(alloc, drive, text, number) {
+        Ok(()) => Ok(()),
+        Err(fault) => Err(fault),
+    }
+}
+
+/// Runs a script over a debuggee that is not started, and gives the transcript: a line for each message that either end
+/// wrote, in order, with the mark of its side.
+///
+/// A line of the script is `send COMMAND`, `send COMMAND JSON`, `turn`, `poll` or `run`; a line without bytes is skipped, and
+/// counted. Each message is delivered once it is written. `run` lets the adapter handle all requests, then tells what
+/// happens until nothing does, the debuggee stops, or it was asked 65536 times.
+///
+/// # Errors
+/// Those of [`drive`] but `Recording`. There is no transcript then.
+pub fn drive_debuggee<D: Debuggee + Drop>(
+    alloc: Global,
+    debuggee: D,
+    script: &[u8],
+    limits: Limits,
+) -> Result<Vec<u8>, DriveFault>
+    requires { (D.shown debuggee).state ≡ State.NotStarted }
+    ensures drives { IfOk result (λ transcript. Drives D.shown D.follows limits debuggee (lines script.now) transcript.items) }
+    ensures stops { IfErr result (Stops D.shown D.follows limits debuggee (lines script.now)) }
+{
+    let mut drive = Drive::open(alloc, limits, debuggee)?;
+    let mut rest = script;
+    let mut number = 0;
+    while !rest.is_empty() {
+        let (text, later) = split_line(rest);
+        number += 1;
+        match do_line(alloc, &mut drive, text, number) {
+            Ok(()) => {}
+            Err(fault) => return Err(fault),
+        }
+        rest = later;
+    }
+    Ok(drive.into_transcript())
+}
+
+/// Runs a script over a recording, as [`drive_debuggee`] does.
+///
+/// # Errors
+/// `Recording` where the recording is none; then, of the first line that is not done, counted from 1: `Script` where it is no
+/// order, `Call` where its arguments are refused or cannot be written, `Send` with the client's refusal; `Adapter` and
+/// `Client` where that end is closed by a fault; `OutOfMemory` where memory is refused. There is no transcript then.
+pub fn drive(
+    alloc: Global,
+    recording: &[u8],
+    script: &[u8],
+    limits: Limits,
+) -> Result<Vec<u8>, DriveFault>
+    ensures drives { IfOk result (λ transcript. DrivesRecording limits recording.now (lines script.now) transcript.items) }
+    ensures stops { IfErr result (StopsOver limits recording.now (lines script.now)) }
+{
+    let recorded = match Recorded::read(alloc, recording) {
+        Ok(recorded) => recorded,
+        Err(RecordingFault::OutOfMemory) => return Err(DriveFault::OutOfMemory),
+        Err(_) => return Err(DriveFault::Recording),
+    };
+    match drive_debuggee(alloc, recorded, script, limits) {
+        Ok(transcript) => Ok(transcript),
+        Err(fault) => Err(fault),
+    }
+}

@@ -1,0 +1,403 @@
+//! Both ends, and what one call of either leads to: each message that is written becomes a line, and is delivered.
+ghost use Rattle.std.specs.Prelude.{◌≡◌, ℕ, ◌+◌, ◌==◌, ◌||◌, ◌<◌, ◌≤◌, List, [], length, drop, IfOk, IfErr, OnOk, Some, IsTrue, true};
+ghost use Rattle.dap_debuggee.specs.declared.answers.State.{State};
+ghost use Rattle.dap_frame.specs.Intake.{IsUnderWay};
+ghost use Rattle.dap_frame.specs.Settings.{Settings};
+ghost use Rattle.dap_message.specs.PlainCall.{is_plain_call};
+ghost use Rattle.dap_session.specs.Table.{is_phase};
+ghost use Rattle.dap_drive.specs.Held.{IsClosing, IsUnsent, Spends, left_to_do};
+
+use crate::fault::DriveFault;
+use crate::writing::{Unwritten, write_lines};
+use dap_adapter::{Adapter, AdapterFault, Phase, Taken, Turned};
+use dap_check::Side;
+use dap_client::{Client, ClientFault, Got, SendFault};
+use dap_debuggee::Debuggee;
+use dap_frame::{Frames, Limits, each_stream_has_one_split};
+use dap_message::Call;
+use std::alloc::{AllocError, Global};
+
+/// After a `run` has handled all requests, the debuggee is asked at most so often what happened.
+const MAX_POLLS: u32 = 65536;
+
+fn client_fault(fault: ClientFault) -> DriveFault
+    ensures { IsClosing result }
+{
+    match fault {
+        ClientFault::OutOfMemory => DriveFault::OutOfMemory,
+        _ => DriveFault::Client,
+    }
+}
+
+fn adapter_fault(fault: AdapterFault) -> DriveFault
+    ensures { IsClosing result }
+{
+    match fault {
+        AdapterFault::OutOfMemory => DriveFault::OutOfMemory,
+        _ => DriveFault::Adapter,
+    }
+}
+
+/// Bytes of one end that are no frames close the other.
+fn unwritten(side: Side, fault: Unwritten) -> DriveFault
+    ensures { IsClosing result }
+{
+    match fault {
+        Unwritten::OutOfMemory => DriveFault::OutOfMemory,
+        Unwritten::Frames => match side {
+            Side::Client => DriveFault::Adapter,
+            Side::Adapter => DriveFault::Client,
+        },
+    }
+}
+
+/// How many bytes a client used, and what it wrote.
+fn of_client(got: Got) -> (usize, Vec<u8>)
+    ensures used { result.0 ≡ got.used }
+    ensures bytes { result.1 ≡ got.bytes }
+{
+    let Got { used, bytes, .. } = got;
+    (used, bytes)
+}
+
+/// How many bytes an adapter used, and what it wrote.
+fn of_adapter(taken: Taken) -> (usize, Vec<u8>)
+    ensures used { result.0 ≡ taken.used }
+    ensures bytes { result.1 ≡ taken.bytes }
+{
+    let Taken { used, bytes, .. } = taken;
+    (used, bytes)
+}
+
+fn is_stopped(phase: Phase) -> bool
+    ensures { result ≡ is_phase Phase.Stopped phase }
+{
+    matches!(phase, Phase::Stopped)
+}
+
+/// Whether the debuggee is asked no more, after a poll that handed out these bytes.
+fn is_last(bytes: &[u8], phase: Phase) -> bool
+    ensures { result ≡ (length bytes.now == 0) || is_phase Phase.Stopped phase }
+{
+    bytes.is_empty() || is_stopped(phase)
+}
+
+/// Both ends, a reader that tells where messages end, and the transcript so far.
+#[derive(Drop)]
+pub(crate) struct Drive<D: Debuggee + Drop> {
+    client: Client,
+    adapter: Adapter<D>,
+    reader: Frames,
+    transcript: Vec<u8>,
+}
+
+impl<D: Debuggee + Drop> Drive<D> {
+    ghost use Rattle.dap_drive.specs.World.{World, fresh_world};
+    ghost use Rattle.dap_drive.specs.Orders.{DoesSend, RunsTo};
+    ghost use Rattle.dap_drive.specs.Held.{IsAt, HasDelivered, HasSettled, IsQuiet, HasDone, HasTurned, HasPolled};
+    ghost use Rattle.dap_adapter.specs.Run.{to_take, to_turn, to_poll};
+
+    /// Two fresh ends. The debuggee is not started.
+    pub(crate) fn open(alloc: Global, limits: Limits, debuggee: D) -> Result<Drive<D>, AllocError>
+        requires { (D.shown debuggee).state ≡ State.NotStarted }
+        ensures reading { IfOk result (λ d. IsUnderWay d.reader) }
+        ensures fresh { IfOk result (λ d. IsQuiet limits d.client d.adapter d.reader d.transcript.items (fresh_world limits debuggee)) }
+    {
+        // A law for the proof: bytes are frames in one way only.
+        each_stream_has_one_split();
+        let client = Client::open(alloc, limits)?;
+        let adapter = Adapter::open(alloc, limits, debuggee)?;
+        let reader = Frames::open(alloc, &limits)?;
+        Ok(Drive {
+            client,
+            adapter,
+            reader,
+            transcript: Vec::new(alloc),
+        })
+    }
+
+    pub(crate) fn into_transcript(self) -> Vec<u8>
+        ensures { result ≡ self.transcript }
+    {
+        let Drive { transcript, .. } = self;
+        transcript
+    }
+
+    /// Delivers the first message on the way down, and answers how many bytes its frame has. What the client writes is
+    /// under way up.
+    fn take_down(
+        &mut self,
+        alloc: Global,
+        rest: &[u8],
+        up: &mut Vec<u8>,
+    ) -> Result<usize, DriveFault>
+        requires reading { IsUnderWay self.old.reader }
+        ensures reading { OnOk result (IsUnderWay self.new.reader) }
+        ensures progress { IfOk result (λ n. 0 < length rest.now → 0 < n) }
+        ensures within { IfOk result (λ n. n ≤ length rest.now) }
+        ensures delivered { IfOk result (λ n. 0 < length rest.now → (limits : Settings) (start : World D)
+            → HasDelivered D.follows limits start self.old.client self.old.adapter self.old.reader self.old.transcript.items up.old.items rest.now
+            → HasDelivered D.follows limits start self.new.client self.new.adapter self.new.reader self.new.transcript.items up.new.items (drop n rest.now)) }
+        ensures spends { OnOk result (Spends self.old.client.session self.new.client.session (length up.old.items) (length up.new.items)) }
+        ensures adapter { self.new.adapter ≡ self.old.adapter }
+        ensures closing { IfErr result IsClosing }
+    {
+        // A law for the proof: bytes are frames in one way only.
+        each_stream_has_one_split();
+        let got = match self.client.take(alloc, rest) {
+            Ok(got) => got,
+            Err(fault) => return Err(client_fault(fault)),
+        };
+        let (used, bytes) = of_client(got);
+        match write_lines(&mut self.reader, &mut self.transcript, Side::Client, &bytes) {
+            Ok(()) => {}
+            Err(fault) => return Err(unwritten(Side::Client, fault)),
+        }
+        up.extend_from_slice(&bytes)?;
+        Ok(used)
+    }
+
+    /// Delivers all that is under way down, and hands out what is under way up then.
+    fn deliver_down(&mut self, alloc: Global, down: &[u8]) -> Result<Vec<u8>, DriveFault>
+        requires reading { IsUnderWay self.old.reader }
+        ensures reading { OnOk result (IsUnderWay self.new.reader) }
+        ensures delivered { IfOk result (λ up. (limits : Settings) (start : World D)
+            → HasDelivered D.follows limits start self.old.client self.old.adapter self.old.reader self.old.transcript.items [] down.now
+            → HasDelivered D.follows limits start self.new.client self.new.adapter self.new.reader self.new.transcript.items up.items []) }
+        ensures spends { IfOk result (λ up. Spends self.old.client.session self.new.client.session 0 (length up.items)) }
+        ensures adapter { OnOk result (self.new.adapter ≡ self.old.adapter) }
+        ensures closing { IfErr result IsClosing }
+    {
+        let mut up = Vec::new(alloc);
+        let mut at = 0;
+        while at < down.len() {
+            let (_, rest) = down.split_at(at);
+            at += self.take_down(alloc, rest, &mut up)?;
+        }
+        Ok(up)
+    }
+
+    /// Delivers the first message on the way up, and answers how many bytes its frame has. What the adapter writes is
+    /// under way down.
+    fn take_up(
+        &mut self,
+        alloc: Global,
+        rest: &[u8],
+        down: &mut Vec<u8>,
+    ) -> Result<usize, DriveFault>
+        requires reading { IsUnderWay self.old.reader }
+        ensures reading { OnOk result (IsUnderWay self.new.reader) }
+        ensures progress { IfOk result (λ n. 0 < length rest.now → 0 < n) }
+        ensures within { IfOk result (λ n. n ≤ length rest.now) }
+        ensures delivered { IfOk result (λ n. 0 < length rest.now → (limits : Settings) (start : World D)
+            → HasDelivered D.follows limits start self.old.client self.old.adapter self.old.reader self.old.transcript.items rest.now down.old.items
+            → HasDelivered D.follows limits start self.new.client self.new.adapter self.new.reader self.new.transcript.items (drop n rest.now) down.new.items) }
+        ensures client { self.new.client ≡ self.old.client }
+        ensures limits { OnOk result (self.new.adapter.session.limits ≡ self.old.adapter.session.limits) }
+        ensures closing { IfErr result IsClosing }
+    {
+        // A law for the proof: bytes are frames in one way only.
+        each_stream_has_one_split();
+        let taken = match self.adapter.take(alloc, rest) {
+            Ok(taken) => taken,
+            Err(fault) => return Err(adapter_fault(fault)),
+        };
+        let (used, bytes) = of_adapter(taken);
+        match write_lines(
+            &mut self.reader,
+            &mut self.transcript,
+            Side::Adapter,
+            &bytes,
+        ) {
+            Ok(()) => {}
+            Err(fault) => return Err(unwritten(Side::Adapter, fault)),
+        }
+        down.extend_from_slice(&bytes)?;
+        Ok(used)
+    }
+
+    /// Delivers all that is under way up, and hands out what is under way down then.
+    fn deliver_up(&mut self, alloc: Global, up: &[u8]) -> Result<Vec<u8>, DriveFault>
+        requires reading { IsUnderWay self.old.reader }
+        ensures reading { OnOk result (IsUnderWay self.new.reader) }
+        ensures delivered { IfOk result (λ down. (limits : Settings) (start : World D)
+            → HasDelivered D.follows limits start self.old.client self.old.adapter self.old.reader self.old.transcript.items up.now []
+            → HasDelivered D.follows limits start self.new.client self.new.adapter self.new.reader self.new.transcript.items [] down.items) }
+        ensures client { OnOk result (self.new.client ≡ self.old.client) }
+        ensures limits { OnOk result (self.new.adapter.session.limits ≡ self.old.adapter.session.limits) }
+        ensures closing { IfErr result IsClosing }
+    {
+        let mut down = Vec::new(alloc);
+        let mut at = 0;
+        while at < up.len() {
+            let (_, rest) = up.split_at(at);
+            at += self.take_up(alloc, rest, &mut down)?;
+        }
+        Ok(down)
+    }
+
+    /// Delivers what is under way down, and all that is written then, until nothing is under way.
+    fn settle(&mut self, alloc: Global, first: Vec<u8>) -> Result<(), DriveFault>
+        requires reading { IsUnderWay self.old.reader }
+        ensures reading { OnOk result (IsUnderWay self.new.reader) }
+        ensures settled { OnOk result ((limits : Settings) (start : World D)
+            → HasDelivered D.follows limits start self.old.client self.old.adapter self.old.reader self.old.transcript.items [] first.items
+            → HasSettled D.follows limits start self.new.client self.new.adapter self.new.reader self.new.transcript.items) }
+        ensures less { OnOk result (left_to_do self.new.client self.new.adapter ≤ left_to_do self.old.client self.old.adapter) }
+        ensures closing { IfErr result IsClosing }
+    {
+        // A law for the proof: no bytes are no messages.
+        each_stream_has_one_split();
+        let mut down = first;
+        'settle: loop {
+            let up = self.deliver_down(alloc, &down)?;
+            if up.is_empty() {
+                return Ok(());
+            }
+            down = self.deliver_up(alloc, &up)?;
+            // What an adapter keeps is bounded.
+            let _kept = self.adapter.kept();
+        }
+    }
+
+    /// The client sends the call that the line of this number asks for.
+    pub(crate) fn send(&mut self, alloc: Global, call: &Call, line: u64) -> Result<(), DriveFault>
+        requires reading { IsUnderWay self.old.reader }
+        requires plain { IsTrue (is_plain_call call.now) }
+        ensures reading { OnOk result (IsUnderWay self.new.reader) }
+        ensures sent { OnOk result ((limits : Settings) (start : World D)
+            → IsQuiet limits self.old.client self.old.adapter self.old.reader self.old.transcript.items start
+            → HasDone (DoesSend D.follows call.now) limits start self.new.client self.new.adapter self.new.reader self.new.transcript.items) }
+        ensures unsent { IfErr result (λ fault. IsUnsent fault line call.now self.old.client) }
+    {
+        // A law for the proof: bytes are frames in one way only.
+        each_stream_has_one_split();
+        let sent = match self.client.send(alloc, call) {
+            Ok(sent) => sent,
+            Err(SendFault::OutOfMemory) => return Err(DriveFault::OutOfMemory),
+            Err(cause) => return Err(DriveFault::Send { line, cause }),
+        };
+        match write_lines(
+            &mut self.reader,
+            &mut self.transcript,
+            Side::Client,
+            &sent.bytes,
+        ) {
+            Ok(()) => {}
+            Err(fault) => return Err(unwritten(Side::Client, fault)),
+        }
+        let down = self.deliver_up(alloc, &sent.bytes)?;
+        self.settle(alloc, down)?;
+        Ok(())
+    }
+
+    /// The adapter handles the oldest request that waits: whether there was one.
+    pub(crate) fn turn(&mut self, alloc: Global) -> Result<bool, DriveFault>
+        requires reading { IsUnderWay self.old.reader }
+        ensures reading { OnOk result (IsUnderWay self.new.reader) }
+        ensures turned { IfOk result (λ more. (limits : Settings) (start : World D)
+            → IsQuiet limits self.old.client self.old.adapter self.old.reader self.old.transcript.items start
+            → HasDone (HasTurned D.shown D.follows more) limits start self.new.client self.new.adapter self.new.reader self.new.transcript.items) }
+        ensures less { IfOk result (λ more. more ≡ true → left_to_do self.new.client self.new.adapter < left_to_do self.old.client self.old.adapter) }
+        ensures closing { IfErr result IsClosing }
+    {
+        // A law for the proof: bytes are frames in one way only.
+        each_stream_has_one_split();
+        let bytes = match self.adapter.turn(alloc) {
+            Ok(Turned::Idle) => return Ok(false),
+            Ok(Turned::Done { bytes }) => bytes,
+            Err(fault) => return Err(adapter_fault(fault)),
+        };
+        match write_lines(
+            &mut self.reader,
+            &mut self.transcript,
+            Side::Adapter,
+            &bytes,
+        ) {
+            Ok(()) => {}
+            Err(fault) => return Err(unwritten(Side::Adapter, fault)),
+        }
+        self.settle(alloc, bytes)?;
+        Ok(true)
+    }
+
+    /// The adapter tells what happened to the debuggee, once: whether that is all for now.
+    pub(crate) fn poll(&mut self, alloc: Global) -> Result<bool, DriveFault>
+        requires reading { IsUnderWay self.old.reader }
+        ensures reading { OnOk result (IsUnderWay self.new.reader) }
+        ensures polled { IfOk result (λ last. (limits : Settings) (start : World D)
+            → IsQuiet limits self.old.client self.old.adapter self.old.reader self.old.transcript.items start
+            → HasDone (HasPolled D.follows last) limits start self.new.client self.new.adapter self.new.reader self.new.transcript.items) }
+        ensures closing { IfErr result IsClosing }
+    {
+        // A law for the proof: bytes are frames in one way only.
+        each_stream_has_one_split();
+        let bytes = match self.adapter.poll(alloc) {
+            Ok(bytes) => bytes,
+            Err(fault) => return Err(adapter_fault(fault)),
+        };
+        let last = is_last(&bytes, self.adapter.phase());
+        match write_lines(
+            &mut self.reader,
+            &mut self.transcript,
+            Side::Adapter,
+            &bytes,
+        ) {
+            Ok(()) => {}
+            Err(fault) => return Err(unwritten(Side::Adapter, fault)),
+        }
+        self.settle(alloc, bytes)?;
+        Ok(last)
+    }
+
+    /// The adapter handles all requests, then tells what happens until nothing does or the debuggee stops.
+    pub(crate) fn run(&mut self, alloc: Global) -> Result<(), DriveFault>
+        requires reading { IsUnderWay self.old.reader }
+        ensures reading { OnOk result (IsUnderWay self.new.reader) }
+        ensures ran { OnOk result ((limits : Settings) (start : World D)
+            → IsQuiet limits self.old.client self.old.adapter self.old.reader self.old.transcript.items start
+            → HasDone (λ old new. RunsTo D.shown D.follows old to_take new) limits start self.new.client self.new.adapter self.new.reader self.new.transcript.items) }
+        ensures closing { IfErr result IsClosing }
+    {
+        self.turns(alloc)?;
+        self.polls(alloc)?;
+        Ok(())
+    }
+
+    fn turns(&mut self, alloc: Global) -> Result<(), DriveFault>
+        requires reading { IsUnderWay self.old.reader }
+        ensures reading { OnOk result (IsUnderWay self.new.reader) }
+        ensures ran { OnOk result ((limits : Settings) (start : World D)
+            → IsQuiet limits self.old.client self.old.adapter self.old.reader self.old.transcript.items start
+            → HasDone (λ old new. RunsTo D.shown D.follows old (to_poll 0) new) limits start self.new.client self.new.adapter self.new.reader self.new.transcript.items) }
+        ensures closing { IfErr result IsClosing }
+    {
+        // A law for the proof: bytes are frames in one way only.
+        each_stream_has_one_split();
+        'turns: loop {
+            let more = self.turn(alloc)?;
+            if !more {
+                return Ok(());
+            }
+        }
+    }
+
+    fn polls(&mut self, alloc: Global) -> Result<(), DriveFault>
+        requires reading { IsUnderWay self.old.reader }
+        ensures reading { OnOk result (IsUnderWay self.new.reader) }
+        ensures ran { OnOk result ((limits : Settings) (start : World D)
+            → HasDone (λ old new. RunsTo D.shown D.follows old (to_poll 0) new) limits start self.old.client self.old.adapter self.old.reader self.old.transcript.items
+            → HasDone (λ old new. RunsTo D.shown D.follows old to_take new) limits start self.new.client self.new.adapter self.new.reader self.new.transcript.items) }
+        ensures closing { IfErr result IsClosing }
+    {
+        // A law for the proof: bytes are frames in one way only.
+        each_stream_has_one_split();
+        for _poll in 0..MAX_POLLS {
+            let last = self.poll(alloc)?;
+            if last {
+                return Ok(());
+            }
+        }
+        Ok(())
+    }
+}
