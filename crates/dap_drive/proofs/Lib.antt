@@ -6,3 +6,4 @@ mod Spending
 mod Doing
 mod Scripting
 mod Recordings
+mod ScriptExamples
