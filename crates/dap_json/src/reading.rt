@@ -100,7 +100,7 @@ fn members(
 }
 
 /// The number that a token writes, where it is in range.
-#[inline(always)]
+#[inline(never)]
 fn number(text: &str) -> Option<Number>
     ensures { option_map number_view result ≡ number_of text.now }
 {
