@@ -1,4 +1,7 @@
 //! A value of a text read into a tree, from a reader that is lent, token by token.
+//!
+//! The items of arrays that are under way stand in one stack, and are moved out once their array ends: so each array takes
+//! memory once, and no more than it needs.
 ghost use Rattle.std.specs.Prelude.{◌≡◌, ◌<◌, length, Some, IfOk, OnOk, option_map, true, false};
 ghost use Rattle.json.specs.Json.{value as grammar_value, items as grammar_items, members as grammar_members};
 ghost use Rattle.serde_json.specs.Data.{no_members};
@@ -36,8 +39,14 @@ impl<T: Drop> From<AllocFailed<T>> for Unread {
 /// Reads a value, in which arrays and objects nest at most so deep.
 #[cycle(read)]
 #[inline(always)]
-pub fn value(alloc: Global, reader: &mut Reader<'_>, depth: usize) -> Result<Value, Unread>
+pub fn value(
+    alloc: Global,
+    reader: &mut Reader<'_>,
+    stack: &mut Vec<Value>,
+    depth: usize,
+) -> Result<Value, Unread>
     ensures ok { IfOk result (λ v. converted of_json (grammar_value depth reader.old) ≡ Some (view v, reader.new)) }
+    ensures stack { OnOk result (stack.new.items ≡ stack.old.items) }
     ensures shorter { OnOk result (length reader.new < length reader.old) }
 {
     match reader.next().ok_or(Unread)? {
@@ -53,13 +62,13 @@ pub fn value(alloc: Global, reader: &mut Reader<'_>, depth: usize) -> Result<Val
             if depth == 0 {
                 return Err(Unread);
             }
-            Ok(Value::Array(items(alloc, reader, depth - 1)?))
+            Ok(Value::Array(items(alloc, reader, stack, depth - 1)?))
         }
         Token::BeginObject => {
             if depth == 0 {
                 return Err(Unread);
             }
-            Ok(Value::Object(members(alloc, reader, depth - 1)?))
+            Ok(Value::Object(members(alloc, reader, stack, depth - 1)?))
         }
     }
 }
@@ -67,16 +76,22 @@ pub fn value(alloc: Global, reader: &mut Reader<'_>, depth: usize) -> Result<Val
 /// Reads the items of an array and its end.
 #[cycle(read)]
 #[inline(never)]
-fn items(alloc: Global, reader: &mut Reader<'_>, depth: usize) -> Result<Vec<Value>, Unread>
+fn items(
+    alloc: Global,
+    reader: &mut Reader<'_>,
+    stack: &mut Vec<Value>,
+    depth: usize,
+) -> Result<Vec<Value>, Unread>
     ensures ok { IfOk result (λ v. converted of_items (grammar_items (grammar_value depth) (length reader.old) reader.old) ≡ Some (items_view v.items, reader.new)) }
+    ensures stack { OnOk result (stack.new.items ≡ stack.old.items) }
     ensures shorter { OnOk result (length reader.new < length reader.old) }
 {
-    let mut found = Vec::new(alloc);
+    let start = stack.len();
     'items: while !reader.take_end_array() {
-        let item = value(alloc, reader, depth)?;
-        found.push(item)?;
+        let item = value(alloc, reader, stack, depth)?;
+        stack.push(item)?;
     }
-    Ok(found)
+    Ok(stack.split_off(start)?)
 }
 
 /// Reads the members of an object and its end. Of equal keys the last counts.
@@ -85,15 +100,17 @@ fn items(alloc: Global, reader: &mut Reader<'_>, depth: usize) -> Result<Vec<Val
 fn members(
     alloc: Global,
     reader: &mut Reader<'_>,
+    stack: &mut Vec<Value>,
     depth: usize,
 ) -> Result<Map<String, Value>, Unread>
     ensures ok { IfOk result (λ m. converted (λ ms. of_members ms no_members) (grammar_members (grammar_value depth) (length reader.old) reader.old) ≡ Some (members_view m.entries, reader.new)) }
+    ensures stack { OnOk result (stack.new.items ≡ stack.old.items) }
     ensures shorter { OnOk result (length reader.new < length reader.old) }
 {
     let mut found = Map::new(alloc);
     'members: while let Some(name) = reader.next_key()? {
         let key = String::from_str(alloc, name)?;
-        let member = value(alloc, reader, depth)?;
+        let member = value(alloc, reader, stack, depth)?;
         drop(found.insert(key, member)?);
     }
     Ok(found)

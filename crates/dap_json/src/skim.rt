@@ -12,8 +12,9 @@ ghost use Rattle.dap_json.specs.Skim.{Skims, IsRestOf, IsNext, IsAfterKey};
 use crate::reading;
 use crate::tree::Tree;
 use fast_float::Numeral;
+pub use json::Invalid;
 use json::{Reader, Token};
-pub use json::{Invalid, Scratch};
+use serde_json::Value;
 use std::alloc::Global;
 use std::marker::Model;
 
@@ -32,10 +33,29 @@ pub enum Skimmed<'a> {
     Other,
 }
 
+/// Memory that is lent to each reading, and kept from one to the next: for texts without their escapes, and for the items
+/// of arrays that are under way. What it held before does not matter.
+#[derive(Drop)]
+pub struct Scratch {
+    texts: json::Scratch,
+    items: Vec<Value>,
+}
+
+impl Scratch {
+    /// Nothing is taken yet. It has 16 KiB, so keep one.
+    pub fn new(alloc: Global) -> Scratch {
+        Scratch {
+            texts: json::Scratch::new(alloc),
+            items: Vec::new(alloc),
+        }
+    }
+}
+
 /// The rest of an object.
 #[derive(Drop)]
 pub struct Skim<'a> {
     reader: Reader<'a>,
+    items: &'a mut Vec<Value>,
 }
 
 impl<'a> Model for Skim<'a> {
@@ -59,11 +79,13 @@ impl<'a> Skim<'a> {
         let Ok(text) = simdutf8::basic::from_utf8(bytes) else {
             return Err(Invalid);
         };
-        let Ok(mut reader) = Reader::new(text, scratch) else {
+        let Scratch { texts, items } = scratch;
+        items.clear();
+        let Ok(mut reader) = Reader::new(text, texts) else {
             return Err(Invalid);
         };
         match reader.next() {
-            Some(Token::BeginObject) => Ok(Skim { reader }),
+            Some(Token::BeginObject) => Ok(Skim { reader, items }),
             _ => Err(Invalid),
         }
     }
@@ -114,7 +136,7 @@ impl<'a> Skim<'a> {
     pub fn tree(&mut self, alloc: Global) -> Result<Tree, Invalid>
         ensures { IfOk result (λ tree. IsNext tree self.old self.new) }
     {
-        match reading::value(alloc, &mut self.reader, MAX_DEPTH - 1) {
+        match reading::value(alloc, &mut self.reader, self.items, MAX_DEPTH - 1) {
             Ok(value) => Ok(Tree::new(value)),
             Err(_) => Err(Invalid),
         }
