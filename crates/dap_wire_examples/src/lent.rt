@@ -6,10 +6,13 @@ use dap_message::{BodyFault, BodyRefusal, read_message_with, write_message};
 use std::alloc::{AllocError, Global};
 use std::test::Fail;
 
-/// The message of a body as it is written.
-fn written(alloc: Global, body: &str, scratch: &mut Scratch) -> Result<Vec<u8>, BodyFault> {
+/// The message of a body as it is written, if it is plain.
+fn written(alloc: Global, body: &str, scratch: &mut Scratch) -> Result<Option<Vec<u8>>, BodyFault> {
     let message = read_message_with(alloc, body.as_bytes(), scratch)?;
-    Ok(write_message(alloc, &message)?)
+    if !message.plain() {
+        return Ok(None);
+    }
+    Ok(Some(write_message(alloc, &message)?))
 }
 
 #[test]
@@ -45,7 +48,9 @@ fn reads_one_after_another(rt: HostRuntime) -> Result<(), Fail> {
             "{\"seq\":5,\"type\":\"none\"}",
         ),
     ] {
-        let found = written(rt.alloc(), body, &mut scratch)?;
+        let Some(found) = written(rt.alloc(), body, &mut scratch)? else {
+            return Err("not plain")?;
+        };
         assert_eq!(rt; found.as_slice(), text.as_bytes(), "{body}");
     }
     Ok(())
