@@ -14,7 +14,7 @@ use crate::taken::{Taken, Turned};
 use dap_debuggee::Debuggee;
 use dap_frame::{Cause, End, FrameFault, Frames, Limits};
 use dap_history::laws::histories_grow;
-use dap_message::{BodyFault, Message, read_message};
+use dap_message::{BodyFault, Message, Scratch, read_message_with};
 use dap_session::laws::{each_step_goes_on, each_step_stays_within};
 use dap_session::{AdapterFault, Phase, Session};
 use std::alloc::{AllocError, Global};
@@ -25,6 +25,8 @@ use std::marker::Model;
 pub struct Adapter<D: Debuggee + Drop> {
     session: Session<D>,
     frames: Frames,
+    /// Kept from body to body.
+    scratch: Scratch,
     fault: Option<AdapterFault>,
 }
 
@@ -63,6 +65,7 @@ impl<D: Debuggee + Drop> Adapter<D> {
         Ok(Adapter {
             session,
             frames,
+            scratch: Scratch::new(alloc),
             fault: None,
         })
     }
@@ -139,7 +142,13 @@ impl<D: Debuggee + Drop> Adapter<D> {
         histories_grow();
         each_step_goes_on();
         each_step_stays_within();
-        match receive(alloc, &mut self.frames, &mut self.session, piece) {
+        match receive(
+            alloc,
+            &mut self.frames,
+            &mut self.scratch,
+            &mut self.session,
+            piece,
+        ) {
             Ok(taken) => Ok(taken),
             Err(fault) => {
                 self.frames.close();
@@ -248,7 +257,11 @@ impl<D: Debuggee + Drop> Adapter<D> {
 }
 
 /// The message that the ready body is.
-fn read_body(alloc: Global, frames: &mut Frames) -> Result<Message, AdapterFault>
+fn read_body(
+    alloc: Global,
+    frames: &mut Frames,
+    scratch: &mut Scratch,
+) -> Result<Message, AdapterFault>
     requires { IsReady frames.old }
     ensures same { frames.new ≡ frames.old }
     ensures read { IfOk result (Msg frames.old.held) }
@@ -258,7 +271,7 @@ fn read_body(alloc: Global, frames: &mut Frames) -> Result<Message, AdapterFault
     let Some(body) = frames.body() else {
         unreachable!()
     };
-    match read_message(alloc, body) {
+    match read_message_with(alloc, body, scratch) {
         Ok(message) => Ok(message),
         Err(BodyFault::Refused(cause)) => Err(AdapterFault::Body { cause, offset }),
         Err(BodyFault::OutOfMemory) => Err(AdapterFault::OutOfMemory),
@@ -279,6 +292,7 @@ fn frame_fault(fault: FrameFault) -> AdapterFault
 fn receive<D: Debuggee + Drop>(
     alloc: Global,
     frames: &mut Frames,
+    scratch: &mut Scratch,
     session: &mut Session<D>,
     piece: &[u8],
 ) -> Result<Taken, AdapterFault>
@@ -303,7 +317,7 @@ fn receive<D: Debuggee + Drop>(
             bytes: Vec::new(alloc),
         });
     }
-    let message = read_body(alloc, frames)?;
+    let message = read_body(alloc, frames, scratch)?;
     frames.release();
     let bytes = session.take(alloc, &message)?;
     Ok(Taken {

@@ -16,6 +16,7 @@ use crate::line::{Line, Side};
 use crate::words;
 use dap_message::{
     BodyFault, Heading, HeadingKind, Kind, Message, Scratch, Text, read_heading, read_message,
+    read_message_with,
 };
 use std::alloc::{AllocError, Global};
 
@@ -121,7 +122,7 @@ fn read_body(alloc: Global, scratch: &mut Scratch, body: &[u8]) -> Result<Messag
             return Ok(bare(alloc, &heading)?);
         }
     }
-    read_message(alloc, body)
+    read_message_with(alloc, body, scratch)
 }
 
 /// The line of this number, without its tree where no rule looks at it.

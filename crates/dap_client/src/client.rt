@@ -18,7 +18,7 @@ use crate::phase::Phase;
 use crate::session::Session;
 use dap_frame::{Cause, FrameFault, Frames, Limits};
 use dap_history::laws::histories_grow;
-use dap_message::{BodyFault, Call, Capabilities, Message, read_message};
+use dap_message::{BodyFault, Call, Capabilities, Message, Scratch, read_message_with};
 use std::alloc::{AllocError, Global};
 use std::marker::Model;
 
@@ -27,6 +27,8 @@ use std::marker::Model;
 pub struct Client {
     session: Session,
     frames: Frames,
+    /// Kept from body to body.
+    scratch: Scratch,
     fault: Option<ClientFault>,
 }
 
@@ -59,6 +61,7 @@ impl Client {
         Ok(Client {
             session,
             frames,
+            scratch: Scratch::new(alloc),
             fault: None,
         })
     }
@@ -176,7 +179,13 @@ impl Client {
         histories_grow();
         each_step_goes_on();
         each_step_stays_within();
-        match receive(alloc, &mut self.frames, &mut self.session, piece) {
+        match receive(
+            alloc,
+            &mut self.frames,
+            &mut self.scratch,
+            &mut self.session,
+            piece,
+        ) {
             Ok(got) => Ok(got),
             Err(fault) => {
                 self.frames.close();
@@ -188,7 +197,11 @@ impl Client {
 }
 
 /// The message that the ready body is.
-fn read_body(alloc: Global, frames: &mut Frames) -> Result<Message, ClientFault>
+fn read_body(
+    alloc: Global,
+    frames: &mut Frames,
+    scratch: &mut Scratch,
+) -> Result<Message, ClientFault>
     requires { IsReady frames.old }
     ensures same { frames.new ≡ frames.old }
     ensures read { IfOk result (Msg frames.old.held) }
@@ -198,7 +211,7 @@ fn read_body(alloc: Global, frames: &mut Frames) -> Result<Message, ClientFault>
     let Some(body) = frames.body() else {
         unreachable!()
     };
-    match read_message(alloc, body) {
+    match read_message_with(alloc, body, scratch) {
         Ok(message) => Ok(message),
         Err(BodyFault::Refused(cause)) => Err(ClientFault::Body { cause, offset }),
         Err(BodyFault::OutOfMemory) => Err(ClientFault::OutOfMemory),
@@ -219,6 +232,7 @@ fn frame_fault(fault: FrameFault) -> ClientFault
 fn receive(
     alloc: Global,
     frames: &mut Frames,
+    scratch: &mut Scratch,
     session: &mut Session,
     piece: &[u8],
 ) -> Result<Got, ClientFault>
@@ -243,7 +257,7 @@ fn receive(
             bytes: Vec::new(alloc),
         });
     }
-    let message = read_body(alloc, frames)?;
+    let message = read_body(alloc, frames, scratch)?;
     frames.release();
     let bytes = session.take(alloc, &message)?;
     Ok(Got {

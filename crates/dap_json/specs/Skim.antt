@@ -1,9 +1,9 @@
 -- Reading an object member by member.
-use Rattle.std.specs.Prelude.{◌≡◌, ◌≤◌, ℕ, List, [], length, Some}
+use Rattle.std.specs.Prelude.{◌≡◌, ◌<◌, ◌≤◌, ℕ, List, [], length, Some}
 use Rattle.json.specs.Token.{Token}
 use Rattle.json.specs.Json.{value, members}
-use Rattle.serde_json.specs.Data.{unsigned, negative, float, Data, null, boolean, number, string, array, object, Members}
-use Rattle.serde_json.specs.Read.{of_members, converted}
+use Rattle.serde_json.specs.Data.{unsigned, negative, float, Data, null, boolean, number, string, array, object, Members, put}
+use Rattle.serde_json.specs.Read.{of_json, of_members, converted}
 use Rattle.dap_json.specs.declared.skim.Skimmed.{Skimmed}
 use Rattle.dap_json.specs.declared.skim.Skimmed.TheVariants.{Null, Boolean, Whole, Text, Other}
 
@@ -29,3 +29,11 @@ Skims Other d = IsOther d
 -- the tokens are the rest of an object, which ends with them: with the members that were found before, it has `all`
 abbrev pub IsRestOf : List Token → Members → Members → Type 0
 IsRestOf tokens found all = (n : ℕ) → length tokens ≤ n → converted (λ ms. of_members ms found) (members (value 126) n tokens) ≡ Some (all, [])
+
+-- the value comes next, and after it the tokens `rest`
+abbrev pub IsNext : Data → List Token → List Token → Type 0
+IsNext d tokens rest = (converted of_json (value 126 tokens) ≡ Some (d, rest)) × (length rest < length tokens)
+
+-- the key was passed: once its value is passed too, it is one of the members that were found
+abbrev pub IsAfterKey : List ℕ → List Token → List Token → Type 0
+IsAfterKey key before after = (d : Data) (rest : List Token) → IsNext d after rest → (found all : Members) → IsRestOf rest (put key d found) all → IsRestOf before found all

@@ -1,4 +1,5 @@
-//! An object read member by member, with no tree: numbers, texts and truth values are told, all else is passed over.
+//! An object read member by member, with no tree of its own: numbers, texts and truth values are told, and all else is
+//! passed over. Of a value that is wanted whole, a tree can be asked for.
 //!
 //! What is passed is checked as [`parse`](crate::parse) checks it. Where nothing is given here, `parse` tells why.
 ghost use Rattle.std.specs.Prelude.{◌≡◌, ◌<◌, length, Some, None, IfOk, IfSome, OnOk, IsTrue, Float, slice_index, ◌==◌};
@@ -6,11 +7,15 @@ ghost use Rattle.json.specs.Json.{value as grammar_value, items as grammar_items
 ghost use Rattle.serde_json.specs.Data.{Data, Num, Items, Members, number as number_data, object as object_data, float, no_members, put};
 ghost use Rattle.serde_json.specs.Read.{of_json, of_items, of_members, converted, number_of, float_of};
 ghost use Rattle.dap_json.specs.Read.{json_of};
-ghost use Rattle.dap_json.specs.Skim.{Skims, IsRestOf};
+ghost use Rattle.dap_json.specs.Skim.{Skims, IsRestOf, IsNext, IsAfterKey};
 
+use crate::reading;
+use crate::tree::Tree;
 use fast_float::Numeral;
+pub use json::Invalid;
 use json::{Reader, Token};
-pub use json::{Invalid, Scratch};
+use serde_json::Value;
+use std::alloc::Global;
 use std::marker::Model;
 
 /// How deep arrays and objects may nest.
@@ -28,10 +33,29 @@ pub enum Skimmed<'a> {
     Other,
 }
 
+/// Memory that is lent to each reading, and kept from one to the next: for texts without their escapes, and for the items
+/// of arrays that are under way. What it held before does not matter.
+#[derive(Drop)]
+pub struct Scratch {
+    texts: json::Scratch,
+    items: Vec<Value>,
+}
+
+impl Scratch {
+    /// Nothing is taken yet. It has 16 KiB, so keep one.
+    pub fn new(alloc: Global) -> Scratch {
+        Scratch {
+            texts: json::Scratch::new(alloc),
+            items: Vec::new(alloc),
+        }
+    }
+}
+
 /// The rest of an object.
 #[derive(Drop)]
 pub struct Skim<'a> {
     reader: Reader<'a>,
+    items: &'a mut Vec<Value>,
 }
 
 impl<'a> Model for Skim<'a> {
@@ -55,11 +79,13 @@ impl<'a> Skim<'a> {
         let Ok(text) = simdutf8::basic::from_utf8(bytes) else {
             return Err(Invalid);
         };
-        let Ok(mut reader) = Reader::new(text, scratch) else {
+        let Scratch { texts, items } = scratch;
+        items.clear();
+        let Ok(mut reader) = Reader::new(text, texts) else {
             return Err(Invalid);
         };
         match reader.next() {
-            Some(Token::BeginObject) => Ok(Skim { reader }),
+            Some(Token::BeginObject) => Ok(Skim { reader, items }),
             _ => Err(Invalid),
         }
     }
@@ -67,9 +93,25 @@ impl<'a> Skim<'a> {
     /// The next member's key and value, or `None` at the end of the bytes; only then were the members those of an object.
     /// Of equal keys the last counts. It is an error where the bytes are no JSON or go on after the object, where arrays
     /// and objects nest deeper than 127, where a number is too great for a float, and after the end.
+    #[inline(always)]
     pub fn next(&mut self) -> Result<Option<(&'a str, Skimmed<'a>)>, Invalid>
         ensures member { IfOk result (λ r. IfSome r (λ m. (d : Data) × Skims m.1 d
             × ((found all : Members) → IsRestOf self.new (put m.0.now d found) all → IsRestOf self.old found all))) }
+        ensures end { IfOk result (λ r. r ≡ None → (found : Members) → IsRestOf self.old found found) }
+        ensures shorter { OnOk result (length self.new < length self.old) }
+    {
+        let Some(key) = self.next_key()? else {
+            return Ok(None);
+        };
+        let value = self.pass()?;
+        Ok(Some((key, value)))
+    }
+
+    /// The next member's key, or `None` at the end of the bytes, with the errors of [`next`](Skim::next). `pass` or `tree`
+    /// reads its value then.
+    #[inline(always)]
+    pub fn next_key(&mut self) -> Result<Option<&'a str>, Invalid>
+        ensures key { IfOk result (λ r. IfSome r (λ key. IsAfterKey key.now self.old self.new)) }
         ensures end { IfOk result (λ r. r ≡ None → (found : Members) → IsRestOf self.old found found) }
         ensures shorter { OnOk result (length self.new < length self.old) }
     {
@@ -79,8 +121,25 @@ impl<'a> Skim<'a> {
             }
             return Ok(None);
         };
-        let value = value(&mut self.reader, MAX_DEPTH - 1)?;
-        Ok(Some((key, value)))
+        Ok(Some(key))
+    }
+
+    /// Passes the value of the key that came last.
+    #[inline(always)]
+    pub fn pass(&mut self) -> Result<Skimmed<'a>, Invalid>
+        ensures { IfOk result (λ s. (d : Data) × Skims s d × IsNext d self.old self.new) }
+    {
+        value(&mut self.reader, MAX_DEPTH - 1)
+    }
+
+    /// The value of the key that came last, as a tree. It is also an error where memory is refused.
+    pub fn tree(&mut self, alloc: Global) -> Result<Tree, Invalid>
+        ensures { IfOk result (λ tree. IsNext tree self.old self.new) }
+    {
+        match reading::value(alloc, &mut self.reader, self.items, MAX_DEPTH - 1) {
+            Ok(value) => Ok(Tree::new(value)),
+            Err(_) => Err(Invalid),
+        }
     }
 }
 
@@ -163,7 +222,7 @@ fn number<'a>(text: &str) -> Result<Skimmed<'a>, Invalid>
 }
 
 #[inline(always)]
-fn has_minus(bytes: &[u8]) -> bool
+pub(crate) fn has_minus(bytes: &[u8]) -> bool
     ensures value { result ≡ (slice_index bytes.now 0 == 45) }
     ensures some { IsTrue result → 0 < length bytes.now }
 {

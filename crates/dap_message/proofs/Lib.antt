@@ -11,3 +11,4 @@ pub mod Lengths
 pub mod PlainBodies
 pub mod Ranges
 pub mod AnswerTexts
+pub mod StraightLemmas

@@ -24,6 +24,7 @@ pub mod Refusals
 pub mod Meaning
 pub mod Gives
 pub mod Heading
+pub mod Straight
 pub mod InRange
 pub mod Verdict
 pub mod Plain

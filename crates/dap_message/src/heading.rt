@@ -82,14 +82,29 @@ impl Message {
 
 /// The values at the keys that make a heading, where they came.
 #[derive(Drop)]
-struct Noted<'a> {
-    seq: Option<Skimmed<'a>>,
-    tag: Option<Skimmed<'a>>,
-    command: Option<Skimmed<'a>>,
-    request_seq: Option<Skimmed<'a>>,
-    success: Option<Skimmed<'a>>,
-    message: Option<Skimmed<'a>>,
-    event: Option<Skimmed<'a>>,
+pub(crate) struct Noted<'a> {
+    pub(crate) seq: Option<Skimmed<'a>>,
+    pub(crate) tag: Option<Skimmed<'a>>,
+    pub(crate) command: Option<Skimmed<'a>>,
+    pub(crate) request_seq: Option<Skimmed<'a>>,
+    pub(crate) success: Option<Skimmed<'a>>,
+    pub(crate) message: Option<Skimmed<'a>>,
+    pub(crate) event: Option<Skimmed<'a>>,
+}
+
+/// Nothing came yet.
+pub(crate) fn none_noted<'a>() -> Noted<'a>
+    ensures { TellsAll result no_members }
+{
+    Noted {
+        seq: None,
+        tag: None,
+        command: None,
+        request_seq: None,
+        success: None,
+        message: None,
+        event: None,
+    }
 }
 
 /// Notes a value at the key that is wanted.
@@ -103,7 +118,7 @@ fn note<'a>(noted: &mut Option<Skimmed<'a>>, wanted: &str, key: &str, value: Ski
 }
 
 /// Notes a member.
-fn note_member<'a>(noted: &mut Noted<'a>, key: &str, value: Skimmed<'a>)
+pub(crate) fn note_member<'a>(noted: &mut Noted<'a>, key: &str, value: Skimmed<'a>)
     ensures { (d : Data) (found : Members) → Skims value.entry d → TellsAll noted.old found → TellsAll noted.new (put key.now d found) }
 {
     note(&mut noted.seq, "seq", key, value);
@@ -119,22 +134,14 @@ fn note_member<'a>(noted: &mut Noted<'a>, key: &str, value: Skimmed<'a>)
 fn note_members<'a>(skim: &mut Skim<'a>) -> Result<Noted<'a>, Invalid>
     ensures { IfOk result (λ noted. (ms : Members) × IsRestOf skim.old no_members ms × TellsAll noted ms) }
 {
-    let mut noted = Noted {
-        seq: None,
-        tag: None,
-        command: None,
-        request_seq: None,
-        success: None,
-        message: None,
-        event: None,
-    };
+    let mut noted = none_noted();
     while let Some((key, value)) = skim.next()? {
         note_member(&mut noted, key, value);
     }
     Ok(noted)
 }
 
-fn whole(noted: &Option<Skimmed<'_>>) -> Option<u64>
+pub(crate) fn whole(noted: &Option<Skimmed<'_>>) -> Option<u64>
     ensures { (found : Option Data) → Tells noted.now found → result ≡ whole_in found }
 {
     match noted {
@@ -143,7 +150,7 @@ fn whole(noted: &Option<Skimmed<'_>>) -> Option<u64>
     }
 }
 
-fn text<'a>(noted: &Option<Skimmed<'a>>) -> Option<&'a str>
+pub(crate) fn text<'a>(noted: &Option<Skimmed<'a>>) -> Option<&'a str>
     ensures { (found : Option Data) → Tells noted.now found → option_map (λ s. s.now) result ≡ option_and_then as_str found }
 {
     match noted {
@@ -152,7 +159,7 @@ fn text<'a>(noted: &Option<Skimmed<'a>>) -> Option<&'a str>
     }
 }
 
-fn boolean(noted: &Option<Skimmed<'_>>) -> Option<bool>
+pub(crate) fn boolean(noted: &Option<Skimmed<'_>>) -> Option<bool>
     ensures { (found : Option Data) → Tells noted.now found → result ≡ option_and_then as_bool found }
 {
     match noted {
@@ -175,7 +182,7 @@ fn is_text_or_absent(noted: &Option<Skimmed<'_>>) -> bool
     }
 }
 
-fn command<'a>(noted: &Noted<'a>) -> Option<&'a str>
+pub(crate) fn command<'a>(noted: &Noted<'a>) -> Option<&'a str>
     ensures { IfSome result (λ name. (found : Option Data) → Tells noted.now.command found → (option_and_then as_str found ≡ Some name.now) × (length name.now ≤ max_command)) }
 {
     let name = text(&noted.command)?;

@@ -11,6 +11,7 @@ mod heading;
 pub mod laws;
 mod message;
 mod reading;
+mod straight;
 mod writing;
 
 pub use answering::{write_answer, write_event, write_failure, write_request, write_success};
@@ -30,5 +31,5 @@ pub use dap_json::{List, Text, Tree};
 pub use fault::{BodyFault, BodyRefusal};
 pub use heading::{Heading, HeadingKind, read_heading};
 pub use message::{Kind, MAX_COMMAND, Message};
-pub use reading::read_message;
+pub use reading::{read_message, read_message_with};
 pub use writing::write_message;

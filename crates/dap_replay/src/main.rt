@@ -6,7 +6,7 @@
 
 use dap_client::{Client, ClientFault, Phase, SendFault};
 use dap_frame::{FrameFault, Frames, Limits};
-use dap_message::{Call, Command, Kind, Message, read_call, read_message};
+use dap_message::{Call, Command, Kind, Message, Scratch, read_call, read_message_with};
 use std::alloc::{AllocError, Global};
 use std::fs::File;
 use std::io;
@@ -59,6 +59,8 @@ impl From<ClientFault> for Failure {
 struct Requests<'a> {
     rest: &'a [u8],
     frames: Frames,
+    /// Kept from body to body.
+    scratch: Scratch,
     read: u64,
 }
 
@@ -97,7 +99,7 @@ fn next_message(alloc: Global, requests: &mut Requests<'_>) -> Result<Message, F
     let (_, rest) = requests.rest.split_at(fed.used.min(requests.rest.len()));
     requests.rest = rest;
     let read = match requests.frames.body() {
-        Some(body) => read_message(alloc, body),
+        Some(body) => read_message_with(alloc, body, &mut requests.scratch),
         None => return Err(Failure::Requests),
     };
     requests.frames.release();
@@ -178,6 +180,7 @@ fn opened<'a>(alloc: Global, requests: &'a [u8]) -> Result<Replay<'a>, Failure> 
         requests: Requests {
             rest: requests,
             frames,
+            scratch: Scratch::new(alloc),
             read: 0,
         },
         next: None,

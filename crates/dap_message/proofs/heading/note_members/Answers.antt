@@ -2,7 +2,7 @@ use Rattle.serde_json.specs.Data.{no_members, put}
 use Rattle.dap_message.proofs.heading.note_members.Goals as goal
 
 pub loop-key-init : goal.loop-key-init
-loop-key-init c = (no_members, record { seq = tt; tag = tt; command = tt; request_seq = tt; success = tt; message = tt; event = tt }, λ all rest. rest)
+loop-key-init c = (no_members, c.none_noted-noted.ensures, λ all rest. rest)
 
 pub loop-key-preserved : goal.loop-key-preserved
 loop-key-preserved c =

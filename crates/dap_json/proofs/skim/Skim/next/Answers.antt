@@ -1,23 +1,7 @@
-use Rattle.std.proofs.Common.{◌≡◌, ◌-◌, [], Some, None, ap, ◌∙◌, arith}
-use Rattle.json.specs.Json.{read_key, value}
-use Rattle.json.proofs.Grammar.{read_key-shorter}
-use Rattle.dap_json.proofs.SkimLemmas.{member_read, members_over}
 use Rattle.dap_json.proofs.skim.Skim.next.Goals as goal
-
-pub returns-in_default-clause-end : goal.returns-in_default-clause-end
-returns-in_default-clause-end c = λ e found n enough.
-    let over : read_key c.args.self.now ≡ Some (None, c.next_key.new.self) = grind arith in
-    let none : c.next_key.new.self ≡ [] = grind arith in
-    members_over (value 126) found n c.args.self.now [] enough (over ∙ ap (λ r. Some (None, r)) none)
 
 pub returns-clause-member : goal.returns-clause-member
 returns-clause-member c =
-    let k = c.in-Some.key.now in
-    let ts = c.args.self.now in
-    let s = c.next_key.new.self in
-    let r = c.value.new.reader in
-    let named : read_key ts ≡ Some (Some k, s) = grind arith in
-    let done = c.in_ok-value.ensures in
-    let less = read_key-shorter ts (Some k) s named in
-    let lesser = done.shorter in
-    (done.ok.0, done.ok.2, λ found all rest n enough. member_read (value 126) found n k ts s r done.ok.0 (omega (arith)) named done.ok.1 ∙ rest (n - 1) (omega (arith)))
+    let passed = c.in_ok-value.ensures in
+    let named = rw c.in-Some.is at c.in_ok-key.ensures.key in
+    (passed.0, passed.1, named passed.0 _ passed.2)

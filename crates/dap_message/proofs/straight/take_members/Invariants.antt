@@ -1,0 +1,11 @@
+use Rattle.std.proofs.Common.{length}
+use Rattle.serde_json.specs.Data.{Members, no_members}
+use Rattle.dap_json.specs.Skim.{IsRestOf}
+use Rattle.dap_message.specs.Straight.{HoldsAll}
+use Rattle.dap_message.proofs.straight.take_members.Given as goal
+
+abbrev pub invariant-loop-seen : goal.invariant-loop-seen
+invariant-loop-seen l = (found : Members) × HoldsAll l.seen found × ((all : Members) → IsRestOf l.skim found all → IsRestOf l.initial.skim no_members all)
+
+abbrev pub decreases-loop-seen : goal.decreases-loop-seen
+decreases-loop-seen l = length l.skim

@@ -1,0 +1,165 @@
+//! A message read with no tree of its own: the members of the body are passed once, and trees are made of what stands at
+//! `arguments` and at `body` alone.
+//!
+//! Whatever is refused, and where memory is, nothing is given, and [`read_message`](crate::read_message) reads the body
+//! whole. So only what is given has to be right.
+ghost use Rattle.std.specs.Prelude.{◌≡◌, codes, Option, option_map, IfSome, IfOk, OnOk, Some};
+ghost use Rattle.serde_json.specs.Data.{Data, Members, object, no_members, put, string as string_data};
+ghost use Rattle.dap_json.specs.Field.{unless_null, text_at};
+ghost use Rattle.dap_json.specs.Skim.{IsRestOf, IsNext};
+ghost use Rattle.dap_message.specs.Heading.{Tells};
+ghost use Rattle.dap_message.specs.Meaning.{Msg, SaysKind};
+ghost use Rattle.dap_message.specs.Straight.{HoldsAll};
+
+use crate::heading::{Noted, boolean, command, none_noted, note_member, text, whole};
+use crate::message::{Kind, Message};
+use dap_json::skim::{Invalid, Scratch, Skim, Skimmed};
+use dap_json::{Text, Tree};
+use std::alloc::Global;
+
+/// What the members of a message are, so far.
+#[derive(Drop)]
+struct Envelope<'a> {
+    noted: Noted<'a>,
+    /// Absent where it was `null`.
+    arguments: Option<Tree>,
+    body: Option<Tree>,
+}
+
+/// The next value as a tree. `null` counts as absent.
+fn tree(alloc: Global, skim: &mut Skim<'_>) -> Result<Option<Tree>, Invalid>
+    ensures { IfOk result (λ tree. (d : Data) × IsNext d skim.old skim.new × (tree ≡ unless_null (Some d))) }
+{
+    let tree = skim.tree(alloc)?;
+    if tree.value().is_null() {
+        return Ok(None);
+    }
+    Ok(Some(tree))
+}
+
+/// Takes the value of a key.
+fn take_member<'a>(
+    alloc: Global,
+    skim: &mut Skim<'a>,
+    key: &str,
+    seen: &mut Envelope<'a>,
+) -> Result<(), Invalid>
+    ensures { OnOk result ((d : Data) × IsNext d skim.old skim.new × ((found : Members) → HoldsAll seen.old found → HoldsAll seen.new (put key.now d found))) }
+{
+    match key {
+        "arguments" => seen.arguments = tree(alloc, skim)?,
+        "body" => seen.body = tree(alloc, skim)?,
+        _ => note_member(&mut seen.noted, key, skim.pass()?),
+    }
+    Ok(())
+}
+
+/// Takes the members of an object, all of them to come.
+fn take_members<'a>(alloc: Global, skim: &mut Skim<'a>) -> Result<Envelope<'a>, Invalid>
+    ensures { IfOk result (λ seen. (ms : Members) × IsRestOf skim.old no_members ms × HoldsAll seen ms) }
+{
+    let mut seen = Envelope {
+        noted: none_noted(),
+        arguments: None,
+        body: None,
+    };
+    while let Some(key) = skim.next_key()? {
+        take_member(alloc, skim, key, &mut seen)?;
+    }
+    Ok(seen)
+}
+
+/// The text that stands there, if any; `null` counts as absent.
+fn text_if_any<'a>(noted: &Option<Skimmed<'a>>) -> Option<Option<&'a str>>
+    ensures { IfSome result (λ text. (found : Option Data) → Tells noted.now found → unless_null found ≡ option_map (λ s. string_data s.now) text) }
+{
+    match noted {
+        None | Some(Skimmed::Null) => Some(None),
+        Some(Skimmed::Text(text)) => Some(Some(*text)),
+        Some(_) => None,
+    }
+}
+
+/// A copy, unless memory is refused.
+fn copied(alloc: Global, text: &str) -> Option<Text>
+    ensures { IfSome result (λ copy. copy ≡ text.now) }
+{
+    match Text::copied(alloc, text) {
+        Ok(copy) => Some(copy),
+        Err(_) => None,
+    }
+}
+
+/// A copy of a text, if there is one.
+fn copied_if_any(alloc: Global, text: Option<&str>) -> Option<Option<Text>>
+    ensures { IfSome result (λ copy. copy ≡ option_map (λ s. s.now) text.entry) }
+{
+    match text {
+        None => Some(None),
+        Some(text) => Some(Some(copied(alloc, text)?)),
+    }
+}
+
+fn request(alloc: Global, seen: Envelope<'_>) -> Option<Kind>
+    ensures { IfSome result (λ kind. (ms : Members) → HoldsAll seen.entry ms → text_at (codes "type") (object ms) ≡ Some (codes "request") → SaysKind (object ms) kind) }
+{
+    let command = copied(alloc, command(&seen.noted)?)?;
+    Some(Kind::Request {
+        command,
+        arguments: seen.arguments,
+    })
+}
+
+fn response(alloc: Global, seen: Envelope<'_>) -> Option<Kind>
+    ensures { IfSome result (λ kind. (ms : Members) → HoldsAll seen.entry ms → text_at (codes "type") (object ms) ≡ Some (codes "response") → SaysKind (object ms) kind) }
+{
+    let request_seq = whole(&seen.noted.request_seq)?;
+    let success = boolean(&seen.noted.success)?;
+    let command = copied(alloc, command(&seen.noted)?)?;
+    let message = copied_if_any(alloc, text_if_any(&seen.noted.message)?)?;
+    Some(Kind::Response {
+        request_seq,
+        success,
+        command,
+        message,
+        body: seen.body,
+    })
+}
+
+fn event(alloc: Global, seen: Envelope<'_>) -> Option<Kind>
+    ensures { IfSome result (λ kind. (ms : Members) → HoldsAll seen.entry ms → text_at (codes "type") (object ms) ≡ Some (codes "event") → SaysKind (object ms) kind) }
+{
+    let event = copied(alloc, text(&seen.noted.event)?)?;
+    Some(Kind::Event {
+        event,
+        body: seen.body,
+    })
+}
+
+fn kind(alloc: Global, seen: Envelope<'_>) -> Option<Kind>
+    ensures { IfSome result (λ kind. (ms : Members) → HoldsAll seen.entry ms → SaysKind (object ms) kind) }
+{
+    match text(&seen.noted.tag)? {
+        "request" => request(alloc, seen),
+        "response" => response(alloc, seen),
+        "event" => event(alloc, seen),
+        tag => Some(Kind::Other {
+            tag: copied(alloc, tag)?,
+        }),
+    }
+}
+
+/// The message that a body is, if it is given here. Unescaped texts go to `scratch`.
+pub(crate) fn message(alloc: Global, body: &[u8], scratch: &mut Scratch) -> Option<Message>
+    ensures { IfSome result (λ m. Msg body.now m) }
+{
+    let Ok(mut skim) = Skim::open(body, scratch) else {
+        return None;
+    };
+    let Ok(seen) = take_members(alloc, &mut skim) else {
+        return None;
+    };
+    let seq = whole(&seen.noted.seq)?;
+    let kind = kind(alloc, seen)?;
+    Some(Message { seq, kind })
+}
