@@ -5,8 +5,7 @@ use dap_frame::Limits;
 use dap_tool::{CheckFault, Checked, DriveFault, check, drive};
 use std::test::Fail;
 
-static SCRIPT: &[u8; 60] =
-    b"send initialize {\"adapterID\":\"rec\"}\nrun\nsend disconnect\nrun\n";
+static SCRIPT: &[u8; 60] = b"send initialize {\"adapterID\":\"rec\"}\nrun\nsend disconnect\nrun\n";
 
 /// What both ends write then.
 static TRANSCRIPT: &[u8; 523] =
