@@ -302,8 +302,9 @@ class Drive:
     def run(self):
         while self.turn():
             pass
-        while self.poll() and self.adapter.phase != "Stopped":
-            pass
+        for _ in range(65536):
+            if not self.poll() or self.adapter.phase == "Stopped":
+                return
 
 
 def script_line(drive, line):

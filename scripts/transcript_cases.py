@@ -628,6 +628,7 @@ def drives():
         ("CR LF, empty lines and no last end", "\r\n" + BEGIN.replace("\n", "\r\n\n") + "send disconnect\r\n\nrun", ENDED),
         ("a turn and polls", BEGIN.replace("run", "turn") + "poll\nturn\nsend disconnect\nturn\nturn\npoll", ENDED),
         ("cancelled", BEGIN + 'send threads\nsend threads\nsend cancel {"requestId":2}\nrun\n', CANCELLED),
+        ("blanks before the JSON", BEGIN.replace(" {", "  \t{"), BEGUN),
         ("arguments that count for nothing", 'send initialize {"adapterID":"rec","x":1.5,"linesStartAt1":null}\nrun', BEGUN),
     ]:
         expect(f"drive: {name}", drive(script), (0, wanted, b""))
