@@ -23,7 +23,7 @@ no_words = (refl, refl, refl, refl, refl)
 -- ---- requests
 
 without_arguments : (order_of (codes "send threads") ≡ Ok (Send call.Threads)) × (order_of (codes "send disconnect") ≡ Ok (Send call.Disconnect))
-unfolding is_utf8 chars
+unfolding is_utf8 chars lib.Utf8.encode
 without_arguments = (refl, refl)
 
 with_arguments : order_of (codes "send next {\"threadId\":1}") ≡ Ok (Send (call.Next (pos 1)))
@@ -45,7 +45,7 @@ unfolding json_of is_utf8 chars serde_json_on_literals
 no_plain_call = refl
 
 unknown_commands : (order_of (codes "send foo") ≡ Err Script) × (order_of (codes "send ") ≡ Err Script) × (order_of (codes "send  threads") ≡ Err Script) × (order_of (codes "send Threads") ≡ Err Script)
-unfolding is_utf8 chars
+unfolding is_utf8 chars lib.Utf8.encode
 unknown_commands = (refl, refl, refl, refl)
 
 no_json : (order_of (codes "send threads x") ≡ Err Script) × (order_of (codes "send threads ") ≡ Err Script) × (order_of (codes "send next {\"threadId\":1}}") ≡ Err Script)
