@@ -1,7 +1,5 @@
 -- Why a call on a piece is refused, from what the reader of frames, the reader of messages and the session say.
 use Rattle.std.proofs.Common.{◌≡◌, ℕ, ◌+◌, ◌<◌, length, List, Bool, true, false, not, IsTrue, nat_le, Ok, Err, refl, sym, subst, if◌then◌else◌}
-use Rattle.dap_frame.specs.declared.Cause.{Cause}
-use Rattle.dap_frame.specs.declared.Cause.TheVariants.{Refused, OutOfMemory as NoMemory}
 use Rattle.dap_frame.specs.declared.frames.FrameFault.{FrameFault}
 use Rattle.dap_frame.specs.Feeds.{Completes, Closes}
 use Rattle.dap_frame.specs.Intake.{Intake}
@@ -19,22 +17,15 @@ use Rattle.dap_session.specs.Seat.{NotTaken}
 use Rattle.dap_session.specs.Session.{Session}
 use Rattle.dap_session.specs.Table.{is_phase}
 use Rattle.dap_session.specs.Taking.{takes_as, taken_in}
-use Rattle.dap_history.specs.Pieces.{IsRefusal, FrameClosed, to_hold, to_read}
 use Rattle.dap_adapter.specs.Calls.{TakeRefused}
-use Rattle.dap_adapter.specs.Receives.{IsUnread, fault_of_cause, fault_of_frame}
+use Rattle.dap_adapter.specs.Receives.{IsUnread}
 
-by_cause : (old new : Intake) (s : Session) (piece : List ℕ) (cause : Cause) (fault : FrameFault) → fault.cause ≡ cause → 0 < length piece → Closes old new piece fault → TakeRefused old s piece (fault_of_cause cause fault)
-by_cause old new s piece (Refused refusal) fault is h c = (subst IsRefusal (sym is) tt, record { some = h; closed = new; closes = c })
-by_cause old new s piece NoMemory fault is h c =
-    let closed : FrameClosed old piece (record { cause = fault.cause; offset = fault.offset }) = record { some = h; closed = new; closes = c } in
-    to_hold fault.offset (subst (λ (x : Cause). FrameClosed old piece (record { cause = x; offset = fault.offset })) is closed)
-
-pub closed_refused : (old new : Intake) (s : Session) (piece : List ℕ) (fault : FrameFault) → 0 < length piece → Closes old new piece fault → TakeRefused old s piece (fault_of_frame fault)
-closed_refused old new s piece fault h c = by_cause old new s piece fault.cause fault refl h c
+pub closed_refused : (old new : Intake) (s : Session) (piece : List ℕ) (fault : FrameFault) → 0 < length piece → Closes old new piece fault → TakeRefused old s piece (Frame fault)
+closed_refused old new s piece fault h c = record { some = h; closed = new; closes = c }
 
 pub unread_refused : (old ready : Intake) (s : Session) (piece : List ℕ) (n : ℕ) (fault : AdapterFault) → Completes old ready piece n → IsUnread ready fault → TakeRefused old s piece fault
 unread_refused old ready s piece n (Body cause offset) c u = record { n = n; whole = record { ready = ready; completes = c }; bad = u.0; starts = u.1 }
-unread_refused old ready s piece n OutOfMemory c u = to_read n (record { ready = ready; completes = c })
+unread_refused old ready s piece n OutOfMemory c u = (n, record { ready = ready; completes = c })
 unread_refused old ready s piece n (Frame f) c u = absurd u
 unread_refused old ready s piece n (RepeatedSeq seq) c u = absurd u
 unread_refused old ready s piece n (Unmatched seq) c u = absurd u
@@ -69,7 +60,7 @@ of_kind seq (Event event body) s fault e = cc
 of_kind seq (Other tag) s fault e = cc
 
 pub untaken_refused : (old ready : Intake) (s : Session) (piece : List ℕ) (n : ℕ) (m : Message) (fault : AdapterFault) → Completes old ready piece n → Msg ready.held m → NotTaken fault m s → TakeRefused old s piece fault
-untaken_refused old ready s piece n m OutOfMemory c read t = to_read n (record { ready = ready; completes = c })
+untaken_refused old ready s piece n m OutOfMemory c read t = (n, record { ready = ready; completes = c })
 untaken_refused old ready s piece n m (Frame f) c read t = absurd (of_kind m.seq m.kind s (Frame f) t)
 untaken_refused old ready s piece n m (Body cause offset) c read t = absurd (of_kind m.seq m.kind s (Body cause offset) t)
 untaken_refused old ready s piece n m (RepeatedSeq seq) c read t = record { n = n; whole = record { ready = ready; completes = c }; message = m; read = read; closes = t }

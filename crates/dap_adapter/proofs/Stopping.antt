@@ -2,10 +2,9 @@
 use Rattle.std.proofs.Common.{◌≡◌, ℕ, ◌+◌, List, [], ◌∷◌, ◌++◌, take, drop, Bool, true, false, Option, Some, None, Ok, Err, refl, sym, ◌∙◌, subst}
 use Rattle.std.specs.Prelude.{if◌then◌else◌, nat_le}
 use Rattle.dap_channel.specs.Channel.{IoEvent}
-use Rattle.dap_frame.specs.Intake.{IsVerdict, StartsAt, LastStartsAt}
+use Rattle.dap_frame.specs.Intake.{StartsAt, LastStartsAt}
 use Rattle.dap_frame.specs.Stream.{Split}
-use Rattle.dap_frame.specs.declared.Cause.{Cause}
-use Rattle.dap_frame.specs.declared.Cause.TheVariants.{Refused, OutOfMemory as NoMemory}
+use Rattle.dap_frame.specs.Verdict.{verdict, Refused as Refuses}
 use Rattle.dap_frame.specs.declared.frames.FrameFault.{FrameFault}
 use Rattle.dap_frame.specs.declared.limits.Bounds.{Bounds}
 use Rattle.dap_message.specs.Types.Command.{Command}
@@ -17,7 +16,7 @@ use Rattle.dap_session.specs.Carried.{Goes}
 use Rattle.dap_session.specs.Handling.{turns, turn_of, some_plan, plan}
 use Rattle.dap_session.specs.Plan.{Plan, due}
 use Rattle.dap_session.specs.Session.{Session, oldest}
-use Rattle.dap_history.specs.Pieces.{FrameClosed, BodyRefused, IsRefusal}
+use Rattle.dap_history.specs.Pieces.{FrameClosed, BodyRefused}
 use Rattle.dap_adapter.specs.Calls.{TakeRefused, TurnRefused, PollRefused, ClosedBy}
 use Rattle.dap_adapter.specs.End.{End}
 use Rattle.dap_adapter.specs.Run.{Next, to_take, to_turn, to_poll, has_ended}
@@ -90,9 +89,9 @@ module _ {C D : Type 0} (goes : C → IoEvent → C → Type 0) (shown : D → S
 
   -- ---- a piece
 
-  frame_stops : (used piece rest : List ℕ) (r : Reaches goes shown follows b c e g w n used piece rest to_take) → has_ended e.session ≡ false → (f : FrameFault) (x : FrameClosed e.intake piece f) (cause : Cause) → f.cause ≡ cause → IsRefusal cause
+  frame_stops : (used piece rest : List ℕ) (r : Reaches goes shown follows b c e g w n used piece rest to_take) → has_ended e.session ≡ false → (f : FrameFault) (x : FrameClosed e.intake piece f)
       → FrameRefused shown follows b.limits b.debuggee (used ++ take x.closes.n piece) r.outs f
-  frame_stops used piece rest r going f x (Refused refusal) is some =
+  frame_stops used piece rest r going f x =
       let h = r.handles in
       let u = used ++ take x.closes.n piece in
       let left = rest ++ take x.closes.n piece in
@@ -105,12 +104,9 @@ module _ {C D : Type 0} (goes : C → IoEvent → C → Type 0) (shown : D → S
         seat = record { session = e.session; debuggee = e.debuggee };
         there = record { split = subst (λ (z : Bounds). Split z u h.bodies left) bounds st.split; run = h.run };
         goes_on = going;
-        refusal = refusal;
-        cause = is;
-        verdict_is = subst (λ (z : Bounds). IsVerdict z left (Refused refusal)) bounds (subst (λ (z : Cause). IsVerdict x.closed.bounds left z) is shut.verdict_is);
+        verdict_is = subst (λ (z : Bounds). verdict z left ≡ Refuses f.cause (length left)) bounds shut.verdict_is;
         offset = subst (λ (z : Bounds). StartsAt z f.offset u h.bodies left) bounds (subst (λ (z : ℕ). StartsAt x.closed.bounds z u h.bodies left) (sym x.closes.offset) shut.starts);
       }
-  frame_stops used piece rest r going f x NoMemory is some = absurd some
 
   body_stops : (used piece rest : List ℕ) (r : Reaches goes shown follows b c e g w n used piece rest to_take) → has_ended e.session ≡ false → (cause : _) (offset : ℕ) (x : BodyRefused e.intake piece cause offset)
       → RunBodyRefused shown follows b.limits b.debuggee (used ++ take x.n piece) r.outs cause offset
@@ -160,7 +156,7 @@ module _ {C D : Type 0} (goes : C → IoEvent → C → Type 0) (shown : D → S
     used = used ++ take x.1.closes.n piece;
     later = drop x.1.closes.n piece;
     read_are = halves used piece x.1.closes.n;
-    stops = frame_stops used piece rest r going f x.1 f.cause refl x.0;
+    stops = frame_stops used piece rest r going f x;
   }
   take_stops used piece rest (Body cause offset) r going x = record {
     pends = pends_of used piece rest to_take r;

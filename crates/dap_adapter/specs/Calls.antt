@@ -4,7 +4,7 @@ use Rattle.dap_frame.specs.Feeds.{Gathers}
 use Rattle.dap_frame.specs.Intake.{Intake, IsUnderWay}
 use Rattle.dap_frame.specs.Settings.{Settings, bounds_of}
 use Rattle.dap_history.specs.History.{Entry, In}
-use Rattle.dap_history.specs.Pieces.{Whole, FrameClosed, BodyRefused, NeedsMemory, IsRefusal}
+use Rattle.dap_history.specs.Pieces.{Whole, FrameClosed, BodyRefused, NeedsMemory}
 use Rattle.dap_message.specs.Meaning.{Msg}
 use Rattle.dap_message.specs.declared.message.Message.{Message}
 use Rattle.dap_debuggee.specs.Shown.{Shown}
@@ -64,7 +64,7 @@ pub record ClosedBy (old : Intake) (s : Session) (piece : List ℕ) (fault : Ada
 
 -- why a call on a piece was refused
 abbrev pub TakeRefused : Intake → Session → List ℕ → AdapterFault → Type 0
-TakeRefused old s piece (Frame fault) = IsRefusal fault.cause × FrameClosed old piece fault
+TakeRefused old s piece (Frame fault) = FrameClosed old piece fault
 TakeRefused old s piece (Body cause offset) = BodyRefused old piece cause offset
 TakeRefused old s piece OutOfMemory = NeedsMemory old piece
 TakeRefused old s piece fault = ClosedBy old s piece fault

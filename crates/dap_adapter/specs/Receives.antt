@@ -1,8 +1,5 @@
 -- The code's words for the bytes that come: what becomes of the reader of frames and of the session.
 use Rattle.std.specs.Prelude.{◌≡◌, ℕ, List, [], Option, Some, None}
-use Rattle.dap_frame.specs.declared.Cause.{Cause}
-use Rattle.dap_frame.specs.declared.Cause.TheVariants.{Refused, OutOfMemory as NoMemory}
-use Rattle.dap_frame.specs.declared.frames.FrameFault.{FrameFault}
 use Rattle.dap_frame.specs.Feeds.{Gathers}
 use Rattle.dap_frame.specs.Intake.{Intake, IsUnderWay, StandsFor}
 use Rattle.dap_message.specs.Meaning.{Msg}
@@ -10,7 +7,7 @@ use Rattle.dap_message.specs.Refusals.{Bad}
 use Rattle.dap_message.specs.declared.message.Message.{Message}
 use Rattle.dap_session.specs.Seat.{Seat, HasTaken}
 use Rattle.dap_session.specs.declared.fault.AdapterFault.{AdapterFault}
-use Rattle.dap_session.specs.declared.fault.AdapterFault.TheVariants.{Frame, Body, OutOfMemory}
+use Rattle.dap_session.specs.declared.fault.AdapterFault.TheVariants.{Body, OutOfMemory}
 use Rattle.dap_history.specs.Pieces.{Whole}
 use Rattle.dap_adapter.specs.declared.taken.Taken.{Taken}
 
@@ -38,11 +35,3 @@ abbrev pub IsUnread : Intake → AdapterFault → Type 0
 IsUnread i (Body cause offset) = Bad i.held cause × (offset ≡ i.start)
 IsUnread i OutOfMemory = Unit {0}
 IsUnread i fault = ⊥
-
--- the fault of a closed reader
-abbrev pub fault_of_cause : Cause → FrameFault → AdapterFault
-fault_of_cause (Refused refusal) fault = Frame fault
-fault_of_cause NoMemory fault = OutOfMemory
-
-abbrev pub fault_of_frame : FrameFault → AdapterFault
-fault_of_frame fault = fault_of_cause fault.cause fault

@@ -4,7 +4,6 @@ use Rattle.std.specs.Prelude.{◌≡◌, ℕ, ◌+◌, ◌<◌, ◌≤◌, List,
 use Rattle.std.specs.Io.KnownBytes.{Appends, Consumes, IsAtEnd}
 use Rattle.dap_channel.specs.Channel.{IoEvent, Gave, ReadFailed, Took, WriteFailed, Flushed, FlushFailed, Ran, bytes_read, bytes_written, reads, is_flushed, MayGoOn, HasEnded, HasReadFailed, HasWriteFailed}
 use Rattle.dap_channel.specs.Sent.{counted}
-use Rattle.dap_frame.specs.declared.Cause.TheVariants.{Refused}
 use Rattle.dap_frame.specs.declared.Refusal.{Refusal}
 use Rattle.dap_frame.specs.declared.frames.End.{End}
 use Rattle.dap_frame.specs.declared.frames.End.TheVariants.{Clean, Truncated, Refused as Closed}
@@ -49,9 +48,7 @@ pub record FrameRefused {D : Type 0} (shown : D → Shown) (follows : Goes D) (l
   pub seat : Seat D
   pub there : RanTo shown follows limits start used bodies rest outs to_take seat
   pub goes_on : has_ended seat.session ≡ false
-  pub refusal : Refusal
-  pub cause : fault.cause ≡ Refused refusal
-  pub verdict_is : verdict (bounds_of limits) rest ≡ Refuses refusal (length rest)
+  pub verdict_is : verdict (bounds_of limits) rest ≡ Refuses fault.cause (length rest)
   pub offset : StartsAt (bounds_of limits) fault.offset used bodies rest
 
 -- after the frames comes one whose body is no message

@@ -6,13 +6,13 @@ ghost use Rattle.dap_frame.specs.Intake.{IsReady, IsUnderWay, StandsFor as Stand
 ghost use Rattle.dap_frame.specs.declared.frames.End.{End};
 ghost use Rattle.dap_message.specs.Meaning.{Msg};
 ghost use Rattle.dap_adapter.specs.Calls.{TakeRefused};
-ghost use Rattle.dap_adapter.specs.Receives.{HasReceived, IsUnread, fault_of_frame};
+ghost use Rattle.dap_adapter.specs.Receives.{HasReceived, IsUnread};
 ghost use Rattle.dap_tables.specs.Breakpoints.{count};
 ghost use Rattle.dap_session.specs.Session.{fresh_session, oldest};
 
 use crate::taken::{Taken, Turned};
 use dap_debuggee::Debuggee;
-use dap_frame::{Cause, End, FrameFault, Frames, Limits};
+use dap_frame::{End, Frames, Limits};
 use dap_history::laws::histories_grow;
 use dap_message::{BodyFault, Message, Scratch, read_message_with};
 use dap_session::laws::{each_step_goes_on, each_step_stays_within};
@@ -120,7 +120,7 @@ impl<D: Debuggee + Drop> Adapter<D> {
     /// `Frame` and `Body` where the framing or a body is refused, at the offset of the refused frame; `Ended` for a request
     /// after `disconnect` was answered; `RepeatedSeq` for a request with the number of one that is kept; `Unmatched` for a
     /// response; `SeqExhausted` where more answers are due at once than own numbers are left; `OutOfMemory` where memory is
-    /// refused for the bytes of a frame, or once a body is whole.
+    /// refused once a body is whole: a piece that makes no frame whole takes none.
     pub fn take(&mut self, alloc: Global, piece: &[u8]) -> Result<Taken, AdapterFault>
         ensures takes { IfOk result (λ taken. Takes D.follows self.old piece.now taken taken.delivered self.new) }
         ensures progress { IfOk result (λ taken. 0 < length piece.now → 0 < taken.used) }
@@ -278,16 +278,6 @@ fn read_body(
     }
 }
 
-/// Why a stream is closed.
-fn frame_fault(fault: FrameFault) -> AdapterFault
-    ensures { result ≡ fault_of_frame fault }
-{
-    match fault.cause {
-        Cause::Refused(_) => AdapterFault::Frame(fault),
-        Cause::OutOfMemory => AdapterFault::OutOfMemory,
-    }
-}
-
 /// Takes bytes up to the end of a frame at most, and hands its message to the session.
 fn receive<D: Debuggee + Drop>(
     alloc: Global,
@@ -308,7 +298,7 @@ fn receive<D: Debuggee + Drop>(
 {
     let fed = match frames.feed(piece) {
         Ok(fed) => fed,
-        Err(fault) => return Err(frame_fault(fault)),
+        Err(fault) => return Err(AdapterFault::Frame(fault)),
     };
     if !fed.ready {
         return Ok(Taken {

@@ -2,12 +2,9 @@
 use Rattle.std.proofs.Common.{◌≡◌, ℕ, ◌<◌, length, List, Bool, true, false, not, IsTrue, Option, Some, None, Result, Ok, Err, refl, sym, subst, true≢false}
 use Rattle.std.specs.Prelude.{bytes_eq, nat_le, nat_lt, if◌then◌else◌}
 use Rattle.serde_json.specs.Data.{Data}
-use Rattle.dap_frame.specs.declared.Cause.{Cause}
-use Rattle.dap_frame.specs.declared.Cause.TheVariants.{Refused, OutOfMemory as NoMemory}
 use Rattle.dap_frame.specs.declared.frames.FrameFault.{FrameFault}
 use Rattle.dap_frame.specs.Feeds.{Completes, Closes}
 use Rattle.dap_frame.specs.Intake.{Intake}
-use Rattle.dap_history.specs.Pieces.{IsRefusal, FrameClosed, to_hold, to_read}
 use Rattle.dap_message.specs.Command.{command_named}
 use Rattle.dap_message.specs.Meaning.{Msg}
 use Rattle.dap_message.specs.declared.message.Message.{Message}
@@ -19,23 +16,17 @@ use Rattle.dap_client.specs.declared.fault.ClientFault.{ClientFault}
 use Rattle.dap_client.specs.declared.fault.ClientFault.TheVariants as fault
 use Rattle.dap_client.specs.Calls.{TakeRefused}
 use Rattle.dap_client.specs.Keeping.{IsWhyClosed}
-use Rattle.dap_client.specs.Receives.{IsUnread, fault_of_cause, fault_of_frame}
+use Rattle.dap_client.specs.Receives.{IsUnread}
 use Rattle.dap_client.specs.Seen.{learned, after_response}
 use Rattle.dap_client.specs.Session.{Session}
 use Rattle.dap_client.specs.Taking.{Made, takes, takes_as, takes_answer, answered_within, declined, answered}
 
-by_cause : (old new : Intake) (s : Session) (piece : List ℕ) (cause : Cause) (x : FrameFault) → x.cause ≡ cause → 0 < length piece → Closes old new piece x → TakeRefused old s piece (fault_of_cause cause x)
-by_cause old new s piece (Refused refusal) x is h c = (subst IsRefusal (sym is) tt, record { some = h; closed = new; closes = c })
-by_cause old new s piece NoMemory x is h c =
-    let closed : FrameClosed old piece (record { cause = x.cause; offset = x.offset }) = record { some = h; closed = new; closes = c } in
-    to_hold x.offset (subst (λ (k : Cause). FrameClosed old piece (record { cause = k; offset = x.offset })) is closed)
-
-pub closed_refused : (old new : Intake) (s : Session) (piece : List ℕ) (x : FrameFault) → 0 < length piece → Closes old new piece x → TakeRefused old s piece (fault_of_frame x)
-closed_refused old new s piece x h c = by_cause old new s piece x.cause x refl h c
+pub closed_refused : (old new : Intake) (s : Session) (piece : List ℕ) (x : FrameFault) → 0 < length piece → Closes old new piece x → TakeRefused old s piece (fault.Frame x)
+closed_refused old new s piece x h c = record { some = h; closed = new; closes = c }
 
 pub unread_refused : (old ready : Intake) (s : Session) (piece : List ℕ) (n : ℕ) (f : ClientFault) → Completes old ready piece n → IsUnread ready f → TakeRefused old s piece f
 unread_refused old ready s piece n (fault.Body cause offset) c u = record { n = n; whole = record { ready = ready; completes = c }; bad = u.0; starts = u.1 }
-unread_refused old ready s piece n fault.OutOfMemory c u = to_read n (record { ready = ready; completes = c })
+unread_refused old ready s piece n fault.OutOfMemory c u = (n, record { ready = ready; completes = c })
 unread_refused old ready s piece n (fault.Frame x) c u = absurd u
 unread_refused old ready s piece n (fault.Unmatched seq) c u = absurd u
 unread_refused old ready s piece n (fault.CommandMismatch seq) c u = absurd u
@@ -75,7 +66,7 @@ of-kind seq (Other tag) s f e = cc
 pub untaken_refused : (old ready : Intake) (s : Session) (piece : List ℕ) (n : ℕ) (m : Message) (f : ClientFault) → Completes old ready piece n → Msg ready.held m → IsWhyClosed f (takes m s) → TakeRefused old s piece f
 untaken_refused old ready s piece n m (fault.Frame x) c read why = absurd (true≢false (of-kind m.seq m.kind s (fault.Frame x) why))
 untaken_refused old ready s piece n m (fault.Body x y) c read why = absurd (true≢false (of-kind m.seq m.kind s (fault.Body x y) why))
-untaken_refused old ready s piece n m fault.OutOfMemory c read why = to_read n (record { ready = ready; completes = c })
+untaken_refused old ready s piece n m fault.OutOfMemory c read why = (n, record { ready = ready; completes = c })
 untaken_refused old ready s piece n m (fault.Unmatched x) c read why = record { n = n; whole = record { ready = ready; completes = c }; message = m; read = read; closes = why }
 untaken_refused old ready s piece n m (fault.CommandMismatch x) c read why = record { n = n; whole = record { ready = ready; completes = c }; message = m; read = read; closes = why }
 untaken_refused old ready s piece n m (fault.RepeatedSeq x) c read why = record { n = n; whole = record { ready = ready; completes = c }; message = m; read = read; closes = why }

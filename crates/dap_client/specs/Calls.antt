@@ -4,7 +4,7 @@ use Rattle.dap_frame.specs.Feeds.{Gathers}
 use Rattle.dap_frame.specs.Intake.{Intake, IsUnderWay}
 use Rattle.dap_frame.specs.Settings.{Settings, bounds_of}
 use Rattle.dap_history.specs.History.{In}
-use Rattle.dap_history.specs.Pieces.{Whole, FrameClosed, BodyRefused, NeedsMemory, IsRefusal}
+use Rattle.dap_history.specs.Pieces.{Whole, FrameClosed, BodyRefused, NeedsMemory}
 use Rattle.dap_message.specs.Meaning.{Msg}
 use Rattle.dap_message.specs.Types.Call.{Call}
 use Rattle.dap_message.specs.declared.message.Message.{Message}
@@ -62,7 +62,7 @@ pub record ClosedBy (old : Intake) (s : Session) (piece : List ℕ) (fault : Cli
 
 -- why a call on a piece was refused
 abbrev pub TakeRefused : Intake → Session → List ℕ → ClientFault → Type 0
-TakeRefused old s piece (Frame fault) = IsRefusal fault.cause × FrameClosed old piece fault
+TakeRefused old s piece (Frame fault) = FrameClosed old piece fault
 TakeRefused old s piece (Body cause offset) = BodyRefused old piece cause offset
 TakeRefused old s piece OutOfMemory = NeedsMemory old piece
 TakeRefused old s piece fault = ClosedBy old s piece fault

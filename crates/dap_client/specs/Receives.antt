@@ -1,8 +1,5 @@
 -- The code's words for the bytes that come: what becomes of the reader of frames and of the session.
 use Rattle.std.specs.Prelude.{◌≡◌, ℕ, List, [], Option, Some, None}
-use Rattle.dap_frame.specs.declared.Cause.{Cause}
-use Rattle.dap_frame.specs.declared.Cause.TheVariants.{Refused, OutOfMemory as NoMemory}
-use Rattle.dap_frame.specs.declared.frames.FrameFault.{FrameFault}
 use Rattle.dap_frame.specs.Feeds.{Gathers}
 use Rattle.dap_frame.specs.Intake.{Intake, IsUnderWay, StandsFor}
 use Rattle.dap_history.specs.Pieces.{Whole}
@@ -10,7 +7,7 @@ use Rattle.dap_message.specs.Meaning.{Msg}
 use Rattle.dap_message.specs.Refusals.{Bad}
 use Rattle.dap_message.specs.declared.message.Message.{Message}
 use Rattle.dap_client.specs.declared.fault.ClientFault.{ClientFault}
-use Rattle.dap_client.specs.declared.fault.ClientFault.TheVariants.{Frame, Body, OutOfMemory}
+use Rattle.dap_client.specs.declared.fault.ClientFault.TheVariants.{Body, OutOfMemory}
 use Rattle.dap_client.specs.declared.got.Got.{Got}
 use Rattle.dap_client.specs.Keeping.{IsMade}
 use Rattle.dap_client.specs.Session.{Session}
@@ -39,11 +36,3 @@ abbrev pub IsUnread : Intake → ClientFault → Type 0
 IsUnread i (Body cause offset) = Bad i.held cause × (offset ≡ i.start)
 IsUnread i OutOfMemory = Unit {0}
 IsUnread i fault = ⊥
-
--- the fault of a closed reader
-abbrev pub fault_of_cause : Cause → FrameFault → ClientFault
-fault_of_cause (Refused refusal) fault = Frame fault
-fault_of_cause NoMemory fault = OutOfMemory
-
-abbrev pub fault_of_frame : FrameFault → ClientFault
-fault_of_frame fault = fault_of_cause fault.cause fault

@@ -5,7 +5,7 @@ ghost use Rattle.dap_history.specs.History.{Entry, Out, Went, waiting};
 ghost use Rattle.dap_message.specs.Meaning.{Msg};
 ghost use Rattle.dap_message.specs.PlainCall.{is_plain_call};
 ghost use Rattle.dap_client.specs.Calls.{refusal_of, NotSent, Takes, TakeRefused};
-ghost use Rattle.dap_client.specs.Receives.{HasReceived, IsUnread, fault_of_frame};
+ghost use Rattle.dap_client.specs.Receives.{HasReceived, IsUnread};
 ghost use Rattle.dap_client.specs.Seen.{phase_in, ready_in, capabilities_in, references_in};
 ghost use Rattle.dap_client.specs.Sending.{next_message, sent_bytes, after_send};
 ghost use Rattle.dap_client.specs.Session.{fresh_session};
@@ -16,7 +16,7 @@ use crate::got::{Got, Sent};
 use crate::laws::{each_step_goes_on, each_step_stays_within};
 use crate::phase::Phase;
 use crate::session::Session;
-use dap_frame::{Cause, FrameFault, Frames, Limits};
+use dap_frame::{Frames, Limits};
 use dap_history::laws::histories_grow;
 use dap_message::{BodyFault, Call, Capabilities, Message, Scratch, read_message_with};
 use std::alloc::{AllocError, Global};
@@ -157,8 +157,8 @@ impl Client {
     /// `Frame` and `Body` where the framing or a body is refused, at the offset of the refused frame; `Unmatched` for a
     /// response to a number that no outstanding request has; `CommandMismatch` where that request has another command;
     /// `ReferenceLimit` where more references would be known than may be; `SeqExhausted` where a request of the adapter is
-    /// to be answered and no own number is left; `OutOfMemory` where memory is refused for the bytes of a frame, or once a
-    /// body is whole. Then the tables are as they were, every later `take` answers it again, and `send` answers `Ended`.
+    /// to be answered and no own number is left; `OutOfMemory` where memory is refused once a body is whole: a piece that
+    /// makes no frame whole takes none. Then the tables are as they were, every later `take` answers it again, and `send` answers `Ended`.
     pub fn take(&mut self, alloc: Global, piece: &[u8]) -> Result<Got, ClientFault>
         ensures takes { IfOk result (λ got. Takes self.old piece.now got got.delivered self.new) }
         ensures progress { IfOk result (λ got. 0 < length piece.now → 0 < got.used) }
@@ -218,16 +218,6 @@ fn read_body(
     }
 }
 
-/// Why a stream is closed.
-fn frame_fault(fault: FrameFault) -> ClientFault
-    ensures { result ≡ fault_of_frame fault }
-{
-    match fault.cause {
-        Cause::Refused(_) => ClientFault::Frame(fault),
-        Cause::OutOfMemory => ClientFault::OutOfMemory,
-    }
-}
-
 /// Takes bytes up to the end of a frame at most, and hands its message to the session.
 fn receive(
     alloc: Global,
@@ -248,7 +238,7 @@ fn receive(
 {
     let fed = match frames.feed(piece) {
         Ok(fed) => fed,
-        Err(fault) => return Err(frame_fault(fault)),
+        Err(fault) => return Err(ClientFault::Frame(fault)),
     };
     if !fed.ready {
         return Ok(Got {

@@ -8,7 +8,7 @@ ghost use Rattle.dap_drive.specs.Lines.{IsBetween, WritesLine, WritesLines};
 ghost use Rattle.dap_drive.specs.Transcript.{mark_of};
 
 use dap_check::Side;
-use dap_frame::{Cause, Frames, each_stream_has_one_split};
+use dap_frame::{Frames, each_stream_has_one_split};
 use std::alloc::AllocError;
 
 /// Why the lines of a call's bytes are not written.
@@ -66,12 +66,7 @@ fn write_line(
 {
     let fed = match reader.feed(bytes) {
         Ok(fed) => fed,
-        Err(fault) => {
-            return Err(match fault.cause {
-                Cause::Refused(_) => Unwritten::Frames,
-                Cause::OutOfMemory => Unwritten::OutOfMemory,
-            });
-        }
+        Err(_fault) => return Err(Unwritten::Frames),
     };
     if !fed.ready {
         return Err(Unwritten::Frames);

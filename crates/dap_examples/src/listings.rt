@@ -3,7 +3,7 @@
 use dap_adapter::ServeFault;
 use dap_channel::{Channel, Input};
 use dap_debuggee::RecordingFault;
-use dap_frame::{Cause, End, FrameFault, Limits, Refusal};
+use dap_frame::{End, FrameFault, Limits, Refusal};
 use dap_message::{BodyRefusal, Scratch, read_heading, read_message};
 use dap_samples::calls::{THREADS, framed};
 use dap_samples::streams::Pieces;
@@ -159,7 +159,7 @@ fn listing_to_a_refused_frame(rt: HostRuntime) -> Result<(), Fail> {
         let mut listing = Vec::new(rt.alloc());
         let end = show(rt.alloc(), &input, limits, &mut listing);
         let fault = ShowFault::Frame(FrameFault {
-            cause: Cause::Refused(*refusal),
+            cause: *refusal,
             offset: 68,
         });
         assert_eq!(rt; end, Err(fault));
@@ -408,7 +408,7 @@ fn faults_of_tools(rt: HostRuntime) -> Result<(), Fail> {
 #[test]
 fn faults_in_words(rt: HostRuntime) -> Result<(), Fail> {
     let frame = FrameFault {
-        cause: Cause::Refused(Refusal::NoLength),
+        cause: Refusal::NoLength,
         offset: 103,
     };
     let body = ShowFault::Body {

@@ -5,7 +5,7 @@ ghost use Rattle.std.specs.Prelude.{◌≡◌, ◌≤◌, length, IfOk};
 use dap_adapter::{AdapterFault, Phase, ServeFault, Served, serve};
 use dap_channel::Pipe;
 use dap_debuggee::Recorded;
-use dap_frame::{Cause, End, FrameFault, Limits, Refusal, write_frame};
+use dap_frame::{End, FrameFault, Limits, Refusal, write_frame};
 use dap_message::BodyRefusal;
 use dap_samples::calls::{
     CAPABILITIES, INITIALIZE, INITIALIZED, NOT_INITIALIZED, THREADS, framed, recorded,
@@ -154,7 +154,7 @@ fn refused_frames(rt: HostRuntime) -> Result<(), Fail> {
         for size in [1, 100, 4096] {
             let outcome = served(rt.alloc(), limits, &input, pieces(size))?;
             let fault = ServeFault::Adapter(AdapterFault::Frame(FrameFault {
-                cause: Cause::Refused(*refusal),
+                cause: *refusal,
                 offset: 103,
             }));
             assert_eq!(rt; outcome.end, Err(fault));
@@ -580,7 +580,7 @@ fn reads_no_more_after_a_refusal(rt: HostRuntime) -> Result<(), Fail> {
         1000,
     );
     let fault = AdapterFault::Frame(FrameFault {
-        cause: Cause::Refused(Refusal::NoLength),
+        cause: Refusal::NoLength,
         offset: 103,
     });
     assert_eq!(rt; end, Err(ServeFault::Adapter(fault)));

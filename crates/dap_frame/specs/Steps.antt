@@ -4,7 +4,7 @@ use Rattle.dap_frame.specs.declared.frames.HeaderEnd.{HeaderEnd}
 use Rattle.dap_frame.specs.declared.frames.HeaderEnd.TheVariants.{Open, Whole, TooLong}
 use Rattle.dap_frame.specs.declared.limits.Bounds.{Bounds}
 use Rattle.dap_frame.specs.declared.stage.Stage.{Stage}
-use Rattle.dap_frame.specs.declared.stage.Stage.TheVariants.{Header, Body, Ready, Closed}
+use Rattle.dap_frame.specs.declared.stage.Stage.TheVariants.{Header, Body, Ready, Closed, GivenUp}
 use Rattle.dap_frame.specs.Stream.{Frame, FramesThen}
 use Rattle.dap_frame.specs.Verdict.{block_end}
 use Rattle.dap_frame.specs.Stage.{IsOpen, Announces, Stands}
@@ -28,3 +28,4 @@ MovesTo bounds Ready held s xs rest p = Frame bounds (rest ++ p) held × Stands 
 MovesTo bounds Header held s xs rest p = Stands bounds Header held (s ++ p) xs (rest ++ p)
 MovesTo bounds (Body n) held s xs rest p = Stands bounds (Body n) held (s ++ p) xs (rest ++ p)
 MovesTo bounds (Closed cause) held s xs rest p = Stands bounds (Closed cause) held (s ++ p) xs (rest ++ p)
+MovesTo bounds GivenUp held s xs rest p = Stands bounds GivenUp held (s ++ p) xs (rest ++ p)

@@ -7,7 +7,7 @@ use dap_adapter::{Adapter, AdapterFault, Phase, ServeFault, Turned, serve};
 use dap_call::{Call, CallFault, Capabilities, Command, Key, SourceKey, read_call, write_call};
 use dap_channel::{Input, Pipe};
 use dap_debuggee::{Debuggee, DebuggeeFault, Happening, Recorded, RecordingFault};
-use dap_frame::{Cause, Fed, FrameFault, Frames, Limits, write_frame};
+use dap_frame::{Fed, Frames, Limits, write_frame};
 use dap_json::{parse, write};
 use dap_message::{
     BodyFault, Breakpoint, Failure, Kind, Message, Scope, Source, StackFrame, Text, Thread,
@@ -231,37 +231,21 @@ fn adapter_calls(rt: HostRuntime) -> Result<(), Fail> {
     Ok(())
 }
 
-/// A frame is read, or the reader is closed for good.
+/// Once there is a reader, it takes no memory: a frame is read whatever is refused.
 #[test]
 fn framing(rt: HostRuntime) -> Result<(), Fail> {
     let Ok(mut frames) = Frames::open(rt.alloc(), &Limits::usual()) else {
         note(&rt)?;
         return Ok(());
     };
-    match frames.feed(INPUT) {
-        Ok(fed) => {
-            assert_eq!(rt;
-                fed,
-                Fed {
-                    used: 103,
-                    ready: true
-                }
-            );
-            assert_eq!(rt; frames.held(), 81);
-        }
-        Err(fault) => {
-            assert_eq!(rt;
-                fault,
-                FrameFault {
-                    cause: Cause::OutOfMemory,
-                    offset: 0
-                }
-            );
-            assert_eq!(rt; frames.feed(b"x"), Err(fault));
-            assert_eq!(rt; frames.held(), 0);
-            note(&rt)?;
-        }
-    }
+    assert_eq!(rt;
+        frames.feed(INPUT),
+        Ok(Fed {
+            used: 103,
+            ready: true
+        })
+    );
+    assert_eq!(rt; frames.held(), 81);
     Ok(())
 }
 

@@ -2,7 +2,6 @@
 use Rattle.std.proofs.Common.{◌≡◌, [], ◌∷◌, ◌++◌, codes, true, false, Some, None, refl}
 use Rattle.std.specs.Fmt.{digits}
 use Rattle.serde_json.specs.Data.{null, object, no_members}
-use Rattle.dap_frame.specs.declared.Cause.TheVariants.{Refused}
 use Rattle.dap_frame.specs.declared.Refusal.TheVariants.{BadLength}
 use Rattle.dap_message.specs.declared.fault.BodyRefusal.TheVariants.{BadSeq}
 use Rattle.dap_message.specs.declared.message.Kind.TheVariants.{Request, Response, Event, Other}
@@ -62,7 +61,7 @@ other_line = refl
 
 -- ---- faults
 
-refused_frame_line : line_of (Show (Frame (record { cause = Refused BadLength; offset = 103 }))) ≡ codes "dap: BadLength at 103\n"
+refused_frame_line : line_of (Show (Frame (record { cause = BadLength; offset = 103 }))) ≡ codes "dap: BadLength at 103\n"
 unfolding digits
 refused_frame_line = refl
 

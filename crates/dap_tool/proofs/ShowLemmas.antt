@@ -2,15 +2,14 @@
 use Rattle.std.proofs.Common.{◌≡◌, ℕ, ◌+◌, ◌<◌, ◌≤◌, ◌^◌, List, [], ◌∷◌, ◌++◌, length, take, drop, codes, decimal, Ok, Err, refl, sym, ap, ◌∙◌, subst, arith, length-drop}
 use Rattle.std.proofs.lemmas.List.{length-append, append_assoc, append-nil, take_all, take-append-drop, append_cancel_right}
 use Rattle.std.proofs.Math.Seq.{take-add}
-use Rattle.dap_frame.specs.declared.Cause.{Cause}
-use Rattle.dap_frame.specs.declared.Cause.TheVariants.{Refused, OutOfMemory as NoMemory}
+use Rattle.dap_frame.specs.declared.Refusal.{Refusal}
 use Rattle.dap_frame.specs.declared.frames.End.{End}
 use Rattle.dap_frame.specs.declared.frames.End.TheVariants.{Clean, Truncated, Refused as EndRefused}
 use Rattle.dap_frame.specs.declared.frames.FrameFault.{FrameFault}
 use Rattle.dap_frame.specs.Settings.{Settings, bounds_of}
 use Rattle.dap_frame.specs.Stream.{FramesThen, Split}
-use Rattle.dap_frame.specs.Verdict.{verdict, Part}
-use Rattle.dap_frame.specs.Intake.{Intake, IsReady, StandsFor, Shut, StartsAt, LastStartsAt, IsVerdict}
+use Rattle.dap_frame.specs.Verdict.{verdict, Part, Refused as Refuses}
+use Rattle.dap_frame.specs.Intake.{Intake, IsReady, StandsFor, Shut, StartsAt, LastStartsAt}
 use Rattle.dap_frame.specs.Feeds.{Completes, Gathers, Closes}
 use Rattle.dap_frame.specs.Ends.{EndsWith}
 use Rattle.dap_message.specs.Meaning.{Msg}
@@ -24,8 +23,8 @@ use Rattle.dap_message.specs.declared.heading.HeadingKind.{HeadingKind}
 use Rattle.dap_message.specs.declared.heading.HeadingKind.TheVariants.{Request, Response, Event, Other}
 use Rattle.dap_message.specs.Heading.{IsHeadingOf, IsKindOf}
 use Rattle.dap_tool.specs.Listing.{none, one_more, IsEndOf, Listed, Shows, shown, kind_text, line_of_message}
-use Rattle.dap_tool.specs.ShowSteps.{kind_words, ListedTo, ListedBefore, shown_fault}
-use Rattle.dap_tool.specs.declared.listing.ShowFault.TheVariants.{Body, OutOfMemory}
+use Rattle.dap_tool.specs.ShowSteps.{kind_words, ListedTo, ListedBefore}
+use Rattle.dap_tool.specs.declared.listing.ShowFault.TheVariants.{Frame, Body, OutOfMemory}
 
 -- ---- the words of a heading are those of its message
 
@@ -87,21 +86,18 @@ module _ (limits : Settings) (frames : Intake) (bytes rest : List ℕ) (at : ℕ
         listed = l.listed;
       }
 
-  closed_by : (cause : Cause) (offset n : ℕ) (left : List ℕ) → StandsFor after (take n bytes) l.bodies left → Shut after (take n bytes) l.bodies left cause → offset ≡ after.start → Shows limits bytes old new (Err (shown_fault (record { cause = cause; offset = offset })))
-  closed_by (Refused refusal) offset n left f shut starts = record {
+  closed_by : (cause : Refusal) (offset n : ℕ) (left : List ℕ) → StandsFor after (take n bytes) l.bodies left → Shut after (take n bytes) l.bodies left cause → offset ≡ after.start → Shows limits bytes old new (Err (Frame (record { cause = cause; offset = offset })))
+  closed_by cause offset n left f shut starts = record {
     n = n;
     bodies = l.bodies;
     rest = left;
     split = subst (λ b. Split b (take n bytes) l.bodies left) (bounds ∙ l.bounds) f.split;
     listed = l.listed;
-    refusal = refusal;
-    cause = refl;
-    verdict_is = subst (λ b. IsVerdict b left (Refused refusal)) (bounds ∙ l.bounds) shut.verdict_is;
+    verdict_is = subst (λ b. verdict b left ≡ Refuses cause (length left)) (bounds ∙ l.bounds) shut.verdict_is;
     offset = subst (λ b. StartsAt b offset (take n bytes) l.bodies left) (bounds ∙ l.bounds) (subst (λ k. StartsAt after.bounds k (take n bytes) l.bodies left) (sym starts) shut.starts);
   }
-  closed_by NoMemory offset n left f shut starts = record { bodies = l.bodies; listed = l.listed }
 
-  pub closed : (fault : FrameFault) → Closes frames after rest fault → Shows limits bytes old new (Err (shown_fault fault))
+  pub closed : (fault : FrameFault) → Closes frames after rest fault → Shows limits bytes old new (Err (Frame fault))
   closed fault done =
       let f : StandsFor after (take (at + done.n) bytes) l.bodies (l.rest ++ take done.n rest) =
       subst (λ z. StandsFor after z l.bodies (l.rest ++ take done.n rest)) (taken bytes rest at done.n cut) (done.stands (take at bytes) l.bodies l.rest l.stands) in

@@ -2,8 +2,6 @@
 use Rattle.std.specs.Prelude.{ℕ, List, ◌++◌, codes, decimal}
 use Rattle.dap_frame.specs.declared.Refusal.{Refusal}
 use Rattle.dap_frame.specs.declared.Refusal.TheVariants.{HeaderTooLong, BadHeader, NoLength, TwoLengths, BadLength, BodyTooLong}
-use Rattle.dap_frame.specs.declared.Cause.{Cause}
-use Rattle.dap_frame.specs.declared.Cause.TheVariants.{Refused, OutOfMemory as NoMemory}
 use Rattle.dap_message.specs.declared.fault.BodyRefusal.{BodyRefusal}
 use Rattle.dap_message.specs.declared.fault.BodyRefusal.TheVariants.{NotJson, NotObject, BadSeq, BadType, BadCommand, BadRequestSeq, BadSuccess, BadEvent, BadMessage}
 use Rattle.dap_session.specs.declared.fault.AdapterFault.{AdapterFault}
@@ -29,13 +27,8 @@ use Rattle.dap_tool.specs.declared.files.FileFault.TheVariants.{Read as FileUnre
 
 -- ---- statuses: 3 refused, 4 truncated, 5 read or write, 6 memory
 
--- `FrameFault` can have want of memory as its cause, though no tool answers that
-abbrev pub status_of_cause : Cause → ℕ
-status_of_cause (Refused refusal) = 3
-status_of_cause NoMemory = 6
-
 abbrev pub status_of_adapter : AdapterFault → ℕ
-status_of_adapter (Frame fault) = status_of_cause fault.cause
+status_of_adapter (Frame fault) = 3
 status_of_adapter (Body cause offset) = 3
 status_of_adapter (RepeatedSeq seq) = 3
 status_of_adapter (Unmatched request_seq) = 3
@@ -57,7 +50,7 @@ status_of_recording (BadKey key) = 3
 status_of_recording NoMemoryForRecording = 6
 
 abbrev pub status_of_show : ShowFault → ℕ
-status_of_show (ShownFrame fault) = status_of_cause fault.cause
+status_of_show (ShownFrame fault) = 3
 status_of_show (ShownBody cause offset) = 3
 status_of_show NoMemoryToShow = 6
 
@@ -132,12 +125,8 @@ line_at name offset = codes "dap: " ++ name ++ codes " at " ++ decimal offset ++
 abbrev pub line_at_line : List ℕ → ℕ → List ℕ
 line_at_line name line = codes "dap: " ++ name ++ codes " at line " ++ decimal line ++ codes "\n"
 
-abbrev pub name_of_cause : Cause → List ℕ
-name_of_cause (Refused refusal) = name_of_refusal refusal
-name_of_cause NoMemory = codes "OutOfMemory"
-
 abbrev pub line_of_adapter : AdapterFault → List ℕ
-line_of_adapter (Frame fault) = line_at (name_of_cause fault.cause) fault.offset
+line_of_adapter (Frame fault) = line_at (name_of_refusal fault.cause) fault.offset
 line_of_adapter (Body cause offset) = line_at (name_of_body_refusal cause) offset
 line_of_adapter (RepeatedSeq seq) = named_line (codes "RepeatedSeq")
 line_of_adapter (Unmatched request_seq) = named_line (codes "Unmatched")
@@ -160,7 +149,7 @@ line_of_recording (BadKey key) = named_line (codes "BadKey")
 line_of_recording NoMemoryForRecording = named_line (codes "OutOfMemory")
 
 abbrev pub line_of_show : ShowFault → List ℕ
-line_of_show (ShownFrame fault) = line_at (name_of_cause fault.cause) fault.offset
+line_of_show (ShownFrame fault) = line_at (name_of_refusal fault.cause) fault.offset
 line_of_show (ShownBody cause offset) = line_at (name_of_body_refusal cause) offset
 line_of_show NoMemoryToShow = named_line (codes "OutOfMemory")
 

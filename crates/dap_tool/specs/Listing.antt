@@ -1,7 +1,5 @@
 -- What is listed of a stream: a line for each message, in order, with the offset of its frame.
 use Rattle.std.specs.Prelude.{◌≡◌, ℕ, ◌==◌, ◌||◌, nat_lt, Bool, true, false, List, [], ◌∷◌, ◌++◌, length, take, map, codes, decimal, if◌then◌else◌, Result, Ok, Err}
-use Rattle.dap_frame.specs.declared.Cause.TheVariants.{Refused}
-use Rattle.dap_frame.specs.declared.Refusal.{Refusal}
 use Rattle.dap_frame.specs.declared.frames.End.{End}
 use Rattle.dap_frame.specs.declared.frames.End.TheVariants.{Clean, Truncated, Refused as Closed}
 use Rattle.dap_frame.specs.declared.frames.FrameFault.{FrameFault}
@@ -78,9 +76,7 @@ pub record ListsToFrame (limits : Settings) (bytes old new : List ℕ) (fault : 
   pub rest : List ℕ
   pub split : Split (bounds_of limits) (take n bytes) bodies rest
   pub listed : Listed limits bytes bodies old new
-  pub refusal : Refusal
-  pub cause : fault.cause ≡ Refused refusal
-  pub verdict_is : verdict (bounds_of limits) rest ≡ Refuses refusal (length rest)
+  pub verdict_is : verdict (bounds_of limits) rest ≡ Refuses fault.cause (length rest)
   pub offset : StartsAt (bounds_of limits) fault.offset (take n bytes) bodies rest
 
 -- a body is no message, and what stands before its frame is listed

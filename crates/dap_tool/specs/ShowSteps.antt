@@ -2,9 +2,6 @@
 use Rattle.std.specs.Prelude.{◌≡◌, ℕ, List, [], ◌∷◌, ◌++◌, take, None}
 use Rattle.dap_frame.specs.Settings.{Settings, bounds_of}
 use Rattle.dap_frame.specs.Intake.{Intake, StandsFor}
-use Rattle.dap_frame.specs.declared.Cause.{Cause}
-use Rattle.dap_frame.specs.declared.Cause.TheVariants.{Refused, OutOfMemory as NoMemory}
-use Rattle.dap_frame.specs.declared.frames.FrameFault.{FrameFault}
 use Rattle.dap_message.specs.Refusals.{Bad}
 use Rattle.dap_message.specs.declared.fault.BodyFault.{BodyFault}
 use Rattle.dap_message.specs.declared.fault.BodyFault.TheVariants.{Refused as BodyRefused, OutOfMemory as NoMemoryForBody}
@@ -12,8 +9,6 @@ use Rattle.dap_message.specs.declared.heading.HeadingKind.{HeadingKind}
 use Rattle.dap_message.specs.declared.heading.HeadingKind.TheVariants.{Request, Response, Event, Other}
 use Rattle.dap_message.specs.declared.message.Kind.TheVariants as kind
 use Rattle.dap_tool.specs.Listing.{Listed, kind_text}
-use Rattle.dap_tool.specs.declared.listing.ShowFault.{ShowFault}
-use Rattle.dap_tool.specs.declared.listing.ShowFault.TheVariants.{Frame, OutOfMemory}
 
 -- the words of a heading: those of such a message, whatever else it has
 abbrev pub kind_words : HeadingKind → List ℕ
@@ -26,14 +21,6 @@ kind_words (Other name) = kind_text (kind.Other name.now)
 abbrev pub IsUnread : List ℕ → BodyFault → Type 0
 IsUnread body (BodyRefused cause) = Bad body cause
 IsUnread body NoMemoryForBody = Unit {0}
-
--- the fault of a closed reader
-abbrev pub shown_cause : Cause → FrameFault → ShowFault
-shown_cause (Refused refusal) fault = Frame fault
-shown_cause NoMemory fault = OutOfMemory
-
-abbrev pub shown_fault : FrameFault → ShowFault
-shown_fault fault = shown_cause fault.cause fault
 
 -- the first `at` bytes were listed
 pub record ListedTo (limits : Settings) (frames : Intake) (bytes : List ℕ) (at : ℕ) (old new : List ℕ) : Type 0 where

@@ -11,7 +11,7 @@ use dap_check::CheckFault;
 use dap_client::SendFault;
 use dap_debuggee::RecordingFault;
 use dap_drive::DriveFault;
-use dap_frame::{Cause, Refusal};
+use dap_frame::Refusal;
 use dap_message::BodyRefusal;
 use std::alloc::{AllocError, Global};
 use thiserror::Error;
@@ -69,20 +69,11 @@ pub fn status(fault: &ToolFault) -> u8
     }
 }
 
-fn cause_status(cause: Cause) -> u8
-    ensures { result ≡ status_of_cause cause }
-{
-    match cause {
-        Cause::Refused(_) => 3,
-        Cause::OutOfMemory => 6,
-    }
-}
-
 fn adapter_status(fault: &AdapterFault) -> u8
     ensures { result ≡ status_of_adapter fault.now }
 {
     match fault {
-        AdapterFault::Frame(fault) => cause_status(fault.cause),
+        AdapterFault::Frame(_) => 3,
         AdapterFault::Body { .. } => 3,
         AdapterFault::RepeatedSeq { .. } => 3,
         AdapterFault::Unmatched { .. } => 3,
@@ -119,7 +110,7 @@ fn show_status(fault: &ShowFault) -> u8
     ensures { result ≡ status_of_show fault.now }
 {
     match fault {
-        ShowFault::Frame(fault) => cause_status(fault.cause),
+        ShowFault::Frame(_) => 3,
         ShowFault::Body { .. } => 3,
         ShowFault::OutOfMemory => 6,
     }
@@ -178,15 +169,6 @@ fn refusal_name(refusal: Refusal) -> &'static str
     }
 }
 
-fn cause_name(cause: Cause) -> &'static str
-    ensures { result.now ≡ name_of_cause cause }
-{
-    match cause {
-        Cause::Refused(refusal) => refusal_name(refusal),
-        Cause::OutOfMemory => "OutOfMemory",
-    }
-}
-
 fn body_refusal_name(refusal: BodyRefusal) -> &'static str
     ensures { result.now ≡ name_of_body_refusal refusal }
 {
@@ -241,7 +223,7 @@ fn adapter_line(alloc: Global, fault: &AdapterFault) -> Result<String, AllocErro
     ensures { IfOk result (λ line. string_bytes line ≡ line_of_adapter fault.now) }
 {
     match fault {
-        AdapterFault::Frame(fault) => at_offset(alloc, cause_name(fault.cause), fault.offset),
+        AdapterFault::Frame(fault) => at_offset(alloc, refusal_name(fault.cause), fault.offset),
         AdapterFault::Body { cause, offset } => {
             at_offset(alloc, body_refusal_name(*cause), *offset)
         }
@@ -280,7 +262,7 @@ fn show_line(alloc: Global, fault: &ShowFault) -> Result<String, AllocError>
     ensures { IfOk result (λ line. string_bytes line ≡ line_of_show fault.now) }
 {
     match fault {
-        ShowFault::Frame(fault) => at_offset(alloc, cause_name(fault.cause), fault.offset),
+        ShowFault::Frame(fault) => at_offset(alloc, refusal_name(fault.cause), fault.offset),
         ShowFault::Body { cause, offset } => at_offset(alloc, body_refusal_name(*cause), *offset),
         ShowFault::OutOfMemory => named(alloc, "OutOfMemory"),
     }

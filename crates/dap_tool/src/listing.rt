@@ -7,9 +7,9 @@ ghost use Rattle.dap_message.specs.Heading.{IsHeadingOf};
 ghost use Rattle.dap_message.specs.Meaning.{Msg};
 ghost use Rattle.dap_message.specs.declared.message.Message.{Message};
 ghost use Rattle.dap_tool.specs.Listing.{Shows, shown, shown_byte, outcome_text, line_of_message};
-ghost use Rattle.dap_tool.specs.ShowSteps.{kind_words, IsUnread, ListedBefore, ListedTo, shown_fault};
+ghost use Rattle.dap_tool.specs.ShowSteps.{kind_words, IsUnread, ListedBefore, ListedTo};
 
-use dap_frame::{Cause, End, FrameFault, Frames, Limits};
+use dap_frame::{End, FrameFault, Frames, Limits};
 use dap_message::{
     BodyFault, BodyRefusal, Heading, HeadingKind, Scratch, read_heading, read_message,
 };
@@ -20,7 +20,7 @@ use thiserror::Error;
 /// Why a stream is not listed to its end.
 #[derive(Clone, Copy, Debug, PartialEq, Eq, Error)]
 pub enum ShowFault {
-    /// The framing is refused. The cause is never want of memory, which is `OutOfMemory` here.
+    /// The framing is refused.
     #[error("a frame is refused at byte {}", .0.offset)]
     Frame(FrameFault),
     /// A body is no message; the frame's first byte has this offset.
@@ -153,15 +153,6 @@ fn make_line_of_ready(
     make_line_of(alloc, scratch, line, offset, body)
 }
 
-fn frame_fault(fault: FrameFault) -> ShowFault
-    ensures { result ≡ shown_fault fault }
-{
-    match fault.cause {
-        Cause::Refused(_) => ShowFault::Frame(fault),
-        Cause::OutOfMemory => ShowFault::OutOfMemory,
-    }
-}
-
 /// Appends the line of the ready body, and gives the body up.
 fn list_body(
     alloc: Global,
@@ -212,7 +203,7 @@ pub fn show(
         let (_, rest) = bytes.split_at(at);
         let fed = match frames.feed(rest) {
             Ok(fed) => fed,
-            Err(fault) => return Err(frame_fault(fault)),
+            Err(fault) => return Err(ShowFault::Frame(fault)),
         };
         at += fed.used;
         if fed.ready {

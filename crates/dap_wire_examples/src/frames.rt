@@ -1,6 +1,6 @@
 //! What streams give, and which limits there are, with values worked out by hand.
 
-use dap_frame::{Cause, End, Fed, FrameFault, Frames, LimitFault, Limits, Refusal, write_frame};
+use dap_frame::{End, Fed, FrameFault, Frames, LimitFault, Limits, Refusal, write_frame};
 use std::alloc::Global;
 use std::test::Fail;
 
@@ -117,7 +117,7 @@ fn refusals(rt: HostRuntime) -> Result<(), Fail> {
         for cut in 0..stream.len() {
             let told = stream_outcome(rt.alloc(), limits, &stream, cut)?;
             let fault = FrameFault {
-                cause: Cause::Refused(*refusal),
+                cause: *refusal,
                 offset: 0,
             };
             assert_eq!(rt; told.fault, Some(fault), "cut at {cut}");
@@ -169,7 +169,7 @@ fn refused_after_frames(rt: HostRuntime) -> Result<(), Fail> {
         assert_eq!(rt;
             told.fault,
             Some(FrameFault {
-                cause: Cause::Refused(Refusal::HeaderTooLong),
+                cause: Refusal::HeaderTooLong,
                 offset: 34
             })
         );
@@ -185,7 +185,7 @@ fn refused_after_frames(rt: HostRuntime) -> Result<(), Fail> {
         assert_eq!(rt;
             told.fault,
             Some(FrameFault {
-                cause: Cause::Refused(Refusal::BodyTooLong),
+                cause: Refusal::BodyTooLong,
                 offset: 1048
             })
         );
@@ -210,6 +210,70 @@ fn ends(rt: HostRuntime) -> Result<(), Fail> {
         assert_eq!(rt; told.end, End::Truncated, "after {count}");
         assert_eq!(rt; told.held, held);
     }
+    Ok(())
+}
+
+/// A hundred bodies of the greatest size, in pieces of seven bytes: none is lost, and no more is held than a body.
+#[test]
+fn pieces_of_seven(rt: HostRuntime) -> Result<(), Fail> {
+    let body = vec![in rt.alloc(); b'a'; 1024]?;
+    let mut stream = Vec::new(rt.alloc());
+    for _frame in 0..100 {
+        write_frame(&mut stream, &body)?;
+    }
+    let mut frames = Frames::open(rt.alloc(), &limits(32, 1024)?)?;
+    let mut bodies = Vec::new(rt.alloc());
+    for piece in stream.chunks(7) {
+        let fault = feed_all(rt.alloc(), &mut frames, piece, &mut bodies)?;
+        assert_eq!(rt; fault, None);
+        assert!(rt; frames.held() <= 1024);
+    }
+    assert_eq!(rt; bodies.len(), 100);
+    for told in &bodies {
+        assert_eq!(rt; told.as_slice(), body.as_slice());
+    }
+    Ok(())
+}
+
+/// Ten thousand bodies of many sizes through one reader, each frame cut at another place of its header or of its body.
+#[test]
+fn ten_thousand_frames(rt: HostRuntime) -> Result<(), Fail> {
+    let all = vec![in rt.alloc(); b'b'; 1024]?;
+    let mut frames = Frames::open(rt.alloc(), &limits(32, 1024)?)?;
+    let mut stream = Vec::new(rt.alloc());
+    let mut bodies = Vec::new(rt.alloc());
+    for number in 0..10000usize {
+        let body = all.get(..number * 37 % 1025).ok_or("a size")?;
+        stream.clear();
+        write_frame(&mut stream, body)?;
+        let (front, back) = stream.split_at((number % 1048).min(stream.len()));
+        for piece in [front, back] {
+            let fault = feed_all(rt.alloc(), &mut frames, piece, &mut bodies)?;
+            assert_eq!(rt; fault, None);
+        }
+        let told = bodies.pop().ok_or("a body")?;
+        assert_eq!(rt; told.as_slice(), body);
+        assert_eq!(rt; frames.finish(), End::Clean);
+    }
+    assert!(rt; bodies.is_empty());
+    Ok(())
+}
+
+/// A reader that was closed takes nothing more, and tells no refusal.
+#[test]
+fn closed(rt: HostRuntime) -> Result<(), Fail> {
+    let mut frames = Frames::open(rt.alloc(), &Limits::usual())?;
+    let stream = b"Content-Length: 2\r\n\r\n{}";
+    frames.feed(&stream[..9]).ok().ok_or("part of a frame")?;
+    frames.close();
+    let nothing = Ok(Fed {
+        used: 0,
+        ready: false,
+    });
+    assert_eq!(rt; frames.feed(stream), nothing);
+    assert_eq!(rt; frames.held(), 0);
+    assert_eq!(rt; frames.used(), 9);
+    assert_eq!(rt; frames.finish(), End::Refused);
     Ok(())
 }
 
@@ -249,7 +313,7 @@ fn waits_and_latches(rt: HostRuntime) -> Result<(), Fail> {
     assert_eq!(rt; frames.offset(), 23);
     frames.release();
     let fault = Err(FrameFault {
-        cause: Cause::Refused(Refusal::NoLength),
+        cause: Refusal::NoLength,
         offset: 45,
     });
     assert_eq!(rt; frames.feed(&stream[45..]), fault);

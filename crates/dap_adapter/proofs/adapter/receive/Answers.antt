@@ -5,7 +5,7 @@ use Rattle.dap_adapter.proofs.Refusing.{closed_refused, not_untrue, unread_refus
 use Rattle.dap_adapter.proofs.adapter.receive.Goals as goal
 
 pub returns-in-Err-clause-refused : goal.returns-in-Err-clause-refused
-returns-in-Err-clause-refused g c = rw c.frame_fault.ensures (closed_refused c.args.frames.now c.feed.new.self c.args.session.now.session c.args.piece.now c.in-Err.fault (c.in-Err.ensures.some c.requires) (c.in-Err.ensures.closes c.requires))
+returns-in-Err-clause-refused g c = closed_refused c.args.frames.now c.feed.new.self c.args.session.now.session c.args.piece.now c.in-Err.fault (c.in-Err.ensures.some c.requires) (c.in-Err.ensures.closes c.requires)
 
 pub returns-in_err-message-clause-refused : goal.returns-in_err-message-clause-refused
 returns-in_err-message-clause-refused g c =

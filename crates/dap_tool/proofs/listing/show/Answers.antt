@@ -1,5 +1,4 @@
-use Rattle.std.proofs.Common.{sym, subst, arith, Err}
-use Rattle.dap_tool.specs.Listing.{Shows}
+use Rattle.std.proofs.Common.{arith}
 use Rattle.dap_tool.proofs.ShowLemmas.{ListedTo-start, completed, gathered, closed, out_of_memory_first, within_rest, gathers_within}
 use Rattle.dap_tool.proofs.listing.show.Goals as goal
 
@@ -15,9 +14,8 @@ loop-at-init c = record {
 
 pub returns-in-Err : goal.returns-in-Err
 returns-in-Err c =
-    subst (λ fault. Shows c.args.limits c.args.bytes.now c.args.out.now.items c.loop-at.out.items (Err fault)) (sym c.frame_fault.ensures)
-    (closed c.args.limits c.loop-at.frames c.args.bytes.now c.split_at.result.1.now c.loop-at.at _ _ c.split_at.ensures.back c.loop-at.invariant.listed c.feed.new.self c.in-Err.ensures.bounds
-    c.in-Err.fault (c.in-Err.ensures.closes c.loop-at.invariant.under_way))
+    closed c.args.limits c.loop-at.frames c.args.bytes.now c.split_at.result.1.now c.loop-at.at _ _ c.split_at.ensures.back c.loop-at.invariant.listed c.feed.new.self c.in-Err.ensures.bounds
+    c.in-Err.fault (c.in-Err.ensures.closes c.loop-at.invariant.under_way)
 
 pub loop-at-preserved-in-Ok-list_body : goal.loop-at-preserved-in-Ok-list_body
 loop-at-preserved-in-Ok-list_body c =
