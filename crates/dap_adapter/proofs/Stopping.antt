@@ -1,5 +1,5 @@
 -- A fault of the adapter stops the run where it stands.
-use Rattle.std.proofs.Common.{◌≡◌, ℕ, ◌+◌, List, [], ◌∷◌, ◌++◌, take, drop, Bool, true, false, Option, Some, None, Ok, Err, refl, sym, ◌∙◌, subst}
+use Rattle.std.proofs.Common.{◌≡◌, ℕ, ◌+◌, List, [], ◌∷◌, ◌++◌, length, take, drop, Bool, true, false, Option, Some, None, Ok, Err, refl, sym, ◌∙◌, subst}
 use Rattle.std.specs.Prelude.{if◌then◌else◌, nat_le}
 use Rattle.dap_channel.specs.Channel.{IoEvent}
 use Rattle.dap_frame.specs.Intake.{StartsAt, LastStartsAt}
@@ -153,9 +153,9 @@ module _ {C D : Type 0} (goes : C → IoEvent → C → Type 0) (shown : D → S
   pub take_stops : (used piece rest : List ℕ) (fault : AdapterFault) → Reaches goes shown follows b c e g w n used piece rest to_take → has_ended e.session ≡ false → TakeRefused e.intake e.session piece fault → Halts goes shown follows b c g w n (used ++ piece) (serve_fault_of fault)
   take_stops used piece rest (Frame f) r going x = record {
     pends = pends_of used piece rest to_take r;
-    used = used ++ take x.1.closes.n piece;
-    later = drop x.1.closes.n piece;
-    read_are = halves used piece x.1.closes.n;
+    used = used ++ take x.closes.n piece;
+    later = drop x.closes.n piece;
+    read_are = halves used piece x.closes.n;
     stops = frame_stops used piece rest r going f x;
   }
   take_stops used piece rest (Body cause offset) r going x = record {

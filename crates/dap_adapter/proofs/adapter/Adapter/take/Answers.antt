@@ -1,5 +1,5 @@
 use Rattle.std.proofs.Common.{refl, subst}
-use Rattle.dap_adapter.specs.Calls.{Takes}
+use Rattle.dap_adapter.specs.Calls.{Takes, TakeRefused}
 use Rattle.dap_adapter.specs.End.{End}
 use Rattle.dap_adapter.proofs.Adapting.{none-met}
 use Rattle.dap_adapter.proofs.Receiving.{received}
@@ -12,3 +12,6 @@ returns-in-Ok-clause-takes g c =
     subst (λ (x : End _). Takes g.D.Debuggee.follows x c.args.piece.now c.in-Ok.taken c.in-Ok.taken.delivered new) c.self.view_is
     (received c.histories_grow.ensures c.each_step_goes_on.ensures c.each_step_stays_within.ensures g.D.Debuggee.follows old new c.self.inside.session c.receive.new.session c.args.piece.now c.in-Ok.taken c.in-Ok.taken.delivered refl refl
     c.in-Ok.ensures.bounds c.in-Ok.ensures.limits (none-met c.self.inside.fault c.in_default.not-Some) c.in-Ok.ensures.received)
+
+pub returns-in-Err-clause-refused : goal.returns-in-Err-clause-refused
+returns-in-Err-clause-refused g c = λ _. subst (λ (x : End _). TakeRefused x.intake x.session c.args.piece.now c.in-Err.fault) c.self.view_is c.in-Err.ensures.refused
