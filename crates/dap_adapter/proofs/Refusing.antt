@@ -67,7 +67,3 @@ untaken_refused old ready s piece n m (RepeatedSeq seq) c read t = record { n = 
 untaken_refused old ready s piece n m (Unmatched seq) c read t = record { n = n; whole = record { ready = ready; completes = c }; message = m; read = read; closes = t }
 untaken_refused old ready s piece n m Ended c read t = record { n = n; whole = record { ready = ready; completes = c }; message = m; read = read; closes = t }
 untaken_refused old ready s piece n m SeqExhausted c read t = record { n = n; whole = record { ready = ready; completes = c }; message = m; read = read; closes = t }
-
-pub not_untrue : (b : Bool) → not b ≡ false → IsTrue b
-not_untrue true e = refl
-not_untrue false e = cc

@@ -72,7 +72,3 @@ untaken_refused old ready s piece n m (fault.CommandMismatch x) c read why = rec
 untaken_refused old ready s piece n m (fault.RepeatedSeq x) c read why = record { n = n; whole = record { ready = ready; completes = c }; message = m; read = read; closes = why }
 untaken_refused old ready s piece n m fault.ReferenceLimit c read why = record { n = n; whole = record { ready = ready; completes = c }; message = m; read = read; closes = why }
 untaken_refused old ready s piece n m fault.SeqExhausted c read why = record { n = n; whole = record { ready = ready; completes = c }; message = m; read = read; closes = why }
-
-pub not_untrue : (b : Bool) → not b ≡ false → IsTrue b
-not_untrue true e = refl
-not_untrue false e = cc

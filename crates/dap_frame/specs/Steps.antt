@@ -1,12 +1,13 @@
 -- Words for the steps that `feed` is made of.
-use Rattle.std.specs.Prelude.{◌≡◌, ℕ, ◌≤◌, List, [], ◌∷◌, ◌++◌, length, Some, None}
+use Rattle.std.specs.Prelude.{◌≡◌, ℕ, ◌≤◌, List, [], ◌∷◌, ◌++◌, length, Some, None, Result}
 use Rattle.dap_frame.specs.declared.frames.HeaderEnd.{HeaderEnd}
 use Rattle.dap_frame.specs.declared.frames.HeaderEnd.TheVariants.{Open, Whole, TooLong}
+use Rattle.dap_frame.specs.declared.Refusal.{Refusal}
 use Rattle.dap_frame.specs.declared.limits.Bounds.{Bounds}
 use Rattle.dap_frame.specs.declared.stage.Stage.{Stage}
 use Rattle.dap_frame.specs.declared.stage.Stage.TheVariants.{Header, Body, Ready, Closed, GivenUp}
 use Rattle.dap_frame.specs.Stream.{Frame, FramesThen}
-use Rattle.dap_frame.specs.Verdict.{block_end}
+use Rattle.dap_frame.specs.Verdict.{block_end, judged}
 use Rattle.dap_frame.specs.Stage.{IsOpen, Announces, Stands}
 
 -- how far a header block has come, where `left` bytes of the piece were not taken
@@ -21,6 +22,13 @@ pub record HasBody (bounds : Bounds) (size : ℕ) (held s : List ℕ) (xs : List
   pub spelled : rest ≡ header ++ held
   pub announces : Announces bounds header size
   pub frames : FramesThen bounds xs rest s
+
+-- a whole header block within its limit, these very bytes, judged so
+pub record IsBlockOf (bounds : Bounds) (block bytes : List ℕ) (verdict : Result ℕ Refusal) : Type 0 where
+  pub is : block ≡ bytes
+  pub ends : block_end block ≡ Some (length block)
+  pub fits : length block ≤ bounds.header
+  pub judged_so : judged bounds.body block ≡ verdict
 
 -- what is shown after the bytes p more
 abbrev pub MovesTo : Bounds → Stage → List ℕ → List ℕ → List (List ℕ) → List ℕ → List ℕ → Type 0
