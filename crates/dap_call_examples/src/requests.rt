@@ -119,6 +119,53 @@ fn keeps_the_order(rt: HostRuntime) -> Result<(), Fail> {
     Ok(())
 }
 
+// A slot is used again, under the number that it had and under another: what is found is what was put last.
+#[test]
+fn slots_are_used_again(rt: HostRuntime) -> Result<(), Fail> {
+    let mut table = Outstanding::open(rt.alloc(), 3)?;
+    for (seq, answer, order) in [
+        (7, "kept", [7].as_slice()),
+        (3, "kept", [7, 3].as_slice()),
+        (5, "kept", [7, 3, 5].as_slice()),
+        (9, "Full", [7, 3, 5].as_slice()),
+    ] {
+        assert_eq!(rt; put(rt.alloc(), &mut table, seq)?.0, answer);
+        assert_eq!(rt; seqs(rt.alloc(), &table)?.as_slice(), order);
+    }
+    for (out, again, order) in [
+        (7, 7, [3, 5, 7].as_slice()),
+        (5, 4, [3, 7, 4].as_slice()),
+        (4, 8, [3, 7, 8].as_slice()),
+        (3, 1, [7, 8, 1].as_slice()),
+    ] {
+        assert_eq!(rt; table.take(out).map(|entry| entry.seq), Some(out));
+        assert!(rt; !table.contains(out) && table.get(out).is_none());
+        assert_eq!(rt; put(rt.alloc(), &mut table, again)?.0, "kept");
+        assert_eq!(rt; table.get(again).map(|entry| entry.seq), Some(again));
+        assert_eq!(rt; seqs(rt.alloc(), &table)?.as_slice(), order);
+    }
+    Ok(())
+}
+
+// As many requests as an end may keep, answered by arrival and in reverse.
+#[test]
+fn four_thousand_requests(rt: HostRuntime) -> Result<(), Fail> {
+    let mut table = Outstanding::open(rt.alloc(), 4096)?;
+    for reverse in [false, true] {
+        for seq in 1..4097u64 {
+            assert!(rt; put(rt.alloc(), &mut table, seq)?.0 == "kept");
+        }
+        assert!(rt; table.is_full() && table.in_order().next().is_some_and(|entry| entry.seq == 1));
+        for step in 1..4097u64 {
+            let seq = if reverse { 4097 - step } else { step };
+            assert!(rt; reverse || table.oldest_unparked() == Some(seq));
+            assert!(rt; table.take(seq).is_some_and(|entry| entry.seq == seq));
+        }
+        assert!(rt; table.is_empty());
+    }
+    Ok(())
+}
+
 #[test]
 fn numbers_up_to_three(rt: HostRuntime) {
     let mut numbers = Seq::open(3);

@@ -161,6 +161,17 @@ pub contains_seq-with_mark : (q seq : ℕ) (mark : Bool) (ks : List Kept) → co
 contains_seq-with_mark q seq mark [] = refl
 contains_seq-with_mark q seq mark (k ∷ ks) = marked-cases q mark (k.entry.seq == seq) (contains_seq q (with_mark seq mark ks)) (contains_seq q ks) k (contains_seq-with_mark q seq mark ks)
 
+mark-cases : (b mark : Bool) (k : Kept) (ks later : List Kept) → b ≡ false → later ≡ ks → (if b then marked mark k else k) ∷ later ≡ k ∷ ks
+mark-cases true mark k ks later h e = cc
+mark-cases false mark k ks later h e = ap (λ (xs : List Kept). k ∷ xs) e
+
+-- where no request has the number, none is marked
+pub with_mark-absent : (seq : ℕ) (mark : Bool) (ks : List Kept) → contains_seq seq ks ≡ false → with_mark seq mark ks ≡ ks
+with_mark-absent seq mark [] h = refl
+with_mark-absent seq mark (k ∷ ks) h =
+    mark-cases (k.entry.seq == seq) mark k ks (with_mark seq mark ks) (or-left (k.entry.seq == seq) (contains_seq seq ks) h)
+    (with_mark-absent seq mark ks (or-right (k.entry.seq == seq) (contains_seq seq ks) h))
+
 entry-marked : (b mark : Bool) (k : Kept) → (if b then marked mark k else k).entry ≡ k.entry
 entry-marked true mark k = refl
 entry-marked false mark k = refl
@@ -194,7 +205,7 @@ and-absent : (a b c d : Bool) → a ≡ false → d ≡ false → ((a && c) || d
 and-absent true b c d h e = cc
 and-absent false b c d h e = e
 
-is_parked-absent : (seq : ℕ) (ks : List Kept) → contains_seq seq ks ≡ false → is_parked seq ks ≡ false
+pub is_parked-absent : (seq : ℕ) (ks : List Kept) → contains_seq seq ks ≡ false → is_parked seq ks ≡ false
 is_parked-absent seq [] h = refl
 is_parked-absent seq (k ∷ ks) h =
     and-absent (k.entry.seq == seq) false k.parked (is_parked seq ks) (or-left (k.entry.seq == seq) (contains_seq seq ks) h) (is_parked-absent seq ks (or-right (k.entry.seq == seq) (contains_seq seq ks) h))
@@ -254,6 +265,65 @@ is_parked-unpark seq ks = all-marked seq false ks ∙ none (contains_seq seq ks)
     none : (a : Bool) → (a && false) ≡ false
     none true = refl
     none false = refl
+
+-- ---- parked requests that are given up, the oldest first
+
+found-cases : (b c : Bool) (n seq : ℕ) → b ≡ true → n ≡ seq → ((n == seq) || c) ≡ true
+found-cases b c n seq h e = rw (e, eqb-self seq) refl
+
+contains_found : (seq : ℕ) (ks : List Kept) → option_map (λ (x : Kept). x.entry.seq) (find (λ (x : Kept). x.parked) ks) ≡ Some seq → contains_seq seq ks ≡ true
+contains_found seq [] h = cc
+contains_found seq (k ∷ ks) h = by k.parked (contains_found seq ks) h
+  where
+    by : (b : Bool) → (option_map (λ (x : Kept). x.entry.seq) (find (λ (x : Kept). x.parked) ks) ≡ Some seq → contains_seq seq ks ≡ true) → option_map (λ (x : Kept). x.entry.seq) (cond b (Some k) (find (λ (x : Kept). x.parked) ks)) ≡ Some seq → ((k.entry.seq == seq) || contains_seq seq ks) ≡ true
+    by true rest e = let same : k.entry.seq ≡ seq = cc in found-cases true (contains_seq seq ks) k.entry.seq seq refl same
+    by false rest e = or-true (k.entry.seq == seq) (contains_seq seq ks) (rest e)
+
+-- without the oldest that is parked, the others that are not parked stay
+pub unparked_ones-without : (seq : ℕ) (ks : List Kept) → HasDistinctSeqs ks → option_map (λ (x : Kept). x.entry.seq) (find (λ (x : Kept). x.parked) ks) ≡ Some seq → unparked_ones (without seq ks) ≡ unparked_ones ks
+unparked_ones-without seq [] d h = refl
+unparked_ones-without seq (k ∷ ks) d h = by k.parked refl (unparked_ones-without seq ks d.1) h
+  where
+    by : (b : Bool) → k.parked ≡ b → (option_map (λ (x : Kept). x.entry.seq) (find (λ (x : Kept). x.parked) ks) ≡ Some seq → unparked_ones (without seq ks) ≡ unparked_ones ks) → option_map (λ (x : Kept). x.entry.seq) (cond b (Some k) (find (λ (x : Kept). x.parked) ks)) ≡ Some seq → unparked_ones (cond (not (k.entry.seq == seq)) (k ∷ without seq ks) (without seq ks)) ≡ cond (not k.parked) (k ∷ unparked_ones ks) (unparked_ones ks)
+    by true e rest h =
+        let same : k.entry.seq ≡ seq = cc in
+        let yes : (k.entry.seq == seq) ≡ true = ap (λ (n : ℕ). n == seq) same ∙ eqb-self seq in
+        let gone : without seq ks ≡ ks = without-absent seq ks (ap (λ (n : ℕ). contains_seq n ks) (sym same) ∙ d.0) in
+        ap (λ (b : Bool). unparked_ones (cond (not b) (k ∷ without seq ks) (without seq ks))) yes
+        ∙ ap (λ (xs : List Kept). unparked_ones xs) gone
+        ∙ sym (ap (λ (b : Bool). cond (not b) (k ∷ unparked_ones ks) (unparked_ones ks)) e)
+    by false e rest h =
+        let no : (k.entry.seq == seq) ≡ false = apart seq k ks d.0 (contains_found seq ks h) in
+        ap (λ (b : Bool). unparked_ones (cond (not b) (k ∷ without seq ks) (without seq ks))) no
+        ∙ ap (λ (xs : List Kept). cond (not k.parked) (k ∷ xs) xs) (rest h)
+
+-- where none is parked, none goes
+pub unparked_ones-all : (ks : List Kept) → option_map (λ (x : Kept). x.entry.seq) (find (λ (x : Kept). x.parked) ks) ≡ None → unparked_ones ks ≡ ks
+unparked_ones-all [] h = refl
+unparked_ones-all (k ∷ ks) h = by k.parked (unparked_ones-all ks) h
+  where
+    by : (b : Bool) → (option_map (λ (x : Kept). x.entry.seq) (find (λ (x : Kept). x.parked) ks) ≡ None → unparked_ones ks ≡ ks) → option_map (λ (x : Kept). x.entry.seq) (cond b (Some k) (find (λ (x : Kept). x.parked) ks)) ≡ None → cond (not b) (k ∷ unparked_ones ks) (unparked_ones ks) ≡ k ∷ ks
+    by true rest e = cc
+    by false rest e = ap (λ (xs : List Kept). k ∷ xs) (rest e)
+
+shorter-cases : (b : Bool) (n : ℕ) (k : Kept) (ks : List Kept) → length ks ≤ n → (b ≡ false → length ks < n) → length (cond (not b) (k ∷ ks) ks) < n + 1
+shorter-cases true n k ks h f = omega arith
+shorter-cases false n k ks h f = let less = f refl in omega arith
+
+-- one request less is kept
+pub length-without_one : (seq : ℕ) (ks : List Kept) → option_map (λ (x : Kept). x.entry.seq) (find (λ (x : Kept). x.parked) ks) ≡ Some seq → length (without seq ks) < length ks
+length-without_one seq ks h = fewer seq ks (contains_found seq ks h)
+  where
+    back : (b c : Bool) → (b || c) ≡ true → b ≡ false → c ≡ true
+    back true c h e = cc
+    back false c h e = h
+
+    fewer : (seq : ℕ) (ks : List Kept) → contains_seq seq ks ≡ true → length (without seq ks) < length ks
+    fewer seq [] h = cc
+    fewer seq (k ∷ ks) h =
+        let most = length-filter (λ (q : Kept). not (q.entry.seq == seq)) ks in
+        let less = shorter-cases (k.entry.seq == seq) (length ks) k (without seq ks) most (λ e. fewer seq ks (back (k.entry.seq == seq) (contains_seq seq ks) h e)) in
+        omega arith
 
 pub ruleset finding = (contains_from_entry_with, entry_with_from_contains, entry_with-seq)
 

@@ -1,6 +1,10 @@
 pub mod Lists
+pub mod ArrivalLemmas
+pub mod SeqIndexLemmas
 pub mod KeptLemmas
+pub mod KeyLemmas
 pub mod SlotLemmas
+pub mod OutstandingLemmas
 pub mod SeqLemmas
 pub mod Places
 pub mod ReferenceLemmas

@@ -1,6 +1,8 @@
+pub mod Arrivals
+pub mod SeqIndex
 pub mod Outstanding
 pub mod PutFault
-pub mod Slot
+pub mod OutstandingStore
 pub mod Seq
 pub mod References
 pub mod ReferenceStore

@@ -7,6 +7,7 @@
 //! are known as a set, the breakpoints as a map from sources to lists.
 #![tactic(auto)]
 
+mod arrivals;
 mod bp_fault;
 mod breakpoints;
 mod entry;
@@ -21,6 +22,7 @@ mod ref_fault;
 mod reference_kind;
 mod references;
 mod seq;
+mod seq_index;
 mod slot;
 mod source_sets;
 mod target;

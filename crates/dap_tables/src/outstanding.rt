@@ -1,39 +1,45 @@
 //! The requests that an end has still to answer.
-ghost use Rattle.std.specs.Prelude.{◌≡◌, ◌<◌, ◌≤◌, ◌↔◌, [], ◌∷◌, ◌++◌, true, false, length, IsTrue, IsSome, IfOk, IfErr, IfSome, IfNone, OnOk, OnErr, Err, Some, vec_capacity};
-ghost use Rattle.std.specs.Option.{option_copied};
+ghost use Rattle.std.specs.Prelude.{◌≡◌, ◌<◌, ◌≤◌, ◌↔◌, [], ◌∷◌, ◌++◌, true, false, length, IsTrue, IsSome, IfOk, IfErr, IfSome, IfNone, OnOk, OnErr, Err, Some, find};
+ghost use Rattle.std.specs.Option.{option_copied, option_map};
 ghost use Rattle.dap_tables.specs.Outstanding.{IsOrderly, IsRefusedForRoom, unparked, entries, contains_seq, entry_with, without, is_parked, with_mark, oldest_unparked, parked_ones, unparked_ones};
 ghost use Rattle.dap_tables.specs.PutFault.{refused_entry};
 
+use crate::arrivals::Arrivals;
 use crate::entry::Entry;
 use crate::in_order::InOrder;
 use crate::put_fault::PutFault;
+use crate::seq_index::SeqIndex;
 use crate::slot::{self, Slot};
+use slab::Slab;
 use std::alloc::{AllocError, Global};
 use std::marker::Model;
 
 /// The requests that an end keeps until it has answered them, by arrival. The memory for as many as there is room for is
 /// taken when the table is made.
+///
+/// A request has a slot under a key. The index tells the key of a seq, and the order links the keys by arrival, so that no
+/// call but those that concern many requests walks past others.
 #[derive(Debug, Drop)]
 pub struct Outstanding {
-    slots: Vec<Slot>,
+    slots: Slab<Slot>,
+    index: SeqIndex,
+    order: Arrivals,
     room: usize,
-    ghost reserved: { room ≤ vec_capacity slots },
 }
 
 impl Model for Outstanding {
     ghost use Rattle.std.specs.Coded.{codes};
     ghost use Rattle.dap_json.specs.Stored.{coded_data};
-    ghost use Rattle.dap_tables.specs.Outstanding.{KeptRequests, IsOrderly};
+    ghost use Rattle.dap_tables.specs.Outstanding.{KeptRequests};
+    ghost use Rattle.dap_tables.specs.OutstandingStore.{table_of, IsStored};
 
     ghost Value = { KeptRequests };
 
     ghost coded = { Prim.hlevel (codes, coded_data) };
 
-    ghost use Rattle.dap_tables.specs.Slot.{table_of};
+    ghost view = { λ o. table_of o.room o.slots o.order };
 
-    ghost view = { λ o. table_of o.room o.slots.items };
-
-    ghost invariant = { λ o. IsOrderly (table_of o.room o.slots.items) };
+    ghost invariant = { λ o. IsStored o.room o.slots o.index o.order };
 }
 
 impl Outstanding {
@@ -42,8 +48,13 @@ impl Outstanding {
         ensures empty { IfOk result (λ table. table ≡ record { room = n; kept = [] }) }
         ensures memory { OnErr result (0 < n) }
     {
+        let mut slots = Slab::new(alloc);
+        slots.reserve_exact(n)?;
+        let order = Arrivals::open(alloc, slots.capacity())?;
         Ok(Outstanding {
-            slots: Vec::with_capacity(alloc, n)?,
+            slots,
+            index: SeqIndex::open(alloc, n)?,
+            order,
             room: n,
         })
     }
@@ -51,7 +62,6 @@ impl Outstanding {
     /// Keeps a request, not parked, after those that are kept already. It takes no memory.
     ///
     /// `Repeated` comes where its seq is kept already, else `Full` where there is no room.
-    #[tactic(auto, using(crate::proofs::SlotLemmas::putting))]
     pub fn put(&mut self, entry: Entry) -> Result<(), PutFault>
         ensures ok { OnOk result (self.new ≡ record self.old { kept = self.old.kept ++ unparked entry ∷ [] }) }
         ensures err { OnErr result (self.new ≡ self.old) }
@@ -74,17 +84,17 @@ impl Outstanding {
         if self.is_full() {
             return Err(PutFault::Full(entry));
         }
-        match self.slots.push(Slot {
+        let seq = entry.seq;
+        let key = self.slots.insert_reserved(Slot {
             entry,
             parked: false,
-        }) {
-            Ok(()) => Ok(()),
-            Err(_) => unreachable!(),
-        }
+        });
+        self.index.insert(seq, key);
+        self.order.push(key);
+        Ok(())
     }
 
     /// Takes out the request with a seq, where it is kept.
-    #[tactic(auto, using(crate::proofs::SlotLemmas::taking))]
     pub fn take(&mut self, seq: u64) -> Option<Entry>
         ensures entry { result ≡ entry_with seq self.old.kept }
         ensures others { self.new ≡ record self.old { kept = without seq self.old.kept } }
@@ -94,7 +104,9 @@ impl Outstanding {
         ensures gone { contains_seq seq self.new.kept ≡ false }
         ensures absent { IfNone result (self.new ≡ self.old) }
     {
-        slot::take(&mut self.slots, seq)
+        let key = self.index.remove(seq)?;
+        self.order.remove(key);
+        Some(self.slots.remove(key).entry)
     }
 
     /// Gives all requests up.
@@ -103,25 +115,27 @@ impl Outstanding {
         ensures orderly { IsOrderly self.new }
     {
         self.slots.clear();
+        self.index.clear();
+        self.order.clear();
     }
 
     /// Gives up the requests that are parked.
-    #[tactic(auto, using(crate::proofs::SlotLemmas::retaining))]
     pub fn clear_parked(&mut self)
         ensures others { self.new ≡ record self.old { kept = unparked_ones self.old.kept } }
         ensures orderly { IsOrderly self.new }
     {
-        slot::retain_unparked(&mut self.slots);
+        while let Some(seq) = self.oldest_parked() {
+            self.give_up(seq);
+        }
     }
 
     /// The seq of the request that came first of those that are not parked.
-    #[tactic(auto, using(crate::proofs::SlotLemmas::parking))]
     pub fn oldest_unparked(&self) -> Option<u64>
         ensures oldest { result ≡ oldest_unparked self.now.kept }
         ensures kept { IfSome result (λ seq. IsTrue (contains_seq seq self.now.kept)) }
         ensures unparked { IfSome result (λ seq. is_parked seq self.now.kept ≡ false) }
     {
-        slot::oldest_unparked(&self.slots)
+        slot::oldest(&self.slots, &self.order, false)
     }
 
     /// Parks the request with a seq, which is kept: its answer waits for another request.
@@ -149,31 +163,28 @@ impl Outstanding {
     }
 
     /// Whether the request with a seq is kept.
-    #[tactic(auto, using(crate::proofs::SlotLemmas::slots))]
     pub fn contains(&self, seq: u64) -> bool
         ensures contains { result ≡ contains_seq seq self.now.kept }
         ensures orderly { IsOrderly self.now }
     {
-        slot::contains(&self.slots, seq)
+        self.index.get(seq).is_some()
     }
 
     /// The request with a seq, where it is kept.
-    #[tactic(auto, using(crate::proofs::SlotLemmas::slots))]
     pub fn get(&self, seq: u64) -> Option<&Entry>
         ensures entry { option_copied result ≡ entry_with seq self.now.kept }
         ensures found { IsSome result ↔ IsTrue (contains_seq seq self.now.kept) }
         ensures seq { IfSome result (λ entry. entry.now.seq ≡ seq) }
     {
-        slot::entry_with(&self.slots, seq)
+        slot::entry_at(&self.slots, self.index.get(seq))
     }
 
     /// Whether the request with a seq is parked. One that is not kept is not.
-    #[tactic(auto, using(crate::proofs::SlotLemmas::parking))]
     pub fn is_parked(&self, seq: u64) -> bool
         ensures parked { result ≡ is_parked seq self.now.kept }
         ensures kept { IsTrue result → IsTrue (contains_seq seq self.now.kept) }
     {
-        slot::is_parked(&self.slots, seq)
+        slot::is_parked_at(&self.slots, self.index.get(seq))
     }
 
     /// How many requests are kept.
@@ -181,46 +192,66 @@ impl Outstanding {
         ensures len { result ≡ length self.now.kept }
         ensures orderly { IsOrderly self.now }
     {
-        self.slots.len()
+        self.order.len()
     }
 
     /// How many requests are parked.
-    #[tactic(auto, using(crate::proofs::SlotLemmas::parked_count))]
     pub fn parked(&self) -> usize
         ensures parked { result ≡ length (parked_ones self.now.kept) }
         ensures bound { result ≤ length self.now.kept }
     {
-        slot::parked(&self.slots)
+        slot::parked(&self.slots, &self.order)
     }
 
     /// Whether no request is kept.
     pub fn is_empty(&self) -> bool
         ensures { IsTrue result ↔ (self.now.kept ≡ []) }
     {
-        self.slots.is_empty()
+        self.len() == 0
     }
 
     /// Whether there is no room for one more request.
     pub fn is_full(&self) -> bool
         ensures { IsTrue result ↔ (length self.now.kept ≡ self.now.room) }
     {
-        self.slots.len() >= self.room
+        self.len() >= self.room
     }
 
     /// The requests kept, by arrival.
-    #[tactic(auto, using(crate::proofs::SlotLemmas::slots))]
     pub fn in_order(&self) -> InOrder<'_>
         ensures entries { result ≡ entries self.now.kept }
         ensures len { length result ≡ length self.now.kept }
         ensures orderly { IsOrderly self.now }
     {
-        InOrder { slots: &self.slots }
+        InOrder {
+            slots: &self.slots,
+            order: &self.order,
+            at: self.order.first(),
+        }
     }
 
     fn set_mark(&mut self, seq: u64, parked: bool)
         ensures mark { self.new ≡ record self.old { kept = with_mark seq parked self.old.kept } }
         ensures orderly { IsOrderly self.new }
     {
-        slot::set_mark(&mut self.slots, seq, parked);
+        match self.index.get(seq) {
+            Some(key) => self.slots[key].parked = parked,
+            None => {}
+        }
+    }
+
+    fn give_up(&mut self, seq: u64)
+        ensures { self.new ≡ record self.old { kept = without seq self.old.kept } }
+    {
+        self.take(seq);
+    }
+
+    // The seq of the request that came first of those that are parked.
+    fn oldest_parked(&self) -> Option<u64>
+        ensures oldest { let found = find (λ k. k.parked) self.now.kept in
+            result ≡ option_map (λ k. k.entry.seq) found }
+        ensures orderly { IsOrderly self.now }
+    {
+        slot::oldest(&self.slots, &self.order, true)
     }
 }

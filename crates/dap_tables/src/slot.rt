@@ -1,11 +1,12 @@
-//! How the table stores a request, and the walks over its store.
-ghost use Rattle.std.specs.Prelude.{◌≡◌, ◌==◌, ◌&&◌, not, map, find, filter, position, count_by, vec_capacity};
-ghost use Rattle.std.specs.List.{list_any};
+//! A request as the table stores it, and the walks over its store.
+ghost use Rattle.std.specs.Prelude.{◌≡◌, not, if◌then◌else◌, find, count_by};
 ghost use Rattle.std.specs.Option.{option_map, option_copied};
-ghost use Rattle.dap_tables.specs.Outstanding.{HasDistinctSeqs, entry_with, without};
-ghost use Rattle.dap_tables.specs.Slot.{kept_of, slot_marked};
+ghost use Rattle.slab.specs.Slab.{get};
+ghost use Rattle.dap_tables.specs.OutstandingStore.{IsFilled, marked_in, slot_at, slots_at};
 
+use crate::arrivals::Arrivals;
 use crate::entry::Entry;
+use slab::Slab;
 
 /// A kept request, and whether its answer waits for another request.
 #[derive(Debug, Drop)]
@@ -14,85 +15,56 @@ pub(crate) struct Slot {
     pub(crate) parked: bool,
 }
 
-pub(crate) fn contains(slots: &[Slot], seq: u64) -> bool
-    ensures { result ≡ list_any (λ slot. slot.entry.seq == seq) slots.now }
+/// The request under a key, where there is one.
+pub(crate) fn entry_at(slots: &Slab<Slot>, key: Option<usize>) -> Option<&Entry>
+    ensures { option_copied result ≡ option_map (λ slot. slot.entry) (slot_at (λ key. get slots.now key) key) }
 {
-    slots.iter().any(|slot| slot.entry.seq == seq)
+    let slot = slots.get(key?)?;
+    Some(&slot.entry)
 }
 
-pub(crate) fn is_parked(slots: &[Slot], seq: u64) -> bool
-    ensures { result ≡ list_any (λ slot. (slot.entry.seq == seq) && slot.parked) slots.now }
+/// Whether the request under a key is parked.
+pub(crate) fn is_parked_at(slots: &Slab<Slot>, key: Option<usize>) -> bool
+    ensures { result ≡ marked_in (slot_at (λ key. get slots.now key) key) }
 {
-    slots
-        .iter()
-        .any(|slot| slot.entry.seq == seq && slot.parked)
+    match key {
+        Some(key) => match slots.get(key) {
+            Some(slot) => slot.parked,
+            None => false,
+        },
+        None => false,
+    }
 }
 
-pub(crate) fn entry_with(slots: &[Slot], seq: u64) -> Option<&Entry>
-    requires { HasDistinctSeqs (map kept_of slots.now) }
-    ensures { let found = find (λ slot. slot.entry.seq == seq) slots.now in
-        option_copied result ≡ option_map (λ slot. slot.entry) found }
-{
-    let place = place_of(slots, seq)?;
-    Some(&slots[place].entry)
-}
-
-pub(crate) fn oldest_unparked(slots: &[Slot]) -> Option<u64>
-    ensures { let found = find (λ slot. not slot.parked) slots.now in
+/// The seq of the request that came first of those that are parked, or of those that are not.
+pub(crate) fn oldest(slots: &Slab<Slot>, order: &Arrivals, parked: bool) -> Option<u64>
+    requires { IsFilled (λ key. get slots.now key) order.now.keys }
+    ensures { let found = find (λ slot. if parked then slot.parked else not slot.parked) (slots_at (λ key. get slots.now key) order.now.keys) in
         result ≡ option_map (λ slot. slot.entry.seq) found }
 {
-    slots
-        .iter()
-        .find(|slot| !slot.parked)
-        .map(|slot| slot.entry.seq)
-}
-
-/// The place of a request. The one that came last is looked at first: where the last is answered first, none is walked past.
-fn place_of(slots: &[Slot], seq: u64) -> Option<usize>
-    requires { HasDistinctSeqs (map kept_of slots.now) }
-    ensures { result ≡ position (λ slot. slot.entry.seq == seq) slots.now }
-{
-    match slots.last() {
-        Some(last) if last.entry.seq == seq => Some(slots.len() - 1),
-        _ => slots.iter().position(|slot| slot.entry.seq == seq),
-    }
-}
-
-pub(crate) fn take(slots: &mut Vec<Slot>, seq: u64) -> Option<Entry>
-    requires { HasDistinctSeqs (map kept_of slots.old.items) }
-    ensures entry { result ≡ entry_with seq (map kept_of slots.old.items) }
-    ensures others { map kept_of slots.new.items ≡ without seq (map kept_of slots.old.items) }
-    ensures capacity { vec_capacity slots.new ≡ vec_capacity slots.old }
-{
-    let place = place_of(slots, seq)?;
-    Some(slots.remove(place).entry)
-}
-
-pub(crate) fn set_mark(slots: &mut [Slot], seq: u64, parked: bool)
-    ensures { slots.new ≡ map (slot_marked seq parked) slots.old }
-{
-    for slot in slots.iter_mut() {
-        if slot.entry.seq == seq {
-            slot.parked = parked;
+    let mut at = order.first();
+    while let Some(key) = at {
+        let slot = &slots[key];
+        if slot.parked == parked {
+            return Some(slot.entry.seq);
         }
+        at = order.after(key);
     }
+    None
 }
 
-pub(crate) fn retain_unparked(slots: &mut Vec<Slot>)
-    ensures unparked { slots.new.items ≡ filter (λ slot. not slot.parked) slots.old.items }
-    ensures capacity { vec_capacity slots.new ≡ vec_capacity slots.old }
+/// How many requests are parked: all without those that are not.
+pub(crate) fn parked(slots: &Slab<Slot>, order: &Arrivals) -> usize
+    requires { IsFilled (λ key. get slots.now key) order.now.keys }
+    ensures { result ≡ count_by (λ slot. slot.parked) (slots_at (λ key. get slots.now key) order.now.keys) }
 {
-    slots.retain(|slot| !slot.parked);
-}
-
-pub(crate) fn parked(slots: &[Slot]) -> usize
-    ensures { result ≡ count_by (λ slot. slot.parked) slots.now }
-{
-    let mut count = 0;
-    for slot in slots {
-        if slot.parked {
-            count += 1;
+    let mut count = order.len();
+    let mut at = order.first();
+    while let Some(key) = at {
+        if !slots[key].parked {
+            count -= 1;
         }
+        at = order.after(key);
     }
     count
 }

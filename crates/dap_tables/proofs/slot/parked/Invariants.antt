@@ -1,6 +1,15 @@
-use Rattle.std.proofs.Common.{◌≡◌, take}
+use Rattle.std.proofs.Common.{◌≡◌, ◌+◌, IfSome, length, not}
 use Rattle.std.specs.List.{count_by}
+use Rattle.slab.specs.Slab.{get}
+use Rattle.dap_tables.specs.Arrivals.{IsIn, keys_from}
+use Rattle.dap_tables.specs.OutstandingStore.{slots_at}
 use Rattle.dap_tables.proofs.slot.parked.Given as goal
 
-abbrev pub invariant-loop-slot : goal.invariant-loop-slot
-invariant-loop-slot l = l.count ≡ count_by (λ slot. slot.parked) (take l.slot-index l.slots)
+abbrev pub invariant-loop-at : goal.invariant-loop-at
+invariant-loop-at l = record {
+  among : IfSome l.at (λ key. IsIn key l.order.keys);
+  rest : l.count ≡ count_by (λ slot. slot.parked) (slots_at (λ key. get l.slots key) l.order.keys) + count_by (λ slot. not slot.parked) (slots_at (λ key. get l.slots key) (keys_from l.at l.order.keys));
+}
+
+abbrev pub decreases-loop-at : goal.decreases-loop-at
+decreases-loop-at l = length (keys_from l.at l.order.keys)

@@ -1,18 +1,27 @@
-use Rattle.std.proofs.Common.{◌∙◌, ap}
-use Rattle.dap_tables.specs.Outstanding.{unparked_ones}
-use Rattle.dap_tables.specs.Slot.{kept_of}
-use Rattle.dap_tables.proofs.KeptLemmas.{IsOrderly-unparked}
-use Rattle.dap_tables.proofs.SlotLemmas.{unparked_ones-slots, table_of-changed, IsOrderly-shown}
-use Rattle.std.proofs.Common.{map, List}
-use Rattle.dap_tables.specs.declared.slot.Slot.{Slot}
+use Rattle.std.proofs.Common.{◌≡◌, ◌<◌, ap, ◌∙◌, sym, subst, ℕ, Some, None, Option, length, refl}
+use Rattle.dap_tables.specs.Outstanding.{KeptRequests, unparked_ones}
+use Rattle.dap_tables.proofs.KeptLemmas.{unparked_ones-without, unparked_ones-all, length-without_one}
 use Rattle.dap_tables.proofs.outstanding.Outstanding.clear_parked.Goals as goal
 
-pub invariant_of-self : goal.invariant_of-self
-invariant_of-self c =
-    IsOrderly-shown _ _ _ (ap (λ (xs : List Slot). map kept_of xs) c.retain_unparked.ensures.unparked ∙ unparked_ones-slots c.self.inside.slots.items) (IsOrderly-unparked _ _ c.self.invariant)
+pub loop-seq-preserved : goal.loop-seq-preserved
+loop-seq-preserved c =
+    let found = sym c.oldest_parked.ensures.oldest ∙ c.in-Some.is in
+    record {
+      room = ap (λ (t : KeptRequests). t.room) c.give_up.ensures ∙ c.loop-seq.invariant.room;
+      kept = ap (λ (t : KeptRequests). unparked_ones t.kept) c.give_up.ensures ∙ unparked_ones-without c.in-Some.seq c.loop-seq.self.kept c.oldest_parked.ensures.orderly.distinct found ∙ c.loop-seq.invariant.kept;
+    }
 
-pub returns-clause-orderly : goal.returns-clause-orderly
-returns-clause-orderly c = invariant_of-self c
+pub loop-seq-smaller : goal.loop-seq-smaller
+loop-seq-smaller c =
+    let found = sym c.oldest_parked.ensures.oldest ∙ c.in-Some.is in
+    subst (λ (t : KeptRequests). length t.kept < length c.loop-seq.self.kept) (sym c.give_up.ensures) (length-without_one c.in-Some.seq c.loop-seq.self.kept found)
+
+none_from : (o : Option ℕ) → ((seq : ℕ) → o ≡ Some seq → ⊥) → o ≡ None
+none_from None never = refl
+none_from (Some seq) never = absurd (never seq refl)
 
 pub returns-clause-others : goal.returns-clause-others
-returns-clause-others c = table_of-changed unparked_ones _ _ _ _ c.self.view_is (ap (λ (xs : List Slot). map kept_of xs) c.retain_unparked.ensures.unparked ∙ unparked_ones-slots c.self.inside.slots.items)
+returns-clause-others c =
+    let none = sym c.oldest_parked.ensures.oldest ∙ none_from c.oldest_parked.result c.in_default.not-Some in
+    let kept = sym (unparked_ones-all c.loop-seq.self.kept none) ∙ c.loop-seq.invariant.kept in
+    λ i. record { room = c.loop-seq.invariant.room i; kept = kept i }
