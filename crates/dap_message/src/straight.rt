@@ -55,7 +55,6 @@ fn take_member<'a>(
 }
 
 /// Nothing came yet.
-#[inline(never)]
 fn nothing_seen<'a>() -> Envelope<'a>
     ensures { HoldsAll result no_members }
 {
