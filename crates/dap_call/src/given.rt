@@ -85,7 +85,7 @@ fn items<'v>(body: &'v Value, key: &str) -> &'v [Value]
 fn reference(value: &Value, key: &str, least: u64) -> Option<u32>
     ensures { result ≡ reference_at key.now least (view value.now) }
 {
-    let number = field::whole(value, key)?;
+    let number = field::whole_at_end(value, key)?;
     if number < least || number > MAX_REFERENCE {
         return None;
     }

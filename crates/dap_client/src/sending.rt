@@ -22,6 +22,9 @@ use dap_message::{Call, Command, Text, Tree, write_call, write_request};
 use dap_tables::{Entry, ReferenceKind};
 use std::alloc::{AllocError, Global};
 
+/// The bytes that a header block has at most.
+const HEADER_ROOM: usize = 32;
+
 /// The number of the request that made the phase Resuming, once a request of this number was sent.
 fn resumer_after(change: Option<Change>, seq: u64, before: u64) -> u64
     ensures { result ≡ resumer_by change seq before }
@@ -146,7 +149,7 @@ impl Session {
         if let Some(fault) = self.late_refusal(text.len()) {
             return Err(fault);
         }
-        let mut bytes = Vec::new(alloc);
+        let mut bytes = Vec::with_capacity(alloc, text.len().saturating_add(HEADER_ROOM))?;
         write_frame(&mut bytes, &text)?;
         Ok((entry, bytes))
     }

@@ -8,6 +8,7 @@ ghost use Rattle.serde_json.specs.Data.{no_members};
 ghost use Rattle.serde_json.specs.Read.{of_json, of_items, of_members, converted, number_of, number_from, float_of};
 ghost use Rattle.serde_json.specs.View.{view, number_view, items_view, members_view};
 
+use crate::digits;
 use crate::skim::has_minus;
 use fast_float::Numeral;
 use json::{Invalid, Reader, Token};
@@ -117,8 +118,19 @@ fn members(
 }
 
 /// The number that a token writes, where it is in range.
-#[inline(never)]
+#[inline(always)]
 fn number(text: &str) -> Option<Number>
+    ensures { option_map number_view result ≡ number_of text.now }
+{
+    match digits::whole(text.as_bytes()) {
+        Some(n) => Some(Number::from(n)),
+        None => any_number(text),
+    }
+}
+
+/// The same, whatever the number is.
+#[inline(never)]
+fn any_number(text: &str) -> Option<Number>
     ensures { option_map number_view result ≡ number_of text.now }
 {
     let bytes = text.as_bytes();

@@ -9,8 +9,8 @@ ghost use Rattle.serde_json.specs.Read.{of_json, of_items, of_members, converted
 ghost use Rattle.dap_json.specs.Read.{json_of};
 ghost use Rattle.dap_json.specs.Skim.{Skims, IsRestOf, IsNext, IsAfterKey};
 
-use crate::reading;
 use crate::tree::Tree;
+use crate::{digits, reading};
 use fast_float::Numeral;
 pub use json::Invalid;
 use json::{Reader, Token};
@@ -202,6 +202,17 @@ fn members(reader: &mut Reader<'_>, depth: usize) -> Result<(), Invalid>
 /// A number of JSON, where it is in range.
 #[inline(always)]
 fn number<'a>(text: &str) -> Result<Skimmed<'a>, Invalid>
+    ensures { IfOk result (λ s. (n : Num) × (number_of text.now ≡ Some n) × Skims s (number_data n)) }
+{
+    match digits::whole(text.as_bytes()) {
+        Some(n) => Ok(Skimmed::Whole(n)),
+        None => any_number(text),
+    }
+}
+
+/// The same, whatever the number is.
+#[inline(never)]
+fn any_number<'a>(text: &str) -> Result<Skimmed<'a>, Invalid>
     ensures { IfOk result (λ s. (n : Num) × (number_of text.now ≡ Some n) × Skims s (number_data n)) }
 {
     let bytes = text.as_bytes();

@@ -96,14 +96,15 @@ pub(crate) struct Noted<'a> {
 pub(crate) fn none_noted<'a>() -> Noted<'a>
     ensures { TellsAll result no_members }
 {
+    let nothing = None;
     Noted {
-        seq: None,
-        tag: None,
-        command: None,
-        request_seq: None,
-        success: None,
-        message: None,
-        event: None,
+        seq: nothing,
+        tag: nothing,
+        command: nothing,
+        request_seq: nothing,
+        success: nothing,
+        message: nothing,
+        event: nothing,
     }
 }
 

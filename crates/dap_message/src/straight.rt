@@ -54,19 +54,31 @@ fn take_member<'a>(
     Ok(())
 }
 
-/// Takes the members of an object, all of them to come.
-fn take_members<'a>(alloc: Global, skim: &mut Skim<'a>) -> Result<Envelope<'a>, Invalid>
-    ensures { IfOk result (λ seen. (ms : Members) × IsRestOf skim.old no_members ms × HoldsAll seen ms) }
+/// Nothing came yet.
+fn nothing_seen<'a>() -> Envelope<'a>
+    ensures { HoldsAll result no_members }
 {
-    let mut seen = Envelope {
+    Envelope {
         noted: none_noted(),
         arguments: None,
         body: None,
-    };
-    while let Some(key) = skim.next_key()? {
-        take_member(alloc, skim, key, &mut seen)?;
     }
-    Ok(seen)
+}
+
+/// Takes the members of an object, all of them to come. What is seen stays in its place in memory: it is large to hand over.
+#[inline(never)]
+fn take_members<'a>(
+    alloc: Global,
+    skim: &mut Skim<'a>,
+    seen: &mut Envelope<'a>,
+) -> Result<(), Invalid>
+    requires { HoldsAll seen.old no_members }
+    ensures { OnOk result ((ms : Members) × IsRestOf skim.old no_members ms × HoldsAll seen.new ms) }
+{
+    while let Some(key) = skim.next_key()? {
+        take_member(alloc, skim, key, seen)?;
+    }
+    Ok(())
 }
 
 /// The text that stands there, if any; `null` counts as absent.
@@ -100,18 +112,18 @@ fn copied_if_any(alloc: Global, text: Option<&str>) -> Option<Option<Text>>
     }
 }
 
-fn request(alloc: Global, seen: Envelope<'_>) -> Option<Kind>
-    ensures { IfSome result (λ kind. (ms : Members) → HoldsAll seen.entry ms → text_at (codes "type") (object ms) ≡ Some (codes "request") → SaysKind (object ms) kind) }
+fn request(alloc: Global, seen: &mut Envelope<'_>) -> Option<Kind>
+    ensures { IfSome result (λ kind. (ms : Members) → HoldsAll seen.old ms → text_at (codes "type") (object ms) ≡ Some (codes "request") → SaysKind (object ms) kind) }
 {
     let command = copied(alloc, command(&seen.noted)?)?;
     Some(Kind::Request {
         command,
-        arguments: seen.arguments,
+        arguments: seen.arguments.take(),
     })
 }
 
-fn response(alloc: Global, seen: Envelope<'_>) -> Option<Kind>
-    ensures { IfSome result (λ kind. (ms : Members) → HoldsAll seen.entry ms → text_at (codes "type") (object ms) ≡ Some (codes "response") → SaysKind (object ms) kind) }
+fn response(alloc: Global, seen: &mut Envelope<'_>) -> Option<Kind>
+    ensures { IfSome result (λ kind. (ms : Members) → HoldsAll seen.old ms → text_at (codes "type") (object ms) ≡ Some (codes "response") → SaysKind (object ms) kind) }
 {
     let request_seq = whole(&seen.noted.request_seq)?;
     let success = boolean(&seen.noted.success)?;
@@ -122,22 +134,22 @@ fn response(alloc: Global, seen: Envelope<'_>) -> Option<Kind>
         success,
         command,
         message,
-        body: seen.body,
+        body: seen.body.take(),
     })
 }
 
-fn event(alloc: Global, seen: Envelope<'_>) -> Option<Kind>
-    ensures { IfSome result (λ kind. (ms : Members) → HoldsAll seen.entry ms → text_at (codes "type") (object ms) ≡ Some (codes "event") → SaysKind (object ms) kind) }
+fn event(alloc: Global, seen: &mut Envelope<'_>) -> Option<Kind>
+    ensures { IfSome result (λ kind. (ms : Members) → HoldsAll seen.old ms → text_at (codes "type") (object ms) ≡ Some (codes "event") → SaysKind (object ms) kind) }
 {
     let event = copied(alloc, text(&seen.noted.event)?)?;
     Some(Kind::Event {
         event,
-        body: seen.body,
+        body: seen.body.take(),
     })
 }
 
-fn kind(alloc: Global, seen: Envelope<'_>) -> Option<Kind>
-    ensures { IfSome result (λ kind. (ms : Members) → HoldsAll seen.entry ms → SaysKind (object ms) kind) }
+fn kind(alloc: Global, seen: &mut Envelope<'_>) -> Option<Kind>
+    ensures { IfSome result (λ kind. (ms : Members) → HoldsAll seen.old ms → SaysKind (object ms) kind) }
 {
     match text(&seen.noted.tag)? {
         "request" => request(alloc, seen),
@@ -156,10 +168,11 @@ pub(crate) fn message(alloc: Global, body: &[u8], scratch: &mut Scratch) -> Opti
     let Ok(mut skim) = Skim::open(body, scratch) else {
         return None;
     };
-    let Ok(seen) = take_members(alloc, &mut skim) else {
+    let mut seen = nothing_seen();
+    let Ok(()) = take_members(alloc, &mut skim, &mut seen) else {
         return None;
     };
     let seq = whole(&seen.noted.seq)?;
-    let kind = kind(alloc, seen)?;
+    let kind = kind(alloc, &mut seen)?;
     Some(Message { seq, kind })
 }

@@ -69,7 +69,7 @@ struct Requests<'a> {
 struct Replay<'a> {
     client: Client,
     requests: Requests<'a>,
-    /// The next one, which the client refused so far.
+    /// The next one, unless none was read since the last one was sent.
     next: Option<Call>,
     sent: u64,
     delivered: u64,
@@ -130,23 +130,22 @@ fn send(alloc: Global, replay: &mut Replay<'_>) -> Result<(), Failure> {
         if replay.client.outstanding() >= AT_ONCE {
             return Ok(());
         }
-        let next = match replay.next.take() {
-            Some(call) => Some(call),
-            None => next_call(alloc, &mut replay.requests)?,
-        };
-        let Some(call) = next else {
+        if replay.next.is_none() {
+            replay.next = next_call(alloc, &mut replay.requests)?;
+        }
+        let Some(call) = &replay.next else {
             return Ok(());
         };
         if !call.plain() {
             return Err(Failure::Requests);
         }
-        match replay.client.send(alloc, &call) {
-            Ok(_) => replay.sent = replay.sent.saturating_add(1),
-            Err(SendFault::OutOfMemory) => return Err(Failure::Memory),
-            Err(_) => {
-                replay.next = Some(call);
-                return Ok(());
+        match replay.client.send(alloc, call) {
+            Ok(_) => {
+                replay.sent = replay.sent.saturating_add(1);
+                replay.next = None;
             }
+            Err(SendFault::OutOfMemory) => return Err(Failure::Memory),
+            Err(_) => return Ok(()),
         }
     }
     Ok(())

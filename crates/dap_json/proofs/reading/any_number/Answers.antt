@@ -1,7 +1,7 @@
 use Rattle.std.proofs.Common.{◌≡◌, drop, slice_index, true, false, ◌==◌, sym, ap, ◌∙◌, arith, take_all, length-drop}
 use Rattle.fast_float.specs.Text.{scan}
 use Rattle.serde_json.specs.Read.{number_of, number_from}
-use Rattle.dap_json.proofs.reading.number.Goals as goal
+use Rattle.dap_json.proofs.reading.any_number.Goals as goal
 
 pub returns-then-has_minus : goal.returns-then-has_minus
 unfolding number_of
