@@ -1,15 +1,15 @@
 -- What was gathered, one member after another.
-use Rattle.std.proofs.Common.{◌≡◌, ◌≢◌, ℕ, List, [], ◌++◌, codes, bytes_eq, true, false, Option, Some, option_and_then, refl, sym, ap, ◌∙◌, true≢false}
+use Rattle.std.proofs.Common.{◌≡◌, ◌≢◌, ℕ, List, [], ◌++◌, codes, bytes_eq, false, Option, option_and_then, refl, sym, ap, ◌∙◌, true≢false}
 use Rattle.std.specs.Prelude.{nat_le}
 use Rattle.std.specs.List.{cons_option}
 use Rattle.std.proofs.lemmas.Slice.Eq.{bytes_eq-Decides}
 use Rattle.serde_json.specs.Data.{Data, null, array, object, Items, no_items, item, Members, no_members, put}
-use Rattle.serde_json.specs.Find.{get_member, as_array, as_number, as_u64}
+use Rattle.serde_json.specs.Find.{as_array, as_number, as_u64}
 use Rattle.serde_json.proofs.Views.{get_member-put, get_member-put_other}
 use Rattle.dap_json.specs.Field.{if_passes, max_seq}
 use Rattle.dap_json.specs.Inside.{within, whole_of, numbers_in}
 use Rattle.dap_call.specs.Given.{reference_at, references_in, or_none, frame_ids, holders_of}
-use Rattle.dap_call.specs.Gathered.{given_frames, given_holders, AreGivenBy, AreGathered}
+use Rattle.dap_call.specs.Gathered.{given_holders, AreGivenBy, AreGathered}
 use Rattle.dap_call.specs.declared.command.Command.{Command}
 use Rattle.dap_call.specs.declared.command.Command.TheVariants as command
 use Rattle.dap_call.specs.declared.gathering.Given.{Given}

@@ -1,4 +1,3 @@
-use Rattle.std.proofs.Common.{arith}
 use Rattle.serde_json.specs.Data.{object}
 use Rattle.dap_call.proofs.GatheredLemmas.{none_yet, given_by}
 use Rattle.dap_call.proofs.gathering.Given.gather.Goals as goal
