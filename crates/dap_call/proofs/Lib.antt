@@ -8,3 +8,4 @@ mod WritingExamples
 pub mod ReadAgain
 pub mod PlainTree
 pub mod Written
+pub mod GatheredLemmas

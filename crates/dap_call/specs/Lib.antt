@@ -1,6 +1,7 @@
 pub mod Command
 pub mod Capabilities
 pub mod Given
+pub mod Gathered
 pub mod Key
 pub mod Lent
 pub mod Argument

@@ -10,6 +10,7 @@ mod call;
 mod calls;
 mod capabilities;
 mod command;
+mod gathering;
 mod given;
 mod key;
 pub mod laws;
@@ -24,6 +25,7 @@ pub use call::{
 pub use calls::read_call;
 pub use capabilities::Capabilities;
 pub use command::{Command, Gate};
+pub use gathering::Given;
 pub use given::{FramesGiven, HoldersGiven, frames_given, holders_given};
 pub use key::Key;
 pub use plain::MAX_ARGUMENTS;

@@ -1,25 +1,29 @@
 -- A line without what no rule looks at is judged as the whole line, and tells the same of later lines.
-use Rattle.std.proofs.Common.{◌≡◌, ℕ, ◌+◌, List, [], ◌∷◌, ◌++◌, Bool, true, false, Option, Some, None, Result, Ok, Err, codes, refl, sym, ap, ◌∙◌, subst, inl, inr}
-use Rattle.std.specs.Prelude.{not, ◌&&◌, ◌||◌, cond, count_by, option_map, bytes_eq, find, IfOk}
+use Rattle.std.proofs.Common.{◌≡◌, ℕ, ◌+◌, List, [], ◌∷◌, ◌++◌, Bool, true, false, Option, Some, None, codes, refl, sym, ap, ◌∙◌, subst}
+use Rattle.std.specs.Prelude.{not, ◌&&◌, ◌||◌, cond, count_by, option_map, bytes_eq, find}
+use Rattle.std.specs.BTreeSet as sorted
 use Rattle.std.specs.List.{list_any}
-use Rattle.std.proofs.lemmas.List.{append_assoc}
-use Rattle.std.proofs.lemmas.Slice.Eq.{bytes_eq-Decides}
-use Rattle.serde_json.specs.Data.{Data}
-use Rattle.dap_message.specs.Command.{all_commands, name_of, command_named}
+use Rattle.std.specs.Ordering.{nat_cmp}
+use Rattle.serde_json.specs.Data.{Data, null}
+use Rattle.dap_message.specs.Command.{command_named}
+use Rattle.dap_message.specs.Given.{frame_ids, holders_of}
+use Rattle.dap_message.specs.Gathered.{AreGivenBy}
+use Rattle.dap_message.specs.Giving.{or_null, AreGivenIn}
+use Rattle.dap_message.specs.Types.Given.{Given}
 use Rattle.dap_message.specs.Types.Capabilities.{Capabilities}
 use Rattle.dap_message.specs.Types.Command.{Command}
 use Rattle.dap_message.specs.Types.Command.TheVariants as command
-use Rattle.dap_message.specs.Meaning.{Msg}
-use Rattle.dap_message.specs.declared.fault.BodyFault.{BodyFault}
 use Rattle.dap_message.specs.declared.message.Message.{Message}
 use Rattle.dap_message.specs.declared.message.Kind.{Kind}
 use Rattle.dap_message.specs.declared.message.Kind.TheVariants.{Request, Response, Event, Other}
-use Rattle.dap_check.specs.Bare.{telling, is_looked_at, bare_kind, bare_line, IsReadBody, IsReadAs}
-use Rattle.dap_check.specs.Kept.{IsFirst, Begins, AreWaiting, IsOffered, offer_after, IsSeen, IsTold}
-use Rattle.dap_check.specs.Legal.{all_rules, least_broken, IsLegal}
+use Rattle.dap_check.specs.Bare.{is_looked_at, bare_kind, bare_line, IsReadBody, IsReadAs, frames_told, told_for, holders_told, tells_frame, tells_holder}
+use Rattle.dap_check.specs.Kept.{AreCounts, ArePending, ArePhases, AreReferences, reference_after, IsFirst, Begins, AreWaiting, IsOffered, offer_after, IsSeen, IsTold}
+use Rattle.dap_check.specs.Legal.{all_rules, least_broken, IsFinding}
 use Rattle.dap_check.specs.Lines.{opposite, is_among, is_of, asks, asks_as, asks_for, answers, succeeds}
-use Rattle.dap_check.specs.Rules.{initialize, disconnect, offered_since, frames_of_kind, holders_of_kind, holders_for, contains_number, gives_frame, gives_holder, resumes, naming_frames, naming_holders, is_broken}
+use Rattle.dap_check.specs.Rules.{breaks_answer, frames_in, initialize, disconnect, offered_since, frames_of_kind, holders_of_kind, holders_for, contains_number, gives_frame, gives_holder, resumes, naming_frames, naming_holders, is_broken}
 use Rattle.dap_check.specs.Since.{is_open, first_since, last_since, Past}
+use Rattle.dap_check.specs.declared.line.Form.{Form}
+use Rattle.dap_check.specs.declared.line.Form.TheVariants.{Whole, Bare}
 use Rattle.dap_check.specs.declared.line.Line.{Line}
 use Rattle.dap_check.specs.declared.line.Side.{Side}
 use Rattle.dap_check.specs.declared.line.Side.TheVariants.{Client, Adapter}
@@ -29,10 +33,12 @@ use Rattle.dap_check.specs.declared.rule.Checked.{Checked}
 use Rattle.dap_check.specs.declared.rule.Checked.TheVariants.{Legal, Finding}
 use Rattle.dap_check.specs.declared.rule.Rule.{Rule}
 use Rattle.dap_check.specs.declared.rule.Rule.TheVariants.{Seq, Reference}
+use Rattle.dap_check.specs.declared.references.References.{References}
 use Rattle.dap_check.specs.declared.seen.Seen.{Seen}
 use Rattle.dap_check.specs.declared.waiting.Waiting.{Waiting}
-use Rattle.dap_check.proofs.LegalLemmas.{split_push, legal_push, legal_before}
+use Rattle.dap_check.proofs.LegalLemmas.{legal_push, finding_push, answers_well}
 use Rattle.dap_check.proofs.OfferLemmas.{one_later}
+use Rattle.dap_check.proofs.ReferenceLemmas.{referenced_later}
 use Rattle.dap_check.proofs.SinceLemmas.{any_push, open_push, first_push, first_later, last_push}
 use Rattle.dap_check.proofs.TrailLemmas.{count_push}
 
@@ -64,56 +70,33 @@ judged_alike any_seq _ earlier number side seq (Other tag) unseen = refl
 
 -- ---- what it gives
 
-none_either : (b : Bool) → cond {A = List ℕ} b [] [] ≡ []
-none_either true = refl
-none_either false = refl
+frames_of_null : (body : Option Data) → frame_ids (or_null body) ≡ frames_in body
+frames_of_null None = refl
+frames_of_null (Some d) = refl
 
-no_frames : (success named given rest : Bool) (frames : List ℕ) → (success && (named || (given || rest))) ≡ false → cond (success && given) frames [] ≡ []
-no_frames true true given rest frames e = absurd (cc e)
-no_frames true false true rest frames e = absurd (cc e)
-no_frames true false false rest frames e = refl
-no_frames false named given rest frames e = refl
+frames_alike : (given : Given) (kind : Kind) → AreGivenIn given kind → frames_told given (bare_kind kind) ≡ frames_of_kind kind
+frames_alike given (Request c arguments) are = refl
+frames_alike given (Response request_seq success c message body) are = ap (λ frames. cond (success && bytes_eq c (codes "stackTrace")) frames []) (are.frames ∙ frames_of_null body)
+frames_alike given (Event event body) are = refl
+frames_alike given (Other tag) are = refl
 
-frames_alike : (kind : Kind) → is_looked_at kind ≡ false → frames_of_kind (bare_kind kind) ≡ frames_of_kind kind
-frames_alike (Request c arguments) unseen = refl
-frames_alike (Response request_seq success c message body) unseen =
-    none_either (success && bytes_eq c (codes "stackTrace")) ∙ sym (no_frames success (bytes_eq c (codes "initialize")) (bytes_eq c (codes "stackTrace")) _ _ unseen)
-frames_alike (Event event body) unseen = refl
-frames_alike (Other tag) unseen = refl
+holders_of_null : (x : Command) → holders_of x null ≡ []
+holders_of_null command.Scopes = refl
+holders_of_null command.Variables = refl
+holders_of_null command.Evaluate = refl
+holders_of_null command.SetVariable = refl
+holders_of_null _ = refl
 
--- the command that is found has the name
-found_step : (p : Command → Bool) (y x : Command) (rest : Option Command) (b : Bool) → b ≡ p y → cond b (Some y) rest ≡ Some x → (rest ≡ Some x → p x ≡ true) → p x ≡ true
-found_step p y x rest true eb e later = let same : y ≡ x = cc in sym (ap p same) ∙ sym eb
-found_step p y x rest false eb e later = later e
+told_of : (given : Given) (found : Option Command) (body : Option Data) → AreGivenBy given (or_null body) → told_for found given ≡ holders_for found body
+told_of given None body are = refl
+told_of given (Some x) None are = are.holders x ∙ holders_of_null x
+told_of given (Some x) (Some d) are = are.holders x
 
-found_passes : (p : Command → Bool) (xs : List Command) (x : Command) → find p xs ≡ Some x → p x ≡ true
-found_passes p [] x e = absurd (cc e)
-found_passes p (y ∷ ys) x e = found_step p y x (find p ys) (p y) refl e (found_passes p ys x)
-
-gives_none : (x : Command) (body : Option Data) → is_among telling (name_of x) ≡ false → holders_for (Some x) body ≡ []
-gives_none x None e = refl
-gives_none command.Scopes (Some d) e = absurd (cc e)
-gives_none command.Variables (Some d) e = absurd (cc e)
-gives_none command.Evaluate (Some d) e = absurd (cc e)
-gives_none command.SetVariable (Some d) e = absurd (cc e)
-gives_none _ (Some d) e = refl
-
-none_named : (name : List ℕ) (found : Option Command) (body : Option Data) → command_named name ≡ found → is_among telling name ≡ false → holders_for found body ≡ []
-none_named name None body e untold = refl
-none_named name (Some x) body e untold =
-    let same = (bytes_eq-Decides name (name_of x)).0 (found_passes (λ c. bytes_eq name (name_of c)) all_commands x e) in
-    gives_none x body (ap (is_among telling) (sym same) ∙ untold)
-
-holders_of_none : (found : Option Command) → holders_for found None ≡ []
-holders_of_none None = refl
-holders_of_none (Some x) = refl
-
-holders_alike : (kind : Kind) → is_looked_at kind ≡ false → holders_of_kind (bare_kind kind) ≡ holders_of_kind kind
-holders_alike (Request c arguments) unseen = refl
-holders_alike (Response request_seq true c message body) unseen = holders_of_none (command_named c) ∙ sym (none_named c (command_named c) body refl unseen)
-holders_alike (Response request_seq false c message body) unseen = refl
-holders_alike (Event event body) unseen = refl
-holders_alike (Other tag) unseen = refl
+holders_alike : (given : Given) (kind : Kind) → AreGivenIn given kind → holders_told given (bare_kind kind) ≡ holders_of_kind kind
+holders_alike given (Request c arguments) are = refl
+holders_alike given (Response request_seq success c message body) are = ap (λ holders. cond success holders []) (told_of given (command_named c) body are)
+holders_alike given (Event event body) are = refl
+holders_alike given (Other tag) are = refl
 
 -- ---- it says the same
 
@@ -145,11 +128,11 @@ module _ (number : ℕ) (side : Side) (seq : ℕ) where
   resumes_alike : (kind : Kind) → Alike resumes kind
   resumes_alike kind = elim kind as (λ k. Alike resumes k) [ Request c a ↦ refl | Response m b c r d ↦ refl | Event e d ↦ refl | Other t ↦ refl ]
 
-  gives_frame_alike : (n : ℕ) (kind : Kind) → is_looked_at kind ≡ false → Alike (gives_frame n) kind
-  gives_frame_alike n kind unseen = ap (λ frames. is_of Adapter (whole kind) && contains_number n frames) (frames_alike kind unseen)
+  frame_alike : (n : ℕ) (given : Given) (kind : Kind) → AreGivenIn given kind → tells_frame n given (bare kind) ≡ gives_frame n (whole kind)
+  frame_alike n given kind are = ap (λ frames. is_of Adapter (whole kind) && contains_number n frames) (frames_alike given kind are)
 
-  gives_holder_alike : (n : ℕ) (kind : Kind) → is_looked_at kind ≡ false → Alike (gives_holder n) kind
-  gives_holder_alike n kind unseen = ap (λ holders. is_of Adapter (whole kind) && contains_number n holders) (holders_alike kind unseen)
+  holder_alike : (n : ℕ) (given : Given) (kind : Kind) → AreGivenIn given kind → tells_holder n given (bare kind) ≡ gives_holder n (whole kind)
+  holder_alike n given kind are = ap (λ holders. is_of Adapter (whole kind) && contains_number n holders) (holders_alike given kind are)
 
 -- what is offered after it
 answered_false : (success initialize_it rest : Bool) → (success && (initialize_it || rest)) ≡ false → (success && (initialize_it || false)) ≡ false
@@ -209,7 +192,7 @@ first_alike first number side seq kind (Some past) is = (
   is.2 ∙ any_alike past.since (line_at number side seq (bare_kind kind)) (line_at number side seq kind) (asks Client) (asks_alike number side seq Client kind),
 )
 
-module _ (earlier : List Line) (number : ℕ) (side : Side) (seq : ℕ) (kind : Kind) (unseen : is_looked_at kind ≡ false) where
+module _ (earlier : List Line) (number : ℕ) (side : Side) (seq : ℕ) (kind : Kind) where
   abbrev bare_one : Line
   bare_one = line_at number side seq (bare_kind kind)
 
@@ -227,75 +210,109 @@ module _ (earlier : List Line) (number : ℕ) (side : Side) (seq : ℕ) (kind : 
       subst (IsFirst first) (sym (first_push (asks Client) earlier whole_one))
       (first_alike first number side seq kind (first_since (asks Client) earlier) (subst (IsFirst first) (first_push (asks Client) earlier bare_one) is))
 
-  offered_alike : (offer : Offer) → IsOffered offer (earlier ++ bare_one ∷ []) → IsOffered offer (earlier ++ whole_one ∷ [])
-  offered_alike offer is = record { capabilities = is.capabilities ∙ step bare_one ∙ offer_alike number side seq kind (option_map offered_since (last_since (succeeds initialize) earlier)) unseen ∙ sym (step whole_one) }
+  offered_alike : is_looked_at kind ≡ false → (offer : Offer) → IsOffered offer (earlier ++ bare_one ∷ []) → IsOffered offer (earlier ++ whole_one ∷ [])
+  offered_alike unseen offer is = record { capabilities = is.capabilities ∙ step bare_one ∙ offer_alike number side seq kind (option_map offered_since (last_since (succeeds initialize) earlier)) unseen ∙ sym (step whole_one) }
     where
       step : (line : Line) → option_map offered_since (last_since (succeeds initialize) (earlier ++ line ∷ [])) ≡ offer_after (succeeds initialize line) line (option_map offered_since (last_since (succeeds initialize) earlier))
       step line = ap (option_map offered_since) (last_push (succeeds initialize) earlier line) ∙ one_later (succeeds initialize line) line (last_since (succeeds initialize) earlier)
 
-  seen_alike : (seen : Seen) → IsSeen seen (earlier ++ bare_one ∷ []) → IsSeen seen (earlier ++ whole_one ∷ [])
-  seen_alike seen is = record {
-    counts = record {
-      client = is.counts.client ∙ count_alike earlier bare_one whole_one (is_of Client) refl;
-      adapter = is.counts.adapter ∙ count_alike earlier bare_one whole_one (is_of Adapter) refl;
-    };
-    pending = record { client = waits_alike seen.pending.client Client is.pending.client; adapter = waits_alike seen.pending.adapter Adapter is.pending.adapter };
-    first = begins_alike seen.first is.first;
-    phases = record {
-      initialized = is.phases.initialized ∙ any_alike earlier bare_one whole_one (succeeds initialize) (succeeds_alike number side seq initialize kind);
-      ended = is.phases.ended ∙ any_alike earlier bare_one whole_one (succeeds disconnect) (succeeds_alike number side seq disconnect kind);
-    };
-    offer = offered_alike seen.offer is.offer;
-    references = record {
-      frames = λ n. is.references.frames n ∙ open_alike earlier bare_one whole_one (gives_frame n) resumes (gives_frame_alike number side seq n kind unseen) (resumes_alike number side seq kind);
-      holders = λ n. is.references.holders n ∙ open_alike earlier bare_one whole_one (gives_holder n) resumes (gives_holder_alike number side seq n kind unseen) (resumes_alike number side seq kind);
-    };
-  }
+  least_alike : is_looked_at kind ≡ false → (any_seq : Bool) → least_broken any_seq earlier bare_one ≡ least_broken any_seq earlier whole_one
+  least_alike unseen any_seq = find_alike (λ rule. is_broken any_seq rule earlier bare_one) (λ rule. is_broken any_seq rule earlier whole_one) (λ rule. judged_alike any_seq rule earlier number side seq kind unseen) all_rules
 
-  least_alike : (any_seq : Bool) → least_broken any_seq earlier bare_one ≡ least_broken any_seq earlier whole_one
-  least_alike any_seq = find_alike (λ rule. is_broken any_seq rule earlier bare_one) (λ rule. is_broken any_seq rule earlier whole_one) (λ rule. judged_alike any_seq rule earlier number side seq kind unseen) all_rules
+-- ---- however it was read
+
+pub least_as : (any_seq : Bool) (earlier : List Line) (form : Form) (given : Given) (read real : Line) → IsReadAs form given read real → least_broken any_seq earlier read ≡ least_broken any_seq earlier real
+least_as any_seq earlier Whole given read real is = ap (least_broken any_seq earlier) is
+least_as any_seq earlier Bare given read real is = ap (least_broken any_seq earlier) is.0 ∙ least_alike earlier real.number real.side real.message.seq real.message.kind is.1 any_seq
+
+number_as : (form : Form) (given : Given) (read real : Line) → IsReadAs form given read real → read.number ≡ real.number
+number_as Whole given read real is = ap (λ (l : Line). l.number) is
+number_as Bare given read real is = ap (λ (l : Line). l.number) is.0
+
+pub seen_as : (form : Form) (given : Given) (earlier : List Line) (read real : Line) (seen : Seen) → IsReadAs form given read real
+    → AreCounts seen.counts (earlier ++ read ∷ []) → ArePending seen.pending (earlier ++ read ∷ []) → Begins seen.first (earlier ++ read ∷ [])
+    → ArePhases seen.phases (earlier ++ read ∷ []) → IsOffered seen.offer (earlier ++ read ∷ []) → AreReferences seen.references (earlier ++ real ∷ []) → IsSeen seen (earlier ++ real ∷ [])
+seen_as Whole given earlier read real seen is counts pending first phases offer references = record {
+  counts = subst (λ line. AreCounts seen.counts (earlier ++ line ∷ [])) is counts;
+  pending = subst (λ line. ArePending seen.pending (earlier ++ line ∷ [])) is pending;
+  first = subst (λ line. Begins seen.first (earlier ++ line ∷ [])) is first;
+  phases = subst (λ line. ArePhases seen.phases (earlier ++ line ∷ [])) is phases;
+  offer = subst (λ line. IsOffered seen.offer (earlier ++ line ∷ [])) is offer;
+  references = references;
+}
+seen_as Bare given earlier read real seen is counts pending first phases offer references =
+    let kind = real.message.kind in
+    let one = bare_line real in
+    let c = subst (λ line. AreCounts seen.counts (earlier ++ line ∷ [])) is.0 counts in
+    let p = subst (λ line. ArePending seen.pending (earlier ++ line ∷ [])) is.0 pending in
+    let f = subst (λ line. Begins seen.first (earlier ++ line ∷ [])) is.0 first in
+    let h = subst (λ line. ArePhases seen.phases (earlier ++ line ∷ [])) is.0 phases in
+    let o = subst (λ line. IsOffered seen.offer (earlier ++ line ∷ [])) is.0 offer in
+    record {
+      counts = record { client = c.client ∙ count_alike earlier one real (is_of Client) refl; adapter = c.adapter ∙ count_alike earlier one real (is_of Adapter) refl };
+      pending = record {
+        client = waits_alike earlier real.number real.side real.message.seq kind seen.pending.client Client p.client;
+        adapter = waits_alike earlier real.number real.side real.message.seq kind seen.pending.adapter Adapter p.adapter;
+      };
+      first = begins_alike earlier real.number real.side real.message.seq kind seen.first f;
+      phases = record {
+        initialized = h.initialized ∙ any_alike earlier one real (succeeds initialize) (succeeds_alike real.number real.side real.message.seq initialize kind);
+        ended = h.ended ∙ any_alike earlier one real (succeeds disconnect) (succeeds_alike real.number real.side real.message.seq disconnect kind);
+      };
+      offer = offered_alike earlier real.number real.side real.message.seq kind is.1 seen.offer o;
+      references = references;
+    }
+
+-- ---- the references
+
+module _ (old new : References) (line : Line) (earlier : List Line) (is : AreReferences old earlier) where
+  pub references_whole : (real : Line) → line ≡ real
+      → ((n : ℕ) → sorted.contains nat_cmp new.frames n ≡ reference_after (resumes line) (gives_frame n line) (sorted.contains nat_cmp old.frames n))
+      → ((n : ℕ) → sorted.contains nat_cmp new.holders n ≡ reference_after (resumes line) (gives_holder n line) (sorted.contains nat_cmp old.holders n))
+      → AreReferences new (earlier ++ real ∷ [])
+  references_whole real e frames holders = subst (λ x. AreReferences new (earlier ++ x ∷ [])) e (referenced_later old new line earlier frames holders is)
+
+  pub references_bare : (given : Given) (real : Line) → IsReadAs Bare given line real
+      → ((n : ℕ) → sorted.contains nat_cmp new.frames n ≡ reference_after (resumes line) (tells_frame n given line) (sorted.contains nat_cmp old.frames n))
+      → ((n : ℕ) → sorted.contains nat_cmp new.holders n ≡ reference_after (resumes line) (tells_holder n given line) (sorted.contains nat_cmp old.holders n))
+      → AreReferences new (earlier ++ real ∷ [])
+  references_bare given real read frames holders = referenced_later old new real earlier (λ n. frames n ∙ frame n) (λ n. holders n ∙ holder n) is
+    where
+      goes : resumes line ≡ resumes real
+      goes = ap resumes read.0 ∙ resumes_alike real.number real.side real.message.seq real.message.kind
+
+      frame : (n : ℕ) → reference_after (resumes line) (tells_frame n given line) (sorted.contains nat_cmp old.frames n) ≡ reference_after (resumes real) (gives_frame n real) (sorted.contains nat_cmp old.frames n)
+      frame n =
+          ap (λ b. reference_after b (tells_frame n given line) (sorted.contains nat_cmp old.frames n)) goes
+          ∙ ap (λ b. reference_after (resumes real) b (sorted.contains nat_cmp old.frames n)) (ap (tells_frame n given) read.0 ∙ frame_alike real.number real.side real.message.seq n given real.message.kind read.2)
+
+      holder : (n : ℕ) → reference_after (resumes line) (tells_holder n given line) (sorted.contains nat_cmp old.holders n) ≡ reference_after (resumes real) (gives_holder n real) (sorted.contains nat_cmp old.holders n)
+      holder n =
+          ap (λ b. reference_after b (tells_holder n given line) (sorted.contains nat_cmp old.holders n)) goes
+          ∙ ap (λ b. reference_after (resumes real) b (sorted.contains nat_cmp old.holders n)) (ap (tells_holder n given) read.0 ∙ holder_alike real.number real.side real.message.seq n given real.message.kind read.2)
 
 -- ---- what is told
 
-told_bare : (any_seq : Bool) (seen : Seen) (lines : List Line) (real : Line) (told : Checked) → is_looked_at real.message.kind ≡ false → IsTold any_seq seen (lines ++ bare_line real ∷ []) told → IsTold any_seq seen (lines ++ real ∷ []) told
-told_bare any_seq seen lines real Legal unseen is = (
-  legal_push any_seq lines real (legal_before any_seq lines (bare_line real) is.0)
-      (sym (least_alike lines real.number real.side real.message.seq real.message.kind unseen any_seq) ∙ is.0 lines (bare_line real) [] refl),
-  seen_alike lines real.number real.side real.message.seq real.message.kind unseen seen is.1,
-)
-told_bare any_seq seen lines real (Finding number rule) unseen is =
-    elim (split_push lines (bare_line real) is.earlier is.line is.later is.split) [
-      | inl h ↦ record {
-        earlier = lines;
-        line = real;
-        later = [];
-        split = refl;
-        legal = subst (IsLegal any_seq) (sym h.0) is.legal;
-        broken = sym (least_alike lines real.number real.side real.message.seq real.message.kind unseen any_seq)
-            ∙ ap (least_broken any_seq lines) h.1 ∙ ap (λ xs. least_broken any_seq xs is.line) h.0 ∙ is.broken;
-        told = is.told ∙ sym (ap (λ (l : Line). l.number) h.1);
-      }
-      | inr h ↦ record {
-        earlier = is.earlier;
-        line = is.line;
-        later = h.0 ++ real ∷ [];
-        split = ap (λ z. z ++ real ∷ []) h.1 ∙ append_assoc is.earlier (is.line ∷ h.0) (real ∷ []);
-        legal = is.legal;
-        broken = is.broken;
-        told = is.told;
-      }
-    ]
+module _ (any_seq : Bool) (lines : List Line) (form : Form) (given : Given) (read real : Line) (told : Checked) (is : IsReadAs form given read real) (e : told ≡ Legal) where
+  pub legal_as : (old new : Seen) → IsTold any_seq old lines told
+      → ((earlier : List Line) → IsSeen old earlier → least_broken any_seq earlier read ≡ None)
+      → ((earlier : List Line) → IsSeen old earlier → breaks_answer earlier read ≡ false → IsSeen new (earlier ++ real ∷ []))
+      → IsTold any_seq new (lines ++ real ∷ []) Legal
+  legal_as old new before free seen =
+      let was = subst (IsTold any_seq old lines) e before in
+      let none = free lines was.1 in
+      (legal_push any_seq lines real was.0 (sym (least_as any_seq lines form given read real is) ∙ none), seen lines was.1 (answers_well any_seq lines read none))
 
-pub told_alike : (any_seq : Bool) (seen : Seen) (lines : List Line) (read real : Line) (told : Checked) → IsReadAs read real → IsTold any_seq seen (lines ++ read ∷ []) told → IsTold any_seq seen (lines ++ real ∷ []) told
-told_alike any_seq seen lines read real told (inl e) is = subst (λ line. IsTold any_seq seen (lines ++ line ∷ []) told) e is
-told_alike any_seq seen lines read real told (inr h) is = told_bare any_seq seen lines real told h.1 (subst (λ line. IsTold any_seq seen (lines ++ line ∷ []) told) h.0 is)
+  pub broken_as : (seen : Seen) (rule : Rule) → IsTold any_seq seen lines told
+      → ((earlier : List Line) → IsSeen seen earlier → least_broken any_seq earlier read ≡ Some rule) → IsTold any_seq seen (lines ++ real ∷ []) (Finding read.number rule)
+  broken_as seen rule before broken =
+      let was = subst (IsTold any_seq seen lines) e before in
+      subst (λ n. IsFinding any_seq (lines ++ real ∷ []) n rule) (sym (number_as form given read real is))
+      (finding_push any_seq lines real rule was.0 (sym (least_as any_seq lines form given read real is) ∙ broken lines was.1))
 
 -- ---- what is read
 
-pub whole_read : (body : List ℕ) (result : Result Message BodyFault) → ((m : Message) → result ≡ Ok m → Msg body m) → IfOk result (λ message. (m : Message) × Msg body m × IsReadBody message m)
-whole_read body (Ok m) is = (m, is m refl, inl refl)
-whole_read body (Err fault) is = tt
-
-pub line_read : (number : ℕ) (side : Side) (read m : Message) → IsReadBody read m → IsReadAs (record { number = number; side = side; message = read }) (record { number = number; side = side; message = m })
-line_read number side read m (inl e) = inl (ap (λ x. record { number = number; side = side; message = x }) e)
-line_read number side read m (inr h) = inr (ap (λ x. record { number = number; side = side; message = x }) h.0, h.1)
+pub line_read : (number : ℕ) (side : Side) (form : Form) (given : Given) (read m : Message) → IsReadBody form given read m
+    → IsReadAs form given (record { number = number; side = side; message = read }) (record { number = number; side = side; message = m })
+line_read number side Whole given read m is = ap (λ x. record { number = number; side = side; message = x }) is
+line_read number side Bare given read m is = (ap (λ x. record { number = number; side = side; message = x }) is.0, is.1, is.2)

@@ -1,20 +1,28 @@
 -- Lines that are read without what no rule looks at. Only private clauses and proofs cite this file.
-use Rattle.std.specs.Prelude.{◌≡◌, ◌⊎◌, ℕ, List, [], ◌∷◌, Bool, false, ◌&&◌, ◌||◌, codes, None}
+use Rattle.std.specs.Prelude.{◌≡◌, ℕ, List, [], ◌∷◌, Bool, false, ◌&&◌, ◌||◌, codes, bytes_eq, if◌then◌else◌, Option, Some, None}
+use Rattle.dap_message.specs.Command.{command_named}
+use Rattle.dap_message.specs.Gathered.{given_frames, given_holders}
+use Rattle.dap_message.specs.Giving.{AreGivenIn}
 use Rattle.dap_message.specs.Refusals.{Bad}
+use Rattle.dap_message.specs.Types.Command.{Command}
+use Rattle.dap_message.specs.Types.Given.{Given}
 use Rattle.dap_message.specs.declared.fault.BodyFault.{BodyFault}
 use Rattle.dap_message.specs.declared.fault.BodyFault.TheVariants.{Refused, OutOfMemory}
 use Rattle.dap_message.specs.declared.message.Message.{Message}
 use Rattle.dap_message.specs.declared.message.Kind.{Kind}
 use Rattle.dap_message.specs.declared.message.Kind.TheVariants.{Request, Response, Event, Other}
-use Rattle.dap_check.specs.Lines.{is_among}
-use Rattle.dap_check.specs.Rules.{naming_frames, naming_holders}
+use Rattle.dap_check.specs.Lines.{is_among, is_of}
+use Rattle.dap_check.specs.Rules.{naming_frames, naming_holders, contains_number}
 use Rattle.dap_check.specs.declared.line.Line.{Line}
+use Rattle.dap_check.specs.declared.line.Side.TheVariants.{Adapter}
+use Rattle.dap_check.specs.declared.line.Form.{Form}
+use Rattle.dap_check.specs.declared.line.Form.TheVariants.{Whole, Bare}
 
--- the commands whose successful responses offer, or give references
+-- the commands whose successful responses offer
 abbrev pub telling : List (List ℕ)
-telling = codes "initialize" ∷ codes "stackTrace" ∷ codes "scopes" ∷ codes "variables" ∷ codes "evaluate" ∷ codes "setVariable" ∷ []
+telling = codes "initialize" ∷ []
 
--- a rule looks at the tree of such a message
+-- a rule looks at more of the tree of such a message than at the references that it gives
 abbrev pub is_looked_at : Kind → Bool
 is_looked_at (Request command arguments) = is_among naming_frames command || is_among naming_holders command
 is_looked_at (Response request_seq success command message body) = success && is_among telling command
@@ -34,12 +42,37 @@ bare_message m = record { seq = m.seq; kind = bare_kind m.kind }
 abbrev pub bare_line : Line → Line
 bare_line line = record { number = line.number; side = line.side; message = bare_message line.message }
 
--- a message was read whole, or without what no rule looks at
-abbrev pub IsReadBody : Message → Message → Type 0
-IsReadBody read real = (read ≡ real) ⊎ ((read ≡ bare_message real) × (is_looked_at real.kind ≡ false))
+-- a message was read whole, or without its tree, and then a rule looks at no more than at the references that were gathered
+abbrev pub IsReadBody : Form → Given → Message → Message → Type 0
+IsReadBody Whole given read real = read ≡ real
+IsReadBody Bare given read real = (read ≡ bare_message real) × (is_looked_at real.kind ≡ false) × AreGivenIn given real.kind
 
-abbrev pub IsReadAs : Line → Line → Type 0
-IsReadAs read real = (read ≡ real) ⊎ ((read ≡ bare_line real) × (is_looked_at real.message.kind ≡ false))
+abbrev pub IsReadAs : Form → Given → Line → Line → Type 0
+IsReadAs Whole given read real = read ≡ real
+IsReadAs Bare given read real = (read ≡ bare_line real) × (is_looked_at real.message.kind ≡ false) × AreGivenIn given real.message.kind
+
+-- the numbers that were gathered, as far as they count for such a message
+abbrev pub frames_told : Given → Kind → List ℕ
+frames_told given (Request command arguments) = []
+frames_told given (Response request_seq success command message body) = if success && bytes_eq command (codes "stackTrace") then given_frames given else []
+frames_told given (Event event body) = []
+frames_told given (Other tag) = []
+
+abbrev pub told_for : Option Command → Given → List ℕ
+told_for None given = []
+told_for (Some command) given = given_holders command given
+
+abbrev pub holders_told : Given → Kind → List ℕ
+holders_told given (Request command arguments) = []
+holders_told given (Response request_seq success command message body) = if success then told_for (command_named command) given else []
+holders_told given (Event event body) = []
+holders_told given (Other tag) = []
+
+abbrev pub tells_frame : ℕ → Given → Line → Bool
+tells_frame n given line = is_of Adapter line && contains_number n (frames_told given line.message.kind)
+
+abbrev pub tells_holder : ℕ → Given → Line → Bool
+tells_holder n given line = is_of Adapter line && contains_number n (holders_told given line.message.kind)
 
 -- why a body is not read
 abbrev pub IsUnread : List ℕ → BodyFault → Type 0

@@ -10,12 +10,12 @@ ghost use Rattle.dap_check.specs.declared.line.Line.{Line as TheLine};
 ghost use Rattle.dap_check.specs.declared.rule.Checked.{Checked};
 
 use crate::cutting::split_line;
-use crate::line::Line;
+use crate::line::{Form, Line};
 use crate::reading::read_bare;
 use crate::rule::Checked;
 use crate::seen::Seen;
 use dap_message::laws::each_body_is_one;
-use dap_message::{BodyRefusal, Scratch};
+use dap_message::{BodyRefusal, Given, Scratch};
 use std::alloc::{AllocError, Global};
 use thiserror::Error;
 
@@ -45,9 +45,16 @@ impl From<AllocError> for CheckFault {
 }
 
 /// What is told after one more line, which may be read without its tree.
-fn take(seen: &mut Seen, any_seq: bool, told: Checked, line: &Line) -> Result<Checked, AllocError>
+fn take(
+    seen: &mut Seen,
+    any_seq: bool,
+    told: Checked,
+    line: &Line,
+    form: Form,
+    given: &Given,
+) -> Result<Checked, AllocError>
     requires { seen.old.counts.client + seen.old.counts.adapter < 2 ^ 64 - 1 }
-    ensures told { IfOk result (λ after. (lines : List TheLine) (real : TheLine) → IsReadAs line.now real → IsTold any_seq seen.old lines told → IsTold any_seq seen.new (lines ++ real ∷ []) after) }
+    ensures told { IfOk result (λ after. (lines : List TheLine) (real : TheLine) → IsReadAs form given.now line.now real → IsTold any_seq seen.old lines told → IsTold any_seq seen.new (lines ++ real ∷ []) after) }
     ensures room { OnOk result (seen.new.counts.client + seen.new.counts.adapter ≤ seen.old.counts.client + seen.old.counts.adapter + 1) }
 {
     match told {
@@ -58,7 +65,7 @@ fn take(seen: &mut Seen, any_seq: bool, told: Checked, line: &Line) -> Result<Ch
                 rule,
             }),
             None => {
-                seen.note(line)?;
+                seen.note(line, form, given)?;
                 Ok(Checked::Legal)
             }
         },
@@ -69,6 +76,7 @@ fn take(seen: &mut Seen, any_seq: bool, told: Checked, line: &Line) -> Result<Ch
 fn take_text(
     alloc: Global,
     scratch: &mut Scratch,
+    given: &mut Given,
     seen: &mut Seen,
     any_seq: bool,
     told: Checked,
@@ -80,8 +88,8 @@ fn take_text(
     ensures room { OnOk result (seen.new.counts.client + seen.new.counts.adapter ≤ seen.old.counts.client + seen.old.counts.adapter + 1) }
     ensures refused { IfErr result (Refuses number text.now) }
 {
-    let line = read_bare(alloc, scratch, number, text)?;
-    let after = take(seen, any_seq, told, &line)?;
+    let (line, form) = read_bare(alloc, scratch, given, number, text)?;
+    let after = take(seen, any_seq, told, &line, form, given)?;
     Ok(after)
 }
 
@@ -91,6 +99,7 @@ fn pass(alloc: Global, bytes: &[u8], any_seq: bool) -> Result<Checked, CheckFaul
     ensures refused { IfErr result (FirstRefused (lines bytes.now)) }
 {
     let mut scratch = Scratch::new(alloc);
+    let mut given = Given::new(alloc);
     let mut seen = Seen::new(alloc);
     let mut told = Checked::Legal;
     let mut rest = bytes;
@@ -99,7 +108,16 @@ fn pass(alloc: Global, bytes: &[u8], any_seq: bool) -> Result<Checked, CheckFaul
         let (text, later) = split_line(rest);
         number += 1;
         if !text.is_empty() {
-            told = take_text(alloc, &mut scratch, &mut seen, any_seq, told, number, text)?;
+            told = take_text(
+                alloc,
+                &mut scratch,
+                &mut given,
+                &mut seen,
+                any_seq,
+                told,
+                number,
+                text,
+            )?;
         }
         rest = later;
     }

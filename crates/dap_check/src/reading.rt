@@ -1,7 +1,8 @@
 //! The line that a text is, whole or without what no rule looks at.
 //!
 //! Most messages are long for their trees' sake, and a tree costs most of the time of reading. The rules look at few of
-//! them: at what `initialize` and `capabilities` offer, at what gives references, and at what names one.
+//! them: at what `initialize` and `capabilities` offer, and at what a request names. The references that a response gives
+//! are gathered with no tree.
 ghost use Rattle.std.specs.Prelude.{◌≡◌, drop, MatchOption, IfOk, IfErr};
 ghost use Rattle.dap_message.specs.Heading.{IsHeadingOf, IsKindOf};
 ghost use Rattle.dap_message.specs.Meaning.{Msg};
@@ -12,11 +13,11 @@ ghost use Rattle.dap_check.specs.Transcript.{side_of, IsLine, Refuses};
 ghost use Rattle.dap_check.specs.declared.line.Line.{Line as TheLine};
 
 use crate::checking::CheckFault;
-use crate::line::{Line, Side};
+use crate::line::{Form, Line, Side};
 use crate::words;
 use dap_message::{
-    BodyFault, Heading, HeadingKind, Kind, Message, Scratch, Text, read_heading, read_message,
-    read_message_with,
+    BodyFault, Given, Heading, HeadingKind, Kind, Message, Scratch, Text, read_heading_and_given,
+    read_message, read_message_with,
 };
 use std::alloc::{AllocError, Global};
 
@@ -112,38 +113,48 @@ fn bare(alloc: Global, heading: &Heading<'_>) -> Result<Message, AllocError>
     })
 }
 
-/// The message that a body is, without its tree where no rule looks at it.
-fn read_body(alloc: Global, scratch: &mut Scratch, body: &[u8]) -> Result<Message, BodyFault>
-    ensures message { IfOk result (λ message. (m : TheMessage) × Msg body.now m × IsReadBody message m) }
+/// The message that a body is, without its tree where no rule looks at it; what it gives is gathered then.
+fn read_body(
+    alloc: Global,
+    scratch: &mut Scratch,
+    given: &mut Given,
+    body: &[u8],
+) -> Result<(Message, Form), BodyFault>
+    ensures message { IfOk result (λ read. (m : TheMessage) × Msg body.now m × IsReadBody read.1 given.new read.0 m) }
     ensures refused { IfErr result (IsUnread body.now) }
 {
-    if let Some(heading) = read_heading(scratch, body) {
+    if let Some(heading) = read_heading_and_given(scratch, given, body) {
         if !is_looked_at(&heading.kind) {
-            return Ok(bare(alloc, &heading)?);
+            return Ok((bare(alloc, &heading)?, Form::Bare));
         }
     }
-    read_message_with(alloc, body, scratch)
+    let message = read_message_with(alloc, body, scratch)?;
+    Ok((message, Form::Whole))
 }
 
-/// The line of this number, without its tree where no rule looks at it.
+/// The line of this number, without its tree where no rule looks at it; what it gives is gathered then.
 pub(crate) fn read_bare(
     alloc: Global,
     scratch: &mut Scratch,
+    given: &mut Given,
     number: u64,
     text: &[u8],
-) -> Result<Line, CheckFault>
-    ensures line { IfOk result (λ line. (real : TheLine) × IsLine number text.now real × IsReadAs line real) }
+) -> Result<(Line, Form), CheckFault>
+    ensures line { IfOk result (λ read. (real : TheLine) × IsLine number text.now real × IsReadAs read.1 given.new read.0 real) }
     ensures refused { IfErr result (Refuses number text.now) }
 {
     let Some((side, body)) = split_side(text) else {
         return Err(CheckFault::BadLine { line: number });
     };
-    match read_body(alloc, scratch, body) {
-        Ok(message) => Ok(Line {
-            number,
-            side,
-            message,
-        }),
+    match read_body(alloc, scratch, given, body) {
+        Ok((message, form)) => Ok((
+            Line {
+                number,
+                side,
+                message,
+            },
+            form,
+        )),
         Err(BodyFault::Refused(cause)) => Err(CheckFault::Body {
             line: number,
             cause,

@@ -9,6 +9,7 @@ ghost use Rattle.serde_json.specs.Read.{of_json, of_items, of_members, converted
 ghost use Rattle.dap_json.specs.Read.{json_of};
 ghost use Rattle.dap_json.specs.Skim.{Skims, IsRestOf, IsNext, IsAfterKey};
 
+pub use crate::inside::Range;
 use crate::tree::Tree;
 use crate::{digits, reading};
 use fast_float::Numeral;
@@ -19,7 +20,7 @@ use std::alloc::Global;
 use std::marker::Model;
 
 /// How deep arrays and objects may nest.
-const MAX_DEPTH: usize = 127;
+pub(crate) const MAX_DEPTH: usize = 127;
 
 /// A value that was passed.
 #[derive(Clone, Copy, Debug, Drop)]
@@ -54,7 +55,7 @@ impl Scratch {
 /// The rest of an object.
 #[derive(Drop)]
 pub struct Skim<'a> {
-    reader: Reader<'a>,
+    pub(crate) reader: Reader<'a>,
     items: &'a mut Vec<Value>,
 }
 
@@ -146,7 +147,7 @@ impl<'a> Skim<'a> {
 /// Passes a value.
 #[cycle(skim)]
 #[inline(always)]
-fn value<'a>(reader: &mut Reader<'a>, depth: usize) -> Result<Skimmed<'a>, Invalid>
+pub(crate) fn value<'a>(reader: &mut Reader<'a>, depth: usize) -> Result<Skimmed<'a>, Invalid>
     ensures ok { IfOk result (λ s. (d : Data) × (converted of_json (grammar_value depth reader.old) ≡ Some (d, reader.new)) × Skims s d) }
     ensures shorter { OnOk result (length reader.new < length reader.old) }
 {

@@ -3,6 +3,7 @@ pub mod MeaningLemmas
 pub mod RefusalLemmas
 pub mod Told
 pub mod HeadingLemmas
+pub mod GivingLemmas
 pub mod SoundTree
 pub mod Examples
 pub mod SoundReading

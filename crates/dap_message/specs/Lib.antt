@@ -11,6 +11,7 @@ pub use Rattle.dap_call.specs.Call
 pub use Rattle.dap_call.specs.Capabilities
 pub use Rattle.dap_call.specs.Command
 pub use Rattle.dap_call.specs.Given
+pub use Rattle.dap_call.specs.Gathered
 pub use Rattle.dap_call.specs.Key
 pub use Rattle.dap_call.specs.Lent
 pub use Rattle.dap_call.specs.CallTree
@@ -24,6 +25,7 @@ pub mod Refusals
 pub mod Meaning
 pub mod Gives
 pub mod Heading
+pub mod Giving
 pub mod Straight
 pub mod InRange
 pub mod Verdict

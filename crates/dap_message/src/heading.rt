@@ -223,7 +223,7 @@ fn event<'a>(noted: &Noted<'a>) -> Option<HeadingKind<'a>>
     Some(HeadingKind::Event { event })
 }
 
-fn kind<'a>(noted: &Noted<'a>) -> Option<HeadingKind<'a>>
+pub(crate) fn kind<'a>(noted: &Noted<'a>) -> Option<HeadingKind<'a>>
     ensures { IfSome result (λ kind. (ms : Members) → TellsAll noted.now ms → (k : Kind) × SaysKind (object ms) k × IsKindOf kind k) }
 {
     match text(&noted.tag)? {

@@ -7,6 +7,7 @@
 
 mod answering;
 mod fault;
+mod giving;
 mod heading;
 pub mod laws;
 mod message;
@@ -23,12 +24,13 @@ pub use dap_body::{
 };
 pub use dap_call::{
     BreakpointLocations, Call, CallFault, Capabilities, Command, Completions, Evaluate,
-    FramesGiven, Gate, HoldersGiven, Initialize, Key, MAX_ARGUMENTS, Modules, SetVariable,
+    FramesGiven, Gate, Given, HoldersGiven, Initialize, Key, MAX_ARGUMENTS, Modules, SetVariable,
     SourceKey, StackTrace, Variables, frames_given, holders_given, read_call, write_call,
 };
 pub use dap_json::skim::Scratch;
 pub use dap_json::{List, Text, Tree};
 pub use fault::{BodyFault, BodyRefusal};
+pub use giving::read_heading_and_given;
 pub use heading::{Heading, HeadingKind, read_heading};
 pub use message::{Kind, MAX_COMMAND, Message};
 pub use reading::{read_message, read_message_with};

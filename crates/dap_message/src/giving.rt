@@ -1,0 +1,65 @@
+//! What a message says of itself, and the references that its body gives, read in one pass without a tree.
+ghost use Rattle.std.specs.Prelude.{◌≡◌, IfSome, IfOk, OnOk};
+ghost use Rattle.serde_json.specs.Data.{Data, Members, no_members, null, put};
+ghost use Rattle.dap_call.specs.Gathered.{AreGivenBy};
+ghost use Rattle.dap_json.specs.Skim.{IsRestOf, IsNext};
+ghost use Rattle.dap_message.specs.Giving.{AreGivenIn, TellsGiven};
+ghost use Rattle.dap_message.specs.Heading.{IsHeadingOf};
+ghost use Rattle.dap_message.specs.Meaning.{Msg};
+ghost use Rattle.dap_message.specs.declared.message.Message.{Message};
+
+use crate::heading::{Heading, Noted, kind, none_noted, note_member, whole};
+use dap_call::Given;
+use dap_json::skim::{Invalid, Scratch, Skim};
+
+/// Takes the value of a key.
+fn take_member<'a>(
+    skim: &mut Skim<'a>,
+    key: &str,
+    noted: &mut Noted<'a>,
+    given: &mut Given,
+) -> Result<(), Invalid>
+    ensures { OnOk result ((d : Data) × IsNext d skim.old skim.new × ((found : Members) → TellsGiven noted.old given.old found → TellsGiven noted.new given.new (put key.now d found))) }
+{
+    match key {
+        "body" => given.gather(skim)?,
+        _ => note_member(noted, key, skim.pass()?),
+    }
+    Ok(())
+}
+
+/// Takes the members of an object, all of them to come.
+fn take_members<'a>(skim: &mut Skim<'a>, given: &mut Given) -> Result<Noted<'a>, Invalid>
+    requires { AreGivenBy given.old null }
+    ensures { IfOk result (λ noted. (ms : Members) × IsRestOf skim.old no_members ms × TellsGiven noted given.new ms) }
+{
+    let mut noted = none_noted();
+    while let Some(key) = skim.next_key()? {
+        take_member(skim, key, &mut noted, given)?;
+    }
+    Ok(noted)
+}
+
+/// The heading of the message that a body is, with what the response's own body gives, in `given`. There is none where
+/// the body is no message, where what it gives has to be looked for in its tree, and where memory is refused; then
+/// `given` tells nothing. That there is one everywhere else is no clause: tests show it, and whoever gets none asks
+/// [`read_message`](crate::read_message). Unescaped names are lent from `scratch`, which grows to the length of the body
+/// and is kept from body to body.
+pub fn read_heading_and_given<'a>(
+    scratch: &'a mut Scratch,
+    given: &mut Given,
+    body: &'a [u8],
+) -> Option<Heading<'a>>
+    ensures { IfSome result (λ heading. (m : Message) × Msg body.now m × IsHeadingOf heading m × AreGivenIn given.new m.kind) }
+{
+    let Ok(mut skim) = Skim::open(body, scratch) else {
+        return None;
+    };
+    given.clear();
+    let Ok(noted) = take_members(&mut skim, given) else {
+        return None;
+    };
+    let seq = whole(&noted.seq)?;
+    let kind = kind(&noted)?;
+    Some(Heading { seq, kind })
+}
