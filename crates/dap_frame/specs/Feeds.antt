@@ -19,8 +19,8 @@ pub record Gathers (old new : Intake) (piece : List ℕ) (n : ℕ) : Type 0 wher
   pub stands : (s : List ℕ) (xs : List (List ℕ)) (rest : List ℕ) → StandsFor old s xs rest
       → StandsFor new (s ++ piece) xs (rest ++ piece)
 
--- the first bytes of the piece, some n of them, go behind the rest, and the reader is closed with this fault:
--- with a refusal, just as many as make it the verdict on the rest
+-- the first bytes of the piece, some n of them, go behind the rest, and the reader is closed with this fault: just as many
+-- as make it the verdict on the rest
 pub record Closes (old new : Intake) (piece : List ℕ) (fault : FrameFault) : Type 0 where
   pub bounds : new.bounds ≡ old.bounds
   pub closed : IsClosed new fault.cause

@@ -1,7 +1,7 @@
 //! Why a tool stops, and how a program tells it.
 
 ghost use Rattle.std.specs.Prelude.{◌≡◌, IfOk, string_bytes};
-ghost use Rattle.dap_tool.specs.Faults.{status_of, status_of_cause, status_of_adapter, status_of_serve, status_of_recording, status_of_show, status_of_check, status_of_send, status_of_drive, line_of, line_of_adapter, line_of_serve, line_of_recording, line_of_show, line_of_wrap, line_of_check, line_of_drive, line_of_file, named_line, line_at, line_at_line, name_of_cause, name_of_refusal, name_of_body_refusal, name_of_send};
+ghost use Rattle.dap_tool.specs.Faults.{status_of, status_of_adapter, status_of_serve, status_of_recording, status_of_show, status_of_check, status_of_send, status_of_drive, line_of, line_of_adapter, line_of_serve, line_of_recording, line_of_show, line_of_wrap, line_of_check, line_of_drive, line_of_file, named_line, line_at, line_at_line, name_of_refusal, name_of_body_refusal, name_of_send};
 
 use crate::files::FileFault;
 use crate::listing::ShowFault;
