@@ -28,16 +28,19 @@ fn take_member<'a>(
     Ok(())
 }
 
-/// Takes the members of an object, all of them to come.
-fn take_members<'a>(skim: &mut Skim<'a>, given: &mut Given) -> Result<Noted<'a>, Invalid>
-    requires { AreGivenBy given.old null }
-    ensures { IfOk result (λ noted. (ms : Members) × IsRestOf skim.old no_members ms × TellsGiven noted given.new ms) }
+/// Takes the members of an object, all of them to come. What is noted is not moved about: that would cost time.
+fn take_members<'a>(
+    skim: &mut Skim<'a>,
+    noted: &mut Noted<'a>,
+    given: &mut Given,
+) -> Result<(), Invalid>
+    requires { TellsGiven noted.old given.old no_members }
+    ensures { OnOk result ((ms : Members) × IsRestOf skim.old no_members ms × TellsGiven noted.new given.new ms) }
 {
-    let mut noted = none_noted();
     while let Some(key) = skim.next_key()? {
-        take_member(skim, key, &mut noted, given)?;
+        take_member(skim, key, noted, given)?;
     }
-    Ok(noted)
+    Ok(())
 }
 
 /// The heading of the message that a body is, with what the response's own body gives, in `given`. There is none where
@@ -56,7 +59,8 @@ pub fn read_heading_and_given<'a>(
         return None;
     };
     given.clear();
-    let Ok(noted) = take_members(&mut skim, given) else {
+    let mut noted = none_noted();
+    let Ok(()) = take_members(&mut skim, &mut noted, given) else {
         return None;
     };
     let seq = whole(&noted.seq)?;

@@ -8,6 +8,8 @@ mod bodies;
 #[cfg(test)]
 mod frames;
 #[cfg(test)]
+mod given;
+#[cfg(test)]
 mod lent;
 #[cfg(test)]
 mod messages;

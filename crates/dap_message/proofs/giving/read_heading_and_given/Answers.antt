@@ -3,6 +3,9 @@ use Rattle.serde_json.specs.Data.{object}
 use Rattle.dap_message.proofs.GivingLemmas.{given_in}
 use Rattle.dap_message.proofs.giving.read_heading_and_given.Goals as goal
 
+pub take_members-requires : goal.take_members-requires
+take_members-requires c = record { heading = c.none_noted-noted.ensures; body = c.clear.ensures }
+
 pub returns : goal.returns
 returns c =
     let all = c.in-Ok-take_members.ensures in

@@ -2,7 +2,7 @@ use Rattle.serde_json.specs.Data.{no_members, put}
 use Rattle.dap_message.proofs.giving.take_members.Goals as goal
 
 pub loop-key-init : goal.loop-key-init
-loop-key-init c = (no_members, record { heading = c.none_noted-noted.ensures; body = c.requires }, λ all rest. rest)
+loop-key-init c = (no_members, c.requires, λ all rest. rest)
 
 pub loop-key-preserved : goal.loop-key-preserved
 loop-key-preserved c =
