@@ -45,7 +45,7 @@ fn take_members<'a>(
 
 /// The heading of the message that a body is, with what the response's own body gives, in `given`. There is none where
 /// the body is no message, where what it gives has to be looked for in its tree, and where memory is refused; then
-/// `given` tells nothing. That there is one everywhere else is no clause: tests show it, and whoever gets none asks
+/// it is not said what `given` tells. That there is one everywhere else is no clause: tests show it, and whoever gets none asks
 /// [`read_message`](crate::read_message). Unescaped names are lent from `scratch`, which grows to the length of the body
 /// and is kept from body to body.
 pub fn read_heading_and_given<'a>(
