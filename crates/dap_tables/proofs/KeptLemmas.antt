@@ -1,5 +1,5 @@
 -- What is true of lists of requests in which no number comes twice.
-use Rattle.std.proofs.Common.{◌≡◌, ℕ, ◌+◌, ◌≤◌, ◌<◌, List, [], ◌∷◌, ◌++◌, Bool, true, false, not, Option, Some, None, filter, length, refl, sym, ap, ◌∙◌, arith, subst, length-append, IsTrue, IsSome, IfSome, IfNone, cond}
+use Rattle.std.proofs.Common.{◌≡◌, ℕ, ◌+◌, ◌≤◌, ◌<◌, List, [], ◌∷◌, ◌++◌, Bool, true, false, not, Option, Some, None, filter, length, refl, sym, ap, ◌∙◌, arith, subst, length-append, IsTrue, IsSome, IfSome, cond}
 use Rattle.std.specs.Prelude.{◌==◌, ◌||◌, ◌&&◌, ◌≢◌, find, if◌then◌else◌}
 use Rattle.std.specs.Option.{option_map}
 use Rattle.std.proofs.lemmas.List.{append-nil, length-map}
@@ -92,12 +92,6 @@ IsOrderly-without room seq ks o =
     let old = o.bound in
     record { bound = omega arith; distinct = HasDistinctSeqs-filter (λ (q : Kept). not (q.entry.seq == seq)) ks o.distinct }
 
-pub IsOrderly-unparked : (room : ℕ) (ks : List Kept) → IsOrderly (record { room = room; kept = ks }) → IsOrderly (record { room = room; kept = unparked_ones ks })
-IsOrderly-unparked room ks o =
-    let shorter = length-filter (λ (q : Kept). not q.parked) ks in
-    let old = o.bound in
-    record { bound = omega arith; distinct = HasDistinctSeqs-filter (λ (q : Kept). not q.parked) ks o.distinct }
-
 gone-cases : (seq : ℕ) (k : Kept) (ks : List Kept) (b : Bool) → (k.entry.seq == seq) ≡ b → contains_seq seq ks ≡ false → contains_seq seq (cond (not b) (k ∷ ks) ks) ≡ false
 gone-cases seq k ks true h e = e
 gone-cases seq k ks false h e = or-false (k.entry.seq == seq) (contains_seq seq ks) h e
@@ -131,25 +125,6 @@ back-cases false c e o f h = f h
 pub entry_with_from_contains : (seq : ℕ) (ks : List Kept) → contains_seq seq ks ≡ true → IsSome (entry_with seq ks)
 entry_with_from_contains seq [] h = cc
 entry_with_from_contains seq (k ∷ ks) h = back-cases (k.entry.seq == seq) (contains_seq seq ks) k.entry (entry_with seq ks) (entry_with_from_contains seq ks) h
-
-absent-cases : (b : Bool) (o : Option Entry) → o ≡ None → (b ≡ true → IsSome o) → b ≡ false
-absent-cases true o h f = cc (f refl)
-absent-cases false o h f = refl
-
-pub absent_from_entry_with : (seq : ℕ) (ks : List Kept) → entry_with seq ks ≡ None → contains_seq seq ks ≡ false
-absent_from_entry_with seq ks h = absent-cases (contains_seq seq ks) (entry_with seq ks) h (entry_with_from_contains seq ks)
-
-none-cases : (o : Option Entry) (P : Type 0) → (o ≡ None → P) → IfNone o P
-none-cases None P f = f refl
-none-cases (Some e) P f = tt
-
--- where no entry comes, nothing goes
-pub without-none : (seq : ℕ) (ks : List Kept) → IfNone (entry_with seq ks) (without seq ks ≡ ks)
-without-none seq ks = none-cases (entry_with seq ks) (without seq ks ≡ ks) (λ h. without-absent seq ks (absent_from_entry_with seq ks h))
-
-pub IfNone-then : {P Q : Type 0} (o : Option Entry) → IfNone o P → (P → Q) → IfNone o Q
-IfNone-then None h f = f h
-IfNone-then (Some e) h f = tt
 
 -- ---- marks
 
@@ -324,7 +299,5 @@ length-without_one seq ks h = fewer seq ks (contains_found seq ks h)
         let most = length-filter (λ (q : Kept). not (q.entry.seq == seq)) ks in
         let less = shorter-cases (k.entry.seq == seq) (length ks) k (without seq ks) most (λ e. fewer seq ks (back (k.entry.seq == seq) (contains_seq seq ks) h e)) in
         omega arith
-
-pub ruleset finding = (contains_from_entry_with, entry_with_from_contains, entry_with-seq)
 
 pub ruleset marking = (entries-with_mark, is_parked-park, is_parked-unpark)

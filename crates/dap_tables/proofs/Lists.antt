@@ -1,10 +1,7 @@
 -- Searches of a list whose elements are seen through a function.
-use Rattle.std.proofs.Common.{◌≡◌, ℕ, List, [], ◌∷◌, Bool, true, false, Option, Some, None, map, refl, sym, ap, ◌∙◌, cond, position, length, get_or, ◌<◌, IfSome}
-use Rattle.std.proofs.lemmas.List.Folds.{find_at}
-use Rattle.std.proofs.lemmas.Option.{slice_get_read, slice_get_past}
-use Rattle.std.proofs.lemmas.Bool.{ltb-false, ltb-true}
-use Rattle.std.specs.Prelude.{◌||◌, find, nat_lt}
-use Rattle.std.specs.List.{list_any, position_or_len}
+use Rattle.std.proofs.Common.{◌≡◌, List, [], ◌∷◌, Bool, true, false, Option, Some, None, map, refl, ap, ◌∙◌, cond, IfSome}
+use Rattle.std.specs.Prelude.{◌||◌, find}
+use Rattle.std.specs.List.{list_any}
 use Rattle.std.specs.Option.{option_map, option_copied}
 use Rattle.std.specs.Prelude.{is_some}
 use denote.Ref.{Bor}
@@ -45,30 +42,3 @@ is_some-copied (Some x) = refl
 pub IfSome-copied : {X : Type 0} (P : X → Type 0) (o : Option (Bor X)) → IfSome (option_copied o) P → IfSome o (λ x. P x.now)
 IfSome-copied P None h = tt
 IfSome-copied P (Some x) h = h
-
--- ---- what stands at the place that a search gives
-
-module _ {X : Type 0} (p : X → Bool) (xs : List X) where
-  found-cases : (b : Bool) (i : ℕ) (r : X) → nat_lt (position_or_len p xs) (length xs) ≡ b → cond b (Some (position_or_len p xs)) None ≡ Some i → r ≡ get_or xs i r → find p xs ≡ Some r
-  found-cases true i r h e read =
-      let same : position_or_len p xs ≡ i = cc in
-      let within : position_or_len p xs < length xs = ltb-true (position_or_len p xs) (length xs) h in
-      find_at p xs ∙ slice_get_read xs (length xs) (position_or_len p xs) r refl within (read ∙ ap (λ n. get_or xs n r) (sym same))
-  found-cases false i r h e read = cc
-
-  pub find_from_position : (i : ℕ) (r : X) → position p xs ≡ Some i → r ≡ get_or xs i r → find p xs ≡ Some r
-  find_from_position i r e read = found-cases (nat_lt (position_or_len p xs) (length xs)) i r refl e read
-
-  none-cases : (b : Bool) → nat_lt (position_or_len p xs) (length xs) ≡ b → cond b (Some (position_or_len p xs)) None ≡ None → find p xs ≡ None
-  none-cases true h e = cc
-  none-cases false h e = find_at p xs ∙ slice_get_past xs (position_or_len p xs) (ltb-false (position_or_len p xs) (length xs) h)
-
-  pub find_none : position p xs ≡ None → find p xs ≡ None
-  find_none e = none-cases (nat_lt (position_or_len p xs) (length xs)) refl e
-
-  same-place : (b : Bool) (i : ℕ) → cond b (Some (position_or_len p xs)) None ≡ Some i → i ≡ position_or_len p xs
-  same-place true i e = cc
-  same-place false i e = cc
-
-  pub place_is : (i : ℕ) → position p xs ≡ Some i → i ≡ position_or_len p xs
-  place_is i e = same-place (nat_lt (position_or_len p xs) (length xs)) i e

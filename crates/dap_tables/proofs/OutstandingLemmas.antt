@@ -29,20 +29,6 @@ some_none (Some x) h k = cc
 abbrev pub kept_in : Slab Slot → List ℕ → List Kept
 kept_in slots keys = map kept_of (slots_at (λ key. get slots key) keys)
 
--- a table with no key
-pub stored-empty : (room : ℕ) (slots : Slab Slot) (index : Index) (order : Order) → slots.slots ≡ [] → index.pairs ≡ [] → order.keys ≡ [] → room ≤ slots.capacity → room ≤ index.room → order.limit ≡ slots.capacity → IsStored room slots index order
-stored-empty room slots index order none pairs keys slots_fit pairs_fit keys_fit =
-    record {
-      orderly = subst (λ ks. IsOrderly (record { room = room; kept = kept_in slots ks })) (sym keys) (record { bound = omega arith; distinct = tt });
-      filled = subst (λ ks. IsFilled (λ key. get slots key) ks) (sym keys) (λ key found. absurd found);
-      indexed = λ seq. ap (key_for seq) pairs ∙ sym (ap (key_with seq (λ key. get slots key)) keys);
-      counted = ap (λ xs. count_by is_some xs) none ∙ sym (ap length keys);
-      listed = ap length pairs ∙ sym (ap length keys);
-      slots_fit = slots_fit;
-      pairs_fit = pairs_fit;
-      keys_fit = keys_fit;
-    }
-
 module _ (room : ℕ) (slots : Slab Slot) (index : Index) (order : Order) (stored : IsStored room slots index order) where
   pub contains-stored : (seq : ℕ) → is_some (key_for seq index.pairs) ≡ contains_seq seq (kept_in slots order.keys)
   contains-stored seq = ap is_some (stored.indexed seq) ∙ sym (contains-key (λ key. get slots key) seq order.keys)

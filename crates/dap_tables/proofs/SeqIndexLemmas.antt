@@ -5,7 +5,7 @@ use Rattle.std.specs.List.Sorted.{IsSearchInRange, IsBinarySearchResult, IsNonDe
 use Rattle.std.specs.Ordering.{nat_cmp, ordering_index}
 use Rattle.std.proofs.lemmas.Cmp.{ranked}
 use Rattle.std.proofs.lemmas.List.Sorted.{IsNonDecreasingBy-from_default}
-use Rattle.std.proofs.lemmas.List.Edits.{length-insert, length-remove, get_or-insert_below, get_or-insert_at, get_or-insert_above, get_or-remove_below, get_or-remove_above}
+use Rattle.std.proofs.lemmas.List.Edits.{length-insert, get_or-insert_below, get_or-insert_at, get_or-insert_above}
 use Rattle.std.proofs.lemmas.Bool.Decides.{nat_tests}
 use Rattle.dap_tables.specs.SeqIndex.{key_for, seq_at, IsRising, IsAt, IsGapFor, Gets}
 
@@ -84,16 +84,6 @@ module _ (l : List (ℕ × ℕ)) (rising : IsRising l) (seq at : ℕ) (is_at : I
   -- taking the pair out changes that number alone
   pub gets-remove : Gets l (remove l at) seq None
   gets-remove = key_for-remove l seq at is_at none_before none_after
-
-  -- and the numbers still rise: each is an old one, below the place or moved down by one
-  pub rising-remove : IsRising (remove l at)
-  rising-remove i j lt in_range =
-      let new = remove l at in
-      let number = λ (x : ℕ × ℕ). x.0 in
-      let long = length-remove l at is_at.in_range in
-      let below : (i : ℕ) → i < at → seq_at new i ≡ seq_at l i = λ i under. ap number (get_or-remove_below l at (0, 0) i under is_at.in_range) in
-      let above : (i : ℕ) → at ≤ i → seq_at new i ≡ seq_at l (i + 1) = λ i over. ap number (get_or-remove_above l at (0, 0) i over is_at.in_range) in
-      grind (arith, below i, above i, below j, above j, rising i j, rising i (j + 1), rising (i + 1) (j + 1), is_at.in_range)
 
 module _ (l : List (ℕ × ℕ)) (seq at : ℕ) (gap : IsGapFor l seq at) where
   -- a number that has a gap is not found

@@ -4,14 +4,13 @@ use Rattle.std.specs.Prelude.{◌==◌, ◌&&◌, ◌||◌, if◌then◌else◌,
 use Rattle.std.specs.List.{count_by}
 use Rattle.std.proofs.lemmas.List.Recursion.{is_count_by}
 use Rattle.std.specs.Option.{option_map}
-use Rattle.std.proofs.lemmas.List.{length-map}
 use Rattle.std.proofs.lemmas.List.Sums.{sum_by-cons}
 use Rattle.dap_tables.specs.declared.entry.Entry.{Entry}
 use Rattle.dap_tables.specs.declared.slot.Slot.{Slot}
 use Rattle.dap_tables.specs.OutstandingStore.{kept_of, marked_in}
 use Rattle.dap_tables.specs.Outstanding.{Kept, entries, contains_seq, entry_with, is_parked, oldest_unparked, parked_ones, HasDistinctSeqs}
 use Rattle.dap_tables.proofs.Lists.{map-map}
-use Rattle.dap_tables.proofs.KeptLemmas.{same-seq, length-filter, is_parked-absent, contains_from_is_parked, contains_from_oldest, unparked_from_oldest}
+use Rattle.dap_tables.proofs.KeptLemmas.{same-seq, length-filter, is_parked-absent}
 
 pub entries-slots : (slots : List Slot) → map (λ slot. slot.entry) slots ≡ entries (map kept_of slots)
 entries-slots slots = sym (map-map kept_of (λ (k : Kept). k.entry) slots)
@@ -48,13 +47,6 @@ is_parked-slots seq (s ∷ slots) d = by (s.entry.seq == seq) refl (is_parked-sl
     by true e later = or-none s.parked (is_parked seq (map kept_of slots)) (is_parked-absent seq (map kept_of slots) (ap (λ n. contains_seq n (map kept_of slots)) (sym (same-seq s.entry.seq seq e)) ∙ d.0))
     by false e later = later
 
-pub length-entries : (kept : List Kept) → length (entries kept) ≡ length kept
-length-entries kept = length-map kept (λ (k : Kept). k.entry)
-
-pub ruleset slots = (length-entries, entries-slots)
-
-pub ruleset parking = (oldest_unparked-slots, contains_from_is_parked, contains_from_oldest, unparked_from_oldest)
-
 count-cases : (b : Bool) (s : Slot) (kept : List Kept) → length (if b then kept_of s ∷ kept else kept) ≡ cond b (1 + length kept) (length kept)
 count-cases true s kept = omega arith
 count-cases false s kept = refl
@@ -67,8 +59,6 @@ parked_ones-slots slots = sym (parked-slots slots)
 
 pub parked-few : (ks : List Kept) → length (parked_ones ks) ≤ length ks
 parked-few ks = length-filter (λ (k : Kept). k.parked) ks
-
-pub ruleset parked_count = (parked_ones-slots, parked-few)
 
 -- each request is parked or not
 pub count_both : (slots : List Slot) → count_by (λ slot. slot.parked) slots + count_by (λ slot. not slot.parked) slots ≡ length slots
