@@ -18,13 +18,13 @@ pub fn body_output(alloc: Global, category: Text, output: Text) -> Result<Value,
         &mut members,
         alloc,
         "category",
-        Value::String(category.into_string()),
+        Value::String(category.into_string()?),
     )?;
     put(
         &mut members,
         alloc,
         "output",
-        Value::String(output.into_string()),
+        Value::String(output.into_string()?),
     )?;
     Ok(Value::Object(members))
 }
@@ -39,7 +39,7 @@ pub fn body_stopped(alloc: Global, reason: Text, thread_id: i64) -> Result<Value
         &mut members,
         alloc,
         "reason",
-        Value::String(reason.into_string()),
+        Value::String(reason.into_string()?),
     )?;
     put(&mut members, alloc, "threadId", Value::from(thread_id))?;
     Ok(Value::Object(members))

@@ -99,7 +99,7 @@ impl Element for Thread {
         let Thread { id, name } = self;
         let mut members = Map::new(alloc);
         put(&mut members, alloc, "id", Value::from(id))?;
-        put(&mut members, alloc, "name", text_value(name))?;
+        put(&mut members, alloc, "name", text_value(name)?)?;
         Ok(Value::Object(members))
     }
 }
@@ -116,7 +116,7 @@ impl Element for Source {
             source_reference,
         } = self;
         let mut members = Map::new(alloc);
-        put(&mut members, alloc, "name", text_value(name))?;
+        put(&mut members, alloc, "name", text_value(name)?)?;
         put_path(alloc, &mut members, path)?;
         put(
             &mut members,
@@ -145,7 +145,7 @@ impl Element for StackFrame {
         put(&mut members, alloc, "column", Value::from(column))?;
         put(&mut members, alloc, "id", Value::from(id))?;
         put(&mut members, alloc, "line", Value::from(line))?;
-        put(&mut members, alloc, "name", text_value(name))?;
+        put(&mut members, alloc, "name", text_value(name)?)?;
         put(&mut members, alloc, "source", source.value(alloc)?)?;
         Ok(Value::Object(members))
     }
@@ -163,7 +163,7 @@ impl Element for Scope {
         } = self;
         let mut members = Map::new(alloc);
         put(&mut members, alloc, "expensive", Value::Bool(false))?;
-        put(&mut members, alloc, "name", text_value(name))?;
+        put(&mut members, alloc, "name", text_value(name)?)?;
         put(
             &mut members,
             alloc,
@@ -186,8 +186,8 @@ impl Element for Variable {
             variables_reference,
         } = self;
         let mut members = Map::new(alloc);
-        put(&mut members, alloc, "name", text_value(name))?;
-        put(&mut members, alloc, "value", text_value(value))?;
+        put(&mut members, alloc, "name", text_value(name)?)?;
+        put(&mut members, alloc, "value", text_value(value)?)?;
         put(
             &mut members,
             alloc,
@@ -198,10 +198,10 @@ impl Element for Variable {
     }
 }
 
-fn text_value(text: Text) -> Value
-    ensures { view result ≡ string text }
+fn text_value(text: Text) -> Result<Value, AllocError>
+    ensures { IfOk result (λ v. view v ≡ string text) }
 {
-    Value::String(text.into_string())
+    Ok(Value::String(text.into_string()?))
 }
 
 fn put_path(alloc: Global, members: &mut Members, path: Option<Text>) -> Result<(), AllocError>
@@ -210,7 +210,7 @@ fn put_path(alloc: Global, members: &mut Members, path: Option<Text>) -> Result<
 {
     match path {
         None => Ok(()),
-        Some(path) => put(members, alloc, "path", text_value(path)),
+        Some(path) => put(members, alloc, "path", text_value(path)?),
     }
 }
 
@@ -305,7 +305,7 @@ pub fn body_evaluate(
     ensures { IfOk result (λ v. view v ≡ evaluate_body text variables_reference) }
 {
     let mut members = Map::new(alloc);
-    put(&mut members, alloc, "result", text_value(text))?;
+    put(&mut members, alloc, "result", text_value(text)?)?;
     put(
         &mut members,
         alloc,
@@ -319,7 +319,7 @@ pub fn body_evaluate(
 pub fn body_source(alloc: Global, content: Text) -> Result<Value, AllocError>
     ensures { IfOk result (λ v. view v ≡ source_body content) }
 {
-    only(alloc, "content", text_value(content))
+    only(alloc, "content", text_value(content)?)
 }
 
 /// The body of the response to `loadedSources`.

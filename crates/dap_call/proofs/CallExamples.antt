@@ -4,7 +4,7 @@ use Rattle.std.specs.Str.{is_utf8, chars}
 use Rattle.serde_json.specs.Data.{string, object, no_members, put}
 use Rattle.serde_json.proofs.OnLiterals.{serde_json_on_literals}
 use Rattle.dap_json.specs.Read.{json_of}
-use Rattle.dap_call.specs.Call.{call_of, source_parts, initialize_of, cancel_of, set_breakpoints_of, set_function_breakpoints_of, set_exception_breakpoints_of, stack_trace_of, evaluate_of, scopes_of, variables_of, source_of, set_variable_of, modules_of, breakpoint_locations_of, completions_of, thread_of}
+use Rattle.dap_call.specs.Call.{call_of, source_parts, initialize_of, cancel_of, given_lines, set_breakpoints_of, set_function_breakpoints_of, set_exception_breakpoints_of, stack_trace_of, evaluate_of, scopes_of, variables_of, source_of, set_variable_of, modules_of, breakpoint_locations_of, completions_of, thread_of}
 use Rattle.dap_call.specs.declared.call.Call.TheVariants as call
 use Rattle.dap_call.specs.declared.call.SourceKey.TheVariants.{Path, Reference}
 use Rattle.dap_call.specs.declared.command.Command.TheVariants as command
@@ -56,31 +56,31 @@ request_to_cancel = (refl, refl, refl)
 -- ---- breakpoints
 
 lines_alone : call_of command.SetBreakpoints (json_of (codes "{\"source\":{\"path\":\"/a.c\"},\"lines\":[2]}")) ≡ Ok (call.SetBreakpoints (Path (codes "/a.c")) (2 ∷ []))
-unfolding set_breakpoints_of source_parts json_of is_utf8 chars serde_json_on_literals
+unfolding set_breakpoints_of given_lines source_parts json_of is_utf8 chars serde_json_on_literals
 lines_alone = refl
 
 breakpoints_before_lines : call_of command.SetBreakpoints (json_of (codes "{\"source\":{\"sourceReference\":3},\"breakpoints\":[{\"line\":1},{\"line\":9,\"column\":\"x\"}],\"lines\":[5]}")) ≡ Ok (call.SetBreakpoints (Reference 3) (1 ∷ 9 ∷ []))
-unfolding set_breakpoints_of source_parts json_of is_utf8 chars serde_json_on_literals
+unfolding set_breakpoints_of given_lines source_parts json_of is_utf8 chars serde_json_on_literals
 breakpoints_before_lines = refl
 
 -- an empty array is there, and null is not
 no_breakpoints_before_lines : (call_of command.SetBreakpoints (json_of (codes "{\"source\":{\"path\":\"a\"},\"breakpoints\":[],\"lines\":[5]}")) ≡ Ok (call.SetBreakpoints (Path (codes "a")) [])) × (call_of command.SetBreakpoints (json_of (codes "{\"source\":{\"path\":\"a\"},\"breakpoints\":null,\"lines\":[5]}")) ≡ Ok (call.SetBreakpoints (Path (codes "a")) (5 ∷ [])))
-unfolding set_breakpoints_of source_parts json_of is_utf8 chars serde_json_on_literals
+unfolding set_breakpoints_of given_lines source_parts json_of is_utf8 chars serde_json_on_literals
 no_breakpoints_before_lines = (refl, refl)
 
 -- no breakpoints count before lines, which are tested all the same, but after the breakpoints
 lines_are_tested : (call_of command.SetBreakpoints (json_of (codes "{\"source\":{\"path\":\"a\"},\"breakpoints\":[],\"lines\":true}")) ≡ Err key.Lines) × (call_of command.SetBreakpoints (json_of (codes "{\"source\":{\"path\":\"a\"},\"breakpoints\":[{}],\"lines\":true}")) ≡ Err key.Breakpoints)
-unfolding set_breakpoints_of source_parts json_of is_utf8 chars serde_json_on_literals
+unfolding set_breakpoints_of given_lines source_parts json_of is_utf8 chars serde_json_on_literals
 lines_are_tested = (refl, refl)
 
 -- the row's key is told, and not the one inside the source
 source_without_a_name : (call_of command.SetBreakpoints (json_of (codes "{\"source\":{}}")) ≡ Err key.Source) × (call_of command.SetBreakpoints (json_of (codes "{\"source\":{\"path\":1,\"sourceReference\":3}}")) ≡ Err key.Source) × (call_of command.SetBreakpoints (json_of (codes "{\"lines\":[]}")) ≡ Err key.Source)
-unfolding set_breakpoints_of source_parts json_of is_utf8 chars serde_json_on_literals
+unfolding set_breakpoints_of given_lines source_parts json_of is_utf8 chars serde_json_on_literals
 source_without_a_name = (refl, refl, refl)
 
 -- an empty path is a path
 path_before_reference : call_of command.SetBreakpoints (json_of (codes "{\"source\":{\"path\":\"\",\"sourceReference\":3}}")) ≡ Ok (call.SetBreakpoints (Path []) [])
-unfolding set_breakpoints_of source_parts json_of is_utf8 chars serde_json_on_literals
+unfolding set_breakpoints_of given_lines source_parts json_of is_utf8 chars serde_json_on_literals
 path_before_reference = refl
 
 names_of_functions : (call_of command.SetFunctionBreakpoints (json_of (codes "{\"breakpoints\":[{\"name\":\"f\"},{\"name\":\"g\",\"condition\":1}]}")) ≡ Ok (call.SetFunctionBreakpoints (codes "f" ∷ codes "g" ∷ []))) × (call_of command.SetFunctionBreakpoints (json_of (codes "{\"breakpoints\":[{\"name\":\"f\"},{\"name\":null}]}")) ≡ Err key.Breakpoints)

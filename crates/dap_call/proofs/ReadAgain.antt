@@ -7,7 +7,7 @@ use Rattle.serde_json.specs.Find.{as_str}
 use Rattle.dap_json.specs.Field.{is_object, max_seq}
 use Rattle.dap_json.specs.Writable.{is_writable}
 use Rattle.dap_call.specs.Argument.{is_int, int_of, may_be_absent}
-use Rattle.dap_call.specs.Call.{call_of, each, line_in, name_in, source_key_of, source_parts, initialize_of, cancel_of, set_breakpoints_of, set_function_breakpoints_of, set_exception_breakpoints_of, stack_trace_of, scopes_of, variables_of, evaluate_of, source_of, set_variable_of, modules_of, breakpoint_locations_of, completions_of, thread_of}
+use Rattle.dap_call.specs.Call.{call_of, each, line_in, name_in, source_key_of, source_parts, initialize_of, cancel_of, given_lines, set_breakpoints_of, set_function_breakpoints_of, set_exception_breakpoints_of, stack_trace_of, scopes_of, variables_of, evaluate_of, source_of, set_variable_of, modules_of, breakpoint_locations_of, completions_of, thread_of}
 use Rattle.dap_call.specs.CallTree.{int, if_any, source_tree, breakpoint_tree, breakpoint_items, function_items, text_items, call_tree, command_of, initialize_members, cancel_members, set_breakpoints_members, set_function_breakpoints_members, set_exception_breakpoints_members, thread_members, stack_trace_members, scopes_members, variables_members, evaluate_members, source_members, set_variable_members, modules_members, breakpoint_locations_members, completions_members}
 use Rattle.dap_call.specs.PlainCall.{is_plain_call, is_plain_source, are_plain_arguments, max_arguments, is_number, is_none_or}
 use Rattle.dap_call.specs.declared.call.Call.{Call}
@@ -84,7 +84,7 @@ thread_again z e = rw (int_again z e)
 
 set_breakpoints_again : (s : SourceKey) (ns : List ℕ) → is_plain_source s ≡ true → list_all is_number ns ≡ true
     → set_breakpoints_of (if_any (set_breakpoints_members s ns)) ≡ Ok (call.SetBreakpoints s ns)
-unfolding set_breakpoints_of set_breakpoints_members
+unfolding set_breakpoints_of given_lines set_breakpoints_members
 set_breakpoints_again (Path p) ns e f = rw (source_again (Path p) e, lines_again ns f)
 set_breakpoints_again (Reference n) ns e f = rw (source_again (Reference n) e, lines_again ns f)
 

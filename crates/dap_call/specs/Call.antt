@@ -91,13 +91,19 @@ cancel_of given = do
   request ← optional seq_of key.RequestId arguments
   Ok (call.Cancel request)
 
+-- both keys are tested, and `breakpoints` counts
+unfoldable pub given_lines : Option Data → Read (List ℕ)
+given_lines arguments = do
+  breakpoints ← optional breakpoint_lines_of key.Breakpoints arguments
+  lines ← optional lines_of key.Lines arguments
+  Ok (unwrap_or breakpoints (unwrap_or lines []))
+
 unfoldable pub set_breakpoints_of : Option Data → Read Call
 set_breakpoints_of given = do
   arguments ← must_be_there given
   source ← required source_key_of key.Source arguments
-  breakpoints ← optional breakpoint_lines_of key.Breakpoints arguments
-  lines ← optional lines_of key.Lines arguments
-  Ok (call.SetBreakpoints source (unwrap_or breakpoints (unwrap_or lines [])))
+  lines ← given_lines arguments
+  Ok (call.SetBreakpoints source lines)
 
 unfoldable pub set_function_breakpoints_of : Option Data → Read Call
 set_function_breakpoints_of given = do

@@ -3,7 +3,7 @@ ghost use Rattle.std.specs.Prelude.{◌≡◌, IfOk, IsErrOf, OnErr, true, is_so
 ghost use Rattle.serde_json.specs.View.{view};
 ghost use Rattle.dap_call.specs.Lent.{seen};
 ghost use Rattle.dap_call.specs.Argument.{Gives, read_map};
-ghost use Rattle.dap_call.specs.Call.{lines_of, line_in, breakpoint_lines_of, name_in, names_of, filters_of, source_key_of, source_reference_of, source_parts as source_parts_of, initialize_of, cancel_of, set_breakpoints_of, set_function_breakpoints_of, set_exception_breakpoints_of, stack_trace_of, scopes_of, variables_of, evaluate_of, source_of, set_variable_of, modules_of, breakpoint_locations_of, completions_of, thread_of, tree_of, call_of, takes_memory};
+ghost use Rattle.dap_call.specs.Call.{lines_of, line_in, breakpoint_lines_of, name_in, names_of, filters_of, source_key_of, source_reference_of, source_parts as source_parts_of, initialize_of, cancel_of, given_lines, set_breakpoints_of, set_function_breakpoints_of, set_exception_breakpoints_of, stack_trace_of, scopes_of, variables_of, evaluate_of, source_of, set_variable_of, modules_of, breakpoint_locations_of, completions_of, thread_of, tree_of, call_of, takes_memory};
 ghost use Rattle.dap_call.specs.declared.call.CallFault.TheVariants.{OutOfMemory};
 
 use crate::argument;
@@ -179,15 +179,7 @@ fn set_breakpoints(alloc: Global, given: Option<&Value>) -> Result<Call, CallFau
 {
     let arguments = Arguments::required(given)?;
     let source = arguments.required_source(alloc, Key::Source)?;
-    let lines = match arguments.optional_breakpoint_lines(alloc, Key::Breakpoints)? {
-        Some(lines) => {
-            arguments.test_lines(Key::Lines)?;
-            lines
-        }
-        None => arguments
-            .optional_lines(alloc, Key::Lines)?
-            .unwrap_or(List::new(Vec::new(alloc))),
-    };
+    let lines = arguments.lines(alloc)?;
     Ok(Call::SetBreakpoints { source, lines })
 }
 
@@ -272,6 +264,23 @@ impl Arguments<'_> {
         match self.value(key) {
             None => Ok(None),
             Some(value) => Ok(Some(breakpoint_lines(alloc, value)?.ok_or(key)?)),
+        }
+    }
+
+    /// The lines of `breakpoints`, else those of `lines`, which are tested in either case.
+    #[tactic(auto, unfolding(crate::specs::Call::given_lines))]
+    fn lines(&self, alloc: Global) -> Result<List<u32>, CallFault>
+        ensures { Gives result (given_lines self.now) }
+    {
+        match self.optional_breakpoint_lines(alloc, Key::Breakpoints)? {
+            Some(lines) => {
+                self.test_lines(Key::Lines)?;
+                Ok(lines)
+            }
+            None => Ok(
+                self.optional_lines(alloc, Key::Lines)?
+                    .unwrap_or(List::new(Vec::new(alloc))),
+            ),
         }
     }
 }

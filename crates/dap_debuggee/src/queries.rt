@@ -23,7 +23,7 @@ impl From<AllocError> for DebuggeeFault {
 fn threads(alloc: Global, threads: &[RecordedThread]) -> Result<Vec<Thread>, AllocError>
     ensures { IfOk result (λ shown. shown.items ≡ map thread_shown threads.now) }
 {
-    let mut shown = Vec::new(alloc);
+    let mut shown = Vec::with_capacity(alloc, threads.len())?;
     for thread in threads {
         shown.push(Thread {
             id: thread.id,
@@ -36,7 +36,7 @@ fn threads(alloc: Global, threads: &[RecordedThread]) -> Result<Vec<Thread>, All
 fn frames(alloc: Global, frames: &[Frame]) -> Result<Vec<Frame>, AllocError>
     ensures { IfOk result (λ copy. copy.items ≡ frames.now) }
 {
-    let mut copy = Vec::new(alloc);
+    let mut copy = Vec::with_capacity(alloc, frames.len())?;
     for frame in frames {
         copy.push(Frame {
             object: frame.object,
@@ -51,7 +51,7 @@ fn frames(alloc: Global, frames: &[Frame]) -> Result<Vec<Frame>, AllocError>
 fn scopes(alloc: Global, scopes: &[Scope]) -> Result<Vec<Scope>, AllocError>
     ensures { IfOk result (λ copy. copy.items ≡ scopes.now) }
 {
-    let mut copy = Vec::new(alloc);
+    let mut copy = Vec::with_capacity(alloc, scopes.len())?;
     for scope in scopes {
         copy.push(Scope {
             name: scope.name.clone()?,
@@ -64,7 +64,7 @@ fn scopes(alloc: Global, scopes: &[Scope]) -> Result<Vec<Scope>, AllocError>
 fn variables(alloc: Global, variables: &[Variable]) -> Result<Vec<Variable>, AllocError>
     ensures { IfOk result (λ copy. copy.items ≡ variables.now) }
 {
-    let mut copy = Vec::new(alloc);
+    let mut copy = Vec::with_capacity(alloc, variables.len())?;
     for variable in variables {
         copy.push(Variable {
             name: variable.name.clone()?,
@@ -87,7 +87,7 @@ fn copied_path(path: &Option<Text>) -> Result<Option<Text>, AllocError>
 fn sources(alloc: Global, sources: &[RecordedSource]) -> Result<Vec<Source>, AllocError>
     ensures { IfOk result (λ shown. shown.items ≡ map source_shown sources.now) }
 {
-    let mut shown = Vec::new(alloc);
+    let mut shown = Vec::with_capacity(alloc, sources.len())?;
     for source in sources {
         shown.push(Source {
             name: source.name.clone()?,

@@ -118,7 +118,7 @@ pub(crate) fn text(alloc: Global, value: &Value, key: RecordingKey) -> Result<Te
         .get(key.name())
         .and_then(Value::as_str)
         .ok_or(bad(key))?;
-    Ok(Text::copied(alloc, text)?)
+    Ok(Text::copied(alloc, text)?.shared(alloc))
 }
 
 pub(crate) fn optional_text(
@@ -132,7 +132,7 @@ pub(crate) fn optional_text(
         None => Ok(None),
         Some(found) => {
             let text = found.as_str().ok_or(bad(key))?;
-            Ok(Some(Text::copied(alloc, text)?))
+            Ok(Some(Text::copied(alloc, text)?.shared(alloc)))
         }
     }
 }
@@ -148,7 +148,7 @@ pub(crate) fn text_or_empty(
         None => "",
         Some(found) => found.as_str().ok_or(bad(key))?,
     };
-    Ok(Text::copied(alloc, text)?)
+    Ok(Text::copied(alloc, text)?.shared(alloc))
 }
 
 pub(crate) fn flag(value: &Value, key: RecordingKey) -> Result<bool, RecordingFault>

@@ -2,7 +2,7 @@
 
 use crate::playing::{played, read, three_moments, told, verified};
 use dap_call::SourceKey;
-use dap_debuggee::{Category, Debuggee, Recorded, Stubborn};
+use dap_debuggee::{Category, Debuggee, Frame, Recorded, Source, Stubborn, Thread, Variable};
 use dap_json::Text;
 use std::alloc::Global;
 use std::test::Fail;
@@ -89,23 +89,67 @@ fn nothing_before_the_start(rt: HostRuntime) -> Result<(), Fail> {
     Ok(())
 }
 
+/// Threads as numbers and names.
+fn threads_shown(alloc: Global, threads: &[Thread]) -> Result<String, Fail> {
+    let mut text = String::new(alloc);
+    for thread in threads {
+        let (id, name) = (thread.id, thread.name.as_str());
+        text.push_str(format!(in alloc; "{id} {name}; ")?.as_str())?;
+    }
+    Ok(text)
+}
+
+/// Frames as objects, names, sources and lines.
+fn frames_shown(alloc: Global, frames: &[Frame]) -> Result<String, Fail> {
+    let mut text = String::new(alloc);
+    for frame in frames {
+        let (object, name) = (frame.object, frame.name.as_str());
+        let (source, line) = (frame.source, frame.line);
+        text.push_str(format!(in alloc; "{object} {name} {source} {line}; ")?.as_str())?;
+    }
+    Ok(text)
+}
+
+/// Variables as names and values, with a `+` where there are children.
+fn variables_shown(alloc: Global, variables: &[Variable]) -> Result<String, Fail> {
+    let mut text = String::new(alloc);
+    for variable in variables {
+        let (name, value) = (variable.name.as_str(), variable.value.as_str());
+        let more = if variable.holder.is_some() { "+" } else { "" };
+        text.push_str(format!(in alloc; "{name}={value}{more}; ")?.as_str())?;
+    }
+    Ok(text)
+}
+
+/// The children of a holder.
+fn children_shown(alloc: Global, recorded: &Recorded, holder: u64) -> Result<String, Fail> {
+    let variables = told(recorded.children(alloc, holder))?;
+    variables_shown(alloc, &variables)
+}
+
+/// The only scope of a frame, and what holds its variables.
+fn only_scope(alloc: Global, recorded: &Recorded, frame: u64, name: &str) -> Result<u64, Fail> {
+    let scopes = told(recorded.scopes(alloc, frame))?;
+    match scopes.as_slice() {
+        [scope] if scope.name.as_str() == name => Ok(scope.holder),
+        _ => Err(Fail::from("other scopes")),
+    }
+}
+
 #[test]
-fn threads_and_frames(rt: HostRuntime) -> Result<(), Fail> {
+fn threads_told(rt: HostRuntime) -> Result<(), Fail> {
+    let threads = at_the_first(rt.alloc())?.threads(rt.alloc())?;
+    let told = threads_shown(rt.alloc(), &threads)?;
+    assert_eq!(rt; told.as_str(), "1 main; ");
+    Ok(())
+}
+
+#[test]
+fn frames_told(rt: HostRuntime) -> Result<(), Fail> {
     let recorded = at_the_first(rt.alloc())?;
-    let threads = recorded.threads(rt.alloc())?;
-    assert_eq!(rt; threads.len(), 1);
-    assert_eq!(rt; (threads[0].id, threads[0].name.as_str()), (1, "main"));
     let frames = told(recorded.frames(rt.alloc(), 1))?;
-    assert_eq!(rt; frames.len(), 1);
-    assert_eq!(rt;
-        (
-            frames[0].object,
-            frames[0].name.as_str(),
-            frames[0].source,
-            frames[0].line
-        ),
-        (0, "main", 0, 1)
-    );
+    let shown = frames_shown(rt.alloc(), &frames)?;
+    assert_eq!(rt; shown.as_str(), "0 main 0 1; ");
     assert!(rt; recorded.frames(rt.alloc(), 2).is_err());
     Ok(())
 }
@@ -113,41 +157,51 @@ fn threads_and_frames(rt: HostRuntime) -> Result<(), Fail> {
 #[test]
 fn scopes_and_variables(rt: HostRuntime) -> Result<(), Fail> {
     let recorded = at_the_first(rt.alloc())?;
-    let scopes = told(recorded.scopes(rt.alloc(), 0))?;
-    assert_eq!(rt; scopes.len(), 1);
-    assert_eq!(rt; scopes[0].name.as_str(), "Locals");
-    let variables = told(recorded.children(rt.alloc(), scopes[0].holder))?;
-    assert_eq!(rt; variables.len(), 2);
-    assert_eq!(rt;
-        (variables[0].name.as_str(), variables[0].value.as_str()),
-        ("x", "1")
-    );
-    assert!(rt; variables[0].holder.is_none() && variables[1].holder.is_some());
+    let holder = only_scope(rt.alloc(), &recorded, 0, "Locals")?;
+    let shown = children_shown(rt.alloc(), &recorded, holder)?;
+    assert_eq!(rt; shown.as_str(), "x=1; p=P+; ");
     assert!(rt; recorded.scopes(rt.alloc(), 9).is_err());
     assert!(rt; recorded.children(rt.alloc(), 9).is_err());
     Ok(())
 }
 
+/// The value of an expression, and its children.
+fn value_shown(alloc: Global, recorded: &Recorded, text: &str) -> Result<String, Fail> {
+    let value = told(recorded.evaluate(alloc, Some(0), text))?;
+    let children = children_shown(alloc, recorded, value.holder.unwrap_or(9))?;
+    Ok(format!(in alloc; "{} of {}", value.value.as_str(), children)?)
+}
+
 #[test]
 fn values(rt: HostRuntime) -> Result<(), Fail> {
     let recorded = at_the_first(rt.alloc())?;
-    let value = told(recorded.evaluate(rt.alloc(), Some(0), "p"))?;
-    assert_eq!(rt; value.value.as_str(), "P");
-    let children = told(recorded.children(rt.alloc(), value.holder.unwrap_or(9)))?;
-    assert_eq!(rt; children.len(), 1);
-    assert_eq!(rt; children[0].name.as_str(), "a");
-    assert_eq!(rt; children[0].value.as_str(), "7");
+    let shown = value_shown(rt.alloc(), &recorded, "p")?;
+    assert_eq!(rt; shown.as_str(), "P of a=7; ");
     assert!(rt; recorded.evaluate(rt.alloc(), Some(0), "q").is_err());
     assert!(rt; recorded.evaluate(rt.alloc(), None, "p").is_err());
     Ok(())
 }
 
+/// The names of all sources.
+fn sources_shown(alloc: Global, sources: &[Source]) -> Result<String, Fail> {
+    let mut text = String::new(alloc);
+    for source in sources {
+        text.push_str(source.name.as_str())?;
+    }
+    Ok(text)
+}
+
 #[test]
-fn sources(rt: HostRuntime) -> Result<(), Fail> {
+fn sources_told(rt: HostRuntime) -> Result<(), Fail> {
+    let sources = three_moments(rt.alloc())?.sources(rt.alloc())?;
+    let shown = sources_shown(rt.alloc(), &sources)?;
+    assert_eq!(rt; shown.as_str(), "a.c");
+    Ok(())
+}
+
+#[test]
+fn contents(rt: HostRuntime) -> Result<(), Fail> {
     let recorded = three_moments(rt.alloc())?;
-    let sources = recorded.sources(rt.alloc())?;
-    assert_eq!(rt; sources.len(), 1);
-    assert_eq!(rt; sources[0].name.as_str(), "a.c");
     let text = told(recorded.content(rt.alloc(), 0))?;
     assert_eq!(rt; text.as_str(), "one\ntwo\nthree\n");
     assert!(rt; recorded.content(rt.alloc(), 1).is_err());

@@ -1,6 +1,6 @@
 -- What an order comes to, from the calls of both ends.
 use Rattle.std.proofs.Common.{◌≡◌, ℕ, ◌+◌, ◌-◌, ◌*◌, ◌<◌, ◌≤◌, ◌==◌, List, [], ◌∷◌, ◌++◌, length, drop, Bool, true, false, None, Ok, refl, sym, ap, ◌∙◌, subst, arith, append-nil}
-use Rattle.std.specs.Prelude.{◌||◌, not, if◌then◌else◌}
+use Rattle.std.specs.Prelude.{◌||◌, not, if◌then◌else◌, IsTrue}
 use Rattle.std.proofs.Math.Nat.{mul-le-mul_left}
 use Rattle.std.proofs.lemmas.Bool.Decides.{nat_tests}
 use Rattle.std.proofs.lemmas.List.{drop-drop, nil_from_length}
@@ -12,6 +12,7 @@ use Rattle.dap_frame.specs.Stream.{FramesThen, Split}
 use Rattle.dap_frame.specs.declared.limits.Bounds.{Bounds}
 use Rattle.dap_debuggee.specs.Shown.{Shown}
 use Rattle.dap_history.specs.History.{Out}
+use Rattle.dap_message.specs.PlainCall.{is_plain_call}
 use Rattle.dap_message.specs.Types.Call.{Call}
 use Rattle.dap_session.specs.Carried.{Goes}
 use Rattle.dap_session.specs.Handling.{turns}
@@ -191,16 +192,16 @@ module _ {D : Type 0} (laws : EachStreamHasOneSplit) (limits : Settings) (shown 
   }
 
   pub send_done : (client next : ClientEnd) (adapter later_adapter : AdapterEnd D) (last_client : ClientEnd) (reader later last : Intake) (transcript longer_transcript bytes final : List ℕ) (start : World D) (call : Call) (q : IsQuiet limits client adapter reader transcript start)
-      → refusal_of call client ≡ None → bytes ≡ sent_bytes client.session call → (w : WritesLines limits later Client bytes transcript longer_transcript)
+      → IsTrue (is_plain_call call) → refusal_of call client ≡ None → bytes ≡ sent_bytes client.session call → (w : WritesLines limits later Client bytes transcript longer_transcript)
       → HasSettled follows limits (client_said (after_send call start.client) w.bodies start) last_client later_adapter last final → HasDone (DoesSend follows call) limits start last_client later_adapter last final
-  send_done client next adapter later_adapter last_client reader later last transcript longer_transcript bytes final start call q free is w h =
+  send_done client next adapter later_adapter last_client reader later last transcript longer_transcript bytes final start call q plain free is w h =
       let c = q.at.client_at in
       let open_now : first_of refusals_in_order call false start.client ≡ None = rw (c.stands.no_fault, c.session_is) at free in
       let frames : AreFrames start.client.limits w.bodies (sent_bytes start.client call) =
       subst (λ (z : Settings). AreFrames z w.bodies (sent_bytes start.client call)) (sym c.limits_are) (subst (λ (z : List ℕ). AreFrames limits w.bodies z) (is ∙ ap (λ (z : ClientSession). sent_bytes z call) c.session_is) w.frames) in
       record {
         world = h.world;
-        done = record { sent = client_said (after_send call start.client) w.bodies start; sends = record { free = open_now; bodies = w.bodies; frames = frames; is = refl }; settles = h.settles };
+        done = record { sent = client_said (after_send call start.client) w.bodies start; sends = record { plain = plain; free = open_now; bodies = w.bodies; frames = frames; is = refl }; settles = h.settles };
         quiet = record { at = h.at; none_up = h.settles.none_up; none_down = h.settles.none_down };
       }
 

@@ -1,8 +1,9 @@
 -- Both ends of a session with the messages under way between them, and its steps.
 -- Overview, "Base Protocol". That each message is delivered whole, once and in order is this profile's choice.
-use Rattle.std.specs.Prelude.{◌≡◌, ◌≤◌, ℕ, List, [], ◌∷◌, ◌++◌, false, Some, None, Ok}
+use Rattle.std.specs.Prelude.{◌≡◌, ◌≤◌, ℕ, List, [], ◌∷◌, ◌++◌, false, Some, None, Ok, IsTrue}
 use Rattle.dap_frame.specs.Settings.{Settings}
 use Rattle.dap_message.specs.Meaning.{Msg}
+use Rattle.dap_message.specs.PlainCall.{is_plain_call}
 use Rattle.dap_message.specs.Types.Call.{Call}
 use Rattle.dap_message.specs.declared.message.Message.{Message}
 use Rattle.dap_debuggee.specs.Shown.{Shown}
@@ -42,8 +43,9 @@ adapter_said seat bodies w = record w { adapter = seat; down = w.down ++ bodies;
 
 -- ---- steps
 
--- the client sends a call that nothing refuses
+-- the client sends a plain call that nothing refuses
 pub record Sends {D : Type 0} (call : Call) (old new : World D) : Type 0 where
+  pub plain : IsTrue (is_plain_call call)
   pub free : first_of refusals_in_order call false old.client ≡ None
   pub bodies : List (List ℕ)
   pub frames : AreFrames old.client.limits bodies (sent_bytes old.client call)

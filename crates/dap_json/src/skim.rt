@@ -138,7 +138,7 @@ impl<'a> Skim<'a> {
         ensures { IfOk result (λ tree. IsNext tree self.old self.new) }
     {
         match reading::value(alloc, &mut self.reader, self.items, MAX_DEPTH - 1) {
-            Ok(value) => Ok(Tree::new(value)),
+            Ok(value) => Ok(Tree::shared(alloc, value)),
             Err(_) => Err(Invalid),
         }
     }

@@ -7,7 +7,7 @@ use Rattle.json.specs.Print.{escape_byte}
 use Rattle.serde_json.proofs.OnLiterals.{serde_json_on_literals}
 use Rattle.dap_json.specs.Read.{json_of}
 use Rattle.dap_frame.specs.Settings.{Settings, usual_settings, settings}
-use Rattle.dap_message.specs.Call.{initialize_of, thread_of, stack_trace_of, scopes_of, variables_of, evaluate_of, source_of, source_parts, set_breakpoints_of}
+use Rattle.dap_message.specs.Call.{initialize_of, thread_of, stack_trace_of, scopes_of, variables_of, evaluate_of, source_of, source_parts, given_lines, set_breakpoints_of}
 use Rattle.dap_message.specs.Canon.{canon, tree_of, response_members, event_members}
 use Rattle.dap_message.specs.Lengths.{failed}
 use Rattle.dap_message.specs.Types.Command.{Command}
@@ -110,7 +110,7 @@ breakpoints_are_replaced : texts_of (written_after 2 (played usual_settings set_
     ≡ codes "{\"body\":{\"breakpoints\":[{\"id\":1,\"line\":1,\"verified\":true},{\"id\":2,\"line\":3,\"verified\":true},{\"id\":3,\"line\":9,\"verified\":false}]},\"command\":\"setBreakpoints\",\"request_seq\":2,\"seq\":3,\"success\":true,\"type\":\"response\"}"
     ∷ codes "{\"body\":{\"breakpoints\":[]},\"command\":\"setBreakpoints\",\"request_seq\":3,\"seq\":4,\"success\":true,\"type\":\"response\"}"
     ∷ codes "{\"body\":{\"breakpoints\":[{\"id\":4,\"line\":2,\"verified\":true}]},\"command\":\"setBreakpoints\",\"request_seq\":4,\"seq\":5,\"success\":true,\"type\":\"response\"}" ∷ []
-unfolding canon tree_of response_members event_members escape_byte digits plan_for telling saw initialize_of set_breakpoints_of source_parts json_of is_utf8 chars serde_json_on_literals
+unfolding canon tree_of response_members event_members escape_byte digits plan_for telling saw initialize_of given_lines set_breakpoints_of source_parts json_of is_utf8 chars serde_json_on_literals
 breakpoints_are_replaced = refl
 
 -- a hundred lines in a body of 1024 bytes: the list stands, and so does the next id
@@ -122,17 +122,17 @@ hundred_lines = codes "{\"source\":{\"path\":\"/a.c\"},\"lines\":[" ++ codes "1"
 
 too_large : (written_after 5 (played short_bodies (set_again ++ asked 5 (codes "setBreakpoints") hundred_lines)) ≡ failed 6 5 (codes "setBreakpoints") TooLarge ∷ [])
     × ((played short_bodies (set_again ++ asked 5 (codes "setBreakpoints") hundred_lines)).session.breakpoints ≡ record { sources = record { source = Path (codes "/a.c"); set = (4, 2) ∷ [] } ∷ []; next_id = 5 })
-unfolding canon tree_of response_members event_members escape_byte digits plan_for telling saw initialize_of set_breakpoints_of source_parts json_of is_utf8 chars serde_json_on_literals
+unfolding canon tree_of response_members event_members escape_byte digits plan_for telling saw initialize_of given_lines set_breakpoints_of source_parts json_of is_utf8 chars serde_json_on_literals
 too_large = (refl, refl)
 
 too_many_lines : written_after 2 (played (settings 8192 4194304 64 65536 2 9007199254740991 2147483647) set_three) ≡ failed 3 2 (codes "setBreakpoints") TooManyBreakpoints ∷ []
-unfolding canon tree_of response_members event_members escape_byte digits plan_for telling saw initialize_of set_breakpoints_of source_parts json_of is_utf8 chars serde_json_on_literals
+unfolding canon tree_of response_members event_members escape_byte digits plan_for telling saw initialize_of given_lines set_breakpoints_of source_parts json_of is_utf8 chars serde_json_on_literals
 too_many_lines = refl
 
 -- lines from 0
 lines_from_zero : texts_of (written_after 2 (played usual_settings (asked 1 (codes "initialize") (codes "{\"linesStartAt1\":false}") ++ asked 2 (codes "setBreakpoints") (codes "{\"source\":{\"path\":\"/a.c\"},\"lines\":[0]}"))))
     ≡ codes "{\"body\":{\"breakpoints\":[{\"id\":1,\"line\":0,\"verified\":true}]},\"command\":\"setBreakpoints\",\"request_seq\":2,\"seq\":3,\"success\":true,\"type\":\"response\"}" ∷ []
-unfolding canon tree_of response_members event_members escape_byte digits plan_for telling saw initialize_of set_breakpoints_of source_parts json_of is_utf8 chars serde_json_on_literals
+unfolding canon tree_of response_members event_members escape_byte digits plan_for telling saw initialize_of given_lines set_breakpoints_of source_parts json_of is_utf8 chars serde_json_on_literals
 lines_from_zero = refl
 
 -- ---- while the debuggee runs

@@ -9,7 +9,7 @@ use Rattle.serde_json.specs.Find.{as_u64, as_number, as_array}
 use Rattle.dap_json.specs.Field.{if_passes}
 use Rattle.dap_json.specs.Steps.{◌>>=◌}
 use Rattle.dap_message.specs.Argument.{Read, number_of, value_at, in_shape, or_bad, optional, required, must_be_there, max_number}
-use Rattle.dap_message.specs.Call.{call_of, each, line_in, lines_of, breakpoint_lines_of, source_key_of, set_breakpoints_of}
+use Rattle.dap_message.specs.Call.{call_of, each, line_in, lines_of, breakpoint_lines_of, source_key_of, given_lines, set_breakpoints_of}
 use Rattle.dap_message.specs.Types.Call.{Call}
 use Rattle.dap_message.specs.Types.Call.TheVariants as call
 use Rattle.dap_message.specs.Types.Command.{Command}
@@ -96,13 +96,14 @@ bound (Ok x) f y h = (x, refl, h)
 bound (Err e) f y h = cc
 
 pub reads-lines : (given : Option Data) (asked : Call) → set_breakpoints_of given ≡ Ok asked → SetsLines asked
-unfolding set_breakpoints_of
+unfolding set_breakpoints_of given_lines
 reads-lines given asked h =
     let arguments = bound (must_be_there given) _ asked h in
     let source = bound (required source_key_of key.Source arguments.0) _ asked arguments.2 in
-    let breakpoints = bound (optional breakpoint_lines_of key.Breakpoints arguments.0) _ asked source.2 in
-    let lines = bound (optional lines_of key.Lines arguments.0) _ asked breakpoints.2 in
-    let same : call.SetBreakpoints source.0 (unwrap_or breakpoints.0 (unwrap_or lines.0 [])) ≡ asked = (let e = lines.2 in cc) in
+    let both = bound (given_lines arguments.0) _ asked source.2 in
+    let breakpoints = bound (optional breakpoint_lines_of key.Breakpoints arguments.0) _ both.0 both.1 in
+    let lines = bound (optional lines_of key.Lines arguments.0) _ both.0 breakpoints.2 in
+    let same : call.SetBreakpoints source.0 (unwrap_or breakpoints.0 (unwrap_or lines.0 [])) ≡ asked = (let e = lines.2 in let f = both.2 in cc) in
     let first = optional-some breakpoint_lines_of key.Breakpoints (value_at key.Breakpoints arguments.0) breakpoints.0 (λ d ns. then-each line_in line-small (as_array d) ns) breakpoints.1 in
     let second = optional-some lines_of key.Lines (value_at key.Lines arguments.0) lines.0 (λ d ns. then-each number_of number-small (as_array d) ns) lines.1 in
     subst (λ (x : Call). SetsLines x) same (or-none breakpoints.0 (unwrap_or lines.0 []) first (or-none lines.0 [] second no-lines))

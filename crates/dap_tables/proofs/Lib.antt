@@ -1,6 +1,6 @@
 pub mod Lists
 pub mod ArrivalLemmas
-pub mod SeqIndexLemmas
+pub mod SeqTreeLemmas
 pub mod KeptLemmas
 pub mod KeyLemmas
 pub mod SlotLemmas

@@ -1,5 +1,7 @@
 pub mod Arrivals
 pub mod SeqIndex
+pub mod SeqTree
+pub mod SeqTreeFalls
 pub mod Outstanding
 pub mod PutFault
 pub mod OutstandingStore

@@ -23,6 +23,7 @@ mod reference_kind;
 mod references;
 mod seq;
 mod seq_index;
+mod seq_tree;
 mod slot;
 mod source_sets;
 mod target;

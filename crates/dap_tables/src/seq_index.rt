@@ -1,29 +1,41 @@
 //! A key for each sequence number.
-ghost use Rattle.std.specs.Prelude.{◌≡◌, ◌+◌, ◌<◌, ◌≤◌, [], length, None, Some, IfOk, IfErr, OnErr, OnSome};
-ghost use Rattle.dap_tables.specs.SeqIndex.{key_for, Gets, IsAt, IsGapFor};
+ghost use Rattle.std.specs.Prelude.{◌≡◌, ◌+◌, ◌<◌, ◌≤◌, [], length, false, IsTrue, None, Some, IfOk, OnErr, OnSome, vec_len, vec_capacity};
+ghost use Rattle.dap_tables.specs.SeqIndex.{key_for, Gets};
 
+use crate::seq_tree::{Node, SeqTree};
 use std::alloc::{AllocError, Global};
-use std::collections::VecDeque;
 use std::marker::Model;
 
-/// Keys by number, found by halving. Only `open` takes memory.
-///
-/// Numbers mostly rise and are mostly answered in order or in reverse, so a pair comes and goes at an end. Elsewhere the
-/// shorter side moves.
+/// Keys by number, found by the number's binary digits. Only `open` takes memory: a node for each number that there is
+/// room for. No call but `open` and `clear` passes more than 65 of them.
 #[derive(Debug, Drop)]
 pub(crate) struct SeqIndex {
-    pairs: VecDeque<(u64, usize)>,
+    tree: SeqTree,
+    spare: Vec<Box<Node>>,
 }
 
 impl Model for SeqIndex {
-    ghost use Rattle.std.specs.VecDeque.{deque_capacity};
-    ghost use Rattle.dap_tables.specs.SeqIndex.{Index, IsRising};
+    ghost use Rattle.std.specs.Prelude.{◌+◌, ◌≤◌, length, vec_len, vec_capacity};
+    ghost use Rattle.dap_tables.specs.SeqIndex.{Index};
 
     ghost Value = { Index };
 
-    ghost view = { λ index. record { room = deque_capacity index.pairs; pairs = index.pairs.items } };
+    ghost view = { λ index. record { room = length index.tree + vec_len index.spare; pairs = index.tree } };
 
-    ghost invariant = { λ index. IsRising index.pairs.items };
+    ghost invariant = { λ index. length index.tree + vec_len index.spare ≤ vec_capacity index.spare };
+}
+
+// So many nodes.
+fn nodes(alloc: Global, n: usize) -> Result<Vec<Box<Node>>, AllocError>
+    ensures len { IfOk result (λ nodes. vec_len nodes ≡ n) }
+    ensures capacity { IfOk result (λ nodes. n ≤ vec_capacity nodes) }
+    ensures memory { OnErr result (0 < n) }
+{
+    let mut nodes = Vec::with_capacity(alloc, n)?;
+    for _ in 0..n {
+        nodes.push_reserved(Box::new(alloc, Node::new(0, 0))?);
+    }
+    Ok(nodes)
 }
 
 impl SeqIndex {
@@ -33,7 +45,8 @@ impl SeqIndex {
         ensures memory { OnErr result (0 < n) }
     {
         Ok(SeqIndex {
-            pairs: VecDeque::with_capacity(alloc, n)?,
+            tree: SeqTree::new(),
+            spare: nodes(alloc, n)?,
         })
     }
 
@@ -41,10 +54,7 @@ impl SeqIndex {
     pub(crate) fn get(&self, seq: u64) -> Option<usize>
         ensures { result ≡ key_for seq self.now.pairs }
     {
-        match self.search(seq) {
-            Ok(at) => Some(self.pairs[at].1),
-            Err(_) => None,
-        }
+        self.tree.get(seq)
     }
 
     /// Adds a new number.
@@ -55,12 +65,9 @@ impl SeqIndex {
         ensures len { length self.new.pairs ≡ length self.old.pairs + 1 }
         ensures room { self.old.room ≤ self.new.room }
     {
-        match self.search(seq) {
-            Ok(_) => unreachable!(),
-            Err(at) => match self.pairs.insert(at, (seq, key)) {
-                Ok(()) => {}
-                Err(_) => unreachable!(),
-            },
+        match self.spare.pop() {
+            Some(node) => self.tree.insert(seq, key, node),
+            None => unreachable!(),
         }
     }
 
@@ -72,27 +79,31 @@ impl SeqIndex {
         ensures room { self.new.room ≡ self.old.room }
         ensures absent { result ≡ None → self.new ≡ self.old }
     {
-        match self.search(seq) {
-            Ok(at) => match self.pairs.remove(at) {
-                Some(pair) => Some(pair.1),
-                None => unreachable!(),
-            },
-            Err(_) => None,
-        }
+        let node = self.tree.remove(seq)?;
+        let key = node.key;
+        self.spare.push_reserved(node);
+        Some(key)
     }
 
     /// Takes all numbers out.
     pub(crate) fn clear(&mut self)
         ensures { self.new ≡ record self.old { pairs = [] } }
     {
-        self.pairs.clear();
+        while self.drop_one() {}
     }
 
-    // Where a number is, or where it would go.
-    fn search(&self, seq: u64) -> Result<usize, usize>
-        ensures found { IfOk result (IsAt self.now.pairs seq) }
-        ensures absent { IfErr result (IsGapFor self.now.pairs seq) }
+    // Takes some number out, where there is one.
+    fn drop_one(&mut self) -> bool
+        ensures some { IsTrue result → length self.new.pairs + 1 ≡ length self.old.pairs }
+        ensures none { result ≡ false → self.new.pairs ≡ [] }
+        ensures room { self.new.room ≡ self.old.room }
     {
-        self.pairs.binary_search_by_key(&seq, |&(number, _)| number)
+        match self.tree.take() {
+            Some(node) => {
+                self.spare.push_reserved(node);
+                true
+            }
+            None => false,
+        }
     }
 }

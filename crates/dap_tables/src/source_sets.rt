@@ -88,7 +88,7 @@ impl SourceSets {
         ensures memory { OnErr result (self.new ≡ self.old) }
     {
         match source {
-            SourceKey::Path(path) => self.put_path(path.into_string(), set),
+            SourceKey::Path(path) => self.put_path(path.into_string()?, set),
             SourceKey::Reference(reference) => self.put_reference(reference, set),
         }
     }

@@ -13,8 +13,30 @@ fn holds_a_text(rt: HostRuntime) -> Result<(), Fail> {
     assert!(rt; !text.is_empty());
     let copy = text.clone()?;
     assert_eq!(rt; copy.as_str(), "né");
-    assert_eq!(rt; Text::new(text.into_string()).as_str(), "né");
+    assert_eq!(rt; Text::new(text.into_string()?).as_str(), "né");
     assert!(rt; Text::copied(rt.alloc(), "")?.is_empty());
+    Ok(())
+}
+
+/// A text and its copies, whoever gives it back first.
+#[test]
+fn shares_a_text(rt: HostRuntime) -> Result<(), Fail> {
+    let text = Text::copied(rt.alloc(), "né")?.shared(rt.alloc());
+    let copy = text.clone()?.shared(rt.alloc());
+    assert_eq!(rt; text.into_string()?.as_str(), "né");
+    assert_eq!(rt; copy.as_str(), "né");
+    assert_eq!(rt; copy.into_string()?.as_str(), "né");
+    Ok(())
+}
+
+/// A tree and its copies, likewise.
+#[test]
+fn shares_a_tree(rt: HostRuntime) -> Result<(), Fail> {
+    let tree = Tree::shared(rt.alloc(), Value::from(7u64));
+    let copy = tree.clone()?;
+    assert_eq!(rt; tree.into_value()?.as_u64(), Some(7));
+    assert_eq!(rt; copy.value().as_u64(), Some(7));
+    assert_eq!(rt; copy.into_value()?.as_u64(), Some(7));
     Ok(())
 }
 
@@ -35,7 +57,7 @@ fn parses_and_writes(rt: HostRuntime) -> Result<(), Fail> {
         let copy = tree.clone()?;
         assert!(rt; is_plain(tree.value(), 2), "{bytes}");
         assert_eq!(rt;
-            write(rt.alloc(), &copy.into_value())?.as_slice(),
+            write(rt.alloc(), &copy.into_value()?)?.as_slice(),
             text.as_bytes(),
             "{bytes}"
         );

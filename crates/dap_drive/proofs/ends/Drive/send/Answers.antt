@@ -15,4 +15,4 @@ returns-clause-sent g c = λ limits start q.
     let h = call_sent laws limits g.D.Debuggee.shown g.D.Debuggee.follows c.args.self.now.client c.send.new.self c.args.self.now.adapter c.args.self.now.reader c.write_lines.new.reader c.args.self.now.transcript.items c.write_lines.new.transcript.items c.in-Ok.sent.bytes.items start c.args.call.now q c.in-Ok.ensures.session c.in-Ok.ensures.goes_on w in
     let up = c.in_ok-down.ensures.delivered limits sent (subst (λ (z : List ℕ). HasDelivered g.D.Debuggee.follows limits sent c.send.new.self c.args.self.now.adapter c.write_lines.new.reader c.write_lines.new.transcript.items z []) (sym c.deref-2.ensures.value) h) in
     send_done laws limits g.D.Debuggee.shown g.D.Debuggee.follows c.args.self.now.client c.send.new.self c.args.self.now.adapter c.settle.new.self.adapter c.settle.new.self.client c.args.self.now.reader c.write_lines.new.reader c.settle.new.self.reader c.args.self.now.transcript.items c.write_lines.new.transcript.items c.in-Ok.sent.bytes.items c.settle.new.self.transcript.items
-    start c.args.call.now q c.in-Ok.ensures.sent c.in-Ok.ensures.bytes w (c.in_ok-settle.ensures.settled limits sent up)
+    start c.args.call.now q c.requires.plain c.in-Ok.ensures.sent c.in-Ok.ensures.bytes w (c.in_ok-settle.ensures.settled limits sent up)
