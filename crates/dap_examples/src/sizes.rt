@@ -4,6 +4,7 @@ use dap_debuggee::{Debuggee, Recorded};
 use dap_frame::{End, Limits, write_frame};
 use dap_message::{SourceKey, Text};
 use dap_tool::show;
+use std::alloc::Global;
 use std::test::Fail;
 
 /// A file of 60 MB is listed, of 15 events with bodies of the greatest length.
@@ -30,12 +31,10 @@ fn a_long_file_is_listed(rt: HostRuntime) -> Result<(), Fail> {
     Ok(())
 }
 
-/// A recording of 1 MB is read, whose one source has 16384 lines of 63 bytes; it tells the text, and takes breakpoints in
-/// 4096 lines of it.
-#[test]
-fn a_long_recording_is_read(rt: HostRuntime) -> Result<(), Fail> {
+/// A recording of 1 MB, whose one source has 16384 lines of 63 bytes.
+fn long_recording(alloc: Global) -> Result<Vec<u8>, Fail> {
     let mut bytes = Vec::from_slice(
-        rt.alloc(),
+        alloc,
         b"{\"exit\":0,\"sources\":[{\"name\":\"a.c\",\"path\":\"/a.c\",\"text\":\"",
     )?;
     for _ in 0..16384 {
@@ -46,21 +45,61 @@ fn a_long_recording_is_read(rt: HostRuntime) -> Result<(), Fail> {
     bytes.extend_from_slice(
         b"\"}],\"moments\":[{\"thread\":1,\"threads\":[{\"id\":1,\"name\":\"main\",\"frames\":[{\"name\":\"main\",\"source\":0,\"line\":16384}]}]}]}",
     )?;
-    assert!(rt; bytes.len() > 1048576);
-    let mut debuggee = Recorded::read(rt.alloc(), &bytes).ok().ok_or("refused")?;
-    let text = debuggee.content(rt.alloc(), 0).ok().ok_or("no text")?;
-    assert_eq!(rt; text.as_str().len(), 1032192);
-    let source = SourceKey::Path(Text::copied(rt.alloc(), "/a.c")?);
-    let mut lines = Vec::new(rt.alloc());
+    Ok(bytes)
+}
+
+/// The numbers of its last 4096 lines.
+fn last_lines(alloc: Global) -> Result<Vec<u32>, Fail> {
+    let mut lines = Vec::new(alloc);
     for line in 12289..16385 {
         lines.push(line)?;
     }
-    debuggee.set_breakpoints(rt.alloc(), &source, &lines)?;
-    let told = debuggee
-        .verify(rt.alloc(), &source, &lines)
-        .ok()
-        .ok_or("not told")?;
-    assert_eq!(rt; told.len(), 4096);
-    assert!(rt; told.iter().all(|stands| *stands));
+    Ok(lines)
+}
+
+/// How many bytes the text of the first source has, if it is told.
+fn text_length(alloc: Global, debuggee: &Recorded) -> Option<usize> {
+    match debuggee.content(alloc, 0) {
+        Ok(text) => Some(text.as_str().len()),
+        Err(_) => None,
+    }
+}
+
+/// In how many of these lines a breakpoint stands, if that is told of each, once they are set.
+fn standing(
+    alloc: Global,
+    debuggee: &mut Recorded,
+    source: &SourceKey,
+    lines: &[u32],
+) -> Option<usize> {
+    if debuggee.set_breakpoints(alloc, source, lines).is_err() {
+        return None;
+    }
+    match debuggee.verify(alloc, source, lines) {
+        Ok(told) if told.len() == lines.len() => {
+            Some(told.iter().filter(|stands| **stands).count())
+        }
+        _ => None,
+    }
+}
+
+/// Both of that recording.
+fn told(alloc: Global, bytes: &[u8], lines: &[u32]) -> Result<[Option<usize>; 2], Fail> {
+    let source = SourceKey::Path(Text::copied(alloc, "/a.c")?);
+    let mut debuggee = Recorded::read(alloc, bytes).ok().ok_or("refused")?;
+    let length = text_length(alloc, &debuggee);
+    Ok([length, standing(alloc, &mut debuggee, &source, lines)])
+}
+
+/// A recording of 1 MB is read; it tells the text of its source, and takes breakpoints in 4096 lines of it.
+#[test]
+fn a_long_recording_is_read(rt: HostRuntime) -> Result<(), Fail> {
+    let bytes = long_recording(rt.alloc())?;
+    let lines = last_lines(rt.alloc())?;
+    assert!(rt; bytes.len() > 1048576);
+    assert_eq!(rt;
+        told(rt.alloc(), &bytes, &lines)?,
+        [Some(1032192), Some(4096)]
+    );
     Ok(())
 }

@@ -169,6 +169,9 @@ pub fn take_all<D: Debuggee + Drop>(
     let mut out = Vec::new(alloc);
     let mut rest = bytes;
     for _ in 0..bytes.len() {
+        if rest.is_empty() {
+            return Ok(out);
+        }
         let (piece, _) = rest.split_at(size.min(rest.len()));
         let taken = adapter.take(alloc, piece)?;
         out.extend_from_slice(&taken.bytes)?;

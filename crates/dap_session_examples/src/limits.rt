@@ -1,23 +1,35 @@
 //! Sessions at their limits: numbers that run out, what closes an adapter, the greatest sizes.
 
-use dap_adapter::{Adapter, AdapterFault};
-use dap_debuggee::Debuggee;
+use dap_adapter::AdapterFault;
 use dap_frame::{Limits, write_frame};
 use dap_message::BodyRefusal;
-use dap_samples::calls::{Act, Step, adapter, call, follow};
+use dap_samples::calls::{Act, Step};
+use dap_samples::player::{Player, Seen};
 use std::alloc::Global;
 use std::test::Fail;
 
 /// Whether each call answers this fault, and nothing is held.
-fn is_closed<D: Debuggee + Drop>(
+fn is_closed(alloc: Global, player: &mut Player, fault: AdapterFault) -> bool {
+    for act in [Act::Take(b"x"), Act::Turn, Act::Poll] {
+        if player.fault(alloc, act) != Some(fault) {
+            return false;
+        }
+    }
+    player.shows(Seen::Held(0))
+}
+
+/// Whether a call closes an adapter with this fault, so that each call answers it then, and so many requests are kept.
+fn closes(
     alloc: Global,
-    adapter: &mut Adapter<D>,
+    player: &mut Player,
+    act: Act<'_>,
     fault: AdapterFault,
+    kept: usize,
 ) -> bool {
-    adapter.take(alloc, b"x").err() == Some(fault)
-        && adapter.turn(alloc).err() == Some(fault)
-        && adapter.poll(alloc).err() == Some(fault)
-        && adapter.held() == 0
+    player.fault(alloc, act) == Some(fault)
+        && player.shows(Seen::Kept(kept))
+        && is_closed(alloc, player, fault)
+        && player.shows(Seen::Kept(kept))
 }
 
 static TO_THE_LAST_NUMBER: [Step<'static>; 5] = [
@@ -60,18 +72,17 @@ fn numbers_run_out(rt: HostRuntime) -> Result<(), Fail> {
     let limits = Limits::new(8192, 4194304, 64, 1, 1, 3, 1)
         .ok()
         .ok_or("limits")?;
-    let mut adapter = adapter(rt.alloc(), limits)?;
-    follow(&rt, &mut adapter, &TO_THE_LAST_NUMBER)?;
+    let mut player = Player::open(rt.alloc(), limits)?;
+    player.follow(&rt, &TO_THE_LAST_NUMBER)?;
     let fault = AdapterFault::SeqExhausted;
-    assert_eq!(rt; adapter.turn(rt.alloc()).err(), Some(fault));
-    assert_eq!(rt; adapter.kept(), 1);
-    assert!(rt; is_closed(rt.alloc(), &mut adapter, fault));
-    assert_eq!(rt; adapter.kept(), 1);
+    assert!(rt; closes(rt.alloc(), &mut player, Act::Turn, fault, 1));
     Ok(())
 }
 
 /// A request, whether it is handled, what comes next, and the fault and the requests kept then.
-static CLOSED: [(&[u8], bool, &[u8], AdapterFault, usize); 5] = [
+type Closed<'a> = (&'a [u8], bool, &'a [u8], AdapterFault, usize);
+
+static CLOSED: [Closed<'static>; 5] = [
     (
         b"{\"seq\":1,\"type\":\"request\",\"command\":\"initialize\",\"arguments\":{\"adapterID\":\"rec\"}}",
         false,
@@ -115,25 +126,27 @@ static CLOSED: [(&[u8], bool, &[u8], AdapterFault, usize); 5] = [
     ),
 ];
 
+/// Whether a message is taken, and a turn done where it is to be handled.
+fn is_served(alloc: Global, player: &mut Player, body: &[u8], handled: bool) -> bool {
+    player.fault(alloc, Act::Take(body)).is_none()
+        && (!handled || player.fault(alloc, Act::Turn).is_none())
+}
+
+/// Whether the second of two messages closes an adapter.
+fn is_refused(alloc: Global, row: &Closed<'_>) -> Result<bool, Fail> {
+    let (first, handled, second, fault, kept) = *row;
+    let mut player = Player::open(alloc, Limits::usual())?;
+    Ok(
+        is_served(alloc, &mut player, first, handled)
+            && closes(alloc, &mut player, Act::Take(second), fault, kept),
+    )
+}
+
 /// What a client may never send closes the adapter for good, with its requests as they were.
 #[test]
 fn closed_for_good(rt: HostRuntime) -> Result<(), Fail> {
-    for (first, handled, second, fault, kept) in &CLOSED {
-        let mut adapter = adapter(rt.alloc(), Limits::usual())?;
-        let _ = call(rt.alloc(), &mut adapter, Act::Take(first))
-            .ok()
-            .ok_or("a fault")?;
-        if *handled {
-            let _ = call(rt.alloc(), &mut adapter, Act::Turn)
-                .ok()
-                .ok_or("a fault")?;
-        }
-        assert_eq!(rt;
-            call(rt.alloc(), &mut adapter, Act::Take(second)).err(),
-            Some(*fault)
-        );
-        assert!(rt; is_closed(rt.alloc(), &mut adapter, *fault));
-        assert_eq!(rt; adapter.kept(), *kept);
+    for row in &CLOSED {
+        assert!(rt; is_refused(rt.alloc(), row)?);
     }
     Ok(())
 }
@@ -141,14 +154,12 @@ fn closed_for_good(rt: HostRuntime) -> Result<(), Fail> {
 /// A frame without a body.
 #[test]
 fn no_body(rt: HostRuntime) -> Result<(), Fail> {
-    let mut adapter = adapter(rt.alloc(), Limits::usual())?;
     let fault = AdapterFault::Body {
         cause: BodyRefusal::NotJson,
         offset: 0,
     };
-    let taken = adapter.take(rt.alloc(), b"Content-Length: 0\r\n\r\n");
-    assert_eq!(rt; taken.err(), Some(fault));
-    assert!(rt; is_closed(rt.alloc(), &mut adapter, fault));
+    let mut player = Player::open(rt.alloc(), Limits::usual())?;
+    assert!(rt; closes(rt.alloc(), &mut player, Act::Take(b""), fault, 0));
     Ok(())
 }
 
@@ -185,28 +196,87 @@ static AFTER_LAUNCH: [Step<'static>; 3] = [
     ),
 ];
 
-/// A request whose body has the greatest length is parked and answered.
-#[test]
-fn the_greatest_body(rt: HostRuntime) -> Result<(), Fail> {
-    let mut adapter = adapter(rt.alloc(), Limits::usual())?;
-    follow(&rt, &mut adapter, &STARTED_SESSION)?;
+/// A frame of a `launch` whose body has the greatest length.
+fn longest_frame(alloc: Global) -> Result<Vec<u8>, Fail> {
     let mut body = Vec::from_slice(
-        rt.alloc(),
+        alloc,
         b"{\"seq\":2,\"type\":\"request\",\"command\":\"launch\",\"arguments\":{\"a\":\"",
     )?;
     body.resize(4194301, b'a')?;
     body.extend_from_slice(b"\"}}")?;
-    let mut frame = Vec::new(rt.alloc());
+    let mut frame = Vec::new(alloc);
     write_frame(&mut frame, &body)?;
-    let mut rest = frame.as_slice();
-    for _ in 0..1025 {
-        let (piece, _) = rest.split_at(rest.len().min(4096));
-        let taken = adapter.take(rt.alloc(), piece).ok().ok_or("a fault")?;
-        let (_, later) = rest.split_at(taken.used);
-        rest = later;
+    Ok(frame)
+}
+
+/// A request whose body has the greatest length is parked and answered.
+#[test]
+fn the_greatest_body(rt: HostRuntime) -> Result<(), Fail> {
+    // What comes before and after that request.
+    let parts: [(&[Step<'_>], bool); 2] = [(&STARTED_SESSION, true), (&AFTER_LAUNCH, false)];
+    let frame = longest_frame(rt.alloc())?;
+    let mut player = Player::open(rt.alloc(), Limits::usual())?;
+    for (steps, then_taken) in &parts {
+        player.follow(&rt, steps)?;
+        if *then_taken && !player.takes_all(rt.alloc(), &frame, 4096) {
+            return Err(Fail::from("not taken"));
+        }
     }
-    assert!(rt; rest.is_empty());
-    follow(&rt, &mut adapter, &AFTER_LAUNCH)
+    Ok(())
+}
+
+/// Whether a request `threads` with this number is taken, and nothing is handed out.
+fn is_kept(alloc: Global, player: &mut Player, seq: u64) -> Result<bool, Fail> {
+    let body = format!(in alloc; "{{\"seq\":{seq},\"type\":\"request\",\"command\":\"threads\"}}")?;
+    Ok(player.gives(alloc, Act::Take(body.as_bytes()), b""))
+}
+
+/// The frame that answers it before `initialize`, where all numbers are alike.
+fn answer_to(alloc: Global, seq: u64) -> Result<Vec<u8>, Fail> {
+    let body = format!(in alloc;
+        "{{\"body\":{{\"error\":{{\"format\":\"The session is not initialized.\",\"id\":1001}}}},\"command\":\"threads\",\"message\":\"notInitialized\",\"request_seq\":{seq},\"seq\":{seq},\"success\":false,\"type\":\"response\"}}"
+    )?;
+    let mut wanted = Vec::new(alloc);
+    write_frame(&mut wanted, body.as_bytes())?;
+    Ok(wanted)
+}
+
+/// Whether the next turn gives that frame.
+fn is_answered(alloc: Global, player: &mut Player, seq: u64) -> Result<bool, Fail> {
+    let wanted = answer_to(alloc, seq)?;
+    Ok(player.gives(alloc, Act::Turn, &wanted))
+}
+
+/// Keeps so many requests.
+fn keep_many(alloc: Global, player: &mut Player, count: u64) -> Result<(), Fail> {
+    for seq in 1..=count {
+        if !is_kept(alloc, player, seq)? {
+            return Err(Fail::from("not kept"));
+        }
+    }
+    Ok(())
+}
+
+/// Answers so many requests in their order.
+fn answer_many(alloc: Global, player: &mut Player, count: u64) -> Result<(), Fail> {
+    for seq in 1..=count {
+        if !is_answered(alloc, player, seq)? {
+            return Err(Fail::from("not answered"));
+        }
+    }
+    Ok(())
+}
+
+/// Whether as many requests are kept as there is room for, once they were taken.
+fn fills(alloc: Global, player: &mut Player) -> Result<bool, Fail> {
+    keep_many(alloc, player, 4096)?;
+    Ok(player.shows(Seen::Kept(4096)))
+}
+
+/// Whether none is kept once they were answered.
+fn empties(alloc: Global, player: &mut Player) -> Result<bool, Fail> {
+    answer_many(alloc, player, 4096)?;
+    Ok(player.shows(Seen::Kept(0)))
 }
 
 /// As many requests as may be are kept, and then answered in their order.
@@ -215,30 +285,8 @@ fn the_greatest_count_of_requests(rt: HostRuntime) -> Result<(), Fail> {
     let limits = Limits::new(8192, 4194304, 4096, 1, 1, 10000, 1)
         .ok()
         .ok_or("limits")?;
-    let mut adapter = adapter(rt.alloc(), limits)?;
-    for seq in 1..4097 {
-        let body = format!(in rt.alloc();
-            "{{\"seq\":{seq},\"type\":\"request\",\"command\":\"threads\"}}"
-        )?;
-        let taken = call(rt.alloc(), &mut adapter, Act::Take(body.as_bytes()))
-            .ok()
-            .ok_or("a fault")?
-            .ok_or("idle")?;
-        assert!(rt; taken.is_empty());
-    }
-    assert_eq!(rt; adapter.kept(), 4096);
-    for seq in 1..4097 {
-        let body = format!(in rt.alloc();
-            "{{\"body\":{{\"error\":{{\"format\":\"The session is not initialized.\",\"id\":1001}}}},\"command\":\"threads\",\"message\":\"notInitialized\",\"request_seq\":{seq},\"seq\":{seq},\"success\":false,\"type\":\"response\"}}"
-        )?;
-        let mut wanted = Vec::new(rt.alloc());
-        write_frame(&mut wanted, body.as_bytes())?;
-        let answer = call(rt.alloc(), &mut adapter, Act::Turn)
-            .ok()
-            .ok_or("a fault")?
-            .ok_or("idle")?;
-        assert_eq!(rt; answer.as_slice(), wanted.as_slice());
-    }
-    assert_eq!(rt; adapter.kept(), 0);
+    let mut player = Player::open(rt.alloc(), limits)?;
+    let held = fills(rt.alloc(), &mut player)? && empties(rt.alloc(), &mut player)?;
+    assert!(rt; held);
     Ok(())
 }

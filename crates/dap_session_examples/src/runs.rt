@@ -3,7 +3,8 @@
 use dap_adapter::{Adapter, Phase};
 use dap_debuggee::Stubborn;
 use dap_frame::Limits;
-use dap_samples::calls::{Act, Step, adapter, follow, recorded};
+use dap_samples::calls::{Act, Step, follow, recorded};
+use dap_samples::player::{Seen, play};
 use std::test::Fail;
 
 static RUNS_AND_PAUSES: [Step<'static>; 20] = [
@@ -130,10 +131,11 @@ static RUNS_AND_PAUSES: [Step<'static>; 20] = [
 /// A run to a moment that waits is held until `pause`; meanwhile no frames are told.
 #[test]
 fn runs_and_pauses(rt: HostRuntime) -> Result<(), Fail> {
-    let mut adapter = adapter(rt.alloc(), Limits::usual())?;
-    follow(&rt, &mut adapter, &RUNS_AND_PAUSES)?;
-    assert_eq!(rt; adapter.phase(), Phase::Exited);
-    Ok(())
+    play(
+        &rt,
+        Limits::usual(),
+        &[(&RUNS_AND_PAUSES, Seen::Phase(Phase::Exited))],
+    )
 }
 
 static TERMINATES: [Step<'static>; 12] = [
@@ -212,10 +214,11 @@ static TERMINATES: [Step<'static>; 12] = [
 /// `terminate` ends the debuggee, which then has no threads.
 #[test]
 fn terminates(rt: HostRuntime) -> Result<(), Fail> {
-    let mut adapter = adapter(rt.alloc(), Limits::usual())?;
-    follow(&rt, &mut adapter, &TERMINATES)?;
-    assert_eq!(rt; adapter.phase(), Phase::Exited);
-    Ok(())
+    play(
+        &rt,
+        Limits::usual(),
+        &[(&TERMINATES, Seen::Phase(Phase::Exited))],
+    )
 }
 
 static STEPS: [Step<'static>; 29] = [
@@ -415,10 +418,11 @@ static STEPS: [Step<'static>; 29] = [
 /// The six resuming commands, each of a thread that exists; `pause` of a stopped debuggee changes nothing.
 #[test]
 fn steps(rt: HostRuntime) -> Result<(), Fail> {
-    let mut adapter = adapter(rt.alloc(), Limits::usual())?;
-    follow(&rt, &mut adapter, &STEPS)?;
-    assert_eq!(rt; adapter.phase(), Phase::Stopped);
-    Ok(())
+    play(
+        &rt,
+        Limits::usual(),
+        &[(&STEPS, Seen::Phase(Phase::Stopped))],
+    )
 }
 
 static REFUSED_START: [Step<'static>; 6] = [
@@ -480,11 +484,17 @@ static STARTED: [Step<'static>; 2] = [
 /// A debuggee that refuses to start when it is asked first: `launch` fails, and the next one succeeds.
 #[test]
 fn a_refused_start(rt: HostRuntime) -> Result<(), Fail> {
+    let parts: [(&[Step<'_>], Phase); 2] = [
+        (&REFUSED_START, Phase::Configured),
+        (&STARTED, Phase::Running),
+    ];
     let debuggee = Stubborn::new(recorded(rt.alloc())?);
     let mut adapter = Adapter::open(rt.alloc(), Limits::usual(), debuggee)?;
-    follow(&rt, &mut adapter, &REFUSED_START)?;
-    assert_eq!(rt; adapter.phase(), Phase::Configured);
-    follow(&rt, &mut adapter, &STARTED)?;
-    assert_eq!(rt; adapter.phase(), Phase::Running);
+    for (steps, phase) in &parts {
+        follow(&rt, &mut adapter, steps)?;
+        if adapter.phase() != *phase {
+            return Err(Fail::from("another phase"));
+        }
+    }
     Ok(())
 }

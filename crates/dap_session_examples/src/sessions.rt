@@ -3,10 +3,17 @@
 use dap_adapter::Phase;
 use dap_frame::Limits;
 use dap_samples::calls::{
-    Act, NOT_INITIALIZED, Step, THREADS, adapter, call, first_difference, follow, framed, take_all,
-    two_kept,
+    Act, NOT_INITIALIZED, Step, THREADS, adapter, first_difference, framed, two_kept,
 };
+use dap_samples::player::{Player, Seen, play};
+use std::alloc::Global;
 use std::test::Fail;
+
+/// Whether a request before `initialize` is answered by this, where it comes in pieces of one size.
+fn is_answered(alloc: Global, input: &[u8], size: usize, answer: &[u8]) -> Result<bool, Fail> {
+    let mut player = Player::open(alloc, Limits::usual())?;
+    Ok(player.takes_all(alloc, input, size) && player.gives(alloc, Act::Turn, answer))
+}
 
 /// A request before `initialize`, cut at each place.
 #[test]
@@ -14,17 +21,11 @@ fn not_initialized_however_cut(rt: HostRuntime) -> Result<(), Fail> {
     let input = framed(rt.alloc(), &[THREADS])?;
     let answer = framed(rt.alloc(), &[NOT_INITIALIZED])?;
     assert_eq!(rt; (input.len(), answer.len()), (68, 201));
-    for cut in 1..69 {
-        let mut adapter = adapter(rt.alloc(), Limits::usual())?;
-        let taken = take_all(rt.alloc(), &mut adapter, &input, cut)
-            .ok()
-            .ok_or("a fault")?;
-        assert!(rt; taken.is_empty());
-        let answered = call(rt.alloc(), &mut adapter, Act::Turn)
-            .ok()
-            .ok_or("a fault")?
-            .ok_or("idle")?;
-        assert_eq!(rt; answered.as_slice(), answer.as_slice(), "pieces of {cut}");
+    for size in 1..69 {
+        assert!(rt;
+            is_answered(rt.alloc(), &input, size, &answer)?,
+            "pieces of {size}"
+        );
     }
     Ok(())
 }
@@ -86,10 +87,11 @@ static BUSY_WHERE_TWO_ARE_KEPT: [Step<'static>; 9] = [
 /// Two requests are kept at most: a third is `busy` at once, and a parked one keeps its place.
 #[test]
 fn busy_where_two_are_kept(rt: HostRuntime) -> Result<(), Fail> {
-    let mut adapter = adapter(rt.alloc(), two_kept()?)?;
-    follow(&rt, &mut adapter, &BUSY_WHERE_TWO_ARE_KEPT)?;
-    assert_eq!(rt; adapter.phase(), Phase::Running);
-    Ok(())
+    play(
+        &rt,
+        two_kept()?,
+        &[(&BUSY_WHERE_TWO_ARE_KEPT, Seen::Phase(Phase::Running))],
+    )
 }
 
 static A_REQUEST_IS_CANCELLED: [Step<'static>; 5] = [
@@ -127,10 +129,11 @@ static A_REQUEST_IS_CANCELLED: [Step<'static>; 5] = [
 /// `cancel` answers the request that it names, and then itself.
 #[test]
 fn a_request_is_cancelled(rt: HostRuntime) -> Result<(), Fail> {
-    let mut adapter = adapter(rt.alloc(), Limits::usual())?;
-    follow(&rt, &mut adapter, &A_REQUEST_IS_CANCELLED)?;
-    assert_eq!(rt; adapter.phase(), Phase::Ready);
-    Ok(())
+    play(
+        &rt,
+        Limits::usual(),
+        &[(&A_REQUEST_IS_CANCELLED, Seen::Phase(Phase::Ready))],
+    )
 }
 
 static NOTHING_IS_CANCELLED: [Step<'static>; 10] = [
@@ -203,10 +206,11 @@ static NOTHING_IS_CANCELLED: [Step<'static>; 10] = [
 /// A parked launch is not cancelled, nor what is not kept; a bad number is refused; nothing is cancelled before `initialize`.
 #[test]
 fn nothing_is_cancelled(rt: HostRuntime) -> Result<(), Fail> {
-    let mut adapter = adapter(rt.alloc(), Limits::usual())?;
-    follow(&rt, &mut adapter, &NOTHING_IS_CANCELLED)?;
-    assert_eq!(rt; adapter.phase(), Phase::Parked);
-    Ok(())
+    play(
+        &rt,
+        Limits::usual(),
+        &[(&NOTHING_IS_CANCELLED, Seen::Phase(Phase::Parked))],
+    )
 }
 
 static DISCONNECT_ANSWERS_ALL: [Step<'static>; 12] = [
@@ -265,10 +269,11 @@ static DISCONNECT_ANSWERS_ALL: [Step<'static>; 12] = [
 /// `disconnect` answers every other request, the parked one too, and then itself. After it a message that is no request has no effect.
 #[test]
 fn disconnect_answers_all(rt: HostRuntime) -> Result<(), Fail> {
-    let mut adapter = adapter(rt.alloc(), Limits::usual())?;
-    follow(&rt, &mut adapter, &DISCONNECT_ANSWERS_ALL)?;
-    assert_eq!(rt; adapter.phase(), Phase::Ended);
-    Ok(())
+    play(
+        &rt,
+        Limits::usual(),
+        &[(&DISCONNECT_ANSWERS_ALL, Seen::Phase(Phase::Ended))],
+    )
 }
 
 static REFUSED_REQUESTS: [Step<'static>; 12] = [
@@ -355,10 +360,21 @@ static REFUSED_REQUESTS: [Step<'static>; 12] = [
 /// Each refusal of a session that is only initialized.
 #[test]
 fn refused_requests(rt: HostRuntime) -> Result<(), Fail> {
-    let mut adapter = adapter(rt.alloc(), Limits::usual())?;
-    follow(&rt, &mut adapter, &REFUSED_REQUESTS)?;
-    assert_eq!(rt; adapter.phase(), Phase::Ready);
-    Ok(())
+    play(
+        &rt,
+        Limits::usual(),
+        &[(&REFUSED_REQUESTS, Seen::Phase(Phase::Ready))],
+    )
+}
+
+/// What is told of a request before `initialize`, where this is expected of its turn.
+fn told(alloc: Global, wanted: Option<&[u8]>, kept: usize) -> Result<Option<usize>, Fail> {
+    let mut adapter = adapter(alloc, Limits::usual())?;
+    let steps: [Step<'_>; 2] = [
+        (Act::Take(THREADS), Some(b""), 1),
+        (Act::Turn, wanted, kept),
+    ];
+    first_difference(alloc, &mut adapter, &steps)
 }
 
 /// Steps are compared: where the bodies differ, or how many requests are kept, or whether anything is handed out, that is
@@ -372,13 +388,7 @@ fn steps_that_differ_are_told(rt: HostRuntime) -> Result<(), Fail> {
         (None, 0, Some(1)),
     ];
     for (wanted, kept, place) in &cases {
-        let mut adapter = adapter(rt.alloc(), Limits::usual())?;
-        let steps: [Step<'_>; 2] = [
-            (Act::Take(THREADS), Some(b""), 1),
-            (Act::Turn, *wanted, *kept),
-        ];
-        let told = first_difference(rt.alloc(), &mut adapter, &steps)?;
-        assert_eq!(rt; told, *place);
+        assert_eq!(rt; told(rt.alloc(), *wanted, *kept)?, *place);
     }
     Ok(())
 }

@@ -1,7 +1,8 @@
 //! Sessions that look into a stop and set breakpoints, call by call, with the bodies that they hand out.
 
 use dap_frame::Limits;
-use dap_samples::calls::{Act, Step, adapter, follow};
+use dap_samples::calls::{Act, Step};
+use dap_samples::player::{Seen, play};
 use std::test::Fail;
 
 static STARTS: [Step<'static>; 8] = [
@@ -234,11 +235,14 @@ static LOOKS_INTO_A_STOP: [Step<'static>; 25] = [
 /// A number names one object until the debuggee goes on; later ones come behind it.
 #[test]
 fn looks_into_a_stop(rt: HostRuntime) -> Result<(), Fail> {
-    let mut adapter = adapter(rt.alloc(), Limits::usual())?;
-    follow(&rt, &mut adapter, &STARTS)?;
-    follow(&rt, &mut adapter, &LOOKS_INTO_A_STOP)?;
-    assert_eq!(rt; adapter.references(), 1);
-    Ok(())
+    play(
+        &rt,
+        Limits::usual(),
+        &[
+            (&STARTS, Seen::References(0)),
+            (&LOOKS_INTO_A_STOP, Seen::References(1)),
+        ],
+    )
 }
 
 static TWO_REFERENCES: [Step<'static>; 8] = [
@@ -306,11 +310,14 @@ fn third_reference_is_refused(rt: HostRuntime) -> Result<(), Fail> {
     let limits = Limits::new(8192, 4194304, 64, 2, 4096, 9007199254740991, 2147483647)
         .ok()
         .ok_or("limits")?;
-    let mut adapter = adapter(rt.alloc(), limits)?;
-    follow(&rt, &mut adapter, &STARTS)?;
-    follow(&rt, &mut adapter, &TWO_REFERENCES)?;
-    assert_eq!(rt; adapter.references(), 2);
-    Ok(())
+    play(
+        &rt,
+        limits,
+        &[
+            (&STARTS, Seen::References(0)),
+            (&TWO_REFERENCES, Seen::References(2)),
+        ],
+    )
 }
 
 static NO_NUMBER_LEFT: [Step<'static>; 9] = [
@@ -385,11 +392,14 @@ fn no_number_is_left(rt: HostRuntime) -> Result<(), Fail> {
     let limits = Limits::new(8192, 4194304, 64, 65536, 4096, 9007199254740991, 2)
         .ok()
         .ok_or("limits")?;
-    let mut adapter = adapter(rt.alloc(), limits)?;
-    follow(&rt, &mut adapter, &STARTS)?;
-    follow(&rt, &mut adapter, &NO_NUMBER_LEFT)?;
-    assert_eq!(rt; adapter.references(), 0);
-    Ok(())
+    play(
+        &rt,
+        limits,
+        &[
+            (&STARTS, Seen::References(0)),
+            (&NO_NUMBER_LEFT, Seen::References(0)),
+        ],
+    )
 }
 
 static TWO_FRAMES: [Step<'static>; 5] = [
@@ -493,13 +503,15 @@ fn refused_frames_take_no_number(rt: HostRuntime) -> Result<(), Fail> {
     let limits = Limits::new(8192, 4194304, 64, 1, 4096, 9007199254740991, 2147483647)
         .ok()
         .ok_or("limits")?;
-    let mut adapter = adapter(rt.alloc(), limits)?;
-    follow(&rt, &mut adapter, &STARTS)?;
-    follow(&rt, &mut adapter, &TWO_FRAMES)?;
-    assert_eq!(rt; adapter.references(), 0);
-    follow(&rt, &mut adapter, &ONE_FRAME)?;
-    assert_eq!(rt; adapter.references(), 1);
-    Ok(())
+    play(
+        &rt,
+        limits,
+        &[
+            (&STARTS, Seen::References(0)),
+            (&TWO_FRAMES, Seen::References(0)),
+            (&ONE_FRAME, Seen::References(1)),
+        ],
+    )
 }
 
 static SETS_THREE: [Step<'static>; 4] = [
@@ -604,15 +616,16 @@ fn breakpoints_are_replaced(rt: HostRuntime) -> Result<(), Fail> {
     let limits = Limits::new(8192, 1024, 64, 65536, 4096, 9007199254740991, 2147483647)
         .ok()
         .ok_or("limits")?;
-    let mut adapter = adapter(rt.alloc(), limits)?;
-    follow(&rt, &mut adapter, &SETS_THREE)?;
-    assert_eq!(rt; adapter.breakpoints(), 3);
-    follow(&rt, &mut adapter, &SETS_NONE)?;
-    assert_eq!(rt; adapter.breakpoints(), 0);
-    follow(&rt, &mut adapter, &SETS_ONE)?;
-    follow(&rt, &mut adapter, &SETS_A_HUNDRED)?;
-    assert_eq!(rt; adapter.breakpoints(), 1);
-    Ok(())
+    play(
+        &rt,
+        limits,
+        &[
+            (&SETS_THREE, Seen::Breakpoints(3)),
+            (&SETS_NONE, Seen::Breakpoints(0)),
+            (&SETS_ONE, Seen::Breakpoints(1)),
+            (&SETS_A_HUNDRED, Seen::Breakpoints(1)),
+        ],
+    )
 }
 
 static SETS_TOO_MANY: [Step<'static>; 4] = [
@@ -652,10 +665,7 @@ fn third_breakpoint_is_refused(rt: HostRuntime) -> Result<(), Fail> {
     let limits = Limits::new(8192, 4194304, 64, 65536, 2, 9007199254740991, 2147483647)
         .ok()
         .ok_or("limits")?;
-    let mut adapter = adapter(rt.alloc(), limits)?;
-    follow(&rt, &mut adapter, &SETS_TOO_MANY)?;
-    assert_eq!(rt; adapter.breakpoints(), 0);
-    Ok(())
+    play(&rt, limits, &[(&SETS_TOO_MANY, Seen::Breakpoints(0))])
 }
 
 static COUNTS_FROM_0: [Step<'static>; 4] = [
@@ -692,6 +702,9 @@ static COUNTS_FROM_0: [Step<'static>; 4] = [
 /// A client that counts lines from 0 gets them as it asked for them.
 #[test]
 fn lines_begin_at_0(rt: HostRuntime) -> Result<(), Fail> {
-    let mut adapter = adapter(rt.alloc(), Limits::usual())?;
-    follow(&rt, &mut adapter, &COUNTS_FROM_0)
+    play(
+        &rt,
+        Limits::usual(),
+        &[(&COUNTS_FROM_0, Seen::Breakpoints(1))],
+    )
 }
