@@ -1,128 +1,160 @@
 //! For every command good and bad arguments, with what they are read as.
 
-use dap_call::{Call, CallFault, Command, SourceKey, read_call};
+use dap_call::{
+    BreakpointLocations, Call, CallFault, Command, Completions, Evaluate, Initialize, SetVariable,
+    SourceKey, read_call,
+};
+use dap_json::{Text, Tree};
 use serde_json::Value;
-use std::alloc::Global;
+use std::alloc::{AllocError, Global};
 use std::test::Fail;
 
-fn told_source(alloc: Global, source: &SourceKey) -> Result<String, Fail> {
-    Ok(match source {
+fn told_source(alloc: Global, source: &SourceKey) -> Result<String, AllocError> {
+    match source {
         SourceKey::Path(path) => {
             let path = path.as_str();
-            format!(in alloc; "path {path}")?
+            format!(in alloc; "path {path}")
         }
-        SourceKey::Reference(n) => format!(in alloc; "reference {n}")?,
-    })
+        SourceKey::Reference(n) => format!(in alloc; "reference {n}"),
+    }
+}
+
+/// A source and lines.
+fn told_lines(alloc: Global, source: &SourceKey, lines: &[u32]) -> Result<String, AllocError> {
+    let mut text = told_source(alloc, source)?;
+    for line in lines {
+        let line = *line;
+        text.push_str(format!(in alloc; " {line}")?.as_str())?;
+    }
+    Ok(text)
+}
+
+fn told_texts(alloc: Global, texts: &[Text]) -> Result<String, AllocError> {
+    let mut told = String::from_str(alloc, "texts")?;
+    for text in texts {
+        told.push_str(" ")?;
+        told.push_str(text.as_str())?;
+    }
+    Ok(told)
+}
+
+fn told_tree(alloc: Global, tree: Option<&Tree>) -> Result<String, AllocError> {
+    match tree {
+        None => String::from_str(alloc, "none"),
+        Some(tree) => tree.value().to_string(alloc),
+    }
+}
+
+fn told_initialize(alloc: Global, i: &Initialize) -> Result<String, AllocError> {
+    let id = i.adapter_id.as_str();
+    let (lines, columns) = (i.lines_start_at_1, i.columns_start_at_1);
+    let (paging, terminal) = (
+        i.supports_variable_paging,
+        i.supports_run_in_terminal_request,
+    );
+    format!(in alloc; "{id} {lines} {columns} {paging} {terminal}")
+}
+
+fn told_evaluate(alloc: Global, e: &Evaluate) -> Result<String, AllocError> {
+    let text = e.expression.as_str();
+    match e.frame_id {
+        None => format!(in alloc; "{text} none"),
+        Some(frame) => format!(in alloc; "{text} {frame}"),
+    }
+}
+
+fn told_set_variable(alloc: Global, s: &SetVariable) -> Result<String, AllocError> {
+    let (name, value) = (s.name.as_str(), s.value.as_str());
+    let reference = s.variables_reference;
+    format!(in alloc; "{reference} {name} {value}")
+}
+
+fn told_locations(alloc: Global, b: &BreakpointLocations) -> Result<String, AllocError> {
+    let source = told_source(alloc, &b.source)?;
+    let (source, line, end) = (source.as_str(), b.line, b.end_line.unwrap_or(0));
+    format!(in alloc; "{source} {line} {end}")
+}
+
+fn told_completions(alloc: Global, c: &Completions) -> Result<String, AllocError> {
+    let (text, column) = (c.text.as_str(), c.column);
+    let (frame, line) = (c.frame_id.unwrap_or(0), c.line.unwrap_or(0));
+    format!(in alloc; "{text} {column} {frame} {line}")
+}
+
+fn told_number(alloc: Global, word: &str, number: i64) -> Result<String, AllocError> {
+    format!(in alloc; "{word} {number}")
+}
+
+fn told_numbers(alloc: Global, numbers: (i64, u32, u32)) -> Result<String, AllocError> {
+    let (first, second, third) = numbers;
+    format!(in alloc; "{first} {second} {third}")
 }
 
 /// The fields of a call, for short.
-fn told(alloc: Global, call: &Call) -> Result<String, Fail> {
-    Ok(match call {
-        Call::Initialize(i) => {
-            let id = i.adapter_id.as_str();
-            let lines = i.lines_start_at_1;
-            let columns = i.columns_start_at_1;
-            let paging = i.supports_variable_paging;
-            let terminal = i.supports_run_in_terminal_request;
-            format!(in alloc; "{id} {lines} {columns} {paging} {terminal}")?
-        }
-        Call::Launch(tree) | Call::Attach(tree) => match tree {
-            None => String::from_str(alloc, "none")?,
-            Some(tree) => tree.value().to_string(alloc)?,
-        },
-        Call::ConfigurationDone => String::from_str(alloc, "configured")?,
-        Call::Disconnect => String::from_str(alloc, "disconnect")?,
-        Call::Threads => String::from_str(alloc, "threads")?,
-        Call::Terminate => String::from_str(alloc, "terminate")?,
-        Call::LoadedSources => String::from_str(alloc, "sources")?,
-        Call::Restart => String::from_str(alloc, "restart")?,
+fn told(alloc: Global, call: &Call) -> Result<String, AllocError> {
+    match call {
+        Call::Initialize(i) => told_initialize(alloc, i),
+        Call::Launch(tree) | Call::Attach(tree) => told_tree(alloc, tree.as_ref()),
+        Call::ConfigurationDone => String::from_str(alloc, "configured"),
+        Call::Disconnect => String::from_str(alloc, "disconnect"),
+        Call::Threads => String::from_str(alloc, "threads"),
+        Call::Terminate => String::from_str(alloc, "terminate"),
+        Call::LoadedSources => String::from_str(alloc, "sources"),
+        Call::Restart => String::from_str(alloc, "restart"),
         Call::Cancel { request_id } => match request_id {
-            None => String::from_str(alloc, "none")?,
-            Some(seq) => format!(in alloc; "{seq}")?,
+            None => String::from_str(alloc, "none"),
+            Some(seq) => format!(in alloc; "{seq}"),
         },
-        Call::SetBreakpoints { source, lines } => {
-            let mut text = told_source(alloc, source)?;
-            for line in lines.as_slice() {
-                let line = *line;
-                text.push_str(format!(in alloc; " {line}")?.as_str())?;
-            }
-            text
-        }
+        Call::SetBreakpoints { source, lines } => told_lines(alloc, source, lines.as_slice()),
         Call::SetFunctionBreakpoints { names: texts }
-        | Call::SetExceptionBreakpoints { filters: texts } => {
-            let mut text = String::from_str(alloc, "texts")?;
-            for item in texts.as_slice() {
-                text.push_str(" ")?;
-                text.push_str(item.as_str())?;
-            }
-            text
+        | Call::SetExceptionBreakpoints { filters: texts } => told_texts(alloc, texts.as_slice()),
+        Call::Continue { thread_id } => told_number(alloc, "continue", *thread_id),
+        Call::Next { thread_id } => told_number(alloc, "next", *thread_id),
+        Call::StepIn { thread_id } => told_number(alloc, "in", *thread_id),
+        Call::StepOut { thread_id } => told_number(alloc, "out", *thread_id),
+        Call::Pause { thread_id } => told_number(alloc, "pause", *thread_id),
+        Call::StepBack { thread_id } => told_number(alloc, "back", *thread_id),
+        Call::ReverseContinue { thread_id } => told_number(alloc, "reverse", *thread_id),
+        Call::ExceptionInfo { thread_id } => told_number(alloc, "exception", *thread_id),
+        Call::StackTrace(s) => told_numbers(alloc, (s.thread_id, s.start_frame, s.levels)),
+        Call::Scopes { frame_id } => told_number(alloc, "frame", i64::from(*frame_id)),
+        Call::Variables(v) => told_numbers(
+            alloc,
+            (i64::from(v.variables_reference), v.start, v.count),
+        ),
+        Call::Evaluate(e) => told_evaluate(alloc, e),
+        Call::Source { source_reference } => {
+            told_number(alloc, "source", i64::from(*source_reference))
         }
-        Call::Continue { thread_id } => format!(in alloc; "continue {thread_id}")?,
-        Call::Next { thread_id } => format!(in alloc; "next {thread_id}")?,
-        Call::StepIn { thread_id } => format!(in alloc; "in {thread_id}")?,
-        Call::StepOut { thread_id } => format!(in alloc; "out {thread_id}")?,
-        Call::Pause { thread_id } => format!(in alloc; "pause {thread_id}")?,
-        Call::StepBack { thread_id } => format!(in alloc; "back {thread_id}")?,
-        Call::ReverseContinue { thread_id } => format!(in alloc; "reverse {thread_id}")?,
-        Call::ExceptionInfo { thread_id } => format!(in alloc; "exception {thread_id}")?,
-        Call::StackTrace(s) => {
-            let (thread, start, levels) = (s.thread_id, s.start_frame, s.levels);
-            format!(in alloc; "{thread} {start} {levels}")?
-        }
-        Call::Scopes { frame_id } => format!(in alloc; "frame {frame_id}")?,
-        Call::Variables(v) => {
-            let (reference, start, count) = (v.variables_reference, v.start, v.count);
-            format!(in alloc; "{reference} {start} {count}")?
-        }
-        Call::Evaluate(e) => {
-            let text = e.expression.as_str();
-            match e.frame_id {
-                None => format!(in alloc; "{text} none")?,
-                Some(frame) => format!(in alloc; "{text} {frame}")?,
-            }
-        }
-        Call::Source { source_reference } => format!(in alloc; "source {source_reference}")?,
-        Call::SetVariable(s) => {
-            let (reference, name, value) = (
-                s.variables_reference,
-                s.name.as_str(),
-                s.value.as_str(),
-            );
-            format!(in alloc; "{reference} {name} {value}")?
-        }
+        Call::SetVariable(s) => told_set_variable(alloc, s),
         Call::Modules(m) => {
             let (start, count) = (m.start_module, m.module_count);
-            format!(in alloc; "{start} {count}")?
+            format!(in alloc; "{start} {count}")
         }
-        Call::BreakpointLocations(b) => {
-            let source = told_source(alloc, &b.source)?;
-            let (source, line, end) = (source.as_str(), b.line, b.end_line.unwrap_or(0));
-            format!(in alloc; "{source} {line} {end}")?
-        }
-        Call::Completions(c) => {
-            let (text, column) = (c.text.as_str(), c.column);
-            let (frame, line) = (c.frame_id.unwrap_or(0), c.line.unwrap_or(0));
-            format!(in alloc; "{text} {column} {frame} {line}")?
-        }
-    })
+        Call::BreakpointLocations(b) => told_locations(alloc, b),
+        Call::Completions(c) => told_completions(alloc, c),
+    }
 }
 
-/// Reads arguments, or none where the text is empty, and tells the call or the bad key.
-fn read(alloc: Global, command: Command, text: &str) -> Result<String, Fail> {
-    let read = if text.is_empty() {
-        read_call(alloc, command, None)
-    } else {
-        let arguments = Value::from_str(alloc, text)?;
-        read_call(alloc, command, Some(&arguments))
-    };
+/// The call, or the bad key.
+fn told_read(alloc: Global, read: Result<Call, CallFault>) -> Result<String, Fail> {
     match read {
-        Ok(call) => told(alloc, &call),
+        Ok(call) => Ok(told(alloc, &call)?),
         Err(CallFault::BadArguments { key }) => {
             let name = key.name();
             Ok(format!(in alloc; "bad {name}")?)
         }
         Err(CallFault::OutOfMemory) => Err(Fail::from("memory")),
     }
+}
+
+/// Reads arguments, or none where the text is empty, and tells the call or the bad key.
+fn read(alloc: Global, command: Command, text: &str) -> Result<String, Fail> {
+    if text.is_empty() {
+        return told_read(alloc, read_call(alloc, command, None));
+    }
+    let arguments = Value::from_str(alloc, text)?;
+    told_read(alloc, read_call(alloc, command, Some(&arguments)))
 }
 
 /// The first case that is told otherwise, or nothing.
@@ -284,6 +316,23 @@ fn breakpoints(rt: HostRuntime) -> Result<(), Fail> {
     Ok(())
 }
 
+/// Whether arguments are told as these words.
+fn is_told(alloc: Global, command: Command, text: &str, wanted: &str) -> Result<bool, Fail> {
+    Ok(read(alloc, command, text)?.as_str() == wanted)
+}
+
+/// Whether arguments are told as a word and the number of a thread.
+fn moves(
+    alloc: Global,
+    command: Command,
+    text: &str,
+    word: &str,
+    thread: &str,
+) -> Result<bool, Fail> {
+    let wanted = format!(in alloc; "{word} {thread}")?;
+    is_told(alloc, command, text, wanted.as_str())
+}
+
 #[test]
 fn threads_that_move(rt: HostRuntime) -> Result<(), Fail> {
     for (command, word) in [
@@ -301,9 +350,10 @@ fn threads_that_move(rt: HostRuntime) -> Result<(), Fail> {
             ("{\"threadId\":-9007199254740991}", "-9007199254740991"),
             ("{\"threadId\":9007199254740991}", "9007199254740991"),
         ] {
-            let told = read(rt.alloc(), command, arguments)?;
-            let wanted = format!(in rt.alloc(); "{word} {thread}")?;
-            assert_eq!(rt; told.as_str(), wanted.as_str());
+            assert!(rt;
+                moves(rt.alloc(), command, arguments, word, thread)?,
+                "{word} {thread}"
+            );
         }
         for (arguments, wanted) in [
             ("", "bad arguments"),
@@ -314,7 +364,10 @@ fn threads_that_move(rt: HostRuntime) -> Result<(), Fail> {
             ("{\"threadId\":9007199254740992}", "bad threadId"),
             ("{\"threadId\":-9007199254740992}", "bad threadId"),
         ] {
-            assert_eq!(rt; read(rt.alloc(), command, arguments)?.as_str(), wanted);
+            assert!(rt;
+                is_told(rt.alloc(), command, arguments, wanted)?,
+                "{word} {arguments}"
+            );
         }
     }
     Ok(())

@@ -55,114 +55,258 @@ fn take_oldest(table: &mut Outstanding) -> Option<Entry>
     table.take(seq)
 }
 
+// Whether the put of a request comes to this answer.
+fn answers(
+    alloc: Global,
+    table: &mut Outstanding,
+    seq: u64,
+    answer: (&'static str, u64),
+) -> Result<bool, AllocError> {
+    Ok(put(alloc, table, seq)? == answer)
+}
+
+// Whether the requests are these, by arrival.
+fn is_order(alloc: Global, table: &Outstanding, order: &[u64]) -> Result<bool, AllocError> {
+    Ok(seqs(alloc, table)?.as_slice() == order)
+}
+
+// Whether a request is kept when it is put, and is the one that is taken then.
+fn is_kept_and_taken(alloc: Global, table: &mut Outstanding, seq: u64) -> Result<bool, AllocError> {
+    Ok(match kept_and_taken(table, request(alloc, seq)?) {
+        Ok(taken) => taken.is_some_and(|entry| entry.seq == seq),
+        Err(_) => false,
+    })
+}
+
+// The seq of the request that is taken.
+fn taken(table: &mut Outstanding, seq: u64) -> Option<u64> {
+    table.take(seq).map(|entry| entry.seq)
+}
+
+// Parks a request that is kept.
+fn park(table: &mut Outstanding, seq: u64) -> bool {
+    let kept = table.contains(seq);
+    if kept {
+        table.park(seq);
+    }
+    kept
+}
+
+// Ends the parking of a request that is kept.
+fn unpark(table: &mut Outstanding, seq: u64) -> bool {
+    let kept = table.contains(seq);
+    if kept {
+        table.unpark(seq);
+    }
+    kept
+}
+
+// A request that is kept: its seq, its command, and whether it has arguments.
+fn got(table: &Outstanding, seq: u64) -> Option<(u64, &str, bool)> {
+    let entry = table.get(seq)?;
+    Some((entry.seq, entry.command.as_str(), entry.arguments.is_some()))
+}
+
+// The seq of a request that a full table hands back.
+fn handed_back(alloc: Global, seq: u64) -> Result<u64, AllocError> {
+    Ok(PutFault::Full(request(alloc, seq)?).into_entry().seq)
+}
+
+/// A call of a table, and what it answers.
+#[derive(Clone, Copy)]
+enum Op<'a> {
+    /// A request is put.
+    Put(u64, (&'static str, u64)),
+    /// The request of a seq is taken, or none is.
+    Take(u64, Option<u64>),
+    /// The oldest that is not parked is taken.
+    TakeOldest(Option<u64>),
+    /// A request is put and taken again.
+    PutAndTake(u64),
+    /// A request that is kept is parked.
+    Park(u64),
+    /// Its parking ends.
+    Unpark(u64),
+    /// The oldest that is not parked.
+    Oldest(Option<u64>),
+    /// Whether a request is kept, and whether it is parked.
+    Marks(u64, bool, bool),
+    /// The request of a seq has the command `threads` and arguments, or there is none.
+    Get(u64, bool),
+    /// All requests by arrival.
+    Order(&'a [u64]),
+    /// How many requests are kept, whether none is, and whether there is no room.
+    Count(usize, bool, bool),
+}
+
+// Whether a call answers what its row says.
+fn is_done(alloc: Global, table: &mut Outstanding, op: Op<'_>) -> Result<bool, AllocError> {
+    match op {
+        Op::Put(seq, answer) => answers(alloc, table, seq, answer),
+        Op::Take(seq, expected) => Ok(taken(table, seq) == expected),
+        Op::TakeOldest(expected) => Ok(take_oldest(table).map(|entry| entry.seq) == expected),
+        Op::PutAndTake(seq) => is_kept_and_taken(alloc, table, seq),
+        Op::Park(seq) => Ok(park(table, seq)),
+        Op::Unpark(seq) => Ok(unpark(table, seq)),
+        Op::Oldest(seq) => Ok(table.oldest_unparked() == seq),
+        Op::Marks(seq, kept, parked) => {
+            Ok((table.contains(seq), table.is_parked(seq)) == (kept, parked))
+        }
+        Op::Get(seq, true) => Ok(got(table, seq) == Some((seq, "threads", true))),
+        Op::Get(seq, false) => Ok(got(table, seq).is_none()),
+        Op::Order(order) => is_order(alloc, table, order),
+        Op::Count(len, empty, full) => {
+            Ok((table.len(), table.is_empty(), table.is_full()) == (len, empty, full))
+        }
+    }
+}
+
+// The place of the first call that answers something else, with a fresh table.
+fn first_difference(
+    alloc: Global,
+    room: usize,
+    ops: &[Op<'_>],
+) -> Result<Option<usize>, AllocError> {
+    let mut table = Outstanding::open(alloc, room)?;
+    for (place, op) in ops.iter().enumerate() {
+        if !is_done(alloc, &mut table, *op)? {
+            return Ok(Some(place));
+        }
+    }
+    Ok(None)
+}
+
+static TWO: [Op<'static>; 20] = [
+    Op::Count(0, true, false),
+    Op::Put(5, ("kept", 0)),
+    Op::Put(9, ("kept", 0)),
+    Op::Put(9, ("Repeated", 9)),
+    Op::Put(7, ("Full", 7)),
+    Op::Count(2, false, true),
+    Op::Take(7, None),
+    Op::Take(5, Some(5)),
+    Op::Put(5, ("kept", 0)),
+    Op::Order(&[9, 5]),
+    Op::Oldest(Some(9)),
+    Op::Park(9),
+    Op::Oldest(Some(5)),
+    Op::Marks(5, true, false),
+    Op::Marks(7, false, false),
+    Op::Marks(9, true, true),
+    Op::Park(5),
+    Op::Oldest(None),
+    Op::Unpark(9),
+    Op::Oldest(Some(9)),
+];
+
 #[test]
 fn two_requests(rt: HostRuntime) -> Result<(), Fail> {
-    let mut table = Outstanding::open(rt.alloc(), 2)?;
-    assert!(rt; table.is_empty() && !table.is_full());
-    for (seq, answer) in [
-        (5, ("kept", 0)),
-        (9, ("kept", 0)),
-        (9, ("Repeated", 9)),
-        (7, ("Full", 7)),
-    ] {
-        assert_eq!(rt; put(rt.alloc(), &mut table, seq)?, answer, "at {seq}");
-    }
-    assert!(rt; table.is_full() && !table.is_empty());
-    assert_eq!(rt; table.take(7).map(|entry| entry.seq), None);
-    assert_eq!(rt; table.take(5).map(|entry| entry.seq), Some(5));
-    assert_eq!(rt; put(rt.alloc(), &mut table, 5)?, ("kept", 0));
-    assert_eq!(rt; seqs(rt.alloc(), &table)?.as_slice(), [9, 5].as_slice());
-
-    assert_eq!(rt; table.oldest_unparked(), Some(9));
-    assert!(rt; table.contains(9));
-    table.park(9);
-    assert_eq!(rt; table.oldest_unparked(), Some(5));
-    for (seq, kept, parked) in [(5, true, false), (7, false, false), (9, true, true)] {
-        assert_eq!(rt; table.contains(seq), kept, "at {seq}");
-        assert_eq!(rt; table.is_parked(seq), parked, "at {seq}");
-    }
-    assert!(rt; table.contains(5));
-    table.park(5);
-    assert_eq!(rt; table.oldest_unparked(), None);
-    assert!(rt; table.contains(9));
-    table.unpark(9);
-    assert_eq!(rt; table.oldest_unparked(), Some(9));
+    assert_eq!(rt; first_difference(rt.alloc(), 2, &TWO)?, None);
     Ok(())
 }
+
+static IN_ORDER: [Op<'static>; 13] = [
+    Op::Put(1, ("kept", 0)),
+    Op::Put(2, ("kept", 0)),
+    Op::Put(3, ("kept", 0)),
+    Op::Take(2, Some(2)),
+    Op::Count(2, false, false),
+    Op::Put(4, ("kept", 0)),
+    Op::Order(&[1, 3, 4]),
+    Op::Get(3, true),
+    Op::Get(4, true),
+    Op::Get(2, false),
+    Op::TakeOldest(Some(1)),
+    Op::PutAndTake(6),
+    Op::Order(&[3, 4]),
+];
 
 #[test]
 fn keeps_the_order(rt: HostRuntime) -> Result<(), Fail> {
-    let mut table = Outstanding::open(rt.alloc(), 3)?;
-    for seq in [1, 2, 3] {
-        assert_eq!(rt; put(rt.alloc(), &mut table, seq)?.0, "kept");
-    }
-    assert_eq!(rt; table.take(2).map(|entry| entry.seq), Some(2));
-    assert_eq!(rt; table.len(), 2);
-    assert_eq!(rt; put(rt.alloc(), &mut table, 4)?.0, "kept");
-    assert_eq!(rt; seqs(rt.alloc(), &table)?.as_slice(), [1, 3, 4].as_slice());
-    assert_eq!(rt;
-        table.get(3).map(|entry| entry.command.as_str()),
-        Some("threads")
-    );
-    assert!(rt; table.get(4).is_some_and(|entry| entry.arguments.is_some()));
-    assert!(rt; table.get(2).is_none());
-
-    assert_eq!(rt; take_oldest(&mut table).map(|entry| entry.seq), Some(1));
-    match kept_and_taken(&mut table, request(rt.alloc(), 6)?) {
-        Ok(taken) => assert_eq!(rt; taken.map(|entry| entry.seq), Some(6)),
-        Err(_) => assert!(rt; false, "6 is kept"),
-    }
-    assert_eq!(rt; seqs(rt.alloc(), &table)?.as_slice(), [3, 4].as_slice());
-
-    let refused = PutFault::Full(request(rt.alloc(), 8)?);
-    assert_eq!(rt; refused.into_entry().seq, 8);
+    assert_eq!(rt; first_difference(rt.alloc(), 3, &IN_ORDER)?, None);
+    assert_eq!(rt; handed_back(rt.alloc(), 8)?, 8);
     Ok(())
 }
+
+static SLOTS: [Op<'static>; 32] = [
+    Op::Put(7, ("kept", 0)),
+    Op::Order(&[7]),
+    Op::Put(3, ("kept", 0)),
+    Op::Order(&[7, 3]),
+    Op::Put(5, ("kept", 0)),
+    Op::Order(&[7, 3, 5]),
+    Op::Put(9, ("Full", 9)),
+    Op::Order(&[7, 3, 5]),
+    Op::Take(7, Some(7)),
+    Op::Marks(7, false, false),
+    Op::Get(7, false),
+    Op::Put(7, ("kept", 0)),
+    Op::Get(7, true),
+    Op::Order(&[3, 5, 7]),
+    Op::Take(5, Some(5)),
+    Op::Marks(5, false, false),
+    Op::Get(5, false),
+    Op::Put(4, ("kept", 0)),
+    Op::Get(4, true),
+    Op::Order(&[3, 7, 4]),
+    Op::Take(4, Some(4)),
+    Op::Marks(4, false, false),
+    Op::Get(4, false),
+    Op::Put(8, ("kept", 0)),
+    Op::Get(8, true),
+    Op::Order(&[3, 7, 8]),
+    Op::Take(3, Some(3)),
+    Op::Marks(3, false, false),
+    Op::Get(3, false),
+    Op::Put(1, ("kept", 0)),
+    Op::Get(1, true),
+    Op::Order(&[7, 8, 1]),
+];
 
 // A slot is used again, under the number that it had and under another: what is found is what was put last.
 #[test]
 fn slots_are_used_again(rt: HostRuntime) -> Result<(), Fail> {
-    let mut table = Outstanding::open(rt.alloc(), 3)?;
-    for (seq, answer, order) in [
-        (7, "kept", [7].as_slice()),
-        (3, "kept", [7, 3].as_slice()),
-        (5, "kept", [7, 3, 5].as_slice()),
-        (9, "Full", [7, 3, 5].as_slice()),
-    ] {
-        assert_eq!(rt; put(rt.alloc(), &mut table, seq)?.0, answer);
-        assert_eq!(rt; seqs(rt.alloc(), &table)?.as_slice(), order);
-    }
-    for (out, again, order) in [
-        (7, 7, [3, 5, 7].as_slice()),
-        (5, 4, [3, 7, 4].as_slice()),
-        (4, 8, [3, 7, 8].as_slice()),
-        (3, 1, [7, 8, 1].as_slice()),
-    ] {
-        assert_eq!(rt; table.take(out).map(|entry| entry.seq), Some(out));
-        assert!(rt; !table.contains(out) && table.get(out).is_none());
-        assert_eq!(rt; put(rt.alloc(), &mut table, again)?.0, "kept");
-        assert_eq!(rt; table.get(again).map(|entry| entry.seq), Some(again));
-        assert_eq!(rt; seqs(rt.alloc(), &table)?.as_slice(), order);
-    }
+    assert_eq!(rt; first_difference(rt.alloc(), 3, &SLOTS)?, None);
     Ok(())
+}
+
+// Puts the requests 1 to 4096, up to the first that is not kept; whether all are, and the first is the oldest.
+fn fill(alloc: Global, table: &mut Outstanding) -> Result<bool, AllocError> {
+    for seq in 1..4097u64 {
+        if put(alloc, table, seq)? != ("kept", 0) {
+            return Ok(false);
+        }
+    }
+    Ok(table.is_full() && table.in_order().next().is_some_and(|entry| entry.seq == 1))
+}
+
+// Takes them, by arrival or in reverse, up to the first that is not what it should be; whether none is left.
+fn drain(table: &mut Outstanding, reverse: bool) -> bool {
+    for step in 1..4097u64 {
+        let seq = if reverse { 4097 - step } else { step };
+        let oldest = reverse || table.oldest_unparked() == Some(seq);
+        if !oldest || taken(table, seq) != Some(seq) {
+            return false;
+        }
+    }
+    table.is_empty()
+}
+
+// What differs where the requests come and go, by arrival and then in reverse.
+fn come_and_go(alloc: Global) -> Result<Option<&'static str>, AllocError> {
+    let mut table = Outstanding::open(alloc, 4096)?;
+    for (reverse, name) in [(false, "by arrival"), (true, "in reverse")] {
+        if !fill(alloc, &mut table)? || !drain(&mut table, reverse) {
+            return Ok(Some(name));
+        }
+    }
+    Ok(None)
 }
 
 // As many requests as an end may keep, answered by arrival and in reverse.
 #[test]
 fn four_thousand_requests(rt: HostRuntime) -> Result<(), Fail> {
-    let mut table = Outstanding::open(rt.alloc(), 4096)?;
-    for reverse in [false, true] {
-        for seq in 1..4097u64 {
-            assert!(rt; put(rt.alloc(), &mut table, seq)?.0 == "kept");
-        }
-        assert!(rt; table.is_full() && table.in_order().next().is_some_and(|entry| entry.seq == 1));
-        for step in 1..4097u64 {
-            let seq = if reverse { 4097 - step } else { step };
-            assert!(rt; reverse || table.oldest_unparked() == Some(seq));
-            assert!(rt; table.take(seq).is_some_and(|entry| entry.seq == seq));
-        }
-        assert!(rt; table.is_empty());
-    }
+    assert_eq!(rt; come_and_go(rt.alloc())?, None);
     Ok(())
 }
 

@@ -9,24 +9,33 @@ use serde_json::Value;
 use std::alloc::Global;
 use std::test::Fail;
 
-/// What a command's arguments are written as once they were read, or nothing.
-fn written(alloc: Global, command: Command, arguments: &str) -> Result<String, Fail> {
+/// The call that a command's arguments are read as; none are given as no text.
+fn read(alloc: Global, command: Command, arguments: &str) -> Result<Result<Call, CallFault>, Fail> {
     let value = if arguments.is_empty() {
         Value::Null
     } else {
         Value::from_str(alloc, arguments)?
     };
-    let call = match read_call(alloc, command, Some(&value)) {
-        Ok(call) => call,
-        Err(CallFault::BadArguments { key }) => return Ok(String::from_str(alloc, key.name())?),
-        Err(CallFault::OutOfMemory) => return Ok(String::from_str(alloc, "memory")?),
-    };
+    Ok(read_call(alloc, command, Some(&value)))
+}
+
+/// What a call of a command is written as.
+fn written_call(alloc: Global, command: Command, call: &Call) -> Result<String, Fail> {
     if !call.plain() || call.command() != command {
         return Ok(String::from_str(alloc, "not plain")?);
     }
-    match write_call(alloc, &call)? {
+    match write_call(alloc, call)? {
         None => Ok(String::new(alloc)),
         Some(value) => Ok(value.to_string(alloc)?),
+    }
+}
+
+/// What a command's arguments are written as once they were read, or nothing.
+fn written(alloc: Global, command: Command, arguments: &str) -> Result<String, Fail> {
+    match read(alloc, command, arguments)? {
+        Ok(call) => written_call(alloc, command, &call),
+        Err(CallFault::BadArguments { key }) => Ok(String::from_str(alloc, key.name())?),
+        Err(CallFault::OutOfMemory) => Ok(String::from_str(alloc, "memory")?),
     }
 }
 
@@ -209,17 +218,51 @@ fn tree(alloc: Global, text: &str) -> Result<Option<Tree>, Fail> {
     Ok(Some(Tree::new(Value::from_str(alloc, text)?)))
 }
 
+/// The arguments of a call that starts a run.
+#[derive(Clone, Copy)]
+enum Kept<'a> {
+    Nothing,
+    /// A tree of arrays that nests so deep.
+    Nested(usize),
+    Written(&'a str),
+}
+
+fn arguments_of(alloc: Global, kept: Kept<'_>) -> Result<Option<Tree>, Fail> {
+    match kept {
+        Kept::Nothing => Ok(None),
+        Kept::Nested(deep) => nested(alloc, deep),
+        Kept::Written(text) => tree(alloc, text),
+    }
+}
+
+/// Whether a launch with these arguments is plain.
+fn is_plain_launch(alloc: Global, arguments: Kept<'_>) -> Result<bool, Fail> {
+    Ok(Call::Launch(arguments_of(alloc, arguments)?).plain())
+}
+
+/// Whether an attach with these arguments is plain.
+fn is_plain_attach(alloc: Global, arguments: Kept<'_>) -> Result<bool, Fail> {
+    Ok(Call::Attach(arguments_of(alloc, arguments)?).plain())
+}
+
 #[test]
 fn trees_that_are_kept(rt: HostRuntime) -> Result<(), Fail> {
-    let alloc = rt.alloc();
-    assert!(rt; Call::Launch(None).plain());
-    assert!(rt; Call::Launch(nested(alloc, 100)?).plain());
-    assert!(rt; !Call::Launch(nested(alloc, 101)?).plain());
-    assert!(rt; Call::Attach(nested(alloc, 100)?).plain());
-    assert!(rt; !Call::Attach(nested(alloc, 101)?).plain());
-    assert!(rt; !Call::Launch(tree(alloc, "{\"a\":1.5}")?).plain());
-    assert!(rt; !Call::Launch(tree(alloc, "null")?).plain());
-    assert!(rt; !Call::Attach(tree(alloc, "[]")?).plain());
+    for (arguments, plain) in [
+        (Kept::Nothing, true),
+        (Kept::Nested(100), true),
+        (Kept::Nested(101), false),
+        (Kept::Written("{\"a\":1.5}"), false),
+        (Kept::Written("null"), false),
+    ] {
+        assert_eq!(rt; is_plain_launch(rt.alloc(), arguments)?, plain);
+    }
+    for (arguments, plain) in [
+        (Kept::Nested(100), true),
+        (Kept::Nested(101), false),
+        (Kept::Written("[]"), false),
+    ] {
+        assert_eq!(rt; is_plain_attach(rt.alloc(), arguments)?, plain);
+    }
     Ok(())
 }
 
