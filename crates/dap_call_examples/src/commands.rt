@@ -146,10 +146,9 @@ fn capabilities(rt: HostRuntime) -> Result<(), Fail> {
     assert!(rt; !before.allows(Command::Terminate) && before.has(Gate::StepBack));
     assert!(rt; is_written(rt.alloc(), before, "{\"supportsStepBack\":true}")?);
     let after = updated(rt.alloc(), before, "{\"supportsStepBack\":false}")?;
-    assert!(rt; !after.allows(Command::StepBack));
-    assert_eq!(rt; after, Capabilities::read(None));
+    assert!(rt; !after.allows(Command::StepBack) && after == Capabilities::read(None));
     assert_eq!(rt; first_difference(rt.alloc(), after)?, None);
-    assert_eq!(rt; offered(rt.alloc(), "[true]")?, Capabilities::read(None));
+    assert!(rt; offered(rt.alloc(), "[true]")? == Capabilities::read(None));
     Ok(())
 }
 
@@ -172,13 +171,22 @@ fn gives_holders(
     Ok(numbers.as_slice() == wanted)
 }
 
-static SCOPES: &str =
+const SCOPES: &str =
     "{\"scopes\":[{\"name\":\"Locals\",\"variablesReference\":2},{\"name\":\"None\",\"variablesReference\":0},{\"variablesReference\":5}]}";
 
-static VARIABLES: &str =
+const VARIABLES: &str =
     "{\"variables\":[{\"name\":\"x\",\"variablesReference\":0},{\"name\":\"p\",\"variablesReference\":3}]}";
 
-static RESULT: &str = "{\"result\":\"P\",\"variablesReference\":3}";
+const RESULT: &str = "{\"result\":\"P\",\"variablesReference\":3}";
+
+static HOLDERS: [(Command, &str, &[u32]); 6] = [
+    (Command::Scopes, SCOPES, &[2, 5]),
+    (Command::Variables, VARIABLES, &[3]),
+    (Command::Evaluate, RESULT, &[3]),
+    (Command::SetVariable, RESULT, &[3]),
+    (Command::Threads, RESULT, &[]),
+    (Command::Variables, SCOPES, &[]),
+];
 
 /// The references in bodies as adapters write them, in order.
 #[test]
@@ -186,15 +194,7 @@ fn references(rt: HostRuntime) -> Result<(), Fail> {
     let frames =
         "{\"stackFrames\":[{\"id\":7,\"name\":\"f\"},{\"name\":\"g\"},{\"id\":0},{\"id\":-1},{\"id\":2147483648},{\"id\":2147483647}],\"totalFrames\":9}";
     assert!(rt; gives_frames(rt.alloc(), frames, &[7, 0, 2147483647])?);
-    let cases: [(Command, &str, &[u32]); 6] = [
-        (Command::Scopes, SCOPES, &[2, 5]),
-        (Command::Variables, VARIABLES, &[3]),
-        (Command::Evaluate, RESULT, &[3]),
-        (Command::SetVariable, RESULT, &[3]),
-        (Command::Threads, RESULT, &[]),
-        (Command::Variables, SCOPES, &[]),
-    ];
-    for (command, body, wanted) in &cases {
+    for (command, body, wanted) in &HOLDERS {
         assert!(rt;
             gives_holders(rt.alloc(), *command, body, wanted)?,
             "{body}"

@@ -136,15 +136,22 @@ fn told(alloc: Global, call: &Call) -> Result<String, AllocError> {
     }
 }
 
+/// The bad key.
+fn told_fault(alloc: Global, fault: CallFault) -> Result<String, Fail> {
+    match fault {
+        CallFault::BadArguments { key } => {
+            let name = key.name();
+            Ok(format!(in alloc; "bad {name}")?)
+        }
+        CallFault::OutOfMemory => Err(Fail::from("memory")),
+    }
+}
+
 /// The call, or the bad key.
 fn told_read(alloc: Global, read: Result<Call, CallFault>) -> Result<String, Fail> {
     match read {
         Ok(call) => Ok(told(alloc, &call)?),
-        Err(CallFault::BadArguments { key }) => {
-            let name = key.name();
-            Ok(format!(in alloc; "bad {name}")?)
-        }
-        Err(CallFault::OutOfMemory) => Err(Fail::from("memory")),
+        Err(fault) => told_fault(alloc, fault),
     }
 }
 
@@ -316,6 +323,24 @@ fn breakpoints(rt: HostRuntime) -> Result<(), Fail> {
     Ok(())
 }
 
+/// Arguments with the number of a thread.
+static THREADS: [(&str, &str); 3] = [
+    ("{\"threadId\":1}", "1"),
+    ("{\"threadId\":-9007199254740991}", "-9007199254740991"),
+    ("{\"threadId\":9007199254740991}", "9007199254740991"),
+];
+
+/// Arguments without one, and what they are told as.
+static NO_THREADS: [(&str, &str); 7] = [
+    ("", "bad arguments"),
+    ("null", "bad arguments"),
+    ("{}", "bad threadId"),
+    ("{\"threadId\":null}", "bad threadId"),
+    ("{\"threadId\":1.0}", "bad threadId"),
+    ("{\"threadId\":9007199254740992}", "bad threadId"),
+    ("{\"threadId\":-9007199254740992}", "bad threadId"),
+];
+
 /// Whether arguments are told as these words.
 fn is_told(alloc: Global, command: Command, text: &str, wanted: &str) -> Result<bool, Fail> {
     Ok(read(alloc, command, text)?.as_str() == wanted)
@@ -333,6 +358,21 @@ fn moves(
     is_told(alloc, command, text, wanted.as_str())
 }
 
+/// The first arguments of a command of this word that are told otherwise.
+fn first_other(alloc: Global, command: Command, word: &str) -> Result<Option<&'static str>, Fail> {
+    for (arguments, thread) in &THREADS {
+        if !moves(alloc, command, arguments, word, thread)? {
+            return Ok(Some(arguments));
+        }
+    }
+    for (arguments, wanted) in &NO_THREADS {
+        if !is_told(alloc, command, arguments, wanted)? {
+            return Ok(Some(arguments));
+        }
+    }
+    Ok(None)
+}
+
 #[test]
 fn threads_that_move(rt: HostRuntime) -> Result<(), Fail> {
     for (command, word) in [
@@ -345,30 +385,7 @@ fn threads_that_move(rt: HostRuntime) -> Result<(), Fail> {
         (Command::ReverseContinue, "reverse"),
         (Command::ExceptionInfo, "exception"),
     ] {
-        for (arguments, thread) in [
-            ("{\"threadId\":1}", "1"),
-            ("{\"threadId\":-9007199254740991}", "-9007199254740991"),
-            ("{\"threadId\":9007199254740991}", "9007199254740991"),
-        ] {
-            assert!(rt;
-                moves(rt.alloc(), command, arguments, word, thread)?,
-                "{word} {thread}"
-            );
-        }
-        for (arguments, wanted) in [
-            ("", "bad arguments"),
-            ("null", "bad arguments"),
-            ("{}", "bad threadId"),
-            ("{\"threadId\":null}", "bad threadId"),
-            ("{\"threadId\":1.0}", "bad threadId"),
-            ("{\"threadId\":9007199254740992}", "bad threadId"),
-            ("{\"threadId\":-9007199254740992}", "bad threadId"),
-        ] {
-            assert!(rt;
-                is_told(rt.alloc(), command, arguments, wanted)?,
-                "{word} {arguments}"
-            );
-        }
+        assert_eq!(rt; first_other(rt.alloc(), command, word)?, None, "at {word}");
     }
     Ok(())
 }

@@ -245,24 +245,35 @@ fn is_plain_attach(alloc: Global, arguments: Kept<'_>) -> Result<bool, Fail> {
     Ok(Call::Attach(arguments_of(alloc, arguments)?).plain())
 }
 
+/// A launch or an attach with these arguments, and whether it is plain.
+static TREES: [(Command, Kept<'static>, bool); 8] = [
+    (Command::Launch, Kept::Nothing, true),
+    (Command::Launch, Kept::Nested(100), true),
+    (Command::Launch, Kept::Nested(101), false),
+    (Command::Attach, Kept::Nested(100), true),
+    (Command::Attach, Kept::Nested(101), false),
+    (Command::Launch, Kept::Written("{\"a\":1.5}"), false),
+    (Command::Launch, Kept::Written("null"), false),
+    (Command::Attach, Kept::Written("[]"), false),
+];
+
+/// The place of the first that is plain and should not be, or the other way round.
+fn first_difference(alloc: Global) -> Result<Option<usize>, Fail> {
+    for (place, (command, arguments, wanted)) in TREES.iter().enumerate() {
+        let plain = match command {
+            Command::Attach => is_plain_attach(alloc, *arguments)?,
+            _ => is_plain_launch(alloc, *arguments)?,
+        };
+        if plain != *wanted {
+            return Ok(Some(place));
+        }
+    }
+    Ok(None)
+}
+
 #[test]
 fn trees_that_are_kept(rt: HostRuntime) -> Result<(), Fail> {
-    for (arguments, plain) in [
-        (Kept::Nothing, true),
-        (Kept::Nested(100), true),
-        (Kept::Nested(101), false),
-        (Kept::Written("{\"a\":1.5}"), false),
-        (Kept::Written("null"), false),
-    ] {
-        assert_eq!(rt; is_plain_launch(rt.alloc(), arguments)?, plain);
-    }
-    for (arguments, plain) in [
-        (Kept::Nested(100), true),
-        (Kept::Nested(101), false),
-        (Kept::Written("[]"), false),
-    ] {
-        assert_eq!(rt; is_plain_attach(rt.alloc(), arguments)?, plain);
-    }
+    assert_eq!(rt; first_difference(rt.alloc())?, None);
     Ok(())
 }
 
