@@ -1,5 +1,6 @@
 //! A client's calls with their answers, or want of memory.
 
+use crate::tests::{judge, refused};
 use dap_call::{Call, Initialize, StackTrace};
 use dap_client::{Client, ClientFault, SendFault};
 use dap_frame::Limits;
@@ -60,10 +61,7 @@ fn sends(alloc: Global, client: &mut Client, call: &Call, wanted: &[u8]) -> Opti
     match client.send(alloc, call) {
         Ok(sent) => Some(sent.bytes.as_slice() == wanted),
         Err(SendFault::OutOfMemory) => {
-            if client.outstanding() == outstanding && client.phase() == phase {
-                return None;
-            }
-            Some(false)
+            refused(client.outstanding() == outstanding && client.phase() == phase)
         }
         Err(_) => Some(false),
     }
@@ -78,10 +76,7 @@ fn takes(alloc: Global, client: &mut Client, piece: &[u8], wanted: &[u8]) -> Opt
             let is_closed = client.take(alloc, b"x").err() == Some(ClientFault::OutOfMemory)
                 && client.send(alloc, &Call::Threads).err() == Some(SendFault::Ended);
             let is_same = client.outstanding() == outstanding && client.references() == references;
-            if is_closed && is_same && client.held() == 0 {
-                return None;
-            }
-            Some(false)
+            refused(is_closed && is_same && client.held() == 0)
         }
         Err(_) => Some(false),
     }
@@ -116,9 +111,5 @@ fn plays(alloc: Global) -> Option<bool> {
 /// Each call hands out what is due, or tells that memory was refused.
 #[test]
 fn client_calls(rt: HostRuntime) -> Result<(), Fail> {
-    match plays(rt.alloc()) {
-        Some(is_right) => assert!(rt; is_right),
-        None => eprintln!(rt; "refused")?,
-    }
-    Ok(())
+    judge(&rt, plays(rt.alloc()))
 }

@@ -1,6 +1,6 @@
-//! Examples with their answers, or want of memory.
+//! Examples with their answers, or want of memory: each tells whether it is right, or nothing where memory was refused.
 
-ghost use Rattle.std.specs.Prelude.{◌≡◌, ◌≤◌, IfOk, IfSome};
+ghost use Rattle.std.specs.Prelude.{◌≡◌, ◌≤◌};
 ghost use Rattle.dap_debuggee.specs.declared.answers.State.{State};
 
 use dap_adapter::{Adapter, AdapterFault, Phase, ServeFault, Turned, serve};
@@ -10,8 +10,8 @@ use dap_debuggee::{Debuggee, DebuggeeFault, Happening, Recorded, RecordingFault}
 use dap_frame::{Fed, Frames, Limits, write_frame};
 use dap_json::{parse, write};
 use dap_message::{
-    BodyFault, Breakpoint, Failure, Kind, Message, Scope, Source, StackFrame, Text, Thread,
-    Variable, body_evaluate, body_failure, body_loaded_sources, body_output, body_scopes,
+    BodyFault, Breakpoint, Failure, Message, Scope, Source, StackFrame, Text, Thread, Variable,
+    body_evaluate, body_failure, body_loaded_sources, body_output, body_scopes,
     body_set_breakpoints, body_source, body_stack_trace, body_stopped, body_threads,
     body_variables, read_message, write_message,
 };
@@ -21,11 +21,34 @@ use serde_json::Value;
 use std::alloc::{AllocError, Global};
 use std::io;
 use std::io::{Read, Write};
+use std::marker::Model;
 use std::test::Fail;
 
-/// What a test notes where an allocation was refused.
-pub(crate) fn note(rt: &HostRuntime) -> io::Result<()> {
-    eprintln!(rt; "refused")
+/// Fails a test that is not right, and notes where an allocation was refused.
+pub(crate) fn judge(rt: &HostRuntime, outcome: Option<bool>) -> Result<(), Fail> {
+    match outcome {
+        Some(true) => Ok(()),
+        Some(false) => Err(Fail::from("not right")),
+        None => Ok(eprintln!(rt; "refused")?),
+    }
+}
+
+/// Want of memory, if nothing else has happened.
+pub(crate) fn refused(is_same: bool) -> Option<bool> {
+    if is_same { None } else { Some(false) }
+}
+
+/// Outcomes as one: wrong where one is, and else want of memory where one is.
+fn all(outcomes: &[Option<bool>]) -> Option<bool> {
+    let mut all = Some(true);
+    for outcome in outcomes {
+        match outcome {
+            Some(true) => {}
+            Some(false) => return Some(false),
+            None => all = None,
+        }
+    }
+    all
 }
 
 static INPUT: &[u8; 171] =
@@ -85,11 +108,10 @@ impl Write for Kept {
     }
 }
 
-/// A session is served, or a front of its answers is written.
-fn is_served(rt: &HostRuntime, session: &[u8], answers: &[u8]) -> Result<(), Fail> {
-    let Some(debuggee) = recorded(rt)? else {
-        return Ok(());
-    };
+/// Whether a session is served; nothing where memory was refused, and a front of its answers is written.
+fn serves(alloc: Global, debuggee: Recorded, session: &[u8], answers: &[u8]) -> Option<bool>
+    requires { debuggee.state ≡ State.NotStarted }
+{
     let mut pipe = Pipe {
         reader: Whole { rest: session },
         writer: Kept {
@@ -97,33 +119,32 @@ fn is_served(rt: &HostRuntime, session: &[u8], answers: &[u8]) -> Result<(), Fai
             len: 0,
         },
     };
-    let end = serve(rt.alloc(), &mut pipe, debuggee, Limits::usual(), 10);
+    let end = serve(alloc, &mut pipe, debuggee, Limits::usual(), 10);
     let Pipe { reader: _, writer } = pipe;
     let written = &writer.bytes[..writer.len];
     match end {
-        Ok(served) => {
-            if served.phase != Phase::Ended || written != answers {
-                return Err(Fail::from("other answers"));
-            }
-            Ok(())
-        }
-        Err(fault) => {
-            if fault != ServeFault::OutOfMemory || !answers.starts_with(written) {
-                return Err(Fail::from("another fault, or no front of the answers"));
-            }
-            Ok(note(rt)?)
-        }
+        Ok(served) => Some(served.phase == Phase::Ended && written == answers),
+        Err(ServeFault::OutOfMemory) => refused(answers.starts_with(written)),
+        Err(_) => Some(false),
+    }
+}
+
+/// Likewise from the recording on.
+fn is_served(alloc: Global, session: &[u8], answers: &[u8]) -> Option<bool> {
+    match Recorded::read(alloc, RECORDING) {
+        Ok(debuggee) => serves(alloc, debuggee, session, answers),
+        Err(fault) => refused(fault == RecordingFault::OutOfMemory),
     }
 }
 
 #[test]
 fn serving(rt: HostRuntime) -> Result<(), Fail> {
-    is_served(&rt, SESSION, ANSWERS)
+    judge(&rt, is_served(rt.alloc(), SESSION, ANSWERS))
 }
 
 #[test]
 fn serving_a_stop(rt: HostRuntime) -> Result<(), Fail> {
-    is_served(&rt, LOOKS, SEEN)
+    judge(&rt, is_served(rt.alloc(), LOOKS, SEEN))
 }
 
 /// A call of an adapter.
@@ -135,29 +156,76 @@ enum Act<'a> {
     Poll,
 }
 
-/// What a call hands out; an idle turn nothing.
-fn hand_out(
-    alloc: Global,
-    adapter: &mut Adapter<Recorded>,
-    act: Act<'_>,
-) -> Result<Vec<u8>, AdapterFault> {
-    match act {
-        Act::Take(bytes) => Ok(adapter.take(alloc, bytes)?.bytes),
-        Act::Turn => match adapter.turn(alloc)? {
-            Turned::Idle => Ok(Vec::new(alloc)),
-            Turned::Done { bytes } => Ok(bytes),
-        },
-        Act::Poll => adapter.poll(alloc),
-    }
+/// An adapter of the recording. A contract sees nothing of it.
+#[derive(Drop)]
+struct Player {
+    adapter: Adapter<Recorded>,
 }
 
-/// Whether each call answers want of memory, and nothing is held.
-fn is_closed(alloc: Global, adapter: &mut Adapter<Recorded>) -> bool {
-    let fault = AdapterFault::OutOfMemory;
-    adapter.take(alloc, b"x").err() == Some(fault)
-        && adapter.turn(alloc).err() == Some(fault)
-        && adapter.poll(alloc).err() == Some(fault)
-        && adapter.held() == 0
+impl Model for Player {
+    ghost use Rattle.std.specs.Prelude.{ℕ};
+
+    ghost Value = { ℕ };
+
+    ghost view = { λ _. 0 };
+}
+
+impl Player {
+    fn open(alloc: Global) -> Result<Player, RecordingFault> {
+        let debuggee = Recorded::read(alloc, RECORDING)?;
+        match Adapter::open(alloc, Limits::usual(), debuggee) {
+            Ok(adapter) => Ok(Player { adapter }),
+            Err(_) => Err(RecordingFault::OutOfMemory),
+        }
+    }
+
+    /// What a call hands out; an idle turn nothing.
+    fn call(&mut self, alloc: Global, act: Act<'_>) -> Result<Vec<u8>, AdapterFault> {
+        match act {
+            Act::Take(bytes) => Ok(self.adapter.take(alloc, bytes)?.bytes),
+            Act::Turn => match self.adapter.turn(alloc)? {
+                Turned::Idle => Ok(Vec::new(alloc)),
+                Turned::Done { bytes } => Ok(bytes),
+            },
+            Act::Poll => self.adapter.poll(alloc),
+        }
+    }
+
+    /// Whether a call answers want of memory.
+    fn is_refused(&mut self, alloc: Global, act: Act<'_>) -> bool {
+        self.call(alloc, act).err() == Some(AdapterFault::OutOfMemory)
+    }
+
+    /// Whether each call does, and nothing is held.
+    fn is_closed(&mut self, alloc: Global) -> bool {
+        self.is_refused(alloc, Act::Take(b"x"))
+            && self.is_refused(alloc, Act::Turn)
+            && self.is_refused(alloc, Act::Poll)
+            && self.adapter.held() == 0
+    }
+
+    /// Whether a call hands out these bytes; nothing where memory was refused, and closed the adapter with its requests as
+    /// they were.
+    fn does(&mut self, alloc: Global, act: Act<'_>, wanted: &[u8]) -> Option<bool> {
+        let kept = self.adapter.kept();
+        match self.call(alloc, act) {
+            Ok(bytes) => Some(bytes.as_slice() == wanted),
+            Err(AdapterFault::OutOfMemory) => {
+                refused(self.is_closed(alloc) && self.adapter.kept() == kept)
+            }
+            Err(_) => Some(false),
+        }
+    }
+
+    /// Whether all calls do, and lead to a stop.
+    fn stops(&mut self, alloc: Global) -> Option<bool> {
+        for (act, wanted) in &STEPS {
+            if !self.does(alloc, *act, *wanted)? {
+                return Some(false);
+            }
+        }
+        Some(self.adapter.phase() == Phase::Stopped)
+    }
 }
 
 /// Calls, and what each hands out.
@@ -205,89 +273,86 @@ static STEPS: [(Act<'static>, &[u8]); 9] = [
     ),
 ];
 
+fn calls(alloc: Global) -> Option<bool> {
+    match Player::open(alloc) {
+        Ok(mut player) => {
+            let outcome = player.stops(alloc);
+            // The proof of a call is shorter than that of a value that goes out of scope.
+            drop(player);
+            outcome
+        }
+        Err(fault) => refused(fault == RecordingFault::OutOfMemory),
+    }
+}
+
 /// Each call hands out what is due, or closes the adapter with its requests as they were.
 #[test]
 fn adapter_calls(rt: HostRuntime) -> Result<(), Fail> {
-    let Some(debuggee) = recorded(&rt)? else {
-        return Ok(());
+    judge(&rt, calls(rt.alloc()))
+}
+
+fn frames_input(alloc: Global) -> Option<bool> {
+    let mut frames = Frames::open(alloc, &Limits::usual()).ok()?;
+    let wanted = Fed {
+        used: 103,
+        ready: true,
     };
-    let Ok(mut adapter) = Adapter::open(rt.alloc(), Limits::usual(), debuggee) else {
-        note(&rt)?;
-        return Ok(());
-    };
-    for (act, wanted) in &STEPS {
-        let kept = adapter.kept();
-        match hand_out(rt.alloc(), &mut adapter, *act) {
-            Ok(bytes) => assert!(rt; bytes.as_slice() == *wanted),
-            Err(fault) => {
-                assert_eq!(rt; fault, AdapterFault::OutOfMemory);
-                assert!(rt; is_closed(rt.alloc(), &mut adapter) && adapter.kept() == kept);
-                note(&rt)?;
-                return Ok(());
-            }
-        }
-    }
-    assert_eq!(rt; adapter.phase(), Phase::Stopped);
-    Ok(())
+    Some(frames.feed(INPUT) == Ok(wanted) && frames.held() == 81)
 }
 
 /// Once there is a reader, it takes no memory: a frame is read whatever is refused.
 #[test]
 fn framing(rt: HostRuntime) -> Result<(), Fail> {
-    let Ok(mut frames) = Frames::open(rt.alloc(), &Limits::usual()) else {
-        note(&rt)?;
-        return Ok(());
-    };
-    assert_eq!(rt;
-        frames.feed(INPUT),
-        Ok(Fed {
-            used: 103,
-            ready: true
-        })
-    );
-    assert_eq!(rt; frames.held(), 81);
-    Ok(())
+    judge(&rt, frames_input(rt.alloc()))
+}
+
+fn appends(out: &mut Vec<u8>, body: &[u8]) -> Option<bool> {
+    let before = out.len();
+    match write_frame(out, body) {
+        Ok(()) => Some(out.ends_with(body)),
+        Err(_) => refused(out.len() == before),
+    }
+}
+
+fn appends_two(alloc: Global) -> Option<bool> {
+    let mut out = Vec::new(alloc);
+    let first = appends(&mut out, b"{}");
+    all(&[first, appends(&mut out, b"[0,1,2,3,4,5,6,7,8,9]")])
 }
 
 /// A frame is appended whole, or nothing is.
 #[test]
 fn writing_a_frame(rt: HostRuntime) -> Result<(), Fail> {
-    let mut out = Vec::new(rt.alloc());
-    for body in [b"{}".as_slice(), b"[0,1,2,3,4,5,6,7,8,9]".as_slice()] {
-        let before = out.len();
-        match write_frame(&mut out, body) {
-            Ok(()) => assert!(rt; out.ends_with(body)),
-            Err(_) => {
-                assert_eq!(rt; out.len(), before);
-                note(&rt)?;
-            }
-        }
+    judge(&rt, appends_two(rt.alloc()))
+}
+
+static MESSAGES: [&[u8]; 3] = [
+    b"{\"arguments\":{\"a\":[1,\"b\"]},\"command\":\"threads\",\"seq\":1,\"type\":\"request\"}",
+    b"{\"body\":{},\"command\":\"x\",\"message\":\"m\",\"request_seq\":1,\"seq\":2,\"success\":false,\"type\":\"response\"}",
+    b"{\"body\":[true],\"event\":\"e\",\"seq\":3,\"type\":\"event\"}",
+];
+
+/// Whether a message is plain, and written as this body.
+fn writes_message(alloc: Global, message: &Message, body: &[u8]) -> Option<bool> {
+    if !message.plain() {
+        return Some(false);
     }
-    Ok(())
+    let written = write_message(alloc, message).ok()?;
+    Some(written.as_slice() == body)
+}
+
+fn reads_message(alloc: Global, body: &[u8]) -> Option<bool> {
+    match read_message(alloc, body) {
+        Ok(message) => writes_message(alloc, &message, body),
+        Err(fault) => refused(fault == BodyFault::OutOfMemory),
+    }
 }
 
 /// Messages of each type are read, and written again as they stood.
 #[test]
 fn messages(rt: HostRuntime) -> Result<(), Fail> {
-    let bodies: [&[u8]; 3] = [
-        b"{\"arguments\":{\"a\":[1,\"b\"]},\"command\":\"threads\",\"seq\":1,\"type\":\"request\"}",
-        b"{\"body\":{},\"command\":\"x\",\"message\":\"m\",\"request_seq\":1,\"seq\":2,\"success\":false,\"type\":\"response\"}",
-        b"{\"body\":[true],\"event\":\"e\",\"seq\":3,\"type\":\"event\"}",
-    ];
-    for body in bodies {
-        let message = match read_message(rt.alloc(), body) {
-            Ok(message) => message,
-            Err(fault) => {
-                assert_eq!(rt; fault, BodyFault::OutOfMemory);
-                note(&rt)?;
-                return Ok(());
-            }
-        };
-        assert!(rt; message.plain());
-        match write_message(rt.alloc(), &message) {
-            Ok(written) => assert_eq!(rt; written.as_slice(), body),
-            Err(_) => note(&rt)?,
-        }
+    for body in &MESSAGES {
+        judge(&rt, reads_message(rt.alloc(), *body))?;
     }
     Ok(())
 }
@@ -301,188 +366,200 @@ fn entry(alloc: Global, seq: u64) -> Option<Entry> {
     })
 }
 
+/// Whether a request is kept, or refused as the second of its number or the third of all.
+fn puts(alloc: Global, table: &mut Outstanding, seq: u64) -> Option<bool> {
+    let request = entry(alloc, seq)?;
+    let before = table.len();
+    match table.put(request) {
+        Ok(()) => Some(table.contains(seq)),
+        Err(PutFault::Repeated(request)) => Some(request.seq == 9 && table.contains(9)),
+        Err(PutFault::Full(request)) => Some(request.seq == 7 && before == 2),
+    }
+}
+
+fn keeps(alloc: Global) -> Option<bool> {
+    let mut table = Outstanding::open(alloc, 2).ok()?;
+    for seq in [5, 9, 9, 7] {
+        if !puts(alloc, &mut table, seq)? {
+            return Some(false);
+        }
+    }
+    Some(true)
+}
+
 /// Two requests are kept and no third: once the table is there, keeping takes no memory but the request's own.
 #[test]
 fn keeping_requests(rt: HostRuntime) -> Result<(), Fail> {
-    let Ok(mut table) = Outstanding::open(rt.alloc(), 2) else {
-        note(&rt)?;
-        return Ok(());
-    };
-    for seq in [5, 9, 9, 7] {
-        let Some(request) = entry(rt.alloc(), seq) else {
-            note(&rt)?;
-            return Ok(());
-        };
-        let before = table.len();
-        match table.put(request) {
-            Ok(()) => assert!(rt; table.contains(seq)),
-            Err(PutFault::Repeated(request)) => assert!(rt; request.seq == 9 && table.contains(9)),
-            Err(PutFault::Full(request)) => assert!(rt; request.seq == 7 && before == 2),
+    judge(&rt, keeps(rt.alloc()))
+}
+
+fn lists(alloc: Global) -> Option<bool> {
+    let lines = b"0 1 request initialize\n103 1 request threads\n".as_slice();
+    let mut out = Vec::new(alloc);
+    match show(alloc, INPUT, Limits::usual(), &mut out) {
+        Ok(_) => Some(out.as_slice() == lines),
+        Err(ShowFault::OutOfMemory) => {
+            let is_whole = out.is_empty() || out.ends_with(b"\n");
+            refused(lines.starts_with(&out) && is_whole)
         }
+        Err(_) => Some(false),
     }
-    Ok(())
 }
 
 /// Two messages are listed, or some whole lines in front of theirs.
 #[test]
 fn listing(rt: HostRuntime) -> Result<(), Fail> {
-    let mut out = Vec::new(rt.alloc());
-    let end = show(rt.alloc(), INPUT, Limits::usual(), &mut out);
-    let lines = b"0 1 request initialize\n103 1 request threads\n".as_slice();
-    match end {
-        Ok(_) => assert!(rt; out.as_slice() == lines),
-        Err(fault) => {
-            assert_eq!(rt; fault, ShowFault::OutOfMemory);
-            assert!(rt; lines.starts_with(&out));
-            assert!(rt; out.is_empty() || out.ends_with(b"\n"));
-            note(&rt)?;
-        }
+    judge(&rt, lists(rt.alloc()))
+}
+
+fn reads_whole(alloc: Global, expected: u64) -> Option<bool> {
+    let reader = Whole { rest: INPUT };
+    match read_whole(alloc, &mut Input { reader }, expected) {
+        Ok(bytes) => Some(bytes.as_slice() == INPUT.as_slice()),
+        Err(fault) => refused(fault == FileFault::OutOfMemory),
     }
-    Ok(())
 }
 
 /// A file is read whole, or not at all.
 #[test]
 fn reading_a_file(rt: HostRuntime) -> Result<(), Fail> {
     for expected in [0, 1000] {
-        let reader = Whole { rest: INPUT };
-        match read_whole(rt.alloc(), &mut Input { reader }, expected) {
-            Ok(bytes) => assert!(rt; bytes.as_slice() == INPUT.as_slice()),
-            Err(fault) => {
-                assert_eq!(rt; fault, FileFault::OutOfMemory);
-                note(&rt)?;
-            }
-        }
+        judge(&rt, reads_whole(rt.alloc(), expected))?;
     }
     Ok(())
+}
+
+fn tells_fault(alloc: Global) -> Option<bool> {
+    let fault = ServeFault::Adapter(AdapterFault::Body {
+        cause: dap_message::BodyRefusal::BadSeq,
+        offset: 103,
+    });
+    let line = fault_line(alloc, &ToolFault::Serve(fault)).ok()?;
+    Some(line.as_slice() == b"dap: BadSeq at 103\n".as_slice())
 }
 
 /// A fault's line, or none.
 #[test]
 fn telling_a_fault(rt: HostRuntime) -> Result<(), Fail> {
-    let fault = ServeFault::Adapter(AdapterFault::Body {
-        cause: dap_message::BodyRefusal::BadSeq,
-        offset: 103,
-    });
-    match fault_line(rt.alloc(), &ToolFault::Serve(fault)) {
-        Ok(line) => assert_eq!(rt; line.as_slice(), b"dap: BadSeq at 103\n".as_slice()),
-        Err(_) => note(&rt)?,
-    }
-    Ok(())
+    judge(&rt, tells_fault(rt.alloc()))
 }
 
 /// The bodies of `INPUT`, one a line.
 static FILE: &[u8; 130] =
     b"{\"seq\":1,\"type\":\"request\",\"command\":\"initialize\",\"arguments\":{\"adapterID\":\"rec\"}}\n\r\n{\"seq\":1,\"type\":\"request\",\"command\":\"threads\"}";
 
+fn wraps(alloc: Global) -> Option<bool> {
+    match wrap(alloc, FILE, Limits::usual()) {
+        Ok(frames) => Some(frames.as_slice() == INPUT.as_slice()),
+        Err(fault) => refused(fault == WrapFault::OutOfMemory),
+    }
+}
+
 /// Two bodies are framed, or none is.
 #[test]
 fn wrapping(rt: HostRuntime) -> Result<(), Fail> {
-    match wrap(rt.alloc(), FILE, Limits::usual()) {
-        Ok(frames) => assert!(rt; frames.as_slice() == INPUT.as_slice()),
-        Err(fault) => {
-            assert_eq!(rt; fault, WrapFault::OutOfMemory);
-            note(&rt)?;
-        }
-    }
-    Ok(())
+    judge(&rt, wraps(rt.alloc()))
 }
+
+/// Whether a tree is written as this text.
+fn writes(alloc: Global, tree: &Value, text: &[u8]) -> Option<bool> {
+    let written = write(alloc, tree).ok()?;
+    Some(written.as_slice() == text)
+}
+
+fn has_lines(call: &Call) -> bool {
+    match call {
+        Call::SetBreakpoints {
+            source: SourceKey::Path(path),
+            lines,
+        } => path.as_str() == "/a.c" && lines.as_slice() == [2, 9].as_slice(),
+        _ => false,
+    }
+}
+
+fn has_names(call: &Call) -> bool {
+    match call {
+        Call::SetFunctionBreakpoints { names } => match names.as_slice() {
+            [first, second] => first.as_str() == "main" && second.as_str() == "f",
+            _ => false,
+        },
+        _ => false,
+    }
+}
+
+/// Whether a call has the arguments of this text, as the three tests below have them.
+fn has(alloc: Global, call: &Call, command: Command, text: &[u8]) -> Option<bool> {
+    match command {
+        Command::SetBreakpoints => Some(has_lines(call)),
+        Command::SetFunctionBreakpoints => Some(has_names(call)),
+        _ => match call {
+            Call::Launch(Some(tree)) => writes(alloc, tree.value(), text),
+            _ => Some(false),
+        },
+    }
+}
+
+fn reads(alloc: Global, arguments: &Value, command: Command, text: &[u8]) -> Option<bool> {
+    match read_call(alloc, command, Some(arguments)) {
+        Ok(call) => has(alloc, &call, command, text),
+        Err(fault) => refused(fault == CallFault::OutOfMemory),
+    }
+}
+
+fn reads_twice(alloc: Global, command: Command, text: &[u8]) -> Option<bool> {
+    let arguments = parse(alloc, text).ok()?;
+    let first = reads(alloc, &arguments, command, text);
+    all(&[first, reads(alloc, &arguments, command, text)])
+}
+
+const LINES: &[u8; 64] =
+    b"{\"breakpoints\":[{\"line\":2},{\"line\":9}],\"source\":{\"path\":\"/a.c\"}}";
+
+const NAMES: &[u8; 46] = b"{\"breakpoints\":[{\"name\":\"main\"},{\"name\":\"f\"}]}";
 
 /// A call with a text and a list is read whole, or not at all, and then by the next try.
 #[test]
 fn reading_lines(rt: HostRuntime) -> Result<(), Fail> {
-    let Ok(arguments) = parse(
-        rt.alloc(),
-        b"{\"breakpoints\":[{\"line\":2},{\"line\":9}],\"source\":{\"path\":\"/a.c\"}}",
-    ) else {
-        note(&rt)?;
-        return Ok(());
-    };
-    for _ in 0..2 {
-        match read_call(rt.alloc(), Command::SetBreakpoints, Some(&arguments)) {
-            Ok(Call::SetBreakpoints { source, lines }) => {
-                let SourceKey::Path(path) = source else {
-                    return Err(Fail::from("a source without its path"));
-                };
-                assert_eq!(rt; path.as_str(), "/a.c");
-                assert_eq!(rt; lines.as_slice(), [2, 9].as_slice());
-            }
-            Err(CallFault::OutOfMemory) => note(&rt)?,
-            _ => return Err(Fail::from("another call")),
-        }
-    }
-    Ok(())
+    let outcome = reads_twice(rt.alloc(), Command::SetBreakpoints, LINES);
+    judge(&rt, outcome)
 }
 
 /// Likewise a list of texts.
 #[test]
 fn reading_names(rt: HostRuntime) -> Result<(), Fail> {
-    let Ok(arguments) = parse(
-        rt.alloc(),
-        b"{\"breakpoints\":[{\"name\":\"main\"},{\"name\":\"f\"}]}",
-    ) else {
-        note(&rt)?;
-        return Ok(());
-    };
-    for _ in 0..2 {
-        match read_call(
-            rt.alloc(),
-            Command::SetFunctionBreakpoints,
-            Some(&arguments),
-        ) {
-            Ok(Call::SetFunctionBreakpoints { names }) => {
-                assert_eq!(rt; names.as_slice().len(), 2);
-                for (name, wanted) in names.as_slice().iter().zip(["main", "f"].iter()) {
-                    assert_eq!(rt; name.as_str(), *wanted);
-                }
-            }
-            Err(CallFault::OutOfMemory) => note(&rt)?,
-            _ => return Err(Fail::from("another call")),
-        }
-    }
-    Ok(())
+    let outcome = reads_twice(rt.alloc(), Command::SetFunctionBreakpoints, NAMES);
+    judge(&rt, outcome)
 }
 
 /// Likewise a tree.
 #[test]
 fn reading_a_launch(rt: HostRuntime) -> Result<(), Fail> {
-    let text = b"{\"args\":[\"-v\",7],\"env\":{\"A\":\"b\"},\"program\":\"/a\"}".as_slice();
-    let Ok(arguments) = parse(rt.alloc(), text) else {
-        note(&rt)?;
-        return Ok(());
-    };
-    for _ in 0..2 {
-        match read_call(rt.alloc(), Command::Launch, Some(&arguments)) {
-            Ok(Call::Launch(Some(tree))) => match write(rt.alloc(), tree.value()) {
-                Ok(written) => assert_eq!(rt; written.as_slice(), text),
-                Err(_) => note(&rt)?,
-            },
-            Err(CallFault::OutOfMemory) => note(&rt)?,
-            _ => return Err(Fail::from("another call")),
-        }
-    }
-    Ok(())
+    let text = b"{\"args\":[\"-v\",7],\"env\":{\"A\":\"b\"},\"program\":\"/a\"}";
+    judge(&rt, reads_twice(rt.alloc(), Command::Launch, text))
+}
+
+/// The flags of an object.
+fn offered(alloc: Global, text: &[u8]) -> Option<Capabilities> {
+    let body = parse(alloc, text).ok()?;
+    Some(Capabilities::read(Some(&body)))
+}
+
+fn writes_flags(alloc: Global, offered: &Capabilities, text: &[u8]) -> Option<bool> {
+    let object = offered.write(alloc).ok()?;
+    writes(alloc, &object, text)
+}
+
+fn writes_flags_twice(alloc: Global) -> Option<bool> {
+    let text = b"{\"supportsCancelRequest\":true,\"supportsStepBack\":true}".as_slice();
+    let offered = offered(alloc, text)?;
+    let first = writes_flags(alloc, &offered, text);
+    all(&[first, writes_flags(alloc, &offered, text)])
 }
 
 /// The object of the flags that are set, or none.
 #[test]
 fn writing_capabilities(rt: HostRuntime) -> Result<(), Fail> {
-    let text = b"{\"supportsCancelRequest\":true,\"supportsStepBack\":true}".as_slice();
-    let Ok(body) = parse(rt.alloc(), text) else {
-        note(&rt)?;
-        return Ok(());
-    };
-    let offered = Capabilities::read(Some(&body));
-    for _ in 0..2 {
-        match offered.write(rt.alloc()) {
-            Ok(object) => match write(rt.alloc(), &object) {
-                Ok(written) => assert_eq!(rt; written.as_slice(), text),
-                Err(_) => note(&rt)?,
-            },
-            Err(_) => note(&rt)?,
-        }
-    }
-    Ok(())
+    judge(&rt, writes_flags_twice(rt.alloc()))
 }
 
 fn call(alloc: Global, command: Command, text: &[u8]) -> Option<Call> {
@@ -490,42 +567,40 @@ fn call(alloc: Global, command: Command, text: &[u8]) -> Option<Call> {
     read_call(alloc, command, Some(&arguments)).ok()
 }
 
+/// Whether a call is plain, and its arguments are written as this text.
+fn writes_call(alloc: Global, call: &Call, text: &[u8]) -> Option<bool> {
+    if !call.plain() {
+        return Some(false);
+    }
+    match write_call(alloc, call) {
+        Ok(Some(object)) => writes(alloc, &object, text),
+        Ok(None) => Some(false),
+        Err(_) => None,
+    }
+}
+
+fn writes_arguments(alloc: Global, command: Command, text: &[u8]) -> Option<bool> {
+    let call = call(alloc, command, text)?;
+    writes_call(alloc, &call, text)
+}
+
+static ARGUMENTS: [(Command, &[u8]); 6] = [
+    (Command::SetBreakpoints, LINES),
+    (Command::SetFunctionBreakpoints, NAMES),
+    (Command::Launch, b"{\"args\":[\"-v\",7],\"program\":\"/a\"}"),
+    (
+        Command::StackTrace,
+        b"{\"levels\":2,\"startFrame\":1,\"threadId\":7}",
+    ),
+    (Command::Evaluate, b"{\"expression\":\"x\",\"frameId\":3}"),
+    (Command::Next, b"{\"threadId\":1}"),
+];
+
 /// Arguments are written as they stood, or not at all.
 #[test]
 fn writing_calls(rt: HostRuntime) -> Result<(), Fail> {
-    let rows: [(Command, &[u8]); 6] = [
-        (
-            Command::SetBreakpoints,
-            b"{\"breakpoints\":[{\"line\":2},{\"line\":9}],\"source\":{\"path\":\"/a.c\"}}",
-        ),
-        (
-            Command::SetFunctionBreakpoints,
-            b"{\"breakpoints\":[{\"name\":\"main\"},{\"name\":\"f\"}]}",
-        ),
-        (Command::Launch, b"{\"args\":[\"-v\",7],\"program\":\"/a\"}"),
-        (
-            Command::StackTrace,
-            b"{\"levels\":2,\"startFrame\":1,\"threadId\":7}",
-        ),
-        (Command::Evaluate, b"{\"expression\":\"x\",\"frameId\":3}"),
-        (Command::Next, b"{\"threadId\":1}"),
-    ];
-    for (command, text) in &rows {
-        let Some(call) = call(rt.alloc(), *command, *text) else {
-            note(&rt)?;
-            return Ok(());
-        };
-        if !call.plain() {
-            return Err(Fail::from("not plain"));
-        }
-        match write_call(rt.alloc(), &call) {
-            Ok(Some(object)) => match write(rt.alloc(), &object) {
-                Ok(written) => assert_eq!(rt; written.as_slice(), *text),
-                Err(_) => note(&rt)?,
-            },
-            Ok(None) => return Err(Fail::from("no arguments")),
-            Err(_) => note(&rt)?,
-        }
+    for (command, text) in &ARGUMENTS {
+        judge(&rt, writes_arguments(rt.alloc(), *command, *text))?;
     }
     Ok(())
 }
@@ -547,83 +622,108 @@ fn source(alloc: Global) -> Result<Source, AllocError> {
     })
 }
 
+fn breakpoints_body(alloc: Global) -> Result<Value, AllocError> {
+    let breakpoint = Breakpoint {
+        id: 1,
+        line: 2,
+        verified: true,
+    };
+    body_set_breakpoints(alloc, one(alloc, breakpoint)?)
+}
+
+fn threads_body(alloc: Global) -> Result<Value, AllocError> {
+    let name = Text::copied(alloc, "main")?;
+    body_threads(alloc, one(alloc, Thread { id: 1, name })?)
+}
+
+fn frame(alloc: Global) -> Result<StackFrame, AllocError> {
+    Ok(StackFrame {
+        id: 1,
+        name: Text::copied(alloc, "f")?,
+        source: source(alloc)?,
+        line: 3,
+        column: 1,
+    })
+}
+
+fn frames_body(alloc: Global) -> Result<Value, AllocError> {
+    let frame = frame(alloc)?;
+    body_stack_trace(alloc, one(alloc, frame)?, 5)
+}
+
+fn scopes_body(alloc: Global) -> Result<Value, AllocError> {
+    let scope = Scope {
+        name: Text::copied(alloc, "Locals")?,
+        variables_reference: 2,
+    };
+    body_scopes(alloc, one(alloc, scope)?)
+}
+
+fn variable(alloc: Global) -> Result<Variable, AllocError> {
+    Ok(Variable {
+        name: Text::copied(alloc, "x")?,
+        value: Text::copied(alloc, "1")?,
+        variables_reference: 0,
+    })
+}
+
+fn variables_body(alloc: Global) -> Result<Value, AllocError> {
+    let variable = variable(alloc)?;
+    body_variables(alloc, one(alloc, variable)?)
+}
+
+fn sources_body(alloc: Global) -> Result<Value, AllocError> {
+    let source = source(alloc)?;
+    body_loaded_sources(alloc, one(alloc, source)?)
+}
+
+fn output_body(alloc: Global) -> Result<Value, AllocError> {
+    let category = Text::copied(alloc, "stdout")?;
+    let output = Text::copied(alloc, "go\n")?;
+    body_output(alloc, category, output)
+}
+
 /// A body with one element or text, by its place among the texts below.
 fn body(alloc: Global, place: usize) -> Result<Value, AllocError> {
     match place {
-        0 => {
-            let breakpoint = Breakpoint {
-                id: 1,
-                line: 2,
-                verified: true,
-            };
-            body_set_breakpoints(alloc, one(alloc, breakpoint)?)
-        }
-        1 => {
-            let name = Text::copied(alloc, "main")?;
-            body_threads(alloc, one(alloc, Thread { id: 1, name })?)
-        }
-        2 => {
-            let frame = StackFrame {
-                id: 1,
-                name: Text::copied(alloc, "f")?,
-                source: source(alloc)?,
-                line: 3,
-                column: 1,
-            };
-            body_stack_trace(alloc, one(alloc, frame)?, 5)
-        }
-        3 => {
-            let scope = Scope {
-                name: Text::copied(alloc, "Locals")?,
-                variables_reference: 2,
-            };
-            body_scopes(alloc, one(alloc, scope)?)
-        }
-        4 => {
-            let variable = Variable {
-                name: Text::copied(alloc, "x")?,
-                value: Text::copied(alloc, "1")?,
-                variables_reference: 0,
-            };
-            body_variables(alloc, one(alloc, variable)?)
-        }
+        0 => breakpoints_body(alloc),
+        1 => threads_body(alloc),
+        2 => frames_body(alloc),
+        3 => scopes_body(alloc),
+        4 => variables_body(alloc),
         5 => body_evaluate(alloc, Text::copied(alloc, "P")?, 3),
         6 => body_source(alloc, Text::copied(alloc, "one\n")?),
-        7 => body_loaded_sources(alloc, one(alloc, source(alloc)?)?),
-        8 => body_output(
-            alloc,
-            Text::copied(alloc, "stdout")?,
-            Text::copied(alloc, "go\n")?,
-        ),
+        7 => sources_body(alloc),
+        8 => output_body(alloc),
         9 => body_stopped(alloc, Text::copied(alloc, "step")?, 1),
         _ => body_failure(alloc, Failure::BadArguments { key: Key::ThreadId }),
     }
 }
 
+static BODIES: [&[u8]; 11] = [
+    b"{\"breakpoints\":[{\"id\":1,\"line\":2,\"verified\":true}]}",
+    b"{\"threads\":[{\"id\":1,\"name\":\"main\"}]}",
+    b"{\"stackFrames\":[{\"column\":1,\"id\":1,\"line\":3,\"name\":\"f\",\"source\":{\"name\":\"a.c\",\"path\":\"/a.c\",\"sourceReference\":1}}],\"totalFrames\":5}",
+    b"{\"scopes\":[{\"expensive\":false,\"name\":\"Locals\",\"variablesReference\":2}]}",
+    b"{\"variables\":[{\"name\":\"x\",\"value\":\"1\",\"variablesReference\":0}]}",
+    b"{\"result\":\"P\",\"variablesReference\":3}",
+    b"{\"content\":\"one\\n\"}",
+    b"{\"sources\":[{\"name\":\"a.c\",\"path\":\"/a.c\",\"sourceReference\":1}]}",
+    b"{\"category\":\"stdout\",\"output\":\"go\\n\"}",
+    b"{\"allThreadsStopped\":true,\"reason\":\"step\",\"threadId\":1}",
+    b"{\"error\":{\"format\":\"The argument threadId is missing or malformed.\",\"id\":1005}}",
+];
+
+fn builds(alloc: Global, place: usize, text: &[u8]) -> Option<bool> {
+    let body = body(alloc, place).ok()?;
+    writes(alloc, &body, text)
+}
+
 /// A body is built whole, or not at all.
 #[test]
 fn building_bodies(rt: HostRuntime) -> Result<(), Fail> {
-    let texts = [
-        "{\"breakpoints\":[{\"id\":1,\"line\":2,\"verified\":true}]}",
-        "{\"threads\":[{\"id\":1,\"name\":\"main\"}]}",
-        "{\"stackFrames\":[{\"column\":1,\"id\":1,\"line\":3,\"name\":\"f\",\"source\":{\"name\":\"a.c\",\"path\":\"/a.c\",\"sourceReference\":1}}],\"totalFrames\":5}",
-        "{\"scopes\":[{\"expensive\":false,\"name\":\"Locals\",\"variablesReference\":2}]}",
-        "{\"variables\":[{\"name\":\"x\",\"value\":\"1\",\"variablesReference\":0}]}",
-        "{\"result\":\"P\",\"variablesReference\":3}",
-        "{\"content\":\"one\\n\"}",
-        "{\"sources\":[{\"name\":\"a.c\",\"path\":\"/a.c\",\"sourceReference\":1}]}",
-        "{\"category\":\"stdout\",\"output\":\"go\\n\"}",
-        "{\"allThreadsStopped\":true,\"reason\":\"step\",\"threadId\":1}",
-        "{\"error\":{\"format\":\"The argument threadId is missing or malformed.\",\"id\":1005}}",
-    ];
-    for (place, text) in texts.iter().enumerate() {
-        match body(rt.alloc(), place) {
-            Ok(body) => match write(rt.alloc(), &body) {
-                Ok(written) => assert_eq!(rt; written.as_slice(), text.as_bytes()),
-                Err(_) => note(&rt)?,
-            },
-            Err(_) => note(&rt)?,
-        }
+    for (place, text) in BODIES.iter().enumerate() {
+        judge(&rt, builds(rt.alloc(), place, *text))?;
     }
     Ok(())
 }
@@ -631,110 +731,162 @@ fn building_bodies(rt: HostRuntime) -> Result<(), Fail> {
 pub(crate) static RECORDING: &[u8; 301] =
     b"{\"exit\":0,\"sources\":[{\"name\":\"a.c\",\"path\":\"/a.c\",\"text\":\"one\\ntwo\\n\"}],\"moments\":[{\"thread\":1,\"output\":\"go\\n\",\"threads\":[{\"id\":1,\"name\":\"main\",\"frames\":[{\"name\":\"main\",\"source\":0,\"line\":1,\"scopes\":[{\"name\":\"Locals\",\"variables\":[{\"name\":\"p\",\"value\":\"P\",\"variables\":[{\"name\":\"a\",\"value\":\"7\"}]}]}]}]}]}]}";
 
-fn recorded(rt: &HostRuntime) -> Result<Option<Recorded>, Fail>
-    ensures { IfOk result (λ read. IfSome read (λ recorded. recorded.state ≡ State.NotStarted)) }
-{
-    match Recorded::read(rt.alloc(), RECORDING) {
-        Ok(recorded) => Ok(Some(recorded)),
-        Err(fault) => {
-            if fault != RecordingFault::OutOfMemory {
-                return Err(Fail::from("no recording"));
-            }
-            note(rt)?;
-            Ok(None)
+/// Whether a poll tells this output, or a stop for this reason.
+fn tells(alloc: Global, debuggee: &mut Recorded, wanted: &str) -> Option<bool> {
+    match debuggee.poll(alloc) {
+        Ok(Happening::Output { text, .. }) => Some(text.as_str() == wanted),
+        Ok(Happening::Stopped { reason, thread }) => {
+            Some(reason.as_str() == wanted && thread == 1)
         }
+        Ok(_) => Some(false),
+        Err(_) => None,
+    }
+}
+
+fn runs(alloc: Global, debuggee: &mut Recorded) -> Option<bool> {
+    let source = SourceKey::Reference(1);
+    let set = debuggee.set_breakpoints(alloc, &source, &[1, 2]);
+    set.ok()?;
+    if debuggee.start(alloc) != Ok(()) || !tells(alloc, debuggee, "go\n")? {
+        return Some(false);
+    }
+    tells(alloc, debuggee, "entry")
+}
+
+fn plays(alloc: Global) -> Option<bool> {
+    match Recorded::read(alloc, RECORDING) {
+        Ok(mut debuggee) => runs(alloc, &mut debuggee),
+        Err(fault) => refused(fault == RecordingFault::OutOfMemory),
     }
 }
 
 /// What runs writes and stops, or a poll was refused memory; then no more is asked of it.
 #[test]
 fn playing(rt: HostRuntime) -> Result<(), Fail> {
-    let Some(mut debuggee) = recorded(&rt)? else {
-        return Ok(());
-    };
-    let source = SourceKey::Reference(1);
-    match debuggee.set_breakpoints(rt.alloc(), &source, &[1, 2]) {
-        Ok(()) => {}
-        Err(_) => {
-            note(&rt)?;
-            return Ok(());
-        }
-    }
-    assert_eq!(rt; debuggee.start(rt.alloc()), Ok(()));
-    for wanted in ["go\n", "entry"] {
-        match debuggee.poll(rt.alloc()) {
-            Ok(Happening::Output { text, .. }) => assert_eq!(rt; text.as_str(), wanted),
-            Ok(Happening::Stopped { reason, thread }) => {
-                assert_eq!(rt; (reason.as_str(), thread), (wanted, 1));
-            }
-            Ok(_) => return Err(Fail::from("something else happened")),
-            Err(_) => {
-                note(&rt)?;
-                return Ok(());
-            }
-        }
-    }
-    Ok(())
+    judge(&rt, plays(rt.alloc()))
 }
 
-/// Notes want of memory; any other fault of a query fails the test.
-fn unanswered(rt: &HostRuntime, fault: DebuggeeFault) -> Result<(), Fail> {
-    match fault {
-        DebuggeeFault::OutOfMemory => Ok(note(rt)?),
-        DebuggeeFault::Refused => Err(Fail::from("refused")),
+/// What is asked of a debuggee that was started.
+#[derive(Clone, Copy)]
+enum Query {
+    Scopes,
+    Children,
+    Evaluate,
+    Sources,
+    Content,
+    Verify,
+    Threads,
+    Frames,
+}
+
+/// Want of memory; any other fault of a query is wrong.
+fn unanswered(fault: DebuggeeFault) -> Option<bool> {
+    refused(fault == DebuggeeFault::OutOfMemory)
+}
+
+fn tells_scopes(alloc: Global, debuggee: &Recorded) -> Option<bool> {
+    match debuggee.scopes(alloc, 0) {
+        Ok(scopes) => Some(scopes.len() == 1),
+        Err(fault) => unanswered(fault),
     }
 }
+
+fn tells_children(alloc: Global, debuggee: &Recorded) -> Option<bool> {
+    match debuggee.children(alloc, 1) {
+        Ok(variables) => Some(variables.len() == 1),
+        Err(fault) => unanswered(fault),
+    }
+}
+
+fn tells_value(alloc: Global, debuggee: &Recorded) -> Option<bool> {
+    match debuggee.evaluate(alloc, Some(0), "p") {
+        Ok(value) => Some(value.value.as_str() == "P" && value.holder == Some(0)),
+        Err(fault) => unanswered(fault),
+    }
+}
+
+fn tells_sources(alloc: Global, debuggee: &Recorded) -> Option<bool> {
+    let sources = debuggee.sources(alloc).ok()?;
+    Some(sources.len() == 1)
+}
+
+fn tells_content(alloc: Global, debuggee: &Recorded) -> Option<bool> {
+    match debuggee.content(alloc, 0) {
+        Ok(text) => Some(text.as_str() == "one\ntwo\n"),
+        Err(fault) => unanswered(fault),
+    }
+}
+
+fn tells_lines(alloc: Global, debuggee: &Recorded) -> Option<bool> {
+    match debuggee.verify(alloc, &SourceKey::Reference(1), &[2, 3]) {
+        Ok(answers) => Some(answers.as_slice() == [true, false].as_slice()),
+        Err(fault) => unanswered(fault),
+    }
+}
+
+fn tells_threads(alloc: Global, debuggee: &Recorded) -> Option<bool> {
+    let threads = debuggee.threads(alloc).ok()?;
+    Some(threads.len() == 1)
+}
+
+fn tells_frames(alloc: Global, debuggee: &Recorded) -> Option<bool> {
+    match debuggee.frames(alloc, 1) {
+        Ok(frames) => Some(frames.len() == 1),
+        Err(fault) => unanswered(fault),
+    }
+}
+
+fn answers(alloc: Global, debuggee: &Recorded, query: Query) -> Option<bool> {
+    match query {
+        Query::Scopes => tells_scopes(alloc, debuggee),
+        Query::Children => tells_children(alloc, debuggee),
+        Query::Evaluate => tells_value(alloc, debuggee),
+        Query::Sources => tells_sources(alloc, debuggee),
+        Query::Content => tells_content(alloc, debuggee),
+        Query::Verify => tells_lines(alloc, debuggee),
+        Query::Threads => tells_threads(alloc, debuggee),
+        Query::Frames => tells_frames(alloc, debuggee),
+    }
+}
+
+/// Each query is made, also after one that was refused memory.
+fn answers_all(alloc: Global, debuggee: &mut Recorded, queries: &[Query]) -> Option<bool> {
+    if debuggee.start(alloc) != Ok(()) {
+        return Some(false);
+    }
+    let mut outcome = Some(true);
+    for query in queries {
+        outcome = all(&[outcome, answers(alloc, debuggee, *query)]);
+    }
+    outcome
+}
+
+fn asks(alloc: Global, queries: &[Query]) -> Option<bool> {
+    match Recorded::read(alloc, RECORDING) {
+        Ok(mut debuggee) => answers_all(alloc, &mut debuggee, queries),
+        Err(fault) => refused(fault == RecordingFault::OutOfMemory),
+    }
+}
+
+static LOOKED_AT: [Query; 6] = [
+    Query::Scopes,
+    Query::Children,
+    Query::Evaluate,
+    Query::Sources,
+    Query::Content,
+    Query::Verify,
+];
 
 /// A query is answered whole, or not at all.
 #[test]
 fn asking_a_debuggee(rt: HostRuntime) -> Result<(), Fail> {
-    let alloc = rt.alloc();
-    let Some(mut debuggee) = recorded(&rt)? else {
-        return Ok(());
-    };
-    assert_eq!(rt; debuggee.start(alloc), Ok(()));
-    match debuggee.scopes(alloc, 0) {
-        Ok(scopes) => assert_eq!(rt; scopes.len(), 1),
-        Err(fault) => unanswered(&rt, fault)?,
-    }
-    match debuggee.children(alloc, 1) {
-        Ok(variables) => assert_eq!(rt; variables.len(), 1),
-        Err(fault) => unanswered(&rt, fault)?,
-    }
-    match debuggee.evaluate(alloc, Some(0), "p") {
-        Ok(value) => assert_eq!(rt; (value.value.as_str(), value.holder), ("P", Some(0))),
-        Err(fault) => unanswered(&rt, fault)?,
-    }
-    match debuggee.sources(alloc) {
-        Ok(sources) => assert_eq!(rt; sources.len(), 1),
-        Err(_) => note(&rt)?,
-    }
-    match debuggee.content(alloc, 0) {
-        Ok(text) => assert_eq!(rt; text.as_str(), "one\ntwo\n"),
-        Err(fault) => unanswered(&rt, fault)?,
-    }
-    match debuggee.verify(alloc, &SourceKey::Reference(1), &[2, 3]) {
-        Ok(answers) => assert_eq!(rt; answers.as_slice(), [true, false].as_slice()),
-        Err(fault) => unanswered(&rt, fault)?,
-    }
-    Ok(())
+    judge(&rt, asks(rt.alloc(), &LOOKED_AT))
 }
+
+static THREADS: [Query; 2] = [Query::Threads, Query::Frames];
 
 /// Threads and frames of what was started, or none.
 #[test]
 fn asking_for_threads(rt: HostRuntime) -> Result<(), Fail> {
-    let alloc = rt.alloc();
-    let Some(mut debuggee) = recorded(&rt)? else {
-        return Ok(());
-    };
-    assert_eq!(rt; debuggee.start(alloc), Ok(()));
-    match debuggee.threads(alloc) {
-        Ok(threads) => assert_eq!(rt; threads.len(), 1),
-        Err(_) => note(&rt)?,
-    }
-    match debuggee.frames(alloc, 1) {
-        Ok(frames) => assert_eq!(rt; frames.len(), 1),
-        Err(fault) => unanswered(&rt, fault)?,
-    }
-    Ok(())
+    judge(&rt, asks(rt.alloc(), &THREADS))
 }
