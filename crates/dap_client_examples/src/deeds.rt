@@ -2,7 +2,7 @@
 
 use dap_client::{Client, ClientFault, Phase, SendFault};
 use dap_frame::{Limits, write_frame};
-use dap_message::{Call, Command, Kind, read_call, read_message};
+use dap_message::{Call, Command, Kind, Message, read_call, read_message};
 use std::alloc::Global;
 use std::test::Fail;
 
@@ -24,99 +24,161 @@ pub(crate) enum Deed<'a> {
 /// A deed, the phase after it, how many requests are outstanding, and how many references are known.
 pub(crate) type Row<'a> = (Deed<'a>, Phase, usize, usize);
 
-/// The call that a request of this body is.
-pub(crate) fn call_of(alloc: Global, body: &[u8]) -> Result<Call, Fail> {
-    let message = read_message(alloc, body).ok().ok_or("no message")?;
+/// The call that a request is.
+fn call_in(alloc: Global, message: &Message) -> Option<Call> {
     let Kind::Request { command, arguments } = &message.kind else {
-        return Err(Fail::from("no request"));
+        return None;
     };
-    let command = Command::of_name(command.as_str()).ok_or("no command")?;
-    let call = match arguments {
-        None => read_call(alloc, command, None),
-        Some(tree) => read_call(alloc, command, Some(tree.value())),
-    };
-    Ok(call.ok().ok_or("no call")?)
+    let command = Command::of_name(command.as_str())?;
+    match arguments {
+        None => read_call(alloc, command, None).ok(),
+        Some(tree) => read_call(alloc, command, Some(tree.value())).ok(),
+    }
+}
+
+/// The call that a request of this body is.
+fn call_of(alloc: Global, body: &[u8]) -> Option<Call> {
+    let message = read_message(alloc, body).ok()?;
+    call_in(alloc, &message)
+}
+
+/// The frame of a body.
+pub(crate) fn frame_of(alloc: Global, body: &[u8]) -> Option<Vec<u8>> {
+    let mut frame = Vec::new(alloc);
+    write_frame(&mut frame, body).ok()?;
+    Some(frame)
 }
 
 /// Whether the bytes are a frame of this body, or none where it is empty.
-fn is_frame_of(alloc: Global, bytes: &[u8], body: &[u8]) -> Result<bool, Fail> {
+fn is_frame_of(alloc: Global, bytes: &[u8], body: &[u8]) -> bool {
     if body.is_empty() {
-        return Ok(bytes.is_empty());
+        return bytes.is_empty();
     }
-    let mut frame = Vec::new(alloc);
-    write_frame(&mut frame, body)?;
-    Ok(bytes == frame.as_slice())
+    match frame_of(alloc, body) {
+        Some(frame) => bytes == frame.as_slice(),
+        None => false,
+    }
+}
+
+/// Sends a call, if it is plain.
+fn send_plain(
+    alloc: Global,
+    client: &mut Client,
+    call: &Call,
+) -> Option<Result<Vec<u8>, SendFault>> {
+    if !call.plain() {
+        return None;
+    }
+    match client.send(alloc, call) {
+        Ok(sent) => Some(Ok(sent.bytes)),
+        Err(fault) => Some(Err(fault)),
+    }
 }
 
 /// Sends the call of a request.
-pub(crate) fn send(
-    alloc: Global,
-    client: &mut Client,
-    request: &[u8],
-) -> Result<Result<Vec<u8>, SendFault>, Fail> {
+fn send(alloc: Global, client: &mut Client, request: &[u8]) -> Option<Result<Vec<u8>, SendFault>> {
     let call = call_of(alloc, request)?;
-    if !call.plain() {
-        return Err(Fail::from("not plain"));
-    }
-    match client.send(alloc, &call) {
-        Ok(sent) => Ok(Ok(sent.bytes)),
-        Err(fault) => Ok(Err(fault)),
+    send_plain(alloc, client, &call)
+}
+
+/// Whether it is sent, and this body is written.
+fn sends(alloc: Global, client: &mut Client, request: &[u8], written: &[u8]) -> bool {
+    match send(alloc, client, request) {
+        Some(Ok(bytes)) => is_frame_of(alloc, &bytes, written),
+        _ => false,
     }
 }
 
-/// Takes the frame of a body, which it uses whole, and which is delivered.
-pub(crate) fn take(
+/// Whether it is refused so.
+fn refuses(alloc: Global, client: &mut Client, request: &[u8], fault: SendFault) -> bool {
+    match send(alloc, client, request) {
+        Some(Err(found)) => found == fault,
+        _ => false,
+    }
+}
+
+/// Takes a frame, which it uses whole, and which is delivered.
+fn take_frame(
     alloc: Global,
     client: &mut Client,
-    body: &[u8],
-) -> Result<Result<Vec<u8>, ClientFault>, Fail> {
-    let mut frame = Vec::new(alloc);
-    write_frame(&mut frame, body)?;
-    match client.take(alloc, &frame) {
+    frame: &[u8],
+) -> Option<Result<Vec<u8>, ClientFault>> {
+    match client.take(alloc, frame) {
         Ok(got) => {
             if got.used != frame.len() || got.delivered.is_none() {
-                return Err(Fail::from("not delivered"));
+                return None;
             }
-            Ok(Ok(got.bytes))
+            Some(Ok(got.bytes))
         }
-        Err(fault) => Ok(Err(fault)),
+        Err(fault) => Some(Err(fault)),
+    }
+}
+
+/// Takes the frame of a body likewise.
+fn take(alloc: Global, client: &mut Client, body: &[u8]) -> Option<Result<Vec<u8>, ClientFault>> {
+    let frame = frame_of(alloc, body)?;
+    take_frame(alloc, client, &frame)
+}
+
+/// Whether it is taken, and this body is written.
+fn takes(alloc: Global, client: &mut Client, body: &[u8], written: &[u8]) -> bool {
+    match take(alloc, client, body) {
+        Some(Ok(bytes)) => is_frame_of(alloc, &bytes, written),
+        _ => false,
+    }
+}
+
+/// Whether it is taken, whatever is written.
+pub(crate) fn delivers(alloc: Global, client: &mut Client, body: &[u8]) -> bool {
+    match take(alloc, client, body) {
+        Some(taken) => taken.is_ok(),
+        None => false,
+    }
+}
+
+/// Whether it closes the client so.
+fn closes(alloc: Global, client: &mut Client, body: &[u8], fault: ClientFault) -> bool {
+    match take(alloc, client, body) {
+        Some(Err(found)) => found == fault && client.held() == 0,
+        _ => false,
     }
 }
 
 /// Whether a deed comes to what its row says.
-fn is_done(alloc: Global, client: &mut Client, deed: Deed<'_>) -> Result<bool, Fail> {
+fn is_done(alloc: Global, client: &mut Client, deed: Deed<'_>) -> bool {
     match deed {
-        Deed::Sends(request, written) => match send(alloc, client, request)? {
-            Ok(bytes) => is_frame_of(alloc, &bytes, written),
-            Err(_) => Ok(false),
-        },
-        Deed::Refuses(request, fault) => match send(alloc, client, request)? {
-            Ok(_) => Ok(false),
-            Err(found) => Ok(found == fault),
-        },
-        Deed::Takes(body, written) => match take(alloc, client, body)? {
-            Ok(bytes) => is_frame_of(alloc, &bytes, written),
-            Err(_) => Ok(false),
-        },
-        Deed::Closes(body, fault) => match take(alloc, client, body)? {
-            Ok(_) => Ok(false),
-            Err(found) => Ok(found == fault && client.held() == 0),
-        },
-        Deed::IsReady(wanted) => Ok(client.ready() == wanted),
+        Deed::Sends(request, written) => sends(alloc, client, request, written),
+        Deed::Refuses(request, fault) => refuses(alloc, client, request, fault),
+        Deed::Takes(body, written) => takes(alloc, client, body, written),
+        Deed::Closes(body, fault) => closes(alloc, client, body, fault),
+        Deed::IsReady(wanted) => client.ready() == wanted,
     }
+}
+
+/// The place of the first row that comes to something else.
+fn first_difference(alloc: Global, client: &mut Client, rows: &[Row<'_>]) -> Option<usize> {
+    for (place, (deed, phase, outstanding, references)) in rows.iter().enumerate() {
+        let done = is_done(alloc, client, *deed);
+        let counted = client.outstanding() == *outstanding && client.references() == *references;
+        if !done || client.phase() != *phase || !counted {
+            return Some(place);
+        }
+    }
+    None
+}
+
+/// Tells a row that differs, and fails the test.
+fn differs(rt: &HostRuntime, place: usize) -> Result<(), Fail> {
+    eprintln!(rt; "row {place} differs")?;
+    Err(Fail::from("a row differs"))
 }
 
 /// Does the rows with a client that is open already; the first that comes to something else is told, and fails the test.
 pub(crate) fn go_on(rt: &HostRuntime, client: &mut Client, rows: &[Row<'_>]) -> Result<(), Fail> {
-    for (place, (deed, phase, outstanding, references)) in rows.iter().enumerate() {
-        let done = is_done(rt.alloc(), client, *deed)?;
-        let counted = client.outstanding() == *outstanding && client.references() == *references;
-        if !done || client.phase() != *phase || !counted {
-            eprintln!(rt; "row {place} differs")?;
-            return Err(Fail::from("a row differs"));
-        }
+    match first_difference(rt.alloc(), client, rows) {
+        None => Ok(()),
+        Some(place) => differs(rt, place),
     }
-    Ok(())
 }
 
 /// Does the rows of two lists with a fresh client.

@@ -1,21 +1,44 @@
 //! The greatest sizes, with ample memory: nothing is refused.
 
-use crate::deeds::{INITIALIZED, STOPPED, go_on, take};
+use crate::deeds::{INITIALIZED, STOPPED, delivers, frame_of, go_on};
 use dap_client::Client;
-use dap_frame::{Limits, write_frame};
+use dap_frame::Limits;
 use dap_message::{Call, Evaluate, StackTrace, Text, Variables};
 use std::alloc::Global;
 use std::fmt::Write;
 use std::test::Fail;
 
-/// A success of `threads`, as it is taken.
-fn success(alloc: Global, client: &mut Client, request_seq: u64) -> Result<bool, Fail> {
-    let mut body = String::new(alloc);
-    write!(
-        body,
+/// A client that was initialized.
+fn initialized(rt: &HostRuntime, limits: Limits) -> Result<Client, Fail> {
+    let mut client = Client::open(rt.alloc(), limits)?;
+    go_on(rt, &mut client, &INITIALIZED)?;
+    Ok(client)
+}
+
+/// The body of a success of `threads`.
+fn success(alloc: Global, request_seq: u64) -> Option<String> {
+    let body = format!(in alloc;
         "{{\"seq\":0,\"type\":\"response\",\"request_seq\":{request_seq},\"success\":true,\"command\":\"threads\"}}"
-    )?;
-    Ok(take(alloc, client, body.as_str().as_bytes())?.is_ok())
+    );
+    body.ok()
+}
+
+/// Whether it is taken.
+fn takes_success(alloc: Global, client: &mut Client, request_seq: u64) -> bool {
+    match success(alloc, request_seq) {
+        Some(body) => delivers(alloc, client, body.as_str().as_bytes()),
+        None => false,
+    }
+}
+
+/// Whether successes of 4096 requests are taken, the last one first.
+fn takes_successes(alloc: Global, client: &mut Client) -> bool {
+    for answered in 0..4096 {
+        if !takes_success(alloc, client, 4097 - answered) {
+            return false;
+        }
+    }
+    true
 }
 
 /// So many requests are sent, as long as none is refused.
@@ -26,6 +49,20 @@ fn send_many(alloc: Global, client: &mut Client, count: usize) -> bool {
         }
     }
     true
+}
+
+/// Whether 4096 requests find room and no more, and all are answered.
+fn fills(alloc: Global, client: &mut Client) -> bool {
+    send_many(alloc, client, 4096)
+        && client.outstanding() == 4096
+        && !send_many(alloc, client, 1)
+        && takes_successes(alloc, client)
+        && client.outstanding() == 0
+}
+
+fn is_filled(rt: &HostRuntime, limits: Limits) -> Result<bool, Fail> {
+    let mut client = initialized(rt, limits)?;
+    Ok(fills(rt.alloc(), &mut client))
 }
 
 /// 4096 requests are outstanding, one more finds no room, and all are answered, the last one first.
@@ -42,29 +79,27 @@ fn many_requests_are_answered_in_reverse(rt: HostRuntime) -> Result<(), Fail> {
     )
     .ok()
     .ok_or("limits")?;
-    let mut client = Client::open(rt.alloc(), limits)?;
-    go_on(&rt, &mut client, &INITIALIZED)?;
-    assert!(rt; send_many(rt.alloc(), &mut client, 4096));
-    assert_eq!(rt; client.outstanding(), 4096);
-    assert!(rt; !send_many(rt.alloc(), &mut client, 1));
-    for answered in 0..4096 {
-        assert!(rt; success(rt.alloc(), &mut client, 4097 - answered)?);
-    }
-    assert_eq!(rt; client.outstanding(), 0);
+    assert!(rt; is_filled(&rt, limits)?);
     Ok(())
 }
 
-/// The text of so many frames, each with an id of its own.
-fn frames(alloc: Global, count: usize) -> Result<String, Fail> {
+/// Appends so many frames, each with an id of its own.
+fn add_frames(body: &mut String, count: usize) -> Option<()> {
+    for id in 1..count {
+        write!(body, ",{{\"id\":{id}}}").ok()?;
+    }
+    Some(())
+}
+
+/// The text of so many frames.
+fn frames(alloc: Global, count: usize) -> Option<String> {
     let mut body = String::new(alloc);
     body.push_str(
         "{\"seq\":0,\"type\":\"response\",\"request_seq\":2,\"success\":true,\"command\":\"stackTrace\",\"body\":{\"stackFrames\":[{\"id\":0}",
-    )?;
-    for id in 1..count {
-        write!(body, ",{{\"id\":{id}}}")?;
-    }
-    body.push_str("]}}")?;
-    Ok(body)
+    ).ok()?;
+    add_frames(&mut body, count)?;
+    body.push_str("]}}").ok()?;
+    Some(body)
 }
 
 /// Whether a frame, or a holder of variables, can be asked for.
@@ -83,94 +118,131 @@ fn asks(alloc: Global, client: &mut Client, number: u32, is_frame: bool) -> bool
 
 /// A client of an adapter that has stopped.
 fn stopped(rt: &HostRuntime) -> Result<Client, Fail> {
-    let mut client = Client::open(rt.alloc(), Limits::usual())?;
-    go_on(rt, &mut client, &INITIALIZED)?;
-    if take(rt.alloc(), &mut client, STOPPED)?.is_err() {
+    let mut client = initialized(rt, Limits::usual())?;
+    if !delivers(rt.alloc(), &mut client, STOPPED) {
         return Err(Fail::from("a fault"));
     }
     Ok(client)
 }
 
+/// Whether so many frames are taken.
+fn takes_frames(alloc: Global, client: &mut Client, count: usize) -> bool {
+    match frames(alloc, count) {
+        Some(body) => delivers(alloc, client, body.as_str().as_bytes()),
+        None => false,
+    }
+}
+
 /// Whether a stack of so many frames is asked for and taken.
-fn learns(alloc: Global, client: &mut Client, count: usize) -> Result<bool, Fail> {
+fn learns(alloc: Global, client: &mut Client, count: usize) -> bool {
     let asked = Call::StackTrace(StackTrace {
         thread_id: 1,
         start_frame: 0,
         levels: 0,
     });
-    if client.send(alloc, &asked).is_err() {
-        return Ok(false);
-    }
-    let body = frames(alloc, count)?;
-    Ok(take(alloc, client, body.as_str().as_bytes())?.is_ok())
+    client.send(alloc, &asked).is_ok() && takes_frames(alloc, client, count)
+}
+
+/// Whether the last of 65536 frames can be asked for, and what is none cannot: a frame is no holder of variables.
+fn knows_many(alloc: Global, client: &mut Client) -> bool {
+    client.references() == 65536
+        && asks(alloc, client, 65535, true)
+        && !asks(alloc, client, 65536, true)
+        && !asks(alloc, client, 1, false)
+}
+
+fn learns_many(rt: &HostRuntime) -> Result<bool, Fail> {
+    let mut client = stopped(rt)?;
+    Ok(learns(rt.alloc(), &mut client, 65536) && knows_many(rt.alloc(), &mut client))
 }
 
 /// 65536 references are known from one response, and each of them can be asked for.
 #[test]
 fn many_references_are_known(rt: HostRuntime) -> Result<(), Fail> {
-    let mut client = stopped(&rt)?;
-    assert!(rt; learns(rt.alloc(), &mut client, 65536)?);
-    assert_eq!(rt; client.references(), 65536);
-    assert!(rt; asks(rt.alloc(), &mut client, 65535, true));
-    assert!(rt; !asks(rt.alloc(), &mut client, 65536, true));
-    // A frame is no holder of variables.
-    assert!(rt; !asks(rt.alloc(), &mut client, 1, false));
+    assert!(rt; learns_many(&rt)?);
     Ok(())
 }
 
-/// Whether a piece makes a message whole.
-fn delivers(alloc: Global, client: &mut Client, piece: &[u8]) -> Result<bool, Fail> {
-    let got = client.take(alloc, piece).ok().ok_or("a fault")?;
-    Ok(got.delivered.is_some())
+/// Whether a piece makes a message whole, if it is taken.
+fn delivered(alloc: Global, client: &mut Client, piece: &[u8]) -> Option<bool> {
+    let got = client.take(alloc, piece).ok()?;
+    Some(got.delivered.is_some())
 }
 
-/// A frame whose body has the greatest length.
-fn longest_frame(alloc: Global) -> Result<Vec<u8>, Fail> {
+/// The body of the greatest length.
+fn longest_body(alloc: Global) -> Option<Vec<u8>> {
     let mut body = Vec::from_slice(
         alloc,
         b"{\"seq\":0,\"type\":\"event\",\"event\":\"output\",\"body\":{\"output\":\"",
-    )?;
-    body.resize(4194301, b'a')?;
-    body.extend_from_slice(b"\"}}")?;
-    let mut frame = Vec::new(alloc);
-    write_frame(&mut frame, &body)?;
-    Ok(frame)
+    )
+    .ok()?;
+    body.resize(4194301, b'a').ok()?;
+    body.extend_from_slice(b"\"}}").ok()?;
+    Some(body)
+}
+
+/// Its frame.
+fn longest_frame(alloc: Global) -> Option<Vec<u8>> {
+    let body = longest_body(alloc)?;
+    frame_of(alloc, &body)
+}
+
+/// Whether its frame is held but for its last byte, and then taken.
+fn takes_in_two(alloc: Global, client: &mut Client, frame: &[u8]) -> bool {
+    let (most, last) = frame.split_at(frame.len().saturating_sub(1));
+    delivered(alloc, client, most) == Some(false)
+        && client.held() == 4194303
+        && delivered(alloc, client, last) == Some(true)
+        && client.held() == 0
+}
+
+fn takes_longest(alloc: Global) -> Option<bool> {
+    let frame = longest_frame(alloc)?;
+    let mut client = Client::open(alloc, Limits::usual()).ok()?;
+    Some(takes_in_two(alloc, &mut client, &frame))
 }
 
 /// A body of 4 MiB is taken but for its last byte, and then whole.
 #[test]
 fn the_longest_body_is_taken(rt: HostRuntime) -> Result<(), Fail> {
-    let mut client = Client::open(rt.alloc(), Limits::usual())?;
-    let frame = longest_frame(rt.alloc())?;
-    let (most, last) = frame.split_at(frame.len().saturating_sub(1));
-    assert!(rt; !delivers(rt.alloc(), &mut client, most)?);
-    assert_eq!(rt; client.held(), 4194303);
-    assert!(rt; delivers(rt.alloc(), &mut client, last)?);
-    assert_eq!(rt; client.held(), 0);
+    assert_eq!(rt; takes_longest(rt.alloc()), Some(true));
     Ok(())
 }
 
-/// Whether a request of a body of so many bytes is sent.
-fn evaluates(alloc: Global, client: &mut Client, length: usize) -> Result<bool, Fail> {
+/// The expression of a request whose body has so many bytes.
+fn expression(alloc: Global, length: usize) -> Option<Text> {
     let around =
         "{\"arguments\":{\"expression\":\"\"},\"command\":\"evaluate\",\"seq\":2,\"type\":\"request\"}";
     let mut text = String::new(alloc);
     for _ in 0..length.saturating_sub(around.len()) {
-        text.push('b')?;
+        text.push('b').ok()?;
     }
+    Some(Text::new(text))
+}
+
+/// Whether such a request is sent.
+fn evaluates(alloc: Global, client: &mut Client, length: usize) -> Option<bool> {
     let call = Call::Evaluate(Evaluate {
-        expression: Text::new(text),
+        expression: expression(alloc, length)?,
         frame_id: None,
     });
-    Ok(client.send(alloc, &call).is_ok())
+    Some(client.send(alloc, &call).is_ok())
+}
+
+/// Whether bodies of two lengths are sent, and how many requests are outstanding then.
+fn sends_two(rt: &HostRuntime, lengths: [usize; 2]) -> Result<([Option<bool>; 2], usize), Fail> {
+    let mut client = stopped(rt)?;
+    let first = evaluates(rt.alloc(), &mut client, lengths[0]);
+    let second = evaluates(rt.alloc(), &mut client, lengths[1]);
+    Ok(([first, second], client.outstanding()))
 }
 
 /// A body of 4 MiB is sent, and none that is longer.
 #[test]
 fn the_longest_body_is_sent(rt: HostRuntime) -> Result<(), Fail> {
-    let mut client = stopped(&rt)?;
-    assert!(rt; !evaluates(rt.alloc(), &mut client, 4194305)?);
-    assert!(rt; evaluates(rt.alloc(), &mut client, 4194304)?);
-    assert_eq!(rt; client.outstanding(), 1);
+    assert_eq!(rt;
+        sends_two(&rt, [4194305, 4194304])?,
+        ([Some(false), Some(true)], 1)
+    );
     Ok(())
 }

@@ -83,14 +83,25 @@ fn a_bad_body_is_named(rt: HostRuntime) -> Result<(), Fail> {
     follow(&rt, Limits::usual(), &INITIALIZED, &NO_OBJECT)
 }
 
+/// Whether the framing is refused.
+fn is_misframed(alloc: Global, client: &mut Client, piece: &[u8]) -> bool {
+    match client.take(alloc, piece) {
+        Err(ClientFault::Frame(_)) => true,
+        _ => false,
+    }
+}
+
 /// Whether a header block without a length is held, and then refused.
+fn refuses_header(alloc: Global, client: &mut Client) -> bool {
+    client.take(alloc, b"A: ").is_ok()
+        && client.held() == 3
+        && is_misframed(alloc, client, b"b\r\n\r\n")
+        && client.held() == 0
+}
+
 fn header_is_refused(alloc: Global) -> Result<bool, Fail> {
     let mut client = Client::open(alloc, Limits::usual())?;
-    let is_held = client.take(alloc, b"A: ").is_ok() && client.held() == 3;
-    match client.take(alloc, b"b\r\n\r\n") {
-        Err(ClientFault::Frame(_)) => Ok(is_held && client.held() == 0),
-        _ => Ok(false),
-    }
+    Ok(refuses_header(alloc, &mut client))
 }
 
 #[test]

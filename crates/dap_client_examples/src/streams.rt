@@ -1,6 +1,6 @@
 //! What adapters in the wild write, taken by a client; the same in any pieces.
 
-use crate::deeds::{Deed, INITIALIZE, Row, THREADS, follow, send};
+use crate::deeds::{Deed, INITIALIZE, Row, SENT, THREADS, follow, go_on};
 use dap_client::{Client, Phase};
 use dap_frame::{Limits, write_frame};
 use std::alloc::Global;
@@ -121,51 +121,100 @@ fn a_lenient_adapter_is_served(rt: HostRuntime) -> Result<(), Fail> {
     follow(&rt, Limits::usual(), &LENIENT, &[])
 }
 
-/// How many messages a client delivers of a stream that comes in pieces of one size, once `initialize` was sent.
-fn delivered(alloc: Global, stream: &[u8], size: usize) -> Result<usize, Fail> {
-    let mut client = Client::open(alloc, Limits::usual())?;
-    if send(alloc, &mut client, INITIALIZE)?.is_err() {
-        return Err(Fail::from("not sent"));
-    }
+/// A client that has sent `initialize`.
+fn opened(rt: &HostRuntime) -> Result<Client, Fail> {
+    let mut client = Client::open(rt.alloc(), Limits::usual())?;
+    go_on(rt, &mut client, &[SENT])?;
+    Ok(client)
+}
+
+/// Whether a call with a piece of the rest delivers a message, and what is left.
+fn step<'a>(
+    alloc: Global,
+    client: &mut Client,
+    rest: &'a [u8],
+    size: usize,
+) -> Option<(bool, &'a [u8])> {
+    let (piece, _) = rest.split_at(rest.len().min(size));
+    let got = client.take(alloc, piece).ok()?;
+    let (_, later) = rest.split_at(got.used);
+    Some((got.delivered.is_some(), later))
+}
+
+/// How many messages a client delivers of a stream that comes in pieces of one size.
+fn count(alloc: Global, client: &mut Client, stream: &[u8], size: usize) -> Option<usize> {
     let mut count: usize = 0;
     let mut rest = stream;
     // Each `take` uses a byte at least.
     for _take in 0..stream.len() {
         if rest.is_empty() {
-            return Ok(count);
+            return Some(count);
         }
-        let (piece, _) = rest.split_at(rest.len().min(size));
-        let got = client.take(alloc, piece).ok().ok_or("refused")?;
-        let (_, later) = rest.split_at(got.used);
+        let (is_delivered, later) = step(alloc, client, rest, size)?;
         rest = later;
-        if got.delivered.is_some() {
+        if is_delivered {
             count = count.saturating_add(1);
         }
     }
-    Ok(count)
+    Some(count)
+}
+
+/// Likewise with a client that has sent `initialize` alone.
+fn delivered(rt: &HostRuntime, stream: &[u8], size: usize) -> Result<Option<usize>, Fail> {
+    let mut client = opened(rt)?;
+    Ok(count(rt.alloc(), &mut client, stream, size))
+}
+
+/// The size of pieces of which other than two messages come.
+fn first_difference(rt: &HostRuntime, stream: &[u8]) -> Result<Option<usize>, Fail> {
+    for size in 1..stream.len() + 1 {
+        if delivered(rt, stream, size)? != Some(2) {
+            return Ok(Some(size));
+        }
+    }
+    Ok(None)
+}
+
+/// How many bytes one call uses.
+fn used(alloc: Global, client: &mut Client, stream: &[u8]) -> Option<usize> {
+    let got = client.take(alloc, stream).ok()?;
+    Some(got.used)
+}
+
+/// Likewise with a client that has sent `initialize` alone; and whether it is ready then.
+fn used_first(rt: &HostRuntime, stream: &[u8]) -> Result<(Option<usize>, bool), Fail> {
+    let mut client = opened(rt)?;
+    let used = used(rt.alloc(), &mut client, stream);
+    Ok((used, client.ready()))
+}
+
+/// The frames of a response and of the event `initialized`, and the length of the first.
+fn two_frames(alloc: Global) -> Option<(Vec<u8>, usize)> {
+    let mut stream = Vec::new(alloc);
+    write_frame(
+        &mut stream,
+        b"{\"seq\":1,\"type\":\"response\",\"request_seq\":1,\"success\":true,\"command\":\"initialize\"}",
+    )
+    .ok()?;
+    let first = stream.len();
+    write_frame(
+        &mut stream,
+        b"{\"seq\":2,\"type\":\"event\",\"event\":\"initialized\"}",
+    )
+    .ok()?;
+    Some((stream, first))
+}
+
+/// Whether one call uses the first frame alone, and the client is not ready then; and the size of pieces that matter.
+fn in_pieces(rt: &HostRuntime) -> Result<(bool, Option<usize>), Fail> {
+    let (stream, first) = two_frames(rt.alloc()).ok_or("no memory")?;
+    let is_one = used_first(rt, &stream)? == (Some(first), false);
+    Ok((is_one, first_difference(rt, &stream)?))
 }
 
 /// Two frames in a piece: one is used a call; and in pieces of any size the same messages come.
 #[test]
 fn pieces_do_not_matter(rt: HostRuntime) -> Result<(), Fail> {
-    let mut stream = Vec::new(rt.alloc());
-    write_frame(
-        &mut stream,
-        b"{\"seq\":1,\"type\":\"response\",\"request_seq\":1,\"success\":true,\"command\":\"initialize\"}",
-    )?;
-    let first = stream.len();
-    write_frame(
-        &mut stream,
-        b"{\"seq\":2,\"type\":\"event\",\"event\":\"initialized\"}",
-    )?;
-
-    let mut client = Client::open(rt.alloc(), Limits::usual())?;
-    assert!(rt; send(rt.alloc(), &mut client, INITIALIZE)?.is_ok());
-    let got = client.take(rt.alloc(), &stream).ok().ok_or("refused")?;
-    assert_eq!(rt; got.used, first);
-    assert!(rt; !client.ready());
-    for size in 1..stream.len() + 1 {
-        assert_eq!(rt; delivered(rt.alloc(), &stream, size)?, 2);
-    }
+    assert_eq!(rt; in_pieces(&rt)?, (true, None));
     Ok(())
 }
