@@ -174,11 +174,24 @@ fn differs(rt: &HostRuntime, place: usize) -> Result<(), Fail> {
 }
 
 /// Does the rows with a client that is open already; the first that comes to something else is told, and fails the test.
-pub(crate) fn go_on(rt: &HostRuntime, client: &mut Client, rows: &[Row<'_>]) -> Result<(), Fail> {
+fn go_on(rt: &HostRuntime, client: &mut Client, rows: &[Row<'_>]) -> Result<(), Fail> {
     match first_difference(rt.alloc(), client, rows) {
         None => Ok(()),
         Some(place) => differs(rt, place),
     }
+}
+
+/// A client that has done the rows of two lists.
+pub(crate) fn opened(
+    rt: &HostRuntime,
+    limits: Limits,
+    first: &[Row<'_>],
+    then: &[Row<'_>],
+) -> Result<Client, Fail> {
+    let mut client = Client::open(rt.alloc(), limits)?;
+    go_on(rt, &mut client, first)?;
+    go_on(rt, &mut client, then)?;
+    Ok(client)
 }
 
 /// Does the rows of two lists with a fresh client.
@@ -188,9 +201,10 @@ pub(crate) fn follow(
     first: &[Row<'_>],
     then: &[Row<'_>],
 ) -> Result<(), Fail> {
-    let mut client = Client::open(rt.alloc(), limits)?;
-    go_on(rt, &mut client, first)?;
-    go_on(rt, &mut client, then)
+    let client = opened(rt, limits, first, then)?;
+    // The proof of a call is shorter than that of a value that goes out of scope.
+    drop(client);
+    Ok(())
 }
 
 pub(crate) const INITIALIZE: &[u8; 81] =

@@ -1,19 +1,12 @@
 //! The greatest sizes, with ample memory: nothing is refused.
 
-use crate::deeds::{INITIALIZED, STOPPED, delivers, frame_of, go_on};
-use dap_client::Client;
+use crate::deeds::{Deed, INITIALIZED, Row, STOPPED, delivers, frame_of, opened};
+use dap_client::{Client, Phase};
 use dap_frame::Limits;
 use dap_message::{Call, Evaluate, StackTrace, Text, Variables};
 use std::alloc::Global;
 use std::fmt::Write;
 use std::test::Fail;
-
-/// A client that was initialized.
-fn initialized(rt: &HostRuntime, limits: Limits) -> Result<Client, Fail> {
-    let mut client = Client::open(rt.alloc(), limits)?;
-    go_on(rt, &mut client, &INITIALIZED)?;
-    Ok(client)
-}
 
 /// The body of a success of `threads`.
 fn success(alloc: Global, request_seq: u64) -> Option<String> {
@@ -61,7 +54,7 @@ fn fills(alloc: Global, client: &mut Client) -> bool {
 }
 
 fn is_filled(rt: &HostRuntime, limits: Limits) -> Result<bool, Fail> {
-    let mut client = initialized(rt, limits)?;
+    let mut client = opened(rt, limits, &INITIALIZED, &[])?;
     Ok(fills(rt.alloc(), &mut client))
 }
 
@@ -116,13 +109,11 @@ fn asks(alloc: Global, client: &mut Client, number: u32, is_frame: bool) -> bool
     call.plain() && client.send(alloc, &call).is_ok()
 }
 
+static STOPS: [Row<'static>; 1] = [(Deed::Takes(STOPPED, b""), Phase::Stopped, 0, 0)];
+
 /// A client of an adapter that has stopped.
 fn stopped(rt: &HostRuntime) -> Result<Client, Fail> {
-    let mut client = initialized(rt, Limits::usual())?;
-    if !delivers(rt.alloc(), &mut client, STOPPED) {
-        return Err(Fail::from("a fault"));
-    }
-    Ok(client)
+    opened(rt, Limits::usual(), &INITIALIZED, &STOPS)
 }
 
 /// Whether so many frames are taken.

@@ -1,6 +1,6 @@
 //! What adapters in the wild write, taken by a client; the same in any pieces.
 
-use crate::deeds::{Deed, INITIALIZE, Row, SENT, THREADS, follow, go_on};
+use crate::deeds::{Deed, INITIALIZE, Row, SENT, THREADS, follow, opened};
 use dap_client::{Client, Phase};
 use dap_frame::{Limits, write_frame};
 use std::alloc::Global;
@@ -122,10 +122,8 @@ fn a_lenient_adapter_is_served(rt: HostRuntime) -> Result<(), Fail> {
 }
 
 /// A client that has sent `initialize`.
-fn opened(rt: &HostRuntime) -> Result<Client, Fail> {
-    let mut client = Client::open(rt.alloc(), Limits::usual())?;
-    go_on(rt, &mut client, &[SENT])?;
-    Ok(client)
+fn initializing(rt: &HostRuntime) -> Result<Client, Fail> {
+    opened(rt, Limits::usual(), &[SENT], &[])
 }
 
 /// Whether a call with a piece of the rest delivers a message, and what is left.
@@ -161,7 +159,7 @@ fn count(alloc: Global, client: &mut Client, stream: &[u8], size: usize) -> Opti
 
 /// Likewise with a client that has sent `initialize` alone.
 fn delivered(rt: &HostRuntime, stream: &[u8], size: usize) -> Result<Option<usize>, Fail> {
-    let mut client = opened(rt)?;
+    let mut client = initializing(rt)?;
     Ok(count(rt.alloc(), &mut client, stream, size))
 }
 
@@ -183,7 +181,7 @@ fn used(alloc: Global, client: &mut Client, stream: &[u8]) -> Option<usize> {
 
 /// Likewise with a client that has sent `initialize` alone; and whether it is ready then.
 fn used_first(rt: &HostRuntime, stream: &[u8]) -> Result<(Option<usize>, bool), Fail> {
-    let mut client = opened(rt)?;
+    let mut client = initializing(rt)?;
     let used = used(rt.alloc(), &mut client, stream);
     Ok((used, client.ready()))
 }
