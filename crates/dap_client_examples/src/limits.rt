@@ -4,6 +4,7 @@ use crate::deeds::{Deed, INITIALIZED, Row, STOPPED, delivers, frame_of, opened};
 use dap_client::{Client, Phase};
 use dap_frame::Limits;
 use dap_message::{Call, Evaluate, StackTrace, Text, Variables};
+use dap_samples::calls::limits;
 use std::alloc::Global;
 use std::fmt::Write;
 use std::test::Fail;
@@ -61,7 +62,7 @@ fn is_filled(rt: &HostRuntime, limits: Limits) -> Result<bool, Fail> {
 /// 4096 requests are outstanding, one more finds no room, and all are answered, the last one first.
 #[test]
 fn many_requests_are_answered_in_reverse(rt: HostRuntime) -> Result<(), Fail> {
-    let limits = Limits::new(
+    let limits = limits(
         8192,
         4194304,
         4096,
@@ -69,9 +70,7 @@ fn many_requests_are_answered_in_reverse(rt: HostRuntime) -> Result<(), Fail> {
         4096,
         9007199254740991,
         2147483647,
-    )
-    .ok()
-    .ok_or("limits")?;
+    )?;
     assert!(rt; is_filled(&rt, limits)?);
     Ok(())
 }

@@ -4,6 +4,7 @@ use crate::deeds::{Deed, INITIALIZED, Row, SENT, STOPPED, THREADS, follow};
 use dap_client::{Client, ClientFault, Phase, SendFault};
 use dap_frame::Limits;
 use dap_message::BodyRefusal;
+use dap_samples::calls::limits;
 use std::alloc::Global;
 use std::test::Fail;
 
@@ -223,9 +224,7 @@ static RESUMES: [Row<'static>; 9] = [
 /// Room for two requests: what waits for a stop, and what finds no room.
 #[test]
 fn a_third_request_finds_no_room(rt: HostRuntime) -> Result<(), Fail> {
-    let limits = Limits::new(8192, 1024, 2, 65536, 4096, 9007199254740991, 2147483647)
-        .ok()
-        .ok_or("limits")?;
+    let limits = limits(8192, 1024, 2, 65536, 4096, 9007199254740991, 2147483647)?;
     follow(&rt, limits, &INITIALIZED, &RESUMES)
 }
 
@@ -268,9 +267,7 @@ static THREE_NUMBERS: [Row<'static>; 4] = [
 /// Three own numbers: the fourth request is refused, and a request of the adapter closes the client.
 #[test]
 fn numbers_run_out(rt: HostRuntime) -> Result<(), Fail> {
-    let limits = Limits::new(8192, 4194304, 64, 65536, 4096, 3, 2147483647)
-        .ok()
-        .ok_or("limits")?;
+    let limits = limits(8192, 4194304, 64, 65536, 4096, 3, 2147483647)?;
     follow(&rt, limits, &INITIALIZED, &THREE_NUMBERS)
 }
 
@@ -299,8 +296,6 @@ static ONE_REFERENCE: [Row<'static>; 3] = [
 /// Room for one reference: two of them close the client, and neither is known.
 #[test]
 fn references_find_no_room(rt: HostRuntime) -> Result<(), Fail> {
-    let limits = Limits::new(8192, 4194304, 64, 1, 4096, 9007199254740991, 2147483647)
-        .ok()
-        .ok_or("limits")?;
+    let limits = limits(8192, 4194304, 64, 1, 4096, 9007199254740991, 2147483647)?;
     follow(&rt, limits, &INITIALIZED, &ONE_REFERENCE)
 }

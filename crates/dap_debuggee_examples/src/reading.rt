@@ -65,49 +65,52 @@ fn numbered(
     Ok(given.as_str() == wanted && is_right && no_more)
 }
 
+/// Words, the frames' numbers after them, and whether there are two holders then.
+static NUMBERED: [(&str, &str, bool); 3] = [
+    ("start poll poll", "0 ", true),
+    ("stepIn poll", "1 2 ", false),
+    ("stepIn poll", "3 ", false),
+];
+
 /// Frames and holders count over the whole recording: four frames, and two holders at the first stop.
 #[test]
 fn numbers_frames(rt: HostRuntime) -> Result<(), Fail> {
-    let alloc = rt.alloc();
-    let mut recorded = three_moments(alloc)?;
-    assert!(rt; numbered(alloc, &mut recorded, "start poll poll", "0 ", true)?);
-    assert!(rt; numbered(alloc, &mut recorded, "stepIn poll", "1 2 ", false)?);
-    assert!(rt; numbered(alloc, &mut recorded, "stepIn poll", "3 ", false)?);
+    let mut recorded = three_moments(rt.alloc())?;
+    for (words, wanted, has_holders) in &NUMBERED {
+        assert!(rt;
+            numbered(rt.alloc(), &mut recorded, words, wanted, *has_holders)?,
+            "{words}"
+        );
+    }
     Ok(())
 }
 
+static REFUSED: [(&[u8], RecordingFault); 8] = [
+    (b"\"\xff\"", RecordingFault::NotJson),
+    (b"{", RecordingFault::NotJson),
+    (b"", RecordingFault::NotJson),
+    (b"{\"exit\":1e999}", RecordingFault::NotJson),
+    (b"[]", RecordingFault::NotObject),
+    (b"null", RecordingFault::NotObject),
+    (
+        b"{\"exit\":0,\"sources\":[],\"moments\":[]}",
+        RecordingFault::BadKey {
+            key: RecordingKey::Moments,
+        },
+    ),
+    (
+        b"{}",
+        RecordingFault::BadKey {
+            key: RecordingKey::Exit,
+        },
+    ),
+];
+
 #[test]
 fn refuses_what_is_no_recording(rt: HostRuntime) -> Result<(), Fail> {
-    let rows: [(&str, RecordingFault); 7] = [
-        ("{", RecordingFault::NotJson),
-        ("", RecordingFault::NotJson),
-        ("{\"exit\":1e999}", RecordingFault::NotJson),
-        ("[]", RecordingFault::NotObject),
-        ("null", RecordingFault::NotObject),
-        (
-            "{\"exit\":0,\"sources\":[],\"moments\":[]}",
-            RecordingFault::BadKey {
-                key: RecordingKey::Moments,
-            },
-        ),
-        (
-            "{}",
-            RecordingFault::BadKey {
-                key: RecordingKey::Exit,
-            },
-        ),
-    ];
-    for (bytes, fault) in rows {
-        assert_eq!(rt;
-            refusal(rt.alloc(), bytes.as_bytes()),
-            Some(fault),
-            "{bytes}"
-        );
+    for (bytes, fault) in &REFUSED {
+        assert_eq!(rt; refusal(rt.alloc(), bytes), Some(*fault));
     }
-    assert_eq!(rt;
-        refusal(rt.alloc(), b"\"\xff\""),
-        Some(RecordingFault::NotJson)
-    );
     Ok(())
 }
 
@@ -138,441 +141,437 @@ fn takes_the_whole(rt: HostRuntime) -> Result<(), Fail> {
     Ok(())
 }
 
+static EXIT_AND_SOURCES: [Row; 27] = [
+    ("\"exit\":3,", "", Some(RecordingKey::Exit)),
+    ("\"exit\":3", "\"exit\":2147483647", None),
+    ("\"exit\":3", "\"exit\":-2147483648", None),
+    (
+        "\"exit\":3",
+        "\"exit\":2147483648",
+        Some(RecordingKey::Exit),
+    ),
+    (
+        "\"exit\":3",
+        "\"exit\":-2147483649",
+        Some(RecordingKey::Exit),
+    ),
+    ("\"exit\":3", "\"exit\":null", Some(RecordingKey::Exit)),
+    ("\"exit\":3", "\"exit\":3.0", Some(RecordingKey::Exit)),
+    ("\"exit\":3", "\"exit\":\"3\"", Some(RecordingKey::Exit)),
+    (
+        "\"sources\":[{\"name\":\"a\",\"path\":\"/a\",\"text\":\"x\\ny\"}],",
+        "",
+        Some(RecordingKey::Sources),
+    ),
+    (
+        "\"sources\":[{\"name\":\"a\",\"path\":\"/a\",\"text\":\"x\\ny\"}]",
+        "\"sources\":null",
+        Some(RecordingKey::Sources),
+    ),
+    (
+        "\"sources\":[{\"name\":\"a\",\"path\":\"/a\",\"text\":\"x\\ny\"}]",
+        "\"sources\":{}",
+        Some(RecordingKey::Sources),
+    ),
+    (
+        "\"sources\":[{\"name\":\"a\",\"path\":\"/a\",\"text\":\"x\\ny\"}]",
+        "\"sources\":[7]",
+        Some(RecordingKey::Sources),
+    ),
+    (
+        "\"sources\":[{\"name\":\"a\",\"path\":\"/a\",\"text\":\"x\\ny\"}]",
+        "\"sources\":[null]",
+        Some(RecordingKey::Sources),
+    ),
+    (
+        "\"sources\":[{\"name\":\"a\",\"path\":\"/a\",\"text\":\"x\\ny\"}]",
+        "\"sources\":[[]]",
+        Some(RecordingKey::Sources),
+    ),
+    (
+        "\"sources\":[{\"name\":\"a\",\"path\":\"/a\",\"text\":\"x\\ny\"}]",
+        "\"sources\":[]",
+        Some(RecordingKey::Source),
+    ),
+    ("\"name\":\"a\",", "", Some(RecordingKey::Name)),
+    ("\"name\":\"a\"", "\"name\":null", Some(RecordingKey::Name)),
+    ("\"name\":\"a\"", "\"name\":\"\"", None),
+    ("\"path\":\"/a\",", "", None),
+    ("\"path\":\"/a\"", "\"path\":null", Some(RecordingKey::Path)),
+    ("\"path\":\"/a\"", "\"path\":5", Some(RecordingKey::Path)),
+    (",\"text\":\"x\\ny\"", "", Some(RecordingKey::Text)),
+    (
+        "\"text\":\"x\\ny\"",
+        "\"text\":null",
+        Some(RecordingKey::Text),
+    ),
+    (
+        "\"text\":\"x\\ny\"",
+        "\"text\":\"\"",
+        Some(RecordingKey::Line),
+    ),
+    (
+        "\"text\":\"x\\ny\"",
+        "\"text\":\"x\\n\"",
+        Some(RecordingKey::Line),
+    ),
+    ("\"text\":\"x\\ny\"", "\"text\":\"\\n\\n\"", None),
+    ("\"text\":\"x\\ny\"", "\"text\":\"\\r\\n\\r\"", None),
+];
+
 /// The exit code and the sources.
 #[test]
 fn exit_and_sources(rt: HostRuntime) -> Result<(), Fail> {
-    let wrong = first_wrong(
-        rt.alloc(),
-        &[
-            ("\"exit\":3,", "", Some(RecordingKey::Exit)),
-            ("\"exit\":3", "\"exit\":2147483647", None),
-            ("\"exit\":3", "\"exit\":-2147483648", None),
-            (
-                "\"exit\":3",
-                "\"exit\":2147483648",
-                Some(RecordingKey::Exit),
-            ),
-            (
-                "\"exit\":3",
-                "\"exit\":-2147483649",
-                Some(RecordingKey::Exit),
-            ),
-            ("\"exit\":3", "\"exit\":null", Some(RecordingKey::Exit)),
-            ("\"exit\":3", "\"exit\":3.0", Some(RecordingKey::Exit)),
-            ("\"exit\":3", "\"exit\":\"3\"", Some(RecordingKey::Exit)),
-            (
-                "\"sources\":[{\"name\":\"a\",\"path\":\"/a\",\"text\":\"x\\ny\"}],",
-                "",
-                Some(RecordingKey::Sources),
-            ),
-            (
-                "\"sources\":[{\"name\":\"a\",\"path\":\"/a\",\"text\":\"x\\ny\"}]",
-                "\"sources\":null",
-                Some(RecordingKey::Sources),
-            ),
-            (
-                "\"sources\":[{\"name\":\"a\",\"path\":\"/a\",\"text\":\"x\\ny\"}]",
-                "\"sources\":{}",
-                Some(RecordingKey::Sources),
-            ),
-            (
-                "\"sources\":[{\"name\":\"a\",\"path\":\"/a\",\"text\":\"x\\ny\"}]",
-                "\"sources\":[7]",
-                Some(RecordingKey::Sources),
-            ),
-            (
-                "\"sources\":[{\"name\":\"a\",\"path\":\"/a\",\"text\":\"x\\ny\"}]",
-                "\"sources\":[null]",
-                Some(RecordingKey::Sources),
-            ),
-            (
-                "\"sources\":[{\"name\":\"a\",\"path\":\"/a\",\"text\":\"x\\ny\"}]",
-                "\"sources\":[[]]",
-                Some(RecordingKey::Sources),
-            ),
-            (
-                "\"sources\":[{\"name\":\"a\",\"path\":\"/a\",\"text\":\"x\\ny\"}]",
-                "\"sources\":[]",
-                Some(RecordingKey::Source),
-            ),
-            ("\"name\":\"a\",", "", Some(RecordingKey::Name)),
-            ("\"name\":\"a\"", "\"name\":null", Some(RecordingKey::Name)),
-            ("\"name\":\"a\"", "\"name\":\"\"", None),
-            ("\"path\":\"/a\",", "", None),
-            ("\"path\":\"/a\"", "\"path\":null", Some(RecordingKey::Path)),
-            ("\"path\":\"/a\"", "\"path\":5", Some(RecordingKey::Path)),
-            (",\"text\":\"x\\ny\"", "", Some(RecordingKey::Text)),
-            (
-                "\"text\":\"x\\ny\"",
-                "\"text\":null",
-                Some(RecordingKey::Text),
-            ),
-            (
-                "\"text\":\"x\\ny\"",
-                "\"text\":\"\"",
-                Some(RecordingKey::Line),
-            ),
-            (
-                "\"text\":\"x\\ny\"",
-                "\"text\":\"x\\n\"",
-                Some(RecordingKey::Line),
-            ),
-            ("\"text\":\"x\\ny\"", "\"text\":\"\\n\\n\"", None),
-            ("\"text\":\"x\\ny\"", "\"text\":\"\\r\\n\\r\"", None),
-        ],
-    )?;
+    let wrong = first_wrong(rt.alloc(), &EXIT_AND_SOURCES)?;
     assert_eq!(rt; wrong.as_str(), "");
     Ok(())
 }
+
+static MOMENTS_AND_THREADS: [Row; 28] = [
+    (
+        ",\"moments\":[{\"threads\":[{\"id\":1,\"name\":\"m\",\"frames\":[{\"name\":\"f\",\"source\":0,\"line\":2,\"scopes\":[{\"name\":\"s\",\"variables\":[{\"name\":\"v\",\"value\":\"1\",\"variables\":[{\"name\":\"w\",\"value\":\"2\"}]}]}]}]}],\"thread\":1,\"output\":\"o\",\"waits\":true}]",
+        "",
+        Some(RecordingKey::Moments),
+    ),
+    (
+        "\"moments\":[{\"threads\":[{\"id\":1,\"name\":\"m\",\"frames\":[{\"name\":\"f\",\"source\":0,\"line\":2,\"scopes\":[{\"name\":\"s\",\"variables\":[{\"name\":\"v\",\"value\":\"1\",\"variables\":[{\"name\":\"w\",\"value\":\"2\"}]}]}]}]}],\"thread\":1,\"output\":\"o\",\"waits\":true}]",
+        "\"moments\":null",
+        Some(RecordingKey::Moments),
+    ),
+    (
+        "\"moments\":[{\"threads\":[{\"id\":1,\"name\":\"m\",\"frames\":[{\"name\":\"f\",\"source\":0,\"line\":2,\"scopes\":[{\"name\":\"s\",\"variables\":[{\"name\":\"v\",\"value\":\"1\",\"variables\":[{\"name\":\"w\",\"value\":\"2\"}]}]}]}]}],\"thread\":1,\"output\":\"o\",\"waits\":true}]",
+        "\"moments\":[]",
+        Some(RecordingKey::Moments),
+    ),
+    (
+        "\"moments\":[{\"threads\":[{\"id\":1,\"name\":\"m\",\"frames\":[{\"name\":\"f\",\"source\":0,\"line\":2,\"scopes\":[{\"name\":\"s\",\"variables\":[{\"name\":\"v\",\"value\":\"1\",\"variables\":[{\"name\":\"w\",\"value\":\"2\"}]}]}]}]}],\"thread\":1,\"output\":\"o\",\"waits\":true}]",
+        "\"moments\":{}",
+        Some(RecordingKey::Moments),
+    ),
+    (
+        "\"moments\":[{\"threads\":[{\"id\":1,\"name\":\"m\",\"frames\":[{\"name\":\"f\",\"source\":0,\"line\":2,\"scopes\":[{\"name\":\"s\",\"variables\":[{\"name\":\"v\",\"value\":\"1\",\"variables\":[{\"name\":\"w\",\"value\":\"2\"}]}]}]}]}],\"thread\":1,\"output\":\"o\",\"waits\":true}]",
+        "\"moments\":[null]",
+        Some(RecordingKey::Moments),
+    ),
+    (
+        "\"moments\":[{\"threads\":[{\"id\":1,\"name\":\"m\",\"frames\":[{\"name\":\"f\",\"source\":0,\"line\":2,\"scopes\":[{\"name\":\"s\",\"variables\":[{\"name\":\"v\",\"value\":\"1\",\"variables\":[{\"name\":\"w\",\"value\":\"2\"}]}]}]}]}],\"thread\":1,\"output\":\"o\",\"waits\":true}]",
+        "\"moments\":[[]]",
+        Some(RecordingKey::Moments),
+    ),
+    (
+        "\"moments\":[{\"threads\":[{\"id\":1,\"name\":\"m\",\"frames\":[{\"name\":\"f\",\"source\":0,\"line\":2,\"scopes\":[{\"name\":\"s\",\"variables\":[{\"name\":\"v\",\"value\":\"1\",\"variables\":[{\"name\":\"w\",\"value\":\"2\"}]}]}]}]}],\"thread\":1,\"output\":\"o\",\"waits\":true}]",
+        "\"moments\":[\"x\"]",
+        Some(RecordingKey::Moments),
+    ),
+    (
+        "\"threads\":[{\"id\":1,\"name\":\"m\",\"frames\":[{\"name\":\"f\",\"source\":0,\"line\":2,\"scopes\":[{\"name\":\"s\",\"variables\":[{\"name\":\"v\",\"value\":\"1\",\"variables\":[{\"name\":\"w\",\"value\":\"2\"}]}]}]}]}],",
+        "",
+        Some(RecordingKey::Threads),
+    ),
+    (
+        "\"threads\":[{\"id\":1,\"name\":\"m\",\"frames\":[{\"name\":\"f\",\"source\":0,\"line\":2,\"scopes\":[{\"name\":\"s\",\"variables\":[{\"name\":\"v\",\"value\":\"1\",\"variables\":[{\"name\":\"w\",\"value\":\"2\"}]}]}]}]}]",
+        "\"threads\":null",
+        Some(RecordingKey::Threads),
+    ),
+    (
+        "\"threads\":[{\"id\":1,\"name\":\"m\",\"frames\":[{\"name\":\"f\",\"source\":0,\"line\":2,\"scopes\":[{\"name\":\"s\",\"variables\":[{\"name\":\"v\",\"value\":\"1\",\"variables\":[{\"name\":\"w\",\"value\":\"2\"}]}]}]}]}]",
+        "\"threads\":{}",
+        Some(RecordingKey::Threads),
+    ),
+    (
+        "\"threads\":[{\"id\":1,\"name\":\"m\",\"frames\":[{\"name\":\"f\",\"source\":0,\"line\":2,\"scopes\":[{\"name\":\"s\",\"variables\":[{\"name\":\"v\",\"value\":\"1\",\"variables\":[{\"name\":\"w\",\"value\":\"2\"}]}]}]}]}]",
+        "\"threads\":[null]",
+        Some(RecordingKey::Threads),
+    ),
+    (
+        "\"threads\":[{\"id\":1,\"name\":\"m\",\"frames\":[{\"name\":\"f\",\"source\":0,\"line\":2,\"scopes\":[{\"name\":\"s\",\"variables\":[{\"name\":\"v\",\"value\":\"1\",\"variables\":[{\"name\":\"w\",\"value\":\"2\"}]}]}]}]}]",
+        "\"threads\":[[]]",
+        Some(RecordingKey::Threads),
+    ),
+    (
+        "\"threads\":[{\"id\":1,\"name\":\"m\",\"frames\":[{\"name\":\"f\",\"source\":0,\"line\":2,\"scopes\":[{\"name\":\"s\",\"variables\":[{\"name\":\"v\",\"value\":\"1\",\"variables\":[{\"name\":\"w\",\"value\":\"2\"}]}]}]}]}]",
+        "\"threads\":[0]",
+        Some(RecordingKey::Threads),
+    ),
+    (
+        "\"threads\":[{\"id\":1,\"name\":\"m\",\"frames\":[{\"name\":\"f\",\"source\":0,\"line\":2,\"scopes\":[{\"name\":\"s\",\"variables\":[{\"name\":\"v\",\"value\":\"1\",\"variables\":[{\"name\":\"w\",\"value\":\"2\"}]}]}]}]}]",
+        "\"threads\":[]",
+        Some(RecordingKey::Thread),
+    ),
+    ("\"id\":1,", "", Some(RecordingKey::Id)),
+    ("\"id\":1", "\"id\":null", Some(RecordingKey::Id)),
+    ("\"id\":1", "\"id\":\"1\"", Some(RecordingKey::Id)),
+    ("\"id\":1", "\"id\":1.0", Some(RecordingKey::Id)),
+    (
+        "\"id\":1",
+        "\"id\":9007199254740992",
+        Some(RecordingKey::Id),
+    ),
+    (
+        "\"id\":1",
+        "\"id\":-9007199254740992",
+        Some(RecordingKey::Id),
+    ),
+    (
+        "\"id\":1",
+        "\"id\":9007199254740991",
+        Some(RecordingKey::Thread),
+    ),
+    (
+        "\"id\":1",
+        "\"id\":-9007199254740991",
+        Some(RecordingKey::Thread),
+    ),
+    (
+        "\"threads\":[",
+        "\"threads\":[{\"id\":1,\"name\":\"n\",\"frames\":[{\"name\":\"g\",\"source\":0,\"line\":1}]},",
+        Some(RecordingKey::Id),
+    ),
+    (
+        "\"threads\":[",
+        "\"threads\":[{\"id\":2,\"name\":\"n\",\"frames\":[{\"name\":\"g\",\"source\":0,\"line\":1}]},",
+        None,
+    ),
+    (
+        "\"threads\":[",
+        "\"threads\":[{\"id\":2,\"name\":\"n\",\"frames\":[{\"name\":\"g\",\"source\":0,\"line\":1}]},{\"id\":2,\"name\":\"n\",\"frames\":[{\"name\":\"g\",\"source\":0,\"line\":1}]},",
+        Some(RecordingKey::Id),
+    ),
+    (
+        "\"threads\":[",
+        "\"threads\":[{\"id\":2,\"name\":\"n\",\"frames\":[]},",
+        Some(RecordingKey::Frames),
+    ),
+    ("\"name\":\"m\",", "", Some(RecordingKey::Name)),
+    ("\"name\":\"m\"", "\"name\":null", Some(RecordingKey::Name)),
+];
 
 /// Moments, threads and their ids.
 #[test]
 fn moments_and_threads(rt: HostRuntime) -> Result<(), Fail> {
-    let wrong = first_wrong(
-        rt.alloc(),
-        &[
-            (
-                ",\"moments\":[{\"threads\":[{\"id\":1,\"name\":\"m\",\"frames\":[{\"name\":\"f\",\"source\":0,\"line\":2,\"scopes\":[{\"name\":\"s\",\"variables\":[{\"name\":\"v\",\"value\":\"1\",\"variables\":[{\"name\":\"w\",\"value\":\"2\"}]}]}]}]}],\"thread\":1,\"output\":\"o\",\"waits\":true}]",
-                "",
-                Some(RecordingKey::Moments),
-            ),
-            (
-                "\"moments\":[{\"threads\":[{\"id\":1,\"name\":\"m\",\"frames\":[{\"name\":\"f\",\"source\":0,\"line\":2,\"scopes\":[{\"name\":\"s\",\"variables\":[{\"name\":\"v\",\"value\":\"1\",\"variables\":[{\"name\":\"w\",\"value\":\"2\"}]}]}]}]}],\"thread\":1,\"output\":\"o\",\"waits\":true}]",
-                "\"moments\":null",
-                Some(RecordingKey::Moments),
-            ),
-            (
-                "\"moments\":[{\"threads\":[{\"id\":1,\"name\":\"m\",\"frames\":[{\"name\":\"f\",\"source\":0,\"line\":2,\"scopes\":[{\"name\":\"s\",\"variables\":[{\"name\":\"v\",\"value\":\"1\",\"variables\":[{\"name\":\"w\",\"value\":\"2\"}]}]}]}]}],\"thread\":1,\"output\":\"o\",\"waits\":true}]",
-                "\"moments\":[]",
-                Some(RecordingKey::Moments),
-            ),
-            (
-                "\"moments\":[{\"threads\":[{\"id\":1,\"name\":\"m\",\"frames\":[{\"name\":\"f\",\"source\":0,\"line\":2,\"scopes\":[{\"name\":\"s\",\"variables\":[{\"name\":\"v\",\"value\":\"1\",\"variables\":[{\"name\":\"w\",\"value\":\"2\"}]}]}]}]}],\"thread\":1,\"output\":\"o\",\"waits\":true}]",
-                "\"moments\":{}",
-                Some(RecordingKey::Moments),
-            ),
-            (
-                "\"moments\":[{\"threads\":[{\"id\":1,\"name\":\"m\",\"frames\":[{\"name\":\"f\",\"source\":0,\"line\":2,\"scopes\":[{\"name\":\"s\",\"variables\":[{\"name\":\"v\",\"value\":\"1\",\"variables\":[{\"name\":\"w\",\"value\":\"2\"}]}]}]}]}],\"thread\":1,\"output\":\"o\",\"waits\":true}]",
-                "\"moments\":[null]",
-                Some(RecordingKey::Moments),
-            ),
-            (
-                "\"moments\":[{\"threads\":[{\"id\":1,\"name\":\"m\",\"frames\":[{\"name\":\"f\",\"source\":0,\"line\":2,\"scopes\":[{\"name\":\"s\",\"variables\":[{\"name\":\"v\",\"value\":\"1\",\"variables\":[{\"name\":\"w\",\"value\":\"2\"}]}]}]}]}],\"thread\":1,\"output\":\"o\",\"waits\":true}]",
-                "\"moments\":[[]]",
-                Some(RecordingKey::Moments),
-            ),
-            (
-                "\"moments\":[{\"threads\":[{\"id\":1,\"name\":\"m\",\"frames\":[{\"name\":\"f\",\"source\":0,\"line\":2,\"scopes\":[{\"name\":\"s\",\"variables\":[{\"name\":\"v\",\"value\":\"1\",\"variables\":[{\"name\":\"w\",\"value\":\"2\"}]}]}]}]}],\"thread\":1,\"output\":\"o\",\"waits\":true}]",
-                "\"moments\":[\"x\"]",
-                Some(RecordingKey::Moments),
-            ),
-            (
-                "\"threads\":[{\"id\":1,\"name\":\"m\",\"frames\":[{\"name\":\"f\",\"source\":0,\"line\":2,\"scopes\":[{\"name\":\"s\",\"variables\":[{\"name\":\"v\",\"value\":\"1\",\"variables\":[{\"name\":\"w\",\"value\":\"2\"}]}]}]}]}],",
-                "",
-                Some(RecordingKey::Threads),
-            ),
-            (
-                "\"threads\":[{\"id\":1,\"name\":\"m\",\"frames\":[{\"name\":\"f\",\"source\":0,\"line\":2,\"scopes\":[{\"name\":\"s\",\"variables\":[{\"name\":\"v\",\"value\":\"1\",\"variables\":[{\"name\":\"w\",\"value\":\"2\"}]}]}]}]}]",
-                "\"threads\":null",
-                Some(RecordingKey::Threads),
-            ),
-            (
-                "\"threads\":[{\"id\":1,\"name\":\"m\",\"frames\":[{\"name\":\"f\",\"source\":0,\"line\":2,\"scopes\":[{\"name\":\"s\",\"variables\":[{\"name\":\"v\",\"value\":\"1\",\"variables\":[{\"name\":\"w\",\"value\":\"2\"}]}]}]}]}]",
-                "\"threads\":{}",
-                Some(RecordingKey::Threads),
-            ),
-            (
-                "\"threads\":[{\"id\":1,\"name\":\"m\",\"frames\":[{\"name\":\"f\",\"source\":0,\"line\":2,\"scopes\":[{\"name\":\"s\",\"variables\":[{\"name\":\"v\",\"value\":\"1\",\"variables\":[{\"name\":\"w\",\"value\":\"2\"}]}]}]}]}]",
-                "\"threads\":[null]",
-                Some(RecordingKey::Threads),
-            ),
-            (
-                "\"threads\":[{\"id\":1,\"name\":\"m\",\"frames\":[{\"name\":\"f\",\"source\":0,\"line\":2,\"scopes\":[{\"name\":\"s\",\"variables\":[{\"name\":\"v\",\"value\":\"1\",\"variables\":[{\"name\":\"w\",\"value\":\"2\"}]}]}]}]}]",
-                "\"threads\":[[]]",
-                Some(RecordingKey::Threads),
-            ),
-            (
-                "\"threads\":[{\"id\":1,\"name\":\"m\",\"frames\":[{\"name\":\"f\",\"source\":0,\"line\":2,\"scopes\":[{\"name\":\"s\",\"variables\":[{\"name\":\"v\",\"value\":\"1\",\"variables\":[{\"name\":\"w\",\"value\":\"2\"}]}]}]}]}]",
-                "\"threads\":[0]",
-                Some(RecordingKey::Threads),
-            ),
-            (
-                "\"threads\":[{\"id\":1,\"name\":\"m\",\"frames\":[{\"name\":\"f\",\"source\":0,\"line\":2,\"scopes\":[{\"name\":\"s\",\"variables\":[{\"name\":\"v\",\"value\":\"1\",\"variables\":[{\"name\":\"w\",\"value\":\"2\"}]}]}]}]}]",
-                "\"threads\":[]",
-                Some(RecordingKey::Thread),
-            ),
-            ("\"id\":1,", "", Some(RecordingKey::Id)),
-            ("\"id\":1", "\"id\":null", Some(RecordingKey::Id)),
-            ("\"id\":1", "\"id\":\"1\"", Some(RecordingKey::Id)),
-            ("\"id\":1", "\"id\":1.0", Some(RecordingKey::Id)),
-            (
-                "\"id\":1",
-                "\"id\":9007199254740992",
-                Some(RecordingKey::Id),
-            ),
-            (
-                "\"id\":1",
-                "\"id\":-9007199254740992",
-                Some(RecordingKey::Id),
-            ),
-            (
-                "\"id\":1",
-                "\"id\":9007199254740991",
-                Some(RecordingKey::Thread),
-            ),
-            (
-                "\"id\":1",
-                "\"id\":-9007199254740991",
-                Some(RecordingKey::Thread),
-            ),
-            (
-                "\"threads\":[",
-                "\"threads\":[{\"id\":1,\"name\":\"n\",\"frames\":[{\"name\":\"g\",\"source\":0,\"line\":1}]},",
-                Some(RecordingKey::Id),
-            ),
-            (
-                "\"threads\":[",
-                "\"threads\":[{\"id\":2,\"name\":\"n\",\"frames\":[{\"name\":\"g\",\"source\":0,\"line\":1}]},",
-                None,
-            ),
-            (
-                "\"threads\":[",
-                "\"threads\":[{\"id\":2,\"name\":\"n\",\"frames\":[{\"name\":\"g\",\"source\":0,\"line\":1}]},{\"id\":2,\"name\":\"n\",\"frames\":[{\"name\":\"g\",\"source\":0,\"line\":1}]},",
-                Some(RecordingKey::Id),
-            ),
-            (
-                "\"threads\":[",
-                "\"threads\":[{\"id\":2,\"name\":\"n\",\"frames\":[]},",
-                Some(RecordingKey::Frames),
-            ),
-            ("\"name\":\"m\",", "", Some(RecordingKey::Name)),
-            ("\"name\":\"m\"", "\"name\":null", Some(RecordingKey::Name)),
-        ],
-    )?;
+    let wrong = first_wrong(rt.alloc(), &MOMENTS_AND_THREADS)?;
     assert_eq!(rt; wrong.as_str(), "");
     Ok(())
 }
+
+static FRAMES_AND_SCOPES: [Row; 28] = [
+    (
+        ",\"frames\":[{\"name\":\"f\",\"source\":0,\"line\":2,\"scopes\":[{\"name\":\"s\",\"variables\":[{\"name\":\"v\",\"value\":\"1\",\"variables\":[{\"name\":\"w\",\"value\":\"2\"}]}]}]}]",
+        "",
+        Some(RecordingKey::Frames),
+    ),
+    (
+        "\"frames\":[{\"name\":\"f\",\"source\":0,\"line\":2,\"scopes\":[{\"name\":\"s\",\"variables\":[{\"name\":\"v\",\"value\":\"1\",\"variables\":[{\"name\":\"w\",\"value\":\"2\"}]}]}]}]",
+        "\"frames\":null",
+        Some(RecordingKey::Frames),
+    ),
+    (
+        "\"frames\":[{\"name\":\"f\",\"source\":0,\"line\":2,\"scopes\":[{\"name\":\"s\",\"variables\":[{\"name\":\"v\",\"value\":\"1\",\"variables\":[{\"name\":\"w\",\"value\":\"2\"}]}]}]}]",
+        "\"frames\":[]",
+        Some(RecordingKey::Frames),
+    ),
+    (
+        "\"frames\":[{\"name\":\"f\",\"source\":0,\"line\":2,\"scopes\":[{\"name\":\"s\",\"variables\":[{\"name\":\"v\",\"value\":\"1\",\"variables\":[{\"name\":\"w\",\"value\":\"2\"}]}]}]}]",
+        "\"frames\":{}",
+        Some(RecordingKey::Frames),
+    ),
+    (
+        "\"frames\":[{\"name\":\"f\",\"source\":0,\"line\":2,\"scopes\":[{\"name\":\"s\",\"variables\":[{\"name\":\"v\",\"value\":\"1\",\"variables\":[{\"name\":\"w\",\"value\":\"2\"}]}]}]}]",
+        "\"frames\":[null]",
+        Some(RecordingKey::Frames),
+    ),
+    (
+        "\"frames\":[{\"name\":\"f\",\"source\":0,\"line\":2,\"scopes\":[{\"name\":\"s\",\"variables\":[{\"name\":\"v\",\"value\":\"1\",\"variables\":[{\"name\":\"w\",\"value\":\"2\"}]}]}]}]",
+        "\"frames\":[true]",
+        Some(RecordingKey::Frames),
+    ),
+    ("\"name\":\"f\",", "", Some(RecordingKey::Name)),
+    ("\"name\":\"f\"", "\"name\":1", Some(RecordingKey::Name)),
+    ("\"source\":0,", "", Some(RecordingKey::Source)),
+    ("\"source\":0", "\"source\":1", Some(RecordingKey::Source)),
+    ("\"source\":0", "\"source\":-1", Some(RecordingKey::Source)),
+    (
+        "\"source\":0",
+        "\"source\":null",
+        Some(RecordingKey::Source),
+    ),
+    ("\"source\":0", "\"source\":0.0", Some(RecordingKey::Source)),
+    (
+        "\"source\":0",
+        "\"source\":\"0\"",
+        Some(RecordingKey::Source),
+    ),
+    ("\"line\":2,", "", Some(RecordingKey::Line)),
+    ("\"line\":2", "\"line\":0", Some(RecordingKey::Line)),
+    ("\"line\":2", "\"line\":3", Some(RecordingKey::Line)),
+    ("\"line\":2", "\"line\":1", None),
+    ("\"line\":2", "\"line\":null", Some(RecordingKey::Line)),
+    (
+        "\"line\":2",
+        "\"line\":2147483648",
+        Some(RecordingKey::Line),
+    ),
+    (
+        ",\"scopes\":[{\"name\":\"s\",\"variables\":[{\"name\":\"v\",\"value\":\"1\",\"variables\":[{\"name\":\"w\",\"value\":\"2\"}]}]}]",
+        "",
+        None,
+    ),
+    (
+        "\"scopes\":[{\"name\":\"s\",\"variables\":[{\"name\":\"v\",\"value\":\"1\",\"variables\":[{\"name\":\"w\",\"value\":\"2\"}]}]}]",
+        "\"scopes\":[]",
+        None,
+    ),
+    (
+        "\"scopes\":[{\"name\":\"s\",\"variables\":[{\"name\":\"v\",\"value\":\"1\",\"variables\":[{\"name\":\"w\",\"value\":\"2\"}]}]}]",
+        "\"scopes\":null",
+        Some(RecordingKey::Scopes),
+    ),
+    (
+        "\"scopes\":[{\"name\":\"s\",\"variables\":[{\"name\":\"v\",\"value\":\"1\",\"variables\":[{\"name\":\"w\",\"value\":\"2\"}]}]}]",
+        "\"scopes\":{}",
+        Some(RecordingKey::Scopes),
+    ),
+    (
+        "\"scopes\":[{\"name\":\"s\",\"variables\":[{\"name\":\"v\",\"value\":\"1\",\"variables\":[{\"name\":\"w\",\"value\":\"2\"}]}]}]",
+        "\"scopes\":[null]",
+        Some(RecordingKey::Scopes),
+    ),
+    (
+        "\"scopes\":[{\"name\":\"s\",\"variables\":[{\"name\":\"v\",\"value\":\"1\",\"variables\":[{\"name\":\"w\",\"value\":\"2\"}]}]}]",
+        "\"scopes\":[[]]",
+        Some(RecordingKey::Scopes),
+    ),
+    ("\"name\":\"s\",", "", Some(RecordingKey::Name)),
+    ("\"name\":\"s\"", "\"name\":null", Some(RecordingKey::Name)),
+];
 
 /// Frames and scopes.
 #[test]
 fn frames_and_scopes(rt: HostRuntime) -> Result<(), Fail> {
-    let wrong = first_wrong(
-        rt.alloc(),
-        &[
-            (
-                ",\"frames\":[{\"name\":\"f\",\"source\":0,\"line\":2,\"scopes\":[{\"name\":\"s\",\"variables\":[{\"name\":\"v\",\"value\":\"1\",\"variables\":[{\"name\":\"w\",\"value\":\"2\"}]}]}]}]",
-                "",
-                Some(RecordingKey::Frames),
-            ),
-            (
-                "\"frames\":[{\"name\":\"f\",\"source\":0,\"line\":2,\"scopes\":[{\"name\":\"s\",\"variables\":[{\"name\":\"v\",\"value\":\"1\",\"variables\":[{\"name\":\"w\",\"value\":\"2\"}]}]}]}]",
-                "\"frames\":null",
-                Some(RecordingKey::Frames),
-            ),
-            (
-                "\"frames\":[{\"name\":\"f\",\"source\":0,\"line\":2,\"scopes\":[{\"name\":\"s\",\"variables\":[{\"name\":\"v\",\"value\":\"1\",\"variables\":[{\"name\":\"w\",\"value\":\"2\"}]}]}]}]",
-                "\"frames\":[]",
-                Some(RecordingKey::Frames),
-            ),
-            (
-                "\"frames\":[{\"name\":\"f\",\"source\":0,\"line\":2,\"scopes\":[{\"name\":\"s\",\"variables\":[{\"name\":\"v\",\"value\":\"1\",\"variables\":[{\"name\":\"w\",\"value\":\"2\"}]}]}]}]",
-                "\"frames\":{}",
-                Some(RecordingKey::Frames),
-            ),
-            (
-                "\"frames\":[{\"name\":\"f\",\"source\":0,\"line\":2,\"scopes\":[{\"name\":\"s\",\"variables\":[{\"name\":\"v\",\"value\":\"1\",\"variables\":[{\"name\":\"w\",\"value\":\"2\"}]}]}]}]",
-                "\"frames\":[null]",
-                Some(RecordingKey::Frames),
-            ),
-            (
-                "\"frames\":[{\"name\":\"f\",\"source\":0,\"line\":2,\"scopes\":[{\"name\":\"s\",\"variables\":[{\"name\":\"v\",\"value\":\"1\",\"variables\":[{\"name\":\"w\",\"value\":\"2\"}]}]}]}]",
-                "\"frames\":[true]",
-                Some(RecordingKey::Frames),
-            ),
-            ("\"name\":\"f\",", "", Some(RecordingKey::Name)),
-            ("\"name\":\"f\"", "\"name\":1", Some(RecordingKey::Name)),
-            ("\"source\":0,", "", Some(RecordingKey::Source)),
-            ("\"source\":0", "\"source\":1", Some(RecordingKey::Source)),
-            ("\"source\":0", "\"source\":-1", Some(RecordingKey::Source)),
-            (
-                "\"source\":0",
-                "\"source\":null",
-                Some(RecordingKey::Source),
-            ),
-            ("\"source\":0", "\"source\":0.0", Some(RecordingKey::Source)),
-            (
-                "\"source\":0",
-                "\"source\":\"0\"",
-                Some(RecordingKey::Source),
-            ),
-            ("\"line\":2,", "", Some(RecordingKey::Line)),
-            ("\"line\":2", "\"line\":0", Some(RecordingKey::Line)),
-            ("\"line\":2", "\"line\":3", Some(RecordingKey::Line)),
-            ("\"line\":2", "\"line\":1", None),
-            ("\"line\":2", "\"line\":null", Some(RecordingKey::Line)),
-            (
-                "\"line\":2",
-                "\"line\":2147483648",
-                Some(RecordingKey::Line),
-            ),
-            (
-                ",\"scopes\":[{\"name\":\"s\",\"variables\":[{\"name\":\"v\",\"value\":\"1\",\"variables\":[{\"name\":\"w\",\"value\":\"2\"}]}]}]",
-                "",
-                None,
-            ),
-            (
-                "\"scopes\":[{\"name\":\"s\",\"variables\":[{\"name\":\"v\",\"value\":\"1\",\"variables\":[{\"name\":\"w\",\"value\":\"2\"}]}]}]",
-                "\"scopes\":[]",
-                None,
-            ),
-            (
-                "\"scopes\":[{\"name\":\"s\",\"variables\":[{\"name\":\"v\",\"value\":\"1\",\"variables\":[{\"name\":\"w\",\"value\":\"2\"}]}]}]",
-                "\"scopes\":null",
-                Some(RecordingKey::Scopes),
-            ),
-            (
-                "\"scopes\":[{\"name\":\"s\",\"variables\":[{\"name\":\"v\",\"value\":\"1\",\"variables\":[{\"name\":\"w\",\"value\":\"2\"}]}]}]",
-                "\"scopes\":{}",
-                Some(RecordingKey::Scopes),
-            ),
-            (
-                "\"scopes\":[{\"name\":\"s\",\"variables\":[{\"name\":\"v\",\"value\":\"1\",\"variables\":[{\"name\":\"w\",\"value\":\"2\"}]}]}]",
-                "\"scopes\":[null]",
-                Some(RecordingKey::Scopes),
-            ),
-            (
-                "\"scopes\":[{\"name\":\"s\",\"variables\":[{\"name\":\"v\",\"value\":\"1\",\"variables\":[{\"name\":\"w\",\"value\":\"2\"}]}]}]",
-                "\"scopes\":[[]]",
-                Some(RecordingKey::Scopes),
-            ),
-            ("\"name\":\"s\",", "", Some(RecordingKey::Name)),
-            ("\"name\":\"s\"", "\"name\":null", Some(RecordingKey::Name)),
-        ],
-    )?;
+    let wrong = first_wrong(rt.alloc(), &FRAMES_AND_SCOPES)?;
     assert_eq!(rt; wrong.as_str(), "");
     Ok(())
 }
 
+static VARIABLES_AND_THE_REST: [Row; 32] = [
+    (
+        ",\"variables\":[{\"name\":\"v\",\"value\":\"1\",\"variables\":[{\"name\":\"w\",\"value\":\"2\"}]}]",
+        "",
+        None,
+    ),
+    (
+        "\"variables\":[{\"name\":\"v\",\"value\":\"1\",\"variables\":[{\"name\":\"w\",\"value\":\"2\"}]}]",
+        "\"variables\":[]",
+        None,
+    ),
+    (
+        "\"variables\":[{\"name\":\"v\",\"value\":\"1\",\"variables\":[{\"name\":\"w\",\"value\":\"2\"}]}]",
+        "\"variables\":null",
+        Some(RecordingKey::Variables),
+    ),
+    (
+        "\"variables\":[{\"name\":\"v\",\"value\":\"1\",\"variables\":[{\"name\":\"w\",\"value\":\"2\"}]}]",
+        "\"variables\":{}",
+        Some(RecordingKey::Variables),
+    ),
+    (
+        "\"variables\":[{\"name\":\"v\",\"value\":\"1\",\"variables\":[{\"name\":\"w\",\"value\":\"2\"}]}]",
+        "\"variables\":[null]",
+        Some(RecordingKey::Variables),
+    ),
+    (
+        "\"variables\":[{\"name\":\"v\",\"value\":\"1\",\"variables\":[{\"name\":\"w\",\"value\":\"2\"}]}]",
+        "\"variables\":[3]",
+        Some(RecordingKey::Variables),
+    ),
+    ("\"name\":\"v\",", "", Some(RecordingKey::Name)),
+    ("\"value\":\"1\",", "", Some(RecordingKey::Value)),
+    ("\"value\":\"1\"", "\"value\":1", Some(RecordingKey::Value)),
+    (
+        ",\"variables\":[{\"name\":\"w\",\"value\":\"2\"}]",
+        "",
+        None,
+    ),
+    (
+        "\"variables\":[{\"name\":\"w\",\"value\":\"2\"}]",
+        "\"variables\":[]",
+        None,
+    ),
+    (
+        "\"variables\":[{\"name\":\"w\",\"value\":\"2\"}]",
+        "\"variables\":null",
+        Some(RecordingKey::Variables),
+    ),
+    (
+        "\"variables\":[{\"name\":\"w\",\"value\":\"2\"}]",
+        "\"variables\":[null]",
+        Some(RecordingKey::Variables),
+    ),
+    ("\"name\":\"w\",", "", Some(RecordingKey::Name)),
+    (",\"value\":\"2\"", "", Some(RecordingKey::Value)),
+    (
+        "\"value\":\"2\"",
+        "\"value\":null",
+        Some(RecordingKey::Value),
+    ),
+    ("\"thread\":1,", "", Some(RecordingKey::Thread)),
+    ("\"thread\":1", "\"thread\":2", Some(RecordingKey::Thread)),
+    (
+        "\"thread\":1",
+        "\"thread\":null",
+        Some(RecordingKey::Thread),
+    ),
+    ("\"thread\":1", "\"thread\":1.0", Some(RecordingKey::Thread)),
+    (
+        "\"thread\":1",
+        "\"thread\":\"1\"",
+        Some(RecordingKey::Thread),
+    ),
+    ("\"output\":\"o\",", "", None),
+    (
+        "\"output\":\"o\"",
+        "\"output\":null",
+        Some(RecordingKey::Output),
+    ),
+    (
+        "\"output\":\"o\"",
+        "\"output\":5",
+        Some(RecordingKey::Output),
+    ),
+    (",\"waits\":true", "", None),
+    (
+        "\"waits\":true",
+        "\"waits\":null",
+        Some(RecordingKey::Waits),
+    ),
+    (
+        "\"waits\":true",
+        "\"waits\":\"true\"",
+        Some(RecordingKey::Waits),
+    ),
+    ("\"waits\":true", "\"waits\":false", None),
+    (
+        "\"exit\":3,\"sources\":",
+        "\"x\":null,\"exit\":null,\"sources\":",
+        Some(RecordingKey::Exit),
+    ),
+    ("\"exit\":3", "\"other\":[1],\"exit\":3", None),
+    (
+        "\"thread\":1,\"output\":\"o\",\"waits\":true",
+        "\"waits\":null,\"output\":null,\"thread\":null",
+        Some(RecordingKey::Thread),
+    ),
+    (
+        "\"name\":\"v\",\"value\":\"1\"",
+        "\"value\":1,\"name\":1",
+        Some(RecordingKey::Name),
+    ),
+];
+
 /// Variables, the rest of a moment, and the order of keys.
 #[test]
 fn variables_and_the_rest(rt: HostRuntime) -> Result<(), Fail> {
-    let wrong = first_wrong(
-        rt.alloc(),
-        &[
-            (
-                ",\"variables\":[{\"name\":\"v\",\"value\":\"1\",\"variables\":[{\"name\":\"w\",\"value\":\"2\"}]}]",
-                "",
-                None,
-            ),
-            (
-                "\"variables\":[{\"name\":\"v\",\"value\":\"1\",\"variables\":[{\"name\":\"w\",\"value\":\"2\"}]}]",
-                "\"variables\":[]",
-                None,
-            ),
-            (
-                "\"variables\":[{\"name\":\"v\",\"value\":\"1\",\"variables\":[{\"name\":\"w\",\"value\":\"2\"}]}]",
-                "\"variables\":null",
-                Some(RecordingKey::Variables),
-            ),
-            (
-                "\"variables\":[{\"name\":\"v\",\"value\":\"1\",\"variables\":[{\"name\":\"w\",\"value\":\"2\"}]}]",
-                "\"variables\":{}",
-                Some(RecordingKey::Variables),
-            ),
-            (
-                "\"variables\":[{\"name\":\"v\",\"value\":\"1\",\"variables\":[{\"name\":\"w\",\"value\":\"2\"}]}]",
-                "\"variables\":[null]",
-                Some(RecordingKey::Variables),
-            ),
-            (
-                "\"variables\":[{\"name\":\"v\",\"value\":\"1\",\"variables\":[{\"name\":\"w\",\"value\":\"2\"}]}]",
-                "\"variables\":[3]",
-                Some(RecordingKey::Variables),
-            ),
-            ("\"name\":\"v\",", "", Some(RecordingKey::Name)),
-            ("\"value\":\"1\",", "", Some(RecordingKey::Value)),
-            ("\"value\":\"1\"", "\"value\":1", Some(RecordingKey::Value)),
-            (
-                ",\"variables\":[{\"name\":\"w\",\"value\":\"2\"}]",
-                "",
-                None,
-            ),
-            (
-                "\"variables\":[{\"name\":\"w\",\"value\":\"2\"}]",
-                "\"variables\":[]",
-                None,
-            ),
-            (
-                "\"variables\":[{\"name\":\"w\",\"value\":\"2\"}]",
-                "\"variables\":null",
-                Some(RecordingKey::Variables),
-            ),
-            (
-                "\"variables\":[{\"name\":\"w\",\"value\":\"2\"}]",
-                "\"variables\":[null]",
-                Some(RecordingKey::Variables),
-            ),
-            ("\"name\":\"w\",", "", Some(RecordingKey::Name)),
-            (",\"value\":\"2\"", "", Some(RecordingKey::Value)),
-            (
-                "\"value\":\"2\"",
-                "\"value\":null",
-                Some(RecordingKey::Value),
-            ),
-            ("\"thread\":1,", "", Some(RecordingKey::Thread)),
-            ("\"thread\":1", "\"thread\":2", Some(RecordingKey::Thread)),
-            (
-                "\"thread\":1",
-                "\"thread\":null",
-                Some(RecordingKey::Thread),
-            ),
-            ("\"thread\":1", "\"thread\":1.0", Some(RecordingKey::Thread)),
-            (
-                "\"thread\":1",
-                "\"thread\":\"1\"",
-                Some(RecordingKey::Thread),
-            ),
-            ("\"output\":\"o\",", "", None),
-            (
-                "\"output\":\"o\"",
-                "\"output\":null",
-                Some(RecordingKey::Output),
-            ),
-            (
-                "\"output\":\"o\"",
-                "\"output\":5",
-                Some(RecordingKey::Output),
-            ),
-            (",\"waits\":true", "", None),
-            (
-                "\"waits\":true",
-                "\"waits\":null",
-                Some(RecordingKey::Waits),
-            ),
-            (
-                "\"waits\":true",
-                "\"waits\":\"true\"",
-                Some(RecordingKey::Waits),
-            ),
-            ("\"waits\":true", "\"waits\":false", None),
-            (
-                "\"exit\":3,\"sources\":",
-                "\"x\":null,\"exit\":null,\"sources\":",
-                Some(RecordingKey::Exit),
-            ),
-            ("\"exit\":3", "\"other\":[1],\"exit\":3", None),
-            (
-                "\"thread\":1,\"output\":\"o\",\"waits\":true",
-                "\"waits\":null,\"output\":null,\"thread\":null",
-                Some(RecordingKey::Thread),
-            ),
-            (
-                "\"name\":\"v\",\"value\":\"1\"",
-                "\"value\":1,\"name\":1",
-                Some(RecordingKey::Name),
-            ),
-        ],
-    )?;
+    let wrong = first_wrong(rt.alloc(), &VARIABLES_AND_THE_REST)?;
     assert_eq!(rt; wrong.as_str(), "");
     Ok(())
 }

@@ -13,55 +13,56 @@ fn moved(alloc: Global, words: &str) -> Result<String, Fail> {
     played(alloc, &mut recorded, words)
 }
 
+static MOVES: [(&str, &str); 11] = [
+    (
+        "start poll poll poll",
+        "done; stdout 3 go\n; entry 1 line 1; nothing; ",
+    ),
+    (
+        "start poll poll next poll poll",
+        "done; stdout 3 go\n; entry 1 line 1; done; step 1 line 2; nothing; ",
+    ),
+    (
+        "start poll poll stepIn poll stepOut poll",
+        "done; stdout 3 go\n; entry 1 line 1; done; step 1 line 3; done; step 1 line 2; ",
+    ),
+    (
+        "start poll poll stepIn poll stepBack poll stepBack poll",
+        "done; stdout 3 go\n; entry 1 line 1; done; step 1 line 3; done; step 1 line 1; done; step 1 line 1; ",
+    ),
+    (
+        "start poll poll next poll line reverseContinue poll",
+        "done; stdout 3 go\n; entry 1 line 1; done; step 1 line 2; set; done; breakpoint 1 line 1; ",
+    ),
+    (
+        "start poll poll next poll line clear reverseContinue poll",
+        "done; stdout 3 go\n; entry 1 line 1; done; step 1 line 2; set; set; done; entry 1 line 1; ",
+    ),
+    (
+        "start poll poll continue poll poll pause poll continue poll poll",
+        "done; stdout 3 go\n; entry 1 line 1; done; nothing; nothing; done; pause 1 line 2; done; exited 0; nothing; ",
+    ),
+    (
+        "start pause poll poll poll",
+        "done; done; stdout 3 go\n; entry 1 line 1; nothing; ",
+    ),
+    (
+        "next pause poll start start",
+        "refused; refused; nothing; done; refused; ",
+    ),
+    (
+        "start poll poll pause end poll start next",
+        "done; stdout 3 go\n; entry 1 line 1; refused; ended; nothing; refused; refused; ",
+    ),
+    (
+        "start poll poll next line poll stepOut poll",
+        "done; stdout 3 go\n; entry 1 line 1; done; set; step 1 line 2; done; exited 0; ",
+    ),
+];
+
 #[test]
 fn moves(rt: HostRuntime) -> Result<(), Fail> {
-    let cases: [(&str, &str); 11] = [
-        (
-            "start poll poll poll",
-            "done; stdout 3 go\n; entry 1 line 1; nothing; ",
-        ),
-        (
-            "start poll poll next poll poll",
-            "done; stdout 3 go\n; entry 1 line 1; done; step 1 line 2; nothing; ",
-        ),
-        (
-            "start poll poll stepIn poll stepOut poll",
-            "done; stdout 3 go\n; entry 1 line 1; done; step 1 line 3; done; step 1 line 2; ",
-        ),
-        (
-            "start poll poll stepIn poll stepBack poll stepBack poll",
-            "done; stdout 3 go\n; entry 1 line 1; done; step 1 line 3; done; step 1 line 1; done; step 1 line 1; ",
-        ),
-        (
-            "start poll poll next poll line reverseContinue poll",
-            "done; stdout 3 go\n; entry 1 line 1; done; step 1 line 2; set; done; breakpoint 1 line 1; ",
-        ),
-        (
-            "start poll poll next poll line clear reverseContinue poll",
-            "done; stdout 3 go\n; entry 1 line 1; done; step 1 line 2; set; set; done; entry 1 line 1; ",
-        ),
-        (
-            "start poll poll continue poll poll pause poll continue poll poll",
-            "done; stdout 3 go\n; entry 1 line 1; done; nothing; nothing; done; pause 1 line 2; done; exited 0; nothing; ",
-        ),
-        (
-            "start pause poll poll poll",
-            "done; done; stdout 3 go\n; entry 1 line 1; nothing; ",
-        ),
-        (
-            "next pause poll start start",
-            "refused; refused; nothing; done; refused; ",
-        ),
-        (
-            "start poll poll pause end poll start next",
-            "done; stdout 3 go\n; entry 1 line 1; refused; ended; nothing; refused; refused; ",
-        ),
-        (
-            "start poll poll next line poll stepOut poll",
-            "done; stdout 3 go\n; entry 1 line 1; done; set; step 1 line 2; done; exited 0; ",
-        ),
-    ];
-    for (words, wanted) in &cases {
+    for (words, wanted) in &MOVES {
         let told = moved(rt.alloc(), words)?;
         assert_eq!(rt; told.as_str(), *wanted);
     }

@@ -1,8 +1,6 @@
-//! Worked examples of serving, of the tools and of the library, as tests alone.
+//! Worked examples of serving and of the tools, as tests alone.
 #![tactic(auto)]
 
-#[cfg(test)]
-mod library;
 #[cfg(test)]
 mod listings;
 #[cfg(test)]

@@ -8,7 +8,7 @@ use dap_debuggee::Recorded;
 use dap_frame::{End, FrameFault, Limits, Refusal, write_frame};
 use dap_message::BodyRefusal;
 use dap_samples::calls::{
-    CAPABILITIES, INITIALIZE, INITIALIZED, NOT_INITIALIZED, THREADS, framed, recorded,
+    CAPABILITIES, INITIALIZE, INITIALIZED, NOT_INITIALIZED, THREADS, framed, limits, recorded,
 };
 use dap_samples::streams::{Flushed, Pieces, Short, Stuck};
 use dap_tool::{ToolFault, WrapFault, fault_line, status, wrap};
@@ -71,21 +71,46 @@ fn clean(phase: Phase) -> Result<Served, ServeFault> {
     })
 }
 
+/// Fails the test where serving a stream on terms ends otherwise, or writes other bytes.
+fn expect(
+    rt: &HostRuntime,
+    limits: Limits,
+    stream: (&[u8], Terms),
+    end: Result<Served, ServeFault>,
+    written: &[u8],
+) -> Result<(), Fail> {
+    let (input, terms) = stream;
+    let outcome = served(rt.alloc(), limits, input, terms)?;
+    if outcome.end == end && outcome.written.as_slice() == written {
+        return Ok(());
+    }
+    eprintln!(rt; "{:?}, {} bytes", outcome.end, outcome.written.len())?;
+    Err(Fail::from("served otherwise"))
+}
+
+/// The frames that answer `initialize`.
+fn initialized(alloc: Global) -> Result<Vec<u8>, Fail> {
+    framed(alloc, &[CAPABILITIES, INITIALIZED])
+}
+
 /// `initialize`, cut at each place, is answered with the capabilities; no bytes are answered with none.
 #[test]
 fn initialize_is_answered(rt: HostRuntime) -> Result<(), Fail> {
     let input = framed(rt.alloc(), &[INITIALIZE])?;
-    let answer = framed(rt.alloc(), &[CAPABILITIES, INITIALIZED])?;
+    let answer = initialized(rt.alloc())?;
     assert_eq!(rt; (input.len(), answer.len()), (103, 342));
+    let end = clean(Phase::Ready);
     for size in 1..104 {
-        let outcome = served(rt.alloc(), Limits::usual(), &input, pieces(size))?;
-        assert_eq!(rt; outcome.end, clean(Phase::Ready), "pieces of {size}");
-        assert_eq!(rt; outcome.written.as_slice(), answer.as_slice());
+        let stream = (input.as_slice(), pieces(size));
+        expect(&rt, Limits::usual(), stream, end, &answer)?;
     }
-    let outcome = served(rt.alloc(), Limits::usual(), b"", pieces(1))?;
-    assert_eq!(rt; outcome.end, clean(Phase::Fresh));
-    assert!(rt; outcome.written.is_empty());
-    Ok(())
+    expect(
+        &rt,
+        Limits::usual(),
+        (b"", pieces(1)),
+        clean(Phase::Fresh),
+        b"",
+    )
 }
 
 /// A request before `initialize`; the writer takes ten bytes and fails, or no read may be made.
@@ -93,148 +118,164 @@ fn initialize_is_answered(rt: HostRuntime) -> Result<(), Fail> {
 fn not_initialized(rt: HostRuntime) -> Result<(), Fail> {
     let input = framed(rt.alloc(), &[THREADS])?;
     let answer = framed(rt.alloc(), &[NOT_INITIALIZED])?;
-    let outcome = served(rt.alloc(), Limits::usual(), &input, pieces(10))?;
-    assert_eq!(rt; outcome.end, clean(Phase::Fresh));
-    assert_eq!(rt; outcome.written.as_slice(), answer.as_slice());
     let ten = Terms {
         room: 10,
         ..pieces(4096)
     };
-    let outcome = served(rt.alloc(), Limits::usual(), &input, ten)?;
-    assert_eq!(rt; outcome.end, Err(ServeFault::Write { written: 10 }));
-    assert_eq!(rt; outcome.written.as_slice(), b"Content-Le".as_slice());
     let none = Terms {
         max_reads: 0,
         ..pieces(4096)
     };
-    let outcome = served(rt.alloc(), Limits::usual(), &input, none)?;
-    assert_eq!(rt; outcome.end, Err(ServeFault::TooManyReads));
-    assert!(rt; outcome.written.is_empty());
-    Ok(())
-}
-
-/// Each refusal of framing comes after the answers to what stood before, with its offset, its line and status 3.
-#[test]
-fn refused_frames(rt: HostRuntime) -> Result<(), Fail> {
-    let answer = framed(rt.alloc(), &[CAPABILITIES, INITIALIZED])?;
-    let limits = Limits::new(64, 1024, 64, 1, 1, 10, 1).ok().ok_or("limits")?;
-    let long = vec![in rt.alloc(); b'a'; 64]?;
-    let cases: [(&[u8], Refusal, &[u8]); 6] = [
-        (
-            &long,
-            Refusal::HeaderTooLong,
-            b"dap: HeaderTooLong at 103\n",
-        ),
-        (b"\r\n\r\n", Refusal::BadHeader, b"dap: BadHeader at 103\n"),
-        (
-            b"A: b\r\n\r\n",
-            Refusal::NoLength,
-            b"dap: NoLength at 103\n",
-        ),
-        (
-            b"Content-Length: 2\r\nContent-Length: 2\r\n\r\n",
-            Refusal::TwoLengths,
-            b"dap: TwoLengths at 103\n",
-        ),
-        (
-            b"Content-Length: 2x\r\n\r\n",
-            Refusal::BadLength,
-            b"dap: BadLength at 103\n",
-        ),
-        (
-            b"Content-Length: 1025\r\n\r\n",
-            Refusal::BodyTooLong,
-            b"dap: BodyTooLong at 103\n",
-        ),
+    let cases: [(Terms, Result<Served, ServeFault>, &[u8]); 3] = [
+        (pieces(10), clean(Phase::Fresh), &answer),
+        (ten, Err(ServeFault::Write { written: 10 }), b"Content-Le"),
+        (none, Err(ServeFault::TooManyReads), b""),
     ];
-    for (bad, refusal, line) in &cases {
-        let mut input = framed(rt.alloc(), &[INITIALIZE])?;
-        input.extend_from_slice(bad)?;
-        write_frame(&mut input, INITIALIZE)?;
-        for size in [1, 100, 4096] {
-            let outcome = served(rt.alloc(), limits, &input, pieces(size))?;
-            let fault = ServeFault::Adapter(AdapterFault::Frame(FrameFault {
-                cause: *refusal,
-                offset: 103,
-            }));
-            assert_eq!(rt; outcome.end, Err(fault));
-            assert_eq!(rt; outcome.written.as_slice(), answer.as_slice());
-            let fault = ToolFault::Serve(fault);
-            assert_eq!(rt; status(&fault), 3);
-            assert_eq!(rt; fault_line(rt.alloc(), &fault)?.as_slice(), *line);
-        }
+    for (terms, end, written) in &cases {
+        expect(&rt, Limits::usual(), (&input, *terms), *end, written)?;
     }
     Ok(())
 }
 
+/// Fails the test where a refusal has another status or line.
+fn expect_line(alloc: Global, fault: ServeFault, line: &[u8]) -> Result<(), Fail> {
+    let fault = ToolFault::Serve(fault);
+    let told = fault_line(alloc, &fault)?;
+    if status(&fault) == 3 && told.as_slice() == line {
+        return Ok(());
+    }
+    Err(Fail::from("told otherwise"))
+}
+
+/// Fails the test where a stream that begins with `initialize` is not refused after its answer, in pieces of some sizes.
+fn expect_refused(
+    rt: &HostRuntime,
+    limits: Limits,
+    input: &[u8],
+    fault: AdapterFault,
+    line: &[u8],
+) -> Result<(), Fail> {
+    let answer = initialized(rt.alloc())?;
+    let fault = ServeFault::Adapter(fault);
+    for size in [1, 100, 4096] {
+        expect(rt, limits, (input, pieces(size)), Err(fault), &answer)?;
+    }
+    expect_line(rt.alloc(), fault, line)
+}
+
+/// `initialize` before and after some bytes.
+fn with_bytes_between(alloc: Global, bytes: &[u8]) -> Result<Vec<u8>, Fail> {
+    let mut input = framed(alloc, &[INITIALIZE])?;
+    input.extend_from_slice(bytes)?;
+    write_frame(&mut input, INITIALIZE)?;
+    Ok(input)
+}
+
+static BAD_FRAMES: [(&[u8], Refusal, &[u8]); 6] = [
+    (
+        b"aaaaaaaaaaaaaaaaaaaaaaaaaaaaaaaaaaaaaaaaaaaaaaaaaaaaaaaaaaaaaaaa",
+        Refusal::HeaderTooLong,
+        b"dap: HeaderTooLong at 103\n",
+    ),
+    (b"\r\n\r\n", Refusal::BadHeader, b"dap: BadHeader at 103\n"),
+    (
+        b"A: b\r\n\r\n",
+        Refusal::NoLength,
+        b"dap: NoLength at 103\n",
+    ),
+    (
+        b"Content-Length: 2\r\nContent-Length: 2\r\n\r\n",
+        Refusal::TwoLengths,
+        b"dap: TwoLengths at 103\n",
+    ),
+    (
+        b"Content-Length: 2x\r\n\r\n",
+        Refusal::BadLength,
+        b"dap: BadLength at 103\n",
+    ),
+    (
+        b"Content-Length: 1025\r\n\r\n",
+        Refusal::BodyTooLong,
+        b"dap: BodyTooLong at 103\n",
+    ),
+];
+
+/// Each refusal of framing comes after the answers to what stood before, with its offset, its line and status 3.
+#[test]
+fn refused_frames(rt: HostRuntime) -> Result<(), Fail> {
+    let limits = limits(64, 1024, 64, 1, 1, 10, 1)?;
+    for (bad, refusal, line) in &BAD_FRAMES {
+        let input = with_bytes_between(rt.alloc(), bad)?;
+        let fault = AdapterFault::Frame(FrameFault {
+            cause: *refusal,
+            offset: 103,
+        });
+        expect_refused(&rt, limits, &input, fault, line)?;
+    }
+    Ok(())
+}
+
+static BAD_BODIES: [(&[u8], BodyRefusal, &[u8]); 12] = [
+    (b"", BodyRefusal::NotJson, b"dap: NotJson at 103\n"),
+    (b"[]", BodyRefusal::NotObject, b"dap: NotObject at 103\n"),
+    (
+        b"{\"seq\":-1}",
+        BodyRefusal::BadSeq,
+        b"dap: BadSeq at 103\n",
+    ),
+    (
+        b"{\"seq\":1.0}",
+        BodyRefusal::BadSeq,
+        b"dap: BadSeq at 103\n",
+    ),
+    (
+        b"{\"seq\":9007199254740992}",
+        BodyRefusal::BadSeq,
+        b"dap: BadSeq at 103\n",
+    ),
+    (
+        b"{\"seq\":1}",
+        BodyRefusal::BadType,
+        b"dap: BadType at 103\n",
+    ),
+    (
+        b"{\"seq\":1,\"type\":\"request\"}",
+        BodyRefusal::BadCommand,
+        b"dap: BadCommand at 103\n",
+    ),
+    (
+        b"{\"seq\":1,\"type\":\"response\",\"command\":\"x\"}",
+        BodyRefusal::BadRequestSeq,
+        b"dap: BadRequestSeq at 103\n",
+    ),
+    (
+        b"{\"seq\":1,\"type\":\"response\",\"command\":\"x\",\"request_seq\":1}",
+        BodyRefusal::BadSuccess,
+        b"dap: BadSuccess at 103\n",
+    ),
+    (
+        b"{\"seq\":1,\"type\":\"event\"}",
+        BodyRefusal::BadEvent,
+        b"dap: BadEvent at 103\n",
+    ),
+    (
+        b"{\"seq\":1,\"type\":\"response\",\"command\":\"x\",\"request_seq\":1,\"success\":true,\"message\":1}",
+        BodyRefusal::BadMessage,
+        b"dap: BadMessage at 103\n",
+    ),
+    (b"\xff", BodyRefusal::NotJson, b"dap: NotJson at 103\n"),
+];
+
 /// Each refusal of a body, likewise.
 #[test]
 fn refused_bodies(rt: HostRuntime) -> Result<(), Fail> {
-    let answer = framed(rt.alloc(), &[CAPABILITIES, INITIALIZED])?;
-    let cases: [(&[u8], BodyRefusal, &[u8]); 12] = [
-        (b"", BodyRefusal::NotJson, b"dap: NotJson at 103\n"),
-        (b"[]", BodyRefusal::NotObject, b"dap: NotObject at 103\n"),
-        (
-            b"{\"seq\":-1}",
-            BodyRefusal::BadSeq,
-            b"dap: BadSeq at 103\n",
-        ),
-        (
-            b"{\"seq\":1.0}",
-            BodyRefusal::BadSeq,
-            b"dap: BadSeq at 103\n",
-        ),
-        (
-            b"{\"seq\":9007199254740992}",
-            BodyRefusal::BadSeq,
-            b"dap: BadSeq at 103\n",
-        ),
-        (
-            b"{\"seq\":1}",
-            BodyRefusal::BadType,
-            b"dap: BadType at 103\n",
-        ),
-        (
-            b"{\"seq\":1,\"type\":\"request\"}",
-            BodyRefusal::BadCommand,
-            b"dap: BadCommand at 103\n",
-        ),
-        (
-            b"{\"seq\":1,\"type\":\"response\",\"command\":\"x\"}",
-            BodyRefusal::BadRequestSeq,
-            b"dap: BadRequestSeq at 103\n",
-        ),
-        (
-            b"{\"seq\":1,\"type\":\"response\",\"command\":\"x\",\"request_seq\":1}",
-            BodyRefusal::BadSuccess,
-            b"dap: BadSuccess at 103\n",
-        ),
-        (
-            b"{\"seq\":1,\"type\":\"event\"}",
-            BodyRefusal::BadEvent,
-            b"dap: BadEvent at 103\n",
-        ),
-        (
-            b"{\"seq\":1,\"type\":\"response\",\"command\":\"x\",\"request_seq\":1,\"success\":true,\"message\":1}",
-            BodyRefusal::BadMessage,
-            b"dap: BadMessage at 103\n",
-        ),
-        (b"\xff", BodyRefusal::NotJson, b"dap: NotJson at 103\n"),
-    ];
-    for (body, cause, line) in &cases {
+    for (body, cause, line) in &BAD_BODIES {
         let input = framed(rt.alloc(), &[INITIALIZE, body, INITIALIZE])?;
-        for size in [1, 100, 4096] {
-            let outcome = served(rt.alloc(), Limits::usual(), &input, pieces(size))?;
-            let fault = ServeFault::Adapter(AdapterFault::Body {
-                cause: *cause,
-                offset: 103,
-            });
-            assert_eq!(rt; outcome.end, Err(fault));
-            assert_eq!(rt; outcome.written.as_slice(), answer.as_slice());
-            let fault = ToolFault::Serve(fault);
-            assert_eq!(rt; status(&fault), 3);
-            assert_eq!(rt; fault_line(rt.alloc(), &fault)?.as_slice(), *line);
-        }
+        let fault = AdapterFault::Body {
+            cause: *cause,
+            offset: 103,
+        };
+        expect_refused(&rt, Limits::usual(), &input, fault, line)?;
     }
     Ok(())
 }
@@ -336,10 +377,10 @@ fn reached(ends: &[(usize, usize, Phase)], count: usize) -> (usize, usize, Phase
 fn whole_session(rt: HostRuntime) -> Result<(), Fail> {
     let whole = session(rt.alloc())?;
     assert_eq!(rt; (whole.input.len(), whole.answers.len()), (861, 2155));
+    let end = clean(Phase::Ended);
     for size in 1..200 {
-        let outcome = served(rt.alloc(), Limits::usual(), &whole.input, pieces(size))?;
-        assert_eq!(rt; outcome.end, clean(Phase::Ended), "pieces of {size}");
-        assert_eq!(rt; outcome.written.as_slice(), whole.answers.as_slice());
+        let stream = (whole.input.as_slice(), pieces(size));
+        expect(&rt, Limits::usual(), stream, end, &whole.answers)?;
     }
     for later in [
         b"Content-Length: 46".as_slice(),
@@ -348,11 +389,16 @@ fn whole_session(rt: HostRuntime) -> Result<(), Fail> {
     ] {
         let mut input = whole.input.clone()?;
         input.extend_from_slice(later)?;
-        let outcome = served(rt.alloc(), Limits::usual(), &input, pieces(4096))?;
-        assert_eq!(rt; outcome.end, clean(Phase::Ended));
-        assert_eq!(rt; outcome.written.as_slice(), whole.answers.as_slice());
+        let stream = (input.as_slice(), pieces(4096));
+        expect(&rt, Limits::usual(), stream, end, &whole.answers)?;
     }
     Ok(())
+}
+
+/// The first so many bytes, where there are as many.
+fn front(bytes: &[u8], count: usize) -> &[u8] {
+    let (front, _) = bytes.split_at(count.min(bytes.len()));
+    front
 }
 
 /// Every front of a session is served up to its last whole frame.
@@ -360,26 +406,22 @@ fn whole_session(rt: HostRuntime) -> Result<(), Fail> {
 fn cut_short(rt: HostRuntime) -> Result<(), Fail> {
     let whole = session(rt.alloc())?;
     for count in 0..whole.input.len() {
-        let (front, _) = whole.input.split_at(count);
-        let (end, length, phase) = reached(&whole.ends, count);
-        let outcome = served(rt.alloc(), Limits::usual(), front, pieces(100))?;
-        let wanted = Served {
-            end: if end == count {
-                End::Clean
-            } else {
-                End::Truncated
-            },
-            phase,
+        let (last, length, phase) = reached(&whole.ends, count);
+        let end = if last == count {
+            End::Clean
+        } else {
+            End::Truncated
         };
-        assert_eq!(rt; outcome.end, Ok(wanted), "after {count}");
-        assert!(rt; outcome.written.len() == length && whole.answers.starts_with(&outcome.written));
+        let stream = (front(&whole.input, count), pieces(100));
+        let answers = front(&whole.answers, length);
+        expect(
+            &rt,
+            Limits::usual(),
+            stream,
+            Ok(Served { end, phase }),
+            answers,
+        )?;
     }
-    let fault = ToolFault::Truncated;
-    assert_eq!(rt; status(&fault), 4);
-    assert_eq!(rt;
-        fault_line(rt.alloc(), &fault)?.as_slice(),
-        b"dap: Truncated\n".as_slice()
-    );
     Ok(())
 }
 
@@ -389,19 +431,13 @@ fn failing_writer(rt: HostRuntime) -> Result<(), Fail> {
     let whole = session(rt.alloc())?;
     for room in 0..whole.answers.len() {
         let terms = Terms { room, ..pieces(50) };
-        let outcome = served(rt.alloc(), Limits::usual(), &whole.input, terms)?;
         let fault = ServeFault::Write {
             written: room as u64,
         };
-        assert_eq!(rt; outcome.end, Err(fault));
-        assert!(rt; outcome.written.len() == room && whole.answers.starts_with(&outcome.written));
+        let stream = (whole.input.as_slice(), terms);
+        let answers = front(&whole.answers, room);
+        expect(&rt, Limits::usual(), stream, Err(fault), answers)?;
     }
-    let fault = ToolFault::Serve(ServeFault::Write { written: 0 });
-    assert_eq!(rt; status(&fault), 5);
-    assert_eq!(rt;
-        fault_line(rt.alloc(), &fault)?.as_slice(),
-        b"dap: Write\n".as_slice()
-    );
     Ok(())
 }
 
@@ -415,107 +451,125 @@ fn failing_reader(rt: HostRuntime) -> Result<(), Fail> {
             calls_left: calls,
             ..pieces(60)
         };
-        let outcome = served(rt.alloc(), Limits::usual(), &whole.input, failing)?;
-        assert_eq!(rt; outcome.end, Err(ServeFault::Read));
-        assert!(rt; outcome.written.len() == length && whole.answers.starts_with(&outcome.written));
         let few = Terms {
             max_reads: calls as u64,
             ..pieces(60)
         };
-        let outcome = served(rt.alloc(), Limits::usual(), &whole.input, few)?;
-        assert_eq!(rt; outcome.end, Err(ServeFault::TooManyReads));
-        assert!(rt; outcome.written.len() == length && whole.answers.starts_with(&outcome.written));
+        let answers = front(&whole.answers, length);
+        for (terms, fault) in [(failing, ServeFault::Read), (few, ServeFault::TooManyReads)] {
+            let stream = (whole.input.as_slice(), terms);
+            expect(&rt, Limits::usual(), stream, Err(fault), answers)?;
+        }
     }
     Ok(())
 }
+
+static NAMED: [(ServeFault, u8, &[u8]); 9] = [
+    (ServeFault::Read, 5, b"dap: Read\n"),
+    (ServeFault::Write { written: 0 }, 5, b"dap: Write\n"),
+    (ServeFault::Write { written: 7 }, 5, b"dap: Write\n"),
+    (ServeFault::TooManyReads, 5, b"dap: TooManyReads\n"),
+    (ServeFault::OutOfMemory, 6, b"dap: OutOfMemory\n"),
+    (
+        ServeFault::Adapter(AdapterFault::RepeatedSeq { seq: 1 }),
+        3,
+        b"dap: RepeatedSeq\n",
+    ),
+    (
+        ServeFault::Adapter(AdapterFault::Unmatched { request_seq: 1 }),
+        3,
+        b"dap: Unmatched\n",
+    ),
+    (ServeFault::Adapter(AdapterFault::Ended), 3, b"dap: Ended\n"),
+    (
+        ServeFault::Adapter(AdapterFault::SeqExhausted),
+        3,
+        b"dap: SeqExhausted\n",
+    ),
+];
 
 /// The status and the line of each fault of a session that is told by its name alone.
 #[test]
 fn named_faults(rt: HostRuntime) -> Result<(), Fail> {
-    let cases: [(ServeFault, u8, &[u8]); 8] = [
-        (ServeFault::Read, 5, b"dap: Read\n"),
-        (ServeFault::Write { written: 7 }, 5, b"dap: Write\n"),
-        (ServeFault::TooManyReads, 5, b"dap: TooManyReads\n"),
-        (ServeFault::OutOfMemory, 6, b"dap: OutOfMemory\n"),
-        (
-            ServeFault::Adapter(AdapterFault::RepeatedSeq { seq: 1 }),
-            3,
-            b"dap: RepeatedSeq\n",
-        ),
-        (
-            ServeFault::Adapter(AdapterFault::Unmatched { request_seq: 1 }),
-            3,
-            b"dap: Unmatched\n",
-        ),
-        (ServeFault::Adapter(AdapterFault::Ended), 3, b"dap: Ended\n"),
-        (
-            ServeFault::Adapter(AdapterFault::SeqExhausted),
-            3,
-            b"dap: SeqExhausted\n",
-        ),
-    ];
-    for (fault, wanted, line) in cases {
-        let fault = ToolFault::Serve(fault);
-        assert_eq!(rt; status(&fault), wanted);
-        assert_eq!(rt; fault_line(rt.alloc(), &fault)?.as_slice(), line);
+    for (fault, wanted, line) in &NAMED {
+        let fault = ToolFault::Serve(*fault);
+        assert_eq!(rt; status(&fault), *wanted);
+        assert_eq!(rt; fault_line(rt.alloc(), &fault)?.as_slice(), *line);
     }
     Ok(())
 }
 
+/// The status and the line of a stream that ends within a frame.
+#[test]
+fn a_truncated_stream(rt: HostRuntime) -> Result<(), Fail> {
+    let fault = ToolFault::Truncated;
+    assert_eq!(rt; status(&fault), 4);
+    assert_eq!(rt;
+        fault_line(rt.alloc(), &fault)?.as_slice(),
+        b"dap: Truncated\n".as_slice()
+    );
+    Ok(())
+}
+
+static RECORDINGS: [(&[u8], &[u8]); 3] = [
+    (b"{", b"dap: NotJson\n"),
+    (b"[]", b"dap: NotObject\n"),
+    (
+        b"{\"exit\":0,\"sources\":[],\"moments\":[]}",
+        b"dap: BadKey\n",
+    ),
+];
+
 /// Likewise of a file that is no recording.
 #[test]
 fn refused_recordings(rt: HostRuntime) -> Result<(), Fail> {
-    let cases: [(&[u8], &[u8]); 3] = [
-        (b"{", b"dap: NotJson\n"),
-        (b"[]", b"dap: NotObject\n"),
-        (
-            b"{\"exit\":0,\"sources\":[],\"moments\":[]}",
-            b"dap: BadKey\n",
-        ),
-    ];
-    for (bytes, line) in cases {
+    for (bytes, line) in &RECORDINGS {
         let fault = Recorded::read(rt.alloc(), bytes)
             .err()
             .ok_or("a recording")?;
         let fault = ToolFault::Recording(fault);
         assert_eq!(rt; status(&fault), 3);
-        assert_eq!(rt; fault_line(rt.alloc(), &fault)?.as_slice(), line);
+        assert_eq!(rt; fault_line(rt.alloc(), &fault)?.as_slice(), *line);
     }
     Ok(())
 }
+
+static SECOND: [(&[u8], AdapterFault); 2] = [
+    (
+        b"{\"seq\":2,\"type\":\"response\",\"request_seq\":1,\"success\":true,\"command\":\"threads\"}",
+        AdapterFault::Unmatched { request_seq: 1 },
+    ),
+    (
+        b"{\"seq\":2,\"type\":\"request\",\"command\":\"initialize\"}",
+        AdapterFault::SeqExhausted,
+    ),
+];
 
 /// A response that answers nothing, and the answer for which no seq is left: what came before is written.
 #[test]
 fn faults_within_a_session(rt: HostRuntime) -> Result<(), Fail> {
-    let unmatched =
-        b"{\"seq\":2,\"type\":\"response\",\"request_seq\":1,\"success\":true,\"command\":\"threads\"}";
-    let again = b"{\"seq\":2,\"type\":\"request\",\"command\":\"initialize\"}";
-    let limits = Limits::new(8192, 1024, 2, 1, 1, 2, 1).ok().ok_or("limits")?;
-    let answer = framed(rt.alloc(), &[CAPABILITIES, INITIALIZED])?;
-    for size in [1, 60, 4096] {
-        let input = framed(rt.alloc(), &[INITIALIZE, unmatched])?;
-        let outcome = served(rt.alloc(), limits, &input, pieces(size))?;
-        let fault = AdapterFault::Unmatched { request_seq: 1 };
-        assert_eq!(rt; outcome.end, Err(ServeFault::Adapter(fault)));
-        assert_eq!(rt; outcome.written.as_slice(), answer.as_slice());
-        let input = framed(rt.alloc(), &[INITIALIZE, again])?;
-        let outcome = served(rt.alloc(), limits, &input, pieces(size))?;
-        let fault = AdapterFault::SeqExhausted;
-        assert_eq!(rt; outcome.end, Err(ServeFault::Adapter(fault)));
-        assert_eq!(rt; outcome.written.as_slice(), answer.as_slice());
+    let limits = limits(8192, 1024, 2, 1, 1, 2, 1)?;
+    let answer = initialized(rt.alloc())?;
+    for (second, fault) in &SECOND {
+        let input = framed(rt.alloc(), &[INITIALIZE, second])?;
+        for size in [1, 60, 4096] {
+            let end = Err(ServeFault::Adapter(*fault));
+            expect(&rt, limits, (&input, pieces(size)), end, &answer)?;
+        }
     }
     Ok(())
 }
 
-/// What comes out where so many flushes succeed: how it ended, and the writer.
+/// How serving ends where so many flushes succeed, how many there were, and how many bytes went out; nothing where those are
+/// not a front of the answers.
 fn flushed(
     alloc: Global,
-    input: &[u8],
+    whole: &Whole,
     flushes_left: usize,
-) -> Result<(Result<Served, ServeFault>, Flushed), Fail> {
+) -> Result<Option<(Result<Served, ServeFault>, usize, usize)>, Fail> {
     let mut pipe = Pipe {
         reader: Pieces {
-            rest: input,
+            rest: &whole.input,
             size: 4096,
             calls_left: 100,
         },
@@ -527,21 +581,31 @@ fn flushed(
     };
     let debuggee = recorded(alloc)?;
     let end = serve(alloc, &mut pipe, debuggee, Limits::usual(), 100);
-    let Pipe { reader: _, writer } = pipe;
-    Ok((end, writer))
+    let written = pipe.writer.held.len();
+    if !whole.answers.starts_with(&pipe.writer.held) {
+        return Ok(None);
+    }
+    Ok(Some((end, pipe.writer.flushes, written)))
 }
 
-/// What is written is flushed; a flush that fails is told with all that went out; a writer that takes nothing has failed.
+/// What is written is flushed; a flush that fails is told with all that went out.
 #[test]
 fn flushes(rt: HostRuntime) -> Result<(), Fail> {
     let whole = session(rt.alloc())?;
-    let (end, writer) = flushed(rt.alloc(), &whole.input, 1000)?;
-    assert_eq!(rt; end, clean(Phase::Ended));
-    assert!(rt; writer.flushes > 0);
-    let (end, writer) = flushed(rt.alloc(), &whole.input, 0)?;
-    let written = writer.held.len() as u64;
-    assert_eq!(rt; end, Err(ServeFault::Write { written }));
-    assert!(rt; written > 0 && whole.answers.starts_with(&writer.held));
+    let (end, flushes, _) = flushed(rt.alloc(), &whole, 1000)?.ok_or("other bytes")?;
+    assert!(rt; end == clean(Phase::Ended) && flushes > 0);
+    let (end, _, written) = flushed(rt.alloc(), &whole, 0)?.ok_or("other bytes")?;
+    let fault = ServeFault::Write {
+        written: written as u64,
+    };
+    assert!(rt; end == Err(fault) && written > 0);
+    Ok(())
+}
+
+/// A writer that takes nothing has failed.
+#[test]
+fn a_writer_that_takes_nothing(rt: HostRuntime) -> Result<(), Fail> {
+    let whole = session(rt.alloc())?;
     let mut pipe = Pipe {
         reader: Pieces {
             rest: &whole.input,
@@ -556,35 +620,38 @@ fn flushes(rt: HostRuntime) -> Result<(), Fail> {
     Ok(())
 }
 
-/// After a refusal nothing more is read: not a byte, where the bytes come one by one.
-#[test]
-fn reads_no_more_after_a_refusal(rt: HostRuntime) -> Result<(), Fail> {
-    let mut input = framed(rt.alloc(), &[INITIALIZE])?;
-    input.extend_from_slice(b"A: b\r\n\r\nContent-Length: 2\r\n\r\n{}")?;
+/// How serving bytes one by one ends, how many are left then, and how many were written.
+fn left_over(
+    alloc: Global,
+    input: &[u8],
+) -> Result<(Result<Served, ServeFault>, usize, usize), Fail> {
     let mut pipe = Pipe {
         reader: Pieces {
-            rest: &input,
+            rest: input,
             size: 1,
             calls_left: 1000,
         },
         writer: Short {
             room: usize::MAX,
-            held: Vec::new(rt.alloc()),
+            held: Vec::new(alloc),
         },
     };
-    let end = serve(
-        rt.alloc(),
-        &mut pipe,
-        recorded(rt.alloc())?,
-        Limits::usual(),
-        1000,
-    );
+    let debuggee = recorded(alloc)?;
+    let end = serve(alloc, &mut pipe, debuggee, Limits::usual(), 1000);
+    Ok((end, pipe.reader.rest.len(), pipe.writer.held.len()))
+}
+
+/// After a refusal nothing more is read: not a byte, where the bytes come one by one.
+#[test]
+fn reads_no_more_after_a_refusal(rt: HostRuntime) -> Result<(), Fail> {
+    let mut input = framed(rt.alloc(), &[INITIALIZE])?;
+    input.extend_from_slice(b"A: b\r\n\r\nContent-Length: 2\r\n\r\n{}")?;
     let fault = AdapterFault::Frame(FrameFault {
         cause: Refusal::NoLength,
         offset: 103,
     });
+    let (end, left, written) = left_over(rt.alloc(), &input)?;
     assert_eq!(rt; end, Err(ServeFault::Adapter(fault)));
-    assert_eq!(rt; pipe.reader.rest.len().saturating_add(111), input.len());
-    assert_eq!(rt; pipe.writer.held.len(), 342);
+    assert_eq!(rt; (left.saturating_add(111), written), (input.len(), 342));
     Ok(())
 }

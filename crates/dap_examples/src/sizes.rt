@@ -7,27 +7,42 @@ use dap_tool::show;
 use std::alloc::Global;
 use std::test::Fail;
 
-/// A file of 60 MB is listed, of 15 events with bodies of the greatest length.
-#[test]
-fn a_long_file_is_listed(rt: HostRuntime) -> Result<(), Fail> {
+/// A file of 15 events with bodies of the greatest length.
+fn long_file(alloc: Global) -> Result<Vec<u8>, Fail> {
     let mut body = Vec::from_slice(
-        rt.alloc(),
+        alloc,
         b"{\"seq\":3,\"type\":\"event\",\"event\":\"a\",\"body\":\"",
     )?;
     body.resize(4194302, b'a')?;
     body.extend_from_slice(b"\"}")?;
-    let mut input = Vec::new(rt.alloc());
+    let mut file = Vec::new(alloc);
     for _ in 0..15 {
-        write_frame(&mut input, &body)?;
+        write_frame(&mut file, &body)?;
     }
-    assert_eq!(rt; input.len(), 62914965);
-    let mut listing = Vec::new(rt.alloc());
-    let end = show(rt.alloc(), &input, Limits::usual(), &mut listing);
-    assert_eq!(rt; end, Ok(End::Clean));
-    assert!(rt; listing.starts_with(b"0 3 event a\n4194331 3 event a\n"));
-    assert!(rt; listing.ends_with(b"58720634 3 event a\n"));
+    Ok(file)
+}
+
+/// The listing of a file of whole frames.
+fn listed(alloc: Global, file: &[u8]) -> Result<Vec<u8>, Fail> {
+    let mut listing = Vec::new(alloc);
+    match show(alloc, file, Limits::usual(), &mut listing) {
+        Ok(End::Clean) => Ok(listing),
+        _ => Err(Fail::from("not listed")),
+    }
+}
+
+/// A file of 60 MB is listed.
+#[test]
+fn a_long_file_is_listed(rt: HostRuntime) -> Result<(), Fail> {
+    let file = long_file(rt.alloc())?;
+    assert_eq!(rt; file.len(), 62914965);
+    let listing = listed(rt.alloc(), &file)?;
     let lines = listing.iter().filter(|byte| **byte == b'\n').count();
-    assert_eq!(rt; lines, 15);
+    let (begins, ends) = (
+        listing.starts_with(b"0 3 event a\n4194331 3 event a\n"),
+        listing.ends_with(b"58720634 3 event a\n"),
+    );
+    assert_eq!(rt; (lines, begins, ends), (15, true, true));
     Ok(())
 }
 

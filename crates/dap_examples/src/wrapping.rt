@@ -2,7 +2,7 @@
 
 use dap_frame::Limits;
 use dap_message::BodyRefusal;
-use dap_samples::calls::framed;
+use dap_samples::calls::{framed, limits};
 use dap_tool::{WrapFault, wrap};
 use std::alloc::Global;
 use std::test::Fail;
@@ -70,7 +70,7 @@ enum Front {
 
 /// Limits with which a body has at most 1024 bytes.
 fn short_bodies() -> Result<Limits, Fail> {
-    Ok(Limits::new(32, 1024, 2, 1, 1, 1, 1).ok().ok_or("limits")?)
+    limits(32, 1024, 2, 1, 1, 1, 1)
 }
 
 fn longest(alloc: Global) -> Result<Vec<u8>, Fail> {

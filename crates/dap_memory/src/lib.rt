@@ -6,6 +6,8 @@
 #[cfg(test)]
 mod client;
 #[cfg(test)]
+mod debuggee;
+#[cfg(test)]
 mod tests;
 #[cfg(test)]
 mod transcripts;

@@ -3,10 +3,11 @@
 ghost use Rattle.std.specs.Prelude.{◌≡◌, ◌≤◌};
 ghost use Rattle.dap_debuggee.specs.declared.answers.State.{State};
 
+use crate::debuggee::RECORDING;
 use dap_adapter::{Adapter, AdapterFault, Phase, ServeFault, Turned, serve};
 use dap_call::{Call, CallFault, Capabilities, Command, Key, SourceKey, read_call, write_call};
 use dap_channel::{Input, Pipe};
-use dap_debuggee::{Debuggee, DebuggeeFault, Happening, Recorded, RecordingFault};
+use dap_debuggee::{Recorded, RecordingFault};
 use dap_frame::{Fed, Frames, Limits, write_frame};
 use dap_json::{parse, write};
 use dap_message::{
@@ -39,7 +40,7 @@ pub(crate) fn refused(is_same: bool) -> Option<bool> {
 }
 
 /// Outcomes as one: wrong where one is, and else want of memory where one is.
-fn all(outcomes: &[Option<bool>]) -> Option<bool> {
+pub(crate) fn all(outcomes: &[Option<bool>]) -> Option<bool> {
     let mut all = Some(true);
     for outcome in outcomes {
         match outcome {
@@ -726,167 +727,4 @@ fn building_bodies(rt: HostRuntime) -> Result<(), Fail> {
         judge(&rt, builds(rt.alloc(), place, *text))?;
     }
     Ok(())
-}
-
-pub(crate) static RECORDING: &[u8; 301] =
-    b"{\"exit\":0,\"sources\":[{\"name\":\"a.c\",\"path\":\"/a.c\",\"text\":\"one\\ntwo\\n\"}],\"moments\":[{\"thread\":1,\"output\":\"go\\n\",\"threads\":[{\"id\":1,\"name\":\"main\",\"frames\":[{\"name\":\"main\",\"source\":0,\"line\":1,\"scopes\":[{\"name\":\"Locals\",\"variables\":[{\"name\":\"p\",\"value\":\"P\",\"variables\":[{\"name\":\"a\",\"value\":\"7\"}]}]}]}]}]}]}";
-
-/// Whether a poll tells this output, or a stop for this reason.
-fn tells(alloc: Global, debuggee: &mut Recorded, wanted: &str) -> Option<bool> {
-    match debuggee.poll(alloc) {
-        Ok(Happening::Output { text, .. }) => Some(text.as_str() == wanted),
-        Ok(Happening::Stopped { reason, thread }) => {
-            Some(reason.as_str() == wanted && thread == 1)
-        }
-        Ok(_) => Some(false),
-        Err(_) => None,
-    }
-}
-
-fn runs(alloc: Global, debuggee: &mut Recorded) -> Option<bool> {
-    let source = SourceKey::Reference(1);
-    let set = debuggee.set_breakpoints(alloc, &source, &[1, 2]);
-    set.ok()?;
-    if debuggee.start(alloc) != Ok(()) || !tells(alloc, debuggee, "go\n")? {
-        return Some(false);
-    }
-    tells(alloc, debuggee, "entry")
-}
-
-fn plays(alloc: Global) -> Option<bool> {
-    match Recorded::read(alloc, RECORDING) {
-        Ok(mut debuggee) => runs(alloc, &mut debuggee),
-        Err(fault) => refused(fault == RecordingFault::OutOfMemory),
-    }
-}
-
-/// What runs writes and stops, or a poll was refused memory; then no more is asked of it.
-#[test]
-fn playing(rt: HostRuntime) -> Result<(), Fail> {
-    judge(&rt, plays(rt.alloc()))
-}
-
-/// What is asked of a debuggee that was started.
-#[derive(Clone, Copy)]
-enum Query {
-    Scopes,
-    Children,
-    Evaluate,
-    Sources,
-    Content,
-    Verify,
-    Threads,
-    Frames,
-}
-
-/// Want of memory; any other fault of a query is wrong.
-fn unanswered(fault: DebuggeeFault) -> Option<bool> {
-    refused(fault == DebuggeeFault::OutOfMemory)
-}
-
-fn tells_scopes(alloc: Global, debuggee: &Recorded) -> Option<bool> {
-    match debuggee.scopes(alloc, 0) {
-        Ok(scopes) => Some(scopes.len() == 1),
-        Err(fault) => unanswered(fault),
-    }
-}
-
-fn tells_children(alloc: Global, debuggee: &Recorded) -> Option<bool> {
-    match debuggee.children(alloc, 1) {
-        Ok(variables) => Some(variables.len() == 1),
-        Err(fault) => unanswered(fault),
-    }
-}
-
-fn tells_value(alloc: Global, debuggee: &Recorded) -> Option<bool> {
-    match debuggee.evaluate(alloc, Some(0), "p") {
-        Ok(value) => Some(value.value.as_str() == "P" && value.holder == Some(0)),
-        Err(fault) => unanswered(fault),
-    }
-}
-
-fn tells_sources(alloc: Global, debuggee: &Recorded) -> Option<bool> {
-    let sources = debuggee.sources(alloc).ok()?;
-    Some(sources.len() == 1)
-}
-
-fn tells_content(alloc: Global, debuggee: &Recorded) -> Option<bool> {
-    match debuggee.content(alloc, 0) {
-        Ok(text) => Some(text.as_str() == "one\ntwo\n"),
-        Err(fault) => unanswered(fault),
-    }
-}
-
-fn tells_lines(alloc: Global, debuggee: &Recorded) -> Option<bool> {
-    match debuggee.verify(alloc, &SourceKey::Reference(1), &[2, 3]) {
-        Ok(answers) => Some(answers.as_slice() == [true, false].as_slice()),
-        Err(fault) => unanswered(fault),
-    }
-}
-
-fn tells_threads(alloc: Global, debuggee: &Recorded) -> Option<bool> {
-    let threads = debuggee.threads(alloc).ok()?;
-    Some(threads.len() == 1)
-}
-
-fn tells_frames(alloc: Global, debuggee: &Recorded) -> Option<bool> {
-    match debuggee.frames(alloc, 1) {
-        Ok(frames) => Some(frames.len() == 1),
-        Err(fault) => unanswered(fault),
-    }
-}
-
-fn answers(alloc: Global, debuggee: &Recorded, query: Query) -> Option<bool> {
-    match query {
-        Query::Scopes => tells_scopes(alloc, debuggee),
-        Query::Children => tells_children(alloc, debuggee),
-        Query::Evaluate => tells_value(alloc, debuggee),
-        Query::Sources => tells_sources(alloc, debuggee),
-        Query::Content => tells_content(alloc, debuggee),
-        Query::Verify => tells_lines(alloc, debuggee),
-        Query::Threads => tells_threads(alloc, debuggee),
-        Query::Frames => tells_frames(alloc, debuggee),
-    }
-}
-
-/// Each query is made, also after one that was refused memory.
-fn answers_all(alloc: Global, debuggee: &mut Recorded, queries: &[Query]) -> Option<bool> {
-    if debuggee.start(alloc) != Ok(()) {
-        return Some(false);
-    }
-    let mut outcome = Some(true);
-    for query in queries {
-        outcome = all(&[outcome, answers(alloc, debuggee, *query)]);
-    }
-    outcome
-}
-
-fn asks(alloc: Global, queries: &[Query]) -> Option<bool> {
-    match Recorded::read(alloc, RECORDING) {
-        Ok(mut debuggee) => answers_all(alloc, &mut debuggee, queries),
-        Err(fault) => refused(fault == RecordingFault::OutOfMemory),
-    }
-}
-
-static LOOKED_AT: [Query; 6] = [
-    Query::Scopes,
-    Query::Children,
-    Query::Evaluate,
-    Query::Sources,
-    Query::Content,
-    Query::Verify,
-];
-
-/// A query is answered whole, or not at all.
-#[test]
-fn asking_a_debuggee(rt: HostRuntime) -> Result<(), Fail> {
-    judge(&rt, asks(rt.alloc(), &LOOKED_AT))
-}
-
-static THREADS: [Query; 2] = [Query::Threads, Query::Frames];
-
-/// Threads and frames of what was started, or none.
-#[test]
-fn asking_for_threads(rt: HostRuntime) -> Result<(), Fail> {
-    judge(&rt, asks(rt.alloc(), &THREADS))
 }

@@ -1,6 +1,7 @@
 //! Transcripts that are checked, explained and made, with their answers, or want of memory.
 
-use crate::tests::{RECORDING, judge, refused};
+use crate::debuggee::RECORDING;
+use crate::tests::{judge, refused};
 use dap_frame::Limits;
 use dap_tool::{CheckFault, Checked, DriveFault, check, drive};
 use std::alloc::Global;

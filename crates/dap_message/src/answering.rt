@@ -20,6 +20,27 @@ use std::alloc::{AllocError, Global};
 /// The room that a text is given at first, in bytes.
 const ROOM: usize = 256;
 
+/// The most room that is foreseen for a body, in bytes.
+const MOST_ROOM: usize = 65536;
+
+/// The room that a text with this body most often needs, in bytes; one that is longer takes more as it grows.
+fn room_for(body: &Body) -> usize {
+    let (count, each) = match body {
+        Body::SetBreakpoints { breakpoints } => (breakpoints.len(), 48),
+        Body::Threads { threads } => (threads.len(), 64),
+        Body::StackTrace { stack_frames, .. } => (stack_frames.len(), 224),
+        Body::Scopes { scopes } => (scopes.len(), 96),
+        Body::Variables { variables } => (variables.len(), 96),
+        Body::LoadedSources { sources } => (sources.len(), 128),
+        Body::Source { content } => (content.len(), 1),
+        Body::Evaluate { result, .. } => (result.len(), 1),
+    };
+    count
+        .saturating_mul(each)
+        .min(MOST_ROOM)
+        .saturating_add(ROOM)
+}
+
 /// A text up to the end of its body, with the comma after it.
 fn open(alloc: Global, body: &Option<Tree>) -> Result<Vec<u8>, AllocError>
     requires { IsTrue (is_plain_tree body.now) }
@@ -41,13 +62,14 @@ fn open(alloc: Global, body: &Option<Tree>) -> Result<Vec<u8>, AllocError>
 fn open_answer(alloc: Global, body: &Option<Body>) -> Result<Vec<u8>, AllocError>
     ensures { IfOk result (λ text. text.items ≡ with_body (data_in body.now)) }
 {
-    let mut out = Vec::with_capacity(alloc, ROOM)?;
     match body {
         None => {
+            let mut out = Vec::with_capacity(alloc, ROOM)?;
             out.push(b'{')?;
             Ok(out)
         }
         Some(body) => {
+            let mut out = Vec::with_capacity(alloc, room_for(body))?;
             out.extend_from_slice(b"{\"body\":")?;
             let mut out = body_text(out, body)?;
             out.push(b',')?;

@@ -148,19 +148,25 @@ pub fn follow<D: Debuggee + Drop>(
     }
 }
 
+/// These limits, in the order of `Limits::new`, all within their ranges.
+pub fn limits(h: u64, b: u64, n: u64, r: u64, k: u64, s: u64, m: u64) -> Result<Limits, Fail>
+    ensures { IfOk result (λ limits. limits ≡ settings h b n r k s m) }
+{
+    match Limits::new(h, b, n, r, k, s, m) {
+        Ok(limits) => Ok(limits),
+        Err(_) => Err(Fail::from("limits")),
+    }
+}
+
 /// Limits with which two requests are kept, and one reference and one breakpoint.
 pub fn two_kept() -> Result<Limits, Fail>
     ensures { IfOk result (λ limits. limits ≡ settings 8192 4194304 2 1 1 1000 1) }
 {
-    Ok(
-        Limits::new(8192, 4194304, 2, 1, 1, 1000, 1)
-            .ok()
-            .ok_or("limits")?,
-    )
+    limits(8192, 4194304, 2, 1, 1, 1000, 1)
 }
 
 /// Takes bytes in pieces of one size, and answers what is handed out.
-pub fn take_all<D: Debuggee + Drop>(
+pub(crate) fn take_all<D: Debuggee + Drop>(
     alloc: Global,
     adapter: &mut Adapter<D>,
     bytes: &[u8],

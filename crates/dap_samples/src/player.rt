@@ -3,7 +3,7 @@
 //! Whoever follows a session here takes few steps one after the other and leaves the rest to a loop: a proof of many calls in
 //! a row takes minutes.
 
-use crate::calls::{Act, Step, adapter, call, first_difference, take_all};
+use crate::calls::{Act, Step, adapter, call, follow, take_all};
 use dap_adapter::{Adapter, AdapterFault, Phase};
 use dap_debuggee::Recorded;
 use dap_frame::Limits;
@@ -58,7 +58,7 @@ impl Player {
     }
 
     /// Fails the test where something else is seen.
-    pub fn expect(&self, rt: &HostRuntime, seen: Seen) -> Result<(), Fail> {
+    fn expect(&self, rt: &HostRuntime, seen: Seen) -> Result<(), Fail> {
         if self.shows(seen) {
             return Ok(());
         }
@@ -68,17 +68,11 @@ impl Player {
 
     /// Makes the calls; a call that differs is told, and fails the test.
     pub fn follow(&mut self, rt: &HostRuntime, steps: &[Step<'_>]) -> Result<(), Fail> {
-        match first_difference(rt.alloc(), &mut self.adapter, steps)? {
-            None => Ok(()),
-            Some(place) => {
-                eprintln!(rt; "call {place} differs")?;
-                Err(Fail::from("a call differs"))
-            }
-        }
+        follow(rt, &mut self.adapter, steps)
     }
 
     /// Makes the calls of each part.
-    pub fn follow_parts(&mut self, rt: &HostRuntime, parts: &[Part<'_>]) -> Result<(), Fail> {
+    fn follow_parts(&mut self, rt: &HostRuntime, parts: &[Part<'_>]) -> Result<(), Fail> {
         for (steps, seen) in parts {
             self.follow(rt, steps)?;
             self.expect(rt, *seen)?;
@@ -87,7 +81,7 @@ impl Player {
     }
 
     /// What a call hands out, or its fault; nothing is an idle turn.
-    pub fn call(&mut self, alloc: Global, act: Act<'_>) -> Result<Option<Vec<u8>>, AdapterFault> {
+    fn call(&mut self, alloc: Global, act: Act<'_>) -> Result<Option<Vec<u8>>, AdapterFault> {
         call(alloc, &mut self.adapter, act)
     }
 

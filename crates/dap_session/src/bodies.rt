@@ -16,6 +16,9 @@ use std::alloc::{AllocError, Global};
 fn from_start<T: Drop>(alloc: Global, start: u32, items: Vec<T>) -> Result<Vec<T>, AllocError>
     ensures { IfOk result (λ part. part.items ≡ drop start items.items) }
 {
+    if start == 0 {
+        return Ok(items);
+    }
     items.into_iter().skip(start as usize).collect(alloc)
 }
 

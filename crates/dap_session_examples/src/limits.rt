@@ -3,7 +3,7 @@
 use dap_adapter::AdapterFault;
 use dap_frame::{Limits, write_frame};
 use dap_message::BodyRefusal;
-use dap_samples::calls::{Act, Step};
+use dap_samples::calls::{Act, Step, limits};
 use dap_samples::player::{Player, Seen};
 use std::alloc::Global;
 use std::test::Fail;
@@ -69,9 +69,7 @@ static TO_THE_LAST_NUMBER: [Step<'static>; 5] = [
 /// No number is left for an answer: the request is still kept, and nothing more is answered.
 #[test]
 fn numbers_run_out(rt: HostRuntime) -> Result<(), Fail> {
-    let limits = Limits::new(8192, 4194304, 64, 1, 1, 3, 1)
-        .ok()
-        .ok_or("limits")?;
+    let limits = limits(8192, 4194304, 64, 1, 1, 3, 1)?;
     let mut player = Player::open(rt.alloc(), limits)?;
     player.follow(&rt, &TO_THE_LAST_NUMBER)?;
     let fault = AdapterFault::SeqExhausted;
@@ -282,9 +280,7 @@ fn empties(alloc: Global, player: &mut Player) -> Result<bool, Fail> {
 /// As many requests as may be are kept, and then answered in their order.
 #[test]
 fn the_greatest_count_of_requests(rt: HostRuntime) -> Result<(), Fail> {
-    let limits = Limits::new(8192, 4194304, 4096, 1, 1, 10000, 1)
-        .ok()
-        .ok_or("limits")?;
+    let limits = limits(8192, 4194304, 4096, 1, 1, 10000, 1)?;
     let mut player = Player::open(rt.alloc(), limits)?;
     let held = fills(rt.alloc(), &mut player)? && empties(rt.alloc(), &mut player)?;
     assert!(rt; held);

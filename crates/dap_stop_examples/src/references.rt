@@ -1,7 +1,7 @@
 //! Sessions that look into a stop and set breakpoints, call by call, with the bodies that they hand out.
 
 use dap_frame::Limits;
-use dap_samples::calls::{Act, Step};
+use dap_samples::calls::{Act, Step, limits};
 use dap_samples::player::{Seen, play};
 use std::test::Fail;
 
@@ -307,9 +307,7 @@ static TWO_REFERENCES: [Step<'static>; 8] = [
 /// A third reference is refused, and the two stay live.
 #[test]
 fn third_reference_is_refused(rt: HostRuntime) -> Result<(), Fail> {
-    let limits = Limits::new(8192, 4194304, 64, 2, 4096, 9007199254740991, 2147483647)
-        .ok()
-        .ok_or("limits")?;
+    let limits = limits(8192, 4194304, 64, 2, 4096, 9007199254740991, 2147483647)?;
     play(
         &rt,
         limits,
@@ -389,9 +387,7 @@ static NO_NUMBER_LEFT: [Step<'static>; 9] = [
 /// Numbers that died never come again.
 #[test]
 fn no_number_is_left(rt: HostRuntime) -> Result<(), Fail> {
-    let limits = Limits::new(8192, 4194304, 64, 65536, 4096, 9007199254740991, 2)
-        .ok()
-        .ok_or("limits")?;
+    let limits = limits(8192, 4194304, 64, 65536, 4096, 9007199254740991, 2)?;
     play(
         &rt,
         limits,
@@ -500,9 +496,7 @@ static ONE_FRAME: [Step<'static>; 8] = [
 /// Of two frames none gets a number where there is room for one alone.
 #[test]
 fn refused_frames_take_no_number(rt: HostRuntime) -> Result<(), Fail> {
-    let limits = Limits::new(8192, 4194304, 64, 1, 4096, 9007199254740991, 2147483647)
-        .ok()
-        .ok_or("limits")?;
+    let limits = limits(8192, 4194304, 64, 1, 4096, 9007199254740991, 2147483647)?;
     play(
         &rt,
         limits,
@@ -613,9 +607,7 @@ static SETS_A_HUNDRED: [Step<'static>; 4] = [
 /// Lines replace those of the same source, ids never come again, and an answer that is too large changes nothing.
 #[test]
 fn breakpoints_are_replaced(rt: HostRuntime) -> Result<(), Fail> {
-    let limits = Limits::new(8192, 1024, 64, 65536, 4096, 9007199254740991, 2147483647)
-        .ok()
-        .ok_or("limits")?;
+    let limits = limits(8192, 1024, 64, 65536, 4096, 9007199254740991, 2147483647)?;
     play(
         &rt,
         limits,
@@ -662,9 +654,7 @@ static SETS_TOO_MANY: [Step<'static>; 4] = [
 /// More breakpoints than there is room for are refused whole.
 #[test]
 fn third_breakpoint_is_refused(rt: HostRuntime) -> Result<(), Fail> {
-    let limits = Limits::new(8192, 4194304, 64, 65536, 2, 9007199254740991, 2147483647)
-        .ok()
-        .ok_or("limits")?;
+    let limits = limits(8192, 4194304, 64, 65536, 2, 9007199254740991, 2147483647)?;
     play(&rt, limits, &[(&SETS_TOO_MANY, Seen::Breakpoints(0))])
 }
 

@@ -16,104 +16,125 @@ fn text(alloc: Global, text: &str) -> Result<Text, Fail> {
     Ok(Text::copied(alloc, text)?)
 }
 
-#[test]
-fn lists(rt: HostRuntime) -> Result<(), Fail> {
-    let alloc = rt.alloc();
+fn threads(alloc: Global) -> Result<Body, Fail> {
     let mut threads = Vec::new(alloc);
     for id in [-1, 2] {
         let name = text(alloc, "t\"")?;
         threads.push(Thread { id, name })?;
     }
-    let told = answered(alloc, Some(Body::Threads { threads }))?;
-    assert_eq!(rt;
-        told.as_slice(),
-        b"{\"body\":{\"threads\":[{\"id\":-1,\"name\":\"t\\\"\"},{\"id\":2,\"name\":\"t\\\"\"}]},\"command\":\"c\",\"request_seq\":4,\"seq\":7,\"success\":true,\"type\":\"response\"}".as_slice()
-    );
+    Ok(Body::Threads { threads })
+}
+
+fn breakpoints(alloc: Global) -> Result<Body, Fail> {
     let mut breakpoints = Vec::new(alloc);
     breakpoints.push(Breakpoint {
         id: 1,
         line: 2,
         verified: false,
     })?;
-    let told = answered(alloc, Some(Body::SetBreakpoints { breakpoints }))?;
-    assert_eq!(rt;
-        told.as_slice(),
-        b"{\"body\":{\"breakpoints\":[{\"id\":1,\"line\":2,\"verified\":false}]},\"command\":\"c\",\"request_seq\":4,\"seq\":7,\"success\":true,\"type\":\"response\"}".as_slice()
-    );
+    Ok(Body::SetBreakpoints { breakpoints })
+}
+
+fn scopes(alloc: Global) -> Result<Body, Fail> {
     let mut scopes = Vec::new(alloc);
     scopes.push(Scope {
         name: text(alloc, "s")?,
         variables_reference: 3,
     })?;
-    let told = answered(alloc, Some(Body::Scopes { scopes }))?;
-    assert_eq!(rt;
-        told.as_slice(),
-        b"{\"body\":{\"scopes\":[{\"expensive\":false,\"name\":\"s\",\"variablesReference\":3}]},\"command\":\"c\",\"request_seq\":4,\"seq\":7,\"success\":true,\"type\":\"response\"}".as_slice()
-    );
+    Ok(Body::Scopes { scopes })
+}
+
+fn variables(alloc: Global) -> Result<Body, Fail> {
     let mut variables = Vec::new(alloc);
     variables.push(Variable {
         name: text(alloc, "v")?,
         value: text(alloc, "1")?,
         variables_reference: 0,
     })?;
-    let told = answered(alloc, Some(Body::Variables { variables }))?;
-    assert_eq!(rt;
-        told.as_slice(),
-        b"{\"body\":{\"variables\":[{\"name\":\"v\",\"value\":\"1\",\"variablesReference\":0}]},\"command\":\"c\",\"request_seq\":4,\"seq\":7,\"success\":true,\"type\":\"response\"}".as_slice()
-    );
-    Ok(())
+    Ok(Body::Variables { variables })
 }
 
-#[test]
-fn frames_and_texts(rt: HostRuntime) -> Result<(), Fail> {
-    let alloc = rt.alloc();
+fn source(alloc: Global) -> Result<Source, Fail> {
+    Ok(Source {
+        name: text(alloc, "a")?,
+        path: Some(text(alloc, "/a")?),
+        source_reference: 2,
+    })
+}
+
+fn frames(alloc: Global) -> Result<Body, Fail> {
     let mut stack_frames = Vec::new(alloc);
     stack_frames.push(StackFrame {
         id: 1,
         name: text(alloc, "f")?,
-        source: Source {
-            name: text(alloc, "a")?,
-            path: Some(text(alloc, "/a")?),
-            source_reference: 2,
-        },
+        source: source(alloc)?,
         line: 3,
         column: 4,
     })?;
-    let body = Body::StackTrace {
+    Ok(Body::StackTrace {
         stack_frames,
         total_frames: 5,
-    };
-    let told = answered(alloc, Some(body))?;
-    assert_eq!(rt;
-        told.as_slice(),
-        b"{\"body\":{\"stackFrames\":[{\"column\":4,\"id\":1,\"line\":3,\"name\":\"f\",\"source\":{\"name\":\"a\",\"path\":\"/a\",\"sourceReference\":2}}],\"totalFrames\":5},\"command\":\"c\",\"request_seq\":4,\"seq\":7,\"success\":true,\"type\":\"response\"}".as_slice()
-    );
-    let sources = Vec::new(alloc);
-    let told = answered(alloc, Some(Body::LoadedSources { sources }))?;
-    assert_eq!(rt;
-        told.as_slice(),
-        b"{\"body\":{\"sources\":[]},\"command\":\"c\",\"request_seq\":4,\"seq\":7,\"success\":true,\"type\":\"response\"}".as_slice()
-    );
-    let content = text(alloc, "x\n")?;
-    let told = answered(alloc, Some(Body::Source { content }))?;
-    assert_eq!(rt;
-        told.as_slice(),
-        b"{\"body\":{\"content\":\"x\\n\"},\"command\":\"c\",\"request_seq\":4,\"seq\":7,\"success\":true,\"type\":\"response\"}".as_slice()
-    );
-    let body = Body::Evaluate {
+    })
+}
+
+fn sources(alloc: Global) -> Body {
+    Body::LoadedSources {
+        sources: Vec::new(alloc),
+    }
+}
+
+fn content(alloc: Global) -> Result<Body, Fail> {
+    Ok(Body::Source {
+        content: text(alloc, "x\n")?,
+    })
+}
+
+fn evaluate(alloc: Global) -> Result<Body, Fail> {
+    Ok(Body::Evaluate {
         result: text(alloc, "1")?,
         variables_reference: 6,
-    };
-    let told = answered(alloc, Some(body))?;
-    assert_eq!(rt;
-        told.as_slice(),
-        b"{\"body\":{\"result\":\"1\",\"variablesReference\":6},\"command\":\"c\",\"request_seq\":4,\"seq\":7,\"success\":true,\"type\":\"response\"}".as_slice()
-    );
-    let told = answered(alloc, None)?;
-    assert_eq!(rt;
-        told.as_slice(),
-        b"{\"command\":\"c\",\"request_seq\":4,\"seq\":7,\"success\":true,\"type\":\"response\"}".as_slice()
-    );
+    })
+}
+
+/// The body with this place in `ANSWERS`.
+fn body(alloc: Global, place: usize) -> Result<Option<Body>, Fail> {
+    Ok(match place {
+        0 => Some(threads(alloc)?),
+        1 => Some(breakpoints(alloc)?),
+        2 => Some(scopes(alloc)?),
+        3 => Some(variables(alloc)?),
+        4 => Some(frames(alloc)?),
+        5 => Some(sources(alloc)),
+        6 => Some(content(alloc)?),
+        7 => Some(evaluate(alloc)?),
+        _ => None,
+    })
+}
+
+static ANSWERS: [&[u8]; 9] = [
+    b"{\"body\":{\"threads\":[{\"id\":-1,\"name\":\"t\\\"\"},{\"id\":2,\"name\":\"t\\\"\"}]},\"command\":\"c\",\"request_seq\":4,\"seq\":7,\"success\":true,\"type\":\"response\"}",
+    b"{\"body\":{\"breakpoints\":[{\"id\":1,\"line\":2,\"verified\":false}]},\"command\":\"c\",\"request_seq\":4,\"seq\":7,\"success\":true,\"type\":\"response\"}",
+    b"{\"body\":{\"scopes\":[{\"expensive\":false,\"name\":\"s\",\"variablesReference\":3}]},\"command\":\"c\",\"request_seq\":4,\"seq\":7,\"success\":true,\"type\":\"response\"}",
+    b"{\"body\":{\"variables\":[{\"name\":\"v\",\"value\":\"1\",\"variablesReference\":0}]},\"command\":\"c\",\"request_seq\":4,\"seq\":7,\"success\":true,\"type\":\"response\"}",
+    b"{\"body\":{\"stackFrames\":[{\"column\":4,\"id\":1,\"line\":3,\"name\":\"f\",\"source\":{\"name\":\"a\",\"path\":\"/a\",\"sourceReference\":2}}],\"totalFrames\":5},\"command\":\"c\",\"request_seq\":4,\"seq\":7,\"success\":true,\"type\":\"response\"}",
+    b"{\"body\":{\"sources\":[]},\"command\":\"c\",\"request_seq\":4,\"seq\":7,\"success\":true,\"type\":\"response\"}",
+    b"{\"body\":{\"content\":\"x\\n\"},\"command\":\"c\",\"request_seq\":4,\"seq\":7,\"success\":true,\"type\":\"response\"}",
+    b"{\"body\":{\"result\":\"1\",\"variablesReference\":6},\"command\":\"c\",\"request_seq\":4,\"seq\":7,\"success\":true,\"type\":\"response\"}",
+    b"{\"command\":\"c\",\"request_seq\":4,\"seq\":7,\"success\":true,\"type\":\"response\"}",
+];
+
+/// Whether the response with this place is written so.
+fn is_written(alloc: Global, place: usize, wanted: &[u8]) -> Result<bool, Fail> {
+    let told = answered(alloc, body(alloc, place)?)?;
+    Ok(told.as_slice() == wanted)
+}
+
+/// Each body by its parts, and none.
+#[test]
+fn bodies_by_their_parts(rt: HostRuntime) -> Result<(), Fail> {
+    for (place, wanted) in ANSWERS.iter().enumerate() {
+        assert!(rt; is_written(rt.alloc(), place, wanted)?, "body {place}");
+    }
     Ok(())
 }
 

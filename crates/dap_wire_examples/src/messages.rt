@@ -26,59 +26,60 @@ fn nested(alloc: Global, times: usize, middle: &str) -> Result<String, AllocErro
     Ok(text)
 }
 
+static REFUSED: [(&str, BodyRefusal); 27] = [
+    ("", BodyRefusal::NotJson),
+    ("{\"seq\":1", BodyRefusal::NotJson),
+    ("{\"seq\":1,}", BodyRefusal::NotJson),
+    ("\"\\ud800\"", BodyRefusal::NotJson),
+    // No float is as great as this number, also where nothing asks for it.
+    ("{\"x\":1e999}", BodyRefusal::NotJson),
+    ("[]", BodyRefusal::NotObject),
+    ("null", BodyRefusal::NotObject),
+    ("{}", BodyRefusal::BadSeq),
+    ("{\"seq\":-1}", BodyRefusal::BadSeq),
+    ("{\"seq\":-0}", BodyRefusal::BadSeq),
+    ("{\"seq\":1.0}", BodyRefusal::BadSeq),
+    ("{\"seq\":1e0}", BodyRefusal::BadSeq),
+    ("{\"seq\":\"1\"}", BodyRefusal::BadSeq),
+    ("{\"seq\":9007199254740992}", BodyRefusal::BadSeq),
+    ("{\"seq\":18446744073709551616}", BodyRefusal::BadSeq),
+    ("{\"seq\":1}", BodyRefusal::BadType),
+    ("{\"seq\":1,\"type\":1}", BodyRefusal::BadType),
+    ("{\"seq\":1,\"type\":null}", BodyRefusal::BadType),
+    ("{\"seq\":1,\"type\":\"request\"}", BodyRefusal::BadCommand),
+    (
+        "{\"seq\":1,\"type\":\"request\",\"command\":1}",
+        BodyRefusal::BadCommand,
+    ),
+    ("{\"seq\":1,\"type\":\"response\"}", BodyRefusal::BadCommand),
+    (
+        "{\"seq\":1,\"type\":\"response\",\"command\":\"a\"}",
+        BodyRefusal::BadRequestSeq,
+    ),
+    (
+        "{\"seq\":1,\"type\":\"response\",\"command\":\"a\",\"request_seq\":1.5,\"success\":1}",
+        BodyRefusal::BadRequestSeq,
+    ),
+    (
+        "{\"seq\":1,\"type\":\"response\",\"command\":\"a\",\"request_seq\":1,\"success\":1}",
+        BodyRefusal::BadSuccess,
+    ),
+    (
+        "{\"seq\":1,\"type\":\"response\",\"command\":\"a\",\"request_seq\":1,\"success\":true,\"message\":{}}",
+        BodyRefusal::BadMessage,
+    ),
+    ("{\"seq\":1,\"type\":\"event\"}", BodyRefusal::BadEvent),
+    (
+        "{\"seq\":1,\"type\":\"event\",\"event\":null}",
+        BodyRefusal::BadEvent,
+    ),
+];
+
 #[test]
 fn tells_the_first_refusal(rt: HostRuntime) {
-    let rows = [
-        ("", BodyRefusal::NotJson),
-        ("{\"seq\":1", BodyRefusal::NotJson),
-        ("{\"seq\":1,}", BodyRefusal::NotJson),
-        ("\"\\ud800\"", BodyRefusal::NotJson),
-        // No float is as great as this number, also where nothing asks for it.
-        ("{\"x\":1e999}", BodyRefusal::NotJson),
-        ("[]", BodyRefusal::NotObject),
-        ("null", BodyRefusal::NotObject),
-        ("{}", BodyRefusal::BadSeq),
-        ("{\"seq\":-1}", BodyRefusal::BadSeq),
-        ("{\"seq\":-0}", BodyRefusal::BadSeq),
-        ("{\"seq\":1.0}", BodyRefusal::BadSeq),
-        ("{\"seq\":1e0}", BodyRefusal::BadSeq),
-        ("{\"seq\":\"1\"}", BodyRefusal::BadSeq),
-        ("{\"seq\":9007199254740992}", BodyRefusal::BadSeq),
-        ("{\"seq\":18446744073709551616}", BodyRefusal::BadSeq),
-        ("{\"seq\":1}", BodyRefusal::BadType),
-        ("{\"seq\":1,\"type\":1}", BodyRefusal::BadType),
-        ("{\"seq\":1,\"type\":null}", BodyRefusal::BadType),
-        ("{\"seq\":1,\"type\":\"request\"}", BodyRefusal::BadCommand),
-        (
-            "{\"seq\":1,\"type\":\"request\",\"command\":1}",
-            BodyRefusal::BadCommand,
-        ),
-        ("{\"seq\":1,\"type\":\"response\"}", BodyRefusal::BadCommand),
-        (
-            "{\"seq\":1,\"type\":\"response\",\"command\":\"a\"}",
-            BodyRefusal::BadRequestSeq,
-        ),
-        (
-            "{\"seq\":1,\"type\":\"response\",\"command\":\"a\",\"request_seq\":1.5,\"success\":1}",
-            BodyRefusal::BadRequestSeq,
-        ),
-        (
-            "{\"seq\":1,\"type\":\"response\",\"command\":\"a\",\"request_seq\":1,\"success\":1}",
-            BodyRefusal::BadSuccess,
-        ),
-        (
-            "{\"seq\":1,\"type\":\"response\",\"command\":\"a\",\"request_seq\":1,\"success\":true,\"message\":{}}",
-            BodyRefusal::BadMessage,
-        ),
-        ("{\"seq\":1,\"type\":\"event\"}", BodyRefusal::BadEvent),
-        (
-            "{\"seq\":1,\"type\":\"event\",\"event\":null}",
-            BodyRefusal::BadEvent,
-        ),
-    ];
-    for (body, refusal) in rows {
+    for (body, refusal) in &REFUSED {
         let fault = fault_of(rt.alloc(), body.as_bytes());
-        assert_eq!(rt; fault, Some(BodyFault::Refused(refusal)), "{body}");
+        assert_eq!(rt; fault, Some(BodyFault::Refused(*refusal)), "{body}");
     }
 }
 
@@ -89,48 +90,49 @@ fn refuses_what_is_no_text(rt: HostRuntime) {
     assert_eq!(rt; fault, Some(BodyFault::Refused(BodyRefusal::NotJson)));
 }
 
+static WRITTEN: [(&str, &str); 8] = [
+    (
+        "{\"seq\":1,\"type\":\"request\",\"command\":\"threads\"}",
+        "{\"command\":\"threads\",\"seq\":1,\"type\":\"request\"}",
+    ),
+    // `seq` last, unknown keys, and white space.
+    (
+        " {\"type\":\"request\", \"x\":[1.5,{}], \"command\":\"next\", \"arguments\":{\"threadId\":1}, \"seq\":0}\r\n",
+        "{\"arguments\":{\"threadId\":1},\"command\":\"next\",\"seq\":0,\"type\":\"request\"}",
+    ),
+    // `null` counts as absent.
+    (
+        "{\"seq\":2,\"type\":\"request\",\"command\":\"\",\"arguments\":null}",
+        "{\"command\":\"\",\"seq\":2,\"type\":\"request\"}",
+    ),
+    (
+        "{\"seq\":9007199254740991,\"type\":\"response\",\"request_seq\":1,\"success\":false,\"command\":\"threads\",\"message\":null,\"body\":null}",
+        "{\"command\":\"threads\",\"request_seq\":1,\"seq\":9007199254740991,\"success\":false,\"type\":\"response\"}",
+    ),
+    (
+        "{\"seq\":3,\"type\":\"response\",\"request_seq\":2,\"success\":false,\"command\":\"next\",\"message\":\"notStopped\",\"body\":{\"error\":{\"id\":1,\"format\":\"\\u00e9\\n\"}}}",
+        "{\"body\":{\"error\":{\"format\":\"é\\n\",\"id\":1}},\"command\":\"next\",\"message\":\"notStopped\",\"request_seq\":2,\"seq\":3,\"success\":false,\"type\":\"response\"}",
+    ),
+    (
+        "{\"seq\":2,\"type\":\"event\",\"event\":\"a\\u0007\",\"body\":-9223372036854775808}",
+        "{\"body\":-9223372036854775808,\"event\":\"a\\u0007\",\"seq\":2,\"type\":\"event\"}",
+    ),
+    // A response's keys do not count in a message of another type.
+    (
+        "{\"seq\":3,\"type\":\"x\",\"success\":1}",
+        "{\"seq\":3,\"type\":\"x\"}",
+    ),
+    // Of two members with one key the last counts.
+    (
+        "{\"seq\":1,\"seq\":3,\"type\":\"Request\"}",
+        "{\"seq\":3,\"type\":\"Request\"}",
+    ),
+];
+
 /// Each row is a body, and the text that the message is written as.
 #[test]
 fn reads_and_writes(rt: HostRuntime) -> Result<(), Fail> {
-    let rows = [
-        (
-            "{\"seq\":1,\"type\":\"request\",\"command\":\"threads\"}",
-            "{\"command\":\"threads\",\"seq\":1,\"type\":\"request\"}",
-        ),
-        // `seq` last, unknown keys, and white space.
-        (
-            " {\"type\":\"request\", \"x\":[1.5,{}], \"command\":\"next\", \"arguments\":{\"threadId\":1}, \"seq\":0}\r\n",
-            "{\"arguments\":{\"threadId\":1},\"command\":\"next\",\"seq\":0,\"type\":\"request\"}",
-        ),
-        // `null` counts as absent.
-        (
-            "{\"seq\":2,\"type\":\"request\",\"command\":\"\",\"arguments\":null}",
-            "{\"command\":\"\",\"seq\":2,\"type\":\"request\"}",
-        ),
-        (
-            "{\"seq\":9007199254740991,\"type\":\"response\",\"request_seq\":1,\"success\":false,\"command\":\"threads\",\"message\":null,\"body\":null}",
-            "{\"command\":\"threads\",\"request_seq\":1,\"seq\":9007199254740991,\"success\":false,\"type\":\"response\"}",
-        ),
-        (
-            "{\"seq\":3,\"type\":\"response\",\"request_seq\":2,\"success\":false,\"command\":\"next\",\"message\":\"notStopped\",\"body\":{\"error\":{\"id\":1,\"format\":\"\\u00e9\\n\"}}}",
-            "{\"body\":{\"error\":{\"format\":\"é\\n\",\"id\":1}},\"command\":\"next\",\"message\":\"notStopped\",\"request_seq\":2,\"seq\":3,\"success\":false,\"type\":\"response\"}",
-        ),
-        (
-            "{\"seq\":2,\"type\":\"event\",\"event\":\"a\\u0007\",\"body\":-9223372036854775808}",
-            "{\"body\":-9223372036854775808,\"event\":\"a\\u0007\",\"seq\":2,\"type\":\"event\"}",
-        ),
-        // A response's keys do not count in a message of another type.
-        (
-            "{\"seq\":3,\"type\":\"x\",\"success\":1}",
-            "{\"seq\":3,\"type\":\"x\"}",
-        ),
-        // Of two members with one key the last counts.
-        (
-            "{\"seq\":1,\"seq\":3,\"type\":\"Request\"}",
-            "{\"seq\":3,\"type\":\"Request\"}",
-        ),
-    ];
-    for (body, text) in rows {
+    for (body, text) in &WRITTEN {
         let message = read_message(rt.alloc(), body.as_bytes())?;
         assert!(rt; message.plain(), "{body}");
         let written = write_message(rt.alloc(), &message)?;
