@@ -454,18 +454,30 @@ static IN_WORDS: [(ToolFault, &str); 14] = [
         "the recording is refused",
     ),
     (
-        ToolFault::Show(ShowFault::Frame(frame)),
+        ToolFault::Show(ShowFault::Frame(FrameFault {
+            cause: Refusal::NoLength,
+            offset: 103,
+        })),
         "a frame is refused at byte 103",
     ),
     (
-        ToolFault::Show(body),
+        ToolFault::Show(ShowFault::Body {
+            cause: BodyRefusal::BadSeq,
+            offset: 68,
+        }),
         "the body of the frame at byte 68 is refused",
     ),
     (
         ToolFault::Show(ShowFault::OutOfMemory),
         "memory is exhausted",
     ),
-    (ToolFault::Wrap(line), "line 3 is no message"),
+    (
+        ToolFault::Wrap(WrapFault::Body {
+            cause: BodyRefusal::BadSeq,
+            line: 3,
+        }),
+        "line 3 is no message",
+    ),
     (
         ToolFault::Wrap(WrapFault::BodyTooLong { line: 9 }),
         "line 9 is longer than a body may be",
@@ -491,18 +503,6 @@ static IN_WORDS: [(ToolFault, &str); 14] = [
 /// What a person reads of each fault.
 #[test]
 fn faults_in_words(rt: HostRuntime) -> Result<(), Fail> {
-    let frame = FrameFault {
-        cause: Refusal::NoLength,
-        offset: 103,
-    };
-    let body = ShowFault::Body {
-        cause: BodyRefusal::BadSeq,
-        offset: 68,
-    };
-    let line = WrapFault::Body {
-        cause: BodyRefusal::BadSeq,
-        line: 3,
-    };
     for (fault, words) in &IN_WORDS {
         assert_eq!(rt; format!(in rt.alloc(); "{fault}")?.as_str(), *words);
     }
