@@ -11,18 +11,26 @@ fn fault_of(alloc: Global, body: &[u8]) -> Option<BodyFault> {
     }
 }
 
+/// Appends a part so many times.
+pub(crate) fn repeat(text: &mut String, part: &str, times: usize) -> Result<(), AllocError> {
+    for _ in 0..times {
+        text.push_str(part)?;
+    }
+    Ok(())
+}
+
 /// An event whose body is `middle` in so many arrays.
+fn put_nested(text: &mut String, times: usize, middle: &str) -> Result<(), AllocError> {
+    text.push_str("{\"seq\":1,\"type\":\"event\",\"event\":\"e\",\"body\":")?;
+    repeat(text, "[", times)?;
+    text.push_str(middle)?;
+    repeat(text, "]", times)?;
+    text.push_str("}")
+}
+
 fn nested(alloc: Global, times: usize, middle: &str) -> Result<String, AllocError> {
     let mut text = String::new(alloc);
-    text.push_str("{\"seq\":1,\"type\":\"event\",\"event\":\"e\",\"body\":")?;
-    for _ in 0..times {
-        text.push_str("[")?;
-    }
-    text.push_str(middle)?;
-    for _ in 0..times {
-        text.push_str("]")?;
-    }
-    text.push_str("}")?;
+    put_nested(&mut text, times, middle)?;
     Ok(text)
 }
 
@@ -141,6 +149,14 @@ fn reads_and_writes(rt: HostRuntime) -> Result<(), Fail> {
     Ok(())
 }
 
+/// A request whose command is so many characters of two bytes each, and the rest.
+fn put_command(text: &mut String, times: usize, rest: &str) -> Result<(), AllocError> {
+    text.push_str("{\"seq\":1,\"type\":\"request\",\"command\":\"")?;
+    repeat(text, "é", times)?;
+    text.push_str(rest)?;
+    text.push_str("\"}")
+}
+
 #[test]
 fn counts_a_command_in_bytes(rt: HostRuntime) -> Result<(), Fail> {
     for (times, rest, fault) in [
@@ -148,20 +164,10 @@ fn counts_a_command_in_bytes(rt: HostRuntime) -> Result<(), Fail> {
         (31, "ab", None),
         (32, "a", Some(BodyFault::Refused(BodyRefusal::BadCommand))),
     ] {
-        let mut body = String::from_str(
-            rt.alloc(),
-            "{\"seq\":1,\"type\":\"request\",\"command\":\"",
-        )?;
-        for _ in 0..times {
-            body.push_str("é")?;
-        }
-        body.push_str(rest)?;
-        body.push_str("\"}")?;
-        assert_eq!(rt;
-            fault_of(rt.alloc(), body.as_bytes()),
-            fault,
-            "{times} {rest}"
-        );
+        let mut body = String::new(rt.alloc());
+        put_command(&mut body, times, rest)?;
+        let found = fault_of(rt.alloc(), body.as_bytes());
+        assert_eq!(rt; found, fault, "{times} {rest}");
     }
     Ok(())
 }
