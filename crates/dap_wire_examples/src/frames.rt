@@ -236,8 +236,8 @@ fn header_too_long_after_a_frame(rt: HostRuntime) -> Result<(), Fail> {
     expect(&rt, &limits, stream, (seen, b"{}"))
 }
 
-/// A frame whose body has the greatest length.
-fn longest(alloc: Global, body: &[u8]) -> Result<Vec<u8>, Fail> {
+/// The frame of a body.
+fn framed(alloc: Global, body: &[u8]) -> Result<Vec<u8>, Fail> {
     let mut frame = Vec::new(alloc);
     write_frame(&mut frame, body)?;
     Ok(frame)
@@ -248,7 +248,7 @@ fn longest(alloc: Global, body: &[u8]) -> Result<Vec<u8>, Fail> {
 fn body_too_long_after_a_frame(rt: HostRuntime) -> Result<(), Fail> {
     let limits = limits(8192, 1024)?;
     let body = [b'a'; 1024];
-    let first = longest(rt.alloc(), &body)?;
+    let first = framed(rt.alloc(), &body)?;
     assert_eq!(rt; first.len(), 1048);
     let stream = joined(rt.alloc(), &first, b"Content-Length: 1025\r\n\r\n")?;
     let wanted = (
@@ -360,7 +360,7 @@ fn ten_thousand_frames(rt: HostRuntime) -> Result<(), Fail> {
     let mut frames = Frames::open(rt.alloc(), &limits)?;
     for number in 0..10000usize {
         let body = all.get(..number * 37 % 1025).ok_or("a size")?;
-        let frame = longest(rt.alloc(), body)?;
+        let frame = framed(rt.alloc(), body)?;
         assert!(rt;
             passes(rt.alloc(), &mut frames, &frame, number % 1048, body)?,
             "{number}"
