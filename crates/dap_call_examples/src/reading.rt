@@ -45,14 +45,24 @@ fn told_tree(alloc: Global, tree: Option<&Tree>) -> Result<String, AllocError> {
     }
 }
 
+/// Two flags, in words.
+fn flags(first: bool, second: bool) -> &'static str {
+    match (first, second) {
+        (false, false) => "false false",
+        (false, true) => "false true",
+        (true, false) => "true false",
+        (true, true) => "true true",
+    }
+}
+
 fn told_initialize(alloc: Global, i: &Initialize) -> Result<String, AllocError> {
     let id = i.adapter_id.as_str();
-    let (lines, columns) = (i.lines_start_at_1, i.columns_start_at_1);
-    let (paging, terminal) = (
+    let at_1 = flags(i.lines_start_at_1, i.columns_start_at_1);
+    let can = flags(
         i.supports_variable_paging,
         i.supports_run_in_terminal_request,
     );
-    format!(in alloc; "{id} {lines} {columns} {paging} {terminal}")
+    format!(in alloc; "{id} {at_1} {can}")
 }
 
 fn told_evaluate(alloc: Global, e: &Evaluate) -> Result<String, AllocError> {
@@ -156,7 +166,7 @@ fn told_read(alloc: Global, read: Result<Call, CallFault>) -> Result<String, Fai
 }
 
 /// Reads arguments, or none where the text is empty, and tells the call or the bad key.
-fn read(alloc: Global, command: Command, text: &str) -> Result<String, Fail> {
+pub(crate) fn read(alloc: Global, command: Command, text: &str) -> Result<String, Fail> {
     if text.is_empty() {
         return told_read(alloc, read_call(alloc, command, None));
     }

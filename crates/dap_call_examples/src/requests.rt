@@ -51,8 +51,10 @@ fn kept_and_taken(table: &mut Outstanding, entry: Entry) -> Result<Option<Entry>
 fn take_oldest(table: &mut Outstanding) -> Option<Entry>
     ensures { IsSome result ↔ IsSome (oldest_unparked table.old.kept) }
 {
-    let seq = table.oldest_unparked()?;
-    table.take(seq)
+    match table.oldest_unparked() {
+        Some(seq) => table.take(seq),
+        None => None,
+    }
 }
 
 // Whether the put of a request comes to this answer.
@@ -277,7 +279,11 @@ fn fill(alloc: Global, table: &mut Outstanding) -> Result<bool, AllocError> {
             return Ok(false);
         }
     }
-    Ok(table.is_full() && table.in_order().next().is_some_and(|entry| entry.seq == 1))
+    let first = match table.in_order().next() {
+        Some(entry) => entry.seq,
+        None => 0,
+    };
+    Ok(table.is_full() && first == 1)
 }
 
 // Takes them, by arrival or in reverse, up to the first that is not what it should be; whether none is left.

@@ -1,9 +1,10 @@
 //! `show` and `read_whole`: what is listed of a stream, and how its end or its refusal is told.
 
+use crate::serving::with_bytes_between;
 use dap_adapter::ServeFault;
 use dap_channel::{Channel, Input};
 use dap_debuggee::RecordingFault;
-use dap_frame::{End, FrameFault, Limits, Refusal, write_frame};
+use dap_frame::{End, FrameFault, Limits, Refusal};
 use dap_message::{BodyRefusal, Scratch, read_heading, read_message};
 use dap_samples::calls::{THREADS, framed, limits};
 use dap_samples::streams::Pieces;
@@ -173,14 +174,6 @@ fn expect_refused(
     Err(Fail::from("told otherwise"))
 }
 
-/// A request before and after some bytes.
-fn with_bytes_between(alloc: Global, bytes: &[u8]) -> Result<Vec<u8>, Fail> {
-    let mut input = framed(alloc, &[THREADS])?;
-    input.extend_from_slice(bytes)?;
-    write_frame(&mut input, THREADS)?;
-    Ok(input)
-}
-
 static BAD_FRAMES: [(&[u8], Refusal, &[u8]); 6] = [
     (
         b"aaaaaaaaaaaaaaaaaaaaaaaaaaaaaaaaaaaaaaaaaaaaaaaaaaaaaaaaaaaaaaaa",
@@ -211,7 +204,7 @@ static BAD_FRAMES: [(&[u8], Refusal, &[u8]); 6] = [
 fn listing_to_a_refused_frame(rt: HostRuntime) -> Result<(), Fail> {
     let limits = limits(64, 1024, 2, 1, 1, 1, 1)?;
     for (bad, refusal, line) in &BAD_FRAMES {
-        let input = with_bytes_between(rt.alloc(), bad)?;
+        let input = with_bytes_between(rt.alloc(), THREADS, bad)?;
         let fault = ShowFault::Frame(FrameFault {
             cause: *refusal,
             offset: 68,

@@ -163,11 +163,15 @@ fn expect_refused(
     expect_line(rt.alloc(), fault, line)
 }
 
-/// `initialize` before and after some bytes.
-fn with_bytes_between(alloc: Global, bytes: &[u8]) -> Result<Vec<u8>, Fail> {
-    let mut input = framed(alloc, &[INITIALIZE])?;
+/// The frame of a body before and after some bytes.
+pub(crate) fn with_bytes_between(
+    alloc: Global,
+    body: &[u8],
+    bytes: &[u8],
+) -> Result<Vec<u8>, Fail> {
+    let mut input = framed(alloc, &[body])?;
     input.extend_from_slice(bytes)?;
-    write_frame(&mut input, INITIALIZE)?;
+    write_frame(&mut input, body)?;
     Ok(input)
 }
 
@@ -205,7 +209,7 @@ static BAD_FRAMES: [(&[u8], Refusal, &[u8]); 6] = [
 fn refused_frames(rt: HostRuntime) -> Result<(), Fail> {
     let limits = limits(64, 1024, 64, 1, 1, 10, 1)?;
     for (bad, refusal, line) in &BAD_FRAMES {
-        let input = with_bytes_between(rt.alloc(), bad)?;
+        let input = with_bytes_between(rt.alloc(), INITIALIZE, bad)?;
         let fault = AdapterFault::Frame(FrameFault {
             cause: *refusal,
             offset: 103,
