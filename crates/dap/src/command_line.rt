@@ -13,7 +13,10 @@ struct LimitOption {
     limit: LimitFault,
 }
 
-static LIMIT_OPTIONS: [LimitOption; 7] = [
+/// How many options set a limit.
+const ALL_OPTIONS: usize = 7;
+
+static LIMIT_OPTIONS: [LimitOption; ALL_OPTIONS] = [
     LimitOption {
         name: "max-header",
         unit: "BYTES",
@@ -72,12 +75,17 @@ pub(crate) fn limit_texts(alloc: Global) -> Result<Vec<String>, AllocError> {
     Ok(texts)
 }
 
-/// The option, which takes a number in the limit's range.
-fn limit_option<'a>(alloc: Global, option: &LimitOption, help: &'a str) -> Arg<'a> {
+/// An option with these names and help.
+fn named_option<'a>(alloc: Global, option: &LimitOption, help: &'a str) -> Arg<'a> {
     Arg::new(alloc, option.name)
         .long(option.name)
         .value_name(option.unit)
         .help(help)
+}
+
+/// The option, which takes a number in the limit's range.
+fn limit_option<'a>(alloc: Global, option: &LimitOption, help: &'a str) -> Arg<'a> {
+    named_option(alloc, option, help)
         .action(ArgAction::Set)
         .allow_negative_numbers(true)
         .value_parser(ValueParser::unsigned(option.limit.least(), option.limit.greatest()))
@@ -86,63 +94,84 @@ fn limit_option<'a>(alloc: Global, option: &LimitOption, help: &'a str) -> Arg<'
 /// How many of the options bound a reader of frames alone: the first two.
 const FRAME_OPTIONS: usize = 2;
 
-fn serve<'a>(alloc: Global, limit_texts: &'a [String]) -> Result<Command<'a>, AllocError> {
-    let recording = Arg::new(alloc, "recording")
-        .value_name("RECORDING")
-        .help("The recorded run that is debugged, as JSON, of at most 67108864 bytes")
+/// A word that names a file.
+fn file_word<'a>(
+    alloc: Global,
+    name: &'static str,
+    value: &'static str,
+    help: &'static str,
+) -> Arg<'a> {
+    Arg::new(alloc, name)
+        .value_name(value)
+        .help(help)
         .required(true)
-        .action(ArgAction::Set);
-    let mut serve = Command::new(alloc, "serve")
+        .action(ArgAction::Set)
+}
+
+/// The recording that a subcommand debugs.
+fn recording<'a>(alloc: Global) -> Arg<'a> {
+    file_word(
+        alloc,
+        "recording",
+        "RECORDING",
+        "The recorded run that is debugged, as JSON, of at most 67108864 bytes",
+    )
+}
+
+/// The file that a subcommand reads.
+fn file_of<'a>(alloc: Global, help: &'static str) -> Arg<'a> {
+    file_word(alloc, "file", "FILE", help)
+}
+
+/// A subcommand with the first so many of the options that set a limit.
+fn with_limits<'a>(
+    alloc: Global,
+    subcommand: Command<'a>,
+    limit_texts: &'a [String],
+    count: usize,
+) -> Result<Command<'a>, AllocError> {
+    let mut subcommand = subcommand;
+    for (option, help) in LIMIT_OPTIONS.iter().zip(limit_texts).take(count) {
+        subcommand = subcommand.arg(limit_option(alloc, option, help.as_str()))?;
+    }
+    Ok(subcommand)
+}
+
+fn serve<'a>(alloc: Global, limit_texts: &'a [String]) -> Result<Command<'a>, AllocError> {
+    let serve = Command::new(alloc, "serve")
         .about(
             "Debugs a recorded run: answers the Debug Adapter Protocol requests of standard input on standard output",
         )
         .after_help(
             "The recording is read before the input. The session ends with `disconnect` or with the input.\n\nStatuses: 0 the session or the input ended, 2 usage, 3 a frame, a body, a message or the recording is refused or no sequence number is left, 4 the input ends within a frame, 5 read or write, 6 memory",
         )
-        .arg(recording)?;
-    for (option, help) in LIMIT_OPTIONS.iter().zip(limit_texts) {
-        serve = serve.arg(limit_option(alloc, option, help.as_str()))?;
-    }
-    Ok(serve)
-}
-
-/// The file that a subcommand reads.
-fn file_of<'a>(alloc: Global, help: &'static str) -> Arg<'a> {
-    Arg::new(alloc, "file")
-        .value_name("FILE")
-        .help(help)
-        .required(true)
-        .action(ArgAction::Set)
+        .arg(recording(alloc))?;
+    with_limits(alloc, serve, limit_texts, ALL_OPTIONS)
 }
 
 fn show<'a>(alloc: Global, limit_texts: &'a [String]) -> Result<Command<'a>, AllocError> {
-    let file = file_of(
-        alloc,
-        "The stream, as one side wrote it, of at most 67108864 bytes",
-    );
-    let mut show = Command::new(alloc, "show")
+    let show = Command::new(alloc, "show")
         .about("Lists the messages of a stream, one a line")
         .after_help(
             "A line has the offset of the frame, the sequence number, then `request` COMMAND, `event` EVENT, `response` COMMAND REQUEST_SEQ `ok` or `failed`, or `other` TYPE.\n\nStatuses: 0 all is listed, 2 usage, 3 a frame, a body or the length of the file is refused, 4 the file ends within a frame, 5 read or write, 6 memory",
         )
-        .arg(file)?;
-    for (option, help) in LIMIT_OPTIONS.iter().zip(limit_texts).take(FRAME_OPTIONS) {
-        show = show.arg(limit_option(alloc, option, help.as_str()))?;
-    }
-    Ok(show)
+        .arg(file_of(
+            alloc,
+            "The stream, as one side wrote it, of at most 67108864 bytes",
+        ))?;
+    with_limits(alloc, show, limit_texts, FRAME_OPTIONS)
 }
 
 fn wrap<'a>(alloc: Global, limit_texts: &'a [String]) -> Result<Command<'a>, AllocError> {
-    let file = file_of(
-        alloc,
-        "The messages, as JSON, one a line, of at most 67108864 bytes",
-    );
     let mut wrap = Command::new(alloc, "wrap")
         .about("Writes the messages of a file, one a line, as a stream of frames")
         .after_help(
             "Empty lines are skipped.\n\nStatuses: 0 all is written, 2 usage, 3 a line or the length of the file is refused and nothing is written, 5 read or write, 6 memory",
         )
-        .arg(file)?;
+        .arg(file_of(
+            alloc,
+            "The messages, as JSON, one a line, of at most 67108864 bytes",
+        ))?;
     for (option, help) in LIMIT_OPTIONS.iter().zip(limit_texts).take(FRAME_OPTIONS) {
         // No header block is read. The option may be given, since a script gives both tools the same.
         let does_nothing = matches!(option.limit, LimitFault::Header);
@@ -160,16 +189,15 @@ fn flag<'a>(alloc: Global, name: &'static str, help: &'static str) -> Arg<'a> {
 }
 
 fn check<'a>(alloc: Global) -> Result<Command<'a>, AllocError> {
-    let file = file_of(
-        alloc,
-        "The transcript: one message a line, `> ` before those of the client, `< ` before those of the adapter; of at most 67108864 bytes",
-    );
     Command::new(alloc, "check")
         .about("Checks a transcript: which line breaks which rule of the protocol")
         .after_help(
             "Prints `legal`, or `line L rule K`: the first line that breaks a rule, and the first rule that it breaks. Empty lines are skipped, and counted.\n\nRules:\n  1 the messages of each side are numbered from 1, without a gap\n  2 a response answers a request that waits, with its number and command; a request has no number of one that waits\n  3 the first request of the client is `initialize`, and the second comes after its response\n  4 `initialized` comes after `initialize` has succeeded\n  5 the client asks only what the adapter offers\n  6 the client names only references that were given since the debuggee last went on\n  7 nothing comes after `disconnect` has succeeded\n\nStatuses: 0 legal, 2 usage, 3 a rule is broken, a line is no message, or the file is too long, 5 read or write, 6 memory",
         )
-        .arg(file)?
+        .arg(file_of(
+            alloc,
+            "The transcript: one message a line, `> ` before those of the client, `< ` before those of the adapter; of at most 67108864 bytes",
+        ))?
         .arg(flag(
             alloc,
             "any-seq",
@@ -183,29 +211,21 @@ fn check<'a>(alloc: Global) -> Result<Command<'a>, AllocError> {
 }
 
 fn drive<'a>(alloc: Global, limit_texts: &'a [String]) -> Result<Command<'a>, AllocError> {
-    let recording = Arg::new(alloc, "recording")
-        .value_name("RECORDING")
-        .help("The recorded run that is debugged, as JSON, of at most 67108864 bytes")
-        .required(true)
-        .action(ArgAction::Set);
-    let script = Arg::new(alloc, "script")
-        .value_name("SCRIPT")
-        .help("What is done, one step a line, of at most 67108864 bytes")
-        .required(true)
-        .action(ArgAction::Set);
-    let mut drive = Command::new(alloc, "drive")
+    let drive = Command::new(alloc, "drive")
         .about(
             "Runs a client and an adapter against each other by a script, and prints the transcript",
         )
         .after_help(
             "A line of the script is one of\n  send COMMAND [ARGUMENTS]  the client sends a request; ARGUMENTS is JSON\n  turn                      the adapter handles the oldest request that waits\n  poll                      the adapter tells what happened to the debuggee, once\n  run                       turns until none waits, then polls until nothing comes or the debuggee stops\nEmpty lines are skipped, and counted. Each message is delivered once it is written. At a fault nothing is printed.\n\nStatuses: 0 the script was run, 2 usage, 3 the recording, a line, a request or a message is refused, or a file is too long, 5 read or write, 6 memory",
         )
-        .arg(recording)?
-        .arg(script)?;
-    for (option, help) in LIMIT_OPTIONS.iter().zip(limit_texts) {
-        drive = drive.arg(limit_option(alloc, option, help.as_str()))?;
-    }
-    Ok(drive)
+        .arg(recording(alloc))?
+        .arg(file_word(
+            alloc,
+            "script",
+            "SCRIPT",
+            "What is done, one step a line, of at most 67108864 bytes",
+        ))?;
+    with_limits(alloc, drive, limit_texts, ALL_OPTIONS)
 }
 
 /// The command line of the program.

@@ -7,7 +7,7 @@ ghost use Rattle.dap_debuggee.specs.declared.answers.State.{State};
 mod command_line;
 
 use clap::ArgMatches;
-use clap::error::ErrorKind;
+use clap::error::{Error, ErrorKind};
 use dap_channel::{Input, Pipe};
 use dap_debuggee::Recorded;
 use dap_frame::End;
@@ -76,33 +76,44 @@ fn main(rt: HostRuntime) -> ExitCode {
 
 /// Does what the command line asks for, and answers the exit status.
 fn run(rt: &HostRuntime) -> Result<u8, Failure> {
-    let alloc = rt.alloc();
-    let words: Vec<String> = std::env::args(rt)?.collect(alloc)?;
-    let limit_texts = command_line::limit_texts(alloc)?;
-    let command = command_line::command(alloc, limit_texts.as_slice())?;
-    let matches = match command.try_get_matches_from(words.as_slice()) {
-        Ok(matches) => matches,
-        Err(error) => {
-            if error.kind() == ErrorKind::OutOfMemory {
-                return Err(Failure::Memory);
-            }
-            let code = error.exit_code() as u8;
-            let printed = error.print(rt);
-            // Help that was asked for has to come out; a usage message may fail to.
-            if code == 0 {
-                printed?;
-            }
-            return Ok(code);
-        }
-    };
-    match matches.subcommand() {
-        Some(("serve", matches)) => Ok(serve(rt, matches)),
-        Some(("show", matches)) => Ok(show(rt, matches)),
-        Some(("wrap", matches)) => Ok(wrap(rt, matches)),
-        Some(("check", matches)) => Ok(check(rt, matches)),
-        Some(("drive", matches)) => Ok(drive(rt, matches)),
-        _ => Ok(USAGE),
+    let words: Vec<String> = std::env::args(rt)?.collect(rt.alloc())?;
+    let limit_texts = command_line::limit_texts(rt.alloc())?;
+    run_words(rt, words.as_slice(), limit_texts.as_slice())
+}
+
+/// The same for these words, with these texts on the limits in the help.
+fn run_words(rt: &HostRuntime, words: &[String], limit_texts: &[String]) -> Result<u8, Failure> {
+    let command = command_line::command(rt.alloc(), limit_texts)?;
+    match command.try_get_matches_from(words) {
+        Ok(matches) => Ok(run_subcommand(rt, &matches)),
+        Err(error) => explain(rt, &error),
     }
+}
+
+/// Does what the subcommand is for, and answers the exit status.
+fn run_subcommand(rt: &HostRuntime, matches: &ArgMatches<'_>) -> u8 {
+    match matches.subcommand() {
+        Some(("serve", matches)) => serve(rt, matches),
+        Some(("show", matches)) => show(rt, matches),
+        Some(("wrap", matches)) => wrap(rt, matches),
+        Some(("check", matches)) => check(rt, matches),
+        Some(("drive", matches)) => drive(rt, matches),
+        _ => USAGE,
+    }
+}
+
+/// Prints help, the version, or what is wrong with the command line, and answers the exit status.
+fn explain(rt: &HostRuntime, error: &Error) -> Result<u8, Failure> {
+    if error.kind() == ErrorKind::OutOfMemory {
+        return Err(Failure::Memory);
+    }
+    let code = error.exit_code() as u8;
+    let printed = error.print(rt);
+    // Help that was asked for has to come out; a usage message may fail to.
+    if code == 0 {
+        printed?;
+    }
+    Ok(code)
 }
 
 /// Serves the recording that a file is from standard input to standard output, and answers the exit status. A file that is

@@ -246,17 +246,32 @@ fn play(alloc: Global, replay: &mut Replay<'_>, file: &mut File) -> Result<Strin
     told(alloc, replay)
 }
 
+/// The bytes of a file.
+fn bytes_of(rt: &HostRuntime, name: &str) -> Result<Vec<u8>, Failure> {
+    let mut bytes = Vec::new(rt.alloc());
+    File::open(rt, name)?.read_to_end(&mut bytes)?;
+    Ok(bytes)
+}
+
+/// Sends these requests, and takes what a file answers.
+fn replayed(alloc: Global, requests: &[u8], file: &mut File) -> Result<String, Failure> {
+    let mut replay = opened(alloc, requests)?;
+    play(alloc, &mut replay, file)
+}
+
+/// The same with the requests of a file.
+fn replayed_file(rt: &HostRuntime, requests: &str, answers: &str) -> Result<String, Failure> {
+    let bytes = bytes_of(rt, requests)?;
+    let mut file = File::open(rt, answers)?;
+    replayed(rt.alloc(), &bytes, &mut file)
+}
+
 fn run(rt: &HostRuntime) -> Result<(), Failure> {
-    let alloc = rt.alloc();
-    let words: Vec<String> = std::env::args(rt)?.collect(alloc)?;
+    let words: Vec<String> = std::env::args(rt)?.collect(rt.alloc())?;
     let [_, requests, answers] = words.as_slice() else {
         return Err(Failure::Usage);
     };
-    let mut bytes = Vec::new(alloc);
-    File::open(rt, requests.as_str())?.read_to_end(&mut bytes)?;
-    let mut file = File::open(rt, answers.as_str())?;
-    let mut replay = opened(alloc, &bytes)?;
-    let line = play(alloc, &mut replay, &mut file)?;
+    let line = replayed_file(rt, requests.as_str(), answers.as_str())?;
     Ok(rt.stdout().write_all(line.as_bytes())?)
 }
 

@@ -66,14 +66,18 @@ static TO_THE_LAST_NUMBER: [Step<'static>; 5] = [
     ),
 ];
 
+/// Whether an adapter that has given its last number is closed by the turn after it.
+fn closes_after_the_last(rt: &HostRuntime, player: &mut Player) -> Result<bool, Fail> {
+    player.follow(rt, &TO_THE_LAST_NUMBER)?;
+    let fault = AdapterFault::SeqExhausted;
+    Ok(closes(rt.alloc(), player, Act::Turn, fault, 1))
+}
+
 /// No number is left for an answer: the request is still kept, and nothing more is answered.
 #[test]
 fn numbers_run_out(rt: HostRuntime) -> Result<(), Fail> {
     let limits = limits(8192, 4194304, 64, 1, 1, 3, 1)?;
-    let mut player = Player::open(rt.alloc(), limits)?;
-    player.follow(&rt, &TO_THE_LAST_NUMBER)?;
-    let fault = AdapterFault::SeqExhausted;
-    assert!(rt; closes(rt.alloc(), &mut player, Act::Turn, fault, 1));
+    assert!(rt; is_shown(&rt, limits, Shown::ClosesAfterTheLast)?);
     Ok(())
 }
 
@@ -124,27 +128,28 @@ static CLOSED: [Closed<'static>; 5] = [
     ),
 ];
 
-/// Whether a message is taken, and a turn done where it is to be handled.
-fn is_served(alloc: Global, player: &mut Player, body: &[u8], handled: bool) -> bool {
-    player.fault(alloc, Act::Take(body)).is_none()
-        && (!handled || player.fault(alloc, Act::Turn).is_none())
+/// Whether a call meets no fault.
+fn is_done(alloc: Global, player: &mut Player, act: Act<'_>) -> bool {
+    player.fault(alloc, act).is_none()
 }
 
-/// Whether the second of two messages closes an adapter.
-fn is_refused(alloc: Global, row: &Closed<'_>) -> Result<bool, Fail> {
+/// Whether a message is taken, and a turn done where it is to be handled.
+fn is_served(alloc: Global, player: &mut Player, body: &[u8], handled: bool) -> bool {
+    is_done(alloc, player, Act::Take(body)) && (!handled || is_done(alloc, player, Act::Turn))
+}
+
+/// Whether the second of two messages closes a fresh adapter.
+fn is_refused(alloc: Global, player: &mut Player, row: &Closed<'_>) -> bool {
     let (first, handled, second, fault, kept) = *row;
-    let mut player = Player::open(alloc, Limits::usual())?;
-    Ok(
-        is_served(alloc, &mut player, first, handled)
-            && closes(alloc, &mut player, Act::Take(second), fault, kept),
-    )
+    is_served(alloc, player, first, handled)
+        && closes(alloc, player, Act::Take(second), fault, kept)
 }
 
 /// What a client may never send closes the adapter for good, with its requests as they were.
 #[test]
 fn closed_for_good(rt: HostRuntime) -> Result<(), Fail> {
     for row in &CLOSED {
-        assert!(rt; is_refused(rt.alloc(), row)?);
+        assert!(rt; is_shown(&rt, Limits::usual(), Shown::IsRefused(row))?);
     }
     Ok(())
 }
@@ -156,8 +161,7 @@ fn no_body(rt: HostRuntime) -> Result<(), Fail> {
         cause: BodyRefusal::NotJson,
         offset: 0,
     };
-    let mut player = Player::open(rt.alloc(), Limits::usual())?;
-    assert!(rt; closes(rt.alloc(), &mut player, Act::Take(b""), fault, 0));
+    assert!(rt; is_shown(&rt, Limits::usual(), Shown::Closes(b"", fault))?);
     Ok(())
 }
 
@@ -207,19 +211,21 @@ fn longest_frame(alloc: Global) -> Result<Vec<u8>, Fail> {
     Ok(frame)
 }
 
+/// Starts a session, takes a frame in pieces, and makes the calls that come after a `launch`.
+fn launches_in_pieces(rt: &HostRuntime, player: &mut Player, frame: &[u8]) -> Result<bool, Fail> {
+    player.follow(rt, &STARTED_SESSION)?;
+    if !player.takes_all(rt.alloc(), frame, 4096) {
+        return Ok(false);
+    }
+    player.follow(rt, &AFTER_LAUNCH)?;
+    Ok(true)
+}
+
 /// A request whose body has the greatest length is parked and answered.
 #[test]
 fn the_greatest_body(rt: HostRuntime) -> Result<(), Fail> {
-    // What comes before and after that request.
-    let parts: [(&[Step<'_>], bool); 2] = [(&STARTED_SESSION, true), (&AFTER_LAUNCH, false)];
     let frame = longest_frame(rt.alloc())?;
-    let mut player = Player::open(rt.alloc(), Limits::usual())?;
-    for (steps, then_taken) in &parts {
-        player.follow(&rt, steps)?;
-        if *then_taken && !player.takes_all(rt.alloc(), &frame, 4096) {
-            return Err(Fail::from("not taken"));
-        }
-    }
+    assert!(rt; is_shown(&rt, Limits::usual(), Shown::LaunchesInPieces(&frame))?);
     Ok(())
 }
 
@@ -277,12 +283,48 @@ fn empties(alloc: Global, player: &mut Player) -> Result<bool, Fail> {
     Ok(player.shows(Seen::Kept(0)))
 }
 
+/// Whether an adapter keeps as many requests as it has room for, and none once they were answered.
+fn fills_and_empties(alloc: Global, player: &mut Player) -> Result<bool, Fail> {
+    Ok(fills(alloc, player)? && empties(alloc, player)?)
+}
+
 /// As many requests as may be are kept, and then answered in their order.
 #[test]
 fn the_greatest_count_of_requests(rt: HostRuntime) -> Result<(), Fail> {
     let limits = limits(8192, 4194304, 4096, 1, 1, 10000, 1)?;
-    let mut player = Player::open(rt.alloc(), limits)?;
-    let held = fills(rt.alloc(), &mut player)? && empties(rt.alloc(), &mut player)?;
-    assert!(rt; held);
+    assert!(rt; is_shown(&rt, limits, Shown::FillsAndEmpties)?);
     Ok(())
+}
+
+/// What a fresh adapter is to show.
+#[derive(Clone, Copy)]
+enum Shown<'a> {
+    /// The second of two messages closes it.
+    IsRefused(&'a Closed<'a>),
+    /// A message closes it.
+    Closes(&'a [u8], AdapterFault),
+    /// It gives its last number, and the turn after it closes it.
+    ClosesAfterTheLast,
+    /// It takes the frame of a `launch` in pieces, and answers it.
+    LaunchesInPieces(&'a [u8]),
+    /// It keeps as many requests as it has room for, and none once they were answered.
+    FillsAndEmpties,
+}
+
+/// Whether an adapter shows it.
+fn shows(rt: &HostRuntime, player: &mut Player, shown: Shown<'_>) -> Result<bool, Fail> {
+    match shown {
+        Shown::IsRefused(row) => Ok(is_refused(rt.alloc(), player, row)),
+        Shown::Closes(body, fault) => Ok(closes(rt.alloc(), player, Act::Take(body), fault, 0)),
+        Shown::ClosesAfterTheLast => closes_after_the_last(rt, player),
+        Shown::LaunchesInPieces(frame) => launches_in_pieces(rt, player, frame),
+        Shown::FillsAndEmpties => fills_and_empties(rt.alloc(), player),
+    }
+}
+
+/// Whether a fresh adapter shows it. No other function of this file has an adapter of its own, since the proof of each takes
+/// half a minute.
+fn is_shown(rt: &HostRuntime, limits: Limits, shown: Shown<'_>) -> Result<bool, Fail> {
+    let mut player = Player::open(rt.alloc(), limits)?;
+    shows(rt, &mut player, shown)
 }

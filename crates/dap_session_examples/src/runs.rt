@@ -5,6 +5,7 @@ use dap_debuggee::Stubborn;
 use dap_frame::Limits;
 use dap_samples::calls::{Act, Step, follow, recorded};
 use dap_samples::player::{Seen, play};
+use std::alloc::Global;
 use std::test::Fail;
 
 static RUNS_AND_PAUSES: [Step<'static>; 20] = [
@@ -481,20 +482,34 @@ static STARTED: [Step<'static>; 2] = [
     ),
 ];
 
-/// A debuggee that refuses to start when it is asked first: `launch` fails, and the next one succeeds.
+/// An adapter over a debuggee that refuses to start when it is asked first.
+fn stubborn(alloc: Global) -> Result<Adapter<Stubborn>, Fail> {
+    let debuggee = Stubborn::new(recorded(alloc)?);
+    Ok(Adapter::open(alloc, Limits::usual(), debuggee)?)
+}
+
+/// Makes the calls of each part, after which the adapter is in a phase.
+fn follow_parts(
+    rt: &HostRuntime,
+    adapter: &mut Adapter<Stubborn>,
+    parts: &[(&[Step<'_>], Phase)],
+) -> Result<(), Fail> {
+    for (steps, phase) in parts {
+        follow(rt, adapter, steps)?;
+        if adapter.phase() != *phase {
+            return Err(Fail::from("another phase"));
+        }
+    }
+    Ok(())
+}
+
+/// Where a debuggee refuses to start, `launch` fails, and the next one succeeds.
 #[test]
 fn a_refused_start(rt: HostRuntime) -> Result<(), Fail> {
     let parts: [(&[Step<'_>], Phase); 2] = [
         (&REFUSED_START, Phase::Configured),
         (&STARTED, Phase::Running),
     ];
-    let debuggee = Stubborn::new(recorded(rt.alloc())?);
-    let mut adapter = Adapter::open(rt.alloc(), Limits::usual(), debuggee)?;
-    for (steps, phase) in &parts {
-        follow(&rt, &mut adapter, steps)?;
-        if adapter.phase() != *phase {
-            return Err(Fail::from("another phase"));
-        }
-    }
-    Ok(())
+    let mut adapter = stubborn(rt.alloc())?;
+    follow_parts(&rt, &mut adapter, &parts)
 }
