@@ -255,7 +255,9 @@ fn read_recording(rt: &HostRuntime, matches: &ArgMatches<'_>) -> Result<Recorded
         Ok(bytes) => bytes,
         Err(fault) => return Err(ToolFault::File(fault)),
     };
-    match Recorded::read(rt.alloc(), &bytes) {
+    let read = Recorded::read(rt.alloc(), &bytes);
+    drop(bytes);
+    match read {
         Ok(recording) => Ok(recording),
         Err(fault) => Err(ToolFault::Recording(fault)),
     }

@@ -181,6 +181,17 @@ fn go_on(rt: &HostRuntime, client: &mut Client, rows: &[Row<'_>]) -> Result<(), 
     }
 }
 
+/// The same for two lists.
+fn go_on_twice(
+    rt: &HostRuntime,
+    client: &mut Client,
+    first: &[Row<'_>],
+    then: &[Row<'_>],
+) -> Result<(), Fail> {
+    go_on(rt, client, first)?;
+    go_on(rt, client, then)
+}
+
 /// A client that has done the rows of two lists.
 pub(crate) fn opened(
     rt: &HostRuntime,
@@ -189,9 +200,13 @@ pub(crate) fn opened(
     then: &[Row<'_>],
 ) -> Result<Client, Fail> {
     let mut client = Client::open(rt.alloc(), limits)?;
-    go_on(rt, &mut client, first)?;
-    go_on(rt, &mut client, then)?;
-    Ok(client)
+    match go_on_twice(rt, &mut client, first, then) {
+        Ok(()) => Ok(client),
+        Err(fail) => {
+            drop(client);
+            Err(fail)
+        }
+    }
 }
 
 /// Does the rows of two lists with a fresh client.

@@ -186,10 +186,19 @@ fn takes_in_two(alloc: Global, client: &mut Client, frame: &[u8]) -> bool {
         && client.held() == 0
 }
 
+/// The same with a fresh client.
+fn is_taken_in_two(alloc: Global, frame: &[u8]) -> Option<bool> {
+    let mut client = Client::open(alloc, Limits::usual()).ok()?;
+    let is_taken = takes_in_two(alloc, &mut client, frame);
+    drop(client);
+    Some(is_taken)
+}
+
 fn takes_longest(alloc: Global) -> Option<bool> {
     let frame = longest_frame(alloc)?;
-    let mut client = Client::open(alloc, Limits::usual()).ok()?;
-    Some(takes_in_two(alloc, &mut client, &frame))
+    let is_taken = is_taken_in_two(alloc, &frame);
+    drop(frame);
+    is_taken
 }
 
 /// A body of 4 MiB is taken but for its last byte, and then whole.

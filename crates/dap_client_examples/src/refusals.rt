@@ -102,7 +102,9 @@ fn refuses_header(alloc: Global, client: &mut Client) -> bool {
 
 fn header_is_refused(alloc: Global) -> Result<bool, Fail> {
     let mut client = Client::open(alloc, Limits::usual())?;
-    Ok(refuses_header(alloc, &mut client))
+    let is_refused = refuses_header(alloc, &mut client);
+    drop(client);
+    Ok(is_refused)
 }
 
 #[test]

@@ -22,12 +22,30 @@ pub(crate) fn read(alloc: Global, text: &str) -> Result<Recorded, Fail> {
     }
 }
 
+/// A fault, as a word.
+pub(crate) fn faulted(fault: DebuggeeFault) -> &'static str {
+    match fault {
+        DebuggeeFault::Refused => "refused",
+        DebuggeeFault::OutOfMemory => "memory",
+    }
+}
+
 /// The answer of an act, as a word.
 fn answered(done: Result<(), DebuggeeFault>) -> &'static str {
     match done {
         Ok(()) => "done",
-        Err(DebuggeeFault::Refused) => "refused",
-        Err(DebuggeeFault::OutOfMemory) => "memory",
+        Err(fault) => faulted(fault),
+    }
+}
+
+/// The line of a thread's newest frame, 0 where it has none.
+fn newest_line<D: Debuggee>(alloc: Global, debuggee: &D, thread: i64) -> Result<u32, Fail> {
+    match debuggee.frames(alloc, thread) {
+        Ok(frames) => match frames.first() {
+            Some(frame) => Ok(frame.line),
+            None => Ok(0),
+        },
+        Err(_) => Err(Fail::from("no frames")),
     }
 }
 
@@ -43,16 +61,29 @@ fn polled<D: Debuggee>(alloc: Global, debuggee: &mut D) -> Result<String, Fail> 
         }
         Happening::Stopped { reason, thread } => {
             let reason = reason.as_str();
-            let frames = match debuggee.frames(alloc, thread) {
-                Ok(frames) => frames,
-                Err(_) => return Err(Fail::from("no frames")),
-            };
-            let line = frames.first().map_or(0, |f| f.line);
+            let line = newest_line(alloc, debuggee, thread)?;
             format!(in alloc; "{reason} {thread} line {line}")?
         }
         Happening::Continued { thread } => format!(in alloc; "continued {thread}")?,
         Happening::Exited { code } => format!(in alloc; "exited {code}")?,
     })
+}
+
+/// What a fresh run of a recording answers to some words.
+pub(crate) fn moved(alloc: Global, recording: &str, words: &str) -> Result<String, Fail> {
+    let mut recorded = read(alloc, recording)?;
+    played(alloc, &mut recorded, words)
+}
+
+/// Whether some words are answered so.
+pub(crate) fn is_played<D: Debuggee>(
+    alloc: Global,
+    debuggee: &mut D,
+    words: &str,
+    wanted: &str,
+) -> Result<bool, Fail> {
+    let told = played(alloc, debuggee, words)?;
+    Ok(told.as_str() == wanted)
 }
 
 /// What is asked, a word each, and what is answered, `; ` after each answer.

@@ -1,17 +1,14 @@
 //! Runs of recordings, poll by poll, and what is told at each stop.
 
-use crate::playing::{played, read, three_moments, told, verified};
+use crate::playing::{THREE_MOMENTS, faulted, is_played, moved, played, three_moments, verified};
 use dap_call::SourceKey;
-use dap_debuggee::{Category, Debuggee, Frame, Recorded, Source, Stubborn, Thread, Variable};
+use dap_debuggee::{
+    Category, Debuggee, DebuggeeFault, Evaluation, Frame, Recorded, Scope, Source, Stubborn,
+    Thread, Variable,
+};
 use dap_json::Text;
 use std::alloc::Global;
 use std::test::Fail;
-
-/// What a fresh run answers to some words.
-fn moved(alloc: Global, words: &str) -> Result<String, Fail> {
-    let mut recorded = three_moments(alloc)?;
-    played(alloc, &mut recorded, words)
-}
 
 static MOVES: [(&str, &str); 11] = [
     (
@@ -63,31 +60,36 @@ static MOVES: [(&str, &str); 11] = [
 #[test]
 fn moves(rt: HostRuntime) -> Result<(), Fail> {
     for (words, wanted) in &MOVES {
-        let told = moved(rt.alloc(), words)?;
+        let told = moved(rt.alloc(), THREE_MOMENTS, words)?;
         assert_eq!(rt; told.as_str(), *wanted);
     }
     Ok(())
 }
 
-/// The recording stopped at its first moment.
-fn at_the_first(alloc: Global) -> Result<Recorded, Fail> {
-    let mut recorded = three_moments(alloc)?;
-    let told = played(alloc, &mut recorded, "start poll poll")?;
-    if told.as_str() == "done; stdout 3 go\n; entry 1 line 1; " {
-        Ok(recorded)
-    } else {
-        Err(Fail::from("not at the first moment"))
-    }
+/// What a recording is asked to tell.
+#[derive(Clone, Copy)]
+enum Query {
+    Threads,
+    /// The frames of a thread.
+    Frames(i64),
+    /// The scopes of a frame, with their variables.
+    Scopes(u64),
+    /// The children of a holder.
+    Children(u64),
+    /// The value of an expression, and its children.
+    Value(Option<u64>, &'static str),
+    Sources,
+    /// The content of a source.
+    Content(u32),
+    /// Which lines of the source with the path `/a.c` are verified.
+    LinesByPath(&'static [u32]),
+    /// Which lines of the source with this reference are verified.
+    LinesByReference(u32, &'static [u32]),
 }
 
-#[test]
-fn nothing_before_the_start(rt: HostRuntime) -> Result<(), Fail> {
-    let recorded = three_moments(rt.alloc())?;
-    assert!(rt; recorded.threads(rt.alloc())?.is_empty());
-    assert!(rt; recorded.frames(rt.alloc(), 1).is_err());
-    assert!(rt; recorded.scopes(rt.alloc(), 0).is_err());
-    assert!(rt; recorded.children(rt.alloc(), 0).is_err());
-    Ok(())
+/// A fault, as text.
+fn fault_shown(alloc: Global, fault: DebuggeeFault) -> Result<String, Fail> {
+    Ok(String::from_str(alloc, faulted(fault))?)
 }
 
 /// Threads as numbers and names.
@@ -124,63 +126,27 @@ fn variables_shown(alloc: Global, variables: &[Variable]) -> Result<String, Fail
 
 /// The children of a holder.
 fn children_shown(alloc: Global, recorded: &Recorded, holder: u64) -> Result<String, Fail> {
-    let variables = told(recorded.children(alloc, holder))?;
-    variables_shown(alloc, &variables)
-}
-
-/// The only scope of a frame, and what holds its variables.
-fn only_scope(alloc: Global, recorded: &Recorded, frame: u64, name: &str) -> Result<u64, Fail> {
-    let scopes = told(recorded.scopes(alloc, frame))?;
-    match scopes.as_slice() {
-        [scope] if scope.name.as_str() == name => Ok(scope.holder),
-        _ => Err(Fail::from("other scopes")),
+    match recorded.children(alloc, holder) {
+        Ok(variables) => variables_shown(alloc, &variables),
+        Err(fault) => fault_shown(alloc, fault),
     }
 }
 
-#[test]
-fn threads_told(rt: HostRuntime) -> Result<(), Fail> {
-    let threads = at_the_first(rt.alloc())?.threads(rt.alloc())?;
-    let told = threads_shown(rt.alloc(), &threads)?;
-    assert_eq!(rt; told.as_str(), "1 main; ");
-    Ok(())
+/// Scopes as names and variables.
+fn scopes_shown(alloc: Global, recorded: &Recorded, scopes: &[Scope]) -> Result<String, Fail> {
+    let mut text = String::new(alloc);
+    for scope in scopes {
+        text.push_str(scope.name.as_str())?;
+        text.push_str(": ")?;
+        text.push_str(children_shown(alloc, recorded, scope.holder)?.as_str())?;
+    }
+    Ok(text)
 }
 
-#[test]
-fn frames_told(rt: HostRuntime) -> Result<(), Fail> {
-    let recorded = at_the_first(rt.alloc())?;
-    let frames = told(recorded.frames(rt.alloc(), 1))?;
-    let shown = frames_shown(rt.alloc(), &frames)?;
-    assert_eq!(rt; shown.as_str(), "0 main 0 1; ");
-    assert!(rt; recorded.frames(rt.alloc(), 2).is_err());
-    Ok(())
-}
-
-#[test]
-fn scopes_and_variables(rt: HostRuntime) -> Result<(), Fail> {
-    let recorded = at_the_first(rt.alloc())?;
-    let holder = only_scope(rt.alloc(), &recorded, 0, "Locals")?;
-    let shown = children_shown(rt.alloc(), &recorded, holder)?;
-    assert_eq!(rt; shown.as_str(), "x=1; p=P+; ");
-    assert!(rt; recorded.scopes(rt.alloc(), 9).is_err());
-    assert!(rt; recorded.children(rt.alloc(), 9).is_err());
-    Ok(())
-}
-
-/// The value of an expression, and its children.
-fn value_shown(alloc: Global, recorded: &Recorded, text: &str) -> Result<String, Fail> {
-    let value = told(recorded.evaluate(alloc, Some(0), text))?;
+/// A value as text, and its children.
+fn value_shown(alloc: Global, recorded: &Recorded, value: &Evaluation) -> Result<String, Fail> {
     let children = children_shown(alloc, recorded, value.holder.unwrap_or(9))?;
     Ok(format!(in alloc; "{} of {}", value.value.as_str(), children)?)
-}
-
-#[test]
-fn values(rt: HostRuntime) -> Result<(), Fail> {
-    let recorded = at_the_first(rt.alloc())?;
-    let shown = value_shown(rt.alloc(), &recorded, "p")?;
-    assert_eq!(rt; shown.as_str(), "P of a=7; ");
-    assert!(rt; recorded.evaluate(rt.alloc(), Some(0), "q").is_err());
-    assert!(rt; recorded.evaluate(rt.alloc(), None, "p").is_err());
-    Ok(())
 }
 
 /// The names of all sources.
@@ -192,53 +158,157 @@ fn sources_shown(alloc: Global, sources: &[Source]) -> Result<String, Fail> {
     Ok(text)
 }
 
-#[test]
-fn sources_told(rt: HostRuntime) -> Result<(), Fail> {
-    let sources = three_moments(rt.alloc())?.sources(rt.alloc())?;
-    let shown = sources_shown(rt.alloc(), &sources)?;
-    assert_eq!(rt; shown.as_str(), "a.c");
-    Ok(())
+/// What a recording tells, as text.
+fn shown(alloc: Global, recorded: &Recorded, query: Query) -> Result<String, Fail> {
+    match query {
+        Query::Threads => threads_shown(alloc, &recorded.threads(alloc)?),
+        Query::Frames(thread) => match recorded.frames(alloc, thread) {
+            Ok(frames) => frames_shown(alloc, &frames),
+            Err(fault) => fault_shown(alloc, fault),
+        },
+        Query::Scopes(frame) => match recorded.scopes(alloc, frame) {
+            Ok(scopes) => scopes_shown(alloc, recorded, &scopes),
+            Err(fault) => fault_shown(alloc, fault),
+        },
+        Query::Children(holder) => children_shown(alloc, recorded, holder),
+        Query::Value(frame, text) => match recorded.evaluate(alloc, frame, text) {
+            Ok(value) => value_shown(alloc, recorded, &value),
+            Err(fault) => fault_shown(alloc, fault),
+        },
+        Query::Sources => sources_shown(alloc, &recorded.sources(alloc)?),
+        Query::Content(source) => match recorded.content(alloc, source) {
+            Ok(text) => Ok(String::from_str(alloc, text.as_str())?),
+            Err(fault) => fault_shown(alloc, fault),
+        },
+        Query::LinesByPath(lines) => {
+            let source = SourceKey::Path(Text::copied(alloc, "/a.c")?);
+            verified(alloc, recorded, &source, lines)
+        }
+        Query::LinesByReference(reference, lines) => {
+            verified(alloc, recorded, &SourceKey::Reference(reference), lines)
+        }
+    }
 }
 
-#[test]
-fn contents(rt: HostRuntime) -> Result<(), Fail> {
-    let recorded = three_moments(rt.alloc())?;
-    let text = told(recorded.content(rt.alloc(), 0))?;
-    assert_eq!(rt; text.as_str(), "one\ntwo\nthree\n");
-    assert!(rt; recorded.content(rt.alloc(), 1).is_err());
-    Ok(())
-}
-
-/// Which lines of a source are verified, before the run.
-fn lines_of(alloc: Global, source: SourceKey, lines: &[u32]) -> Result<String, Fail> {
+/// What a fresh run tells before the start.
+fn before_the_start(alloc: Global, query: Query) -> Result<String, Fail> {
     let recorded = three_moments(alloc)?;
-    verified(alloc, &recorded, &source, lines)
+    shown(alloc, &recorded, query)
 }
 
-/// The same for the source's path.
-fn lines_by_path(alloc: Global, lines: &[u32]) -> Result<String, Fail> {
-    let path = SourceKey::Path(Text::copied(alloc, "/a.c")?);
-    lines_of(alloc, path, lines)
+/// What a recording tells once it was started and stands at its first moment.
+fn shown_at_the_first(
+    alloc: Global,
+    recorded: &mut Recorded,
+    query: Query,
+) -> Result<String, Fail> {
+    let wanted = "done; stdout 3 go\n; entry 1 line 1; ";
+    if is_played(alloc, recorded, "start poll poll", wanted)? {
+        shown(alloc, recorded, query)
+    } else {
+        Err(Fail::from("not at the first moment"))
+    }
+}
+
+/// What a fresh run tells at its first moment.
+fn at_the_first(alloc: Global, query: Query) -> Result<String, Fail> {
+    let mut recorded = three_moments(alloc)?;
+    shown_at_the_first(alloc, &mut recorded, query)
 }
 
 #[test]
-fn lines(rt: HostRuntime) -> Result<(), Fail> {
-    assert_eq!(rt;
-        lines_by_path(rt.alloc(), &[3, 4, 0, 1, 4294967295])?.as_str(),
-        "ynnyn"
-    );
-    for (source, wanted) in [(1, "yyyn"), (2, "nnnn")] {
-        let source = SourceKey::Reference(source);
-        let told = lines_of(rt.alloc(), source, &[1, 2, 3, 4])?;
+fn nothing_before_the_start(rt: HostRuntime) -> Result<(), Fail> {
+    for (query, wanted) in [
+        (Query::Threads, ""),
+        (Query::Frames(1), "refused"),
+        (Query::Scopes(0), "refused"),
+        (Query::Children(0), "refused"),
+    ] {
+        let told = before_the_start(rt.alloc(), query)?;
         assert_eq!(rt; told.as_str(), wanted);
     }
     Ok(())
 }
 
-/// One moment that writes a byte and then a hundred characters of two bytes each.
 #[test]
-fn pieces_end_a_character(rt: HostRuntime) -> Result<(), Fail> {
-    let alloc = rt.alloc();
+fn threads_told(rt: HostRuntime) -> Result<(), Fail> {
+    let told = at_the_first(rt.alloc(), Query::Threads)?;
+    assert_eq!(rt; told.as_str(), "1 main; ");
+    Ok(())
+}
+
+#[test]
+fn frames_told(rt: HostRuntime) -> Result<(), Fail> {
+    for (query, wanted) in [
+        (Query::Frames(1), "0 main 0 1; "),
+        (Query::Frames(2), "refused"),
+    ] {
+        let told = at_the_first(rt.alloc(), query)?;
+        assert_eq!(rt; told.as_str(), wanted);
+    }
+    Ok(())
+}
+
+#[test]
+fn scopes_and_variables(rt: HostRuntime) -> Result<(), Fail> {
+    for (query, wanted) in [
+        (Query::Scopes(0), "Locals: x=1; p=P+; "),
+        (Query::Scopes(9), "refused"),
+        (Query::Children(9), "refused"),
+    ] {
+        let told = at_the_first(rt.alloc(), query)?;
+        assert_eq!(rt; told.as_str(), wanted);
+    }
+    Ok(())
+}
+
+#[test]
+fn values(rt: HostRuntime) -> Result<(), Fail> {
+    for (query, wanted) in [
+        (Query::Value(Some(0), "p"), "P of a=7; "),
+        (Query::Value(Some(0), "q"), "refused"),
+        (Query::Value(None, "p"), "refused"),
+    ] {
+        let told = at_the_first(rt.alloc(), query)?;
+        assert_eq!(rt; told.as_str(), wanted);
+    }
+    Ok(())
+}
+
+#[test]
+fn sources_told(rt: HostRuntime) -> Result<(), Fail> {
+    let told = before_the_start(rt.alloc(), Query::Sources)?;
+    assert_eq!(rt; told.as_str(), "a.c");
+    Ok(())
+}
+
+#[test]
+fn contents(rt: HostRuntime) -> Result<(), Fail> {
+    for (query, wanted) in [
+        (Query::Content(0), "one\ntwo\nthree\n"),
+        (Query::Content(1), "refused"),
+    ] {
+        let told = before_the_start(rt.alloc(), query)?;
+        assert_eq!(rt; told.as_str(), wanted);
+    }
+    Ok(())
+}
+
+#[test]
+fn lines(rt: HostRuntime) -> Result<(), Fail> {
+    for (query, wanted) in [
+        (Query::LinesByPath(&[3, 4, 0, 1, 4294967295]), "ynnyn"),
+        (Query::LinesByReference(1, &[1, 2, 3, 4]), "yyyn"),
+        (Query::LinesByReference(2, &[1, 2, 3, 4]), "nnnn"),
+    ] {
+        let told = before_the_start(rt.alloc(), query)?;
+        assert_eq!(rt; told.as_str(), wanted);
+    }
+    Ok(())
+}
+
+/// A recording of one moment that writes a byte and then a hundred characters of two bytes each.
+fn with_accents(alloc: Global) -> Result<String, Fail> {
     let mut text = String::from_str(
         alloc,
         "{\"exit\":-1,\"sources\":[{\"name\":\"a\",\"text\":\"x\"}],\"moments\":[{\"thread\":1,\"threads\":[{\"id\":1,\"name\":\"m\",\"frames\":[{\"name\":\"f\",\"source\":0,\"line\":1}]}],\"output\":\"a",
@@ -247,8 +317,18 @@ fn pieces_end_a_character(rt: HostRuntime) -> Result<(), Fail> {
         text.push_str("é")?;
     }
     text.push_str("\"}]}")?;
-    let mut recorded = read(alloc, text.as_str())?;
-    let told = played(alloc, &mut recorded, "start poll poll poll stepIn poll")?;
+    Ok(text)
+}
+
+/// Output is cut before a character, not within it.
+#[test]
+fn pieces_end_a_character(rt: HostRuntime) -> Result<(), Fail> {
+    let recording = with_accents(rt.alloc())?;
+    let told = moved(
+        rt.alloc(),
+        recording.as_str(),
+        "start poll poll poll stepIn poll",
+    )?;
     assert_eq!(rt;
         told.as_str(),
         "done; stdout 127 long; stdout 74 long; entry 1 line 1; done; exited -1; "
@@ -264,16 +344,16 @@ fn names(rt: HostRuntime) -> Result<(), Fail> {
     Ok(())
 }
 
+/// What a debuggee that refuses once answers to some words.
+fn stubborn_moved(alloc: Global, words: &str) -> Result<String, Fail> {
+    let mut stubborn = Stubborn::new(three_moments(alloc)?);
+    played(alloc, &mut stubborn, words)
+}
+
 /// A second debuggee keeps the laws: it refuses once, and then is as the recording.
 #[test]
 fn refuses_its_first_start(rt: HostRuntime) -> Result<(), Fail> {
-    let alloc = rt.alloc();
-    let mut stubborn = Stubborn::new(three_moments(alloc)?);
-    let told = played(
-        alloc,
-        &mut stubborn,
-        "start poll line start poll poll next poll end",
-    )?;
+    let told = stubborn_moved(rt.alloc(), "start poll line start poll poll next poll end")?;
     assert_eq!(rt;
         told.as_str(),
         "refused; nothing; set; done; stdout 3 go\n; entry 1 line 1; done; step 1 line 2; ended; "

@@ -4,7 +4,7 @@ ghost use Rattle.std.specs.Prelude.{◌≡◌, ◌≤◌, length, IfOk};
 
 use dap_adapter::{AdapterFault, Phase, ServeFault, Served, serve};
 use dap_channel::Pipe;
-use dap_debuggee::Recorded;
+use dap_debuggee::{Recorded, RecordingFault};
 use dap_frame::{End, FrameFault, Limits, Refusal, write_frame};
 use dap_message::BodyRefusal;
 use dap_samples::calls::{
@@ -524,14 +524,22 @@ static RECORDINGS: [(&[u8], &[u8]); 3] = [
     ),
 ];
 
+/// Why bytes are no recording.
+fn refusal(alloc: Global, bytes: &[u8]) -> Result<RecordingFault, Fail> {
+    match Recorded::read(alloc, bytes) {
+        Ok(recorded) => {
+            drop(recorded);
+            Err(Fail::from("a recording"))
+        }
+        Err(fault) => Ok(fault),
+    }
+}
+
 /// Likewise of a file that is no recording.
 #[test]
 fn refused_recordings(rt: HostRuntime) -> Result<(), Fail> {
     for (bytes, line) in &RECORDINGS {
-        let fault = Recorded::read(rt.alloc(), bytes)
-            .err()
-            .ok_or("a recording")?;
-        let fault = ToolFault::Recording(fault);
+        let fault = ToolFault::Recording(refusal(rt.alloc(), bytes)?);
         assert_eq!(rt; status(&fault), 3);
         assert_eq!(rt; fault_line(rt.alloc(), &fault)?.as_slice(), *line);
     }

@@ -101,9 +101,17 @@ fn standing(
 /// Both of that recording.
 fn told(alloc: Global, bytes: &[u8], lines: &[u32]) -> Result<[Option<usize>; 2], Fail> {
     let source = SourceKey::Path(Text::copied(alloc, "/a.c")?);
-    let mut debuggee = Recorded::read(alloc, bytes).ok().ok_or("refused")?;
-    let length = text_length(alloc, &debuggee);
-    Ok([length, standing(alloc, &mut debuggee, &source, lines)])
+    let told = match Recorded::read(alloc, bytes) {
+        Ok(mut debuggee) => {
+            let length = text_length(alloc, &debuggee);
+            let standing = standing(alloc, &mut debuggee, &source, lines);
+            drop(debuggee);
+            Ok([length, standing])
+        }
+        Err(_) => Err(Fail::from("refused")),
+    };
+    drop(source);
+    told
 }
 
 /// A recording of 1 MB is read; it tells the text of its source, and takes breakpoints in 4096 lines of it.

@@ -110,5 +110,8 @@ impl Player {
 /// Makes the calls of each part with a fresh adapter.
 pub fn play(rt: &HostRuntime, limits: Limits, parts: &[Part<'_>]) -> Result<(), Fail> {
     let mut player = Player::open(rt.alloc(), limits)?;
-    player.follow_parts(rt, parts)
+    let followed = player.follow_parts(rt, parts);
+    // The proof of a call is shorter than that of a value that goes out of scope.
+    drop(player);
+    followed
 }

@@ -326,5 +326,8 @@ fn shows(rt: &HostRuntime, player: &mut Player, shown: Shown<'_>) -> Result<bool
 /// half a minute.
 fn is_shown(rt: &HostRuntime, limits: Limits, shown: Shown<'_>) -> Result<bool, Fail> {
     let mut player = Player::open(rt.alloc(), limits)?;
-    shows(rt, &mut player, shown)
+    let is_shown = shows(rt, &mut player, shown);
+    // The proof of a call is shorter than that of a value that goes out of scope.
+    drop(player);
+    is_shown
 }

@@ -511,5 +511,7 @@ fn a_refused_start(rt: HostRuntime) -> Result<(), Fail> {
         (&STARTED, Phase::Running),
     ];
     let mut adapter = stubborn(rt.alloc())?;
-    follow_parts(&rt, &mut adapter, &parts)
+    let followed = follow_parts(&rt, &mut adapter, &parts);
+    drop(adapter);
+    followed
 }

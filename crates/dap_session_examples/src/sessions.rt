@@ -9,10 +9,24 @@ use dap_samples::player::{Player, Seen, play};
 use std::alloc::Global;
 use std::test::Fail;
 
+/// Whether bytes in pieces of one size are taken, and a turn answers this.
+fn takes_and_gives(
+    alloc: Global,
+    player: &mut Player,
+    input: &[u8],
+    size: usize,
+    answer: &[u8],
+) -> bool {
+    player.takes_all(alloc, input, size) && player.gives(alloc, Act::Turn, answer)
+}
+
 /// Whether a request before `initialize` is answered by this, where it comes in pieces of one size.
 fn is_answered(alloc: Global, input: &[u8], size: usize, answer: &[u8]) -> Result<bool, Fail> {
     let mut player = Player::open(alloc, Limits::usual())?;
-    Ok(player.takes_all(alloc, input, size) && player.gives(alloc, Act::Turn, answer))
+    let is_answered = takes_and_gives(alloc, &mut player, input, size, answer);
+    // The proof of a call is shorter than that of a value that goes out of scope.
+    drop(player);
+    Ok(is_answered)
 }
 
 /// A request before `initialize`, cut at each place.
@@ -374,7 +388,9 @@ fn told(alloc: Global, wanted: Option<&[u8]>, kept: usize) -> Result<Option<usiz
         (Act::Take(THREADS), Some(b""), 1),
         (Act::Turn, wanted, kept),
     ];
-    first_difference(alloc, &mut adapter, &steps)
+    let difference = first_difference(alloc, &mut adapter, &steps);
+    drop(adapter);
+    difference
 }
 
 /// Steps are compared: where the bodies differ, or how many requests are kept, or whether anything is handed out, that is

@@ -138,19 +138,30 @@ fn bodies_by_their_parts(rt: HostRuntime) -> Result<(), Fail> {
     Ok(())
 }
 
-// The second number is one past the greatest.
+/// Whether the request with a number and a command is written so.
+fn is_request(alloc: Global, seq: u64, command: &str, wanted: &[u8]) -> Result<bool, Fail> {
+    let told = write_request(alloc, seq, command, &None)?;
+    Ok(told.as_slice() == wanted)
+}
+
+/// Numbers, commands, and the requests with them. The second number is one past the greatest.
+static REQUESTS: [(u64, &str, &[u8]); 2] = [
+    (
+        1,
+        "threads",
+        b"{\"command\":\"threads\",\"seq\":1,\"type\":\"request\"}",
+    ),
+    (
+        9007199254740992,
+        "c",
+        b"{\"command\":\"c\",\"seq\":9007199254740992,\"type\":\"request\"}",
+    ),
+];
+
 #[test]
 fn requests(rt: HostRuntime) -> Result<(), Fail> {
-    let alloc = rt.alloc();
-    let told = write_request(alloc, 1, "threads", &None)?;
-    assert_eq!(rt;
-        told.as_slice(),
-        b"{\"command\":\"threads\",\"seq\":1,\"type\":\"request\"}".as_slice()
-    );
-    let told = write_request(alloc, 9007199254740992, "c", &None)?;
-    assert_eq!(rt;
-        told.as_slice(),
-        b"{\"command\":\"c\",\"seq\":9007199254740992,\"type\":\"request\"}".as_slice()
-    );
+    for (seq, command, wanted) in &REQUESTS {
+        assert!(rt; is_request(rt.alloc(), *seq, command, wanted)?, "{command}");
+    }
     Ok(())
 }

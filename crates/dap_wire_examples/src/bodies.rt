@@ -25,25 +25,25 @@ static FAILURES: [(Failure, u32, &str, &str); 18] = [
         Failure::NotInitialized,
         1001,
         "notInitialized",
-        "The session is not initialized.",
+        "{\"error\":{\"format\":\"The session is not initialized.\",\"id\":1001}}",
     ),
     (
         Failure::AlreadyInitialized,
         1002,
         "alreadyInitialized",
-        "The session is already initialized.",
+        "{\"error\":{\"format\":\"The session is already initialized.\",\"id\":1002}}",
     ),
     (
         Failure::UnknownCommand,
         1003,
         "unknownCommand",
-        "The command is not known.",
+        "{\"error\":{\"format\":\"The command is not known.\",\"id\":1003}}",
     ),
     (
         Failure::Unsupported,
         1004,
         "unsupported",
-        "The command is not supported.",
+        "{\"error\":{\"format\":\"The command is not supported.\",\"id\":1004}}",
     ),
     (
         Failure::BadArguments {
@@ -51,7 +51,7 @@ static FAILURES: [(Failure, u32, &str, &str); 18] = [
         },
         1005,
         "badArguments",
-        "The argument requestId is missing or malformed.",
+        "{\"error\":{\"format\":\"The argument requestId is missing or malformed.\",\"id\":1005}}",
     ),
     (
         Failure::BadArguments {
@@ -59,87 +59,90 @@ static FAILURES: [(Failure, u32, &str, &str); 18] = [
         },
         1005,
         "badArguments",
-        "The argument arguments is missing or malformed.",
+        "{\"error\":{\"format\":\"The argument arguments is missing or malformed.\",\"id\":1005}}",
     ),
     (
         Failure::WrongPhase,
         1007,
         "wrongPhase",
-        "The request does not fit the state of the session.",
+        "{\"error\":{\"format\":\"The request does not fit the state of the session.\",\"id\":1007}}",
     ),
     (
         Failure::NotStopped,
         1006,
         "notStopped",
-        "The debuggee is not stopped.",
+        "{\"error\":{\"format\":\"The debuggee is not stopped.\",\"id\":1006}}",
     ),
     (
         Failure::UnknownThread,
         1008,
         "unknownThread",
-        "The thread does not exist.",
+        "{\"error\":{\"format\":\"The thread does not exist.\",\"id\":1008}}",
     ),
     (
         Failure::StaleReference,
         1009,
         "staleReference",
-        "The reference is not valid in this stop.",
+        "{\"error\":{\"format\":\"The reference is not valid in this stop.\",\"id\":1009}}",
     ),
     (
         Failure::UnknownSource,
         1014,
         "unknownSource",
-        "The source does not exist.",
+        "{\"error\":{\"format\":\"The source does not exist.\",\"id\":1014}}",
     ),
-    (Failure::Debuggee, 1013, "debuggee", "The debuggee refused."),
+    (
+        Failure::Debuggee,
+        1013,
+        "debuggee",
+        "{\"error\":{\"format\":\"The debuggee refused.\",\"id\":1013}}",
+    ),
     (
         Failure::TooManyBreakpoints,
         1015,
         "tooManyBreakpoints",
-        "Too many breakpoints are set.",
+        "{\"error\":{\"format\":\"Too many breakpoints are set.\",\"id\":1015}}",
     ),
     (
         Failure::TooManyReferences,
         1010,
         "tooManyReferences",
-        "Too many references are in use.",
+        "{\"error\":{\"format\":\"Too many references are in use.\",\"id\":1010}}",
     ),
     (
         Failure::ReferencesExhausted,
         1017,
         "referencesExhausted",
-        "No reference numbers are left.",
+        "{\"error\":{\"format\":\"No reference numbers are left.\",\"id\":1017}}",
     ),
     (
         Failure::TooLarge,
         1016,
         "tooLarge",
-        "The response would be too large.",
+        "{\"error\":{\"format\":\"The response would be too large.\",\"id\":1016}}",
     ),
     (
         Failure::Busy,
         1011,
         "busy",
-        "Too many requests are waiting.",
+        "{\"error\":{\"format\":\"Too many requests are waiting.\",\"id\":1011}}",
     ),
     (
         Failure::Cancelled,
         1012,
         "cancelled",
-        "The request was cancelled.",
+        "{\"error\":{\"format\":\"The request was cancelled.\",\"id\":1012}}",
     ),
 ];
 
-/// Each failure's short name, number and text.
+/// Each failure's number, short name and body.
 #[test]
 fn failures(rt: HostRuntime) -> Result<(), Fail> {
-    for (failure, id, name, format) in &FAILURES {
+    for (failure, id, name, wanted) in &FAILURES {
         assert_eq!(rt; failure.id(), *id);
         assert_eq!(rt; failure.name(), *name);
         let body = written(rt.alloc(), &body_failure(rt.alloc(), *failure)?)?;
-        let start = "{\"error\":{\"format\":\"";
-        let wanted = format!(in rt.alloc(); "{start}{format}\",\"id\":{id}}}}}")?;
-        assert_eq!(rt; body.as_str(), wanted.as_str());
+        assert_eq!(rt; body.as_str(), *wanted);
     }
     Ok(())
 }

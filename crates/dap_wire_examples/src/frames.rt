@@ -14,6 +14,16 @@ struct Outcome {
     end: End,
 }
 
+/// Keeps the body that is ready, and releases it.
+fn keep(alloc: Global, frames: &mut Frames, bodies: &mut Vec<Vec<u8>>) -> Result<(), Fail> {
+    match frames.body() {
+        Some(body) => bodies.push(Vec::from_slice(alloc, body)?)?,
+        None => return Err(Fail::from("no ready body")),
+    }
+    frames.release();
+    Ok(())
+}
+
 /// Feeds a piece up to a fault, and keeps the bodies that it completes.
 fn feed_all(
     alloc: Global,
@@ -31,11 +41,12 @@ fn feed_all(
             Err(fault) => return Ok(Some(fault)),
         };
         if fed.ready {
-            let body = frames.body().ok_or("a ready body")?;
-            bodies.push(Vec::from_slice(alloc, body)?)?;
-            frames.release();
+            keep(alloc, frames, bodies)?;
         }
-        rest = rest.get(fed.used..).ok_or("no more used than given")?;
+        rest = match rest.get(fed.used..) {
+            Some(rest) => rest,
+            None => return Err(Fail::from("more used than given")),
+        };
     }
     Ok(None)
 }
@@ -374,7 +385,9 @@ fn ten_thousand_frames(rt: HostRuntime) -> Result<(), Fail> {
 fn closed(rt: HostRuntime) -> Result<(), Fail> {
     let mut frames = Frames::open(rt.alloc(), &Limits::usual())?;
     let stream = b"Content-Length: 2\r\n\r\n{}";
-    frames.feed(&stream[..9]).ok().ok_or("part of a frame")?;
+    if frames.feed(&stream[..9]).is_err() {
+        return Err(Fail::from("part of a frame"));
+    }
     frames.close();
     let fed = frames.feed(stream);
     let seen = (frames.held(), frames.used(), frames.finish());
@@ -584,12 +597,19 @@ fn limits_in_order(rt: HostRuntime) {
 #[test]
 fn usual_limits(rt: HostRuntime) {
     let usual = Limits::usual();
-    assert_eq!(rt; usual.get(LimitFault::Header), 8192);
-    assert_eq!(rt; (usual.header(), usual.body()), (8192, 4194304));
-    assert_eq!(rt; (usual.requests(), usual.references()), (64, 65536));
-    assert_eq!(rt; usual.breakpoints(), 4096);
     assert_eq!(rt;
-        (usual.seq(), usual.reference()),
-        (9007199254740991, 2147483647)
+        [usual.get(LimitFault::Header), usual.seq()],
+        [8192, 9007199254740991]
     );
+    assert_eq!(rt;
+        [
+            usual.header(),
+            usual.body(),
+            usual.requests(),
+            usual.references(),
+            usual.breakpoints(),
+        ],
+        [8192, 4194304, 64, 65536, 4096]
+    );
+    assert_eq!(rt; usual.reference(), 2147483647);
 }

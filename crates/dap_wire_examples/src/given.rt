@@ -32,6 +32,15 @@ fn gathers_frames(rt: HostRuntime) {
     }
 }
 
+/// Commands, and the holders that the body of `gathers_holders` gives as their answer.
+static HOLDERS: [(Command, &[u64]); 5] = [
+    (Command::Scopes, &[2]),
+    (Command::Variables, &[2147483647, 3]),
+    (Command::Evaluate, &[7]),
+    (Command::SetVariable, &[7]),
+    (Command::StackTrace, &[]),
+];
+
 #[test]
 fn gathers_holders(rt: HostRuntime) {
     let mut scratch = Scratch::new(rt.alloc());
@@ -39,11 +48,9 @@ fn gathers_holders(rt: HostRuntime) {
     let body =
         "{\"body\":{\"scopes\":[{\"variablesReference\":2},{\"variablesReference\":0}],\"variables\":[{\"name\":\"a\",\"value\":\"\\\"\",\"variablesReference\":2147483647},{\"variablesReference\":2147483648},{\"variablesReference\":3}],\"variablesReference\":7},\"command\":\"scopes\",\"type\":\"response\",\"seq\":1,\"request_seq\":1,\"success\":true}";
     assert!(rt; read_heading_and_given(&mut scratch, &mut given, body.as_bytes()).is_some());
-    assert_eq!(rt; given.holders(Command::Scopes), &[2][..]);
-    assert_eq!(rt; given.holders(Command::Variables), &[2147483647, 3][..]);
-    assert_eq!(rt; given.holders(Command::Evaluate), &[7][..]);
-    assert_eq!(rt; given.holders(Command::SetVariable), &[7][..]);
-    assert!(rt; given.holders(Command::StackTrace).is_empty());
+    for (command, holders) in &HOLDERS {
+        assert_eq!(rt; given.holders(*command), *holders);
+    }
     given.clear();
     assert!(rt; given.holders(Command::Variables).is_empty());
 }

@@ -1,32 +1,21 @@
 //! Messages that are read with memory that is lent, one after another; and objects of which a tree is asked for.
 
-use crate::messages::repeat;
+use crate::messages::{is_written, put_arrays};
 use dap_json::skim::{Scratch, Skim, Skimmed};
 use dap_json::write;
-use dap_message::{BodyFault, BodyRefusal, Message, read_message_with, write_message};
+use dap_message::{BodyFault, BodyRefusal, read_message_with};
 use std::alloc::{AllocError, Global};
 use std::test::Fail;
 
-/// A message as it is written, if it is plain.
-fn text_of(alloc: Global, message: &Message) -> Result<Option<Vec<u8>>, AllocError> {
-    if !message.plain() {
-        return Ok(None);
-    }
-    Ok(Some(write_message(alloc, message)?))
-}
-
-/// Whether a body is read as a message that is written so.
-fn is_written(
+/// Whether a body is read as a plain message that is written so.
+fn is_read(
     alloc: Global,
     body: &str,
     scratch: &mut Scratch,
     text: &str,
 ) -> Result<bool, BodyFault> {
     let message = read_message_with(alloc, body.as_bytes(), scratch)?;
-    match text_of(alloc, &message)? {
-        Some(found) => Ok(found.as_slice() == text.as_bytes()),
-        None => Ok(false),
-    }
+    Ok(is_written(alloc, &message, text.as_bytes())?)
 }
 
 static READ: [(&str, &str); 6] = [
@@ -64,7 +53,7 @@ static READ: [(&str, &str); 6] = [
 fn reads_one_after_another(rt: HostRuntime) -> Result<(), Fail> {
     let mut scratch = Scratch::new(rt.alloc());
     for (body, text) in &READ {
-        assert!(rt; is_written(rt.alloc(), body, &mut scratch, text)?, "{body}");
+        assert!(rt; is_read(rt.alloc(), body, &mut scratch, text)?, "{body}");
     }
     Ok(())
 }
@@ -108,8 +97,7 @@ fn tells_what_is_wrong(rt: HostRuntime) {
 /// An object with so many arrays, one in another.
 fn put_nested(text: &mut String, times: usize) -> Result<(), AllocError> {
     text.push_str("{\"a\":")?;
-    repeat(text, "[", times)?;
-    repeat(text, "]", times)?;
+    put_arrays(text, times, "")?;
     text.push_str("}")
 }
 
