@@ -45,24 +45,14 @@ fn told_tree(alloc: Global, tree: Option<&Tree>) -> Result<String, AllocError> {
     }
 }
 
-/// Two flags, in words.
-fn flags(first: bool, second: bool) -> &'static str {
-    match (first, second) {
-        (false, false) => "false false",
-        (false, true) => "false true",
-        (true, false) => "true false",
-        (true, true) => "true true",
-    }
-}
-
 fn told_initialize(alloc: Global, i: &Initialize) -> Result<String, AllocError> {
     let id = i.adapter_id.as_str();
-    let at_1 = flags(i.lines_start_at_1, i.columns_start_at_1);
-    let can = flags(
+    let (lines, columns) = (i.lines_start_at_1, i.columns_start_at_1);
+    let (paging, terminal) = (
         i.supports_variable_paging,
         i.supports_run_in_terminal_request,
     );
-    format!(in alloc; "{id} {at_1} {can}")
+    format!(in alloc; "{id} {lines} {columns} {paging} {terminal}")
 }
 
 fn told_evaluate(alloc: Global, e: &Evaluate) -> Result<String, AllocError> {

@@ -51,10 +51,8 @@ fn kept_and_taken(table: &mut Outstanding, entry: Entry) -> Result<Option<Entry>
 fn take_oldest(table: &mut Outstanding) -> Option<Entry>
     ensures { IsSome result ↔ IsSome (oldest_unparked table.old.kept) }
 {
-    match table.oldest_unparked() {
-        Some(seq) => table.take(seq),
-        None => None,
-    }
+    let seq = table.oldest_unparked()?;
+    table.take(seq)
 }
 
 // Whether the put of a request comes to this answer.

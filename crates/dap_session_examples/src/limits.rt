@@ -322,8 +322,7 @@ fn shows(rt: &HostRuntime, player: &mut Player, shown: Shown<'_>) -> Result<bool
     }
 }
 
-/// Whether a fresh adapter shows it. No other function of this file has an adapter of its own, since the proof of each takes
-/// half a minute.
+/// Whether a fresh adapter shows it. The one place of this file where an adapter is opened and dropped.
 fn is_shown(rt: &HostRuntime, limits: Limits, shown: Shown<'_>) -> Result<bool, Fail> {
     let mut player = Player::open(rt.alloc(), limits)?;
     let is_shown = shows(rt, &mut player, shown);
