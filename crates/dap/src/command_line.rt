@@ -13,10 +13,7 @@ struct LimitOption {
     limit: LimitFault,
 }
 
-/// How many options set a limit.
-const ALL_OPTIONS: usize = 7;
-
-static LIMIT_OPTIONS: [LimitOption; ALL_OPTIONS] = [
+static LIMIT_OPTIONS: [LimitOption; 7] = [
     LimitOption {
         name: "max-header",
         unit: "BYTES",
@@ -75,17 +72,12 @@ pub(crate) fn limit_texts(alloc: Global) -> Result<Vec<String>, AllocError> {
     Ok(texts)
 }
 
-/// An option with these names and help.
-fn named_option<'a>(alloc: Global, option: &LimitOption, help: &'a str) -> Arg<'a> {
+/// The option, which takes a number in the limit's range.
+fn limit_option<'a>(alloc: Global, option: &LimitOption, help: &'a str) -> Arg<'a> {
     Arg::new(alloc, option.name)
         .long(option.name)
         .value_name(option.unit)
         .help(help)
-}
-
-/// The option, which takes a number in the limit's range.
-fn limit_option<'a>(alloc: Global, option: &LimitOption, help: &'a str) -> Arg<'a> {
-    named_option(alloc, option, help)
         .action(ArgAction::Set)
         .allow_negative_numbers(true)
         .value_parser(ValueParser::unsigned(option.limit.least(), option.limit.greatest()))
@@ -126,11 +118,10 @@ fn file_of<'a>(alloc: Global, help: &'static str) -> Arg<'a> {
 /// A subcommand with the first so many of the options that set a limit.
 fn with_limits<'a>(
     alloc: Global,
-    subcommand: Command<'a>,
+    mut subcommand: Command<'a>,
     limit_texts: &'a [String],
     count: usize,
 ) -> Result<Command<'a>, AllocError> {
-    let mut subcommand = subcommand;
     for (option, help) in LIMIT_OPTIONS.iter().zip(limit_texts).take(count) {
         subcommand = subcommand.arg(limit_option(alloc, option, help.as_str()))?;
     }
@@ -146,7 +137,7 @@ fn serve<'a>(alloc: Global, limit_texts: &'a [String]) -> Result<Command<'a>, Al
             "The recording is read before the input. The session ends with `disconnect` or with the input.\n\nStatuses: 0 the session or the input ended, 2 usage, 3 a frame, a body, a message or the recording is refused or no sequence number is left, 4 the input ends within a frame, 5 read or write, 6 memory",
         )
         .arg(recording(alloc))?;
-    with_limits(alloc, serve, limit_texts, ALL_OPTIONS)
+    with_limits(alloc, serve, limit_texts, LIMIT_OPTIONS.len())
 }
 
 fn show<'a>(alloc: Global, limit_texts: &'a [String]) -> Result<Command<'a>, AllocError> {
@@ -225,7 +216,7 @@ fn drive<'a>(alloc: Global, limit_texts: &'a [String]) -> Result<Command<'a>, Al
             "SCRIPT",
             "What is done, one step a line, of at most 67108864 bytes",
         ))?;
-    with_limits(alloc, drive, limit_texts, ALL_OPTIONS)
+    with_limits(alloc, drive, limit_texts, LIMIT_OPTIONS.len())
 }
 
 /// The command line of the program.

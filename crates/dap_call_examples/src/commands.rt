@@ -1,9 +1,9 @@
 //! Commands with their gates, capabilities, and the references that a body gives.
 
+use crate::checks::check;
 use dap_call::{Capabilities, Command, Gate, frames_given, holders_given};
 use serde_json::Value;
-use std::alloc::Global;
-use std::test::Fail;
+use std::alloc::{AllocError, Global};
 
 static ROWS: [(&str, Command, Option<Gate>); 30] = [
     ("initialize", Command::Initialize, None),
@@ -76,31 +76,48 @@ fn is_named(name: &str, command: Command, gate: Option<Gate>) -> bool {
 #[test]
 fn commands(rt: HostRuntime) {
     for (name, command, gate) in &ROWS {
-        assert!(rt; is_named(name, *command, *gate), "{name}");
+        check(&rt, is_named(name, *command, *gate), *name);
     }
     for name in ["", "Threads", "threads ", "readMemory", "goto"] {
-        assert!(rt; Command::of_name(name).is_none(), "{name}");
+        check(&rt, Command::of_name(name).is_none(), name);
     }
 }
 
 // What an adapter with this body offers.
-fn offered(alloc: Global, body: &str) -> Result<Capabilities, Fail> {
-    let body = Value::from_str(alloc, body)?;
-    Ok(Capabilities::read(Some(&body)))
+fn offered(alloc: Global, body: &str) -> Option<Capabilities> {
+    match Value::from_str(alloc, body) {
+        Ok(body) => {
+            let offered = Capabilities::read(Some(&body));
+            drop(body);
+            Some(offered)
+        }
+        Err(_) => None,
+    }
 }
 
 // What is offered after an event.
-fn updated(alloc: Global, before: Capabilities, object: &str) -> Result<Capabilities, Fail> {
-    let object = Value::from_str(alloc, object)?;
-    let mut offered = before;
-    offered.update(&object);
-    Ok(offered)
+fn updated(alloc: Global, before: Capabilities, object: &str) -> Option<Capabilities> {
+    match Value::from_str(alloc, object) {
+        Ok(object) => {
+            let mut offered = before;
+            offered.update(&object);
+            drop(object);
+            Some(offered)
+        }
+        Err(_) => None,
+    }
+}
+
+fn written(alloc: Global, offered: Capabilities) -> Result<String, AllocError> {
+    offered.write(alloc)?.to_string(alloc)
 }
 
 // Whether capabilities are written so.
-fn is_written(alloc: Global, offered: Capabilities, wanted: &str) -> Result<bool, Fail> {
-    let written = offered.write(alloc)?.to_string(alloc)?;
-    Ok(written.as_str() == wanted)
+fn is_written(alloc: Global, offered: Capabilities, wanted: &str) -> bool {
+    match written(alloc, offered) {
+        Ok(text) => text.as_str() == wanted,
+        Err(_) => false,
+    }
 }
 
 /// Events, and whether steps back are offered after each. After all of them `cancel` is offered.
@@ -116,59 +133,104 @@ static EVENTS: [(&str, bool); 6] = [
     ("{\"supportsStepBack\":\"true\"}", false),
 ];
 
-// The first event after which something else is offered.
-fn first_difference(alloc: Global, before: Capabilities) -> Result<Option<&'static str>, Fail> {
+// The first event after which something else is offered, or nothing.
+fn first_difference(alloc: Global, before: Capabilities) -> &'static str {
     let mut now = before;
     for (event, step_back) in &EVENTS {
-        now = updated(alloc, now, event)?;
+        now = match updated(alloc, now, event) {
+            Some(now) => now,
+            None => return event,
+        };
         if now.has(Gate::StepBack) != *step_back || !now.allows(Command::Cancel) {
-            return Ok(Some(event));
+            return event;
         }
     }
-    Ok(None)
+    ""
 }
 
-/// An adapter that steps back and has exception filters; then an event that takes stepping back away, and others.
-#[test]
-fn capabilities(rt: HostRuntime) -> Result<(), Fail> {
-    let before = offered(
-        rt.alloc(),
-        "{\"supportsStepBack\":true,\"exceptionBreakpointFilters\":[{}]}",
-    )?;
+const STEPS_BACK: &str = "{\"supportsStepBack\":true,\"exceptionBreakpointFilters\":[{}]}";
+
+// What is told otherwise of an adapter that steps back and has exception filters, or nothing.
+fn told_otherwise(alloc: Global, before: Capabilities) -> &'static str {
     for command in [
         Command::StepBack,
         Command::ReverseContinue,
         Command::SetExceptionBreakpoints,
         Command::Threads,
     ] {
-        assert!(rt; before.allows(command));
+        if !before.allows(command) {
+            return command.name();
+        }
     }
-    assert!(rt; !before.allows(Command::Terminate) && before.has(Gate::StepBack));
-    assert!(rt; is_written(rt.alloc(), before, "{\"supportsStepBack\":true}")?);
-    let after = updated(rt.alloc(), before, "{\"supportsStepBack\":false}")?;
-    assert!(rt; !after.allows(Command::StepBack) && after == Capabilities::read(None));
-    assert_eq!(rt; first_difference(rt.alloc(), after)?, None);
-    assert!(rt; offered(rt.alloc(), "[true]")? == Capabilities::read(None));
-    Ok(())
+    if before.allows(Command::Terminate) || !before.has(Gate::StepBack) {
+        return "gates";
+    }
+    if !is_written(alloc, before, "{\"supportsStepBack\":true}") {
+        return "what is written";
+    }
+    ""
+}
+
+// Whether nothing that has a gate is offered, and no steps back.
+fn is_none(offered: Capabilities) -> bool {
+    !offered.allows(Command::StepBack) && offered == Capabilities::read(None)
+}
+
+/// An adapter that steps back and has exception filters; then an event that takes stepping back away, and others.
+#[test]
+fn capabilities(rt: HostRuntime) {
+    let none = Capabilities::read(None);
+    let before = offered(rt.alloc(), STEPS_BACK).unwrap_or(none);
+    let otherwise = told_otherwise(rt.alloc(), before);
+    check(&rt, otherwise.is_empty(), otherwise);
+    match updated(rt.alloc(), before, "{\"supportsStepBack\":false}") {
+        Some(after) => {
+            check(&rt, is_none(after), "taken away");
+            let event = first_difference(rt.alloc(), after);
+            check(&rt, event.is_empty(), event);
+        }
+        None => check(&rt, false, "event"),
+    }
+    check(&rt, offered(rt.alloc(), "[true]") == Some(none), "array");
+}
+
+fn frames_of(alloc: Global, body: &Value) -> Result<Vec<u32>, AllocError> {
+    frames_given(body).collect(alloc)
 }
 
 // Whether a body gives these frames.
-fn gives_frames(alloc: Global, body: &str, wanted: &[u32]) -> Result<bool, Fail> {
-    let body = Value::from_str(alloc, body)?;
-    let ids: Vec<u32> = frames_given(&body).collect(alloc)?;
-    Ok(ids.as_slice() == wanted)
+fn gives_frames(alloc: Global, body: &str, wanted: &[u32]) -> bool {
+    match Value::from_str(alloc, body) {
+        Ok(body) => {
+            let frames = frames_of(alloc, &body);
+            drop(body);
+            is_list(frames, wanted)
+        }
+        Err(_) => false,
+    }
+}
+
+fn holders_of(alloc: Global, command: Command, body: &Value) -> Result<Vec<u32>, AllocError> {
+    holders_given(command, body).collect(alloc)
 }
 
 // Whether the body of a command's response gives these holders.
-fn gives_holders(
-    alloc: Global,
-    command: Command,
-    body: &str,
-    wanted: &[u32],
-) -> Result<bool, Fail> {
-    let body = Value::from_str(alloc, body)?;
-    let numbers: Vec<u32> = holders_given(command, &body).collect(alloc)?;
-    Ok(numbers.as_slice() == wanted)
+fn gives_holders(alloc: Global, command: Command, body: &str, wanted: &[u32]) -> bool {
+    match Value::from_str(alloc, body) {
+        Ok(body) => {
+            let holders = holders_of(alloc, command, &body);
+            drop(body);
+            is_list(holders, wanted)
+        }
+        Err(_) => false,
+    }
+}
+
+fn is_list(found: Result<Vec<u32>, AllocError>, wanted: &[u32]) -> bool {
+    match found {
+        Ok(found) => found.as_slice() == wanted,
+        Err(_) => false,
+    }
 }
 
 const SCOPES: &str =
@@ -190,15 +252,16 @@ static HOLDERS: [(Command, &str, &[u32]); 6] = [
 
 /// The references in bodies as adapters write them, in order.
 #[test]
-fn references(rt: HostRuntime) -> Result<(), Fail> {
+fn references(rt: HostRuntime) {
     let frames =
         "{\"stackFrames\":[{\"id\":7,\"name\":\"f\"},{\"name\":\"g\"},{\"id\":0},{\"id\":-1},{\"id\":2147483648},{\"id\":2147483647}],\"totalFrames\":9}";
-    assert!(rt; gives_frames(rt.alloc(), frames, &[7, 0, 2147483647])?);
+    check(
+        &rt,
+        gives_frames(rt.alloc(), frames, &[7, 0, 2147483647]),
+        frames,
+    );
     for (command, body, wanted) in &HOLDERS {
-        assert!(rt;
-            gives_holders(rt.alloc(), *command, body, wanted)?,
-            "{body}"
-        );
+        let is_so = gives_holders(rt.alloc(), *command, body, wanted);
+        check(&rt, is_so, *body);
     }
-    Ok(())
 }

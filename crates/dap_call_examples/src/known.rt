@@ -1,16 +1,7 @@
 //! The table of known references.
 
+use crate::checks::check;
 use dap_tables::{Known, KnownFault, ReferenceKind};
-use std::alloc::{AllocError, Global};
-use std::test::Fail;
-
-fn frame(number: u32) -> (ReferenceKind, u32) {
-    (ReferenceKind::Frame, number)
-}
-
-fn holder(number: u32) -> (ReferenceKind, u32) {
-    (ReferenceKind::Holder, number)
-}
 
 /// A call of a table, and what it answers.
 #[derive(Clone, Copy)]
@@ -35,17 +26,6 @@ fn is_done(known: &mut Known, op: Op<'_>) -> bool {
             true
         }
     }
-}
-
-// The place of the first call that answers something else, with a fresh table that has room for three.
-fn first_difference(alloc: Global, ops: &[Op<'_>]) -> Result<Option<usize>, AllocError> {
-    let mut known = Known::open(alloc, 3)?;
-    for (place, op) in ops.iter().enumerate() {
-        if !is_done(&mut known, *op) {
-            return Ok(Some(place));
-        }
-    }
-    Ok(None)
 }
 
 static THREE: [Op<'static>; 15] = [
@@ -88,25 +68,51 @@ static THREE: [Op<'static>; 15] = [
 ];
 
 #[test]
-fn three_references(rt: HostRuntime) -> Result<(), Fail> {
-    assert_eq!(rt; first_difference(rt.alloc(), &THREE)?, None);
-    Ok(())
+fn three_references(rt: HostRuntime) {
+    match Known::open(rt.alloc(), 3) {
+        Ok(mut known) => {
+            for (place, op) in THREE.iter().enumerate() {
+                check(&rt, is_done(&mut known, *op), place);
+            }
+            drop(known);
+        }
+        Err(_) => check(&rt, false, "table"),
+    }
+}
+
+// Whether the frame and the holder of a number are given.
+fn is_given(known: &mut Known, number: u32) -> bool {
+    let pair = [
+        (ReferenceKind::Frame, number),
+        (ReferenceKind::Holder, number),
+    ];
+    known.add(&pair) == Ok(())
+}
+
+// Whether they are known, and the holder is given again.
+fn is_known(known: &mut Known, number: u32) -> bool {
+    known.has(ReferenceKind::Frame, number) && known.add(&[(ReferenceKind::Holder, number)]).is_ok()
+}
+
+// Whether a thousand are known, and one more is refused.
+fn is_full(known: &mut Known) -> bool {
+    known.len() == 1000 && known.add(&[(ReferenceKind::Frame, 500)]) == Err(KnownFault::Full)
 }
 
 // What is known is found among many, and given again it takes no room.
 #[test]
-fn a_thousand_known_references(rt: HostRuntime) -> Result<(), Fail> {
-    let mut known = Known::open(rt.alloc(), 1000)?;
-    for number in 0..500 {
-        let pair = [frame(number), holder(number)];
-        assert_eq!(rt; known.add(&pair), Ok(()));
+fn a_thousand_known_references(rt: HostRuntime) {
+    match Known::open(rt.alloc(), 1000) {
+        Ok(mut known) => {
+            for number in 0..500 {
+                check(&rt, is_given(&mut known, number), number);
+            }
+            for number in 0..500 {
+                check(&rt, is_known(&mut known, number), number);
+            }
+            check(&rt, is_full(&mut known), "full");
+            drop(known);
+        }
+        Err(_) => check(&rt, false, "table"),
     }
-    for number in 0..500 {
-        assert!(rt;
-            known.has(ReferenceKind::Frame, number) && known.add(&[holder(number)]).is_ok()
-        );
-    }
-    assert_eq!(rt; known.len(), 1000);
-    assert_eq!(rt; known.add(&[frame(500)]), Err(KnownFault::Full));
-    Ok(())
 }

@@ -4,6 +4,8 @@
 #[cfg(test)]
 mod breakpoints;
 #[cfg(test)]
+mod checks;
+#[cfg(test)]
 mod commands;
 #[cfg(test)]
 mod known;
@@ -15,5 +17,7 @@ mod real_clients;
 mod references;
 #[cfg(test)]
 mod requests;
+#[cfg(test)]
+mod telling;
 #[cfg(test)]
 mod writing;

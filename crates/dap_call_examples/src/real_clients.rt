@@ -1,9 +1,10 @@
 //! The arguments that real clients sent to real debuggers, each once: all are read as calls.
 
-use crate::reading::read;
-use dap_call::Command;
+use crate::checks::check;
+use dap_call::{Command, read_call};
+use serde_json::Value;
 use std::alloc::Global;
-use std::test::Fail;
+use std::process::Abort;
 
 /// From recorded conversations of three clients with five debuggers, a line each; an empty one where there were no arguments.
 static SENT: [(Command, &str); 15] = [
@@ -160,35 +161,47 @@ static SENT: [(Command, &str); 15] = [
     ),
 ];
 
-/// Whether arguments are read as a call of a command, and no bad key is told.
-fn is_read(alloc: Global, command: Command, text: &str) -> Result<bool, Fail> {
-    Ok(!read(alloc, command, text)?.as_str().starts_with("bad "))
-}
-
-/// The first of these arguments that are not read.
-fn first_refused(alloc: Global, command: Command, texts: &str) -> Result<Option<&str>, Fail> {
-    for text in texts.lines() {
-        if !is_read(alloc, command, text)? {
-            return Ok(Some(text));
+/// Whether arguments, if there are any, are read as a call of a command.
+fn is_call(alloc: Global, command: Command, arguments: Option<&Value>) -> bool {
+    match read_call(alloc, command, arguments) {
+        Ok(call) => {
+            drop(call);
+            true
         }
+        Err(_) => false,
     }
-    Ok(None)
 }
 
-/// How many arguments there are.
-fn count() -> usize {
+/// The same, where none are an empty text.
+fn is_read(alloc: Global, command: Command, text: &str) -> bool {
+    if text.is_empty() {
+        return is_call(alloc, command, None);
+    }
+    match Value::from_str(alloc, text) {
+        Ok(arguments) => {
+            let is_so = is_call(alloc, command, Some(&arguments));
+            drop(arguments);
+            is_so
+        }
+        Err(_) => false,
+    }
+}
+
+/// Fails the test at the first of these arguments that are not read, and counts them.
+fn count_read(rt: &impl Abort, alloc: Global, command: Command, texts: &str) -> usize {
     let mut count = 0usize;
-    for (_, texts) in &SENT {
-        count = count.saturating_add(texts.lines().count());
+    for text in texts.lines() {
+        count = count.saturating_add(1);
+        check(rt, is_read(alloc, command, text), text);
     }
     count
 }
 
 #[test]
-fn arguments_of_real_clients(rt: HostRuntime) -> Result<(), Fail> {
+fn arguments_of_real_clients(rt: HostRuntime) {
+    let mut count = 0usize;
     for (command, texts) in &SENT {
-        assert_eq!(rt; first_refused(rt.alloc(), *command, texts)?, None);
+        count = count.saturating_add(count_read(&rt, rt.alloc(), *command, texts));
     }
-    assert_eq!(rt; count(), 118);
-    Ok(())
+    check(&rt, count == 118, count);
 }

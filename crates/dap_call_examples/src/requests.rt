@@ -3,11 +3,12 @@
 ghost use Rattle.std.specs.Prelude.{◌≡◌, ◌↔◌, map, IfOk, IsSome, Some};
 ghost use Rattle.dap_tables.specs.Outstanding.{entries, is_parked, oldest_unparked};
 
+use crate::checks::check;
 use dap_json::{Text, Tree};
 use dap_tables::{Entry, Outstanding, PutFault, Seq};
 use serde_json::Value;
 use std::alloc::{AllocError, Global};
-use std::test::Fail;
+use std::process::Abort;
 
 fn request(alloc: Global, seq: u64) -> Result<Entry, AllocError> {
     Ok(Entry {
@@ -53,21 +54,6 @@ fn take_oldest(table: &mut Outstanding) -> Option<Entry>
 {
     let seq = table.oldest_unparked()?;
     table.take(seq)
-}
-
-// Whether the put of a request comes to this answer.
-fn answers(
-    alloc: Global,
-    table: &mut Outstanding,
-    seq: u64,
-    answer: (&'static str, u64),
-) -> Result<bool, AllocError> {
-    Ok(put(alloc, table, seq)? == answer)
-}
-
-// Whether the requests are these, by arrival.
-fn is_order(alloc: Global, table: &Outstanding, order: &[u64]) -> Result<bool, AllocError> {
-    Ok(seqs(alloc, table)?.as_slice() == order)
 }
 
 // Whether a request is kept when it is put, and is the one that is taken then.
@@ -141,39 +127,38 @@ enum Op<'a> {
 
 // Whether a call answers what its row says.
 fn is_done(alloc: Global, table: &mut Outstanding, op: Op<'_>) -> Result<bool, AllocError> {
-    match op {
-        Op::Put(seq, answer) => answers(alloc, table, seq, answer),
-        Op::Take(seq, expected) => Ok(taken(table, seq) == expected),
-        Op::TakeOldest(expected) => Ok(take_oldest(table).map(|entry| entry.seq) == expected),
-        Op::PutAndTake(seq) => is_kept_and_taken(alloc, table, seq),
-        Op::Park(seq) => Ok(park(table, seq)),
-        Op::Unpark(seq) => Ok(unpark(table, seq)),
-        Op::Oldest(seq) => Ok(table.oldest_unparked() == seq),
+    Ok(match op {
+        Op::Put(seq, answer) => put(alloc, table, seq)? == answer,
+        Op::Take(seq, expected) => taken(table, seq) == expected,
+        Op::TakeOldest(expected) => take_oldest(table).map(|entry| entry.seq) == expected,
+        Op::PutAndTake(seq) => is_kept_and_taken(alloc, table, seq)?,
+        Op::Park(seq) => park(table, seq),
+        Op::Unpark(seq) => unpark(table, seq),
+        Op::Oldest(seq) => table.oldest_unparked() == seq,
         Op::Marks(seq, kept, parked) => {
-            Ok((table.contains(seq), table.is_parked(seq)) == (kept, parked))
+            (table.contains(seq), table.is_parked(seq)) == (kept, parked)
         }
-        Op::Get(seq, true) => Ok(got(table, seq) == Some((seq, "threads", true))),
-        Op::Get(seq, false) => Ok(got(table, seq).is_none()),
-        Op::Order(order) => is_order(alloc, table, order),
+        Op::Get(seq, true) => got(table, seq) == Some((seq, "threads", true)),
+        Op::Get(seq, false) => got(table, seq).is_none(),
+        Op::Order(order) => seqs(alloc, table)?.as_slice() == order,
         Op::Count(len, empty, full) => {
-            Ok((table.len(), table.is_empty(), table.is_full()) == (len, empty, full))
+            (table.len(), table.is_empty(), table.is_full()) == (len, empty, full)
         }
-    }
+    })
 }
 
-// The place of the first call that answers something else, with a fresh table.
-fn first_difference(
-    alloc: Global,
-    room: usize,
-    ops: &[Op<'_>],
-) -> Result<Option<usize>, AllocError> {
-    let mut table = Outstanding::open(alloc, room)?;
-    for (place, op) in ops.iter().enumerate() {
-        if !is_done(alloc, &mut table, *op)? {
-            return Ok(Some(place));
+// Fails the test at the first call that answers something else, with a fresh table.
+fn expect(rt: &impl Abort, alloc: Global, room: usize, ops: &[Op<'_>]) {
+    match Outstanding::open(alloc, room) {
+        Ok(mut table) => {
+            for (place, op) in ops.iter().enumerate() {
+                let is_so = matches!(is_done(alloc, &mut table, *op), Ok(true));
+                check(rt, is_so, place);
+            }
+            drop(table);
         }
+        Err(_) => check(rt, false, "table"),
     }
-    Ok(None)
 }
 
 static TWO: [Op<'static>; 20] = [
@@ -200,9 +185,8 @@ static TWO: [Op<'static>; 20] = [
 ];
 
 #[test]
-fn two_requests(rt: HostRuntime) -> Result<(), Fail> {
-    assert_eq!(rt; first_difference(rt.alloc(), 2, &TWO)?, None);
-    Ok(())
+fn two_requests(rt: HostRuntime) {
+    expect(&rt, rt.alloc(), 2, &TWO);
 }
 
 static IN_ORDER: [Op<'static>; 13] = [
@@ -222,10 +206,10 @@ static IN_ORDER: [Op<'static>; 13] = [
 ];
 
 #[test]
-fn keeps_the_order(rt: HostRuntime) -> Result<(), Fail> {
-    assert_eq!(rt; first_difference(rt.alloc(), 3, &IN_ORDER)?, None);
-    assert_eq!(rt; handed_back(rt.alloc(), 8)?, 8);
-    Ok(())
+fn keeps_the_order(rt: HostRuntime) {
+    expect(&rt, rt.alloc(), 3, &IN_ORDER);
+    let back = handed_back(rt.alloc(), 8);
+    check(&rt, matches!(back, Ok(8)), "handed back");
 }
 
 static SLOTS: [Op<'static>; 32] = [
@@ -265,23 +249,22 @@ static SLOTS: [Op<'static>; 32] = [
 
 // A slot is used again, under the number that it had and under another: what is found is what was put last.
 #[test]
-fn slots_are_used_again(rt: HostRuntime) -> Result<(), Fail> {
-    assert_eq!(rt; first_difference(rt.alloc(), 3, &SLOTS)?, None);
-    Ok(())
+fn slots_are_used_again(rt: HostRuntime) {
+    expect(&rt, rt.alloc(), 3, &SLOTS);
 }
 
 // Puts the requests 1 to 4096, up to the first that is not kept; whether all are, and the first is the oldest.
-fn fill(alloc: Global, table: &mut Outstanding) -> Result<bool, AllocError> {
+fn fill(alloc: Global, table: &mut Outstanding) -> bool {
     for seq in 1..4097u64 {
-        if put(alloc, table, seq)? != ("kept", 0) {
-            return Ok(false);
+        if !matches!(put(alloc, table, seq), Ok(("kept", 0))) {
+            return false;
         }
     }
     let first = match table.in_order().next() {
         Some(entry) => entry.seq,
         None => 0,
     };
-    Ok(table.is_full() && first == 1)
+    table.is_full() && first == 1
 }
 
 // Takes them, by arrival or in reverse, up to the first that is not what it should be; whether none is left.
@@ -296,43 +279,48 @@ fn drain(table: &mut Outstanding, reverse: bool) -> bool {
     table.is_empty()
 }
 
-// What differs where the requests come and go, by arrival and then in reverse.
-fn come_and_go(alloc: Global) -> Result<Option<&'static str>, AllocError> {
-    let mut table = Outstanding::open(alloc, 4096)?;
-    for (reverse, name) in [(false, "by arrival"), (true, "in reverse")] {
-        if !fill(alloc, &mut table)? || !drain(&mut table, reverse) {
-            return Ok(Some(name));
-        }
-    }
-    Ok(None)
-}
-
 // As many requests as an end may keep, answered by arrival and in reverse.
 #[test]
-fn four_thousand_requests(rt: HostRuntime) -> Result<(), Fail> {
-    assert_eq!(rt; come_and_go(rt.alloc())?, None);
-    Ok(())
+fn four_thousand_requests(rt: HostRuntime) {
+    match Outstanding::open(rt.alloc(), 4096) {
+        Ok(mut table) => {
+            for (reverse, name) in [(false, "by arrival"), (true, "in reverse")] {
+                check(&rt, fill(rt.alloc(), &mut table), name);
+                check(&rt, drain(&mut table, reverse), name);
+            }
+            drop(table);
+        }
+        Err(_) => check(&rt, false, "table"),
+    }
 }
+
+/// How many numbers are left, and the next.
+static NUMBERS: [(u64, Option<u64>); 5] = [
+    (3, Some(1)),
+    (2, Some(2)),
+    (1, Some(3)),
+    (0, None),
+    (0, None),
+];
 
 #[test]
 fn numbers_up_to_three(rt: HostRuntime) {
     let mut numbers = Seq::open(3);
-    for (left, number) in [
-        (3, Some(1)),
-        (2, Some(2)),
-        (1, Some(3)),
-        (0, None),
-        (0, None),
-    ] {
-        assert_eq!(rt; numbers.left(), left);
-        assert_eq!(rt; numbers.next(), number);
+    for (left, number) in &NUMBERS {
+        check(&rt, numbers.left() == *left, *left);
+        check(&rt, numbers.next() == *number, *left);
     }
 }
 
+// Whether a request that is kept is shown so.
+fn is_shown(alloc: Global, front: &str) -> Result<bool, AllocError> {
+    let entry = request(alloc, 5)?;
+    let shown = format!(in alloc; "{entry:?}")?;
+    Ok(shown.as_str().starts_with(front))
+}
+
 #[test]
-fn shows_what_is_kept(rt: HostRuntime) -> Result<(), Fail> {
-    let entry = request(rt.alloc(), 5)?;
-    let shown = format!(in rt.alloc(); "{entry:?}")?;
-    assert!(rt; shown.as_str().starts_with("Entry { seq: 5, command: "));
-    Ok(())
+fn shows_what_is_kept(rt: HostRuntime) {
+    let is_so = is_shown(rt.alloc(), "Entry { seq: 5, command: ");
+    check(&rt, matches!(is_so, Ok(true)), "entry");
 }

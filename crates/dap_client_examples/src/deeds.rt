@@ -38,15 +38,24 @@ fn call_in(alloc: Global, message: &Message) -> Option<Call> {
 
 /// The call that a request of this body is.
 fn call_of(alloc: Global, body: &[u8]) -> Option<Call> {
-    let message = read_message(alloc, body).ok()?;
-    call_in(alloc, &message)
+    match read_message(alloc, body) {
+        Ok(message) => {
+            let call = call_in(alloc, &message);
+            // The proof of a call is shorter than that of a value that goes out of scope.
+            drop(message);
+            call
+        }
+        Err(_) => None,
+    }
 }
 
 /// The frame of a body.
 pub(crate) fn frame_of(alloc: Global, body: &[u8]) -> Option<Vec<u8>> {
     let mut frame = Vec::new(alloc);
-    write_frame(&mut frame, body).ok()?;
-    Some(frame)
+    match write_frame(&mut frame, body) {
+        Ok(()) => Some(frame),
+        Err(_) => None,
+    }
 }
 
 /// Whether the bytes are a frame of this body, or none where it is empty.
@@ -75,10 +84,24 @@ fn send_plain(
     }
 }
 
+/// Whether a call is sent, whatever is written.
+pub(crate) fn is_sent(alloc: Global, client: &mut Client, call: &Call) -> bool {
+    match send_plain(alloc, client, call) {
+        Some(sent) => sent.is_ok(),
+        None => false,
+    }
+}
+
 /// Sends the call of a request.
 fn send(alloc: Global, client: &mut Client, request: &[u8]) -> Option<Result<Vec<u8>, SendFault>> {
-    let call = call_of(alloc, request)?;
-    send_plain(alloc, client, &call)
+    match call_of(alloc, request) {
+        Some(call) => {
+            let sent = send_plain(alloc, client, &call);
+            drop(call);
+            sent
+        }
+        None => None,
+    }
 }
 
 /// Whether it is sent, and this body is written.
@@ -94,6 +117,22 @@ fn refuses(alloc: Global, client: &mut Client, request: &[u8], fault: SendFault)
     match send(alloc, client, request) {
         Some(Err(found)) => found == fault,
         _ => false,
+    }
+}
+
+/// How many bytes of a piece are used, and whether a message is delivered; or why the piece is refused.
+pub(crate) fn take_piece(
+    alloc: Global,
+    client: &mut Client,
+    piece: &[u8],
+) -> Result<(usize, bool), ClientFault> {
+    match client.take(alloc, piece) {
+        Ok(got) => {
+            let (used, is_delivered) = (got.used, got.delivered.is_some());
+            drop(got);
+            Ok((used, is_delivered))
+        }
+        Err(fault) => Err(fault),
     }
 }
 

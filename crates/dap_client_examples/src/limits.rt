@@ -1,6 +1,8 @@
 //! The greatest sizes, with ample memory: nothing is refused.
 
-use crate::deeds::{Deed, INITIALIZED, Row, STOPPED, delivers, frame_of, opened};
+use crate::deeds::{
+    Deed, INITIALIZED, Row, STOPPED, delivers, frame_of, is_sent, opened, take_piece,
+};
 use dap_client::{Client, Phase};
 use dap_frame::Limits;
 use dap_message::{Call, Evaluate, StackTrace, Text, Variables};
@@ -38,7 +40,7 @@ fn takes_successes(alloc: Global, client: &mut Client) -> bool {
 /// So many requests are sent, as long as none is refused.
 fn send_many(alloc: Global, client: &mut Client, count: usize) -> bool {
     for _ in 0..count {
-        if client.send(alloc, &Call::Threads).is_err() {
+        if !is_sent(alloc, client, &Call::Threads) {
             return false;
         }
     }
@@ -56,7 +58,9 @@ fn fills(alloc: Global, client: &mut Client) -> bool {
 
 fn is_filled(rt: &HostRuntime, limits: Limits) -> Result<bool, Fail> {
     let mut client = opened(rt, limits, &INITIALIZED, &[])?;
-    Ok(fills(rt.alloc(), &mut client))
+    let is_filled = fills(rt.alloc(), &mut client);
+    drop(client);
+    Ok(is_filled)
 }
 
 /// 4096 requests are outstanding, one more finds no room, and all are answered, the last one first.
@@ -105,7 +109,7 @@ fn asks(alloc: Global, client: &mut Client, number: u32, is_frame: bool) -> bool
             count: 0,
         })
     };
-    call.plain() && client.send(alloc, &call).is_ok()
+    is_sent(alloc, client, &call)
 }
 
 static STOPS: [Row<'static>; 1] = [(Deed::Takes(STOPPED, b""), Phase::Stopped, 0, 0)];
@@ -130,7 +134,7 @@ fn learns(alloc: Global, client: &mut Client, count: usize) -> bool {
         start_frame: 0,
         levels: 0,
     });
-    client.send(alloc, &asked).is_ok() && takes_frames(alloc, client, count)
+    is_sent(alloc, client, &asked) && takes_frames(alloc, client, count)
 }
 
 /// Whether the last of 65536 frames can be asked for, and what is none cannot: a frame is no holder of variables.
@@ -143,7 +147,9 @@ fn knows_many(alloc: Global, client: &mut Client) -> bool {
 
 fn learns_many(rt: &HostRuntime) -> Result<bool, Fail> {
     let mut client = stopped(rt)?;
-    Ok(learns(rt.alloc(), &mut client, 65536) && knows_many(rt.alloc(), &mut client))
+    let is_learnt = learns(rt.alloc(), &mut client, 65536) && knows_many(rt.alloc(), &mut client);
+    drop(client);
+    Ok(is_learnt)
 }
 
 /// 65536 references are known from one response, and each of them can be asked for.
@@ -155,8 +161,10 @@ fn many_references_are_known(rt: HostRuntime) -> Result<(), Fail> {
 
 /// Whether a piece makes a message whole, if it is taken.
 fn delivered(alloc: Global, client: &mut Client, piece: &[u8]) -> Option<bool> {
-    let got = client.take(alloc, piece).ok()?;
-    Some(got.delivered.is_some())
+    match take_piece(alloc, client, piece) {
+        Ok((_, is_delivered)) => Some(is_delivered),
+        Err(_) => None,
+    }
 }
 
 /// The body of the greatest length.
@@ -204,8 +212,17 @@ fn takes_longest(alloc: Global) -> Option<bool> {
 /// A body of 4 MiB is taken but for its last byte, and then whole.
 #[test]
 fn the_longest_body_is_taken(rt: HostRuntime) -> Result<(), Fail> {
-    assert_eq!(rt; takes_longest(rt.alloc()), Some(true));
+    assert!(rt; takes_longest(rt.alloc()) == Some(true));
     Ok(())
+}
+
+fn add_letters(text: &mut String, count: usize) -> bool {
+    for _ in 0..count {
+        if text.push('b').is_err() {
+            return false;
+        }
+    }
+    true
 }
 
 /// The expression of a request whose body has so many bytes.
@@ -213,35 +230,46 @@ fn expression(alloc: Global, length: usize) -> Option<Text> {
     let around =
         "{\"arguments\":{\"expression\":\"\"},\"command\":\"evaluate\",\"seq\":2,\"type\":\"request\"}";
     let mut text = String::new(alloc);
-    for _ in 0..length.saturating_sub(around.len()) {
-        text.push('b').ok()?;
+    if add_letters(&mut text, length.saturating_sub(around.len())) {
+        Some(Text::new(text))
+    } else {
+        None
     }
-    Some(Text::new(text))
 }
 
 /// Whether such a request is sent.
 fn evaluates(alloc: Global, client: &mut Client, length: usize) -> Option<bool> {
-    let call = Call::Evaluate(Evaluate {
-        expression: expression(alloc, length)?,
-        frame_id: None,
-    });
-    Some(client.send(alloc, &call).is_ok())
+    match expression(alloc, length) {
+        Some(expression) => {
+            let call = Call::Evaluate(Evaluate {
+                expression,
+                frame_id: None,
+            });
+            let is_sent = is_sent(alloc, client, &call);
+            drop(call);
+            Some(is_sent)
+        }
+        None => None,
+    }
 }
 
-/// Whether bodies of two lengths are sent, and how many requests are outstanding then.
-fn sends_two(rt: &HostRuntime, lengths: [usize; 2]) -> Result<([Option<bool>; 2], usize), Fail> {
+/// Whether a body of 4 MiB is sent, and none that is longer.
+fn sends_longest(alloc: Global, client: &mut Client) -> bool {
+    evaluates(alloc, client, 4194305) == Some(false)
+        && evaluates(alloc, client, 4194304) == Some(true)
+        && client.outstanding() == 1
+}
+
+fn is_longest_sent(rt: &HostRuntime) -> Result<bool, Fail> {
     let mut client = stopped(rt)?;
-    let first = evaluates(rt.alloc(), &mut client, lengths[0]);
-    let second = evaluates(rt.alloc(), &mut client, lengths[1]);
-    Ok(([first, second], client.outstanding()))
+    let is_sent = sends_longest(rt.alloc(), &mut client);
+    drop(client);
+    Ok(is_sent)
 }
 
 /// A body of 4 MiB is sent, and none that is longer.
 #[test]
 fn the_longest_body_is_sent(rt: HostRuntime) -> Result<(), Fail> {
-    assert_eq!(rt;
-        sends_two(&rt, [4194305, 4194304])?,
-        ([Some(false), Some(true)], 1)
-    );
+    assert!(rt; is_longest_sent(&rt)?);
     Ok(())
 }

@@ -1,6 +1,6 @@
 //! What a client refuses to send, and what closes it.
 
-use crate::deeds::{Deed, INITIALIZED, Row, SENT, STOPPED, THREADS, follow};
+use crate::deeds::{Deed, INITIALIZED, Row, SENT, STOPPED, THREADS, follow, take_piece};
 use dap_client::{Client, ClientFault, Phase, SendFault};
 use dap_frame::Limits;
 use dap_message::BodyRefusal;
@@ -86,7 +86,7 @@ fn a_bad_body_is_named(rt: HostRuntime) -> Result<(), Fail> {
 
 /// Whether the framing is refused.
 fn is_misframed(alloc: Global, client: &mut Client, piece: &[u8]) -> bool {
-    match client.take(alloc, piece) {
+    match take_piece(alloc, client, piece) {
         Err(ClientFault::Frame(_)) => true,
         _ => false,
     }
@@ -94,7 +94,7 @@ fn is_misframed(alloc: Global, client: &mut Client, piece: &[u8]) -> bool {
 
 /// Whether a header block without a length is held, and then refused.
 fn refuses_header(alloc: Global, client: &mut Client) -> bool {
-    client.take(alloc, b"A: ").is_ok()
+    take_piece(alloc, client, b"A: ").is_ok()
         && client.held() == 3
         && is_misframed(alloc, client, b"b\r\n\r\n")
         && client.held() == 0

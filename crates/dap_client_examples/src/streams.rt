@@ -1,6 +1,6 @@
 //! What adapters in the wild write, taken by a client; the same in any pieces.
 
-use crate::deeds::{Deed, INITIALIZE, Row, SENT, THREADS, follow, opened};
+use crate::deeds::{Deed, INITIALIZE, Row, SENT, THREADS, follow, opened, take_piece};
 use dap_client::{Client, Phase};
 use dap_frame::{Limits, write_frame};
 use std::alloc::Global;
@@ -134,9 +134,13 @@ fn step<'a>(
     size: usize,
 ) -> Option<(bool, &'a [u8])> {
     let (piece, _) = rest.split_at(rest.len().min(size));
-    let got = client.take(alloc, piece).ok()?;
-    let (_, later) = rest.split_at(got.used);
-    Some((got.delivered.is_some(), later))
+    match take_piece(alloc, client, piece) {
+        Ok((used, is_delivered)) => {
+            let (_, later) = rest.split_at(used.min(rest.len()));
+            Some((is_delivered, later))
+        }
+        Err(_) => None,
+    }
 }
 
 /// How many messages a client delivers of a stream that comes in pieces of one size.
@@ -160,7 +164,9 @@ fn count(alloc: Global, client: &mut Client, stream: &[u8], size: usize) -> Opti
 /// Likewise with a client that has sent `initialize` alone.
 fn delivered(rt: &HostRuntime, stream: &[u8], size: usize) -> Result<Option<usize>, Fail> {
     let mut client = initializing(rt)?;
-    Ok(count(rt.alloc(), &mut client, stream, size))
+    let count = count(rt.alloc(), &mut client, stream, size);
+    drop(client);
+    Ok(count)
 }
 
 /// The size of pieces of which other than two messages come.
@@ -173,46 +179,59 @@ fn first_difference(rt: &HostRuntime, stream: &[u8]) -> Result<Option<usize>, Fa
     Ok(None)
 }
 
-/// How many bytes one call uses.
-fn used(alloc: Global, client: &mut Client, stream: &[u8]) -> Option<usize> {
-    let got = client.take(alloc, stream).ok()?;
-    Some(got.used)
+/// Whether one call uses so many bytes, and the client is not ready then.
+fn uses(alloc: Global, client: &mut Client, stream: &[u8], wanted: usize) -> bool {
+    match take_piece(alloc, client, stream) {
+        Ok((used, _)) => used == wanted && !client.ready(),
+        Err(_) => false,
+    }
 }
 
-/// Likewise with a client that has sent `initialize` alone; and whether it is ready then.
-fn used_first(rt: &HostRuntime, stream: &[u8]) -> Result<(Option<usize>, bool), Fail> {
+/// Likewise with a client that has sent `initialize` alone.
+fn uses_first(rt: &HostRuntime, stream: &[u8], wanted: usize) -> Result<bool, Fail> {
     let mut client = initializing(rt)?;
-    let used = used(rt.alloc(), &mut client, stream);
-    Ok((used, client.ready()))
+    let is_so = uses(rt.alloc(), &mut client, stream, wanted);
+    drop(client);
+    Ok(is_so)
 }
 
-/// The frames of a response and of the event `initialized`, and the length of the first.
-fn two_frames(alloc: Global) -> Option<(Vec<u8>, usize)> {
-    let mut stream = Vec::new(alloc);
-    write_frame(
-        &mut stream,
+/// Appends the frames of a response and of the event `initialized`, and tells the length of the first.
+fn add_frames(stream: &mut Vec<u8>) -> Option<usize> {
+    let (response, event) = (
         b"{\"seq\":1,\"type\":\"response\",\"request_seq\":1,\"success\":true,\"command\":\"initialize\"}",
-    )
-    .ok()?;
-    let first = stream.len();
-    write_frame(
-        &mut stream,
         b"{\"seq\":2,\"type\":\"event\",\"event\":\"initialized\"}",
-    )
-    .ok()?;
-    Some((stream, first))
+    );
+    if write_frame(stream, response).is_err() {
+        return None;
+    }
+    let first = stream.len();
+    if write_frame(stream, event).is_err() {
+        return None;
+    }
+    Some(first)
 }
 
-/// Whether one call uses the first frame alone, and the client is not ready then; and the size of pieces that matter.
-fn in_pieces(rt: &HostRuntime) -> Result<(bool, Option<usize>), Fail> {
-    let (stream, first) = two_frames(rt.alloc()).ok_or("no memory")?;
-    let is_one = used_first(rt, &stream)? == (Some(first), false);
-    Ok((is_one, first_difference(rt, &stream)?))
+/// The size of pieces of which other than two messages come; 0 where one call uses other than the first frame.
+fn other_size(rt: &HostRuntime, stream: &[u8], first: usize) -> Result<Option<usize>, Fail> {
+    if uses_first(rt, stream, first)? {
+        first_difference(rt, stream)
+    } else {
+        Ok(Some(0))
+    }
+}
+
+/// The same of two frames.
+fn in_pieces(rt: &HostRuntime) -> Result<Option<usize>, Fail> {
+    let mut stream = Vec::new(rt.alloc());
+    match add_frames(&mut stream) {
+        Some(first) => other_size(rt, &stream, first),
+        None => Err(Fail::from("no memory")),
+    }
 }
 
 /// Two frames in a piece: one is used a call; and in pieces of any size the same messages come.
 #[test]
 fn pieces_do_not_matter(rt: HostRuntime) -> Result<(), Fail> {
-    assert_eq!(rt; in_pieces(&rt)?, (true, None));
+    assert_eq!(rt; in_pieces(&rt)?, None);
     Ok(())
 }

@@ -2,8 +2,12 @@
 #![tactic(auto)]
 
 #[cfg(test)]
+mod keys;
+#[cfg(test)]
 mod playing;
 #[cfg(test)]
 mod reading;
 #[cfg(test)]
 mod runs;
+#[cfg(test)]
+mod telling;

@@ -1,25 +1,24 @@
 //! What the other files share: a recording, and what a debuggee answers to a list of words.
+//!
+//! What is answered is appended to a text; `false` or nothing comes where memory was refused, or where there is no answer.
 
 use dap_call::SourceKey;
-use dap_debuggee::{Debuggee, DebuggeeFault, Happening, How, Recorded};
+use dap_debuggee::{Debuggee, DebuggeeFault, Frame, Happening, How, Recorded};
 use dap_json::Text;
 use std::alloc::Global;
-use std::test::Fail;
+use std::fmt::Write;
 
 /// Three moments of one thread: in `main`, in `f` below it, and in `main` again, where it waits.
 pub(crate) const THREE_MOMENTS: &str =
     "{\"exit\":0,\"sources\":[{\"name\":\"a.c\",\"path\":\"/a.c\",\"text\":\"one\\ntwo\\nthree\\n\"}],\"moments\":[{\"thread\":1,\"output\":\"go\\n\",\"threads\":[{\"id\":1,\"name\":\"main\",\"frames\":[{\"name\":\"main\",\"source\":0,\"line\":1,\"scopes\":[{\"name\":\"Locals\",\"variables\":[{\"name\":\"x\",\"value\":\"1\"},{\"name\":\"p\",\"value\":\"P\",\"variables\":[{\"name\":\"a\",\"value\":\"7\"}]}]}]}]}]},{\"thread\":1,\"threads\":[{\"id\":1,\"name\":\"main\",\"frames\":[{\"name\":\"f\",\"source\":0,\"line\":3},{\"name\":\"main\",\"source\":0,\"line\":1}]}]},{\"thread\":1,\"waits\":true,\"threads\":[{\"id\":1,\"name\":\"main\",\"frames\":[{\"name\":\"main\",\"source\":0,\"line\":2}]}]}]}";
 
 /// The debuggee of it.
-pub(crate) fn three_moments(alloc: Global) -> Result<Recorded, Fail> {
+pub(crate) fn three_moments(alloc: Global) -> Option<Recorded> {
     read(alloc, THREE_MOMENTS)
 }
 
-pub(crate) fn read(alloc: Global, text: &str) -> Result<Recorded, Fail> {
-    match Recorded::read(alloc, text.as_bytes()) {
-        Ok(recorded) => Ok(recorded),
-        Err(_) => Err(Fail::from("no recording")),
-    }
+fn read(alloc: Global, text: &str) -> Option<Recorded> {
+    Recorded::read(alloc, text.as_bytes()).ok()
 }
 
 /// A fault, as a word.
@@ -38,41 +37,144 @@ fn answered(done: Result<(), DebuggeeFault>) -> &'static str {
     }
 }
 
-/// The line of a thread's newest frame, 0 where it has none.
-fn newest_line<D: Debuggee>(alloc: Global, debuggee: &D, thread: i64) -> Result<u32, Fail> {
-    match debuggee.frames(alloc, thread) {
-        Ok(frames) => match frames.first() {
-            Some(frame) => Ok(frame.line),
-            None => Ok(0),
-        },
-        Err(_) => Err(Fail::from("no frames")),
+/// The line of the newest of some frames, 0 where there is none.
+fn first_line(frames: &[Frame]) -> u32 {
+    match frames.first() {
+        Some(frame) => frame.line,
+        None => 0,
     }
 }
 
-/// What a poll gave, in short; the place that is shown then by its newest frame.
-fn polled<D: Debuggee>(alloc: Global, debuggee: &mut D) -> Result<String, Fail> {
-    Ok(match debuggee.poll(alloc)? {
-        Happening::Nothing => String::from_str(alloc, "nothing")?,
-        Happening::Output { category, text } => {
-            let name = category.name();
-            let length = text.len();
-            let text = if length > 20 { "long" } else { text.as_str() };
-            format!(in alloc; "{name} {length} {text}")?
-        }
-        Happening::Stopped { reason, thread } => {
-            let reason = reason.as_str();
-            let line = newest_line(alloc, debuggee, thread)?;
-            format!(in alloc; "{reason} {thread} line {line}")?
-        }
-        Happening::Continued { thread } => format!(in alloc; "continued {thread}")?,
-        Happening::Exited { code } => format!(in alloc; "exited {code}")?,
-    })
+/// The line of a thread's newest frame.
+fn newest_line<D: Debuggee>(alloc: Global, debuggee: &D, thread: i64) -> Option<u32> {
+    match debuggee.frames(alloc, thread) {
+        Ok(frames) => Some(first_line(&frames)),
+        Err(_) => None,
+    }
 }
 
-/// What a fresh run of a recording answers to some words.
-pub(crate) fn moved(alloc: Global, recording: &str, words: &str) -> Result<String, Fail> {
-    let mut recorded = read(alloc, recording)?;
-    played(alloc, &mut recorded, words)
+fn add_number(told: &mut String, word: &str, number: i64) -> bool {
+    write!(told, "{word} {number}").is_ok()
+}
+
+fn add_output(told: &mut String, category: &str, text: &str) -> bool {
+    let length = text.len();
+    let text = if length > 20 { "long" } else { text };
+    write!(told, "{category} {length} {text}").is_ok()
+}
+
+/// A stop, with the place that is shown by the thread's newest frame.
+fn add_stop<D: Debuggee>(
+    alloc: Global,
+    debuggee: &D,
+    reason: &str,
+    thread: i64,
+    told: &mut String,
+) -> bool {
+    match newest_line(alloc, debuggee, thread) {
+        Some(line) => write!(told, "{reason} {thread} line {line}").is_ok(),
+        None => false,
+    }
+}
+
+/// What a poll gave, in short.
+fn add_happening<D: Debuggee>(
+    alloc: Global,
+    debuggee: &D,
+    happening: &Happening,
+    told: &mut String,
+) -> bool {
+    match happening {
+        Happening::Nothing => told.push_str("nothing").is_ok(),
+        Happening::Output { category, text } => add_output(told, category.name(), text.as_str()),
+        Happening::Stopped { reason, thread } => {
+            add_stop(alloc, debuggee, reason.as_str(), *thread, told)
+        }
+        Happening::Continued { thread } => add_number(told, "continued", *thread),
+        Happening::Exited { code } => add_number(told, "exited", i64::from(*code)),
+    }
+}
+
+fn add_poll<D: Debuggee>(alloc: Global, debuggee: &mut D, told: &mut String) -> bool {
+    match debuggee.poll(alloc) {
+        Ok(happening) => add_happening(alloc, debuggee, &happening, told),
+        Err(_) => false,
+    }
+}
+
+/// The source with the path `/a.c`.
+pub(crate) fn source(alloc: Global) -> Option<SourceKey> {
+    match Text::copied(alloc, "/a.c") {
+        Ok(path) => Some(SourceKey::Path(path)),
+        Err(_) => None,
+    }
+}
+
+fn how_of(word: &str) -> Option<How> {
+    match word {
+        "stepIn" => Some(How::StepIn),
+        "next" => Some(How::Next),
+        "stepOut" => Some(How::StepOut),
+        "continue" => Some(How::Continue),
+        "stepBack" => Some(How::StepBack),
+        "reverseContinue" => Some(How::ReverseContinue),
+        _ => None,
+    }
+}
+
+fn add_resumed<D: Debuggee>(
+    alloc: Global,
+    debuggee: &mut D,
+    word: &str,
+    told: &mut String,
+) -> bool {
+    match how_of(word) {
+        Some(how) => told
+            .push_str(answered(debuggee.resume(alloc, how, 1)))
+            .is_ok(),
+        None => false,
+    }
+}
+
+fn add_end<D: Debuggee>(debuggee: &mut D, told: &mut String) -> bool {
+    debuggee.end();
+    told.push_str("ended").is_ok()
+}
+
+fn add_set<D: Debuggee>(alloc: Global, debuggee: &mut D, lines: &[u32], told: &mut String) -> bool {
+    match source(alloc) {
+        Some(source) => {
+            debuggee.set_breakpoints(alloc, &source, lines).is_ok() && told.push_str("set").is_ok()
+        }
+        None => false,
+    }
+}
+
+fn add_answer<D: Debuggee>(alloc: Global, debuggee: &mut D, word: &str, told: &mut String) -> bool {
+    match word {
+        "start" => told.push_str(answered(debuggee.start(alloc))).is_ok(),
+        "pause" => told.push_str(answered(debuggee.pause(alloc))).is_ok(),
+        "end" => add_end(debuggee, told),
+        "line" => add_set(alloc, debuggee, &[1], told),
+        "clear" => add_set(alloc, debuggee, &[], told),
+        "poll" => add_poll(alloc, debuggee, told),
+        _ => add_resumed(alloc, debuggee, word, told),
+    }
+}
+
+/// What is asked, a word each, and what is answered, `; ` after each answer.
+fn add_answers<D: Debuggee>(
+    alloc: Global,
+    debuggee: &mut D,
+    words: &str,
+    told: &mut String,
+) -> bool {
+    for word in words.split(' ') {
+        if !add_answer(alloc, debuggee, word, told) || told.push_str("; ").is_err() {
+            return false;
+        }
+    }
+    true
 }
 
 /// Whether some words are answered so.
@@ -81,85 +183,20 @@ pub(crate) fn is_played<D: Debuggee>(
     debuggee: &mut D,
     words: &str,
     wanted: &str,
-) -> Result<bool, Fail> {
-    let told = played(alloc, debuggee, words)?;
-    Ok(told.as_str() == wanted)
-}
-
-/// What is asked, a word each, and what is answered, `; ` after each answer.
-pub(crate) fn played<D: Debuggee>(
-    alloc: Global,
-    debuggee: &mut D,
-    words: &str,
-) -> Result<String, Fail> {
+) -> bool {
     let mut told = String::new(alloc);
-    for word in words.split(' ') {
-        let answer = answer(alloc, debuggee, word)?;
-        told.push_str(answer.as_str())?;
-        told.push_str("; ")?;
-    }
-    Ok(told)
+    add_answers(alloc, debuggee, words, &mut told) && told.as_str() == wanted
 }
 
-fn answer<D: Debuggee>(alloc: Global, debuggee: &mut D, word: &str) -> Result<String, Fail> {
-    match word {
-        "start" => Ok(String::from_str(alloc, answered(debuggee.start(alloc)))?),
-        "stepIn" => resumed(alloc, debuggee, How::StepIn),
-        "next" => resumed(alloc, debuggee, How::Next),
-        "stepOut" => resumed(alloc, debuggee, How::StepOut),
-        "continue" => resumed(alloc, debuggee, How::Continue),
-        "stepBack" => resumed(alloc, debuggee, How::StepBack),
-        "reverseContinue" => resumed(alloc, debuggee, How::ReverseContinue),
-        "pause" => Ok(String::from_str(alloc, answered(debuggee.pause(alloc)))?),
-        "end" => {
-            debuggee.end();
-            Ok(String::from_str(alloc, "ended")?)
+/// Whether a fresh run of a recording answers so to some words.
+pub(crate) fn is_moved(alloc: Global, recording: &str, words: &str, wanted: &str) -> bool {
+    match read(alloc, recording) {
+        Some(mut recorded) => {
+            let is_so = is_played(alloc, &mut recorded, words, wanted);
+            // The proof of a call is shorter than that of a value that goes out of scope.
+            drop(recorded);
+            is_so
         }
-        "line" => set(alloc, debuggee, &[1]),
-        "clear" => set(alloc, debuggee, &[]),
-        "poll" => polled(alloc, debuggee),
-        _ => Err(Fail::from("no such word")),
+        None => false,
     }
-}
-
-fn resumed<D: Debuggee>(alloc: Global, debuggee: &mut D, how: How) -> Result<String, Fail> {
-    Ok(String::from_str(alloc, answered(debuggee.resume(alloc, how, 1)))?)
-}
-
-fn set<D: Debuggee>(alloc: Global, debuggee: &mut D, lines: &[u32]) -> Result<String, Fail> {
-    let source = SourceKey::Path(Text::copied(alloc, "/a.c")?);
-    debuggee.set_breakpoints(alloc, &source, lines)?;
-    Ok(String::from_str(alloc, "set")?)
-}
-
-/// What a query tells.
-pub(crate) fn told<T>(answer: Result<T, DebuggeeFault>) -> Result<T, Fail> {
-    match answer {
-        Ok(told) => Ok(told),
-        Err(_) => Err(Fail::from("refused")),
-    }
-}
-
-/// Which of the lines of a source are verified, `y` or `n` for each.
-pub(crate) fn verified(
-    alloc: Global,
-    recorded: &Recorded,
-    source: &SourceKey,
-    lines: &[u32],
-) -> Result<String, Fail> {
-    let mut text = String::new(alloc);
-    for is_verified in told(recorded.verify(alloc, source, lines))? {
-        text.push_str(if is_verified { "y" } else { "n" })?;
-    }
-    Ok(text)
-}
-
-/// The objects of a thread's frames, one after the other.
-pub(crate) fn objects(alloc: Global, recorded: &Recorded, thread: i64) -> Result<String, Fail> {
-    let mut text = String::new(alloc);
-    for frame in told(recorded.frames(alloc, thread))? {
-        let object = frame.object;
-        text.push_str(format!(in alloc; "{object} ")?.as_str())?;
-    }
-    Ok(text)
 }

@@ -1,22 +1,16 @@
-//! `show` and `read_whole`: what is listed of a stream, and how its end or its refusal is told.
+//! `show`: what is listed of a stream, and how its end or its refusal is told.
 
-use crate::serving::with_bytes_between;
-use dap_adapter::ServeFault;
-use dap_channel::{Channel, Input};
-use dap_debuggee::RecordingFault;
+use crate::serving::{frames_of, with_bytes_between};
+use crate::told::{expect_none, is_told};
 use dap_frame::{End, FrameFault, Limits, Refusal};
 use dap_message::{BodyRefusal, Scratch, read_heading, read_message};
-use dap_samples::calls::{THREADS, framed, limits};
-use dap_samples::streams::Pieces;
-use dap_tool::{
-    FileFault, MAX_FILE, ShowFault, ToolFault, WrapFault, fault_line, read_whole, show, status,
-};
+use dap_samples::calls::{THREADS, limits};
+use dap_tool::{ShowFault, ToolFault, show};
 use std::alloc::Global;
-use std::io;
 use std::test::Fail;
 
 /// A request, a failed response, an event whose name has a control character, and a message of another type.
-static FOUR: [&[u8]; 4] = [
+pub(crate) static FOUR: [&[u8]; 4] = [
     b"{\"seq\":1,\"type\":\"request\",\"command\":\"threads\"}",
     b"{\"seq\":1,\"type\":\"response\",\"request_seq\":1,\"success\":false,\"command\":\"threads\"}",
     b"{\"seq\":2,\"type\":\"event\",\"event\":\"a\\u0007\"}",
@@ -52,46 +46,64 @@ fn reached(count: usize) -> (usize, &'static [u8]) {
     last
 }
 
-/// Fails the test where a listing ends otherwise, or has other lines.
-fn expect(
-    rt: &HostRuntime,
+/// Whether a listing ends so, and has these lines.
+fn is_listed(
+    alloc: Global,
     limits: Limits,
     input: &[u8],
     end: Result<End, ShowFault>,
     lines: &[u8],
-) -> Result<(), Fail> {
-    let mut listing = Vec::new(rt.alloc());
-    let told = show(rt.alloc(), input, limits, &mut listing);
-    if told == end && listing.as_slice() == lines {
-        return Ok(());
+) -> bool {
+    let mut listing = Vec::new(alloc);
+    let told = show(alloc, input, limits, &mut listing);
+    told == end && listing.as_slice() == lines
+}
+
+/// Whether the first so many bytes are listed up to their last whole frame.
+fn is_front_listed(alloc: Global, input: &[u8], count: usize) -> bool {
+    let (front, _) = input.split_at(count.min(input.len()));
+    let (last, lines) = reached(count);
+    let end = if last == count {
+        End::Clean
+    } else {
+        End::Truncated
+    };
+    is_listed(alloc, Limits::usual(), front, Ok(end), lines)
+}
+
+/// How many bytes are listed otherwise; another length where that is the frames'.
+fn other_front(alloc: Global, input: &[u8]) -> Option<usize> {
+    if input.len() != 275 {
+        return Some(input.len());
     }
-    eprintln!(rt; "{told:?}, {} bytes", listing.len())?;
-    Err(Fail::from("listed otherwise"))
+    for count in 0..276 {
+        if !is_front_listed(alloc, input, count) {
+            return Some(count);
+        }
+    }
+    None
+}
+
+fn other_of_four(alloc: Global) -> Option<usize> {
+    match frames_of(alloc, &FOUR) {
+        Some(input) => other_front(alloc, &input),
+        None => Some(0),
+    }
 }
 
 /// Each kind of message has its line, and the end is clean after each frame and truncated within one.
 #[test]
 fn each_kind_has_its_line(rt: HostRuntime) -> Result<(), Fail> {
-    let input = framed(rt.alloc(), &FOUR)?;
-    assert_eq!(rt; input.len(), 275);
-    for count in 0..276 {
-        let (front, _) = input.split_at(count.min(input.len()));
-        let (last, lines) = reached(count);
-        let end = if last == count {
-            End::Clean
-        } else {
-            End::Truncated
-        };
-        expect(&rt, Limits::usual(), front, Ok(end), lines)?;
-    }
-    Ok(())
+    expect_none(&rt, other_of_four(rt.alloc()))
 }
 
 /// Whether a heading is read without a tree, and the tree says the same.
-fn needs_no_tree(alloc: Global, body: &[u8]) -> Result<bool, Fail> {
+fn needs_no_tree(alloc: Global, body: &[u8]) -> bool {
     let mut scratch = Scratch::new(alloc);
-    let message = read_message(alloc, body).ok().ok_or("refused")?;
-    Ok(read_heading(&mut scratch, body) == Some(message.heading()))
+    match read_message(alloc, body) {
+        Ok(message) => read_heading(&mut scratch, body) == Some(message.heading()),
+        Err(_) => false,
+    }
 }
 
 static CATCHES: [(&[u8], &[u8]); 10] = [
@@ -146,32 +158,33 @@ static CATCHES: [(&[u8], &[u8]); 10] = [
     ),
 ];
 
+/// Whether a body is listed with this line.
+fn is_caught(alloc: Global, body: &[u8], wanted: &[u8]) -> bool {
+    match frames_of(alloc, &[body]) {
+        Some(input) => is_listed(alloc, Limits::usual(), &input, Ok(End::Clean), wanted),
+        None => false,
+    }
+}
+
+fn other_catch(alloc: Global) -> Option<usize> {
+    for (place, (body, wanted)) in CATCHES.iter().enumerate() {
+        if !needs_no_tree(alloc, body) || !is_caught(alloc, body, wanted) {
+            return Some(place);
+        }
+    }
+    None
+}
+
 /// Bodies that a quick reader could take for others, with what they are.
 #[test]
 fn bodies_with_a_catch(rt: HostRuntime) -> Result<(), Fail> {
-    for (body, wanted) in &CATCHES {
-        assert!(rt; needs_no_tree(rt.alloc(), body)?);
-        let input = framed(rt.alloc(), &[body])?;
-        expect(&rt, Limits::usual(), &input, Ok(End::Clean), wanted)?;
-    }
-    Ok(())
+    expect_none(&rt, other_catch(rt.alloc()))
 }
 
-/// Fails the test where what comes after a request is not refused, or where that has another status or line.
-fn expect_refused(
-    rt: &HostRuntime,
-    limits: Limits,
-    input: &[u8],
-    fault: ShowFault,
-    line: &[u8],
-) -> Result<(), Fail> {
-    expect(rt, limits, input, Err(fault), b"0 1 request threads\n")?;
-    let fault = ToolFault::Show(fault);
-    let told = fault_line(rt.alloc(), &fault)?;
-    if status(&fault) == 3 && told.as_slice() == line {
-        return Ok(());
-    }
-    Err(Fail::from("told otherwise"))
+/// Whether what comes after a request is refused, and that has status 3 and this line.
+fn is_refused(alloc: Global, limits: Limits, input: &[u8], fault: ShowFault, line: &[u8]) -> bool {
+    is_listed(alloc, limits, input, Err(fault), b"0 1 request threads\n")
+        && is_told(alloc, &ToolFault::Show(fault), 3, line)
 }
 
 static BAD_FRAMES: [(&[u8], Refusal, &[u8]); 6] = [
@@ -199,19 +212,28 @@ static BAD_FRAMES: [(&[u8], Refusal, &[u8]); 6] = [
     ),
 ];
 
+fn is_bad_frame(alloc: Global, limits: Limits, bad: &[u8], cause: Refusal, line: &[u8]) -> bool {
+    let fault = ShowFault::Frame(FrameFault { cause, offset: 68 });
+    match with_bytes_between(alloc, THREADS, bad) {
+        Some(input) => is_refused(alloc, limits, &input, fault, line),
+        None => false,
+    }
+}
+
+fn other_frame(alloc: Global, limits: Limits) -> Option<usize> {
+    for (place, (bad, refusal, line)) in BAD_FRAMES.iter().enumerate() {
+        if !is_bad_frame(alloc, limits, bad, *refusal, line) {
+            return Some(place);
+        }
+    }
+    None
+}
+
 /// Each refusal of framing: what stands before it is listed; its line has the offset of the frame; the status is 3.
 #[test]
 fn listing_to_a_refused_frame(rt: HostRuntime) -> Result<(), Fail> {
     let limits = limits(64, 1024, 2, 1, 1, 1, 1)?;
-    for (bad, refusal, line) in &BAD_FRAMES {
-        let input = with_bytes_between(rt.alloc(), THREADS, bad)?;
-        let fault = ShowFault::Frame(FrameFault {
-            cause: *refusal,
-            offset: 68,
-        });
-        expect_refused(&rt, limits, &input, fault, line)?;
-    }
-    Ok(())
+    expect_none(&rt, other_frame(rt.alloc(), limits))
 }
 
 static BAD_BODIES: [(&[u8], BodyRefusal, &[u8]); 16] = [
@@ -281,223 +303,46 @@ static BAD_BODIES: [(&[u8], BodyRefusal, &[u8]); 16] = [
     ),
 ];
 
+fn is_bad_body(alloc: Global, body: &[u8], cause: BodyRefusal, line: &[u8]) -> bool {
+    let fault = ShowFault::Body { cause, offset: 68 };
+    match frames_of(alloc, &[THREADS, body, THREADS]) {
+        Some(input) => is_refused(alloc, Limits::usual(), &input, fault, line),
+        None => false,
+    }
+}
+
+fn other_body(alloc: Global) -> Option<usize> {
+    for (place, (body, cause, line)) in BAD_BODIES.iter().enumerate() {
+        if !is_bad_body(alloc, body, *cause, line) {
+            return Some(place);
+        }
+    }
+    None
+}
+
 /// Each refusal of a body, likewise.
 #[test]
 fn listing_to_a_refused_body(rt: HostRuntime) -> Result<(), Fail> {
-    for (body, cause, line) in &BAD_BODIES {
-        let input = framed(rt.alloc(), &[THREADS, body, THREADS])?;
-        let fault = ShowFault::Body {
-            cause: *cause,
-            offset: 68,
-        };
-        expect_refused(&rt, Limits::usual(), &input, fault, line)?;
+    expect_none(&rt, other_body(rt.alloc()))
+}
+
+/// Whether the line of `THREADS` is appended to what stands in a listing.
+fn is_appended(alloc: Global, input: &[u8]) -> bool {
+    let mut listing = Vec::new(alloc);
+    listing.extend_from_slice(b"before\n").is_ok()
+        && show(alloc, input, Limits::usual(), &mut listing) == Ok(End::Clean)
+        && listing.as_slice() == b"before\n0 1 request threads\n".as_slice()
+}
+
+fn is_threads_appended(alloc: Global) -> bool {
+    match frames_of(alloc, &[THREADS]) {
+        Some(input) => is_appended(alloc, &input),
+        None => false,
     }
-    Ok(())
 }
 
 /// What a tool appends to stays in front.
 #[test]
-fn a_listing_is_appended(rt: HostRuntime) -> Result<(), Fail> {
-    let input = framed(rt.alloc(), &[THREADS])?;
-    let mut listing = Vec::from_slice(rt.alloc(), b"before\n")?;
-    let end = show(rt.alloc(), &input, Limits::usual(), &mut listing);
-    assert_eq!(rt; end, Ok(End::Clean));
-    assert_eq!(rt;
-        listing.as_slice(),
-        b"before\n0 1 request threads\n".as_slice()
-    );
-    Ok(())
-}
-
-/// What reading in pieces of some size gives, where so many reads succeed and a length is foretold.
-fn read_in(
-    alloc: Global,
-    input: &[u8],
-    size: usize,
-    calls_left: usize,
-    expected: u64,
-) -> Result<Vec<u8>, FileFault> {
-    let reader = Pieces {
-        rest: input,
-        size: size.max(1),
-        calls_left,
-    };
-    read_whole(alloc, &mut Input { reader }, expected)
-}
-
-/// A reader is read to its end, in pieces of any size and whatever length is foretold.
-#[test]
-fn files_are_read_whole(rt: HostRuntime) -> Result<(), Fail> {
-    let input = framed(rt.alloc(), &FOUR)?;
-    for (size, expected) in [(1, 0), (7, 275), (100000, 5), (100000, u64::MAX)] {
-        let bytes = read_in(rt.alloc(), &input, size, usize::MAX, expected)
-            .ok()
-            .ok_or("refused")?;
-        assert_eq!(rt; bytes.as_slice(), input.as_slice());
-    }
-    Ok(())
-}
-
-/// A read that fails is told: four reads give all 275 bytes, and the fifth and last finds the end.
-#[test]
-fn failing_reads_are_told(rt: HostRuntime) -> Result<(), Fail> {
-    let input = framed(rt.alloc(), &FOUR)?;
-    for calls in 0..5 {
-        let fault = read_in(rt.alloc(), &input, 70, calls, 0)
-            .err()
-            .ok_or("read")?;
-        assert_eq!(rt; fault, FileFault::Read);
-    }
-    let bytes = read_in(rt.alloc(), &input, 70, 5, 0).ok().ok_or("refused")?;
-    assert_eq!(rt; bytes.as_slice(), input.as_slice());
-    Ok(())
-}
-
-/// Nothing is written to an input, and its reader stays as it was.
-#[test]
-fn inputs_take_nothing(rt: HostRuntime) -> Result<(), Fail> {
-    let reader = Pieces {
-        rest: THREADS,
-        size: 1,
-        calls_left: usize::MAX,
-    };
-    let mut input = Input { reader };
-    let fault = input.write(b"x").err().ok_or("written")?;
-    assert_eq!(rt; fault.kind(), io::ErrorKind::Unsupported);
-    let fault = input.flush().err().ok_or("flushed")?;
-    assert_eq!(rt; fault.kind(), io::ErrorKind::Unsupported);
-    assert_eq!(rt; input.reader.rest, THREADS.as_slice());
-    Ok(())
-}
-
-/// A file of the greatest length is read, and one with a byte more is refused.
-#[test]
-fn greatest_length_of_a_file(rt: HostRuntime) -> Result<(), Fail> {
-    let bytes = vec![in rt.alloc(); b' '; MAX_FILE + 1]?;
-    let (most, _) = bytes.split_at(MAX_FILE);
-    let read = read_in(rt.alloc(), most, usize::MAX, usize::MAX, MAX_FILE as u64)
-        .ok()
-        .ok_or("refused")?;
-    assert!(rt; read.as_slice() == most);
-    drop(read);
-    let fault = read_in(rt.alloc(), &bytes, usize::MAX, usize::MAX, 0)
-        .err()
-        .ok_or("read")?;
-    assert_eq!(rt; fault, FileFault::FileTooLong);
-    Ok(())
-}
-
-static TOLD: [(ToolFault, u8, &[u8]); 10] = [
-    (
-        ToolFault::Wrap(WrapFault::Body {
-            cause: BodyRefusal::BadSeq,
-            line: 1,
-        }),
-        3,
-        b"dap: BadSeq at line 1\n",
-    ),
-    (
-        ToolFault::Wrap(WrapFault::BodyTooLong { line: 1000 }),
-        3,
-        b"dap: BodyTooLong at line 1000\n",
-    ),
-    (
-        ToolFault::Wrap(WrapFault::OutOfMemory),
-        6,
-        b"dap: OutOfMemory\n",
-    ),
-    (ToolFault::File(FileFault::Read), 5, b"dap: Read\n"),
-    (
-        ToolFault::File(FileFault::FileTooLong),
-        3,
-        b"dap: FileTooLong\n",
-    ),
-    (
-        ToolFault::File(FileFault::OutOfMemory),
-        6,
-        b"dap: OutOfMemory\n",
-    ),
-    (
-        ToolFault::Show(ShowFault::OutOfMemory),
-        6,
-        b"dap: OutOfMemory\n",
-    ),
-    (ToolFault::Write, 5, b"dap: Write\n"),
-    (ToolFault::OutOfMemory, 6, b"dap: OutOfMemory\n"),
-    (ToolFault::Truncated, 4, b"dap: Truncated\n"),
-];
-
-/// The other faults of tools, with their statuses and lines.
-#[test]
-fn faults_of_tools(rt: HostRuntime) -> Result<(), Fail> {
-    for (fault, wanted, line) in &TOLD {
-        assert_eq!(rt; status(fault), *wanted);
-        assert_eq!(rt; fault_line(rt.alloc(), fault)?.as_slice(), *line);
-    }
-    Ok(())
-}
-
-static IN_WORDS: [(ToolFault, &str); 14] = [
-    (
-        ToolFault::Serve(ServeFault::Read),
-        "the session is broken off",
-    ),
-    (
-        ToolFault::Recording(RecordingFault::NotJson),
-        "the recording is refused",
-    ),
-    (
-        ToolFault::Show(ShowFault::Frame(FrameFault {
-            cause: Refusal::NoLength,
-            offset: 103,
-        })),
-        "a frame is refused at byte 103",
-    ),
-    (
-        ToolFault::Show(ShowFault::Body {
-            cause: BodyRefusal::BadSeq,
-            offset: 68,
-        }),
-        "the body of the frame at byte 68 is refused",
-    ),
-    (
-        ToolFault::Show(ShowFault::OutOfMemory),
-        "memory is exhausted",
-    ),
-    (
-        ToolFault::Wrap(WrapFault::Body {
-            cause: BodyRefusal::BadSeq,
-            line: 3,
-        }),
-        "line 3 is no message",
-    ),
-    (
-        ToolFault::Wrap(WrapFault::BodyTooLong { line: 9 }),
-        "line 9 is longer than a body may be",
-    ),
-    (
-        ToolFault::Wrap(WrapFault::OutOfMemory),
-        "memory is exhausted",
-    ),
-    (ToolFault::File(FileFault::Read), "the file cannot be read"),
-    (
-        ToolFault::File(FileFault::FileTooLong),
-        "the file is too long",
-    ),
-    (
-        ToolFault::File(FileFault::OutOfMemory),
-        "memory is exhausted",
-    ),
-    (ToolFault::Truncated, "the input ends within a frame"),
-    (ToolFault::Write, "the output failed"),
-    (ToolFault::OutOfMemory, "memory is exhausted"),
-];
-
-/// What a person reads of each fault.
-#[test]
-fn faults_in_words(rt: HostRuntime) -> Result<(), Fail> {
-    for (fault, words) in &IN_WORDS {
-        assert_eq!(rt; format!(in rt.alloc(); "{fault}")?.as_str(), *words);
-    }
-    Ok(())
+fn a_listing_is_appended(rt: HostRuntime) {
+    assert!(rt; is_threads_appended(rt.alloc()));
 }

@@ -1,21 +1,22 @@
 //! Messages that are read with memory that is lent, one after another; and objects of which a tree is asked for.
 
-use crate::messages::{is_written, put_arrays};
+use crate::checks::check;
+use crate::messages::{is_written, nested};
 use dap_json::skim::{Scratch, Skim, Skimmed};
-use dap_json::write;
+use dap_json::{Tree, write};
 use dap_message::{BodyFault, BodyRefusal, read_message_with};
-use std::alloc::{AllocError, Global};
-use std::test::Fail;
+use std::alloc::Global;
 
 /// Whether a body is read as a plain message that is written so.
-fn is_read(
-    alloc: Global,
-    body: &str,
-    scratch: &mut Scratch,
-    text: &str,
-) -> Result<bool, BodyFault> {
-    let message = read_message_with(alloc, body.as_bytes(), scratch)?;
-    Ok(is_written(alloc, &message, text.as_bytes())?)
+fn is_read(alloc: Global, body: &str, scratch: &mut Scratch, text: &str) -> bool {
+    match read_message_with(alloc, body.as_bytes(), scratch) {
+        Ok(message) => {
+            let is_so = is_written(alloc, &message, text);
+            drop(message);
+            is_so == Some(true)
+        }
+        Err(_) => false,
+    }
 }
 
 static READ: [(&str, &str); 6] = [
@@ -50,12 +51,12 @@ static READ: [(&str, &str); 6] = [
 ];
 
 #[test]
-fn reads_one_after_another(rt: HostRuntime) -> Result<(), Fail> {
+fn reads_one_after_another(rt: HostRuntime) {
     let mut scratch = Scratch::new(rt.alloc());
     for (body, text) in &READ {
-        assert!(rt; is_read(rt.alloc(), body, &mut scratch, text)?, "{body}");
+        check(&rt, is_read(rt.alloc(), body, &mut scratch, text), *body);
     }
-    Ok(())
+    drop(scratch);
 }
 
 static WRONG: [(&str, BodyRefusal); 5] = [
@@ -81,24 +82,25 @@ static WRONG: [(&str, BodyRefusal); 5] = [
     ),
 ];
 
-fn fault_of(alloc: Global, body: &str, scratch: &mut Scratch) -> Option<BodyFault> {
-    read_message_with(alloc, body.as_bytes(), scratch).err()
+/// Whether a body is refused so.
+fn is_refused(alloc: Global, body: &str, scratch: &mut Scratch, refusal: BodyRefusal) -> bool {
+    match read_message_with(alloc, body.as_bytes(), scratch) {
+        Ok(message) => {
+            drop(message);
+            false
+        }
+        Err(fault) => fault == BodyFault::Refused(refusal),
+    }
 }
 
 #[test]
 fn tells_what_is_wrong(rt: HostRuntime) {
     let mut scratch = Scratch::new(rt.alloc());
     for (body, refusal) in &WRONG {
-        let fault = fault_of(rt.alloc(), body, &mut scratch);
-        assert_eq!(rt; fault, Some(BodyFault::Refused(*refusal)), "{body}");
+        let refused = is_refused(rt.alloc(), body, &mut scratch, *refusal);
+        check(&rt, refused, *body);
     }
-}
-
-/// An object with so many arrays, one in another.
-fn put_nested(text: &mut String, times: usize) -> Result<(), AllocError> {
-    text.push_str("{\"a\":")?;
-    put_arrays(text, times, "")?;
-    text.push_str("}")
+    drop(scratch);
 }
 
 /// What is asked of an object, and what it has to give.
@@ -121,61 +123,76 @@ static STEPS: [Step; 8] = [
     Step::Key(None),
 ];
 
-fn gives_key(skim: &mut Skim<'_>, wanted: Option<&str>) -> Result<bool, Fail> {
-    Ok(skim.next_key()? == wanted)
-}
-
-fn gives_tree(alloc: Global, skim: &mut Skim<'_>, wanted: &[u8]) -> Result<bool, Fail> {
-    let tree = skim.tree(alloc)?;
-    let text = write(alloc, tree.value())?;
-    Ok(text.as_slice() == wanted)
-}
-
-fn gives_text(skim: &mut Skim<'_>, key: &str, value: &str) -> Result<bool, Fail> {
-    match skim.next()? {
-        Some((found, Skimmed::Text(text))) => Ok(found == key && text == value),
-        _ => Ok(false),
+fn is_tree(alloc: Global, tree: &Tree, wanted: &[u8]) -> bool {
+    match write(alloc, tree.value()) {
+        Ok(text) => text.as_slice() == wanted,
+        Err(_) => false,
     }
 }
 
-fn gives(alloc: Global, skim: &mut Skim<'_>, step: &Step) -> Result<bool, Fail> {
+fn gives(alloc: Global, skim: &mut Skim<'_>, step: &Step) -> bool {
     match step {
-        Step::Key(key) => gives_key(skim, *key),
-        Step::Whole(n) => Ok(matches!(skim.pass()?, Skimmed::Whole(found) if found == *n)),
-        Step::Other => Ok(matches!(skim.pass()?, Skimmed::Other)),
-        Step::Tree(text) => gives_tree(alloc, skim, text),
-        Step::Member(key, value) => gives_text(skim, key, value),
+        Step::Key(key) => matches!(skim.next_key(), Ok(found) if found == *key),
+        Step::Whole(n) => matches!(skim.pass(), Ok(Skimmed::Whole(found)) if found == *n),
+        Step::Other => matches!(skim.pass(), Ok(Skimmed::Other)),
+        Step::Tree(text) => match skim.tree(alloc) {
+            Ok(tree) => {
+                let is_so = is_tree(alloc, &tree, text);
+                drop(tree);
+                is_so
+            }
+            Err(_) => false,
+        },
+        Step::Member(key, value) => match skim.next() {
+            Ok(Some((found, Skimmed::Text(text)))) => found == *key && text == *value,
+            _ => false,
+        },
     }
 }
 
 #[test]
-fn gives_trees_of_members(rt: HostRuntime) -> Result<(), Fail> {
+fn gives_trees_of_members(rt: HostRuntime) {
     let text = b"{\"a\":1,\"b\":[1,{\"d\":-2,\"c\":\"\\u0041\"}],\"e\":{\"f\":[]},\"g\":\"x\"}";
     let mut scratch = Scratch::new(rt.alloc());
-    let mut skim = Skim::open(text, &mut scratch)?;
-    for (place, step) in STEPS.iter().enumerate() {
-        assert!(rt; gives(rt.alloc(), &mut skim, step)?, "step {place}");
+    match Skim::open(text, &mut scratch) {
+        Ok(mut skim) => {
+            for (place, step) in STEPS.iter().enumerate() {
+                check(&rt, gives(rt.alloc(), &mut skim, step), place);
+            }
+        }
+        Err(_) => check(&rt, false, "no object"),
     }
-    Ok(())
+    drop(scratch);
 }
 
-/// Whether the first member of an object with so many arrays, one in another, is given as a tree.
-fn fits(alloc: Global, scratch: &mut Scratch, times: usize) -> Result<bool, Fail> {
-    let mut text = String::new(alloc);
-    put_nested(&mut text, times)?;
-    let mut skim = Skim::open(text.as_bytes(), scratch)?;
-    if !gives_key(&mut skim, Some("a"))? {
-        return Err(Fail::from("no member"));
+/// Whether the first member of an object, which is `a`, is given as a tree.
+fn fits(alloc: Global, scratch: &mut Scratch, text: &str) -> Option<bool> {
+    match Skim::open(text.as_bytes(), scratch) {
+        Ok(mut skim) => match skim.next_key() {
+            Ok(Some("a")) => Some(skim.tree(alloc).is_ok()),
+            _ => None,
+        },
+        Err(_) => None,
     }
-    Ok(skim.tree(alloc).is_ok())
 }
+
+/// Whether it is where its value is so many arrays, one in another.
+fn is_deep(alloc: Global, scratch: &mut Scratch, times: usize, wanted: bool) -> bool {
+    match nested(alloc, "{\"a\":", times, "") {
+        Ok(text) => fits(alloc, scratch, text.as_str()) == Some(wanted),
+        Err(_) => false,
+    }
+}
+
+/// How many arrays fit. The object is the first of 127 levels.
+static FITS: [(usize, bool); 4] = [(0, false), (1, true), (126, true), (127, false)];
 
 #[test]
-fn gives_a_tree_of_127_levels(rt: HostRuntime) -> Result<(), Fail> {
-    // The object is the first of 127 levels.
+fn gives_a_tree_of_127_levels(rt: HostRuntime) {
     let mut scratch = Scratch::new(rt.alloc());
-    for (times, wanted) in [(0, false), (1, true), (126, true), (127, false)] {
-        assert_eq!(rt; fits(rt.alloc(), &mut scratch, times)?, wanted, "{times}");
+    for (times, wanted) in &FITS {
+        let is_so = is_deep(rt.alloc(), &mut scratch, *times, *wanted);
+        check(&rt, is_so, *times);
     }
-    Ok(())
+    drop(scratch);
 }

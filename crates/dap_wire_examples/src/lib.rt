@@ -6,12 +6,20 @@ mod answers;
 #[cfg(test)]
 mod bodies;
 #[cfg(test)]
+mod checks;
+#[cfg(test)]
 mod frames;
 #[cfg(test)]
 mod given;
 #[cfg(test)]
 mod lent;
 #[cfg(test)]
+mod limits;
+#[cfg(test)]
+mod lists;
+#[cfg(test)]
 mod messages;
+#[cfg(test)]
+mod readers;
 #[cfg(test)]
 mod trees;

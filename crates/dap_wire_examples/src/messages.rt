@@ -1,42 +1,18 @@
 //! Messages that are read and written: rows from outside, and that each call answers where memory is ample.
 
+use crate::checks::check;
 use dap_message::{BodyFault, BodyRefusal, Kind, Message, read_message, write_message};
 use std::alloc::{AllocError, Global};
-use std::test::Fail;
 
+/// Why a body is not read.
 fn fault_of(alloc: Global, body: &[u8]) -> Option<BodyFault> {
     match read_message(alloc, body) {
-        Ok(_message) => None,
+        Ok(message) => {
+            drop(message);
+            None
+        }
         Err(fault) => Some(fault),
     }
-}
-
-/// Appends a part so many times.
-pub(crate) fn repeat(text: &mut String, part: &str, times: usize) -> Result<(), AllocError> {
-    for _ in 0..times {
-        text.push_str(part)?;
-    }
-    Ok(())
-}
-
-/// So many arrays, one in another, with `middle` in the last.
-pub(crate) fn put_arrays(text: &mut String, times: usize, middle: &str) -> Result<(), AllocError> {
-    repeat(text, "[", times)?;
-    text.push_str(middle)?;
-    repeat(text, "]", times)
-}
-
-/// An event whose body is such arrays.
-fn put_nested(text: &mut String, times: usize, middle: &str) -> Result<(), AllocError> {
-    text.push_str("{\"seq\":1,\"type\":\"event\",\"event\":\"e\",\"body\":")?;
-    put_arrays(text, times, middle)?;
-    text.push_str("}")
-}
-
-fn nested(alloc: Global, times: usize, middle: &str) -> Result<String, AllocError> {
-    let mut text = String::new(alloc);
-    put_nested(&mut text, times, middle)?;
-    Ok(text)
 }
 
 static REFUSED: [(&str, BodyRefusal); 27] = [
@@ -92,7 +68,7 @@ static REFUSED: [(&str, BodyRefusal); 27] = [
 fn tells_the_first_refusal(rt: HostRuntime) {
     for (body, refusal) in &REFUSED {
         let fault = fault_of(rt.alloc(), body.as_bytes());
-        assert_eq!(rt; fault, Some(BodyFault::Refused(*refusal)), "{body}");
+        check(&rt, fault == Some(BodyFault::Refused(*refusal)), *body);
     }
 }
 
@@ -100,7 +76,11 @@ fn tells_the_first_refusal(rt: HostRuntime) {
 fn refuses_what_is_no_text(rt: HostRuntime) {
     let body = b"{\"seq\":1,\"type\":\"event\",\"event\":\"\xff\"}";
     let fault = fault_of(rt.alloc(), body);
-    assert_eq!(rt; fault, Some(BodyFault::Refused(BodyRefusal::NotJson)));
+    check(
+        &rt,
+        fault == Some(BodyFault::Refused(BodyRefusal::NotJson)),
+        "no text",
+    );
 }
 
 static WRITTEN: [(&str, &str); 8] = [
@@ -142,97 +122,117 @@ static WRITTEN: [(&str, &str); 8] = [
     ),
 ];
 
-/// Whether a message is plain, and is written so.
-pub(crate) fn is_written(
-    alloc: Global,
-    message: &Message,
-    text: &[u8],
-) -> Result<bool, AllocError> {
+/// Whether a message is plain and is written so; `None` where memory is wanting.
+pub(crate) fn is_written(alloc: Global, message: &Message, text: &str) -> Option<bool> {
     if !message.plain() {
-        return Ok(false);
+        return Some(false);
     }
-    let written = write_message(alloc, message)?;
-    Ok(written.as_slice() == text)
+    match write_message(alloc, message) {
+        Ok(written) => Some(written.as_slice() == text.as_bytes()),
+        Err(_) => None,
+    }
 }
 
-/// Whether a body is read as a plain message that is written so.
-fn is_read(alloc: Global, body: &[u8], text: &[u8]) -> Result<bool, Fail> {
+/// Whether a body is read as a plain message that is written so; `None` where memory is wanting.
+fn is_read(alloc: Global, body: &[u8], text: &str) -> Option<bool> {
     match read_message(alloc, body) {
-        Ok(message) => Ok(is_written(alloc, &message, text)?),
-        Err(_) => Err(Fail::from("not read")),
+        Ok(message) => {
+            let is_so = is_written(alloc, &message, text);
+            drop(message);
+            is_so
+        }
+        Err(BodyFault::OutOfMemory) => None,
+        Err(_) => Some(false),
     }
 }
 
 /// Each row is a body, and the text that the message is written as.
 #[test]
-fn reads_and_writes(rt: HostRuntime) -> Result<(), Fail> {
+fn reads_and_writes(rt: HostRuntime) {
     for (body, text) in &WRITTEN {
-        assert!(rt;
-            is_read(rt.alloc(), body.as_bytes(), text.as_bytes())?,
-            "{body}"
-        );
+        let is_so = is_read(rt.alloc(), body.as_bytes(), text);
+        check(&rt, is_so == Some(true), *body);
     }
-    Ok(())
+}
+
+/// Whether a body is read as a plain event or not, or why it is refused.
+fn is_event(alloc: Global, body: &[u8], answer: Result<bool, BodyFault>) -> bool {
+    match read_message(alloc, body) {
+        Ok(message) => {
+            let is_event = matches!(&message.kind, Kind::Event { .. });
+            let plain = message.plain();
+            drop(message);
+            is_event && answer == Ok(plain)
+        }
+        Err(fault) => answer == Err(fault),
+    }
 }
 
 /// A request whose command is so many characters of two bytes each, and the rest.
-fn put_command(text: &mut String, times: usize, rest: &str) -> Result<(), AllocError> {
-    text.push_str("{\"seq\":1,\"type\":\"request\",\"command\":\"")?;
-    repeat(text, "é", times)?;
-    text.push_str(rest)?;
-    text.push_str("\"}")
+fn request(alloc: Global, times: usize, rest: &str) -> Result<String, AllocError> {
+    let long = "é".repeat(alloc, times)?;
+    format!(in alloc; "{{\"seq\":1,\"type\":\"request\",\"command\":\"{long}{rest}\"}}")
 }
+
+/// Whether it is read, or refused so.
+fn is_counted(alloc: Global, times: usize, rest: &str, fault: Option<BodyFault>) -> bool {
+    match request(alloc, times, rest) {
+        Ok(body) => fault_of(alloc, body.as_bytes()) == fault,
+        Err(_) => false,
+    }
+}
+
+static COMMANDS: [(usize, &str, Option<BodyFault>); 3] = [
+    (32, "", None),
+    (31, "ab", None),
+    (32, "a", Some(BodyFault::Refused(BodyRefusal::BadCommand))),
+];
 
 #[test]
-fn counts_a_command_in_bytes(rt: HostRuntime) -> Result<(), Fail> {
-    for (times, rest, fault) in [
-        (32, "", None),
-        (31, "ab", None),
-        (32, "a", Some(BodyFault::Refused(BodyRefusal::BadCommand))),
-    ] {
-        let mut body = String::new(rt.alloc());
-        put_command(&mut body, times, rest)?;
-        let found = fault_of(rt.alloc(), body.as_bytes());
-        assert_eq!(rt; found, fault, "{times} {rest}");
+fn counts_a_command_in_bytes(rt: HostRuntime) {
+    for (times, rest, fault) in &COMMANDS {
+        let is_so = is_counted(rt.alloc(), *times, rest, *fault);
+        check(&rt, is_so, format_args!("{times} {rest}"));
     }
-    Ok(())
 }
+
+/// The front of an object, so many arrays, one in another, with `middle` in the last, and the end of the object.
+pub(crate) fn nested(
+    alloc: Global,
+    front: &str,
+    times: usize,
+    middle: &str,
+) -> Result<String, AllocError> {
+    let open = "[".repeat(alloc, times)?;
+    let close = "]".repeat(alloc, times)?;
+    format!(in alloc; "{front}{open}{middle}{close}}}")
+}
+
+/// Whether an event with such a body is read as a plain one or not, or refused so.
+fn is_nested(alloc: Global, times: usize, middle: &str, answer: Result<bool, BodyFault>) -> bool {
+    let front = "{\"seq\":1,\"type\":\"event\",\"event\":\"e\",\"body\":";
+    match nested(alloc, front, times, middle) {
+        Ok(body) => is_event(alloc, body.as_bytes(), answer),
+        Err(_) => false,
+    }
+}
+
+/// The object and so many arrays: 127 levels are read, and 128 are no JSON. A tree of 120 is
+/// plain, and one of 121 is not; nor is one with a float.
+static NESTED: [(usize, &str, Result<bool, BodyFault>); 6] = [
+    (120, "", Ok(true)),
+    (119, "[]", Ok(true)),
+    (121, "", Ok(false)),
+    (126, "", Ok(false)),
+    (1, "1.5", Ok(false)),
+    (127, "", Err(BodyFault::Refused(BodyRefusal::NotJson))),
+];
 
 #[test]
-fn counts_how_deep_a_body_nests(rt: HostRuntime) -> Result<(), Fail> {
-    // The object and so many arrays: 127 levels are read, and 128 are no JSON. A tree of 120 is
-    // plain, and one of 121 is not; nor is one with a float.
-    for (times, middle, fault, plain) in [
-        (120, "", None, true),
-        (119, "[]", None, true),
-        (121, "", None, false),
-        (126, "", None, false),
-        (1, "1.5", None, false),
-        (
-            127,
-            "",
-            Some(BodyFault::Refused(BodyRefusal::NotJson)),
-            false,
-        ),
-    ] {
-        let body = nested(rt.alloc(), times, middle)?;
-        match read_message(rt.alloc(), body.as_bytes()) {
-            Ok(message) => {
-                assert_eq!(rt; None, fault, "{times}");
-                assert_eq!(rt; message.plain(), plain, "{times}");
-                assert!(rt; matches!(&message.kind, Kind::Event { .. }));
-            }
-            Err(refused) => assert_eq!(rt; Some(refused), fault, "{times}"),
-        }
-    }
-    Ok(())
-}
-
-/// Whether a message is plain, and is written so where there is memory.
-fn is_written_or_not(alloc: Global, message: &Message, text: &[u8]) -> bool {
-    match is_written(alloc, message, text) {
-        Ok(is_so) => is_so,
-        Err(_) => true,
+fn counts_how_deep_a_body_nests(rt: HostRuntime) {
+    for (times, middle, answer) in &NESTED {
+        let is_so = is_nested(rt.alloc(), *times, middle, *answer);
+        check(&rt, is_so, *times);
     }
 }
 
@@ -242,9 +242,7 @@ fn answers_or_runs_out_of_memory(rt: HostRuntime) {
     let body =
         b"{\"seq\":3,\"type\":\"response\",\"request_seq\":2,\"success\":false,\"command\":\"next\",\"message\":\"m\",\"body\":{\"a\":[\"b\"]}}";
     let text =
-        b"{\"body\":{\"a\":[\"b\"]},\"command\":\"next\",\"message\":\"m\",\"request_seq\":2,\"seq\":3,\"success\":false,\"type\":\"response\"}";
-    match read_message(rt.alloc(), body) {
-        Err(fault) => assert_eq!(rt; fault, BodyFault::OutOfMemory),
-        Ok(message) => assert!(rt; is_written_or_not(rt.alloc(), &message, text)),
-    }
+        "{\"body\":{\"a\":[\"b\"]},\"command\":\"next\",\"message\":\"m\",\"request_seq\":2,\"seq\":3,\"success\":false,\"type\":\"response\"}";
+    let is_so = is_read(rt.alloc(), body, text);
+    check(&rt, is_so != Some(false), "answer");
 }

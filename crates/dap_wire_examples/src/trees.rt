@@ -1,113 +1,130 @@
 //! Texts, trees and members of objects: each public call once, with ample memory.
 
+use crate::checks::check;
 use dap_json::members::{Members, put_optional_text, put_text, put_tree};
 use dap_json::plain::is_plain;
 use dap_json::{ParseFault, Text, Tree, field, parse, write};
 use serde_json::{Map, Value};
-use std::alloc::Global;
-use std::test::Fail;
+use std::alloc::{AllocError, Global};
+
+/// Whether a text gives back what it holds.
+fn gives_back(text: Text) -> bool {
+    match text.into_string() {
+        Ok(string) => string.as_str() == "né",
+        Err(_) => false,
+    }
+}
 
 /// Whether a text holds three bytes, and its copy the same.
-fn holds_three_bytes(text: &Text) -> Result<bool, Fail> {
+fn holds_three_bytes(text: &Text) -> Result<bool, AllocError> {
     let copy = text.clone()?;
     Ok(text.len() == 3 && !text.is_empty() && copy.as_str() == "né")
 }
 
-/// Whether a text gives back what it holds.
-fn gives_back(text: Text) -> Result<bool, Fail> {
-    let string = text.into_string()?;
-    Ok(string.as_str() == "né")
+/// Whether a text that is made of what another gives back holds the same.
+fn is_made_again(text: Text) -> Result<bool, AllocError> {
+    let again = Text::new(text.into_string()?);
+    Ok(again.as_str() == "né")
 }
 
-/// A text that is made of what another gives back.
-fn made_again(text: Text) -> Result<Text, Fail> {
-    let string = text.into_string()?;
-    Ok(Text::new(string))
+fn is_held(alloc: Global) -> Result<bool, AllocError> {
+    let text = Text::copied(alloc, "né")?;
+    let held = holds_three_bytes(&text)?;
+    Ok(is_made_again(text)? && held)
+}
+
+fn is_empty(alloc: Global) -> Result<bool, AllocError> {
+    let empty = Text::copied(alloc, "")?;
+    Ok(empty.is_empty())
 }
 
 #[test]
-fn holds_a_text(rt: HostRuntime) -> Result<(), Fail> {
-    let text = Text::copied(rt.alloc(), "né")?;
-    assert!(rt; holds_three_bytes(&text)?);
-    let again = made_again(text)?;
-    assert_eq!(rt; again.as_str(), "né");
-    drop(again);
-    let empty = Text::copied(rt.alloc(), "")?;
-    assert!(rt; empty.is_empty());
-    Ok(())
+fn holds_a_text(rt: HostRuntime) {
+    check(&rt, matches!(is_held(rt.alloc()), Ok(true)), "three bytes");
+    check(&rt, matches!(is_empty(rt.alloc()), Ok(true)), "none");
 }
 
-/// A text that is shared.
-fn shared(alloc: Global) -> Result<Text, Fail> {
-    let text = Text::copied(alloc, "né")?;
-    Ok(text.shared(alloc))
-}
-
-/// A copy of a text, shared too.
-fn copy_of(alloc: Global, text: &Text) -> Result<Text, Fail> {
-    let copy = text.clone()?;
-    Ok(copy.shared(alloc))
+/// Whether a text and its copy, both shared, are given back, the text first.
+fn is_shared(alloc: Global) -> Result<bool, AllocError> {
+    let text = Text::copied(alloc, "né")?.shared(alloc);
+    let copy = text.clone()?.shared(alloc);
+    let first = gives_back(text);
+    let held = copy.as_str() == "né";
+    let last = gives_back(copy);
+    Ok(first && held && last)
 }
 
 /// A text and its copies, whoever gives it back first.
 #[test]
-fn shares_a_text(rt: HostRuntime) -> Result<(), Fail> {
-    let text = shared(rt.alloc())?;
-    let copy = copy_of(rt.alloc(), &text)?;
-    assert!(rt; gives_back(text)?);
-    assert_eq!(rt; copy.as_str(), "né");
-    assert!(rt; gives_back(copy)?);
-    Ok(())
+fn shares_a_text(rt: HostRuntime) {
+    check(&rt, matches!(is_shared(rt.alloc()), Ok(true)), "text");
 }
 
 /// Whether a tree gives back the number that it holds.
-fn gives_seven(tree: Tree) -> Result<bool, Fail> {
-    let value = tree.into_value()?;
-    Ok(value.as_u64() == Some(7))
+fn gives_seven(tree: Tree) -> bool {
+    match tree.into_value() {
+        Ok(value) => {
+            let held = value.as_u64();
+            drop(value);
+            held == Some(7)
+        }
+        Err(_) => false,
+    }
+}
+
+/// Whether a tree and its copy give back what they hold, the tree first.
+fn is_shared_tree(alloc: Global) -> Result<bool, AllocError> {
+    let tree = Tree::shared(alloc, Value::from(7u64));
+    let copy = tree.clone()?;
+    let first = gives_seven(tree);
+    let held = copy.value().as_u64() == Some(7);
+    let last = gives_seven(copy);
+    Ok(first && held && last)
 }
 
 /// A tree and its copies, likewise.
 #[test]
-fn shares_a_tree(rt: HostRuntime) -> Result<(), Fail> {
-    let tree = Tree::shared(rt.alloc(), Value::from(7u64));
-    let copy = tree.clone()?;
-    assert!(rt; gives_seven(tree)?);
-    assert_eq!(rt; copy.value().as_u64(), Some(7));
-    assert!(rt; gives_seven(copy)?);
-    Ok(())
-}
-
-/// The value of a text.
-fn parsed(alloc: Global, bytes: &[u8]) -> Result<Value, Fail> {
-    match parse(alloc, bytes) {
-        Ok(value) => Ok(value),
-        Err(_) => Err(Fail::from("not parsed")),
-    }
+fn shares_a_tree(rt: HostRuntime) {
+    check(&rt, matches!(is_shared_tree(rt.alloc()), Ok(true)), "tree");
 }
 
 /// Whether a value is written so.
-fn is_written(alloc: Global, value: &Value, text: &[u8]) -> Result<bool, Fail> {
-    let written = write(alloc, value)?;
-    Ok(written.as_slice() == text)
+fn is_written(alloc: Global, value: &Value, text: &[u8]) -> bool {
+    match write(alloc, value) {
+        Ok(written) => written.as_slice() == text,
+        Err(_) => false,
+    }
 }
 
 /// Whether a tree is plain, and its copy is written so.
-fn is_copied(alloc: Global, tree: &Tree, text: &[u8]) -> Result<bool, Fail> {
+fn is_copied(alloc: Global, tree: &Tree, text: &[u8]) -> Result<bool, AllocError> {
     let value = tree.clone()?.into_value()?;
-    Ok(is_written(alloc, &value, text)? && is_plain(tree.value(), 2))
+    let is_so = is_written(alloc, &value, text);
+    drop(value);
+    Ok(is_so && is_plain(tree.value(), 2))
 }
 
 /// Whether a text is read as a plain tree, whose copy is written so.
-fn is_read(alloc: Global, bytes: &[u8], text: &[u8]) -> Result<bool, Fail> {
-    let tree = Tree::new(parsed(alloc, bytes)?);
-    is_copied(alloc, &tree, text)
+fn is_read(alloc: Global, bytes: &[u8], text: &[u8]) -> bool {
+    match parse(alloc, bytes) {
+        Ok(value) => {
+            let tree = Tree::new(value);
+            let is_so = matches!(is_copied(alloc, &tree, text), Ok(true));
+            drop(tree);
+            is_so
+        }
+        Err(_) => false,
+    }
 }
 
-/// Why bytes are not parsed; `None` where they are.
-fn fault_of(alloc: Global, bytes: &[u8]) -> Option<ParseFault> {
+/// Whether bytes are no JSON.
+fn is_not_json(alloc: Global, bytes: &[u8]) -> bool {
     match parse(alloc, bytes) {
-        Ok(_value) => None,
-        Err(fault) => Some(fault),
+        Ok(value) => {
+            drop(value);
+            false
+        }
+        Err(fault) => fault == ParseFault::NotJson,
     }
 }
 
@@ -122,15 +139,12 @@ static READ: [(&str, &str); 3] = [
 ];
 
 #[test]
-fn parses_and_writes(rt: HostRuntime) -> Result<(), Fail> {
+fn parses_and_writes(rt: HostRuntime) {
     for (bytes, text) in &READ {
-        assert!(rt;
-            is_read(rt.alloc(), bytes.as_bytes(), text.as_bytes())?,
-            "{bytes}"
-        );
+        let is_so = is_read(rt.alloc(), bytes.as_bytes(), text.as_bytes());
+        check(&rt, is_so, *bytes);
     }
-    assert_eq!(rt; fault_of(rt.alloc(), b"\xff"), Some(ParseFault::NotJson));
-    Ok(())
+    check(&rt, is_not_json(rt.alloc(), b"\xff"), "no text");
 }
 
 /// The first member that is read otherwise than it should be.
@@ -165,56 +179,61 @@ fn takes_once(value: &mut Value) -> bool {
     !is_taken(value, "z") && is_taken(value, "t") && !is_taken(value, "t")
 }
 
+/// The first member of a text that is read otherwise than it should be.
+fn first_otherwise(alloc: Global, text: &[u8]) -> &'static str {
+    match parse(alloc, text) {
+        Ok(mut value) => {
+            let otherwise = read_otherwise(&value);
+            let takes = takes_once(&mut value);
+            drop(value);
+            if takes { otherwise } else { "what is taken" }
+        }
+        Err(_) => "the text",
+    }
+}
+
 #[test]
-fn reads_members(rt: HostRuntime) -> Result<(), Fail> {
-    let mut value = parsed(
-        rt.alloc(),
-        b"{\"n\":9007199254740991,\"m\":9007199254740992,\"f\":1.0,\"s\":\"x\",\"b\":false,\"z\":null,\"t\":[]}",
-    )?;
-    let otherwise = read_otherwise(&value);
-    let takes = takes_once(&mut value);
-    drop(value);
-    assert_eq!(rt; otherwise, "");
-    assert!(rt; takes);
-    Ok(())
+fn reads_members(rt: HostRuntime) {
+    let text =
+        b"{\"n\":9007199254740991,\"m\":9007199254740992,\"f\":1.0,\"s\":\"x\",\"b\":false,\"z\":null,\"t\":[]}";
+    let otherwise = first_otherwise(rt.alloc(), text);
+    check(&rt, otherwise.is_empty(), otherwise);
 }
 
-/// Puts a tree as `b`.
-fn put_seven(alloc: Global, members: &mut Members) -> Result<(), Fail> {
-    let tree = Some(Tree::new(Value::from(7u64)));
-    Ok(put_tree(alloc, members, "b", &tree)?)
-}
-
-/// Puts an optional text as `c`.
-fn put_x(alloc: Global, members: &mut Members) -> Result<(), Fail> {
-    let text = Some(Text::copied(alloc, "x")?);
-    Ok(put_optional_text(alloc, members, "c", &text)?)
-}
-
-/// Puts members of each kind, and some that are absent.
-fn put_all(alloc: Global, members: &mut Members) -> Result<(), Fail> {
-    put_seven(alloc, members)?;
-    put_tree(alloc, members, "none", &None)?;
-    put_x(alloc, members)?;
-    put_optional_text(alloc, members, "none", &None)?;
-    Ok(put_text(alloc, members, "a", "y")?)
+/// Puts members of each kind, and some that are absent; whether there is memory for all.
+fn puts_all(alloc: Global, members: &mut Members, tree: &Option<Tree>, x: &Option<Text>) -> bool {
+    put_tree(alloc, members, "b", tree).is_ok()
+        && put_tree(alloc, members, "none", &None).is_ok()
+        && put_optional_text(alloc, members, "c", x).is_ok()
+        && put_optional_text(alloc, members, "none", &None).is_ok()
+        && put_text(alloc, members, "a", "y").is_ok()
 }
 
 /// An object of such members.
-fn object(alloc: Global) -> Result<Value, Fail> {
+fn object(alloc: Global) -> Result<Value, AllocError> {
+    let text = Some(Text::copied(alloc, "x")?);
+    let tree = Some(Tree::new(Value::from(7u64)));
     let mut members: Members = Map::new(alloc);
-    put_all(alloc, &mut members)?;
+    if !puts_all(alloc, &mut members, &tree, &text) {
+        return Err(AllocError);
+    }
     Ok(Value::Object(members))
 }
 
+/// Whether the object is written so.
+fn is_object(alloc: Global, text: &[u8]) -> bool {
+    match object(alloc) {
+        Ok(value) => {
+            let is_so = is_written(alloc, &value, text);
+            drop(value);
+            is_so
+        }
+        Err(_) => false,
+    }
+}
+
 #[test]
-fn builds_an_object(rt: HostRuntime) -> Result<(), Fail> {
-    let value = object(rt.alloc())?;
-    let written = write(rt.alloc(), &value)?;
-    drop(value);
-    assert_eq!(rt;
-        written.as_slice(),
-        b"{\"a\":\"y\",\"b\":7,\"c\":\"x\"}".as_slice()
-    );
-    Ok(())
+fn builds_an_object(rt: HostRuntime) {
+    let text = b"{\"a\":\"y\",\"b\":7,\"c\":\"x\"}";
+    check(&rt, is_object(rt.alloc(), text), "object");
 }

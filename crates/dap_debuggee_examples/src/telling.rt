@@ -1,0 +1,172 @@
+//! What a recording tells of its threads, frames, variables and sources, as text.
+
+use crate::playing::{faulted, source};
+use dap_call::SourceKey;
+use dap_debuggee::{Debuggee, Evaluation, Frame, Recorded, Scope, Source, Thread, Variable};
+use std::alloc::Global;
+use std::fmt::Write;
+
+/// What a recording is asked to tell.
+#[derive(Clone, Copy)]
+pub(crate) enum Query {
+    Threads,
+    /// The frames of a thread.
+    Frames(i64),
+    /// The scopes of a frame, with their variables.
+    Scopes(u64),
+    /// The children of a holder.
+    Children(u64),
+    /// The value of an expression, and its children.
+    Value(Option<u64>, &'static str),
+    Sources,
+    /// The content of a source.
+    Content(u32),
+    /// Which lines of the source with the path `/a.c` are verified.
+    LinesByPath(&'static [u32]),
+    /// Which lines of the source with this reference are verified.
+    LinesByReference(u32, &'static [u32]),
+}
+
+/// Threads as numbers and names.
+fn add_threads(told: &mut String, threads: &[Thread]) -> bool {
+    for thread in threads {
+        let (id, name) = (thread.id, thread.name.as_str());
+        if write!(told, "{id} {name}; ").is_err() {
+            return false;
+        }
+    }
+    true
+}
+
+/// Frames as objects, names, sources and lines.
+fn add_frames(told: &mut String, frames: &[Frame]) -> bool {
+    for frame in frames {
+        let (object, name) = (frame.object, frame.name.as_str());
+        let (source, line) = (frame.source, frame.line);
+        if write!(told, "{object} {name} {source} {line}; ").is_err() {
+            return false;
+        }
+    }
+    true
+}
+
+/// Variables as names and values, with a `+` where there are children.
+fn add_variables(told: &mut String, variables: &[Variable]) -> bool {
+    for variable in variables {
+        let (name, value) = (variable.name.as_str(), variable.value.as_str());
+        let more = if variable.holder.is_some() { "+" } else { "" };
+        if write!(told, "{name}={value}{more}; ").is_err() {
+            return false;
+        }
+    }
+    true
+}
+
+/// The children of a holder.
+fn add_children(alloc: Global, recorded: &Recorded, holder: u64, told: &mut String) -> bool {
+    match recorded.children(alloc, holder) {
+        Ok(variables) => add_variables(told, &variables),
+        Err(fault) => told.push_str(faulted(fault)).is_ok(),
+    }
+}
+
+/// Scopes as names and variables.
+fn add_scopes(alloc: Global, recorded: &Recorded, scopes: &[Scope], told: &mut String) -> bool {
+    for scope in scopes {
+        let name = scope.name.as_str();
+        if write!(told, "{name}: ").is_err() || !add_children(alloc, recorded, scope.holder, told) {
+            return false;
+        }
+    }
+    true
+}
+
+/// A value as text, and its children.
+fn add_value(alloc: Global, recorded: &Recorded, value: &Evaluation, told: &mut String) -> bool {
+    let text = value.value.as_str();
+    write!(told, "{text} of ").is_ok()
+        && add_children(alloc, recorded, value.holder.unwrap_or(9), told)
+}
+
+/// The names of all sources.
+fn add_sources(told: &mut String, sources: &[Source]) -> bool {
+    for source in sources {
+        if told.push_str(source.name.as_str()).is_err() {
+            return false;
+        }
+    }
+    true
+}
+
+/// Which lines of a source are verified, `y` or `n` for each.
+fn add_lines(
+    alloc: Global,
+    recorded: &Recorded,
+    source: &SourceKey,
+    lines: &[u32],
+    told: &mut String,
+) -> bool {
+    match recorded.verify(alloc, source, lines) {
+        Ok(answers) => add_verified(told, &answers),
+        Err(_) => false,
+    }
+}
+
+fn add_verified(told: &mut String, answers: &[bool]) -> bool {
+    for is_verified in answers {
+        if told.push_str(if *is_verified { "y" } else { "n" }).is_err() {
+            return false;
+        }
+    }
+    true
+}
+
+/// What a recording tells, as text.
+fn add_told(alloc: Global, recorded: &Recorded, query: Query, told: &mut String) -> bool {
+    match query {
+        Query::Threads => match recorded.threads(alloc) {
+            Ok(threads) => add_threads(told, &threads),
+            Err(_) => false,
+        },
+        Query::Frames(thread) => match recorded.frames(alloc, thread) {
+            Ok(frames) => add_frames(told, &frames),
+            Err(fault) => told.push_str(faulted(fault)).is_ok(),
+        },
+        Query::Scopes(frame) => match recorded.scopes(alloc, frame) {
+            Ok(scopes) => add_scopes(alloc, recorded, &scopes, told),
+            Err(fault) => told.push_str(faulted(fault)).is_ok(),
+        },
+        Query::Children(holder) => add_children(alloc, recorded, holder, told),
+        Query::Value(frame, text) => match recorded.evaluate(alloc, frame, text) {
+            Ok(value) => add_value(alloc, recorded, &value, told),
+            Err(fault) => told.push_str(faulted(fault)).is_ok(),
+        },
+        Query::Sources => match recorded.sources(alloc) {
+            Ok(sources) => add_sources(told, &sources),
+            Err(_) => false,
+        },
+        Query::Content(source) => match recorded.content(alloc, source) {
+            Ok(text) => told.push_str(text.as_str()).is_ok(),
+            Err(fault) => told.push_str(faulted(fault)).is_ok(),
+        },
+        Query::LinesByPath(lines) => match source(alloc) {
+            Some(source) => add_lines(alloc, recorded, &source, lines, told),
+            None => false,
+        },
+        Query::LinesByReference(reference, lines) => {
+            add_lines(
+                alloc,
+                recorded,
+                &SourceKey::Reference(reference),
+                lines,
+                told,
+            )
+        }
+    }
+}
+
+/// Whether a recording tells this.
+pub(crate) fn is_told(alloc: Global, recorded: &Recorded, query: Query, wanted: &str) -> bool {
+    let mut told = String::new(alloc);
+    add_told(alloc, recorded, query, &mut told) && told.as_str() == wanted
+}
