@@ -1,5 +1,6 @@
 //! Calls of a client, one after the other, and what each answers.
 
+use crate::many::{evaluates, is_counted, sends_threads, takes_frames, takes_successes};
 use dap_client::{Client, ClientFault, Phase, SendFault};
 use dap_frame::{Limits, write_frame};
 use dap_message::{Call, Command, Kind, Message, read_call, read_message};
@@ -19,6 +20,20 @@ pub(crate) enum Deed<'a> {
     Closes(&'a [u8], ClientFault),
     /// Whether the event `initialized` came is asked.
     IsReady(bool),
+    /// Of a piece so many bytes are used, a message is delivered or none, and so many bytes are held then.
+    Uses(&'a [u8], (usize, bool, usize)),
+    /// The framing of a piece closes the client.
+    Misframes(&'a [u8]),
+    /// A stream in pieces of one size delivers so many messages.
+    Counts(&'a [u8], usize, usize),
+    /// So many requests `threads` are sent.
+    SendsThreads(usize),
+    /// The successes of 4096 requests `threads` are taken, the last one first.
+    TakesSuccesses,
+    /// A stack of so many frames is taken, the response to the second request.
+    TakesFrames(usize),
+    /// Whether the second request is sent is asked, an `evaluate` whose body has so many bytes.
+    Evaluates(usize, bool),
 }
 
 /// A deed, the phase after it, how many requests are outstanding, and how many references are known.
@@ -69,34 +84,36 @@ fn is_frame_of(alloc: Global, bytes: &[u8], body: &[u8]) -> bool {
     }
 }
 
-/// Sends a call, if it is plain.
+/// Sends a call, if it is plain: whether this body is written, or why it is refused.
 fn send_plain(
     alloc: Global,
     client: &mut Client,
     call: &Call,
-) -> Option<Result<Vec<u8>, SendFault>> {
+    written: &[u8],
+) -> Option<Result<bool, SendFault>> {
     if !call.plain() {
         return None;
     }
     match client.send(alloc, call) {
-        Ok(sent) => Some(Ok(sent.bytes)),
+        Ok(sent) => {
+            let is_written = is_frame_of(alloc, &sent.bytes, written);
+            drop(sent);
+            Some(Ok(is_written))
+        }
         Err(fault) => Some(Err(fault)),
     }
 }
 
-/// Whether a call is sent, whatever is written.
-pub(crate) fn is_sent(alloc: Global, client: &mut Client, call: &Call) -> bool {
-    match send_plain(alloc, client, call) {
-        Some(sent) => sent.is_ok(),
-        None => false,
-    }
-}
-
-/// Sends the call of a request.
-fn send(alloc: Global, client: &mut Client, request: &[u8]) -> Option<Result<Vec<u8>, SendFault>> {
+/// Sends the call of a request likewise.
+fn send(
+    alloc: Global,
+    client: &mut Client,
+    request: &[u8],
+    written: &[u8],
+) -> Option<Result<bool, SendFault>> {
     match call_of(alloc, request) {
         Some(call) => {
-            let sent = send_plain(alloc, client, &call);
+            let sent = send_plain(alloc, client, &call, written);
             drop(call);
             sent
         }
@@ -106,79 +123,111 @@ fn send(alloc: Global, client: &mut Client, request: &[u8]) -> Option<Result<Vec
 
 /// Whether it is sent, and this body is written.
 fn sends(alloc: Global, client: &mut Client, request: &[u8], written: &[u8]) -> bool {
-    match send(alloc, client, request) {
-        Some(Ok(bytes)) => is_frame_of(alloc, &bytes, written),
+    match send(alloc, client, request, written) {
+        Some(Ok(is_written)) => is_written,
         _ => false,
     }
 }
 
 /// Whether it is refused so.
 fn refuses(alloc: Global, client: &mut Client, request: &[u8], fault: SendFault) -> bool {
-    match send(alloc, client, request) {
+    match send(alloc, client, request, b"") {
         Some(Err(found)) => found == fault,
         _ => false,
     }
 }
 
-/// How many bytes of a piece are used, and whether a message is delivered; or why the piece is refused.
+/// Whether a call is sent, whatever is written.
+pub(crate) fn is_sent(alloc: Global, client: &mut Client, call: Call) -> bool {
+    let sent = send_plain(alloc, client, &call, b"");
+    drop(call);
+    match sent {
+        Some(Ok(_)) => true,
+        _ => false,
+    }
+}
+
+/// How many bytes of a piece are used, whether a message is delivered, and whether this body is written; or why the piece is
+/// refused.
 pub(crate) fn take_piece(
     alloc: Global,
     client: &mut Client,
     piece: &[u8],
-) -> Result<(usize, bool), ClientFault> {
+    written: &[u8],
+) -> Result<(usize, bool, bool), ClientFault> {
     match client.take(alloc, piece) {
         Ok(got) => {
             let (used, is_delivered) = (got.used, got.delivered.is_some());
+            let is_written = is_frame_of(alloc, &got.bytes, written);
             drop(got);
-            Ok((used, is_delivered))
+            Ok((used, is_delivered, is_written))
         }
         Err(fault) => Err(fault),
     }
 }
 
-/// Takes a frame, which it uses whole, and which is delivered.
-fn take_frame(
+/// Takes the frame of a body: whether it is used whole and delivered, and whether this body is written.
+fn take(
     alloc: Global,
     client: &mut Client,
-    frame: &[u8],
-) -> Option<Result<Vec<u8>, ClientFault>> {
-    match client.take(alloc, frame) {
-        Ok(got) => {
-            if got.used != frame.len() || got.delivered.is_none() {
-                return None;
+    body: &[u8],
+    written: &[u8],
+) -> Result<(bool, bool), ClientFault> {
+    match frame_of(alloc, body) {
+        Some(frame) => {
+            let length = frame.len();
+            let taken = take_piece(alloc, client, &frame, written);
+            drop(frame);
+            match taken {
+                Ok((used, is_delivered, is_written)) => {
+                    Ok((used == length && is_delivered, is_written))
+                }
+                Err(fault) => Err(fault),
             }
-            Some(Ok(got.bytes))
         }
-        Err(fault) => Some(Err(fault)),
+        None => Ok((false, false)),
     }
-}
-
-/// Takes the frame of a body likewise.
-fn take(alloc: Global, client: &mut Client, body: &[u8]) -> Option<Result<Vec<u8>, ClientFault>> {
-    let frame = frame_of(alloc, body)?;
-    take_frame(alloc, client, &frame)
 }
 
 /// Whether it is taken, and this body is written.
 fn takes(alloc: Global, client: &mut Client, body: &[u8], written: &[u8]) -> bool {
-    match take(alloc, client, body) {
-        Some(Ok(bytes)) => is_frame_of(alloc, &bytes, written),
-        _ => false,
+    match take(alloc, client, body, written) {
+        Ok((is_whole, is_written)) => is_whole && is_written,
+        Err(_) => false,
     }
 }
 
 /// Whether it is taken, whatever is written.
 pub(crate) fn delivers(alloc: Global, client: &mut Client, body: &[u8]) -> bool {
-    match take(alloc, client, body) {
-        Some(taken) => taken.is_ok(),
-        None => false,
+    match take(alloc, client, body, b"") {
+        Ok((is_whole, _)) => is_whole,
+        Err(_) => false,
     }
 }
 
 /// Whether it closes the client so.
 fn closes(alloc: Global, client: &mut Client, body: &[u8], fault: ClientFault) -> bool {
-    match take(alloc, client, body) {
-        Some(Err(found)) => found == fault && client.held() == 0,
+    match take(alloc, client, body, b"") {
+        Ok(_) => false,
+        Err(found) => found == fault && client.held() == 0,
+    }
+}
+
+/// Whether of a piece so many bytes are used, a message is delivered or none, and so many bytes are held then.
+fn uses(alloc: Global, client: &mut Client, piece: &[u8], wanted: (usize, bool, usize)) -> bool {
+    let (bytes, delivers, held) = wanted;
+    match take_piece(alloc, client, piece, b"") {
+        Ok((used, is_delivered, _)) => {
+            used == bytes && is_delivered == delivers && client.held() == held
+        }
+        Err(_) => false,
+    }
+}
+
+/// Whether the framing of a piece closes the client.
+fn misframes(alloc: Global, client: &mut Client, piece: &[u8]) -> bool {
+    match take_piece(alloc, client, piece, b"") {
+        Err(ClientFault::Frame(_)) => client.held() == 0,
         _ => false,
     }
 }
@@ -191,6 +240,13 @@ fn is_done(alloc: Global, client: &mut Client, deed: Deed<'_>) -> bool {
         Deed::Takes(body, written) => takes(alloc, client, body, written),
         Deed::Closes(body, fault) => closes(alloc, client, body, fault),
         Deed::IsReady(wanted) => client.ready() == wanted,
+        Deed::Uses(piece, wanted) => uses(alloc, client, piece, wanted),
+        Deed::Misframes(piece) => misframes(alloc, client, piece),
+        Deed::Counts(stream, size, wanted) => is_counted(alloc, client, stream, size, wanted),
+        Deed::SendsThreads(count) => sends_threads(alloc, client, count),
+        Deed::TakesSuccesses => takes_successes(alloc, client),
+        Deed::TakesFrames(count) => takes_frames(alloc, client, count),
+        Deed::Evaluates(length, wanted) => evaluates(alloc, client, length) == Some(wanted),
     }
 }
 
@@ -206,62 +262,57 @@ fn first_difference(alloc: Global, client: &mut Client, rows: &[Row<'_>]) -> Opt
     None
 }
 
-/// Tells a row that differs, and fails the test.
-fn differs(rt: &HostRuntime, place: usize) -> Result<(), Fail> {
-    eprintln!(rt; "row {place} differs")?;
-    Err(Fail::from("a row differs"))
-}
-
-/// Does the rows with a client that is open already; the first that comes to something else is told, and fails the test.
-fn go_on(rt: &HostRuntime, client: &mut Client, rows: &[Row<'_>]) -> Result<(), Fail> {
-    match first_difference(rt.alloc(), client, rows) {
-        None => Ok(()),
-        Some(place) => differs(rt, place),
-    }
-}
-
 /// The same for two lists.
-fn go_on_twice(
-    rt: &HostRuntime,
+fn first_of_two(
+    alloc: Global,
     client: &mut Client,
     first: &[Row<'_>],
     then: &[Row<'_>],
-) -> Result<(), Fail> {
-    go_on(rt, client, first)?;
-    go_on(rt, client, then)
-}
-
-/// A client that has done the rows of two lists.
-pub(crate) fn opened(
-    rt: &HostRuntime,
-    limits: Limits,
-    first: &[Row<'_>],
-    then: &[Row<'_>],
-) -> Result<Client, Fail> {
-    let mut client = Client::open(rt.alloc(), limits)?;
-    match go_on_twice(rt, &mut client, first, then) {
-        Ok(()) => Ok(client),
-        Err(fail) => {
-            drop(client);
-            Err(fail)
-        }
+) -> Option<usize> {
+    match first_difference(alloc, client, first) {
+        None => first_difference(alloc, client, then),
+        Some(place) => Some(place),
     }
 }
 
-/// Does the rows of two lists with a fresh client.
+/// The same with a fresh client; 0 where there is no memory for it.
+pub(crate) fn difference(
+    alloc: Global,
+    limits: Limits,
+    first: &[Row<'_>],
+    then: &[Row<'_>],
+) -> Option<usize> {
+    match Client::open(alloc, limits) {
+        Ok(mut client) => {
+            let place = first_of_two(alloc, &mut client, first, then);
+            // The proof of a call is shorter than that of a value that goes out of scope.
+            drop(client);
+            place
+        }
+        Err(_) => Some(0),
+    }
+}
+
+/// Tells a row, or a size, that differs, and fails the test.
+pub(crate) fn differs(rt: &HostRuntime, number: usize) -> Result<(), Fail> {
+    eprintln!(rt; "{number} differs")?;
+    Err(Fail::from("something differs"))
+}
+
+/// Does the rows of two lists with a fresh client; the first that comes to something else is told, and fails the test.
 pub(crate) fn follow(
     rt: &HostRuntime,
     limits: Limits,
     first: &[Row<'_>],
     then: &[Row<'_>],
 ) -> Result<(), Fail> {
-    let client = opened(rt, limits, first, then)?;
-    // The proof of a call is shorter than that of a value that goes out of scope.
-    drop(client);
-    Ok(())
+    match difference(rt.alloc(), limits, first, then) {
+        None => Ok(()),
+        Some(place) => differs(rt, place),
+    }
 }
 
-pub(crate) const INITIALIZE: &[u8; 81] =
+const INITIALIZE: &[u8; 81] =
     b"{\"seq\":1,\"type\":\"request\",\"command\":\"initialize\",\"arguments\":{\"adapterID\":\"rec\"}}";
 
 /// The first request.

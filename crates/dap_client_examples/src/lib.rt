@@ -8,6 +8,8 @@ mod library;
 #[cfg(test)]
 mod limits;
 #[cfg(test)]
+mod many;
+#[cfg(test)]
 mod refusals;
 #[cfg(test)]
 mod streams;

@@ -1,11 +1,10 @@
 //! What a client refuses to send, and what closes it.
 
-use crate::deeds::{Deed, INITIALIZED, Row, SENT, STOPPED, THREADS, follow, take_piece};
-use dap_client::{Client, ClientFault, Phase, SendFault};
+use crate::deeds::{Deed, INITIALIZED, Row, SENT, STOPPED, THREADS, follow};
+use dap_client::{ClientFault, Phase, SendFault};
 use dap_frame::Limits;
 use dap_message::BodyRefusal;
 use dap_samples::calls::limits;
-use std::alloc::Global;
 use std::test::Fail;
 
 static ANSWERED_TWICE: [Row<'static>; 4] = [
@@ -84,33 +83,15 @@ fn a_bad_body_is_named(rt: HostRuntime) -> Result<(), Fail> {
     follow(&rt, Limits::usual(), &INITIALIZED, &NO_OBJECT)
 }
 
-/// Whether the framing is refused.
-fn is_misframed(alloc: Global, client: &mut Client, piece: &[u8]) -> bool {
-    match take_piece(alloc, client, piece) {
-        Err(ClientFault::Frame(_)) => true,
-        _ => false,
-    }
-}
+static BAD_HEADER: [Row<'static>; 2] = [
+    (Deed::Uses(b"A: ", (3, false, 3)), Phase::Fresh, 0, 0),
+    (Deed::Misframes(b"b\r\n\r\n"), Phase::Fresh, 0, 0),
+];
 
-/// Whether a header block without a length is held, and then refused.
-fn refuses_header(alloc: Global, client: &mut Client) -> bool {
-    take_piece(alloc, client, b"A: ").is_ok()
-        && client.held() == 3
-        && is_misframed(alloc, client, b"b\r\n\r\n")
-        && client.held() == 0
-}
-
-fn header_is_refused(alloc: Global) -> Result<bool, Fail> {
-    let mut client = Client::open(alloc, Limits::usual())?;
-    let is_refused = refuses_header(alloc, &mut client);
-    drop(client);
-    Ok(is_refused)
-}
-
+/// A header block without a length is held, and then refused.
 #[test]
 fn a_bad_header_is_named(rt: HostRuntime) -> Result<(), Fail> {
-    assert!(rt; header_is_refused(rt.alloc())?);
-    Ok(())
+    follow(&rt, Limits::usual(), &[], &BAD_HEADER)
 }
 
 static TOO_EARLY: [Row<'static>; 1] = [(

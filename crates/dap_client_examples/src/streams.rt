@@ -1,23 +1,14 @@
 //! What adapters in the wild write, taken by a client; the same in any pieces.
 
-use crate::deeds::{Deed, INITIALIZE, Row, SENT, THREADS, follow, opened, take_piece};
-use dap_client::{Client, Phase};
-use dap_frame::{Limits, write_frame};
-use std::alloc::Global;
+use crate::deeds::{Deed, Row, SENT, THREADS, difference, differs, follow};
+use dap_client::Phase;
+use dap_frame::Limits;
 use std::test::Fail;
 
 /// `seq` 0 in each message, null keys, keys that are not known, an event before the first response, events of other names,
 /// responses out of order, failures without a body, and a request of the adapter.
 static LENIENT: [Row<'static>; 12] = [
-    (
-        Deed::Sends(
-            INITIALIZE,
-            b"{\"arguments\":{\"adapterID\":\"rec\"},\"command\":\"initialize\",\"seq\":1,\"type\":\"request\"}",
-        ),
-        Phase::Initializing,
-        1,
-        0,
-    ),
+    SENT,
     (
         Deed::Takes(
             b"{\"seq\":0,\"type\":\"event\",\"event\":\"output\",\"body\":{\"category\":\"telemetry\",\"output\":\"x\"},\"more\":1}",
@@ -121,117 +112,36 @@ fn a_lenient_adapter_is_served(rt: HostRuntime) -> Result<(), Fail> {
     follow(&rt, Limits::usual(), &LENIENT, &[])
 }
 
-/// A client that has sent `initialize`.
-fn initializing(rt: &HostRuntime) -> Result<Client, Fail> {
-    opened(rt, Limits::usual(), &[SENT], &[])
-}
+/// The frames of a response and of the event `initialized`.
+const TWO_FRAMES: &[u8; 171] =
+    b"Content-Length: 81\r\n\r\n{\"seq\":1,\"type\":\"response\",\"request_seq\":1,\"success\":true,\"command\":\"initialize\"}Content-Length: 46\r\n\r\n{\"seq\":2,\"type\":\"event\",\"event\":\"initialized\"}";
 
-/// Whether a call with a piece of the rest delivers a message, and what is left.
-fn step<'a>(
-    alloc: Global,
-    client: &mut Client,
-    rest: &'a [u8],
-    size: usize,
-) -> Option<(bool, &'a [u8])> {
-    let (piece, _) = rest.split_at(rest.len().min(size));
-    match take_piece(alloc, client, piece) {
-        Ok((used, is_delivered)) => {
-            let (_, later) = rest.split_at(used.min(rest.len()));
-            Some((is_delivered, later))
-        }
-        Err(_) => None,
-    }
-}
+/// One call uses the first frame alone.
+static USES_ONE: [Row<'static>; 2] = [
+    (
+        Deed::Uses(TWO_FRAMES, (103, true, 0)),
+        Phase::Configuring,
+        0,
+        0,
+    ),
+    (Deed::IsReady(false), Phase::Configuring, 0, 0),
+];
 
-/// How many messages a client delivers of a stream that comes in pieces of one size.
-fn count(alloc: Global, client: &mut Client, stream: &[u8], size: usize) -> Option<usize> {
-    let mut count: usize = 0;
-    let mut rest = stream;
-    // Each `take` uses a byte at least.
-    for _take in 0..stream.len() {
-        if rest.is_empty() {
-            return Some(count);
-        }
-        let (is_delivered, later) = step(alloc, client, rest, size)?;
-        rest = later;
-        if is_delivered {
-            count = count.saturating_add(1);
-        }
-    }
-    Some(count)
-}
-
-/// Likewise with a client that has sent `initialize` alone.
-fn delivered(rt: &HostRuntime, stream: &[u8], size: usize) -> Result<Option<usize>, Fail> {
-    let mut client = initializing(rt)?;
-    let count = count(rt.alloc(), &mut client, stream, size);
-    drop(client);
-    Ok(count)
-}
-
-/// The size of pieces of which other than two messages come.
-fn first_difference(rt: &HostRuntime, stream: &[u8]) -> Result<Option<usize>, Fail> {
-    for size in 1..stream.len() + 1 {
-        if delivered(rt, stream, size)? != Some(2) {
-            return Ok(Some(size));
-        }
-    }
-    Ok(None)
-}
-
-/// Whether one call uses so many bytes, and the client is not ready then.
-fn uses(alloc: Global, client: &mut Client, stream: &[u8], wanted: usize) -> bool {
-    match take_piece(alloc, client, stream) {
-        Ok((used, _)) => used == wanted && !client.ready(),
-        Err(_) => false,
-    }
-}
-
-/// Likewise with a client that has sent `initialize` alone.
-fn uses_first(rt: &HostRuntime, stream: &[u8], wanted: usize) -> Result<bool, Fail> {
-    let mut client = initializing(rt)?;
-    let is_so = uses(rt.alloc(), &mut client, stream, wanted);
-    drop(client);
-    Ok(is_so)
-}
-
-/// Appends the frames of a response and of the event `initialized`, and tells the length of the first.
-fn add_frames(stream: &mut Vec<u8>) -> Option<usize> {
-    let (response, event) = (
-        b"{\"seq\":1,\"type\":\"response\",\"request_seq\":1,\"success\":true,\"command\":\"initialize\"}",
-        b"{\"seq\":2,\"type\":\"event\",\"event\":\"initialized\"}",
-    );
-    if write_frame(stream, response).is_err() {
-        return None;
-    }
-    let first = stream.len();
-    if write_frame(stream, event).is_err() {
-        return None;
-    }
-    Some(first)
-}
-
-/// The size of pieces of which other than two messages come; 0 where one call uses other than the first frame.
-fn other_size(rt: &HostRuntime, stream: &[u8], first: usize) -> Result<Option<usize>, Fail> {
-    if uses_first(rt, stream, first)? {
-        first_difference(rt, stream)
-    } else {
-        Ok(Some(0))
-    }
-}
-
-/// The same of two frames.
-fn in_pieces(rt: &HostRuntime) -> Result<Option<usize>, Fail> {
-    let mut stream = Vec::new(rt.alloc());
-    match add_frames(&mut stream) {
-        Some(first) => other_size(rt, &stream, first),
-        None => Err(Fail::from("no memory")),
+/// In pieces of one size, both messages come.
+fn follow_in_pieces(rt: &HostRuntime, size: usize) -> Result<(), Fail> {
+    let rows = [(Deed::Counts(TWO_FRAMES, size, 2), Phase::Configuring, 0, 0)];
+    match difference(rt.alloc(), Limits::usual(), &[SENT], &rows) {
+        None => Ok(()),
+        Some(_) => differs(rt, size),
     }
 }
 
 /// Two frames in a piece: one is used a call; and in pieces of any size the same messages come.
 #[test]
 fn pieces_do_not_matter(rt: HostRuntime) -> Result<(), Fail> {
-    assert_eq!(rt; in_pieces(&rt)?, None);
+    follow(&rt, Limits::usual(), &[SENT], &USES_ONE)?;
+    for size in 1..TWO_FRAMES.len() + 1 {
+        follow_in_pieces(&rt, size)?;
+    }
     Ok(())
 }

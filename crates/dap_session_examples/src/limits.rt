@@ -1,5 +1,6 @@
 //! Sessions at their limits: numbers that run out, what closes an adapter, the greatest sizes.
 
+use crate::steps::{CONFIGURES, INITIALIZES, IS_INITIALIZED, IS_PARKED, IS_STARTED};
 use dap_adapter::AdapterFault;
 use dap_frame::{Limits, write_frame};
 use dap_message::BodyRefusal;
@@ -33,20 +34,8 @@ fn closes(
 }
 
 static TO_THE_LAST_NUMBER: [Step<'static>; 5] = [
-    (
-        Act::Take(
-            b"{\"seq\":1,\"type\":\"request\",\"command\":\"initialize\",\"arguments\":{\"adapterID\":\"rec\"}}",
-        ),
-        Some(b""),
-        1,
-    ),
-    (
-        Act::Turn,
-        Some(
-            b"{\"body\":{\"supportsCancelRequest\":true,\"supportsConfigurationDoneRequest\":true,\"supportsLoadedSourcesRequest\":true,\"supportsStepBack\":true,\"supportsTerminateRequest\":true},\"command\":\"initialize\",\"request_seq\":1,\"seq\":1,\"success\":true,\"type\":\"response\"}\n{\"event\":\"initialized\",\"seq\":2,\"type\":\"event\"}",
-        ),
-        0,
-    ),
+    INITIALIZES,
+    IS_INITIALIZED,
     (
         Act::Take(b"{\"seq\":2,\"type\":\"request\",\"command\":\"threads\"}"),
         Some(b""),
@@ -77,8 +66,7 @@ fn closes_after_the_last(rt: &HostRuntime, player: &mut Player) -> Result<bool, 
 #[test]
 fn numbers_run_out(rt: HostRuntime) -> Result<(), Fail> {
     let limits = limits(8192, 4194304, 64, 1, 1, 3, 1)?;
-    assert!(rt; is_shown(&rt, limits, Shown::ClosesAfterTheLast)?);
-    Ok(())
+    expect(&rt, limits, Shown::ClosesAfterTheLast)
 }
 
 /// A request, whether it is handled, what comes next, and the fault and the requests kept then.
@@ -149,7 +137,7 @@ fn is_refused(alloc: Global, player: &mut Player, row: &Closed<'_>) -> bool {
 #[test]
 fn closed_for_good(rt: HostRuntime) -> Result<(), Fail> {
     for row in &CLOSED {
-        assert!(rt; is_shown(&rt, Limits::usual(), Shown::IsRefused(row))?);
+        expect(&rt, Limits::usual(), Shown::IsRefused(row))?;
     }
     Ok(())
 }
@@ -161,60 +149,54 @@ fn no_body(rt: HostRuntime) -> Result<(), Fail> {
         cause: BodyRefusal::NotJson,
         offset: 0,
     };
-    assert!(rt; is_shown(&rt, Limits::usual(), Shown::Closes(b"", fault))?);
-    Ok(())
+    expect(&rt, Limits::usual(), Shown::Closes(b"", fault))
 }
 
-static STARTED_SESSION: [Step<'static>; 2] = [
-    (
-        Act::Take(
-            b"{\"seq\":1,\"type\":\"request\",\"command\":\"initialize\",\"arguments\":{\"adapterID\":\"rec\"}}",
-        ),
-        Some(b""),
-        1,
-    ),
-    (
-        Act::Turn,
-        Some(
-            b"{\"body\":{\"supportsCancelRequest\":true,\"supportsConfigurationDoneRequest\":true,\"supportsLoadedSourcesRequest\":true,\"supportsStepBack\":true,\"supportsTerminateRequest\":true},\"command\":\"initialize\",\"request_seq\":1,\"seq\":1,\"success\":true,\"type\":\"response\"}\n{\"event\":\"initialized\",\"seq\":2,\"type\":\"event\"}",
-        ),
-        0,
-    ),
-];
+static STARTED_SESSION: [Step<'static>; 2] = [INITIALIZES, IS_INITIALIZED];
 
-static AFTER_LAUNCH: [Step<'static>; 3] = [
-    (Act::Turn, Some(b""), 1),
-    (
-        Act::Take(b"{\"seq\":3,\"type\":\"request\",\"command\":\"configurationDone\"}"),
-        Some(b""),
-        2,
-    ),
-    (
-        Act::Turn,
-        Some(
-            b"{\"command\":\"configurationDone\",\"request_seq\":3,\"seq\":3,\"success\":true,\"type\":\"response\"}\n{\"command\":\"launch\",\"request_seq\":2,\"seq\":4,\"success\":true,\"type\":\"response\"}",
-        ),
-        0,
-    ),
-];
+static AFTER_LAUNCH: [Step<'static>; 3] = [IS_PARKED, CONFIGURES, IS_STARTED];
 
-/// A frame of a `launch` whose body has the greatest length.
-fn longest_frame(alloc: Global) -> Result<Vec<u8>, Fail> {
+/// The body of a `launch` that has the greatest length.
+fn longest_body(alloc: Global) -> Option<Vec<u8>> {
     let mut body = Vec::from_slice(
         alloc,
         b"{\"seq\":2,\"type\":\"request\",\"command\":\"launch\",\"arguments\":{\"a\":\"",
-    )?;
-    body.resize(4194301, b'a')?;
-    body.extend_from_slice(b"\"}}")?;
-    let mut frame = Vec::new(alloc);
-    write_frame(&mut frame, &body)?;
-    Ok(frame)
+    )
+    .ok()?;
+    body.resize(4194301, b'a').ok()?;
+    body.extend_from_slice(b"\"}}").ok()?;
+    Some(body)
 }
 
-/// Starts a session, takes a frame in pieces, and makes the calls that come after a `launch`.
-fn launches_in_pieces(rt: &HostRuntime, player: &mut Player, frame: &[u8]) -> Result<bool, Fail> {
+/// The frame of a body.
+fn frame_of(alloc: Global, body: &[u8]) -> Option<Vec<u8>> {
+    let mut frame = Vec::new(alloc);
+    match write_frame(&mut frame, body) {
+        Ok(()) => Some(frame),
+        Err(_) => None,
+    }
+}
+
+/// Whether the frame of a body is taken in pieces.
+fn takes_in_pieces(alloc: Global, player: &mut Player, body: &[u8]) -> bool {
+    match frame_of(alloc, body) {
+        Some(frame) => player.takes_all(alloc, &frame, 4096),
+        None => false,
+    }
+}
+
+/// Whether that of the longest body is.
+fn takes_the_longest(alloc: Global, player: &mut Player) -> bool {
+    match longest_body(alloc) {
+        Some(body) => takes_in_pieces(alloc, player, &body),
+        None => false,
+    }
+}
+
+/// Starts a session, takes the longest body, and makes the calls that come after a `launch`.
+fn launches_in_pieces(rt: &HostRuntime, player: &mut Player) -> Result<bool, Fail> {
     player.follow(rt, &STARTED_SESSION)?;
-    if !player.takes_all(rt.alloc(), frame, 4096) {
+    if !takes_the_longest(rt.alloc(), player) {
         return Ok(false);
     }
     player.follow(rt, &AFTER_LAUNCH)?;
@@ -224,76 +206,74 @@ fn launches_in_pieces(rt: &HostRuntime, player: &mut Player, frame: &[u8]) -> Re
 /// A request whose body has the greatest length is parked and answered.
 #[test]
 fn the_greatest_body(rt: HostRuntime) -> Result<(), Fail> {
-    let frame = longest_frame(rt.alloc())?;
-    assert!(rt; is_shown(&rt, Limits::usual(), Shown::LaunchesInPieces(&frame))?);
-    Ok(())
+    expect(&rt, Limits::usual(), Shown::LaunchesInPieces)
 }
 
 /// Whether a request `threads` with this number is taken, and nothing is handed out.
-fn is_kept(alloc: Global, player: &mut Player, seq: u64) -> Result<bool, Fail> {
-    let body = format!(in alloc; "{{\"seq\":{seq},\"type\":\"request\",\"command\":\"threads\"}}")?;
-    Ok(player.gives(alloc, Act::Take(body.as_bytes()), b""))
+fn is_kept(alloc: Global, player: &mut Player, seq: u64) -> bool {
+    match format!(in alloc; "{{\"seq\":{seq},\"type\":\"request\",\"command\":\"threads\"}}") {
+        Ok(body) => player.gives(alloc, Act::Take(body.as_bytes()), b""),
+        Err(_) => false,
+    }
 }
 
-/// The frame that answers it before `initialize`, where all numbers are alike.
-fn answer_to(alloc: Global, seq: u64) -> Result<Vec<u8>, Fail> {
+/// The body that answers it before `initialize`, where all numbers are alike.
+fn answer_to(alloc: Global, seq: u64) -> Option<String> {
     let body = format!(in alloc;
         "{{\"body\":{{\"error\":{{\"format\":\"The session is not initialized.\",\"id\":1001}}}},\"command\":\"threads\",\"message\":\"notInitialized\",\"request_seq\":{seq},\"seq\":{seq},\"success\":false,\"type\":\"response\"}}"
-    )?;
-    let mut wanted = Vec::new(alloc);
-    write_frame(&mut wanted, body.as_bytes())?;
-    Ok(wanted)
+    );
+    body.ok()
 }
 
-/// Whether the next turn gives that frame.
-fn is_answered(alloc: Global, player: &mut Player, seq: u64) -> Result<bool, Fail> {
-    let wanted = answer_to(alloc, seq)?;
-    Ok(player.gives(alloc, Act::Turn, &wanted))
+/// Whether the next turn gives the frame of a body.
+fn gives_frame(alloc: Global, player: &mut Player, body: &[u8]) -> bool {
+    match frame_of(alloc, body) {
+        Some(frame) => player.gives(alloc, Act::Turn, &frame),
+        None => false,
+    }
 }
 
-/// Keeps so many requests.
-fn keep_many(alloc: Global, player: &mut Player, count: u64) -> Result<(), Fail> {
+/// Whether the next turn answers the request with this number.
+fn is_answered(alloc: Global, player: &mut Player, seq: u64) -> bool {
+    match answer_to(alloc, seq) {
+        Some(body) => gives_frame(alloc, player, body.as_bytes()),
+        None => false,
+    }
+}
+
+/// Whether so many requests are kept.
+fn keeps_many(alloc: Global, player: &mut Player, count: u64) -> bool {
     for seq in 1..=count {
-        if !is_kept(alloc, player, seq)? {
-            return Err(Fail::from("not kept"));
+        if !is_kept(alloc, player, seq) {
+            return false;
         }
     }
-    Ok(())
+    true
 }
 
-/// Answers so many requests in their order.
-fn answer_many(alloc: Global, player: &mut Player, count: u64) -> Result<(), Fail> {
+/// Whether so many requests are answered in their order.
+fn answers_many(alloc: Global, player: &mut Player, count: u64) -> bool {
     for seq in 1..=count {
-        if !is_answered(alloc, player, seq)? {
-            return Err(Fail::from("not answered"));
+        if !is_answered(alloc, player, seq) {
+            return false;
         }
     }
-    Ok(())
-}
-
-/// Whether as many requests are kept as there is room for, once they were taken.
-fn fills(alloc: Global, player: &mut Player) -> Result<bool, Fail> {
-    keep_many(alloc, player, 4096)?;
-    Ok(player.shows(Seen::Kept(4096)))
-}
-
-/// Whether none is kept once they were answered.
-fn empties(alloc: Global, player: &mut Player) -> Result<bool, Fail> {
-    answer_many(alloc, player, 4096)?;
-    Ok(player.shows(Seen::Kept(0)))
+    true
 }
 
 /// Whether an adapter keeps as many requests as it has room for, and none once they were answered.
-fn fills_and_empties(alloc: Global, player: &mut Player) -> Result<bool, Fail> {
-    Ok(fills(alloc, player)? && empties(alloc, player)?)
+fn fills_and_empties(alloc: Global, player: &mut Player) -> bool {
+    keeps_many(alloc, player, 4096)
+        && player.shows(Seen::Kept(4096))
+        && answers_many(alloc, player, 4096)
+        && player.shows(Seen::Kept(0))
 }
 
 /// As many requests as may be are kept, and then answered in their order.
 #[test]
 fn the_greatest_count_of_requests(rt: HostRuntime) -> Result<(), Fail> {
     let limits = limits(8192, 4194304, 4096, 1, 1, 10000, 1)?;
-    assert!(rt; is_shown(&rt, limits, Shown::FillsAndEmpties)?);
-    Ok(())
+    expect(&rt, limits, Shown::FillsAndEmpties)
 }
 
 /// What a fresh adapter is to show.
@@ -305,8 +285,8 @@ enum Shown<'a> {
     Closes(&'a [u8], AdapterFault),
     /// It gives its last number, and the turn after it closes it.
     ClosesAfterTheLast,
-    /// It takes the frame of a `launch` in pieces, and answers it.
-    LaunchesInPieces(&'a [u8]),
+    /// It takes the longest `launch` in pieces, and answers it.
+    LaunchesInPieces,
     /// It keeps as many requests as it has room for, and none once they were answered.
     FillsAndEmpties,
 }
@@ -317,16 +297,20 @@ fn shows(rt: &HostRuntime, player: &mut Player, shown: Shown<'_>) -> Result<bool
         Shown::IsRefused(row) => Ok(is_refused(rt.alloc(), player, row)),
         Shown::Closes(body, fault) => Ok(closes(rt.alloc(), player, Act::Take(body), fault, 0)),
         Shown::ClosesAfterTheLast => closes_after_the_last(rt, player),
-        Shown::LaunchesInPieces(frame) => launches_in_pieces(rt, player, frame),
-        Shown::FillsAndEmpties => fills_and_empties(rt.alloc(), player),
+        Shown::LaunchesInPieces => launches_in_pieces(rt, player),
+        Shown::FillsAndEmpties => Ok(fills_and_empties(rt.alloc(), player)),
     }
 }
 
-/// Whether a fresh adapter shows it. The one place of this file where an adapter is opened and dropped.
-fn is_shown(rt: &HostRuntime, limits: Limits, shown: Shown<'_>) -> Result<bool, Fail> {
+/// Fails the test where a fresh adapter does not show it. The one place of this file where an adapter is opened and dropped.
+fn expect(rt: &HostRuntime, limits: Limits, shown: Shown<'_>) -> Result<(), Fail> {
     let mut player = Player::open(rt.alloc(), limits)?;
     let is_shown = shows(rt, &mut player, shown);
     // The proof of a call is shorter than that of a value that goes out of scope.
     drop(player);
-    is_shown
+    match is_shown {
+        Ok(true) => Ok(()),
+        Ok(false) => Err(Fail::from("something else is shown")),
+        Err(fail) => Err(fail),
+    }
 }

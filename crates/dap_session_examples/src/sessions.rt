@@ -1,29 +1,33 @@
 //! Sessions that do not start, call by call, with the bodies that they hand out.
 
-use dap_adapter::Phase;
+use crate::checks::expect;
+use crate::steps::{INITIALIZES, IS_INITIALIZED, IS_PARKED, LAUNCHES};
+use dap_adapter::{Adapter, Phase};
+use dap_debuggee::Recorded;
 use dap_frame::Limits;
 use dap_samples::calls::{
-    Act, NOT_INITIALIZED, Step, THREADS, adapter, first_difference, framed, two_kept,
+    Act, NOT_INITIALIZED, Step, THREADS, adapter, first_difference, two_kept,
 };
 use dap_samples::player::{Player, Seen, play};
 use std::alloc::Global;
 use std::test::Fail;
 
-/// Whether bytes in pieces of one size are taken, and a turn answers this.
-fn takes_and_gives(
-    alloc: Global,
-    player: &mut Player,
-    input: &[u8],
-    size: usize,
-    answer: &[u8],
-) -> bool {
-    player.takes_all(alloc, input, size) && player.gives(alloc, Act::Turn, answer)
+/// The frame of a request before `initialize`, and of its answer.
+static REQUEST: &[u8; 68] =
+    b"Content-Length: 46\r\n\r\n{\"seq\":1,\"type\":\"request\",\"command\":\"threads\"}";
+
+static ANSWER: &[u8; 201] =
+    b"Content-Length: 178\r\n\r\n{\"body\":{\"error\":{\"format\":\"The session is not initialized.\",\"id\":1001}},\"command\":\"threads\",\"message\":\"notInitialized\",\"request_seq\":1,\"seq\":1,\"success\":false,\"type\":\"response\"}";
+
+/// Whether that request, in pieces of one size, is taken, and a turn gives that answer.
+fn answers(alloc: Global, player: &mut Player, size: usize) -> bool {
+    player.takes_all(alloc, REQUEST, size) && player.gives(alloc, Act::Turn, ANSWER)
 }
 
-/// Whether a request before `initialize` is answered by this, where it comes in pieces of one size.
-fn is_answered(alloc: Global, input: &[u8], size: usize, answer: &[u8]) -> Result<bool, Fail> {
+/// The same of a fresh adapter.
+fn is_answered(alloc: Global, size: usize) -> Result<bool, Fail> {
     let mut player = Player::open(alloc, Limits::usual())?;
-    let is_answered = takes_and_gives(alloc, &mut player, input, size, answer);
+    let is_answered = answers(alloc, &mut player, size);
     // The proof of a call is shorter than that of a value that goes out of scope.
     drop(player);
     Ok(is_answered)
@@ -32,39 +36,17 @@ fn is_answered(alloc: Global, input: &[u8], size: usize, answer: &[u8]) -> Resul
 /// A request before `initialize`, cut at each place.
 #[test]
 fn not_initialized_however_cut(rt: HostRuntime) -> Result<(), Fail> {
-    let input = framed(rt.alloc(), &[THREADS])?;
-    let answer = framed(rt.alloc(), &[NOT_INITIALIZED])?;
-    assert_eq!(rt; (input.len(), answer.len()), (68, 201));
     for size in 1..69 {
-        assert!(rt;
-            is_answered(rt.alloc(), &input, size, &answer)?,
-            "pieces of {size}"
-        );
+        expect(is_answered(rt.alloc(), size)?, size)?;
     }
     Ok(())
 }
 
 static BUSY_WHERE_TWO_ARE_KEPT: [Step<'static>; 9] = [
-    (
-        Act::Take(
-            b"{\"seq\":1,\"type\":\"request\",\"command\":\"initialize\",\"arguments\":{\"adapterID\":\"rec\"}}",
-        ),
-        Some(b""),
-        1,
-    ),
-    (
-        Act::Turn,
-        Some(
-            b"{\"body\":{\"supportsCancelRequest\":true,\"supportsConfigurationDoneRequest\":true,\"supportsLoadedSourcesRequest\":true,\"supportsStepBack\":true,\"supportsTerminateRequest\":true},\"command\":\"initialize\",\"request_seq\":1,\"seq\":1,\"success\":true,\"type\":\"response\"}\n{\"event\":\"initialized\",\"seq\":2,\"type\":\"event\"}",
-        ),
-        0,
-    ),
-    (
-        Act::Take(b"{\"seq\":2,\"type\":\"request\",\"command\":\"launch\"}"),
-        Some(b""),
-        1,
-    ),
-    (Act::Turn, Some(b""), 1),
+    INITIALIZES,
+    IS_INITIALIZED,
+    LAUNCHES,
+    IS_PARKED,
     (
         Act::Take(b"{\"seq\":3,\"type\":\"request\",\"command\":\"threads\"}"),
         Some(b""),
@@ -109,20 +91,8 @@ fn busy_where_two_are_kept(rt: HostRuntime) -> Result<(), Fail> {
 }
 
 static A_REQUEST_IS_CANCELLED: [Step<'static>; 5] = [
-    (
-        Act::Take(
-            b"{\"seq\":1,\"type\":\"request\",\"command\":\"initialize\",\"arguments\":{\"adapterID\":\"rec\"}}",
-        ),
-        Some(b""),
-        1,
-    ),
-    (
-        Act::Turn,
-        Some(
-            b"{\"body\":{\"supportsCancelRequest\":true,\"supportsConfigurationDoneRequest\":true,\"supportsLoadedSourcesRequest\":true,\"supportsStepBack\":true,\"supportsTerminateRequest\":true},\"command\":\"initialize\",\"request_seq\":1,\"seq\":1,\"success\":true,\"type\":\"response\"}\n{\"event\":\"initialized\",\"seq\":2,\"type\":\"event\"}",
-        ),
-        0,
-    ),
+    INITIALIZES,
+    IS_INITIALIZED,
     (
         Act::Take(b"{\"seq\":2,\"type\":\"request\",\"command\":\"threads\"}"),
         Some(b""),
@@ -160,13 +130,7 @@ static NOTHING_IS_CANCELLED: [Step<'static>; 10] = [
         ),
         0,
     ),
-    (
-        Act::Take(
-            b"{\"seq\":1,\"type\":\"request\",\"command\":\"initialize\",\"arguments\":{\"adapterID\":\"rec\"}}",
-        ),
-        Some(b""),
-        1,
-    ),
+    INITIALIZES,
     (
         Act::Turn,
         Some(
@@ -174,12 +138,8 @@ static NOTHING_IS_CANCELLED: [Step<'static>; 10] = [
         ),
         0,
     ),
-    (
-        Act::Take(b"{\"seq\":2,\"type\":\"request\",\"command\":\"launch\"}"),
-        Some(b""),
-        1,
-    ),
-    (Act::Turn, Some(b""), 1),
+    LAUNCHES,
+    IS_PARKED,
     (
         Act::Take(
             b"{\"seq\":3,\"type\":\"request\",\"command\":\"cancel\",\"arguments\":{\"requestId\":2}}",
@@ -228,26 +188,10 @@ fn nothing_is_cancelled(rt: HostRuntime) -> Result<(), Fail> {
 }
 
 static DISCONNECT_ANSWERS_ALL: [Step<'static>; 12] = [
-    (
-        Act::Take(
-            b"{\"seq\":1,\"type\":\"request\",\"command\":\"initialize\",\"arguments\":{\"adapterID\":\"rec\"}}",
-        ),
-        Some(b""),
-        1,
-    ),
-    (
-        Act::Turn,
-        Some(
-            b"{\"body\":{\"supportsCancelRequest\":true,\"supportsConfigurationDoneRequest\":true,\"supportsLoadedSourcesRequest\":true,\"supportsStepBack\":true,\"supportsTerminateRequest\":true},\"command\":\"initialize\",\"request_seq\":1,\"seq\":1,\"success\":true,\"type\":\"response\"}\n{\"event\":\"initialized\",\"seq\":2,\"type\":\"event\"}",
-        ),
-        0,
-    ),
-    (
-        Act::Take(b"{\"seq\":2,\"type\":\"request\",\"command\":\"launch\"}"),
-        Some(b""),
-        1,
-    ),
-    (Act::Turn, Some(b""), 1),
+    INITIALIZES,
+    IS_INITIALIZED,
+    LAUNCHES,
+    IS_PARKED,
     (
         Act::Take(b"{\"seq\":3,\"type\":\"request\",\"command\":\"disconnect\"}"),
         Some(b""),
@@ -291,20 +235,8 @@ fn disconnect_answers_all(rt: HostRuntime) -> Result<(), Fail> {
 }
 
 static REFUSED_REQUESTS: [Step<'static>; 12] = [
-    (
-        Act::Take(
-            b"{\"seq\":1,\"type\":\"request\",\"command\":\"initialize\",\"arguments\":{\"adapterID\":\"rec\"}}",
-        ),
-        Some(b""),
-        1,
-    ),
-    (
-        Act::Turn,
-        Some(
-            b"{\"body\":{\"supportsCancelRequest\":true,\"supportsConfigurationDoneRequest\":true,\"supportsLoadedSourcesRequest\":true,\"supportsStepBack\":true,\"supportsTerminateRequest\":true},\"command\":\"initialize\",\"request_seq\":1,\"seq\":1,\"success\":true,\"type\":\"response\"}\n{\"event\":\"initialized\",\"seq\":2,\"type\":\"event\"}",
-        ),
-        0,
-    ),
+    INITIALIZES,
+    IS_INITIALIZED,
     (
         Act::Take(
             b"{\"seq\":2,\"type\":\"request\",\"command\":\"initialize\",\"arguments\":{\"adapterID\":\"rec\"}}",
@@ -382,15 +314,33 @@ fn refused_requests(rt: HostRuntime) -> Result<(), Fail> {
 }
 
 /// What is told of a request before `initialize`, where this is expected of its turn.
-fn told(alloc: Global, wanted: Option<&[u8]>, kept: usize) -> Result<Option<usize>, Fail> {
-    let mut adapter = adapter(alloc, Limits::usual())?;
+fn told(
+    alloc: Global,
+    adapter: &mut Adapter<Recorded>,
+    wanted: Option<&[u8]>,
+    kept: usize,
+) -> Result<Option<usize>, Fail> {
     let steps: [Step<'_>; 2] = [
         (Act::Take(THREADS), Some(b""), 1),
         (Act::Turn, wanted, kept),
     ];
-    let difference = first_difference(alloc, &mut adapter, &steps);
+    first_difference(alloc, adapter, &steps)
+}
+
+/// Whether a fresh adapter's difference is in this place.
+fn is_told(
+    alloc: Global,
+    wanted: Option<&[u8]>,
+    kept: usize,
+    place: Option<usize>,
+) -> Result<bool, Fail> {
+    let mut adapter = adapter(alloc, Limits::usual())?;
+    let told = told(alloc, &mut adapter, wanted, kept);
     drop(adapter);
-    difference
+    match told {
+        Ok(told) => Ok(told == place),
+        Err(fail) => Err(fail),
+    }
 }
 
 /// Steps are compared: where the bodies differ, or how many requests are kept, or whether anything is handed out, that is
@@ -403,8 +353,8 @@ fn steps_that_differ_are_told(rt: HostRuntime) -> Result<(), Fail> {
         (Some(NOT_INITIALIZED), 1, Some(1)),
         (None, 0, Some(1)),
     ];
-    for (wanted, kept, place) in &cases {
-        assert_eq!(rt; told(rt.alloc(), *wanted, *kept)?, *place);
+    for (row, (wanted, kept, place)) in cases.iter().enumerate() {
+        expect(is_told(rt.alloc(), *wanted, *kept, *place)?, row)?;
     }
     Ok(())
 }
