@@ -3,49 +3,46 @@
 use dap_check::{CheckFault, Checked, Rule, check, explain, laws, sentence};
 use dap_message::BodyRefusal;
 use std::alloc::Global;
-use std::test::Fail;
+use std::process::Abort;
 
 /// A text, whether any numbers are allowed, what is told, and the sentence about a finding.
 type Row<'a> = (&'a str, bool, Result<Checked, CheckFault>, &'a str);
 
 /// Whether a finding is explained by this sentence.
-fn is_explained(
-    alloc: Global,
-    text: &str,
-    line: u64,
-    rule: Rule,
-    want: &str,
-) -> Result<bool, Fail> {
-    let found = explain(alloc, text.as_bytes(), line, rule)?;
-    let Some(reason) = found else {
-        return Ok(false);
-    };
-    let told = sentence(alloc, reason)?;
-    Ok(told.as_str() == want)
+fn is_explained(alloc: Global, text: &str, line: u64, rule: Rule, want: &str) -> bool {
+    match explain(alloc, text.as_bytes(), line, rule) {
+        Ok(Some(reason)) => match sentence(alloc, reason) {
+            Ok(told) => told.as_str() == want,
+            Err(_) => false,
+        },
+        _ => false,
+    }
 }
 
 /// Whether a row is told as it says.
-fn is_told(alloc: Global, row: &Row<'_>) -> Result<bool, Fail> {
+fn is_told(alloc: Global, row: &Row<'_>) -> bool {
     let (text, any_seq, want, explained) = row;
     let told = check(alloc, text.as_bytes(), *any_seq);
     if told != *want {
-        return Ok(false);
+        return false;
     }
     match told {
         Ok(Checked::Finding { line, rule }) => is_explained(alloc, text, line, rule, explained),
-        _ => Ok(explained.is_empty()),
+        _ => explained.is_empty(),
     }
 }
 
-/// The first row that comes to something else is told, and fails the test.
-fn each_is_told(rt: &HostRuntime, rows: &[Row<'_>]) -> Result<(), Fail> {
+/// Fails the test, by the place of the row, where something is not so. The assert stands here once, since a proof of each
+/// costs more.
+fn expect(rt: &impl Abort, is_so: bool, place: usize) {
+    assert!(*rt; is_so, "row {place} differs");
+}
+
+/// The first row that comes to something else fails the test.
+fn each_is_told(rt: &impl Abort, alloc: Global, rows: &[Row<'_>]) {
     for (place, row) in rows.iter().enumerate() {
-        if !is_told(rt.alloc(), row)? {
-            eprintln!(rt; "row {place} differs")?;
-            return Err(Fail::from("a row differs"));
-        }
+        expect(rt, is_told(alloc, row), place);
     }
-    Ok(())
 }
 
 static LEGAL: [Row<'static>; 3] = [
@@ -66,8 +63,8 @@ static LEGAL: [Row<'static>; 3] = [
 
 /// No bytes; numbers that are not tested; a session from its beginning to its end.
 #[test]
-fn legal_transcripts(rt: HostRuntime) -> Result<(), Fail> {
-    each_is_told(&rt, &LEGAL)
+fn legal_transcripts(rt: HostRuntime) {
+    each_is_told(&rt, rt.alloc(), &LEGAL);
 }
 
 static BROKEN: [Row<'static>; 7] = [
@@ -138,8 +135,8 @@ static BROKEN: [Row<'static>; 7] = [
 
 /// Each rule is broken once.
 #[test]
-fn each_rule_is_broken(rt: HostRuntime) -> Result<(), Fail> {
-    each_is_told(&rt, &BROKEN)
+fn each_rule_is_broken(rt: HostRuntime) {
+    each_is_told(&rt, rt.alloc(), &BROKEN);
 }
 
 static ANSWERS: [Row<'static>; 7] = [
@@ -210,8 +207,8 @@ static ANSWERS: [Row<'static>; 7] = [
 
 /// Numbers, answers and the beginning of a session, in the other ways in which they break their rules.
 #[test]
-fn answers_and_beginnings(rt: HostRuntime) -> Result<(), Fail> {
-    each_is_told(&rt, &ANSWERS)
+fn answers_and_beginnings(rt: HostRuntime) {
+    each_is_told(&rt, rt.alloc(), &ANSWERS);
 }
 
 static OFFERS: [Row<'static>; 6] = [
@@ -273,8 +270,8 @@ static OFFERS: [Row<'static>; 6] = [
 
 /// The same of what is offered and of references.
 #[test]
-fn offers_and_references(rt: HostRuntime) -> Result<(), Fail> {
-    each_is_told(&rt, &OFFERS)
+fn offers_and_references(rt: HostRuntime) {
+    each_is_told(&rt, rt.alloc(), &OFFERS);
 }
 
 static LINES: [Row<'static>; 4] = [
@@ -315,17 +312,16 @@ static LINES: [Row<'static>; 4] = [
 
 /// Lines without bytes are counted; what is no line, or no message, is told before any finding.
 #[test]
-fn lines_of_a_text(rt: HostRuntime) -> Result<(), Fail> {
-    each_is_told(&rt, &LINES)
+fn lines_of_a_text(rt: HostRuntime) {
+    each_is_told(&rt, rt.alloc(), &LINES);
 }
 
 /// The laws run nothing.
 #[test]
-fn laws_run_nothing(rt: HostRuntime) -> Result<(), Fail> {
+fn laws_run_nothing(rt: HostRuntime) {
     laws::each_transcript_has_one_verdict();
     laws::earlier_lines_are_places();
     laws::rules_are_told_by_places();
     laws::broken_rules_have_reasons();
-    assert_eq!(rt; Rule::Reference.number(), 6);
-    Ok(())
+    expect(&rt, Rule::Reference.number() == 6, 6);
 }

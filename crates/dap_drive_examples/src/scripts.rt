@@ -4,34 +4,41 @@ use dap_client::SendFault;
 use dap_drive::{DriveFault, drive};
 use dap_frame::Limits;
 use std::alloc::Global;
-use std::test::Fail;
+use std::process::Abort;
 
 /// A run of three moments, of which the last waits.
 static RECORDING: &str =
     "{\"exit\":0,\"sources\":[{\"name\":\"a.c\",\"path\":\"/a.c\",\"text\":\"one\\ntwo\\nthree\\n\"}],\"moments\":[{\"thread\":1,\"output\":\"go\\n\",\"threads\":[{\"id\":1,\"name\":\"main\",\"frames\":[{\"name\":\"main\",\"source\":0,\"line\":1,\"scopes\":[{\"name\":\"Locals\",\"variables\":[{\"name\":\"x\",\"value\":\"1\"},{\"name\":\"p\",\"value\":\"P\",\"variables\":[{\"name\":\"a\",\"value\":\"7\"}]}]}]}]}]},{\"thread\":1,\"threads\":[{\"id\":1,\"name\":\"main\",\"frames\":[{\"name\":\"f\",\"source\":0,\"line\":3},{\"name\":\"main\",\"source\":0,\"line\":1}]}]},{\"thread\":1,\"waits\":true,\"threads\":[{\"id\":1,\"name\":\"main\",\"frames\":[{\"name\":\"main\",\"source\":0,\"line\":2}]}]}]}";
 
-/// Whether a script gives just this transcript.
-fn gives(alloc: Global, script: &str, want: &str) -> bool {
-    match drive(
-        alloc,
-        RECORDING.as_bytes(),
-        script.as_bytes(),
-        Limits::usual(),
-    ) {
-        Ok(transcript) => transcript.as_slice() == want.as_bytes(),
-        Err(_) => false,
+/// Whether a script over a recording comes to just this transcript, or stops with just this fault.
+fn comes_to(
+    alloc: Global,
+    recording: &str,
+    script: &str,
+    limits: Limits,
+    want: Result<&str, DriveFault>,
+) -> bool {
+    match drive(alloc, recording.as_bytes(), script.as_bytes(), limits) {
+        Ok(transcript) => match want {
+            Ok(want) => transcript.as_slice() == want.as_bytes(),
+            Err(_) => false,
+        },
+        Err(fault) => want == Err(fault),
     }
 }
 
 /// Whether a script over a recording stops with just this fault, where no end gives a number past the greatest.
 fn stops(alloc: Global, recording: &str, script: &str, greatest: u64, want: DriveFault) -> bool {
-    let Ok(limits) = Limits::new(8192, 4194304, 64, 65536, 4096, greatest, 2147483647) else {
-        return false;
-    };
-    match drive(alloc, recording.as_bytes(), script.as_bytes(), limits) {
-        Ok(_) => false,
-        Err(fault) => fault == want,
+    match Limits::new(8192, 4194304, 64, 65536, 4096, greatest, 2147483647) {
+        Ok(limits) => comes_to(alloc, recording, script, limits, Err(want)),
+        Err(_) => false,
     }
+}
+
+/// Fails the test, by the place of the script, where something is not so. The assert stands here once, since a proof of each
+/// costs more.
+fn check(rt: &impl Abort, is_so: bool, place: usize) {
+    assert!(*rt; is_so, "script {place} differs");
 }
 
 static TRANSCRIPTS: [(&str, &str); 3] = [
@@ -48,14 +55,12 @@ static TRANSCRIPTS: [(&str, &str); 3] = [
 
 /// No line; a session that is left at once; one request of two is cancelled.
 #[test]
-fn transcripts(rt: HostRuntime) -> Result<(), Fail> {
+fn transcripts(rt: HostRuntime) {
     for (place, (script, want)) in TRANSCRIPTS.iter().enumerate() {
-        if !gives(rt.alloc(), script, want) {
-            eprintln!(rt; "script {place} differs")?;
-            return Err(Fail::from("a transcript differs"));
-        }
+        let limits = Limits::usual();
+        let is_so = comes_to(rt.alloc(), RECORDING, script, limits, Ok(*want));
+        check(&rt, is_so, place);
     }
-    Ok(())
 }
 
 static FAULTS: [(&str, u64, DriveFault); 6] = [
@@ -94,22 +99,27 @@ static FAULTS: [(&str, u64, DriveFault); 6] = [
 
 /// A word that is not known; a missing argument; too early; no own number left; a stop that is left, and one that is gone.
 #[test]
-fn faults(rt: HostRuntime) -> Result<(), Fail> {
+fn faults(rt: HostRuntime) {
     for (place, (script, greatest, want)) in FAULTS.iter().enumerate() {
-        if !stops(rt.alloc(), RECORDING, script, *greatest, *want) {
-            eprintln!(rt; "script {place} differs")?;
-            return Err(Fail::from("a fault differs"));
-        }
+        let is_so = stops(rt.alloc(), RECORDING, script, *greatest, *want);
+        check(&rt, is_so, place);
     }
-    Ok(())
 }
+
+static NO_RECORDINGS: [(&str, &str); 2] = [("[]", "jump"), ("{", "")];
 
 /// What is no recording is told before any line of the script.
 #[test]
-fn no_recordings(rt: HostRuntime) -> Result<(), Fail> {
-    let alloc = rt.alloc();
-    let greatest = 9007199254740991;
-    assert!(rt; stops(alloc, "[]", "jump", greatest, DriveFault::Recording));
-    assert!(rt; stops(alloc, "{", "", greatest, DriveFault::Recording));
-    Ok(())
+fn no_recordings(rt: HostRuntime) {
+    for (place, (recording, script)) in NO_RECORDINGS.iter().enumerate() {
+        let greatest = 9007199254740991;
+        let is_so = stops(
+            rt.alloc(),
+            recording,
+            script,
+            greatest,
+            DriveFault::Recording,
+        );
+        check(&rt, is_so, place);
+    }
 }

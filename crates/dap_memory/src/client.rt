@@ -1,6 +1,6 @@
 //! A client's calls with their answers, or want of memory.
 
-use crate::tests::{judge, refused};
+use crate::outcomes::{judge, refused};
 use dap_call::{Call, Initialize, StackTrace};
 use dap_client::{Client, ClientFault, SendFault};
 use dap_frame::Limits;
@@ -42,24 +42,22 @@ static STEPS: [Step<'static>; 6] = [
     ),
 ];
 
-fn initialize(alloc: Global) -> Option<Call> {
-    Some(Call::Initialize(Initialize {
-        adapter_id: Text::copied(alloc, "rec").ok()?,
-        lines_start_at_1: true,
-        columns_start_at_1: true,
-        supports_variable_paging: false,
-        supports_run_in_terminal_request: false,
-    }))
+/// Whether a call is plain, and is sent with these bytes.
+fn send(alloc: Global, client: &mut Client, call: &Call, wanted: &[u8]) -> Result<bool, SendFault> {
+    if !call.plain() {
+        return Ok(false);
+    }
+    match client.send(alloc, call) {
+        Ok(sent) => Ok(sent.bytes.as_slice() == wanted),
+        Err(fault) => Err(fault),
+    }
 }
 
-/// Whether a call is sent with these bytes; nothing where memory was refused, and the client is as it was.
+/// Likewise; nothing where memory was refused, and the client is as it was.
 fn sends(alloc: Global, client: &mut Client, call: &Call, wanted: &[u8]) -> Option<bool> {
-    if !call.plain() {
-        return Some(false);
-    }
     let (outstanding, phase) = (client.outstanding(), client.phase());
-    match client.send(alloc, call) {
-        Ok(sent) => Some(sent.bytes.as_slice() == wanted),
+    match send(alloc, client, call, wanted) {
+        Ok(is_due) => Some(is_due),
         Err(SendFault::OutOfMemory) => {
             refused(client.outstanding() == outstanding && client.phase() == phase)
         }
@@ -67,16 +65,57 @@ fn sends(alloc: Global, client: &mut Client, call: &Call, wanted: &[u8]) -> Opti
     }
 }
 
-/// Whether a message is delivered, and these bytes are written; nothing where memory was refused, and the client is closed.
+fn initializes(alloc: Global, client: &mut Client, wanted: &[u8]) -> Option<bool> {
+    match Text::copied(alloc, "rec") {
+        Ok(adapter_id) => {
+            let call = Call::Initialize(Initialize {
+                adapter_id,
+                lines_start_at_1: true,
+                columns_start_at_1: true,
+                supports_variable_paging: false,
+                supports_run_in_terminal_request: false,
+            });
+            let outcome = sends(alloc, client, &call, wanted);
+            // The proof of a call is shorter than that of a value that goes out of scope.
+            drop(call);
+            outcome
+        }
+        Err(_) => None,
+    }
+}
+
+/// Whether a message is delivered, and these bytes are written.
+fn take(
+    alloc: Global,
+    client: &mut Client,
+    piece: &[u8],
+    wanted: &[u8],
+) -> Result<bool, ClientFault> {
+    match client.take(alloc, piece) {
+        Ok(got) => {
+            let is_due = got.delivered.is_some() && got.bytes.as_slice() == wanted;
+            drop(got);
+            Ok(is_due)
+        }
+        Err(fault) => Err(fault),
+    }
+}
+
+fn is_closed(alloc: Global, client: &mut Client) -> bool {
+    take(alloc, client, b"x", b"") == Err(ClientFault::OutOfMemory)
+        && send(alloc, client, &Call::Threads, b"") == Err(SendFault::Ended)
+        && client.held() == 0
+}
+
+/// Likewise; nothing where memory was refused, and the client is closed with its tables as they were.
 fn takes(alloc: Global, client: &mut Client, piece: &[u8], wanted: &[u8]) -> Option<bool> {
     let (outstanding, references) = (client.outstanding(), client.references());
-    match client.take(alloc, piece) {
-        Ok(got) => Some(got.delivered.is_some() && got.bytes.as_slice() == wanted),
+    match take(alloc, client, piece, wanted) {
+        Ok(is_due) => Some(is_due),
         Err(ClientFault::OutOfMemory) => {
-            let is_closed = client.take(alloc, b"x").err() == Some(ClientFault::OutOfMemory)
-                && client.send(alloc, &Call::Threads).err() == Some(SendFault::Ended);
+            let is_closed = is_closed(alloc, client);
             let is_same = client.outstanding() == outstanding && client.references() == references;
-            refused(is_closed && is_same && client.held() == 0)
+            refused(is_closed && is_same)
         }
         Err(_) => Some(false),
     }
@@ -84,28 +123,39 @@ fn takes(alloc: Global, client: &mut Client, piece: &[u8], wanted: &[u8]) -> Opt
 
 fn does(alloc: Global, client: &mut Client, step: Step<'_>) -> Option<bool> {
     match step {
-        Step::Initialize(wanted) => sends(alloc, client, &initialize(alloc)?, wanted),
+        Step::Initialize(wanted) => initializes(alloc, client, wanted),
         Step::StackTrace(wanted) => {
-            let call = Call::StackTrace(StackTrace {
+            let asked = StackTrace {
                 thread_id: 1,
                 start_frame: 0,
                 levels: 0,
-            });
-            sends(alloc, client, &call, wanted)
+            };
+            sends(alloc, client, &Call::StackTrace(asked), wanted)
         }
         Step::Take(piece, wanted) => takes(alloc, client, piece, wanted),
     }
 }
 
-/// Whether all steps come to what they should; nothing where memory was refused.
-fn plays(alloc: Global) -> Option<bool> {
-    let mut client = Client::open(alloc, Limits::usual()).ok()?;
+fn does_all(alloc: Global, client: &mut Client) -> Option<bool> {
     for step in &STEPS {
-        if !does(alloc, &mut client, *step)? {
-            return Some(false);
+        let outcome = does(alloc, client, *step);
+        if outcome != Some(true) {
+            return outcome;
         }
     }
     Some(client.references() == 2 && client.outstanding() == 0)
+}
+
+/// Whether all steps come to what they should; nothing where memory was refused.
+fn plays(alloc: Global) -> Option<bool> {
+    match Client::open(alloc, Limits::usual()) {
+        Ok(mut client) => {
+            let outcome = does_all(alloc, &mut client);
+            drop(client);
+            outcome
+        }
+        Err(_) => None,
+    }
 }
 
 /// Each call hands out what is due, or tells that memory was refused.

@@ -4,10 +4,22 @@
 #![tactic(auto)]
 
 #[cfg(test)]
+mod adapter;
+#[cfg(test)]
+mod bodies;
+#[cfg(test)]
+mod calls;
+#[cfg(test)]
 mod client;
 #[cfg(test)]
 mod debuggee;
 #[cfg(test)]
-mod tests;
+mod files;
+#[cfg(test)]
+mod outcomes;
+#[cfg(test)]
+mod requests;
+#[cfg(test)]
+mod serving;
 #[cfg(test)]
 mod transcripts;

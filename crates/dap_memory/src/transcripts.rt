@@ -1,7 +1,7 @@
 //! Transcripts that are checked, explained and made, with their answers, or want of memory.
 
 use crate::debuggee::RECORDING;
-use crate::tests::{judge, refused};
+use crate::outcomes::{judge, refused};
 use dap_frame::Limits;
 use dap_tool::{CheckFault, Checked, DriveFault, check, drive};
 use std::alloc::Global;
