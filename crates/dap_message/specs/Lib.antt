@@ -31,6 +31,7 @@ pub mod InRange
 pub mod Verdict
 pub mod Plain
 pub mod Canon
+pub mod ReadBack
 pub mod SoundMessage
 pub mod Laws
 pub mod Lengths

@@ -1,17 +1,22 @@
 //! The texts of requests, responses and events, written with no tree of the message.
 //!
 //! Specification, "Request", "Response", "ErrorResponse", "Event". Each is the text that `write_message` gives of that message.
-ghost use Rattle.std.specs.Prelude.{◌≡◌, ◌++◌, IfOk, IsTrue, None, Some, false, true};
+ghost use Rattle.std.specs.Prelude.{◌≡◌, ◌≤◌, ◌++◌, length, IfOk, IsTrue, None, Some, false, true};
 ghost use Rattle.json.specs.Print.{print};
 ghost use Rattle.serde_json.specs.Written.{members_text};
+ghost use Rattle.dap_json.specs.Field.{max_seq};
 ghost use Rattle.dap_json.specs.Writable.{is_plain_tree};
 ghost use Rattle.dap_body.specs.Body.{data_in};
 ghost use Rattle.dap_body.specs.Failure.{failure_body};
 ghost use Rattle.dap_message.specs.Answering.{with_body, with_arguments, response_end};
 ghost use Rattle.dap_message.specs.Canon.{canon, request_members, event_members, response_members};
 ghost use Rattle.dap_message.specs.Lengths.{failed, succeeded, happened};
+ghost use Rattle.dap_message.specs.Meaning.{Msg};
+ghost use Rattle.dap_message.specs.Refusals.{max_command};
+ghost use Rattle.dap_message.specs.SoundMessage.{IsSoundTree};
 ghost use Rattle.dap_message.specs.declared.message.Kind.TheVariants.{Request};
 
+use crate::laws::written_is_read_again;
 use dap_body::{Body, Failure, body_text, failure_text};
 use dap_json::Tree;
 use json::Writer;
@@ -44,7 +49,8 @@ fn room_for(body: &Body) -> usize {
 /// A text up to the end of its body, with the comma after it.
 fn open(alloc: Global, body: &Option<Tree>) -> Result<Vec<u8>, AllocError>
     requires { IsTrue (is_plain_tree body.now) }
-    ensures { IfOk result (λ text. text.items ≡ with_body body.now) }
+    ensures text { IfOk result (λ text. text.items ≡ with_body body.now) }
+    ensures sound { IfOk result (λ text. IsSoundTree body.now) }
 {
     let mut out = Vec::with_capacity(alloc, ROOM)?;
     match body {
@@ -60,7 +66,8 @@ fn open(alloc: Global, body: &Option<Tree>) -> Result<Vec<u8>, AllocError>
 
 /// The same of a body that is given by its parts.
 fn open_answer(alloc: Global, body: &Option<Body>) -> Result<Vec<u8>, AllocError>
-    ensures { IfOk result (λ text. text.items ≡ with_body (data_in body.now)) }
+    ensures text { IfOk result (λ text. text.items ≡ with_body (data_in body.now)) }
+    ensures sound { IfOk result (λ text. IsSoundTree (data_in body.now)) }
 {
     match body {
         None => {
@@ -80,7 +87,8 @@ fn open_answer(alloc: Global, body: &Option<Body>) -> Result<Vec<u8>, AllocError
 
 /// The same of a failure's body.
 fn open_failure(alloc: Global, failure: Failure) -> Result<Vec<u8>, AllocError>
-    ensures { IfOk result (λ text. text.items ≡ with_body (Some (failure_body failure))) }
+    ensures text { IfOk result (λ text. text.items ≡ with_body (Some (failure_body failure))) }
+    ensures sound { IfOk result (λ text. IsSoundTree (Some (failure_body failure))) }
 {
     let mut out = Vec::with_capacity(alloc, ROOM)?;
     out.extend_from_slice(b"{\"body\":")?;
@@ -92,7 +100,8 @@ fn open_failure(alloc: Global, failure: Failure) -> Result<Vec<u8>, AllocError>
 /// A text up to the end of its arguments, with the comma after them.
 fn open_request(alloc: Global, arguments: &Option<Tree>) -> Result<Vec<u8>, AllocError>
     requires { IsTrue (is_plain_tree arguments.now) }
-    ensures { IfOk result (λ text. text.items ≡ with_arguments arguments.now) }
+    ensures text { IfOk result (λ text. text.items ≡ with_arguments arguments.now) }
+    ensures sound { IfOk result (λ text. IsSoundTree arguments.now) }
 {
     let mut out = Vec::with_capacity(alloc, ROOM)?;
     match arguments {
@@ -181,8 +190,11 @@ pub fn write_failure(
     command: &str,
     failure: Failure,
 ) -> Result<Vec<u8>, AllocError>
-    ensures { IfOk result (λ text. text.items ≡ canon (failed seq request_seq command.now failure)) }
+    ensures canon { IfOk result (λ text. text.items ≡ canon (failed seq request_seq command.now failure)) }
+    ensures reads_back { IfOk result (λ text. seq ≤ max_seq → request_seq ≤ max_seq → length command.now ≤ max_command → Msg text.items (failed seq request_seq command.now failure)) }
 {
+    // A law for the proof: what is written is read again.
+    written_is_read_again();
     let mut out = Writer::new(open_failure(alloc, failure)?);
     out.key("command")?;
     out.string(command)?;
@@ -200,8 +212,11 @@ pub fn write_success(
     body: &Option<Tree>,
 ) -> Result<Vec<u8>, AllocError>
     requires { IsTrue (is_plain_tree body.now) }
-    ensures { IfOk result (λ text. text.items ≡ canon (succeeded seq request_seq command.now body.now)) }
+    ensures canon { IfOk result (λ text. text.items ≡ canon (succeeded seq request_seq command.now body.now)) }
+    ensures reads_back { IfOk result (λ text. seq ≤ max_seq → request_seq ≤ max_seq → length command.now ≤ max_command → Msg text.items (succeeded seq request_seq command.now body.now)) }
 {
+    // A law for the proof: what is written is read again.
+    written_is_read_again();
     let text = open(alloc, body)?;
     close_success(text, seq, request_seq, command)
 }
@@ -214,8 +229,11 @@ pub fn write_answer(
     command: &str,
     body: &Option<Body>,
 ) -> Result<Vec<u8>, AllocError>
-    ensures { IfOk result (λ text. text.items ≡ canon (succeeded seq request_seq command.now (data_in body.now))) }
+    ensures canon { IfOk result (λ text. text.items ≡ canon (succeeded seq request_seq command.now (data_in body.now))) }
+    ensures reads_back { IfOk result (λ text. seq ≤ max_seq → request_seq ≤ max_seq → length command.now ≤ max_command → Msg text.items (succeeded seq request_seq command.now (data_in body.now))) }
 {
+    // A law for the proof: what is written is read again.
+    written_is_read_again();
     let out = open_answer(alloc, body)?;
     close_success(out, seq, request_seq, command)
 }
@@ -228,8 +246,11 @@ pub fn write_event(
     body: &Option<Tree>,
 ) -> Result<Vec<u8>, AllocError>
     requires { IsTrue (is_plain_tree body.now) }
-    ensures { IfOk result (λ text. text.items ≡ canon (happened seq event.now body.now)) }
+    ensures canon { IfOk result (λ text. text.items ≡ canon (happened seq event.now body.now)) }
+    ensures reads_back { IfOk result (λ text. seq ≤ max_seq → Msg text.items (happened seq event.now body.now)) }
 {
+    // A law for the proof: what is written is read again.
+    written_is_read_again();
     let out = open(alloc, body)?;
     close_event(out, seq, event)
 }
@@ -242,8 +263,11 @@ pub fn write_request(
     arguments: &Option<Tree>,
 ) -> Result<Vec<u8>, AllocError>
     requires { IsTrue (is_plain_tree arguments.now) }
-    ensures { IfOk result (λ text. text.items ≡ canon (record { seq = seq; kind = Request command.now arguments.now })) }
+    ensures canon { IfOk result (λ text. text.items ≡ canon (record { seq = seq; kind = Request command.now arguments.now })) }
+    ensures reads_back { IfOk result (λ text. seq ≤ max_seq → length command.now ≤ max_command → Msg text.items (record { seq = seq; kind = Request command.now arguments.now })) }
 {
+    // A law for the proof: what is written is read again.
+    written_is_read_again();
     let out = open_request(alloc, arguments)?;
     close_request(out, seq, command)
 }
