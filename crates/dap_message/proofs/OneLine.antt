@@ -80,7 +80,11 @@ letter x =
 byte_if : (x : ℕ) (has_letter low : Bool) → nat_lt 0 (escape_letter x) ≡ has_letter → nat_lt x 32 ≡ low
     → AreClear (cond has_letter (92 ∷ escape_letter x ∷ []) (cond low (92 ∷ 117 ∷ 48 ∷ 48 ∷ digit_char (x / 16) ∷ digit_char (x % 16) ∷ []) (x ∷ [])))
 byte_if x true low e f = first 92 (escape_letter x ∷ []) refl (first (escape_letter x) [] (letter x e) refl)
-byte_if x false true e f = first 92 _ refl (first 117 _ refl (first 48 _ refl (first 48 _ refl (first (digit_char (x / 16)) (digit_char (x % 16) ∷ []) (char (x / 16)) (first (digit_char (x % 16)) [] (char (x % 16)) refl)))))
+byte_if x false true e f =
+    let high = digit_char (x / 16) in
+    let low = digit_char (x % 16) in
+    first 92 (117 ∷ 48 ∷ 48 ∷ high ∷ low ∷ []) refl (first 117 (48 ∷ 48 ∷ high ∷ low ∷ []) refl (first 48 (48 ∷ high ∷ low ∷ []) refl (first 48 (high ∷ low ∷ []) refl
+    (first high (low ∷ []) (char (x / 16)) (first low [] (char (x % 16)) refl)))))
 byte_if x false false e f = first x [] (grind (arith, nat_tests, f)) refl
 
 one : (x : ℕ) → AreClear (escape_byte x)
