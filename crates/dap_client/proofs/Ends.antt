@@ -1,5 +1,5 @@
 -- A client stands for the bytes that come and for what it hands out, from what the reader of frames and the session say.
-use Rattle.std.proofs.Common.{◌≡◌, ℕ, List, [], ◌∷◌, ◌++◌, Option, Some, None, Result, Ok, Err, refl, ap, sym, ◌∙◌, take}
+use Rattle.std.proofs.Common.{◌≡◌, ℕ, List, [], ◌∷◌, ◌++◌, Option, Some, None, Result, Ok, Err, refl, ap, subst, sym, ◌∙◌, take}
 use Rattle.std.specs.Prelude.{OnOk}
 use Rattle.std.proofs.lemmas.List.{append-nil}
 use Rattle.dap_frame.specs.Feeds.{Completes, Gathers}
@@ -12,7 +12,8 @@ use Rattle.dap_message.specs.Types.Call.{Call}
 use Rattle.dap_message.specs.declared.message.Message.{Message}
 use Rattle.dap_client.specs.Calls.{refusal_of, Takes}
 use Rattle.dap_client.specs.End.{End}
-use Rattle.dap_client.specs.Keeping.{IsMade}
+use Rattle.dap_message.specs.ReadBack.{AllReadBack}
+use Rattle.dap_client.specs.Keeping.{AreReadBack, IsMade}
 use Rattle.dap_client.specs.Laws.{EachStepGoesOn}
 use Rattle.dap_client.specs.Receives.{HasReceived}
 use Rattle.dap_client.specs.Sending.{next_message, after_send}
@@ -109,6 +110,10 @@ made-of : (given : Result Made ClientFault) (new : Session) (bytes : List ℕ) �
 made-of (Ok made) new bytes h = (made, refl, h.0, h.1)
 made-of (Err f) new bytes h = absurd h
 
+back-of : (limit : ℕ) (given : Result Made ClientFault) (made : Made) → given ≡ Ok made → AreReadBack limit given → AllReadBack limit made.written
+back-of limit (Ok m) made is h = let same : m ≡ made = cc is in subst (λ (z : Made). AllReadBack limit z.written) same h
+back-of limit (Err f) made is h = absurd h
+
 -- what became of the reader and of the session, said of the client
 pub received : (grow : HistoriesGrow) (laws : EachStepGoesOn) (within : EachStepStaysWithin) (old new : End) (piece : List ℕ) (got : Got) (delivered : Option Message)
     → new.intake.bounds ≡ old.intake.bounds → new.session.limits ≡ old.session.limits → new.fault ≡ None
@@ -129,5 +134,6 @@ received grow laws within old new piece got (Some m) bounds limits fault d =
       is = x.1;
       session = x.2;
       bytes_are = x.3;
+      reads_back = back-of old.session.limits.body (takes m old.session) x.0 x.1 d.reads_back;
       goes_on = delivers-goes_on grow laws within old new d.whole.ready piece got.used m x.0 d.whole.completes d.read d.under_way bounds d.released x.1 x.2 limits fault;
     }

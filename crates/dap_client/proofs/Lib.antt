@@ -13,3 +13,5 @@ pub mod Played
 mod LifeExamples
 mod ReferencesExamples
 mod SeatExamples
+mod Names
+mod Declining

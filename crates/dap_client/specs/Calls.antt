@@ -6,6 +6,7 @@ use Rattle.dap_frame.specs.Settings.{Settings, bounds_of}
 use Rattle.dap_history.specs.History.{In}
 use Rattle.dap_history.specs.Pieces.{Whole, FrameClosed, BodyRefused, NeedsMemory}
 use Rattle.dap_message.specs.Meaning.{Msg}
+use Rattle.dap_message.specs.ReadBack.{AllReadBack}
 use Rattle.dap_message.specs.Types.Call.{Call}
 use Rattle.dap_message.specs.declared.message.Message.{Message}
 use Rattle.dap_client.specs.declared.fault.ClientFault.{ClientFault}
@@ -39,6 +40,8 @@ pub record Delivers (old : End) (piece : List ℕ) (got : Got) (m : Message) (ne
   pub is : takes m old.session ≡ Ok made
   pub session : new.session ≡ made.after
   pub bytes_are : got.bytes.items ≡ bytes_of made
+  -- the adapter reads what is written
+  pub reads_back : AllReadBack old.session.limits.body made.written
   pub goes_on : GoesOn old new (take got.used piece) (In m ∷ entries_of made)
 
 -- the frame is still under way, and nothing else changed

@@ -2,6 +2,7 @@
 use Rattle.std.specs.Prelude.{◌≡◌, ℕ, ◌≤◌, ◌<◌, List, Bool, false, ⊤, Option, Some, None, Result, Ok, Err, bytes_eq, if◌then◌else◌}
 use Rattle.dap_frame.specs.Settings.{Settings}
 use Rattle.dap_json.specs.Field.{max_seq}
+use Rattle.dap_message.specs.ReadBack.{AllReadBack}
 use Rattle.dap_message.specs.Types.Call.{Call}
 use Rattle.dap_tables.specs.Known.{KnownReferences}
 use Rattle.dap_tables.specs.Outstanding.{KeptRequests, IsOrderly}
@@ -49,6 +50,11 @@ matched (Some r) request_seq command = if bytes_eq command r.command then Ok tt 
 abbrev pub IsMade : Result Made ClientFault → Session → List ℕ → Type 0
 IsMade (Ok m) new bytes = (new ≡ m.after) × (bytes ≡ bytes_of m)
 IsMade (Err fault) new bytes = ⊥
+
+-- the adapter reads what is written
+abbrev pub AreReadBack : ℕ → Result Made ClientFault → Type 0
+AreReadBack limit (Ok m) = AllReadBack limit m.written
+AreReadBack limit (Err fault) = ⊥
 
 -- why nothing was, memory aside
 abbrev pub IsWhyClosed : ClientFault → Result Made ClientFault → Type 0

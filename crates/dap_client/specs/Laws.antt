@@ -1,8 +1,11 @@
 -- Each step of a client goes on as its history does.
-use Rattle.std.specs.Prelude.{◌≡◌, List, [], ◌∷◌, ◌++◌, Ok}
+use Rattle.std.specs.Prelude.{◌≡◌, ◌≤◌, List, [], ◌∷◌, ◌++◌, length, Ok}
 use Rattle.dap_frame.specs.Settings.{Settings}
 use Rattle.dap_history.specs.History.{Entry, In, Out, ins_of}
+use Rattle.dap_message.specs.Command.{name_of}
+use Rattle.dap_message.specs.Refusals.{max_command}
 use Rattle.dap_message.specs.Types.Call.{Call}
+use Rattle.dap_message.specs.Types.Command.{Command}
 use Rattle.dap_message.specs.declared.message.Message.{Message}
 use Rattle.dap_tables.specs.Outstanding.{HasDistinctSeqs}
 use Rattle.dap_client.specs.Follows.{Follows}
@@ -17,3 +20,7 @@ pub record EachStepGoesOn : Type 0 where
   pub send : (s : Session) (c : Call) (h : List Entry) → Follows s h → Follows (after_send c s) (h ++ Out (next_message s c) [] ∷ [])
   pub take : (s : Session) (m : Message) (made : Made) (h : List Entry) → HasDistinctSeqs s.outstanding → takes m s ≡ Ok made
       → Follows s h → Follows made.after (h ++ In m ∷ entries_of made)
+
+-- the limit on the names that are read is this profile's choice
+abbrev pub EachNameIsShort : Type 0
+EachNameIsShort = (c : Command) → length (name_of c) ≤ max_command

@@ -9,7 +9,7 @@ use Rattle.dap_message.specs.declared.message.Message.{Message}
 use Rattle.dap_client.specs.declared.fault.ClientFault.{ClientFault}
 use Rattle.dap_client.specs.declared.fault.ClientFault.TheVariants.{Body, OutOfMemory}
 use Rattle.dap_client.specs.declared.got.Got.{Got}
-use Rattle.dap_client.specs.Keeping.{IsMade}
+use Rattle.dap_client.specs.Keeping.{AreReadBack, IsMade}
 use Rattle.dap_client.specs.Session.{Session}
 use Rattle.dap_client.specs.Taking.{takes}
 
@@ -26,6 +26,7 @@ pub record HasDelivered (i j : Intake) (old new : Session) (piece : List ℕ) (g
   pub under_way : IsUnderWay j
   pub released : (s : List ℕ) (xs : List (List ℕ)) (rest : List ℕ) → StandsFor whole.ready s xs rest → StandsFor j s xs rest
   pub made : IsMade (takes m old) new got.bytes.items
+  pub reads_back : AreReadBack old.limits.body (takes m old)
 
 abbrev pub HasReceived : Intake → Intake → Session → Session → List ℕ → Got → Option Message → Type 0
 HasReceived i j old new piece got None = StillWaits i j old new piece got

@@ -4,6 +4,7 @@ ghost use Rattle.dap_frame.specs.Intake.{IsReady, IsUnderWay};
 ghost use Rattle.dap_history.specs.History.{Entry, Out, Went, waiting};
 ghost use Rattle.dap_message.specs.Meaning.{Msg};
 ghost use Rattle.dap_message.specs.PlainCall.{is_plain_call};
+ghost use Rattle.dap_message.specs.ReadBack.{ReadsBack};
 ghost use Rattle.dap_client.specs.Calls.{refusal_of, NotSent, Takes, TakeRefused};
 ghost use Rattle.dap_client.specs.Receives.{HasReceived, IsUnread};
 ghost use Rattle.dap_client.specs.Seen.{phase_in, ready_in, capabilities_in, references_in};
@@ -18,6 +19,7 @@ use crate::phase::Phase;
 use crate::session::Session;
 use dap_frame::{Frames, Limits};
 use dap_history::laws::histories_grow;
+use dap_message::laws::read_is_in_range;
 use dap_message::{BodyFault, Call, Capabilities, Message, Scratch, read_message_with};
 use std::alloc::{AllocError, Global};
 use std::marker::Model;
@@ -134,6 +136,7 @@ impl Client {
         ensures seq { IfOk result (λ sent. sent.seq ≡ self.old.session.used + 1) }
         ensures bytes { IfOk result (λ sent. sent.bytes.items ≡ sent_bytes self.old.session call.now) }
         ensures session { OnOk result (self.new ≡ record self.old { session = after_send call.now self.old.session }) }
+        ensures reads_back { OnOk result (ReadsBack self.old.session.limits.body (next_message self.old.session call.now)) }
         ensures goes_on { OnOk result (GoesOn self.old self.new [] (Out (next_message self.old.session call.now) [] ∷ [])) }
 
         // Why it is refused; then nothing has changed.
@@ -247,6 +250,8 @@ fn receive(
             bytes: Vec::new(alloc),
         });
     }
+    // A law for the proof: what is read is in range.
+    read_is_in_range();
     let message = read_body(alloc, frames, scratch)?;
     frames.release();
     let bytes = session.take(alloc, &message)?;

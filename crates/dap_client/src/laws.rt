@@ -1,5 +1,5 @@
 //! Laws of the definitions, each on a function with nothing to run.
-ghost use Rattle.dap_client.specs.Laws.{EachStepGoesOn};
+ghost use Rattle.dap_client.specs.Laws.{EachNameIsShort, EachStepGoesOn};
 ghost use Rattle.dap_client.specs.Seat.{EachStepProjects};
 ghost use Rattle.dap_client.specs.Within.{EachStepStaysWithin};
 
@@ -29,4 +29,9 @@ pub fn each_step_stays_within()
 /// of a call that is not refused no refusal holds. A law over both ends goes by that.
 pub fn each_step_projects()
     ensures { EachStepProjects }
+{}
+
+/// The name of each command has at most 64 bytes, so that a request of this client is read.
+pub fn each_name_is_short()
+    ensures { EachNameIsShort }
 {}

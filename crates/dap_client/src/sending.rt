@@ -1,7 +1,9 @@
 //! What comes of a call that is to be sent.
-ghost use Rattle.std.specs.Prelude.{◌≡◌, ◌+◌, ◌<◌, length, IfOk, IfErr, IfNone, OnOk, OnErr, IsTrue, false, Some, None};
+ghost use Rattle.std.specs.Prelude.{◌≡◌, ◌+◌, ◌<◌, ◌≤◌, length, IfOk, IfErr, IfNone, OnOk, OnErr, IsTrue, false, Some, None};
 ghost use Rattle.std.specs.List.{list_all};
+ghost use Rattle.dap_json.specs.Field.{max_seq};
 ghost use Rattle.dap_message.specs.Canon.{canon};
+ghost use Rattle.dap_message.specs.ReadBack.{ReadsBack};
 ghost use Rattle.dap_message.specs.PlainCall.{is_plain_call};
 ghost use Rattle.dap_message.specs.Types.Call.{Call};
 ghost use Rattle.dap_tables.specs.Known.{has_pair};
@@ -13,6 +15,7 @@ ghost use Rattle.dap_client.specs.Keeping.{IsWhyNotSent, IsWhyLate};
 use crate::change::Change;
 use crate::fault::SendFault;
 use crate::got::Sent;
+use crate::laws::each_name_is_short;
 use crate::phase::Phase;
 use crate::session::Session;
 use crate::{changes, table};
@@ -111,6 +114,8 @@ impl Session {
         ensures first { (c : Call) → length (canon (next_message self.now c)) ≡ measured → result ≡ first_of late_refusals c false self.now }
         ensures left { IfNone result (self.now.used < self.now.limits.seq) }
         ensures room { IfNone result (length self.now.outstanding < self.now.limits.requests) }
+        ensures fits { IfNone result (measured ≤ self.now.limits.body) }
+        ensures greatest { self.now.limits.seq ≤ max_seq }
     {
         if measured > self.limits.body() {
             return Some(SendFault::TooLarge);
@@ -141,9 +146,12 @@ impl Session {
         ensures left { OnOk result (self.now.used < self.now.limits.seq) }
         ensures room { OnOk result (length self.now.outstanding < self.now.limits.requests) }
         ensures fine { OnOk result (first_of late_refusals call.now false self.now ≡ None) }
+        ensures reads_back { OnOk result (ReadsBack self.now.limits.body (next_message self.now call.now)) }
         ensures refused { IfErr result (λ fault. IsWhyLate fault call.now self.now) }
     {
+        // Laws for the proof: what a plain call is written as can be written, and its name is read.
         written_call_is_plain();
+        each_name_is_short();
         let entry = request(alloc, self.next_seq(), call)?;
         let text = write_request(alloc, entry.seq, entry.command.as_str(), &entry.arguments)?;
         if let Some(fault) = self.late_refusal(text.len()) {
@@ -167,6 +175,7 @@ impl Session {
         ensures seq { IfOk result (λ sent. sent.seq ≡ self.old.used + 1) }
         ensures bytes { IfOk result (λ sent. sent.bytes.items ≡ sent_bytes self.old call.now) }
         ensures session { OnOk result (self.new ≡ after_send call.now self.old) }
+        ensures reads_back { OnOk result (ReadsBack self.old.limits.body (next_message self.old call.now)) }
         ensures refused { IfErr result (λ fault. IsWhyNotSent fault call.now closed self.old) }
         ensures unchanged { OnErr result (self.new ≡ self.old) }
     {

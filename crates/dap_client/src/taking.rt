@@ -1,13 +1,16 @@
 //! What comes of a message that is delivered.
 ghost use Rattle.std.specs.Prelude.{◌≡◌, ◌+◌, ◌≤◌, ◌<◌, [], ◌∷◌, ◌++◌, length, if◌then◌else◌, ◌&&◌, IfOk, IfErr, OnOk, OnErr, IsTrue, Some, None, codes, option_and_then};
-ghost use Rattle.dap_json.specs.Field.{tree_at};
+ghost use Rattle.dap_json.specs.Field.{max_seq, tree_at};
 ghost use Rattle.dap_frame.specs.Written.{frame_of};
 ghost use Rattle.dap_message.specs.Canon.{canon};
+ghost use Rattle.dap_message.specs.InRange.{IsInRange};
 ghost use Rattle.dap_message.specs.Lengths.{failed};
+ghost use Rattle.dap_message.specs.Meaning.{Msg};
+ghost use Rattle.dap_message.specs.Refusals.{max_command};
 ghost use Rattle.dap_message.specs.Types.Failure.{Failure};
 ghost use Rattle.dap_tables.specs.Outstanding.{entry_with};
 ghost use Rattle.dap_client.specs.Changes.{change_in, signal_named};
-ghost use Rattle.dap_client.specs.Keeping.{matched, IsMade, IsWhyClosed, IsWhyUnlearned};
+ghost use Rattle.dap_client.specs.Keeping.{matched, AreReadBack, IsMade, IsWhyClosed, IsWhyUnlearned};
 ghost use Rattle.dap_client.specs.declared.phase.Phase.TheVariants.{Initializing};
 ghost use Rattle.dap_message.specs.Capabilities.{offered_by};
 ghost use Rattle.dap_client.specs.Phases.{is_phase, is_among, in_a_stop};
@@ -21,6 +24,7 @@ use crate::phase::Phase;
 use crate::session::Session;
 use crate::signal::Signal;
 use dap_frame::write_frame;
+use dap_message::laws::fixed_messages_are_short;
 use dap_message::{Capabilities, Command, Failure, Kind, Message, Text, Tree, write_failure};
 use dap_tables::{KnownFault, ReferenceKind};
 use std::alloc::{AllocError, Global};
@@ -187,10 +191,13 @@ impl Session {
     fn decline(&mut self, alloc: Global, seq: u64, command: &Text) -> Result<Vec<u8>, ClientFault>
         ensures limits { self.new.limits ≡ self.old.limits }
         ensures ok { IfOk result (λ bytes. IsMade (takes_request seq command.now self.old) self.new bytes.items) }
+        ensures reads_back { OnOk result (seq ≤ max_seq → length command.now ≤ max_command → AreReadBack self.old.limits.body (takes_request seq command.now self.old)) }
         ensures refused { IfErr result (λ fault. IsWhyClosed fault (takes_request seq command.now self.old)) }
         ensures err { OnErr result (self.new ≡ self.old) }
     {
-        let _ = &self.limits;
+        // A law for the proof: a failure is short.
+        fixed_messages_are_short();
+        let _most = self.limits.body();
         let mut numbers = self.numbers;
         let number = match numbers.next() {
             Some(number) => number,
@@ -205,6 +212,7 @@ impl Session {
     pub(crate) fn take(&mut self, alloc: Global, message: &Message) -> Result<Vec<u8>, ClientFault>
         ensures limits { self.new.limits ≡ self.old.limits }
         ensures ok { IfOk result (λ bytes. IsMade (takes message.now self.old) self.new bytes.items) }
+        ensures reads_back { OnOk result (IsInRange message.now → AreReadBack self.old.limits.body (takes message.now self.old)) }
         ensures refused { IfErr result (λ fault. IsWhyClosed fault (takes message.now self.old)) }
         ensures err { OnErr result (self.new ≡ self.old) }
     {
@@ -232,7 +240,8 @@ impl Session {
 
 /// The answer to a request of the adapter, as it is written.
 fn declined(alloc: Global, number: u64, seq: u64, command: &Text) -> Result<Vec<u8>, AllocError>
-    ensures { IfOk result (λ bytes. bytes.items ≡ frame_of (canon (failed number seq command.now Failure.Unsupported))) }
+    ensures bytes { IfOk result (λ bytes. bytes.items ≡ frame_of (canon (failed number seq command.now Failure.Unsupported))) }
+    ensures reads_back { OnOk result (number ≤ max_seq → seq ≤ max_seq → length command.now ≤ max_command → Msg (canon (failed number seq command.now Failure.Unsupported)) (failed number seq command.now Failure.Unsupported)) }
 {
     let text = write_failure(alloc, number, seq, command.as_str(), Failure::Unsupported)?;
     let mut bytes = Vec::new(alloc);

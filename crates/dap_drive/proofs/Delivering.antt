@@ -1,44 +1,105 @@
--- A message that is under way is delivered, and what is written then is under way.
-use Rattle.std.proofs.Common.{◌≡◌, ℕ, ◌<◌, List, [], ◌∷◌, ◌++◌, length, take, drop, Option, Some, None, Ok, refl, sym, ap, ◌∙◌, subst, arith, append-nil}
+-- A message that is under way is delivered, and what is written then is under way; or why it is not.
+use Rattle.std.proofs.Common.{◌≡◌, ℕ, ◌<◌, List, [], ◌∷◌, ◌++◌, length, map, take, drop, Option, Some, None, Ok, Err, refl, sym, ap, ◌∙◌, subst, arith, append-nil, inl, inr}
+use Rattle.std.specs.Prelude.{◌⊎◌}
 use Rattle.dap_frame.specs.Intake.{Intake, StandsFor as StandsForStream}
-use Rattle.dap_frame.specs.Laws.{EachStreamHasOneSplit}
-use Rattle.dap_frame.specs.Settings.{Settings, bounds_of}
+use Rattle.dap_frame.specs.Settings.{Settings, AreInRange, bounds_of}
 use Rattle.dap_frame.specs.Stream.{FramesThen}
+use Rattle.dap_frame.specs.Written.{frame_of}
+use Rattle.dap_frame.specs.declared.frames.FrameFault.{FrameFault}
 use Rattle.dap_frame.specs.declared.limits.Bounds.{Bounds}
 use Rattle.dap_history.specs.History.{Entry, In}
+use Rattle.dap_history.specs.Pieces.{Whole, FrameClosed, BodyRefused}
+use Rattle.dap_message.specs.Canon.{canon}
+use Rattle.dap_message.specs.Laws.{IsOneMessage, IsOneRefusal}
 use Rattle.dap_message.specs.Meaning.{Msg}
+use Rattle.dap_message.specs.ReadBack.{ReadsBack, AllReadBack}
+use Rattle.dap_message.specs.Refusals.{Bad}
+use Rattle.dap_message.specs.declared.fault.BodyRefusal.{BodyRefusal}
 use Rattle.dap_message.specs.declared.message.Message.{Message}
+use Rattle.dap_debuggee.specs.Shown.{Shown}
 use Rattle.dap_session.specs.Carried.{Goes, CarriedOut}
-use Rattle.dap_session.specs.Plan.{Plan, numbered, bytes_of}
-use Rattle.dap_session.specs.Seat.{Seat}
+use Rattle.dap_session.specs.Plan.{Plan, numbered, bytes_of, entries_of}
+use Rattle.dap_session.specs.Seat.{Seat, Writes}
 use Rattle.dap_session.specs.Session.{Session}
 use Rattle.dap_session.specs.Taking.{takes}
-use Rattle.dap_adapter.specs.Calls.{Step, Takes as AdapterTakes, Delivers as AdapterDelivers}
+use Rattle.dap_session.specs.declared.fault.AdapterFault.{AdapterFault}
+use Rattle.dap_session.specs.declared.fault.AdapterFault.TheVariants as adapter_fault
+use Rattle.dap_adapter.specs.Calls.{Step, Takes as AdapterTakes, Delivers as AdapterDelivers, ClosedBy as AdapterClosedBy, TakeRefused as AdapterTakeRefused}
 use Rattle.dap_adapter.specs.End.{End as AdapterEnd}
-use Rattle.dap_adapter.specs.Run.{Writes}
+use Rattle.dap_adapter.specs.Run.{to_take}
 use Rattle.dap_adapter.specs.declared.taken.Taken.{Taken}
 use Rattle.dap_check.specs.declared.line.Side.{Side}
 use Rattle.dap_check.specs.declared.line.Side.TheVariants.{Client, Adapter}
-use Rattle.dap_client.specs.Calls.{Takes as ClientTakes, Delivers as ClientDelivers}
+use Rattle.dap_client.specs.Calls.{Takes as ClientTakes, Delivers as ClientDelivers, ClosedBy as ClientClosedBy, TakeRefused as ClientTakeRefused}
 use Rattle.dap_client.specs.End.{End as ClientEnd}
 use Rattle.dap_client.specs.Session.{Session as ClientSession}
-use Rattle.dap_client.specs.Taking.{takes as client_takes, bytes_of as client_bytes_of}
+use Rattle.dap_client.specs.Taking.{takes as client_takes, entries_of as client_entries}
+use Rattle.dap_client.specs.declared.fault.ClientFault.{ClientFault}
+use Rattle.dap_client.specs.declared.fault.ClientFault.TheVariants as client_fault
 use Rattle.dap_client.specs.declared.got.Got.{Got}
-use Rattle.dap_drive.specs.Frames.{AreFrames}
-use Rattle.dap_drive.specs.Held.{IsClientAt, IsAdapterAt, HasDelivered}
-use Rattle.dap_drive.specs.Lines.{IsBetween, WritesLines}
-use Rattle.dap_drive.specs.Orders.{one_up, one_down}
-use Rattle.dap_drive.specs.Transcript.{Said, said_by, text_of}
-use Rattle.dap_drive.specs.World.{World, client_said, adapter_said}
-use Rattle.dap_drive.proofs.Streams.{joined, first_is, not_waiting, completed, between_again, between_still}
-use Rattle.dap_drive.proofs.LinesWritten.{lines_append}
+use Rattle.dap_world.specs.Agreement.{AllArrive, EachScheduleAgrees}
+use Rattle.dap_world.specs.World.{World, Said, said_by, client_said, adapter_said, ComesUp, ComesDown, by_coming_up, by_coming_down, goes}
+use Rattle.dap_drive.specs.Faults.{FrameLaws, fault_of_client, fault_of_adapter}
+use Rattle.dap_drive.specs.Frames.{AreFrames, AreFramesOf}
+use Rattle.dap_drive.specs.Held.{IsClientAt, IsAdapterAt, HasDelivered, StopsDelivering}
+use Rattle.dap_drive.specs.Lines.{IsBetween, WritesLines, IsUnwritten, lines_of}
+use Rattle.dap_drive.specs.Orders.{Delivers, one_up, one_down, LacksNumbers, HasTooManyReferences}
+use Rattle.dap_drive.specs.Transcript.{text_of}
+use Rattle.dap_drive.proofs.Streams.{joined, first_is, not_waiting, not_closed, completed, between_again, between_still, same_bodies, none as no_frames}
+use Rattle.dap_drive.proofs.LinesWritten.{text_append, text_of_messages}
 
--- bytes are frames of some body
-pub some_body : (b : Bounds) (bodies : List (List ℕ)) (rest : List ℕ) → FramesThen b bodies [] rest → 0 < length rest → (x : List ℕ) × (xs : List (List ℕ)) × (bodies ≡ x ∷ xs)
-some_body b [] rest e h = absurd (omega (arith, ap length e))
-some_body b (x ∷ xs) rest f h = (x, xs, refl)
+-- ---- messages and their frames
 
-module _ (laws : EachStreamHasOneSplit) (limits : Settings) where
+texts_append : (xs ys : List Message) → map canon (xs ++ ys) ≡ map canon xs ++ map canon ys
+texts_append [] ys = refl
+texts_append (x ∷ xs) ys = ap (λ (z : List (List ℕ)). canon x ∷ z) (texts_append xs ys)
+
+-- the frames of messages are bytes of one more way
+pub more_frames : (limits : Settings) (xs ys : List Message) (s t : List ℕ) → AreFramesOf limits xs s → AreFramesOf limits ys t → AreFramesOf limits (xs ++ ys) (s ++ t)
+more_frames limits xs ys s t f g =
+    subst (λ (z : List (List ℕ)). AreFrames limits z (s ++ t)) (sym (texts_append xs ys)) (joined (bounds_of limits) (map canon xs) (map canon ys) [] s t f g)
+
+-- bytes are frames of some message
+pub some_message : (limits : Settings) (ms : List Message) (rest : List ℕ) → AreFramesOf limits ms rest → 0 < length rest → (x : Message) × (xs : List Message) × (ms ≡ x ∷ xs)
+some_message limits [] rest e h = absurd (omega (arith, ap length e))
+some_message limits (x ∷ xs) rest f h = (x, xs, refl)
+
+same_message : (body : List ℕ) (m n : Message) → IsOneMessage body ⊎ IsOneRefusal body → Msg body m → Msg body n → m ≡ n
+same_message body m n (inl o) h g = o.no_other m h ∙ sym (o.no_other n g)
+same_message body m n (inr o) h g = absurd (o.no_message m h)
+
+not_both : (body : List ℕ) (m : Message) (cause : BodyRefusal) → IsOneMessage body ⊎ IsOneRefusal body → Msg body m → Bad body cause → ⊥
+not_both body m cause (inl o) h b = o.no_refusal cause b
+not_both body m cause (inr o) h b = o.no_message m h
+
+pub header : (limits : Settings) → AreInRange limits → 0 < (bounds_of limits).header
+header limits r = omega (arith, r.header.0)
+
+module _ (laws : FrameLaws) (limits : Settings) where
+  -- what is read back is framed
+  pub frames_of : (ms : List Message) → AreInRange limits → AllReadBack limits.body ms → AreFramesOf limits ms (bytes_of ms)
+  frames_of [] r h = refl
+  frames_of (m ∷ ms) r h = (frame_of (canon m), bytes_of ms, refl, laws.written.frame (bounds_of limits) (canon m) r.header.0 r.body.1 h.0.fits, frames_of ms r h.1)
+
+  -- bytes of messages, and the lines that are written of them
+  pub record IsWritten (side : Side) (ms : List Message) (bytes before after : List ℕ) : Type 0 where
+    pub frames : AreFramesOf limits ms bytes
+    pub lines : after ≡ before ++ text_of (said_by side ms)
+
+  pub written : (side : Side) (ms : List Message) (bytes before after : List ℕ) (later : Intake) → AreInRange limits → AllReadBack limits.body ms → bytes ≡ bytes_of ms → WritesLines limits later side bytes before after → IsWritten side ms bytes before after
+  written side ms bytes before after later r h e w =
+      let frames : AreFramesOf limits ms bytes = subst (λ (z : List ℕ). AreFramesOf limits ms z) (sym e) (frames_of ms r h) in
+      let same : w.bodies ≡ map canon ms = same_bodies laws.one_split (bounds_of limits) w.bodies (map canon ms) bytes w.frames frames (no_frames laws.one_split (bounds_of limits)) in
+      record { frames = frames; lines = w.lines ∙ ap (λ (z : List ℕ). before ++ z) (ap (λ (z : List (List ℕ)). lines_of side z) same ∙ text_of_messages side ms) }
+
+  -- bytes of messages are written
+  pub not_unwritten : (ms : List Message) (bytes : List ℕ) (i : Intake) → AreInRange limits → AllReadBack limits.body ms → bytes ≡ bytes_of ms → IsBetween limits i
+      → ((limits_of : Settings) (bodies : List (List ℕ)) → AreInRange limits_of → IsBetween limits_of i → AreFrames limits_of bodies bytes → ⊥) → ⊥
+  not_unwritten ms bytes i r h e b no = no limits (map canon ms) r b (subst (λ (z : List ℕ). AreFramesOf limits ms z) (sym e) (frames_of ms r h))
+
+  pub longer : (side : Side) (ms : List Message) (said : List Said) (before after : List ℕ) → before ≡ text_of said → after ≡ before ++ text_of (said_by side ms) → after ≡ text_of (said ++ said_by side ms)
+  longer side ms said before after is e = e ∙ (ap (λ (z : List ℕ). z ++ text_of (said_by side ms)) is ∙ sym (text_append said (said_by side ms)))
+
   -- ---- what came to an end is whole frames
 
   client_bounds : (e : ClientEnd) (s : ClientSession) → IsClientAt limits e s → e.intake.bounds ≡ bounds_of limits
@@ -53,178 +114,298 @@ module _ (laws : EachStreamHasOneSplit) (limits : Settings) where
   adapter_stream : {D : Type 0} (e : AdapterEnd D) (p : Seat D) (a : IsAdapterAt limits e p) → StandsForStream e.intake a.came a.stands.received.bodies []
   adapter_stream e p a = subst (λ (z : List ℕ). StandsForStream e.intake a.came a.stands.received.bodies z) a.between a.stands.received.stream
 
-  -- ---- lines
+  -- ---- the first message under way is the one that comes whole
 
-  pub longer : (side : Side) (bodies : List (List ℕ)) (said : List Said) (before after : List ℕ) → before ≡ text_of said → after ≡ before ++ text_of (said_by side bodies) → after ≡ text_of (said ++ said_by side bodies)
-  longer side bodies said before after is e = e ∙ (ap (λ (z : List ℕ). z ++ text_of (said_by side bodies)) is ∙ sym (lines_append said (said_by side bodies)))
+  pub record IsFirst (x : Message) (xs : List Message) (held rest : List ℕ) (n : ℕ) : Type 0 where
+    pub held_is : held ≡ canon x
+    pub left : AreFramesOf limits xs (drop n rest)
+    pub only : (m : Message) → Msg held m → m ≡ x
+    pub good : (cause : BodyRefusal) → Bad held cause → ⊥
+
+  first_whole : (i : Intake) (s : List ℕ) (bodies : List (List ℕ)) (x : Message) (xs : List Message) (rest : List ℕ) (n : ℕ) → i.bounds ≡ bounds_of limits → StandsForStream i s bodies [] → AreFramesOf limits (x ∷ xs) rest → ReadsBack limits.body x
+      → (w : Whole i rest n) → IsFirst x xs w.ready.held rest n
+  first_whole i s bodies x xs rest n bounds stream frames back w =
+      let b = bounds_of limits in
+      let frame = completed laws.one_split b i w.ready s bodies rest n bounds stream w.completes in
+      let held = first_is laws.one_split b (canon x) w.ready.held (map canon xs) n rest frames frame in
+      record {
+        held_is = held.0;
+        left = held.1;
+        only = λ m read. same_message (canon x) m x (laws.one_message (canon x)) (subst (λ (z : List ℕ). Msg z m) held.0 read) back.reads;
+        good = λ cause bad. not_both (canon x) x cause (laws.one_message (canon x)) back.reads (subst (λ (z : List ℕ). Bad z cause) held.0 bad);
+      }
+
+module _ {D : Type 0} (laws : FrameLaws) (shown : D → Shown) (follows : Goes D) (agrees : EachScheduleAgrees shown follows) (limits : Settings) (debuggee : D) (start : World D) where
+  abbrev At : ClientEnd → AdapterEnd D → Intake → List ℕ → List ℕ → List ℕ → Type 0
+  At client adapter reader transcript up down = HasDelivered shown follows limits debuggee start client adapter reader transcript up down
+
+  arrives : (client : ClientEnd) (adapter : AdapterEnd D) (reader : Intake) (transcript up down : List ℕ) (h : At client adapter reader transcript up down) → AllArrive limits h.world
+  arrives client adapter reader transcript up down h = (agrees limits debuggee h.world h.at.in_range h.at.schedule).arrives
 
   -- ---- the client takes a message
 
-  module _ {D : Type 0} (follows : Goes D) (start : World D) where
-    down_delivered : (client next : ClientEnd) (adapter : AdapterEnd D) (reader : Intake) (transcript up rest : List ℕ) (h : HasDelivered follows limits start client adapter reader transcript up rest)
-        → (x : List ℕ) (xs : List (List ℕ)) → h.world.down ≡ x ∷ xs
-        → (got : Got) (m : Message) → ClientDelivers client rest got m next → next.session.limits ≡ client.session.limits
-        → (later : Intake) (longer_transcript : List ℕ) → WritesLines limits later Client got.bytes.items transcript longer_transcript
-        → HasDelivered follows limits start next adapter later longer_transcript (up ++ got.bytes.items) (drop got.used rest)
-    down_delivered client next adapter reader transcript up rest h x xs first got m d keeps later longer_transcript w =
-        let b = bounds_of limits in
-        let c = h.at.client_at in
-        let bounds = client_bounds client h.world.client c in
-        let stream = client_stream client h.world.client c in
-        let frame = completed laws b client.intake d.whole.ready c.came c.stands.received.bodies rest got.used bounds stream d.whole.completes in
-        let held = first_is laws b x d.whole.ready.held xs got.used rest (subst (λ (z : List (List ℕ)). FramesThen b z [] rest) first h.down_is) frame in
-        let stands = d.goes_on c.came c.history c.stands in
-        let same_limits : next.session.limits ≡ limits = keeps ∙ (ap (λ (z : ClientSession). z.limits) c.session_is ∙ c.limits_are) in
-        let new_bounds : next.intake.bounds ≡ b = stands.bounds ∙ ap bounds_of same_limits in
-        let world : World D = client_said d.made.after w.bodies (record h.world { down = xs }) in
-        let frames : AreFrames h.world.client.limits w.bodies (client_bytes_of d.made) =
-        subst (λ (z : Settings). AreFrames z w.bodies (client_bytes_of d.made)) (sym c.limits_are) (subst (λ (z : List ℕ). AreFrames limits w.bodies z) d.bytes_are w.frames) in
-        record {
-          world = world;
-          delivers = one_down h.world world h.delivers
-              (record { body = x; later = xs; first = first; message = m; read = subst (λ (z : List ℕ). Msg z m) held.0 d.read; made = d.made; taken = subst (λ (z : ClientSession). client_takes m z ≡ Ok d.made) c.session_is d.is; bodies = w.bodies; frames = frames; is = refl });
-          at = record {
-            client_at = record {
-              session_is = d.session;
-              limits_are = ap (λ (z : ClientSession). z.limits) (sym d.session) ∙ same_limits;
-              came = c.came ++ take got.used rest;
-              history = c.history ++ (In m ∷ Rattle.dap_client.specs.Taking.entries_of d.made);
-              stands = stands;
-              between = between_again laws b client.intake d.whole.ready next.intake c.came c.stands.received.bodies rest got.used stands.received.bodies stands.received.rest bounds stream d.whole.completes new_bounds stands.received.stream;
-            };
-            adapter_at = h.at.adapter_at;
-            reader_at = w.between;
-            transcript_is = longer Client w.bodies h.world.said transcript longer_transcript h.at.transcript_is w.lines;
+  first_down : (client : ClientEnd) (adapter : AdapterEnd D) (reader : Intake) (transcript up rest : List ℕ) (h : At client adapter reader transcript up rest) → (x : Message) (xs : List Message) → h.world.down ≡ x ∷ xs → (n : ℕ) (w : Whole client.intake rest n) → IsFirst limits x xs w.ready.held rest n
+  first_down client adapter reader transcript up rest h x xs first n w =
+      let c = h.at.client_at in
+      let read : AllReadBack limits.body (x ∷ xs) = subst (λ (z : List Message). AllReadBack limits.body z) first (arrives client adapter reader transcript up rest h).down in
+      first_whole laws limits client.intake c.came c.stands.received.bodies x xs rest n (client_bounds laws limits client h.world.client c) (client_stream laws limits client h.world.client c) (subst (λ (z : List Message). AreFramesOf limits z rest) first h.down_is) read.0 w
+
+  down_delivered : (client next : ClientEnd) (adapter : AdapterEnd D) (reader : Intake) (transcript up rest : List ℕ) (h : At client adapter reader transcript up rest) → (x : Message) (xs : List Message) → h.world.down ≡ x ∷ xs
+      → (got : Got) (m : Message) → ClientDelivers client rest got m next → next.session.limits ≡ client.session.limits
+      → (later : Intake) (longer_transcript : List ℕ) → WritesLines limits later Client got.bytes.items transcript longer_transcript
+      → At next adapter later longer_transcript (up ++ got.bytes.items) (drop got.used rest)
+  down_delivered client next adapter reader transcript up rest h x xs first got m d keeps later longer_transcript w =
+      let b = bounds_of limits in
+      let c = h.at.client_at in
+      let is_first = first_down client adapter reader transcript up rest h x xs first got.used d.whole in
+      let same : m ≡ x = is_first.only m d.read in
+      let stands = d.goes_on c.came c.history c.stands in
+      let client_limits : client.session.limits ≡ limits = ap (λ (z : ClientSession). z.limits) c.session_is ∙ c.limits_are in
+      let same_limits : next.session.limits ≡ limits = keeps ∙ client_limits in
+      let new_bounds : next.intake.bounds ≡ b = stands.bounds ∙ ap bounds_of same_limits in
+      let back : AllReadBack limits.body d.made.written = subst (λ (z : Settings). AllReadBack z.body d.made.written) client_limits d.reads_back in
+      let lines = written laws limits Client d.made.written got.bytes.items transcript longer_transcript later h.at.in_range back d.bytes_are w in
+      let world : World D = client_said d.made.after d.made.written (record h.world { down = xs }) in
+      let step : ComesDown h.world world =
+      record {
+        message = x;
+        later = xs;
+        first = first;
+        made = d.made;
+        taken = subst (λ (z : Message). client_takes z h.world.client ≡ Ok d.made) same (subst (λ (z : ClientSession). client_takes m z ≡ Ok d.made) c.session_is d.is);
+        reads_back = subst (λ (z : ClientSession). AllReadBack z.limits.body d.made.written) c.session_is d.reads_back;
+        is = refl;
+      } in
+      record {
+        world = world;
+        delivers = one_down h.world world h.delivers step;
+        at = record {
+          in_range = h.at.in_range;
+          schedule = goes h.world world h.at.schedule (by_coming_down step);
+          client_at = record {
+            session_is = d.session;
+            limits_are = ap (λ (z : ClientSession). z.limits) (sym d.session) ∙ same_limits;
+            came = c.came ++ take got.used rest;
+            history = c.history ++ (In m ∷ client_entries d.made);
+            stands = stands;
+            between = between_again laws.one_split b client.intake d.whole.ready next.intake c.came c.stands.received.bodies rest got.used stands.received.bodies stands.received.rest (client_bounds laws limits client h.world.client c) (client_stream laws limits client h.world.client c) d.whole.completes new_bounds stands.received.stream;
           };
-          up_is = joined b h.world.up w.bodies [] up got.bytes.items h.up_is w.frames;
-          down_is = held.1;
-        }
+          adapter_at = h.at.adapter_at;
+          reader_at = w.between;
+          transcript_is = longer laws limits Client d.made.written h.world.said transcript longer_transcript h.at.transcript_is lines.lines;
+        };
+        up_is = more_frames limits h.world.up d.made.written up got.bytes.items h.up_is lines.frames;
+        down_is = is_first.left;
+      }
 
-    pub took_down : (client next : ClientEnd) (adapter : AdapterEnd D) (reader : Intake) (transcript up rest : List ℕ) → HasDelivered follows limits start client adapter reader transcript up rest
-        → 0 < length rest → (got : Got) (delivered : Option Message) → ClientTakes client rest got delivered next → next.session.limits ≡ client.session.limits
-        → (later : Intake) (longer_transcript : List ℕ) → (IsBetween limits reader → WritesLines limits later Client got.bytes.items transcript longer_transcript)
-        → HasDelivered follows limits start next adapter later longer_transcript (up ++ got.bytes.items) (drop got.used rest)
-    took_down client next adapter reader transcript up rest h some got None t keeps later longer_transcript w =
-        let b = bounds_of limits in
-        let c = h.at.client_at in
-        let body = some_body b h.world.down rest h.down_is some in
-        absurd (not_waiting laws b client.intake next.intake c.came c.stands.received.bodies rest got.used body.0 body.1 (client_bounds client h.world.client c) (client_stream client h.world.client c) t.gathers (subst (λ (z : List (List ℕ)). FramesThen b z [] rest) body.2 h.down_is))
-    took_down client next adapter reader transcript up rest h some got (Some m) t keeps later longer_transcript w =
-        let body = some_body (bounds_of limits) h.world.down rest h.down_is some in
-        down_delivered client next adapter reader transcript up rest h body.0 body.1 body.2 got m t keeps later longer_transcript (w h.at.reader_at)
+  pub took_down : (client next : ClientEnd) (adapter : AdapterEnd D) (reader : Intake) (transcript up rest : List ℕ) → At client adapter reader transcript up rest
+      → 0 < length rest → (got : Got) (delivered : Option Message) → ClientTakes client rest got delivered next → next.session.limits ≡ client.session.limits
+      → (later : Intake) (longer_transcript : List ℕ) → (IsBetween limits reader → WritesLines limits later Client got.bytes.items transcript longer_transcript)
+      → At next adapter later longer_transcript (up ++ got.bytes.items) (drop got.used rest)
+  took_down client next adapter reader transcript up rest h some got None t keeps later longer_transcript w =
+      let c = h.at.client_at in
+      let m = some_message limits h.world.down rest h.down_is some in
+      absurd (not_waiting laws.one_split (bounds_of limits) client.intake next.intake c.came c.stands.received.bodies rest got.used (canon m.0) (map canon m.1) (client_bounds laws limits client h.world.client c) (client_stream laws limits client h.world.client c) t.gathers (subst (λ (z : List Message). AreFramesOf limits z rest) m.2 h.down_is))
+  took_down client next adapter reader transcript up rest h some got (Some m) t keeps later longer_transcript w =
+      let first = some_message limits h.world.down rest h.down_is some in
+      down_delivered client next adapter reader transcript up rest h first.0 first.1 first.2 got m t keeps later longer_transcript (w h.at.reader_at)
 
-    -- the same of the bytes as the code has them
-    pub heard : (client next : ClientEnd) (adapter : AdapterEnd D) (reader : Intake) (transcript up rest : List ℕ) → HasDelivered follows limits start client adapter reader transcript up rest
-        → 0 < length rest → (got : Got) (delivered : Option Message) → ClientTakes client rest got delivered next → next.session.limits ≡ client.session.limits
-        → (later : Intake) (longer_transcript bytes more : List ℕ) (n : ℕ) → n ≡ got.used → bytes ≡ got.bytes.items → more ≡ up ++ bytes → (IsBetween limits reader → WritesLines limits later Client bytes transcript longer_transcript)
-        → HasDelivered follows limits start next adapter later longer_transcript more (drop n rest)
-    heard client next adapter reader transcript up rest h some got delivered t keeps later longer_transcript bytes more n used is sum w =
-        let all : more ≡ up ++ got.bytes.items = sum ∙ ap (λ (z : List ℕ). up ++ z) is in
-        subst (λ (z : List ℕ). HasDelivered follows limits start next adapter later longer_transcript z (drop n rest)) (sym all)
-        (subst (λ (z : ℕ). HasDelivered follows limits start next adapter later longer_transcript (up ++ got.bytes.items) (drop z rest)) (sym used)
-        (took_down client next adapter reader transcript up rest h some got delivered t keeps later longer_transcript (λ b. subst (λ (z : List ℕ). WritesLines limits later Client z transcript longer_transcript) is (w b))))
+  -- the same of the bytes as the code has them
+  pub heard : (client next : ClientEnd) (adapter : AdapterEnd D) (reader : Intake) (transcript up rest : List ℕ) → At client adapter reader transcript up rest
+      → 0 < length rest → (got : Got) (delivered : Option Message) → ClientTakes client rest got delivered next → next.session.limits ≡ client.session.limits
+      → (later : Intake) (longer_transcript bytes more : List ℕ) (n : ℕ) → n ≡ got.used → bytes ≡ got.bytes.items → more ≡ up ++ bytes → (IsBetween limits reader → WritesLines limits later Client bytes transcript longer_transcript)
+      → At next adapter later longer_transcript more (drop n rest)
+  heard client next adapter reader transcript up rest h some got delivered t keeps later longer_transcript bytes more n used is sum w =
+      let all : more ≡ up ++ got.bytes.items = sum ∙ ap (λ (z : List ℕ). up ++ z) is in
+      subst (λ (z : List ℕ). At next adapter later longer_transcript z (drop n rest)) (sym all)
+      (subst (λ (z : ℕ). At next adapter later longer_transcript (up ++ got.bytes.items) (drop z rest)) (sym used)
+      (took_down client next adapter reader transcript up rest h some got delivered t keeps later longer_transcript (λ b. subst (λ (z : List ℕ). WritesLines limits later Client z transcript longer_transcript) is (w b))))
 
-    -- ---- the adapter goes on
+  -- what the client wrote is framed
+  pub heard_framed : (client next : ClientEnd) (adapter : AdapterEnd D) (reader : Intake) (transcript up rest : List ℕ) → At client adapter reader transcript up rest → (got : Got) (delivered : Option Message) → ClientTakes client rest got delivered next
+      → (bytes : List ℕ) → bytes ≡ got.bytes.items → ((limits_of : Settings) (bodies : List (List ℕ)) → AreInRange limits_of → IsBetween limits_of reader → AreFrames limits_of bodies bytes → ⊥) → ⊥
+  heard_framed client next adapter reader transcript up rest h got None t bytes is no = not_unwritten laws limits [] bytes reader h.at.in_range tt (is ∙ t.none_written) h.at.reader_at no
+  heard_framed client next adapter reader transcript up rest h got (Some m) t bytes is no =
+      let c = h.at.client_at in
+      let client_limits : client.session.limits ≡ limits = ap (λ (z : ClientSession). z.limits) c.session_is ∙ c.limits_are in
+      not_unwritten laws limits t.made.written bytes reader h.at.in_range (subst (λ (z : Settings). AllReadBack z.body t.made.written) client_limits t.reads_back) (is ∙ t.bytes_are) h.at.reader_at no
 
-    -- by a step, after which whole frames came still
-    pub adapter_steps : (old new : AdapterEnd D) (p : Seat D) (a : IsAdapterAt limits old p) (plan : Plan) (used : List ℕ) (came : List Entry) (bytes : List ℕ) (s : Step follows plan old new used came bytes) → new.session.limits ≡ old.session.limits
-        → (s.goes_on a.came a.history a.stands).received.rest ≡ [] → IsAdapterAt limits new (record { session = s.made.after; debuggee = new.debuggee })
-    adapter_steps old new p a plan used came bytes s keeps between = record {
-      session_is = s.session;
-      debuggee_is = refl;
-      limits_are = ap (λ (z : Session). z.limits) (sym s.session) ∙ (keeps ∙ (ap (λ (z : Session). z.limits) a.session_is ∙ a.limits_are));
-      came = a.came ++ used;
-      history = a.history ++ (came ++ Rattle.dap_session.specs.Plan.entries_of old.session.used s.made);
-      stands = s.goes_on a.came a.history a.stands;
-      between = between;
-    }
+  -- ---- why the client does not
 
-    pub step_writes : (old new : AdapterEnd D) (p : Seat D) (a : IsAdapterAt limits old p) (plan : Plan) (used : List ℕ) (came : List Entry) (bytes : List ℕ) (s : Step follows plan old new used came bytes)
-        → Writes follows plan p (numbered p.session.used s.made.drafts) (record { session = s.made.after; debuggee = new.debuggee })
-    step_writes old new p a plan used came bytes s = record { made = s.made; carried = subst (λ (z : D). CarriedOut follows plan z s.made new.debuggee) a.debuggee_is s.carried; session = refl; outs_are = refl }
+  client_closed : (client : ClientEnd) (adapter : AdapterEnd D) (reader : Intake) (transcript up rest : List ℕ) (h : At client adapter reader transcript up rest) → 0 < length rest → (f : ClientFault) → ClientClosedBy client.intake client.session rest f
+      → (now : World D) × Delivers follows start now × HasTooManyReferences now
+  client_closed client adapter reader transcript up rest h some f t =
+      let first = some_message limits h.world.down rest h.down_is some in
+      let is_first = first_down client adapter reader transcript up rest h first.0 first.1 first.2 t.n t.whole in
+      let closes : client_takes first.0 h.world.client ≡ Err f = subst (λ (z : Message). client_takes z h.world.client ≡ Err f) (is_first.only t.message t.read) (subst (λ (z : ClientSession). client_takes t.message z ≡ Err f) h.at.client_at.session_is t.closes) in
+      let limit : f ≡ client_fault.ReferenceLimit = (agrees limits debuggee h.world h.at.in_range h.at.schedule).fault.down first.0 first.1 f first.2 closes in
+      (h.world, h.delivers, (first.0, first.1, first.2, subst (λ (z : ClientFault). client_takes first.0 h.world.client ≡ Err z) limit closes))
 
-    pub step_frames : (old new : AdapterEnd D) (p : Seat D) (a : IsAdapterAt limits old p) (plan : Plan) (used : List ℕ) (came : List Entry) (bytes : List ℕ) (s : Step follows plan old new used came bytes) (bodies : List (List ℕ))
-        → AreFrames limits bodies bytes → AreFrames p.session.limits bodies (bytes_of (numbered p.session.used s.made.drafts))
-    step_frames old new p a plan used came bytes s bodies f =
-        subst (λ (z : Settings). AreFrames z bodies (bytes_of (numbered p.session.used s.made.drafts))) (sym a.limits_are)
-        (subst (λ (z : List ℕ). AreFrames limits bodies z) (s.bytes_are ∙ ap (λ (z : Session). bytes_of (numbered z.used s.made.drafts)) a.session_is) f)
+  pub client_stops : (client : ClientEnd) (adapter : AdapterEnd D) (reader : Intake) (transcript up rest : List ℕ) (h : At client adapter reader transcript up rest) → 0 < length rest → (f : ClientFault) → ClientTakeRefused client.intake client.session rest f → StopsDelivering shown follows (fault_of_client f) start
+  client_stops client adapter reader transcript up rest h some (client_fault.Frame fault) t =
+      let c = h.at.client_at in
+      absurd (not_closed laws.one_split (bounds_of limits) laws.moves client.intake t.closed c.came c.stands.received.bodies rest fault (map canon h.world.down) (header limits h.at.in_range) (client_bounds laws limits client h.world.client c) (client_stream laws limits client h.world.client c) t.closes h.down_is)
+  client_stops client adapter reader transcript up rest h some (client_fault.Body cause offset) t =
+      let first = some_message limits h.world.down rest h.down_is some in
+      let is_first = first_down client adapter reader transcript up rest h first.0 first.1 first.2 t.n t.whole in
+      absurd (is_first.good cause t.bad)
+  client_stops client adapter reader transcript up rest h some (client_fault.Unmatched q) t = client_closed client adapter reader transcript up rest h some (client_fault.Unmatched q) t
+  client_stops client adapter reader transcript up rest h some (client_fault.CommandMismatch q) t = client_closed client adapter reader transcript up rest h some (client_fault.CommandMismatch q) t
+  client_stops client adapter reader transcript up rest h some (client_fault.RepeatedSeq q) t = client_closed client adapter reader transcript up rest h some (client_fault.RepeatedSeq q) t
+  client_stops client adapter reader transcript up rest h some client_fault.ReferenceLimit t = client_closed client adapter reader transcript up rest h some client_fault.ReferenceLimit t
+  client_stops client adapter reader transcript up rest h some client_fault.SeqExhausted t = client_closed client adapter reader transcript up rest h some client_fault.SeqExhausted t
+  client_stops client adapter reader transcript up rest h some client_fault.OutOfMemory t = tt
 
-    -- where no bytes came
-    pub still_between : (old new : AdapterEnd D) (p : Seat D) (a : IsAdapterAt limits old p) (plan : Plan) (came : List Entry) (bytes : List ℕ) (s : Step follows plan old new [] came bytes) → new.session.limits ≡ old.session.limits
-        → (s.goes_on a.came a.history a.stands).received.rest ≡ []
-    still_between old new p a plan came bytes s keeps =
-        let stands = s.goes_on a.came a.history a.stands in
-        let same_limits : new.session.limits ≡ limits = keeps ∙ (ap (λ (z : Session). z.limits) a.session_is ∙ a.limits_are) in
-        between_still laws (bounds_of limits) old.intake new.intake a.came (a.came ++ []) a.stands.received.bodies stands.received.bodies stands.received.rest (adapter_bounds old p a) (adapter_stream old p a) (stands.bounds ∙ ap bounds_of same_limits) stands.received.stream (append-nil a.came)
+  -- ---- the adapter goes on
 
-    -- ---- the adapter takes a message
+  -- by a step, after which whole frames came still
+  pub adapter_steps : (old new : AdapterEnd D) (p : Seat D) (a : IsAdapterAt limits old p) (plan : Plan) (used : List ℕ) (came : List Entry) (bytes : List ℕ) (s : Step follows plan old new used came bytes) → new.session.limits ≡ old.session.limits
+      → (s.goes_on a.came a.history a.stands).received.rest ≡ [] → IsAdapterAt limits new (record { session = s.made.after; debuggee = new.debuggee })
+  adapter_steps old new p a plan used came bytes s keeps between = record {
+    session_is = s.session;
+    debuggee_is = refl;
+    limits_are = ap (λ (z : Session). z.limits) (sym s.session) ∙ (keeps ∙ (ap (λ (z : Session). z.limits) a.session_is ∙ a.limits_are));
+    came = a.came ++ used;
+    history = a.history ++ (came ++ entries_of old.session.used s.made);
+    stands = s.goes_on a.came a.history a.stands;
+    between = between;
+  }
 
-    up_delivered : (client : ClientEnd) (adapter next : AdapterEnd D) (reader : Intake) (transcript rest down : List ℕ) (h : HasDelivered follows limits start client adapter reader transcript rest down)
-        → (x : List ℕ) (xs : List (List ℕ)) → h.world.up ≡ x ∷ xs
-        → (taken : Taken) (m : Message) → AdapterDelivers follows adapter rest taken m next → next.session.limits ≡ adapter.session.limits
-        → (later : Intake) (longer_transcript : List ℕ) → WritesLines limits later Adapter taken.bytes.items transcript longer_transcript
-        → HasDelivered follows limits start client next later longer_transcript (drop taken.used rest) (down ++ taken.bytes.items)
-    up_delivered client adapter next reader transcript rest down h x xs first taken m d keeps later longer_transcript w =
-        let b = bounds_of limits in
-        let a = h.at.adapter_at in
-        let bounds = adapter_bounds adapter h.world.adapter a in
-        let stream = adapter_stream adapter h.world.adapter a in
-        let frame = completed laws b adapter.intake d.whole.ready a.came a.stands.received.bodies rest taken.used bounds stream d.whole.completes in
-        let held = first_is laws b x d.whole.ready.held xs taken.used rest (subst (λ (z : List (List ℕ)). FramesThen b z [] rest) first h.up_is) frame in
-        let s = d.step in
-        let stands = s.goes_on a.came a.history a.stands in
-        let same_limits : next.session.limits ≡ limits = keeps ∙ (ap (λ (z : Session). z.limits) a.session_is ∙ a.limits_are) in
-        let new_bounds : next.intake.bounds ≡ b = stands.bounds ∙ ap bounds_of same_limits in
-        let seat : Seat D = record { session = s.made.after; debuggee = next.debuggee } in
-        let world : World D = adapter_said seat w.bodies (record h.world { up = xs }) in
-        record {
-          world = world;
-          delivers = one_up h.world world h.delivers
-              (record {
-                body = x;
-                later = xs;
-                first = first;
-                message = m;
-                read = subst (λ (z : List ℕ). Msg z m) held.0 d.read;
-                plan = d.plan;
-                taken = subst (λ (z : Session). takes m z ≡ Ok d.plan) a.session_is d.is;
-                outs = numbered h.world.adapter.session.used s.made.drafts;
-                seat = seat;
-                writes = step_writes adapter next h.world.adapter a d.plan (take taken.used rest) (In m ∷ []) taken.bytes.items s;
-                bodies = w.bodies;
-                frames = step_frames adapter next h.world.adapter a d.plan (take taken.used rest) (In m ∷ []) taken.bytes.items s w.bodies w.frames;
-                is = refl;
-              });
-          at = record {
-            client_at = h.at.client_at;
-            adapter_at = adapter_steps adapter next h.world.adapter a d.plan (take taken.used rest) (In m ∷ []) taken.bytes.items s keeps
-                (between_again laws b adapter.intake d.whole.ready next.intake a.came a.stands.received.bodies rest taken.used stands.received.bodies stands.received.rest bounds stream d.whole.completes new_bounds stands.received.stream);
-            reader_at = w.between;
-            transcript_is = longer Adapter w.bodies h.world.said transcript longer_transcript h.at.transcript_is w.lines;
-          };
-          up_is = held.1;
-          down_is = joined b h.world.down w.bodies [] down taken.bytes.items h.down_is w.frames;
-        }
+  pub step_writes : (old new : AdapterEnd D) (p : Seat D) (a : IsAdapterAt limits old p) (plan : Plan) (used : List ℕ) (came : List Entry) (bytes : List ℕ) (s : Step follows plan old new used came bytes)
+      → Writes follows plan p (numbered p.session.used s.made.drafts) (record { session = s.made.after; debuggee = new.debuggee })
+  step_writes old new p a plan used came bytes s = record { made = s.made; carried = subst (λ (z : D). CarriedOut follows plan z s.made new.debuggee) a.debuggee_is s.carried; session = refl; outs_are = refl }
 
-    pub took_up : (client : ClientEnd) (adapter next : AdapterEnd D) (reader : Intake) (transcript rest down : List ℕ) → HasDelivered follows limits start client adapter reader transcript rest down
-        → 0 < length rest → (taken : Taken) (delivered : Option Message) → AdapterTakes follows adapter rest taken delivered next → next.session.limits ≡ adapter.session.limits
-        → (later : Intake) (longer_transcript : List ℕ) → (IsBetween limits reader → WritesLines limits later Adapter taken.bytes.items transcript longer_transcript)
-        → HasDelivered follows limits start client next later longer_transcript (drop taken.used rest) (down ++ taken.bytes.items)
-    took_up client adapter next reader transcript rest down h some taken None t keeps later longer_transcript w =
-        let b = bounds_of limits in
-        let a = h.at.adapter_at in
-        let body = some_body b h.world.up rest h.up_is some in
-        absurd (not_waiting laws b adapter.intake next.intake a.came a.stands.received.bodies rest taken.used body.0 body.1 (adapter_bounds adapter h.world.adapter a) (adapter_stream adapter h.world.adapter a) t.gathers (subst (λ (z : List (List ℕ)). FramesThen b z [] rest) body.2 h.up_is))
-    took_up client adapter next reader transcript rest down h some taken (Some m) t keeps later longer_transcript w =
-        let body = some_body (bounds_of limits) h.world.up rest h.up_is some in
-        up_delivered client adapter next reader transcript rest down h body.0 body.1 body.2 taken m t keeps later longer_transcript (w h.at.reader_at)
+  -- what it writes is read back
+  pub step_back : (old new : AdapterEnd D) (p : Seat D) (a : IsAdapterAt limits old p) (plan : Plan) (used : List ℕ) (came : List Entry) (bytes : List ℕ) (s : Step follows plan old new used came bytes) → AllReadBack p.session.limits.body (numbered p.session.used s.made.drafts)
+  step_back old new p a plan used came bytes s = subst (λ (z : Session). AllReadBack z.limits.body (numbered z.used s.made.drafts)) a.session_is (s.reads_back a.came a.history a.stands)
 
-    pub served : (client : ClientEnd) (adapter next : AdapterEnd D) (reader : Intake) (transcript rest down : List ℕ) → HasDelivered follows limits start client adapter reader transcript rest down
-        → 0 < length rest → (taken : Taken) (delivered : Option Message) → AdapterTakes follows adapter rest taken delivered next → next.session.limits ≡ adapter.session.limits
-        → (later : Intake) (longer_transcript bytes more : List ℕ) (n : ℕ) → n ≡ taken.used → bytes ≡ taken.bytes.items → more ≡ down ++ bytes → (IsBetween limits reader → WritesLines limits later Adapter bytes transcript longer_transcript)
-        → HasDelivered follows limits start client next later longer_transcript (drop n rest) more
-    served client adapter next reader transcript rest down h some taken delivered t keeps later longer_transcript bytes more n used is sum w =
-        let all : more ≡ down ++ taken.bytes.items = sum ∙ ap (λ (z : List ℕ). down ++ z) is in
-        subst (λ (z : List ℕ). HasDelivered follows limits start client next later longer_transcript (drop n rest) z) (sym all)
-        (subst (λ (z : ℕ). HasDelivered follows limits start client next later longer_transcript (drop z rest) (down ++ taken.bytes.items)) (sym used)
-        (took_up client adapter next reader transcript rest down h some taken delivered t keeps later longer_transcript (λ b. subst (λ (z : List ℕ). WritesLines limits later Adapter z transcript longer_transcript) is (w b))))
+  pub step_within : (old new : AdapterEnd D) (p : Seat D) (a : IsAdapterAt limits old p) (plan : Plan) (used : List ℕ) (came : List Entry) (bytes : List ℕ) (s : Step follows plan old new used came bytes) → AllReadBack limits.body (numbered p.session.used s.made.drafts)
+  step_within old new p a plan used came bytes s = subst (λ (z : Settings). AllReadBack z.body (numbered p.session.used s.made.drafts)) a.limits_are (step_back old new p a plan used came bytes s)
+
+  pub step_bytes : (old new : AdapterEnd D) (p : Seat D) (a : IsAdapterAt limits old p) (plan : Plan) (used : List ℕ) (came : List Entry) (bytes : List ℕ) (s : Step follows plan old new used came bytes) → bytes ≡ bytes_of (numbered p.session.used s.made.drafts)
+  step_bytes old new p a plan used came bytes s = s.bytes_are ∙ ap (λ (z : Session). bytes_of (numbered z.used s.made.drafts)) a.session_is
+
+  -- where no bytes came
+  pub still_between : (old new : AdapterEnd D) (p : Seat D) (a : IsAdapterAt limits old p) (plan : Plan) (came : List Entry) (bytes : List ℕ) (s : Step follows plan old new [] came bytes) → new.session.limits ≡ old.session.limits
+      → (s.goes_on a.came a.history a.stands).received.rest ≡ []
+  still_between old new p a plan came bytes s keeps =
+      let stands = s.goes_on a.came a.history a.stands in
+      let same_limits : new.session.limits ≡ limits = keeps ∙ (ap (λ (z : Session). z.limits) a.session_is ∙ a.limits_are) in
+      between_still laws.one_split (bounds_of limits) old.intake new.intake a.came (a.came ++ []) a.stands.received.bodies stands.received.bodies stands.received.rest (adapter_bounds laws limits old p a) (adapter_stream laws limits old p a) (stands.bounds ∙ ap bounds_of same_limits) stands.received.stream (append-nil a.came)
+
+  -- ---- the adapter takes a message
+
+  first_up : (client : ClientEnd) (adapter : AdapterEnd D) (reader : Intake) (transcript rest down : List ℕ) (h : At client adapter reader transcript rest down) → (x : Message) (xs : List Message) → h.world.up ≡ x ∷ xs → (n : ℕ) (w : Whole adapter.intake rest n) → IsFirst limits x xs w.ready.held rest n
+  first_up client adapter reader transcript rest down h x xs first n w =
+      let a = h.at.adapter_at in
+      let read : AllReadBack limits.body (x ∷ xs) = subst (λ (z : List Message). AllReadBack limits.body z) first (arrives client adapter reader transcript rest down h).up in
+      first_whole laws limits adapter.intake a.came a.stands.received.bodies x xs rest n (adapter_bounds laws limits adapter h.world.adapter a) (adapter_stream laws limits adapter h.world.adapter a) (subst (λ (z : List Message). AreFramesOf limits z rest) first h.up_is) read.0 w
+
+  up_delivered : (client : ClientEnd) (adapter next : AdapterEnd D) (reader : Intake) (transcript rest down : List ℕ) (h : At client adapter reader transcript rest down) → (x : Message) (xs : List Message) → h.world.up ≡ x ∷ xs
+      → (taken : Taken) (m : Message) → AdapterDelivers follows adapter rest taken m next → next.session.limits ≡ adapter.session.limits
+      → (later : Intake) (longer_transcript : List ℕ) → WritesLines limits later Adapter taken.bytes.items transcript longer_transcript
+      → At client next later longer_transcript (drop taken.used rest) (down ++ taken.bytes.items)
+  up_delivered client adapter next reader transcript rest down h x xs first taken m d keeps later longer_transcript w =
+      let b = bounds_of limits in
+      let a = h.at.adapter_at in
+      let p = h.world.adapter in
+      let used = take taken.used rest in
+      let came : List Entry = In m ∷ [] in
+      let is_first = first_up client adapter reader transcript rest down h x xs first taken.used d.whole in
+      let same : m ≡ x = is_first.only m d.read in
+      let s = d.step in
+      let stands = s.goes_on a.came a.history a.stands in
+      let same_limits : next.session.limits ≡ limits = keeps ∙ (ap (λ (z : Session). z.limits) a.session_is ∙ a.limits_are) in
+      let new_bounds : next.intake.bounds ≡ b = stands.bounds ∙ ap bounds_of same_limits in
+      let seat : Seat D = record { session = s.made.after; debuggee = next.debuggee } in
+      let outs = numbered p.session.used s.made.drafts in
+      let lines = written laws limits Adapter outs taken.bytes.items transcript longer_transcript later h.at.in_range (step_within adapter next p a d.plan used came taken.bytes.items s) (step_bytes adapter next p a d.plan used came taken.bytes.items s) w in
+      let world : World D = adapter_said seat outs (record h.world { up = xs }) in
+      let step : ComesUp follows h.world world =
+      record {
+        message = x;
+        later = xs;
+        first = first;
+        plan = d.plan;
+        taken = subst (λ (z : Message). takes z p.session ≡ Ok d.plan) same (subst (λ (z : Session). takes m z ≡ Ok d.plan) a.session_is d.is);
+        outs = outs;
+        seat = seat;
+        writes = step_writes adapter next p a d.plan used came taken.bytes.items s;
+        reads_back = step_back adapter next p a d.plan used came taken.bytes.items s;
+        is = refl;
+      } in
+      record {
+        world = world;
+        delivers = one_up h.world world h.delivers step;
+        at = record {
+          in_range = h.at.in_range;
+          schedule = goes h.world world h.at.schedule (by_coming_up step);
+          client_at = h.at.client_at;
+          adapter_at = adapter_steps adapter next p a d.plan used came taken.bytes.items s keeps
+              (between_again laws.one_split b adapter.intake d.whole.ready next.intake a.came a.stands.received.bodies rest taken.used stands.received.bodies stands.received.rest (adapter_bounds laws limits adapter p a) (adapter_stream laws limits adapter p a) d.whole.completes new_bounds stands.received.stream);
+          reader_at = w.between;
+          transcript_is = longer laws limits Adapter outs h.world.said transcript longer_transcript h.at.transcript_is lines.lines;
+        };
+        up_is = is_first.left;
+        down_is = more_frames limits h.world.down outs down taken.bytes.items h.down_is lines.frames;
+      }
+
+  pub took_up : (client : ClientEnd) (adapter next : AdapterEnd D) (reader : Intake) (transcript rest down : List ℕ) → At client adapter reader transcript rest down
+      → 0 < length rest → (taken : Taken) (delivered : Option Message) → AdapterTakes follows adapter rest taken delivered next → next.session.limits ≡ adapter.session.limits
+      → (later : Intake) (longer_transcript : List ℕ) → (IsBetween limits reader → WritesLines limits later Adapter taken.bytes.items transcript longer_transcript)
+      → At client next later longer_transcript (drop taken.used rest) (down ++ taken.bytes.items)
+  took_up client adapter next reader transcript rest down h some taken None t keeps later longer_transcript w =
+      let a = h.at.adapter_at in
+      let m = some_message limits h.world.up rest h.up_is some in
+      absurd (not_waiting laws.one_split (bounds_of limits) adapter.intake next.intake a.came a.stands.received.bodies rest taken.used (canon m.0) (map canon m.1) (adapter_bounds laws limits adapter h.world.adapter a) (adapter_stream laws limits adapter h.world.adapter a) t.gathers (subst (λ (z : List Message). AreFramesOf limits z rest) m.2 h.up_is))
+  took_up client adapter next reader transcript rest down h some taken (Some m) t keeps later longer_transcript w =
+      let first = some_message limits h.world.up rest h.up_is some in
+      up_delivered client adapter next reader transcript rest down h first.0 first.1 first.2 taken m t keeps later longer_transcript (w h.at.reader_at)
+
+  pub served : (client : ClientEnd) (adapter next : AdapterEnd D) (reader : Intake) (transcript rest down : List ℕ) → At client adapter reader transcript rest down
+      → 0 < length rest → (taken : Taken) (delivered : Option Message) → AdapterTakes follows adapter rest taken delivered next → next.session.limits ≡ adapter.session.limits
+      → (later : Intake) (longer_transcript bytes more : List ℕ) (n : ℕ) → n ≡ taken.used → bytes ≡ taken.bytes.items → more ≡ down ++ bytes → (IsBetween limits reader → WritesLines limits later Adapter bytes transcript longer_transcript)
+      → At client next later longer_transcript (drop n rest) more
+  served client adapter next reader transcript rest down h some taken delivered t keeps later longer_transcript bytes more n used is sum w =
+      let all : more ≡ down ++ taken.bytes.items = sum ∙ ap (λ (z : List ℕ). down ++ z) is in
+      subst (λ (z : List ℕ). At client next later longer_transcript (drop n rest) z) (sym all)
+      (subst (λ (z : ℕ). At client next later longer_transcript (drop z rest) (down ++ taken.bytes.items)) (sym used)
+      (took_up client adapter next reader transcript rest down h some taken delivered t keeps later longer_transcript (λ b. subst (λ (z : List ℕ). WritesLines limits later Adapter z transcript longer_transcript) is (w b))))
+
+  -- what a step of the adapter wrote is framed
+  pub step_framed : (client : ClientEnd) (adapter next : AdapterEnd D) (reader : Intake) (transcript up down : List ℕ) (h : At client adapter reader transcript up down) (plan : Plan) (used : List ℕ) (came : List Entry) (bytes : List ℕ) → Step follows plan adapter next used came bytes
+      → (given : List ℕ) → given ≡ bytes → ((limits_of : Settings) (bodies : List (List ℕ)) → AreInRange limits_of → IsBetween limits_of reader → AreFrames limits_of bodies given → ⊥) → ⊥
+  step_framed client adapter next reader transcript up down h plan used came bytes s given is no =
+      let a = h.at.adapter_at in
+      let p = h.world.adapter in
+      not_unwritten laws limits (numbered p.session.used s.made.drafts) given reader h.at.in_range (step_within adapter next p a plan used came bytes s) (is ∙ step_bytes adapter next p a plan used came bytes s) h.at.reader_at no
+
+  pub served_framed : (client : ClientEnd) (adapter next : AdapterEnd D) (reader : Intake) (transcript rest down : List ℕ) → At client adapter reader transcript rest down → (taken : Taken) (delivered : Option Message) → AdapterTakes follows adapter rest taken delivered next
+      → (bytes : List ℕ) → bytes ≡ taken.bytes.items → ((limits_of : Settings) (bodies : List (List ℕ)) → AreInRange limits_of → IsBetween limits_of reader → AreFrames limits_of bodies bytes → ⊥) → ⊥
+  served_framed client adapter next reader transcript rest down h taken None t bytes is no = not_unwritten laws limits [] bytes reader h.at.in_range tt (is ∙ t.none_written) h.at.reader_at no
+  served_framed client adapter next reader transcript rest down h taken (Some m) t bytes is no = step_framed client adapter next reader transcript rest down h t.plan (take taken.used rest) (In m ∷ []) taken.bytes.items t.step bytes is no
+
+  -- ---- why the adapter does not
+
+  adapter_closed : (client : ClientEnd) (adapter : AdapterEnd D) (reader : Intake) (transcript rest down : List ℕ) (h : At client adapter reader transcript rest down) → 0 < length rest → (f : AdapterFault) → AdapterClosedBy adapter.intake adapter.session rest f
+      → (now : World D) × Delivers follows start now × LacksNumbers shown follows to_take now
+  adapter_closed client adapter reader transcript rest down h some f t =
+      let first = some_message limits h.world.up rest h.up_is some in
+      let is_first = first_up client adapter reader transcript rest down h first.0 first.1 first.2 t.n t.whole in
+      let closes : takes first.0 h.world.adapter.session ≡ Err f = subst (λ (z : Message). takes z h.world.adapter.session ≡ Err f) (is_first.only t.message t.read) (subst (λ (z : Session). takes t.message z ≡ Err f) h.at.adapter_at.session_is t.closes) in
+      let lacks : f ≡ adapter_fault.SeqExhausted = (agrees limits debuggee h.world h.at.in_range h.at.schedule).fault.up first.0 first.1 f first.2 closes in
+      (h.world, h.delivers, (first.0, first.1, first.2, subst (λ (z : AdapterFault). takes first.0 h.world.adapter.session ≡ Err z) lacks closes))
+
+  pub adapter_stops : (client : ClientEnd) (adapter : AdapterEnd D) (reader : Intake) (transcript rest down : List ℕ) (h : At client adapter reader transcript rest down) → 0 < length rest → (f : AdapterFault) → AdapterTakeRefused adapter.intake adapter.session rest f → StopsDelivering shown follows (fault_of_adapter f) start
+  adapter_stops client adapter reader transcript rest down h some (adapter_fault.Frame fault) t =
+      let a = h.at.adapter_at in
+      absurd (not_closed laws.one_split (bounds_of limits) laws.moves adapter.intake t.closed a.came a.stands.received.bodies rest fault (map canon h.world.up) (header limits h.at.in_range) (adapter_bounds laws limits adapter h.world.adapter a) (adapter_stream laws limits adapter h.world.adapter a) t.closes h.up_is)
+  adapter_stops client adapter reader transcript rest down h some (adapter_fault.Body cause offset) t =
+      let first = some_message limits h.world.up rest h.up_is some in
+      let is_first = first_up client adapter reader transcript rest down h first.0 first.1 first.2 t.n t.whole in
+      absurd (is_first.good cause t.bad)
+  adapter_stops client adapter reader transcript rest down h some (adapter_fault.RepeatedSeq q) t = adapter_closed client adapter reader transcript rest down h some (adapter_fault.RepeatedSeq q) t
+  adapter_stops client adapter reader transcript rest down h some (adapter_fault.Unmatched q) t = adapter_closed client adapter reader transcript rest down h some (adapter_fault.Unmatched q) t
+  adapter_stops client adapter reader transcript rest down h some adapter_fault.Ended t = adapter_closed client adapter reader transcript rest down h some adapter_fault.Ended t
+  adapter_stops client adapter reader transcript rest down h some adapter_fault.SeqExhausted t = adapter_closed client adapter reader transcript rest down h some adapter_fault.SeqExhausted t
+  adapter_stops client adapter reader transcript rest down h some adapter_fault.OutOfMemory t = tt

@@ -1,5 +1,5 @@
 -- What an order comes to, from the calls of both ends.
-use Rattle.std.proofs.Common.{◌≡◌, ℕ, ◌+◌, ◌-◌, ◌*◌, ◌<◌, ◌≤◌, ◌==◌, List, [], ◌∷◌, ◌++◌, length, drop, Bool, true, false, None, Ok, refl, sym, ap, ◌∙◌, subst, arith, append-nil}
+use Rattle.std.proofs.Common.{◌≡◌, ℕ, ◌+◌, ◌-◌, ◌*◌, ◌<◌, ◌≤◌, ◌==◌, List, [], ◌∷◌, ◌++◌, length, map, drop, Bool, true, false, None, Ok, Err, refl, inl, inr, sym, ap, ◌∙◌, subst, arith, append-nil}
 use Rattle.std.specs.Prelude.{◌||◌, not, if◌then◌else◌, IsTrue}
 use Rattle.std.proofs.Math.Nat.{mul-le-mul_left}
 use Rattle.std.proofs.lemmas.Bool.Decides.{nat_tests}
@@ -7,7 +7,7 @@ use Rattle.std.proofs.lemmas.List.{drop-drop, nil_from_length}
 use Rattle.std.proofs.lemmas.List.Filters.{length-filter_both}
 use Rattle.dap_frame.specs.Intake.{Intake, IsUnderWay, StandsFor as StandsForStream}
 use Rattle.dap_frame.specs.Laws.{EachStreamHasOneSplit}
-use Rattle.dap_frame.specs.Settings.{Settings, bounds_of}
+use Rattle.dap_frame.specs.Settings.{Settings, AreInRange, bounds_of}
 use Rattle.dap_frame.specs.Stream.{FramesThen, Split}
 use Rattle.dap_frame.specs.declared.limits.Bounds.{Bounds}
 use Rattle.dap_debuggee.specs.Shown.{Shown}
@@ -16,15 +16,17 @@ use Rattle.dap_message.specs.PlainCall.{is_plain_call}
 use Rattle.dap_message.specs.Types.Call.{Call}
 use Rattle.dap_session.specs.Carried.{Goes}
 use Rattle.dap_session.specs.Handling.{turns}
-use Rattle.dap_session.specs.Plan.{Plan, numbered, bytes_of}
+use Rattle.dap_session.specs.Plan.{Plan, Made, numbered, bytes_of}
 use Rattle.dap_session.specs.Polling.{polls}
 use Rattle.dap_session.specs.Seat.{Seat}
 use Rattle.dap_session.specs.Session.{Session, to_handle, fresh_session as fresh_adapter}
+use Rattle.dap_session.specs.declared.fault.AdapterFault.{AdapterFault}
+use Rattle.dap_session.specs.declared.fault.AdapterFault.TheVariants as adapter_fault
 use Rattle.dap_session.specs.Table.{is_phase}
 use Rattle.dap_session.specs.declared.phase.Phase.{Phase}
 use Rattle.dap_session.specs.declared.phase.Phase.TheVariants.{Stopped}
 use Rattle.dap_tables.specs.Outstanding.{Kept}
-use Rattle.dap_adapter.specs.Calls.{Step, Handled, Saw}
+use Rattle.dap_adapter.specs.Calls.{Step, Handled, Saw, TurnRefused, PollRefused}
 use Rattle.dap_adapter.specs.End.{End as AdapterEnd}
 use Rattle.dap_adapter.specs.Run.{Next, to_take, to_turn, to_poll, after_poll, fresh_seat}
 use Rattle.dap_adapter.specs.StandsFor.{StandsFor as AdapterStandsFor}
@@ -34,12 +36,21 @@ use Rattle.dap_client.specs.Calls.{refusal_of}
 use Rattle.dap_client.specs.Sending.{first_of, refusals_in_order, next_message, sent_bytes, after_send}
 use Rattle.dap_client.specs.Session.{Session as ClientSession, fresh_session}
 use Rattle.dap_client.specs.StandsFor.{StandsFor as ClientStandsFor, GoesOn}
-use Rattle.dap_drive.specs.Frames.{AreFrames}
-use Rattle.dap_drive.specs.Held.{IsClientAt, IsAdapterAt, HasDelivered, HasSettled, IsQuiet, HasDone, HasTurned, HasPolled, Spends, left_to_do, polling}
-use Rattle.dap_drive.specs.Lines.{WritesLines}
-use Rattle.dap_drive.specs.Orders.{DoesSend, RunsTo, none, begins, handled, idles, polled}
-use Rattle.dap_drive.specs.World.{World, fresh_world, client_said, adapter_said}
-use Rattle.dap_drive.proofs.Delivering.{longer, adapter_steps, step_writes, step_frames, still_between}
+use Rattle.dap_message.specs.Canon.{canon}
+use Rattle.dap_message.specs.ReadBack.{ReadsBack, AllReadBack}
+use Rattle.dap_message.specs.declared.message.Message.{Message}
+use Rattle.dap_world.specs.Agreement.{EachScheduleAgrees}
+use Rattle.dap_world.specs.World.{World, fresh_world, client_said, adapter_said, Sends, Turns, Polls, Schedule, by_sending, by_turning, by_polling, starts, goes}
+use Rattle.dap_drive.specs.Driven.{AdapterStops, ClientStops}
+use Rattle.dap_drive.specs.Faults.{FrameLaws, fault_of_adapter}
+use Rattle.dap_drive.specs.Frames.{AreFrames, AreFramesOf}
+use Rattle.dap_drive.specs.Held.{IsClientAt, IsAdapterAt, HasDelivered, HasSettled, IsQuiet, HasDone, HasTurned, HasPolled, Spends, left_to_do, polling, StopsDelivering, StopsOrder, StopsSend, StopsTurn, StopsPoll}
+use Rattle.dap_drive.specs.Lines.{IsBetween, WritesLines}
+use Rattle.dap_drive.specs.Orders.{DoesSend, RunsTo, none, begins, handled, idles, polled, in_send, in_run, in_run_turn, in_run_poll, LacksNumbers}
+use Rattle.dap_drive.specs.declared.fault.DriveFault.{DriveFault}
+use Rattle.dap_drive.specs.declared.fault.DriveFault.TheVariants as fault
+use Rattle.dap_drive.specs.declared.script.Order.TheVariants.{Send as ToSend, Turn as ToTurn, Poll as ToPoll, Run as ToRun}
+use Rattle.dap_drive.proofs.Delivering.{longer, written, not_unwritten, more_frames, adapter_steps, step_writes, step_back, step_within, step_bytes, still_between}
 use Rattle.dap_drive.proofs.Streams.{none as no_frames, none_left, between_still}
 
 -- ---- part by part
@@ -50,21 +61,21 @@ part_by_part P Q at n all rest is go p =
 
 -- ---- nothing is under way
 
-none_of : (laws : EachStreamHasOneSplit) (b : Bounds) (bodies : List (List ℕ)) → FramesThen b bodies [] [] → bodies ≡ []
-none_of laws b [] f = refl
-none_of laws b (x ∷ xs) f = absurd (none_left laws b x xs f)
+none_of : (laws : EachStreamHasOneSplit) (limits : Settings) (ms : List Message) → AreFramesOf limits ms [] → ms ≡ []
+none_of laws limits [] f = refl
+none_of laws limits (x ∷ xs) f = absurd (none_left laws (bounds_of limits) (canon x) (map canon xs) f)
 
-nothing_framed : (b : Bounds) (bodies : List (List ℕ)) → bodies ≡ [] → FramesThen b bodies [] []
-nothing_framed b bodies e = subst (λ (z : List (List ℕ)). FramesThen b z [] []) (sym e) refl
+nothing_framed : (limits : Settings) (ms : List Message) → ms ≡ [] → AreFramesOf limits ms []
+nothing_framed limits ms e = subst (λ (z : List Message). AreFramesOf limits z []) (sym e) refl
 
-pub all_delivered : {D : Type 0} (laws : EachStreamHasOneSplit) (follows : Goes D) (limits : Settings) (start : World D) (client : ClientEnd) (adapter : AdapterEnd D) (reader : Intake) (transcript up down : List ℕ)
-    → HasDelivered follows limits start client adapter reader transcript up down → up ≡ [] → down ≡ [] → HasSettled follows limits start client adapter reader transcript
-all_delivered laws follows limits start client adapter reader transcript up down h none_up none_down = record {
+pub all_delivered : {D : Type 0} (laws : EachStreamHasOneSplit) (shown : D → Shown) (follows : Goes D) (limits : Settings) (debuggee : D) (start : World D) (client : ClientEnd) (adapter : AdapterEnd D) (reader : Intake) (transcript up down : List ℕ)
+    → HasDelivered shown follows limits debuggee start client adapter reader transcript up down → up ≡ [] → down ≡ [] → HasSettled shown follows limits debuggee start client adapter reader transcript
+all_delivered laws shown follows limits debuggee start client adapter reader transcript up down h none_up none_down = record {
   world = h.world;
   settles = record {
     delivers = h.delivers;
-    none_up = none_of laws (bounds_of limits) h.world.up (subst (λ (z : List ℕ). AreFrames limits h.world.up z) none_up h.up_is);
-    none_down = none_of laws (bounds_of limits) h.world.down (subst (λ (z : List ℕ). AreFrames limits h.world.down z) none_down h.down_is);
+    none_up = none_of laws limits h.world.up (subst (λ (z : List ℕ). AreFramesOf limits h.world.up z) none_up h.up_is);
+    none_down = none_of laws limits h.world.down (subst (λ (z : List ℕ). AreFramesOf limits h.world.down z) none_down h.down_is);
   };
   at = h.at;
 }
@@ -157,7 +168,13 @@ ends_there made bytes phase h = ap (λ (b : Bool). if b then to_take else to_pol
 fresh_rest : (laws : EachStreamHasOneSplit) (b : Bounds) (i : Intake) (bodies : List (List ℕ)) (rest : List ℕ) → i.bounds ≡ b → StandsForStream i [] bodies rest → rest ≡ []
 fresh_rest laws b i bodies rest e st = (laws.one b [] bodies [] rest [] (subst (λ (z : Bounds). Split z [] bodies rest) e st.split) (no_frames laws b)).1
 
-module _ {D : Type 0} (laws : EachStreamHasOneSplit) (limits : Settings) (shown : D → Shown) (follows : Goes D) where
+module _ {D : Type 0} (laws : FrameLaws) (shown : D → Shown) (follows : Goes D) (agrees : EachScheduleAgrees shown follows) (limits : Settings) (debuggee : D) where
+  abbrev Quiet : ClientEnd → AdapterEnd D → Intake → List ℕ → World D → Type 0
+  Quiet client adapter reader transcript w = IsQuiet shown follows limits debuggee client adapter reader transcript w
+
+  abbrev Done : (World D → World D → Type 0) → World D → ClientEnd → AdapterEnd D → Intake → List ℕ → Type 0
+  Done does start client adapter reader transcript = HasDone shown follows limits debuggee does start client adapter reader transcript
+
   -- ---- the client sends
 
   client_sent : (e next : ClientEnd) (s : ClientSession) (call : Call) → IsClientAt limits e s → next ≡ record e { session = after_send call e.session } → GoesOn e next [] (Out (next_message e.session call) [] ∷ []) → IsClientAt limits next (after_send call s)
@@ -171,121 +188,234 @@ module _ {D : Type 0} (laws : EachStreamHasOneSplit) (limits : Settings) (shown 
         came = c.came ++ [];
         history = c.history ++ (Out (next_message e.session call) [] ∷ []);
         stands = stands;
-        between = between_still laws (bounds_of limits) e.intake next.intake c.came (c.came ++ []) c.stands.received.bodies stands.received.bodies stands.received.rest bounds
+        between = between_still laws.one_split (bounds_of limits) e.intake next.intake c.came (c.came ++ []) c.stands.received.bodies stands.received.bodies stands.received.rest bounds
             (subst (λ (z : List ℕ). StandsForStream e.intake c.came c.stands.received.bodies z) c.between c.stands.received.stream) (ap (λ (z : Intake). z.bounds) same ∙ bounds) stands.received.stream (append-nil c.came);
       }
 
-  pub call_sent : (client next : ClientEnd) (adapter : AdapterEnd D) (reader later : Intake) (transcript longer_transcript bytes : List ℕ) (start : World D) (call : Call) (q : IsQuiet limits client adapter reader transcript start)
-      → next ≡ record client { session = after_send call client.session } → GoesOn client next [] (Out (next_message client.session call) [] ∷ []) → (w : WritesLines limits later Client bytes transcript longer_transcript)
-      → HasDelivered follows limits (client_said (after_send call start.client) w.bodies start) next adapter later longer_transcript bytes []
-  call_sent client next adapter reader later transcript longer_transcript bytes start call q is goes w = record {
-    world = client_said (after_send call start.client) w.bodies start;
-    delivers = none;
-    at = record {
-      client_at = client_sent client next start.client call q.at.client_at is goes;
-      adapter_at = q.at.adapter_at;
-      reader_at = w.between;
-      transcript_is = longer laws limits Client w.bodies start.said transcript longer_transcript q.at.transcript_is w.lines;
-    };
-    up_is = subst (λ (z : List (List ℕ)). AreFrames limits (z ++ w.bodies) bytes) (sym q.none_up) w.frames;
-    down_is = nothing_framed (bounds_of limits) start.down q.none_down;
-  }
-
-  pub send_done : (client next : ClientEnd) (adapter later_adapter : AdapterEnd D) (last_client : ClientEnd) (reader later last : Intake) (transcript longer_transcript bytes final : List ℕ) (start : World D) (call : Call) (q : IsQuiet limits client adapter reader transcript start)
-      → IsTrue (is_plain_call call) → refusal_of call client ≡ None → bytes ≡ sent_bytes client.session call → (w : WritesLines limits later Client bytes transcript longer_transcript)
-      → HasSettled follows limits (client_said (after_send call start.client) w.bodies start) last_client later_adapter last final → HasDone (DoesSend follows call) limits start last_client later_adapter last final
-  send_done client next adapter later_adapter last_client reader later last transcript longer_transcript bytes final start call q plain free is w h =
+  sends_so : (client : ClientEnd) (adapter : AdapterEnd D) (reader : Intake) (transcript : List ℕ) (start : World D) (call : Call) (q : Quiet client adapter reader transcript start) → IsTrue (is_plain_call call) → refusal_of call client ≡ None → ReadsBack client.session.limits.body (next_message client.session call)
+      → Sends call start (client_said (after_send call start.client) (next_message start.client call ∷ []) start)
+  sends_so client adapter reader transcript start call q plain free back =
       let c = q.at.client_at in
-      let open_now : first_of refusals_in_order call false start.client ≡ None = rw (c.stands.no_fault, c.session_is) at free in
-      let frames : AreFrames start.client.limits w.bodies (sent_bytes start.client call) =
-      subst (λ (z : Settings). AreFrames z w.bodies (sent_bytes start.client call)) (sym c.limits_are) (subst (λ (z : List ℕ). AreFrames limits w.bodies z) (is ∙ ap (λ (z : ClientSession). sent_bytes z call) c.session_is) w.frames) in
+      record {
+        plain = plain;
+        free = rw (c.stands.no_fault, c.session_is) at free;
+        reads_back = subst (λ (z : ClientSession). ReadsBack z.limits.body (next_message z call)) c.session_is back;
+        is = refl;
+      }
+
+  sent_back : (client : ClientEnd) (adapter : AdapterEnd D) (reader : Intake) (transcript : List ℕ) (start : World D) (call : Call) (q : Quiet client adapter reader transcript start) → ReadsBack client.session.limits.body (next_message client.session call) → AllReadBack limits.body (next_message start.client call ∷ [])
+  sent_back client adapter reader transcript start call q back =
+      let c = q.at.client_at in
+      let there : ReadsBack start.client.limits.body (next_message start.client call) = subst (λ (z : ClientSession). ReadsBack z.limits.body (next_message z call)) c.session_is back in
+      (subst (λ (z : Settings). ReadsBack z.body (next_message start.client call)) c.limits_are there, tt)
+
+  sent_are : (client : ClientEnd) (adapter : AdapterEnd D) (reader : Intake) (transcript : List ℕ) (start : World D) (call : Call) (bytes : List ℕ) (q : Quiet client adapter reader transcript start) → bytes ≡ sent_bytes client.session call → bytes ≡ bytes_of (next_message start.client call ∷ [])
+  sent_are client adapter reader transcript start call bytes q is = is ∙ (ap (λ (z : ClientSession). sent_bytes z call) q.at.client_at.session_is ∙ sym (append-nil (sent_bytes start.client call)))
+
+  pub sent_framed : (client : ClientEnd) (adapter : AdapterEnd D) (reader : Intake) (transcript bytes : List ℕ) (start : World D) (call : Call) (q : Quiet client adapter reader transcript start) → ReadsBack client.session.limits.body (next_message client.session call) → bytes ≡ sent_bytes client.session call
+      → ((limits_of : Settings) (bodies : List (List ℕ)) → AreInRange limits_of → IsBetween limits_of reader → AreFrames limits_of bodies bytes → ⊥) → ⊥
+  sent_framed client adapter reader transcript bytes start call q back is no =
+      not_unwritten laws limits (next_message start.client call ∷ []) bytes reader q.at.in_range (sent_back client adapter reader transcript start call q back) (sent_are client adapter reader transcript start call bytes q is) q.at.reader_at no
+
+  pub call_sent : (client next : ClientEnd) (adapter : AdapterEnd D) (reader later : Intake) (transcript longer_transcript bytes : List ℕ) (start : World D) (call : Call) (q : Quiet client adapter reader transcript start)
+      → IsTrue (is_plain_call call) → refusal_of call client ≡ None → ReadsBack client.session.limits.body (next_message client.session call) → bytes ≡ sent_bytes client.session call
+      → next ≡ record client { session = after_send call client.session } → GoesOn client next [] (Out (next_message client.session call) [] ∷ []) → (w : WritesLines limits later Client bytes transcript longer_transcript)
+      → HasDelivered shown follows limits debuggee (client_said (after_send call start.client) (next_message start.client call ∷ []) start) next adapter later longer_transcript bytes []
+  call_sent client next adapter reader later transcript longer_transcript bytes start call q plain free back are is goes_so w =
+      let out : List Message = next_message start.client call ∷ [] in
+      let world : World D = client_said (after_send call start.client) out start in
+      let lines = written laws limits Client out bytes transcript longer_transcript later q.at.in_range (sent_back client adapter reader transcript start call q back) (sent_are client adapter reader transcript start call bytes q are) w in
+      record {
+        world = world;
+        delivers = none;
+        at = record {
+          in_range = q.at.in_range;
+          schedule = goes start world q.at.schedule (by_sending call (sends_so client adapter reader transcript start call q plain free back));
+          client_at = client_sent client next start.client call q.at.client_at is goes_so;
+          adapter_at = q.at.adapter_at;
+          reader_at = w.between;
+          transcript_is = longer laws limits Client out start.said transcript longer_transcript q.at.transcript_is lines.lines;
+        };
+        up_is = subst (λ (z : List Message). AreFramesOf limits (z ++ out) bytes) (sym q.none_up) lines.frames;
+        down_is = nothing_framed limits start.down q.none_down;
+      }
+
+  pub send_done : (client : ClientEnd) (adapter later_adapter : AdapterEnd D) (last_client : ClientEnd) (reader last : Intake) (transcript final : List ℕ) (start : World D) (call : Call) (q : Quiet client adapter reader transcript start)
+      → IsTrue (is_plain_call call) → refusal_of call client ≡ None → ReadsBack client.session.limits.body (next_message client.session call)
+      → HasSettled shown follows limits debuggee (client_said (after_send call start.client) (next_message start.client call ∷ []) start) last_client later_adapter last final → Done (DoesSend follows call) start last_client later_adapter last final
+  send_done client adapter later_adapter last_client reader last transcript final start call q plain free back h =
       record {
         world = h.world;
-        done = record { sent = client_said (after_send call start.client) w.bodies start; sends = record { plain = plain; free = open_now; bodies = w.bodies; frames = frames; is = refl }; settles = h.settles };
+        done = record { sent = client_said (after_send call start.client) (next_message start.client call ∷ []) start; sends = sends_so client adapter reader transcript start call q plain free back; settles = h.settles };
         quiet = record { at = h.at; none_up = h.settles.none_up; none_down = h.settles.none_down };
       }
+
+  -- where what comes of it ends early
+  pub send_stops : (client : ClientEnd) (adapter : AdapterEnd D) (reader : Intake) (transcript : List ℕ) (start : World D) (call : Call) (f : DriveFault) (number : ℕ) (q : Quiet client adapter reader transcript start)
+      → IsTrue (is_plain_call call) → refusal_of call client ≡ None → ReadsBack client.session.limits.body (next_message client.session call)
+      → StopsDelivering shown follows f (client_said (after_send call start.client) (next_message start.client call ∷ []) start) → StopsSend shown follows f number call client start
+  send_stops client adapter reader transcript start call fault.Recording number q plain free back h = absurd h
+  send_stops client adapter reader transcript start call (fault.Script line) number q plain free back h = absurd h
+  send_stops client adapter reader transcript start call (fault.Call line) number q plain free back h = absurd h
+  send_stops client adapter reader transcript start call (fault.Send line cause) number q plain free back h = absurd h
+  send_stops client adapter reader transcript start call fault.Adapter number q plain free back h =
+      record { next = to_take; now = h.0; reaches = in_send call start (client_said (after_send call start.client) (next_message start.client call ∷ []) start) h.0 (sends_so client adapter reader transcript start call q plain free back) h.1; lacks = h.2 }
+  send_stops client adapter reader transcript start call fault.Client number q plain free back h =
+      record { now = h.0; reaches = in_send call start (client_said (after_send call start.client) (next_message start.client call ∷ []) start) h.0 (sends_so client adapter reader transcript start call q plain free back) h.1; has = h.2 }
+  send_stops client adapter reader transcript start call fault.OutOfMemory number q plain free back h = tt
 
   -- ---- the adapter goes on by itself
 
   abbrev seat_after : AdapterEnd D → Session → Seat D
   seat_after new after = record { session = after; debuggee = new.debuggee }
 
-  pub spoken : (client : ClientEnd) (old new : AdapterEnd D) (reader later : Intake) (transcript longer_transcript bytes : List ℕ) (start : World D) (q : IsQuiet limits client old reader transcript start) (plan : Plan) (s : Step follows plan old new [] [] bytes)
-      → new.session.limits ≡ old.session.limits → (w : WritesLines limits later Adapter bytes transcript longer_transcript)
-      → HasDelivered follows limits (adapter_said (seat_after new s.made.after) w.bodies start) client new later longer_transcript [] bytes
-  spoken client old new reader later transcript longer_transcript bytes start q plan s keeps w =
+  abbrev out_of : World D → Made → List Message
+  out_of start made = numbered start.adapter.session.used made.drafts
+
+  abbrev spoke : AdapterEnd D → Made → World D → World D
+  spoke new made start = adapter_said (seat_after new made.after) (out_of start made) start
+
+  pub step_framed : (client : ClientEnd) (old new : AdapterEnd D) (reader : Intake) (transcript bytes given : List ℕ) (start : World D) (q : Quiet client old reader transcript start) (plan : Plan) (s : Step follows plan old new [] [] bytes) → given ≡ bytes
+      → ((limits_of : Settings) (bodies : List (List ℕ)) → AreInRange limits_of → IsBetween limits_of reader → AreFrames limits_of bodies given → ⊥) → ⊥
+  step_framed client old new reader transcript bytes given start q plan s is no =
+      let a = q.at.adapter_at in
+      not_unwritten laws limits (out_of start s.made) given reader q.at.in_range (step_within laws shown follows agrees limits debuggee start old new start.adapter a plan [] [] bytes s) (is ∙ step_bytes laws shown follows agrees limits debuggee start old new start.adapter a plan [] [] bytes s) q.at.reader_at no
+
+  turns_so : (client : ClientEnd) (old new : AdapterEnd D) (reader : Intake) (transcript bytes : List ℕ) (start : World D) (q : Quiet client old reader transcript start) (t : Handled shown follows old bytes new) → Turns shown follows start (spoke new t.step.made start)
+  turns_so client old new reader transcript bytes start q t =
       let a = q.at.adapter_at in
       record {
-        world = adapter_said (seat_after new s.made.after) w.bodies start;
-        delivers = none;
-        at = record {
-          client_at = q.at.client_at;
-          adapter_at = adapter_steps laws limits follows start old new start.adapter a plan [] [] bytes s keeps (still_between laws limits follows start old new start.adapter a plan [] bytes s keeps);
-          reader_at = w.between;
-          transcript_is = longer laws limits Adapter w.bodies start.said transcript longer_transcript q.at.transcript_is w.lines;
-        };
-        up_is = nothing_framed (bounds_of limits) start.up q.none_up;
-        down_is = subst (λ (z : List (List ℕ)). AreFrames limits (z ++ w.bodies) bytes) (sym q.none_down) w.frames;
+        plan = t.plan;
+        turned = rw (a.session_is, a.debuggee_is) at t.is;
+        outs = out_of start t.step.made;
+        seat = seat_after new t.step.made.after;
+        writes = step_writes laws shown follows agrees limits debuggee start old new start.adapter a t.plan [] [] bytes t.step;
+        reads_back = step_back laws shown follows agrees limits debuggee start old new start.adapter a t.plan [] [] bytes t.step;
+        is = refl;
       }
 
-  pub turn_done : (client last_client : ClientEnd) (old new last_adapter : AdapterEnd D) (reader later last : Intake) (transcript longer_transcript bytes final : List ℕ) (start : World D) (q : IsQuiet limits client old reader transcript start) (t : Handled shown follows old bytes new)
-      → (w : WritesLines limits later Adapter bytes transcript longer_transcript)
-      → HasSettled follows limits (adapter_said (seat_after new t.step.made.after) w.bodies start) last_client last_adapter last final → HasDone (HasTurned shown follows true) limits start last_client last_adapter last final
-  turn_done client last_client old new last_adapter reader later last transcript longer_transcript bytes final start q t w h =
+  polls_so : (client : ClientEnd) (old new : AdapterEnd D) (reader : Intake) (transcript bytes : List ℕ) (start : World D) (q : Quiet client old reader transcript start) (t : Saw follows old bytes new) → Polls follows start (spoke new t.step.made start)
+  polls_so client old new reader transcript bytes start q t =
       let a = q.at.adapter_at in
       record {
-        world = h.world;
-        done = record {
-          turned = adapter_said (seat_after new t.step.made.after) w.bodies start;
-          turns = record {
-            plan = t.plan;
-            turned = rw (a.session_is, a.debuggee_is) at t.is;
-            outs = numbered start.adapter.session.used t.step.made.drafts;
-            seat = seat_after new t.step.made.after;
-            writes = step_writes laws limits follows start old new start.adapter a t.plan [] [] bytes t.step;
-            bodies = w.bodies;
-            frames = step_frames laws limits follows start old new start.adapter a t.plan [] [] bytes t.step w.bodies w.frames;
-            is = refl;
-          };
-          settles = h.settles;
+        outs = out_of start t.step.made;
+        seat = seat_after new t.step.made.after;
+        writes = rw a.session_is at (step_writes laws shown follows agrees limits debuggee start old new start.adapter a (polls old.session) [] [] bytes t.step);
+        within = rw (a.session_is, t.step.session) at t.within;
+        reads_back = step_back laws shown follows agrees limits debuggee start old new start.adapter a (polls old.session) [] [] bytes t.step;
+        is = refl;
+      }
+
+  spoken : (client : ClientEnd) (old new : AdapterEnd D) (reader later : Intake) (transcript longer_transcript bytes : List ℕ) (start : World D) (q : Quiet client old reader transcript start) (plan : Plan) (s : Step follows plan old new [] [] bytes) → Schedule shown follows limits debuggee (spoke new s.made start)
+      → new.session.limits ≡ old.session.limits → (w : WritesLines limits later Adapter bytes transcript longer_transcript)
+      → HasDelivered shown follows limits debuggee (spoke new s.made start) client new later longer_transcript [] bytes
+  spoken client old new reader later transcript longer_transcript bytes start q plan s schedule keeps w =
+      let a = q.at.adapter_at in
+      let lines = written laws limits Adapter (out_of start s.made) bytes transcript longer_transcript later q.at.in_range (step_within laws shown follows agrees limits debuggee start old new start.adapter a plan [] [] bytes s) (step_bytes laws shown follows agrees limits debuggee start old new start.adapter a plan [] [] bytes s) w in
+      record {
+        world = spoke new s.made start;
+        delivers = none;
+        at = record {
+          in_range = q.at.in_range;
+          schedule = schedule;
+          client_at = q.at.client_at;
+          adapter_at = adapter_steps laws shown follows agrees limits debuggee start old new start.adapter a plan [] [] bytes s keeps (still_between laws shown follows agrees limits debuggee start old new start.adapter a plan [] bytes s keeps);
+          reader_at = w.between;
+          transcript_is = longer laws limits Adapter (out_of start s.made) start.said transcript longer_transcript q.at.transcript_is lines.lines;
         };
+        up_is = nothing_framed limits start.up q.none_up;
+        down_is = subst (λ (z : List Message). AreFramesOf limits (z ++ out_of start s.made) bytes) (sym q.none_down) lines.frames;
+      }
+
+  pub turn_spoken : (client : ClientEnd) (old new : AdapterEnd D) (reader later : Intake) (transcript longer_transcript bytes : List ℕ) (start : World D) (q : Quiet client old reader transcript start) (t : Handled shown follows old bytes new)
+      → new.session.limits ≡ old.session.limits → (w : WritesLines limits later Adapter bytes transcript longer_transcript) → HasDelivered shown follows limits debuggee (spoke new t.step.made start) client new later longer_transcript [] bytes
+  turn_spoken client old new reader later transcript longer_transcript bytes start q t keeps w =
+      spoken client old new reader later transcript longer_transcript bytes start q t.plan t.step (goes start (spoke new t.step.made start) q.at.schedule (by_turning (turns_so client old new reader transcript bytes start q t))) keeps w
+
+  pub poll_spoken : (client : ClientEnd) (old new : AdapterEnd D) (reader later : Intake) (transcript longer_transcript bytes : List ℕ) (start : World D) (q : Quiet client old reader transcript start) (t : Saw follows old bytes new)
+      → new.session.limits ≡ old.session.limits → (w : WritesLines limits later Adapter bytes transcript longer_transcript) → HasDelivered shown follows limits debuggee (spoke new t.step.made start) client new later longer_transcript [] bytes
+  poll_spoken client old new reader later transcript longer_transcript bytes start q t keeps w =
+      spoken client old new reader later transcript longer_transcript bytes start q (polls old.session) t.step (goes start (spoke new t.step.made start) q.at.schedule (by_polling (polls_so client old new reader transcript bytes start q t))) keeps w
+
+  pub turn_done : (client last_client : ClientEnd) (old new last_adapter : AdapterEnd D) (reader last : Intake) (transcript bytes final : List ℕ) (start : World D) (q : Quiet client old reader transcript start) (t : Handled shown follows old bytes new)
+      → HasSettled shown follows limits debuggee (spoke new t.step.made start) last_client last_adapter last final → Done (HasTurned shown follows true) start last_client last_adapter last final
+  turn_done client last_client old new last_adapter reader last transcript bytes final start q t h =
+      record {
+        world = h.world;
+        done = record { turned = spoke new t.step.made start; turns = turns_so client old new reader transcript bytes start q t; settles = h.settles };
         quiet = record { at = h.at; none_up = h.settles.none_up; none_down = h.settles.none_down };
       }
 
-  pub idle_done : (client : ClientEnd) (old new : AdapterEnd D) (reader : Intake) (transcript : List ℕ) (start : World D) → IsQuiet limits client old reader transcript start → turns (shown old.debuggee) old.session ≡ Ok None → new ≡ old
-      → HasDone (HasTurned shown follows false) limits start client new reader transcript
+  pub idle_done : (client : ClientEnd) (old new : AdapterEnd D) (reader : Intake) (transcript : List ℕ) (start : World D) → Quiet client old reader transcript start → turns (shown old.debuggee) old.session ≡ Ok None → new ≡ old
+      → Done (HasTurned shown follows false) start client new reader transcript
   idle_done client old new reader transcript start q is same = record {
     world = start;
     done = (rw (q.at.adapter_at.session_is, q.at.adapter_at.debuggee_is) at is, refl);
-    quiet = subst (λ (z : AdapterEnd D). IsQuiet limits client z reader transcript start) (sym same) q;
+    quiet = subst (λ (z : AdapterEnd D). Quiet client z reader transcript start) (sym same) q;
   }
 
-  pub poll_done : (client last_client : ClientEnd) (old new last_adapter : AdapterEnd D) (reader later final_reader : Intake) (transcript longer_transcript bytes final : List ℕ) (start : World D) (q : IsQuiet limits client old reader transcript start) (t : Saw follows old bytes new)
-      → (w : WritesLines limits later Adapter bytes transcript longer_transcript) → (last : Bool) → last ≡ (length bytes == 0) || is_phase Stopped new.session.phase
-      → HasSettled follows limits (adapter_said (seat_after new t.step.made.after) w.bodies start) last_client last_adapter final_reader final → HasDone (HasPolled follows last) limits start last_client last_adapter final_reader final
-  poll_done client last_client old new last_adapter reader later final_reader transcript longer_transcript bytes final start q t w last is h =
+  pub poll_done : (client last_client : ClientEnd) (old new last_adapter : AdapterEnd D) (reader final_reader : Intake) (transcript bytes final : List ℕ) (start : World D) (q : Quiet client old reader transcript start) (t : Saw follows old bytes new)
+      → (last : Bool) → last ≡ (length bytes == 0) || is_phase Stopped new.session.phase
+      → HasSettled shown follows limits debuggee (spoke new t.step.made start) last_client last_adapter final_reader final → Done (HasPolled follows last) start last_client last_adapter final_reader final
+  poll_done client last_client old new last_adapter reader final_reader transcript bytes final start q t last is h =
       let a = q.at.adapter_at in
-      let bytes_is : bytes ≡ bytes_of (numbered start.adapter.session.used t.step.made.drafts) = t.step.bytes_are ∙ ap (λ (z : Session). bytes_of (numbered z.used t.step.made.drafts)) a.session_is in
+      let bytes_is : bytes ≡ bytes_of (out_of start t.step.made) = step_bytes laws shown follows agrees limits debuggee start old new start.adapter a (polls old.session) [] [] bytes t.step in
       record {
         world = h.world;
         done = record {
-          does = record {
-            outs = numbered start.adapter.session.used t.step.made.drafts;
-            polled = adapter_said (seat_after new t.step.made.after) w.bodies start;
-            polls = record {
-              seat = seat_after new t.step.made.after;
-              writes = rw a.session_is at (step_writes laws limits follows start old new start.adapter a (polls old.session) [] [] bytes t.step);
-              within = rw (a.session_is, t.step.session) at t.within;
-              bodies = w.bodies;
-              frames = step_frames laws limits follows start old new start.adapter a (polls old.session) [] [] bytes t.step w.bodies w.frames;
-              is = refl;
-            };
-            settles = h.settles;
-          };
-          last_is = is ∙ (ap (λ (z : List ℕ). (length z == 0) || is_phase Stopped new.session.phase) bytes_is ∙ ap (λ (z : Session). (length (bytes_of (numbered start.adapter.session.used t.step.made.drafts)) == 0) || is_phase Stopped z.phase) t.step.session);
+          does = record { polled = spoke new t.step.made start; polls = polls_so client old new reader transcript bytes start q t; settles = h.settles };
+          last_is = is ∙ (ap (λ (z : List ℕ). (length z == 0) || is_phase Stopped new.session.phase) bytes_is ∙ ap (λ (z : Session). (length (bytes_of (out_of start t.step.made)) == 0) || is_phase Stopped z.phase) t.step.session);
         };
         quiet = record { at = h.at; none_up = h.settles.none_up; none_down = h.settles.none_down };
       }
+
+  -- ---- where a turn or a poll ends early
+
+  lacks_turn : (client : ClientEnd) (old new : AdapterEnd D) (reader : Intake) (transcript : List ℕ) (start : World D) (q : Quiet client old reader transcript start) (f : AdapterFault) → turns (shown old.debuggee) old.session ≡ Err f → LacksNumbers shown follows to_turn start
+  lacks_turn client old new reader transcript start q f e =
+      let a = q.at.adapter_at in
+      let there : turns (shown start.adapter.debuggee) start.adapter.session ≡ Err f = rw (a.session_is, a.debuggee_is) at e in
+      subst (λ (z : AdapterFault). turns (shown start.adapter.debuggee) start.adapter.session ≡ Err z) ((agrees limits debuggee start q.at.in_range q.at.schedule).fault.turn f there) there
+
+  pub turn_refused : (client : ClientEnd) (old new : AdapterEnd D) (reader : Intake) (transcript : List ℕ) (start : World D) (q : Quiet client old reader transcript start) (f : AdapterFault) → TurnRefused shown old f new → StopsTurn shown follows (fault_of_adapter f) start
+  turn_refused client old new reader transcript start q (adapter_fault.Frame x) t = inl (lacks_turn client old new reader transcript start q (adapter_fault.Frame x) t.0)
+  turn_refused client old new reader transcript start q (adapter_fault.Body cause offset) t = inl (lacks_turn client old new reader transcript start q (adapter_fault.Body cause offset) t.0)
+  turn_refused client old new reader transcript start q (adapter_fault.RepeatedSeq x) t = inl (lacks_turn client old new reader transcript start q (adapter_fault.RepeatedSeq x) t.0)
+  turn_refused client old new reader transcript start q (adapter_fault.Unmatched x) t = inl (lacks_turn client old new reader transcript start q (adapter_fault.Unmatched x) t.0)
+  turn_refused client old new reader transcript start q adapter_fault.Ended t = inl (lacks_turn client old new reader transcript start q adapter_fault.Ended t.0)
+  turn_refused client old new reader transcript start q adapter_fault.SeqExhausted t = inl (lacks_turn client old new reader transcript start q adapter_fault.SeqExhausted t.0)
+  turn_refused client old new reader transcript start q adapter_fault.OutOfMemory t = tt
+
+  pub turn_stops : (client : ClientEnd) (old new : AdapterEnd D) (reader : Intake) (transcript bytes : List ℕ) (start : World D) (q : Quiet client old reader transcript start) (t : Handled shown follows old bytes new) (f : DriveFault)
+      → StopsDelivering shown follows f (spoke new t.step.made start) → StopsTurn shown follows f start
+  turn_stops client old new reader transcript bytes start q t fault.Recording h = absurd h
+  turn_stops client old new reader transcript bytes start q t (fault.Script line) h = absurd h
+  turn_stops client old new reader transcript bytes start q t (fault.Call line) h = absurd h
+  turn_stops client old new reader transcript bytes start q t (fault.Send line cause) h = absurd h
+  turn_stops client old new reader transcript bytes start q t fault.Adapter h = inr (spoke new t.step.made start, turns_so client old new reader transcript bytes start q t, h)
+  turn_stops client old new reader transcript bytes start q t fault.Client h = (spoke new t.step.made start, turns_so client old new reader transcript bytes start q t, h)
+  turn_stops client old new reader transcript bytes start q t fault.OutOfMemory h = tt
+
+  pub poll_refused : (client : ClientEnd) (old new : AdapterEnd D) (reader : Intake) (transcript : List ℕ) (start : World D) (q : Quiet client old reader transcript start) (f : AdapterFault) → PollRefused follows old f new → StopsPoll shown follows (fault_of_adapter f) start
+  poll_refused client old new reader transcript start q (adapter_fault.Frame x) t = absurd t
+  poll_refused client old new reader transcript start q (adapter_fault.Body cause offset) t = absurd t
+  poll_refused client old new reader transcript start q (adapter_fault.RepeatedSeq x) t = absurd t
+  poll_refused client old new reader transcript start q (adapter_fault.Unmatched x) t = absurd t
+  poll_refused client old new reader transcript start q adapter_fault.Ended t = absurd t
+  poll_refused client old new reader transcript start q adapter_fault.SeqExhausted t =
+      let a = q.at.adapter_at in
+      inl (t.made, new.debuggee, rw (a.session_is, a.debuggee_is) at t.carried, rw a.session_is at t.short)
+  poll_refused client old new reader transcript start q adapter_fault.OutOfMemory t = tt
+
+  pub poll_stops : (client : ClientEnd) (old new : AdapterEnd D) (reader : Intake) (transcript bytes : List ℕ) (start : World D) (q : Quiet client old reader transcript start) (t : Saw follows old bytes new) (f : DriveFault)
+      → StopsDelivering shown follows f (spoke new t.step.made start) → StopsPoll shown follows f start
+  poll_stops client old new reader transcript bytes start q t fault.Recording h = absurd h
+  poll_stops client old new reader transcript bytes start q t (fault.Script line) h = absurd h
+  poll_stops client old new reader transcript bytes start q t (fault.Call line) h = absurd h
+  poll_stops client old new reader transcript bytes start q t (fault.Send line cause) h = absurd h
+  poll_stops client old new reader transcript bytes start q t fault.Adapter h = inr (spoke new t.step.made start, polls_so client old new reader transcript bytes start q t, h)
+  poll_stops client old new reader transcript bytes start q t fault.Client h = (spoke new t.step.made start, polls_so client old new reader transcript bytes start q t, h)
+  poll_stops client old new reader transcript bytes start q t fault.OutOfMemory h = tt
 
   -- ---- two fresh ends
 
@@ -296,26 +426,28 @@ module _ {D : Type 0} (laws : EachStreamHasOneSplit) (limits : Settings) (shown 
     came = [];
     history = [];
     stands = stands;
-    between = fresh_rest laws (bounds_of limits) e.intake stands.received.bodies stands.received.rest (stands.bounds ∙ ap (λ (z : ClientSession). bounds_of z.limits) is) stands.received.stream;
+    between = fresh_rest laws.one_split (bounds_of limits) e.intake stands.received.bodies stands.received.rest (stands.bounds ∙ ap (λ (z : ClientSession). bounds_of z.limits) is) stands.received.stream;
   }
 
-  adapter_fresh : (e : AdapterEnd D) (debuggee : D) → e.session ≡ fresh_adapter limits → e.debuggee ≡ debuggee → AdapterStandsFor e [] [] → IsAdapterAt limits e (fresh_seat limits debuggee)
-  adapter_fresh e debuggee is same stands = record {
+  adapter_fresh : (e : AdapterEnd D) → e.session ≡ fresh_adapter limits → e.debuggee ≡ debuggee → AdapterStandsFor e [] [] → IsAdapterAt limits e (fresh_seat limits debuggee)
+  adapter_fresh e is same stands = record {
     session_is = is;
     debuggee_is = same;
     limits_are = refl;
     came = [];
     history = [];
     stands = stands;
-    between = fresh_rest laws (bounds_of limits) e.intake stands.received.bodies stands.received.rest (stands.bounds ∙ ap (λ (z : Session). bounds_of z.limits) is) stands.received.stream;
+    between = fresh_rest laws.one_split (bounds_of limits) e.intake stands.received.bodies stands.received.rest (stands.bounds ∙ ap (λ (z : Session). bounds_of z.limits) is) stands.received.stream;
   }
 
-  pub both_fresh : (client : ClientEnd) (adapter : AdapterEnd D) (reader : Intake) (transcript : List ℕ) (debuggee : D) → client.session ≡ fresh_session limits → ClientStandsFor client [] [] → adapter.session ≡ fresh_adapter limits → adapter.debuggee ≡ debuggee → AdapterStandsFor adapter [] []
-      → reader.bounds ≡ bounds_of limits → IsUnderWay reader → StandsForStream reader [] [] [] → transcript ≡ [] → IsQuiet limits client adapter reader transcript (fresh_world limits debuggee)
-  both_fresh client adapter reader transcript debuggee a b c d e f g h i = record {
+  pub both_fresh : (client : ClientEnd) (adapter : AdapterEnd D) (reader : Intake) (transcript : List ℕ) → AreInRange limits → client.session ≡ fresh_session limits → ClientStandsFor client [] [] → adapter.session ≡ fresh_adapter limits → adapter.debuggee ≡ debuggee → AdapterStandsFor adapter [] []
+      → reader.bounds ≡ bounds_of limits → IsUnderWay reader → StandsForStream reader [] [] [] → transcript ≡ [] → Quiet client adapter reader transcript (fresh_world limits debuggee)
+  both_fresh client adapter reader transcript r a b c d e f g h i = record {
     at = record {
+      in_range = r;
+      schedule = starts;
       client_at = client_fresh client a b;
-      adapter_at = adapter_fresh adapter debuggee c d e;
+      adapter_at = adapter_fresh adapter c d e;
       reader_at = record { bounds = f; under_way = g; came = []; bodies = []; stands = h };
       transcript_is = i;
     };
@@ -325,41 +457,65 @@ module _ {D : Type 0} (laws : EachStreamHasOneSplit) (limits : Settings) (shown 
 
   -- ---- a run
 
-  pub run_begins : (client : ClientEnd) (adapter : AdapterEnd D) (reader : Intake) (transcript : List ℕ) (start : World D) → IsQuiet limits client adapter reader transcript start → HasDone (λ old new. RunsTo shown follows old to_turn new) limits start client adapter reader transcript
+  pub run_begins : (client : ClientEnd) (adapter : AdapterEnd D) (reader : Intake) (transcript : List ℕ) (start : World D) → Quiet client adapter reader transcript start → Done (λ old new. RunsTo shown follows old to_turn new) start client adapter reader transcript
   run_begins client adapter reader transcript start q = record { world = start; done = begins; quiet = q }
 
-  pub run_handles : (client : ClientEnd) (adapter : AdapterEnd D) (reader : Intake) (transcript : List ℕ) (start v : World D) (more : Bool) → RunsTo shown follows start to_turn v → more ≡ true → HasDone (HasTurned shown follows more) limits v client adapter reader transcript
-      → HasDone (λ old new. RunsTo shown follows old to_turn new) limits start client adapter reader transcript
+  pub run_handles : (client : ClientEnd) (adapter : AdapterEnd D) (reader : Intake) (transcript : List ℕ) (start v : World D) (more : Bool) → RunsTo shown follows start to_turn v → more ≡ true → Done (HasTurned shown follows more) v client adapter reader transcript
+      → Done (λ old new. RunsTo shown follows old to_turn new) start client adapter reader transcript
   run_handles client adapter reader transcript start v true r e h = record { world = h.world; done = handled v h.world r h.done; quiet = h.quiet }
   run_handles client adapter reader transcript start v false r e h = absurd (cc e)
 
-  pub run_idles : (client : ClientEnd) (adapter : AdapterEnd D) (reader : Intake) (transcript : List ℕ) (start v : World D) (more : Bool) → RunsTo shown follows start to_turn v → more ≡ false → HasDone (HasTurned shown follows more) limits v client adapter reader transcript
-      → HasDone (λ old new. RunsTo shown follows old (to_poll 0) new) limits start client adapter reader transcript
+  pub run_idles : (client : ClientEnd) (adapter : AdapterEnd D) (reader : Intake) (transcript : List ℕ) (start v : World D) (more : Bool) → RunsTo shown follows start to_turn v → more ≡ false → Done (HasTurned shown follows more) v client adapter reader transcript
+      → Done (λ old new. RunsTo shown follows old (to_poll 0) new) start client adapter reader transcript
   run_idles client adapter reader transcript start v true r e h = absurd (cc e)
   run_idles client adapter reader transcript start v false r e h = record { world = h.world; done = subst (λ (z : World D). RunsTo shown follows start (to_poll 0) z) (sym h.done.1) (idles v r h.done.0); quiet = h.quiet }
 
-  pub run_polls : (client : ClientEnd) (adapter : AdapterEnd D) (reader : Intake) (transcript : List ℕ) (start v : World D) (made : ℕ) (last : Bool) → RunsTo shown follows start (polling made) v → made < 65536 → last ≡ false → HasDone (HasPolled follows last) limits v client adapter reader transcript
-      → HasDone (λ old new. RunsTo shown follows old (polling (made + 1)) new) limits start client adapter reader transcript
+  pub run_polls : (client : ClientEnd) (adapter : AdapterEnd D) (reader : Intake) (transcript : List ℕ) (start v : World D) (made : ℕ) (last : Bool) → RunsTo shown follows start (polling made) v → made < 65536 → last ≡ false → Done (HasPolled follows last) v client adapter reader transcript
+      → Done (λ old new. RunsTo shown follows old (polling (made + 1)) new) start client adapter reader transcript
   run_polls client adapter reader transcript start v made last r below e h =
       let p = h.done in
       record {
         world = h.world;
-        done = subst (λ (z : Next). RunsTo shown follows start z h.world) (goes_on (made + 1) (bytes_of p.does.outs) p.does.polled.adapter.session.phase (sym p.last_is ∙ e))
+        done = subst (λ (z : Next). RunsTo shown follows start z h.world) (goes_on (made + 1) (bytes_of p.does.polls.outs) p.does.polled.adapter.session.phase (sym p.last_is ∙ e))
             (polled v h.world made (subst (λ (z : Next). RunsTo shown follows start z v) (polling_below made below) r) p.does);
         quiet = h.quiet;
       }
 
-  pub run_ends : (client : ClientEnd) (adapter : AdapterEnd D) (reader : Intake) (transcript : List ℕ) (start v : World D) (made : ℕ) (last : Bool) → RunsTo shown follows start (polling made) v → made < 65536 → last ≡ true → HasDone (HasPolled follows last) limits v client adapter reader transcript
-      → HasDone (λ old new. RunsTo shown follows old to_take new) limits start client adapter reader transcript
+  pub run_ends : (client : ClientEnd) (adapter : AdapterEnd D) (reader : Intake) (transcript : List ℕ) (start v : World D) (made : ℕ) (last : Bool) → RunsTo shown follows start (polling made) v → made < 65536 → last ≡ true → Done (HasPolled follows last) v client adapter reader transcript
+      → Done (λ old new. RunsTo shown follows old to_take new) start client adapter reader transcript
   run_ends client adapter reader transcript start v made last r below e h =
       let p = h.done in
       record {
         world = h.world;
-        done = subst (λ (z : Next). RunsTo shown follows start z h.world) (ends_there (made + 1) (bytes_of p.does.outs) p.does.polled.adapter.session.phase (sym p.last_is ∙ e))
+        done = subst (λ (z : Next). RunsTo shown follows start z h.world) (ends_there (made + 1) (bytes_of p.does.polls.outs) p.does.polled.adapter.session.phase (sym p.last_is ∙ e))
             (polled v h.world made (subst (λ (z : Next). RunsTo shown follows start z v) (polling_below made below) r) p.does);
         quiet = h.quiet;
       }
 
-  pub run_enough : (client : ClientEnd) (adapter : AdapterEnd D) (reader : Intake) (transcript : List ℕ) (start : World D) (made : ℕ) → 65536 ≤ made → made ≤ 65536 → HasDone (λ old new. RunsTo shown follows old (polling made) new) limits start client adapter reader transcript
-      → HasDone (λ old new. RunsTo shown follows old to_take new) limits start client adapter reader transcript
+  pub run_enough : (client : ClientEnd) (adapter : AdapterEnd D) (reader : Intake) (transcript : List ℕ) (start : World D) (made : ℕ) → 65536 ≤ made → made ≤ 65536 → Done (λ old new. RunsTo shown follows old (polling made) new) start client adapter reader transcript
+      → Done (λ old new. RunsTo shown follows old to_take new) start client adapter reader transcript
   run_enough client adapter reader transcript start made a b h = record { world = h.world; done = subst (λ (z : Next). RunsTo shown follows start z h.world) (polling_end made a b) h.done; quiet = h.quiet }
+
+  -- where it ends early
+  pub run_turn_stops : (start v : World D) (f : DriveFault) → RunsTo shown follows start to_turn v → StopsTurn shown follows f v → StopsOrder shown follows ToRun f start
+  run_turn_stops start v fault.Recording r h = absurd h
+  run_turn_stops start v (fault.Script line) r h = absurd h
+  run_turn_stops start v (fault.Call line) r h = absurd h
+  run_turn_stops start v (fault.Send line cause) r h = absurd h
+  run_turn_stops start v fault.Adapter r (inl h) = record { next = to_turn; now = v; reaches = in_run to_turn start v r; lacks = h }
+  run_turn_stops start v fault.Adapter r (inr h) = record { next = to_take; now = h.2.0; reaches = in_run_turn start v h.0 h.2.0 r h.1 h.2.1; lacks = h.2.2 }
+  run_turn_stops start v fault.Client r h = record { now = h.2.0; reaches = in_run_turn start v h.0 h.2.0 r h.1 h.2.1; has = h.2.2 }
+  run_turn_stops start v fault.OutOfMemory r h = tt
+
+  run_poll_so : (start v : World D) (made : ℕ) (f : DriveFault) → RunsTo shown follows start (to_poll made) v → StopsPoll shown follows f v → StopsOrder shown follows ToRun f start
+  run_poll_so start v made fault.Recording r h = absurd h
+  run_poll_so start v made (fault.Script line) r h = absurd h
+  run_poll_so start v made (fault.Call line) r h = absurd h
+  run_poll_so start v made (fault.Send line cause) r h = absurd h
+  run_poll_so start v made fault.Adapter r (inl h) = record { next = to_poll made; now = v; reaches = in_run (to_poll made) start v r; lacks = h }
+  run_poll_so start v made fault.Adapter r (inr h) = record { next = to_take; now = h.2.0; reaches = in_run_poll made start v h.0 h.2.0 r h.1 h.2.1; lacks = h.2.2 }
+  run_poll_so start v made fault.Client r h = record { now = h.2.0; reaches = in_run_poll made start v h.0 h.2.0 r h.1 h.2.1; has = h.2.2 }
+  run_poll_so start v made fault.OutOfMemory r h = tt
+
+  pub run_poll_stops : (start v : World D) (made : ℕ) (f : DriveFault) → RunsTo shown follows start (polling made) v → made < 65536 → StopsPoll shown follows f v → StopsOrder shown follows ToRun f start
+  run_poll_stops start v made f r below h = run_poll_so start v made f (subst (λ (z : Next). RunsTo shown follows start z v) (polling_below made below) r) h

@@ -1,23 +1,31 @@
 -- The lines of a transcript, written message by message.
-use Rattle.std.proofs.Common.{◌≡◌, ℕ, ◌+◌, List, [], ◌∷◌, ◌++◌, take, drop, refl, sym, ap, ◌∙◌, subst, append_assoc, append-nil}
+use Rattle.std.proofs.Common.{◌≡◌, ℕ, ◌+◌, List, [], ◌∷◌, ◌++◌, map, take, drop, refl, sym, ap, ◌∙◌, subst, append_assoc, append-nil}
 use Rattle.std.proofs.Math.Seq.{take-add}
 use Rattle.dap_frame.specs.Intake.{Intake, IsUnderWay}
 use Rattle.dap_frame.specs.Laws.{EachStreamHasOneSplit}
 use Rattle.dap_frame.specs.Settings.{Settings, bounds_of}
 use Rattle.dap_frame.specs.Stream.{FramesThen, Split}
 use Rattle.dap_check.specs.declared.line.Side.{Side}
-use Rattle.dap_drive.specs.Lines.{IsBetween, WritesLine, WritesLines}
-use Rattle.dap_drive.specs.Transcript.{Said, said_by, mark_of, line_of, text_of}
+use Rattle.dap_message.specs.Canon.{canon}
+use Rattle.dap_message.specs.declared.message.Message.{Message}
+use Rattle.dap_world.specs.World.{Said, said_by}
+use Rattle.dap_drive.specs.Lines.{IsBetween, WritesLine, WritesLines, lines_of}
+use Rattle.dap_drive.specs.Transcript.{mark_of, line_of, text_of}
 use Rattle.dap_drive.proofs.Streams.{joined, behind}
 
 -- lines one after the other
-pub lines_append : (xs ys : List Said) → text_of (xs ++ ys) ≡ text_of xs ++ text_of ys
-lines_append [] ys = refl
-lines_append (x ∷ xs) ys = ap (λ (z : List ℕ). line_of x ++ z) (lines_append xs ys) ∙ sym (append_assoc (line_of x) (text_of xs) (text_of ys))
+pub lines_append : (side : Side) (xs ys : List (List ℕ)) → lines_of side (xs ++ ys) ≡ lines_of side xs ++ lines_of side ys
+lines_append side [] ys = refl
+lines_append side (x ∷ xs) ys = ap (λ (z : List ℕ). line_of side x ++ z) (lines_append side xs ys) ∙ sym (append_assoc (line_of side x) (lines_of side xs) (lines_of side ys))
 
-pub said_append : (side : Side) (xs ys : List (List ℕ)) → said_by side (xs ++ ys) ≡ said_by side xs ++ said_by side ys
-said_append side [] ys = refl
-said_append side (x ∷ xs) ys = ap (λ (z : List Said). record { side = side; body = x } ∷ z) (said_append side xs ys)
+pub text_append : (xs ys : List Said) → text_of (xs ++ ys) ≡ text_of xs ++ text_of ys
+text_append [] ys = refl
+text_append (x ∷ xs) ys = ap (λ (z : List ℕ). line_of x.side (canon x.message) ++ z) (text_append xs ys) ∙ sym (append_assoc (line_of x.side (canon x.message)) (text_of xs) (text_of ys))
+
+-- the lines of the texts of messages are the text of the messages
+pub text_of_messages : (side : Side) (ms : List Message) → lines_of side (map canon ms) ≡ text_of (said_by side ms)
+text_of_messages side [] = refl
+text_of_messages side (m ∷ ms) = ap (λ (z : List ℕ). line_of side (canon m) ++ z) (text_of_messages side ms)
 
 -- of no bytes
 pub none_written : (limits : Settings) (i : Intake) (side : Side) (before : List ℕ) → IsBetween limits i → WritesLines limits i side [] before before
@@ -35,13 +43,13 @@ line_written laws limits i j side bytes rest before now after at n is w l gather
     record {
       bodies = w.bodies ++ l.body ∷ [];
       frames = subst (λ (z : List ℕ). FramesThen b (w.bodies ++ l.body ∷ []) [] z) bytes_are (joined b w.bodies (l.body ∷ []) [] (take at bytes) (take n rest) w.frames frame);
-      lines = l.line ∙ (ap (λ (z : List ℕ). z ++ text_of (said_by side (l.body ∷ []))) w.lines ∙ (append_assoc before (text_of (said_by side w.bodies)) (text_of (said_by side (l.body ∷ [])))
-          ∙ ap (λ (z : List ℕ). before ++ z) (sym (lines_append (said_by side w.bodies) (said_by side (l.body ∷ []))) ∙ ap text_of (sym (said_append side w.bodies (l.body ∷ []))))));
+      lines = l.line ∙ (ap (λ (z : List ℕ). z ++ lines_of side (l.body ∷ [])) w.lines ∙ (append_assoc before (lines_of side w.bodies) (lines_of side (l.body ∷ []))
+          ∙ ap (λ (z : List ℕ). before ++ z) (sym (lines_append side w.bodies (l.body ∷ [])))));
       between = record { bounds = l.bounds ∙ w.between.bounds; under_way = gathering; came = w.between.came ++ take n rest; bodies = w.between.bodies ++ l.body ∷ []; stands = came };
     }
 
 -- a mark, a body and a line feed are a line
-pub one_line : (side : Side) (mark body before marked written ended : List ℕ) → mark ≡ mark_of side → marked ≡ before ++ mark → written ≡ marked ++ body → ended ≡ written ++ 10 ∷ [] → ended ≡ before ++ text_of (said_by side (body ∷ []))
+pub one_line : (side : Side) (mark body before marked written ended : List ℕ) → mark ≡ mark_of side → marked ≡ before ++ mark → written ≡ marked ++ body → ended ≡ written ++ 10 ∷ [] → ended ≡ before ++ lines_of side (body ∷ [])
 one_line side mark body before marked written ended is a b d =
     d ∙ (ap (λ (z : List ℕ). z ++ 10 ∷ []) (b ∙ ap (λ (z : List ℕ). z ++ body) (a ∙ ap (λ (z : List ℕ). before ++ z) is))
     ∙ (ap (λ (z : List ℕ). z ++ 10 ∷ []) (append_assoc before (mark_of side) body) ∙ (append_assoc before (mark_of side ++ body) (10 ∷ []) ∙ ap (λ (z : List ℕ). before ++ z) (sym (append-nil (mark_of side ++ body ++ 10 ∷ []))))))

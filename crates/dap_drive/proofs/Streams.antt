@@ -1,17 +1,23 @@
 -- Frames, one after the other, and what a reader of them makes of whole ones.
-use Rattle.std.proofs.Common.{◌≡◌, ℕ, List, [], ◌∷◌, ◌++◌, length, take, drop, sym, ap, ◌∙◌, subst, arith, append_assoc}
+use Rattle.std.proofs.Common.{◌≡◌, ◌<◌, ℕ, List, [], ◌∷◌, ◌++◌, length, take, drop, sym, ap, ◌∙◌, subst, arith, append_assoc}
 use Rattle.std.proofs.lemmas.List.{append_cancel_left, length-append, nil_from_length, take-append-drop}
-use Rattle.dap_frame.specs.Feeds.{Completes, Gathers}
+use Rattle.dap_frame.specs.Feeds.{Completes, Gathers, Closes}
 use Rattle.dap_frame.specs.Intake.{Intake, StandsFor}
 use Rattle.dap_frame.specs.Laws.{EachStreamHasOneSplit}
 use Rattle.dap_frame.specs.Stream.{FramesThen, Split}
+use Rattle.dap_frame.specs.declared.frames.FrameFault.{FrameFault}
 use Rattle.dap_frame.specs.declared.limits.Bounds.{Bounds}
+use Rattle.dap_world.specs.Moves.{BodiesMoveInOrder}
 
 pub joined : (b : Bounds) (xs ys : List (List ℕ)) (rest s t : List ℕ) → FramesThen b xs [] s → FramesThen b ys rest t → FramesThen b (xs ++ ys) rest (s ++ t)
 joined b [] ys rest s t e k = subst (λ (z : List ℕ). FramesThen b ys rest (z ++ t)) (sym e) k
 joined b (x ∷ xs) ys rest s t p k = (p.0, p.1 ++ t, ap (λ (z : List ℕ). z ++ t) p.2 ∙ append_assoc p.0 p.1 t, p.3, joined b xs ys rest p.1 t p.4 k)
 
 module _ (laws : EachStreamHasOneSplit) (b : Bounds) where
+  -- the bodies of frames are told by the bytes
+  pub same_bodies : (xs ys : List (List ℕ)) (s : List ℕ) → FramesThen b xs [] s → FramesThen b ys [] s → Split b [] [] [] → xs ≡ ys
+  same_bodies xs ys s f g ends = (laws.one b s xs ys [] [] (record { frames = f; ends = ends.ends }) (record { frames = g; ends = ends.ends })).0
+
   none_of : (xs : List (List ℕ)) (rest : List ℕ) → Split b [] xs rest → Split b [] [] []
   none_of [] rest s = subst (λ (z : List ℕ). Split b [] [] z) (sym s.frames) s
   none_of (x ∷ xs) rest s =
@@ -80,3 +86,13 @@ module _ (laws : EachStreamHasOneSplit) (b : Bounds) where
   pub between_still : (i k : Intake) (s t : List ℕ) (xs ys : List (List ℕ)) (rest : List ℕ) → i.bounds ≡ b → StandsFor i s xs [] → k.bounds ≡ b → StandsFor k t ys rest → t ≡ s → rest ≡ []
   between_still i k s t xs ys rest e st f new same =
       (laws.one b s ys xs rest [] (subst (λ (z : List ℕ). Split b z ys rest) same (at k t ys rest f new)) (at i s xs [] e st)).1
+
+  -- and they are not refused
+  pub not_closed : (moves : BodiesMoveInOrder) (i j : Intake) (s : List ℕ) (xs : List (List ℕ)) (piece : List ℕ) (fault : FrameFault) (ys : List (List ℕ)) → 0 < b.header → i.bounds ≡ b → StandsFor i s xs [] → Closes i j piece fault → FramesThen b ys [] piece → ⊥
+  not_closed moves i j s xs piece fault ys header e st c f =
+      let n = c.n in
+      let now = s ++ take n piece in
+      let bounds : j.bounds ≡ b = c.bounds ∙ e in
+      let same : s ++ piece ≡ now ++ drop n piece = ap (λ (z : List ℕ). s ++ z) (sym (take-append-drop n piece)) ∙ sym (append_assoc s (take n piece) (drop n piece)) in
+      let all : FramesThen b (xs ++ ys) [] (now ++ drop n piece) = subst (λ (z : List ℕ). FramesThen b (xs ++ ys) [] z) same (joined b xs ys [] s piece (at i s xs [] e st).frames f) in
+      moves.unrefused j now (drop n piece) xs (xs ++ ys) (take n piece) fault.cause (subst (λ (z : Bounds). 0 < z.header) (sym bounds) header) (c.stands s xs [] st) (subst (λ (z : Bounds). FramesThen z (xs ++ ys) [] (now ++ drop n piece)) (sym bounds) all) c.closed

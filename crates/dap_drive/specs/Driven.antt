@@ -10,21 +10,25 @@ use Rattle.dap_debuggee.specs.declared.reading.RecordingFault.{RecordingFault}
 use Rattle.dap_debuggee.specs.declared.recording.Recording.{Recording as TheRecording}
 use Rattle.dap_session.specs.Carried.{Goes}
 use Rattle.dap_client.specs.Sending.{first_of, refusals_in_order}
-use Rattle.dap_drive.specs.Orders.{Ran}
+use Rattle.dap_adapter.specs.Run.{Next, to_take}
+use Rattle.dap_world.specs.World.{World, Schedule}
+use Rattle.dap_drive.specs.Orders.{Ran, Reaches, LacksNumbers, HasTooManyReferences}
 use Rattle.dap_drive.specs.Script.{order_of}
-use Rattle.dap_drive.specs.Transcript.{text_of}
-use Rattle.dap_drive.specs.World.{World}
+use Rattle.dap_drive.specs.Transcript.{text_of, IsReadAs}
 use Rattle.dap_drive.specs.declared.fault.DriveFault.{DriveFault}
 use Rattle.dap_drive.specs.declared.fault.DriveFault.TheVariants.{Recording, Script, Call, Send, Adapter, Client, OutOfMemory}
 use Rattle.dap_drive.specs.declared.script.LineFault.TheVariants as unread
 use Rattle.dap_drive.specs.declared.script.Order.{Order}
 use Rattle.dap_drive.specs.declared.script.Order.TheVariants as order
 
--- the lines of the script lead somewhere, and this tells what was said on the way
+-- the lines of the script lead somewhere, by a schedule of both ends, and this tells what was said on the way
 pub record Drives {D : Type 0} (shown : D → Shown) (follows : Goes D) (limits : Settings) (debuggee : D) (texts : List (List ℕ)) (transcript : List ℕ) : Type 0 where
   pub world : World D
   pub ran : Ran shown follows limits debuggee texts world
+  pub schedule : Schedule shown follows limits debuggee world
   pub transcript_is : transcript ≡ text_of world.said
+  -- the checker finds no broken rule in it, the one on references aside
+  pub read : IsReadAs transcript world.said
 
 -- ---- faults
 
@@ -39,21 +43,35 @@ pub record StopsAt {D : Type 0} (shown : D → Shown) (follows : Goes D) (limits
   pub ran : Ran shown follows limits debuggee before world
   pub stops : says (length before + 1) text world
 
--- what a fault says of a line: that an end is closed is told of one that is an order
-abbrev pub SaysOf : {D : Type 0} → DriveFault → ℕ → List ℕ → World D → Type 0
-SaysOf Recording number text w = ⊥
-SaysOf (Script line) number text w = (line ≡ number) × (order_of text ≡ Err unread.Script)
-SaysOf (Call line) number text w = (line ≡ number) × (order_of text ≡ Err unread.Call)
-SaysOf (Send line cause) number text w = (line ≡ number) × ((call : TheCall) × (order_of text ≡ Ok (order.Send call)) × (first_of refusals_in_order call false w.client ≡ Some cause))
-SaysOf Adapter number text w = (o : Order) × (order_of text ≡ Ok o)
-SaysOf Client number text w = (o : Order) × (order_of text ≡ Ok o)
+-- The order of the line leads to a world where the adapter lacks own numbers for what it does next. Else it takes what
+-- comes, handles it and tells what happened.
+pub record AdapterStops {D : Type 0} (shown : D → Shown) (follows : Goes D) (o : Order) (w : World D) : Type 0 where
+  pub next : Next
+  pub now : World D
+  pub reaches : Reaches shown follows o w next now
+  pub lacks : LacksNumbers shown follows next now
+
+-- it leads to a world where the next message gives the client too many references
+pub record ClientStops {D : Type 0} (shown : D → Shown) (follows : Goes D) (o : Order) (w : World D) : Type 0 where
+  pub now : World D
+  pub reaches : Reaches shown follows o w to_take now
+  pub has : HasTooManyReferences now
+
+-- what a fault says of a line, where the lines before it led to this world
+abbrev pub SaysOf : {D : Type 0} → (D → Shown) → Goes D → DriveFault → ℕ → List ℕ → World D → Type 0
+SaysOf shown follows Recording number text w = ⊥
+SaysOf shown follows (Script line) number text w = (line ≡ number) × (order_of text ≡ Err unread.Script)
+SaysOf shown follows (Call line) number text w = (line ≡ number) × (order_of text ≡ Err unread.Call)
+SaysOf shown follows (Send line cause) number text w = (line ≡ number) × ((call : TheCall) × (order_of text ≡ Ok (order.Send call)) × (first_of refusals_in_order call false w.client ≡ Some cause))
+SaysOf shown follows Adapter number text w = (o : Order) × (order_of text ≡ Ok o) × AdapterStops shown follows o w
+SaysOf shown follows Client number text w = (o : Order) × (order_of text ≡ Ok o) × ClientStops shown follows o w
 -- memory may be refused anywhere
-SaysOf OutOfMemory number text w = Unit {0}
+SaysOf shown follows OutOfMemory number text w = Unit {0}
 
 -- also before the first line
 abbrev pub Stops : {D : Type 0} → (D → Shown) → Goes D → Settings → D → List (List ℕ) → DriveFault → Type 0
 Stops shown follows limits debuggee texts OutOfMemory = Unit {0}
-Stops shown follows limits debuggee texts fault = StopsAt shown follows limits debuggee texts (SaysOf fault)
+Stops shown follows limits debuggee texts fault = StopsAt shown follows limits debuggee texts (SaysOf shown follows fault)
 
 -- ---- over a recording
 

@@ -1,14 +1,20 @@
--- What each order of a script does, and a script line by line. The format is this profile's own.
-use Rattle.std.specs.Prelude.{◌≡◌, ◌+◌, ◌<◌, ℕ, List, [], ◌∷◌, ◌++◌, length, Ok}
+-- What each order of a script does, and a script line by line: each is steps of a schedule. The format is this profile's own.
+use Rattle.std.specs.Prelude.{◌≡◌, ◌+◌, ◌<◌, ℕ, List, [], ◌∷◌, ◌++◌, length, Ok, Err}
 use Rattle.dap_frame.specs.Settings.{Settings}
 use Rattle.dap_message.specs.Types.Call.{Call}
 use Rattle.dap_message.specs.declared.message.Message.{Message}
 use Rattle.dap_debuggee.specs.Shown.{Shown}
-use Rattle.dap_session.specs.Carried.{Goes}
-use Rattle.dap_session.specs.Plan.{bytes_of}
+use Rattle.dap_session.specs.Carried.{Goes, CarriedOut}
+use Rattle.dap_session.specs.Handling.{turns}
+use Rattle.dap_session.specs.Plan.{Made, bytes_of}
+use Rattle.dap_session.specs.Polling.{polls}
+use Rattle.dap_session.specs.Taking.{takes}
+use Rattle.dap_session.specs.declared.fault.AdapterFault.TheVariants.{SeqExhausted}
 use Rattle.dap_adapter.specs.Run.{Next, to_take, to_turn, to_poll, after_poll}
+use Rattle.dap_client.specs.Taking.{takes as client_takes}
+use Rattle.dap_client.specs.declared.fault.ClientFault.TheVariants.{ReferenceLimit}
+use Rattle.dap_world.specs.World.{World, fresh_world, Sends, ComesUp, ComesDown, Turns, IsIdle, Polls}
 use Rattle.dap_drive.specs.Script.{order_of}
-use Rattle.dap_drive.specs.World.{World, fresh_world, Sends, ComesUp, ComesDown, Turns, IsIdle, Polls}
 use Rattle.dap_drive.specs.declared.script.Order.{Order}
 use Rattle.dap_drive.specs.declared.script.Order.TheVariants.{Send, Turn, Poll, Run}
 
@@ -45,9 +51,8 @@ pub data DoesTurn {D : Type 0} (shown : D → Shown) (follows : Goes D) (old new
 
 -- the adapter tells what happened
 pub record DoesPoll {D : Type 0} (follows : Goes D) (old new : World D) : Type 0 where
-  pub outs : List Message
   pub polled : World D
-  pub polls : Polls follows outs old polled
+  pub polls : Polls follows old polled
   pub settles : Settles follows polled new
 
 -- all requests are handled, then what happens is told, as in serving: until nothing does, in a stop, or after 65536 times
@@ -56,7 +61,7 @@ pub data RunsTo {D : Type 0} (shown : D → Shown) (follows : Goes D) (start : W
   handled : (v w : World D) → RunsTo shown follows start to_turn v → Handles shown follows v w → RunsTo shown follows start to_turn w
   idles : (w : World D) → RunsTo shown follows start to_turn w → IsIdle shown w → RunsTo shown follows start (to_poll 0) w
   polled : (v w : World D) (made : ℕ) → RunsTo shown follows start (to_poll made) v → (p : DoesPoll follows v w)
-      → RunsTo shown follows start (after_poll (made + 1) (bytes_of p.outs) p.polled.adapter.session.phase) w
+      → RunsTo shown follows start (after_poll (made + 1) (bytes_of p.polls.outs) p.polled.adapter.session.phase) w
 
 abbrev pub Does : {D : Type 0} → (D → Shown) → Goes D → Order → World D → World D → Type 0
 Does shown follows (Send call) old new = DoesSend follows call old new
@@ -72,3 +77,27 @@ pub data Ran {D : Type 0} (shown : D → Shown) (follows : Goes D) (limits : Set
   skips : (texts : List (List ℕ)) (w : World D) → Ran shown follows limits debuggee texts w → Ran shown follows limits debuggee (texts ++ [] ∷ []) w
   does : (texts : List (List ℕ)) (text : List ℕ) (order : Order) (v w : World D) → Ran shown follows limits debuggee texts v → 0 < length text → order_of text ≡ Ok order → Does shown follows order v w
       → Ran shown follows limits debuggee (texts ++ text ∷ []) w
+
+-- ---- in the midst of an order
+
+-- A world on the way of an order, and what is done there next: a message is taken, a request is handled, or the debuggee is
+-- asked what happened.
+pub data Reaches {D : Type 0} (shown : D → Shown) (follows : Goes D) : Order → World D → Next → World D → Type 0 where
+  in_send : (call : Call) (old v now : World D) → Sends call old v → Delivers follows v now → Reaches shown follows (Send call) old to_take now
+  before_turn : (old : World D) → Reaches shown follows Turn old to_turn old
+  in_turn : (old v now : World D) → Turns shown follows old v → Delivers follows v now → Reaches shown follows Turn old to_take now
+  before_poll : (old : World D) → Reaches shown follows Poll old (to_poll 0) old
+  in_poll : (old v now : World D) → Polls follows old v → Delivers follows v now → Reaches shown follows Poll old to_take now
+  in_run : (next : Next) (old now : World D) → RunsTo shown follows old next now → Reaches shown follows Run old next now
+  in_run_turn : (old u v now : World D) → RunsTo shown follows old to_turn u → Turns shown follows u v → Delivers follows v now → Reaches shown follows Run old to_take now
+  in_run_poll : (made : ℕ) (old u v now : World D) → RunsTo shown follows old (to_poll made) u → Polls follows u v → Delivers follows v now → Reaches shown follows Run old to_take now
+
+-- the adapter has too few own numbers left for what it does next
+abbrev pub LacksNumbers : {D : Type 0} → (D → Shown) → Goes D → Next → World D → Type 0
+LacksNumbers shown follows to_take w = (m : Message) × (later : List Message) × (w.up ≡ m ∷ later) × (takes m w.adapter.session ≡ Err SeqExhausted)
+LacksNumbers shown follows to_turn w = turns (shown w.adapter.debuggee) w.adapter.session ≡ Err SeqExhausted
+LacksNumbers {D} shown follows (to_poll n) w = (made : Made) × (after : D) × CarriedOut follows (polls w.adapter.session) w.adapter.debuggee made after × (w.adapter.session.limits.seq < w.adapter.session.used + length made.drafts)
+
+-- the next message gives the client more references than it may know
+abbrev pub HasTooManyReferences : {D : Type 0} → World D → Type 0
+HasTooManyReferences w = (m : Message) × (later : List Message) × (w.down ≡ m ∷ later) × (client_takes m w.client ≡ Err ReferenceLimit)

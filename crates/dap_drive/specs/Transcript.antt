@@ -1,23 +1,30 @@
 -- A transcript: a line for each message that was written. The format is this profile's own.
-use Rattle.std.specs.Prelude.{ℕ, List, [], ◌∷◌, ◌++◌, map, codes}
+use Rattle.std.specs.Prelude.{◌≡◌, ℕ, List, [], ◌∷◌, ◌++◌, codes}
 use Rattle.std.specs.List.{flat_map}
+use Rattle.std.specs.Str.Lines.{lines}
+use Rattle.dap_message.specs.Canon.{canon}
+use Rattle.dap_check.specs.Transcript.{AreLines}
+use Rattle.dap_check.specs.declared.line.Line.{Line}
 use Rattle.dap_check.specs.declared.line.Side.{Side}
 use Rattle.dap_check.specs.declared.line.Side.TheVariants.{Client, Adapter}
-
--- a message that was written: by whom, and its body
-pub record Said : Type 0 where
-  pub side : Side
-  pub body : List ℕ
-
-abbrev pub said_by : Side → List (List ℕ) → List Said
-said_by side bodies = map (λ body. record { side = side; body = body }) bodies
+use Rattle.dap_world.specs.Transcripts.{said_of, KeepsRules}
+use Rattle.dap_world.specs.World.{Said}
 
 abbrev pub mark_of : Side → List ℕ
 mark_of Client = codes "> "
 mark_of Adapter = codes "< "
 
-abbrev pub line_of : Said → List ℕ
-line_of m = mark_of m.side ++ m.body ++ 10 ∷ []
+-- the line of a body that a side wrote
+abbrev pub line_of : Side → List ℕ → List ℕ
+line_of side body = mark_of side ++ body ++ 10 ∷ []
 
+-- the lines of all that was written, in order, each message as its canonical text
 abbrev pub text_of : List Said → List ℕ
-text_of said = flat_map line_of said
+text_of said = flat_map (λ m. line_of m.side (canon m.message)) said
+
+-- what the checker reads of a transcript is what was written, and it keeps each rule but the one on references
+pub record IsReadAs (transcript : List ℕ) (said : List Said) : Type 0 where
+  pub all : List Line
+  pub are : AreLines 1 (lines transcript) all
+  pub said_is : said_of all ≡ said
+  pub rules : KeepsRules all

@@ -6,7 +6,7 @@ ghost use Rattle.dap_frame.specs.Intake.{IsUnderWay};
 ghost use Rattle.dap_frame.specs.Settings.{Settings};
 ghost use Rattle.dap_drive.specs.Driven.{Drives, Stops, SaysOf, DrivesRecording, StopsOver};
 ghost use Rattle.dap_drive.specs.Held.{IsQuiet, HasDone, DoesLine, HasRun};
-ghost use Rattle.dap_drive.specs.World.{World};
+ghost use Rattle.dap_world.specs.World.{World};
 
 use crate::ends::Drive;
 use crate::fault::DriveFault;
@@ -25,12 +25,12 @@ fn do_order<D: Debuggee + Drop>(
 ) -> Result<(), DriveFault>
     requires reading { IsUnderWay drive.old.reader }
     ensures reading { OnOk result (IsUnderWay drive.new.reader) }
-    ensures done { OnOk result ((limits : Settings) (start : World D)
-        → IsQuiet limits drive.old.client drive.old.adapter drive.old.reader drive.old.transcript.items start
-        → HasDone (DoesLine D.shown D.follows text.now) limits start drive.new.client drive.new.adapter drive.new.reader drive.new.transcript.items) }
-    ensures stops { IfErr result (λ fault. (limits : Settings) (start : World D)
-        → IsQuiet limits drive.old.client drive.old.adapter drive.old.reader drive.old.transcript.items start
-        → SaysOf fault number text.now start) }
+    ensures done { OnOk result ((limits : Settings) (debuggee : D) (start : World D)
+        → IsQuiet D.shown D.follows limits debuggee drive.old.client drive.old.adapter drive.old.reader drive.old.transcript.items start
+        → HasDone D.shown D.follows limits debuggee (DoesLine D.shown D.follows text.now) start drive.new.client drive.new.adapter drive.new.reader drive.new.transcript.items) }
+    ensures stops { IfErr result (λ fault. (limits : Settings) (debuggee : D) (start : World D)
+        → IsQuiet D.shown D.follows limits debuggee drive.old.client drive.old.adapter drive.old.reader drive.old.transcript.items start
+        → SaysOf D.shown D.follows fault number text.now start) }
 {
     match read_order(alloc, text) {
         Ok(Order::Send(call)) => match drive.send(alloc, &call, number) {
@@ -68,9 +68,9 @@ fn do_line<D: Debuggee + Drop>(
         → HasRun D.shown D.follows limits debuggee texts drive.old.client drive.old.adapter drive.old.reader drive.old.transcript.items
         → HasRun D.shown D.follows limits debuggee (texts ++ text.now ∷ []) drive.new.client drive.new.adapter drive.new.reader drive.new.transcript.items) }
     ensures bytes { IfErr result (λ fault. 0 < length text.now) }
-    ensures stops { IfErr result (λ fault. (limits : Settings) (start : World D)
-        → IsQuiet limits drive.old.client drive.old.adapter drive.old.reader drive.old.transcript.items start
-        → SaysOf fault number text.now start) }
+    ensures stops { IfErr result (λ fault. (limits : Settings) (debuggee : D) (start : World D)
+        → IsQuiet D.shown D.follows limits debuggee drive.old.client drive.old.adapter drive.old.reader drive.old.transcript.items start
+        → SaysOf D.shown D.follows fault number text.now start) }
 {
     if text.is_empty() {
         return Ok(());

@@ -2,10 +2,14 @@
 ghost use Rattle.std.specs.Prelude.{◌≡◌, ℕ, ◌+◌, ◌==◌, ◌||◌, ◌<◌, ◌≤◌, List, [], length, drop, IfOk, IfErr, OnOk, Some, IsTrue, true};
 ghost use Rattle.dap_debuggee.specs.declared.answers.State.{State};
 ghost use Rattle.dap_frame.specs.Intake.{IsUnderWay};
-ghost use Rattle.dap_frame.specs.Settings.{Settings};
+ghost use Rattle.dap_frame.specs.Settings.{AreInRange, Settings};
 ghost use Rattle.dap_message.specs.PlainCall.{is_plain_call};
 ghost use Rattle.dap_session.specs.Table.{is_phase};
-ghost use Rattle.dap_drive.specs.Held.{IsClosing, IsUnsent, Spends, left_to_do};
+ghost use Rattle.dap_drive.specs.Held.{Spends, left_to_do};
+ghost use Rattle.dap_drive.specs.Faults.{FrameLaws, fault_of_adapter, fault_of_client};
+ghost use Rattle.dap_drive.specs.declared.fault.DriveFault.{DriveFault};
+ghost use Rattle.dap_drive.specs.declared.script.Order.{Order};
+ghost use Rattle.dap_drive.specs.declared.writing.Unwritten.{Unwritten};
 
 use crate::fault::DriveFault;
 use crate::writing::{Unwritten, write_lines};
@@ -13,15 +17,40 @@ use dap_adapter::{Adapter, AdapterFault, Phase, Taken, Turned};
 use dap_check::Side;
 use dap_client::{Client, ClientFault, Got, SendFault};
 use dap_debuggee::Debuggee;
-use dap_frame::{Frames, Limits, each_stream_has_one_split};
+use dap_frame::{Frames, Limits, each_stream_has_one_split, written_is_read_again};
 use dap_message::Call;
+use dap_message::laws::each_body_is_one;
+use dap_world::laws::{each_schedule_agrees, moves_are_in_order};
 use std::alloc::{AllocError, Global};
 
 /// After a `run` has handled all requests, the debuggee is asked at most so often what happened.
 const MAX_POLLS: u32 = 65536;
 
+/// The laws of frames and of bodies, for the proofs.
+fn frames_keep_their_laws()
+    ensures { FrameLaws }
+{
+    each_stream_has_one_split();
+    moves_are_in_order();
+    written_is_read_again();
+    each_body_is_one();
+}
+
+/// That limits are in their ranges, for the proofs.
+fn limits_are_in_range(limits: &Limits)
+    ensures { AreInRange limits.now }
+{
+    let _header = limits.header();
+    let _body = limits.body();
+    let _requests = limits.requests();
+    let _references = limits.references();
+    let _breakpoints = limits.breakpoints();
+    let _seq = limits.seq();
+    let _reference = limits.reference();
+}
+
 fn client_fault(fault: ClientFault) -> DriveFault
-    ensures { IsClosing result }
+    ensures { result ≡ fault_of_client fault }
 {
     match fault {
         ClientFault::OutOfMemory => DriveFault::OutOfMemory,
@@ -30,7 +59,7 @@ fn client_fault(fault: ClientFault) -> DriveFault
 }
 
 fn adapter_fault(fault: AdapterFault) -> DriveFault
-    ensures { IsClosing result }
+    ensures { result ≡ fault_of_adapter fault }
 {
     match fault {
         AdapterFault::OutOfMemory => DriveFault::OutOfMemory,
@@ -38,9 +67,9 @@ fn adapter_fault(fault: AdapterFault) -> DriveFault
     }
 }
 
-/// Bytes of one end that are no frames close the other.
+/// Bytes of one end that are no frames would close the other. There are none, as the callers show.
 fn unwritten(side: Side, fault: Unwritten) -> DriveFault
-    ensures { IsClosing result }
+    ensures { fault ≡ Unwritten.OutOfMemory → result ≡ DriveFault.OutOfMemory }
 {
     match fault {
         Unwritten::OutOfMemory => DriveFault::OutOfMemory,
@@ -92,19 +121,21 @@ pub(crate) struct Drive<D: Debuggee + Drop> {
 }
 
 impl<D: Debuggee + Drop> Drive<D> {
-    ghost use Rattle.dap_drive.specs.World.{World, fresh_world};
+    ghost use Rattle.dap_world.specs.World.{World, fresh_world};
     ghost use Rattle.dap_drive.specs.Orders.{DoesSend, RunsTo};
-    ghost use Rattle.dap_drive.specs.Held.{IsAt, HasDelivered, HasSettled, IsQuiet, HasDone, HasTurned, HasPolled};
+    ghost use Rattle.dap_drive.specs.Held.{HasDelivered, HasSettled, IsQuiet, HasDone, HasTurned, HasPolled, StopsDelivering, StopsOrder, StopsSend, StopsTurn, StopsPoll};
     ghost use Rattle.dap_adapter.specs.Run.{to_take, to_turn, to_poll};
 
     /// Two fresh ends. The debuggee is not started.
     pub(crate) fn open(alloc: Global, limits: Limits, debuggee: D) -> Result<Drive<D>, AllocError>
         requires { (D.shown debuggee).state ≡ State.NotStarted }
         ensures reading { IfOk result (λ d. IsUnderWay d.reader) }
-        ensures fresh { IfOk result (λ d. IsQuiet limits d.client d.adapter d.reader d.transcript.items (fresh_world limits debuggee)) }
+        ensures fresh { IfOk result (λ d. IsQuiet D.shown D.follows limits debuggee d.client d.adapter d.reader d.transcript.items (fresh_world limits debuggee)) }
     {
-        // A law for the proof: bytes are frames in one way only.
-        each_stream_has_one_split();
+        // Laws for the proof: both ends agree, and bytes are frames in one way only.
+        each_schedule_agrees::<D>();
+        frames_keep_their_laws();
+        limits_are_in_range(&limits);
         let client = Client::open(alloc, limits)?;
         let adapter = Adapter::open(alloc, limits, debuggee)?;
         let reader = Frames::open(alloc, &limits)?;
@@ -135,15 +166,18 @@ impl<D: Debuggee + Drop> Drive<D> {
         ensures reading { OnOk result (IsUnderWay self.new.reader) }
         ensures progress { IfOk result (λ n. 0 < length rest.now → 0 < n) }
         ensures within { IfOk result (λ n. n ≤ length rest.now) }
-        ensures delivered { IfOk result (λ n. 0 < length rest.now → (limits : Settings) (start : World D)
-            → HasDelivered D.follows limits start self.old.client self.old.adapter self.old.reader self.old.transcript.items up.old.items rest.now
-            → HasDelivered D.follows limits start self.new.client self.new.adapter self.new.reader self.new.transcript.items up.new.items (drop n rest.now)) }
+        ensures delivered { IfOk result (λ n. 0 < length rest.now → (limits : Settings) (debuggee : D) (start : World D)
+            → HasDelivered D.shown D.follows limits debuggee start self.old.client self.old.adapter self.old.reader self.old.transcript.items up.old.items rest.now
+            → HasDelivered D.shown D.follows limits debuggee start self.new.client self.new.adapter self.new.reader self.new.transcript.items up.new.items (drop n rest.now)) }
         ensures spends { OnOk result (Spends self.old.client.session self.new.client.session (length up.old.items) (length up.new.items)) }
         ensures adapter { self.new.adapter ≡ self.old.adapter }
-        ensures closing { IfErr result IsClosing }
+        ensures stops { IfErr result (λ fault. (limits : Settings) (debuggee : D) (start : World D)
+            → HasDelivered D.shown D.follows limits debuggee start self.old.client self.old.adapter self.old.reader self.old.transcript.items up.old.items rest.now
+            → 0 < length rest.now → StopsDelivering D.shown D.follows fault start) }
     {
-        // A law for the proof: bytes are frames in one way only.
-        each_stream_has_one_split();
+        // Laws for the proof: both ends agree, and bytes are frames in one way only.
+        each_schedule_agrees::<D>();
+        frames_keep_their_laws();
         let got = match self.client.take(alloc, rest) {
             Ok(got) => got,
             Err(fault) => return Err(client_fault(fault)),
@@ -161,12 +195,14 @@ impl<D: Debuggee + Drop> Drive<D> {
     fn deliver_down(&mut self, alloc: Global, down: &[u8]) -> Result<Vec<u8>, DriveFault>
         requires reading { IsUnderWay self.old.reader }
         ensures reading { OnOk result (IsUnderWay self.new.reader) }
-        ensures delivered { IfOk result (λ up. (limits : Settings) (start : World D)
-            → HasDelivered D.follows limits start self.old.client self.old.adapter self.old.reader self.old.transcript.items [] down.now
-            → HasDelivered D.follows limits start self.new.client self.new.adapter self.new.reader self.new.transcript.items up.items []) }
+        ensures delivered { IfOk result (λ up. (limits : Settings) (debuggee : D) (start : World D)
+            → HasDelivered D.shown D.follows limits debuggee start self.old.client self.old.adapter self.old.reader self.old.transcript.items [] down.now
+            → HasDelivered D.shown D.follows limits debuggee start self.new.client self.new.adapter self.new.reader self.new.transcript.items up.items []) }
         ensures spends { IfOk result (λ up. Spends self.old.client.session self.new.client.session 0 (length up.items)) }
         ensures adapter { OnOk result (self.new.adapter ≡ self.old.adapter) }
-        ensures closing { IfErr result IsClosing }
+        ensures stops { IfErr result (λ fault. (limits : Settings) (debuggee : D) (start : World D)
+            → HasDelivered D.shown D.follows limits debuggee start self.old.client self.old.adapter self.old.reader self.old.transcript.items [] down.now
+            → StopsDelivering D.shown D.follows fault start) }
     {
         let mut up = Vec::new(alloc);
         let mut at = 0;
@@ -189,15 +225,18 @@ impl<D: Debuggee + Drop> Drive<D> {
         ensures reading { OnOk result (IsUnderWay self.new.reader) }
         ensures progress { IfOk result (λ n. 0 < length rest.now → 0 < n) }
         ensures within { IfOk result (λ n. n ≤ length rest.now) }
-        ensures delivered { IfOk result (λ n. 0 < length rest.now → (limits : Settings) (start : World D)
-            → HasDelivered D.follows limits start self.old.client self.old.adapter self.old.reader self.old.transcript.items rest.now down.old.items
-            → HasDelivered D.follows limits start self.new.client self.new.adapter self.new.reader self.new.transcript.items (drop n rest.now) down.new.items) }
+        ensures delivered { IfOk result (λ n. 0 < length rest.now → (limits : Settings) (debuggee : D) (start : World D)
+            → HasDelivered D.shown D.follows limits debuggee start self.old.client self.old.adapter self.old.reader self.old.transcript.items rest.now down.old.items
+            → HasDelivered D.shown D.follows limits debuggee start self.new.client self.new.adapter self.new.reader self.new.transcript.items (drop n rest.now) down.new.items) }
         ensures client { self.new.client ≡ self.old.client }
         ensures limits { OnOk result (self.new.adapter.session.limits ≡ self.old.adapter.session.limits) }
-        ensures closing { IfErr result IsClosing }
+        ensures stops { IfErr result (λ fault. (limits : Settings) (debuggee : D) (start : World D)
+            → HasDelivered D.shown D.follows limits debuggee start self.old.client self.old.adapter self.old.reader self.old.transcript.items rest.now down.old.items
+            → 0 < length rest.now → StopsDelivering D.shown D.follows fault start) }
     {
-        // A law for the proof: bytes are frames in one way only.
-        each_stream_has_one_split();
+        // Laws for the proof: both ends agree, and bytes are frames in one way only.
+        each_schedule_agrees::<D>();
+        frames_keep_their_laws();
         let taken = match self.adapter.take(alloc, rest) {
             Ok(taken) => taken,
             Err(fault) => return Err(adapter_fault(fault)),
@@ -220,12 +259,14 @@ impl<D: Debuggee + Drop> Drive<D> {
     fn deliver_up(&mut self, alloc: Global, up: &[u8]) -> Result<Vec<u8>, DriveFault>
         requires reading { IsUnderWay self.old.reader }
         ensures reading { OnOk result (IsUnderWay self.new.reader) }
-        ensures delivered { IfOk result (λ down. (limits : Settings) (start : World D)
-            → HasDelivered D.follows limits start self.old.client self.old.adapter self.old.reader self.old.transcript.items up.now []
-            → HasDelivered D.follows limits start self.new.client self.new.adapter self.new.reader self.new.transcript.items [] down.items) }
+        ensures delivered { IfOk result (λ down. (limits : Settings) (debuggee : D) (start : World D)
+            → HasDelivered D.shown D.follows limits debuggee start self.old.client self.old.adapter self.old.reader self.old.transcript.items up.now []
+            → HasDelivered D.shown D.follows limits debuggee start self.new.client self.new.adapter self.new.reader self.new.transcript.items [] down.items) }
         ensures client { OnOk result (self.new.client ≡ self.old.client) }
         ensures limits { OnOk result (self.new.adapter.session.limits ≡ self.old.adapter.session.limits) }
-        ensures closing { IfErr result IsClosing }
+        ensures stops { IfErr result (λ fault. (limits : Settings) (debuggee : D) (start : World D)
+            → HasDelivered D.shown D.follows limits debuggee start self.old.client self.old.adapter self.old.reader self.old.transcript.items up.now []
+            → StopsDelivering D.shown D.follows fault start) }
     {
         let mut down = Vec::new(alloc);
         let mut at = 0;
@@ -240,14 +281,17 @@ impl<D: Debuggee + Drop> Drive<D> {
     fn settle(&mut self, alloc: Global, first: Vec<u8>) -> Result<(), DriveFault>
         requires reading { IsUnderWay self.old.reader }
         ensures reading { OnOk result (IsUnderWay self.new.reader) }
-        ensures settled { OnOk result ((limits : Settings) (start : World D)
-            → HasDelivered D.follows limits start self.old.client self.old.adapter self.old.reader self.old.transcript.items [] first.items
-            → HasSettled D.follows limits start self.new.client self.new.adapter self.new.reader self.new.transcript.items) }
+        ensures settled { OnOk result ((limits : Settings) (debuggee : D) (start : World D)
+            → HasDelivered D.shown D.follows limits debuggee start self.old.client self.old.adapter self.old.reader self.old.transcript.items [] first.items
+            → HasSettled D.shown D.follows limits debuggee start self.new.client self.new.adapter self.new.reader self.new.transcript.items) }
         ensures less { OnOk result (left_to_do self.new.client self.new.adapter ≤ left_to_do self.old.client self.old.adapter) }
-        ensures closing { IfErr result IsClosing }
+        ensures stops { IfErr result (λ fault. (limits : Settings) (debuggee : D) (start : World D)
+            → HasDelivered D.shown D.follows limits debuggee start self.old.client self.old.adapter self.old.reader self.old.transcript.items [] first.items
+            → StopsDelivering D.shown D.follows fault start) }
     {
-        // A law for the proof: no bytes are no messages.
-        each_stream_has_one_split();
+        // Laws for the proof: both ends agree, and bytes are frames in one way only.
+        each_schedule_agrees::<D>();
+        frames_keep_their_laws();
         let mut down = first;
         'settle: loop {
             let up = self.deliver_down(alloc, &down)?;
@@ -265,13 +309,16 @@ impl<D: Debuggee + Drop> Drive<D> {
         requires reading { IsUnderWay self.old.reader }
         requires plain { IsTrue (is_plain_call call.now) }
         ensures reading { OnOk result (IsUnderWay self.new.reader) }
-        ensures sent { OnOk result ((limits : Settings) (start : World D)
-            → IsQuiet limits self.old.client self.old.adapter self.old.reader self.old.transcript.items start
-            → HasDone (DoesSend D.follows call.now) limits start self.new.client self.new.adapter self.new.reader self.new.transcript.items) }
-        ensures unsent { IfErr result (λ fault. IsUnsent fault line call.now self.old.client) }
+        ensures sent { OnOk result ((limits : Settings) (debuggee : D) (start : World D)
+            → IsQuiet D.shown D.follows limits debuggee self.old.client self.old.adapter self.old.reader self.old.transcript.items start
+            → HasDone D.shown D.follows limits debuggee (DoesSend D.follows call.now) start self.new.client self.new.adapter self.new.reader self.new.transcript.items) }
+        ensures stops { IfErr result (λ fault. (limits : Settings) (debuggee : D) (start : World D)
+            → IsQuiet D.shown D.follows limits debuggee self.old.client self.old.adapter self.old.reader self.old.transcript.items start
+            → StopsSend D.shown D.follows fault line call.now self.old.client start) }
     {
-        // A law for the proof: bytes are frames in one way only.
-        each_stream_has_one_split();
+        // Laws for the proof: both ends agree, and bytes are frames in one way only.
+        each_schedule_agrees::<D>();
+        frames_keep_their_laws();
         let sent = match self.client.send(alloc, call) {
             Ok(sent) => sent,
             Err(SendFault::OutOfMemory) => return Err(DriveFault::OutOfMemory),
@@ -295,14 +342,17 @@ impl<D: Debuggee + Drop> Drive<D> {
     pub(crate) fn turn(&mut self, alloc: Global) -> Result<bool, DriveFault>
         requires reading { IsUnderWay self.old.reader }
         ensures reading { OnOk result (IsUnderWay self.new.reader) }
-        ensures turned { IfOk result (λ more. (limits : Settings) (start : World D)
-            → IsQuiet limits self.old.client self.old.adapter self.old.reader self.old.transcript.items start
-            → HasDone (HasTurned D.shown D.follows more) limits start self.new.client self.new.adapter self.new.reader self.new.transcript.items) }
+        ensures turned { IfOk result (λ more. (limits : Settings) (debuggee : D) (start : World D)
+            → IsQuiet D.shown D.follows limits debuggee self.old.client self.old.adapter self.old.reader self.old.transcript.items start
+            → HasDone D.shown D.follows limits debuggee (HasTurned D.shown D.follows more) start self.new.client self.new.adapter self.new.reader self.new.transcript.items) }
         ensures less { IfOk result (λ more. more ≡ true → left_to_do self.new.client self.new.adapter < left_to_do self.old.client self.old.adapter) }
-        ensures closing { IfErr result IsClosing }
+        ensures stops { IfErr result (λ fault. (limits : Settings) (debuggee : D) (start : World D)
+            → IsQuiet D.shown D.follows limits debuggee self.old.client self.old.adapter self.old.reader self.old.transcript.items start
+            → StopsTurn D.shown D.follows fault start) }
     {
-        // A law for the proof: bytes are frames in one way only.
-        each_stream_has_one_split();
+        // Laws for the proof: both ends agree, and bytes are frames in one way only.
+        each_schedule_agrees::<D>();
+        frames_keep_their_laws();
         let bytes = match self.adapter.turn(alloc) {
             Ok(Turned::Idle) => return Ok(false),
             Ok(Turned::Done { bytes }) => bytes,
@@ -325,13 +375,16 @@ impl<D: Debuggee + Drop> Drive<D> {
     pub(crate) fn poll(&mut self, alloc: Global) -> Result<bool, DriveFault>
         requires reading { IsUnderWay self.old.reader }
         ensures reading { OnOk result (IsUnderWay self.new.reader) }
-        ensures polled { IfOk result (λ last. (limits : Settings) (start : World D)
-            → IsQuiet limits self.old.client self.old.adapter self.old.reader self.old.transcript.items start
-            → HasDone (HasPolled D.follows last) limits start self.new.client self.new.adapter self.new.reader self.new.transcript.items) }
-        ensures closing { IfErr result IsClosing }
+        ensures polled { IfOk result (λ last. (limits : Settings) (debuggee : D) (start : World D)
+            → IsQuiet D.shown D.follows limits debuggee self.old.client self.old.adapter self.old.reader self.old.transcript.items start
+            → HasDone D.shown D.follows limits debuggee (HasPolled D.follows last) start self.new.client self.new.adapter self.new.reader self.new.transcript.items) }
+        ensures stops { IfErr result (λ fault. (limits : Settings) (debuggee : D) (start : World D)
+            → IsQuiet D.shown D.follows limits debuggee self.old.client self.old.adapter self.old.reader self.old.transcript.items start
+            → StopsPoll D.shown D.follows fault start) }
     {
-        // A law for the proof: bytes are frames in one way only.
-        each_stream_has_one_split();
+        // Laws for the proof: both ends agree, and bytes are frames in one way only.
+        each_schedule_agrees::<D>();
+        frames_keep_their_laws();
         let bytes = match self.adapter.poll(alloc) {
             Ok(bytes) => bytes,
             Err(fault) => return Err(adapter_fault(fault)),
@@ -354,10 +407,12 @@ impl<D: Debuggee + Drop> Drive<D> {
     pub(crate) fn run(&mut self, alloc: Global) -> Result<(), DriveFault>
         requires reading { IsUnderWay self.old.reader }
         ensures reading { OnOk result (IsUnderWay self.new.reader) }
-        ensures ran { OnOk result ((limits : Settings) (start : World D)
-            → IsQuiet limits self.old.client self.old.adapter self.old.reader self.old.transcript.items start
-            → HasDone (λ old new. RunsTo D.shown D.follows old to_take new) limits start self.new.client self.new.adapter self.new.reader self.new.transcript.items) }
-        ensures closing { IfErr result IsClosing }
+        ensures ran { OnOk result ((limits : Settings) (debuggee : D) (start : World D)
+            → IsQuiet D.shown D.follows limits debuggee self.old.client self.old.adapter self.old.reader self.old.transcript.items start
+            → HasDone D.shown D.follows limits debuggee (λ old new. RunsTo D.shown D.follows old to_take new) start self.new.client self.new.adapter self.new.reader self.new.transcript.items) }
+        ensures stops { IfErr result (λ fault. (limits : Settings) (debuggee : D) (start : World D)
+            → IsQuiet D.shown D.follows limits debuggee self.old.client self.old.adapter self.old.reader self.old.transcript.items start
+            → StopsOrder D.shown D.follows Order.Run fault start) }
     {
         self.turns(alloc)?;
         self.polls(alloc)?;
@@ -367,13 +422,16 @@ impl<D: Debuggee + Drop> Drive<D> {
     fn turns(&mut self, alloc: Global) -> Result<(), DriveFault>
         requires reading { IsUnderWay self.old.reader }
         ensures reading { OnOk result (IsUnderWay self.new.reader) }
-        ensures ran { OnOk result ((limits : Settings) (start : World D)
-            → IsQuiet limits self.old.client self.old.adapter self.old.reader self.old.transcript.items start
-            → HasDone (λ old new. RunsTo D.shown D.follows old (to_poll 0) new) limits start self.new.client self.new.adapter self.new.reader self.new.transcript.items) }
-        ensures closing { IfErr result IsClosing }
+        ensures ran { OnOk result ((limits : Settings) (debuggee : D) (start : World D)
+            → IsQuiet D.shown D.follows limits debuggee self.old.client self.old.adapter self.old.reader self.old.transcript.items start
+            → HasDone D.shown D.follows limits debuggee (λ old new. RunsTo D.shown D.follows old (to_poll 0) new) start self.new.client self.new.adapter self.new.reader self.new.transcript.items) }
+        ensures stops { IfErr result (λ fault. (limits : Settings) (debuggee : D) (start : World D)
+            → IsQuiet D.shown D.follows limits debuggee self.old.client self.old.adapter self.old.reader self.old.transcript.items start
+            → StopsOrder D.shown D.follows Order.Run fault start) }
     {
-        // A law for the proof: bytes are frames in one way only.
-        each_stream_has_one_split();
+        // Laws for the proof: both ends agree, and bytes are frames in one way only.
+        each_schedule_agrees::<D>();
+        frames_keep_their_laws();
         'turns: loop {
             let more = self.turn(alloc)?;
             if !more {
@@ -385,13 +443,16 @@ impl<D: Debuggee + Drop> Drive<D> {
     fn polls(&mut self, alloc: Global) -> Result<(), DriveFault>
         requires reading { IsUnderWay self.old.reader }
         ensures reading { OnOk result (IsUnderWay self.new.reader) }
-        ensures ran { OnOk result ((limits : Settings) (start : World D)
-            → HasDone (λ old new. RunsTo D.shown D.follows old (to_poll 0) new) limits start self.old.client self.old.adapter self.old.reader self.old.transcript.items
-            → HasDone (λ old new. RunsTo D.shown D.follows old to_take new) limits start self.new.client self.new.adapter self.new.reader self.new.transcript.items) }
-        ensures closing { IfErr result IsClosing }
+        ensures ran { OnOk result ((limits : Settings) (debuggee : D) (start : World D)
+            → HasDone D.shown D.follows limits debuggee (λ old new. RunsTo D.shown D.follows old (to_poll 0) new) start self.old.client self.old.adapter self.old.reader self.old.transcript.items
+            → HasDone D.shown D.follows limits debuggee (λ old new. RunsTo D.shown D.follows old to_take new) start self.new.client self.new.adapter self.new.reader self.new.transcript.items) }
+        ensures stops { IfErr result (λ fault. (limits : Settings) (debuggee : D) (start : World D)
+            → HasDone D.shown D.follows limits debuggee (λ old new. RunsTo D.shown D.follows old (to_poll 0) new) start self.old.client self.old.adapter self.old.reader self.old.transcript.items
+            → StopsOrder D.shown D.follows Order.Run fault start) }
     {
-        // A law for the proof: bytes are frames in one way only.
-        each_stream_has_one_split();
+        // Laws for the proof: both ends agree, and bytes are frames in one way only.
+        each_schedule_agrees::<D>();
+        frames_keep_their_laws();
         for _poll in 0..MAX_POLLS {
             let last = self.poll(alloc)?;
             if last {

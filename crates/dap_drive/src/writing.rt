@@ -1,14 +1,15 @@
 //! The lines of a transcript: each message that an end wrote, with a mark that tells which end.
 //!
 //! An end hands out the bytes of frames. A reader of frames with the same limits tells where each message ends.
-ghost use Rattle.std.specs.Prelude.{◌≡◌, ◌++◌, ◌<◌, ◌≤◌, length, take, IfOk, OnOk};
+ghost use Rattle.std.specs.Prelude.{◌≡◌, ◌++◌, ◌<◌, ◌≤◌, length, take, IfOk, IfErr, OnOk};
 ghost use Rattle.dap_frame.specs.Intake.{IsReady, IsUnderWay};
 ghost use Rattle.dap_frame.specs.Settings.{Settings};
-ghost use Rattle.dap_drive.specs.Lines.{IsBetween, WritesLine, WritesLines};
+ghost use Rattle.dap_drive.specs.Lines.{IsBetween, IsUnwritten, WritesLine, WritesLines};
 ghost use Rattle.dap_drive.specs.Transcript.{mark_of};
 
 use dap_check::Side;
 use dap_frame::{Frames, each_stream_has_one_split};
+use dap_world::laws::moves_are_in_order;
 use std::alloc::AllocError;
 
 /// Why the lines of a call's bytes are not written.
@@ -63,7 +64,11 @@ fn write_line(
     ensures progress { IfOk result (λ n. 0 < length bytes.now → 0 < n) }
     ensures within { IfOk result (λ n. n ≤ length bytes.now) }
     ensures line { IfOk result (λ n. WritesLine reader.old reader.new side (take n bytes.now) transcript.old.items transcript.new.items) }
+    ensures unwritten { IfErr result (λ fault. 0 < length bytes.now → IsUnwritten fault reader.old bytes.now) }
 {
+    // Laws for the proof: bytes are frames in one way only, and frames that are moved are not refused.
+    each_stream_has_one_split();
+    moves_are_in_order();
     let fed = match reader.feed(bytes) {
         Ok(fed) => fed,
         Err(_fault) => return Err(Unwritten::Frames),
@@ -88,9 +93,11 @@ pub(crate) fn write_lines(
     requires under_way { IsUnderWay reader.old }
     ensures under_way { OnOk result (IsUnderWay reader.new) }
     ensures lines { OnOk result ((limits : Settings) → IsBetween limits reader.old → WritesLines limits reader.new side bytes.now transcript.old.items transcript.new.items) }
+    ensures unwritten { IfErr result (λ fault. IsUnwritten fault reader.old bytes.now) }
 {
-    // A law for the proof: bytes are frames in one way only.
+    // Laws for the proof: bytes are frames in one way only, and frames that are moved are not refused.
     each_stream_has_one_split();
+    moves_are_in_order();
     let mut at = 0;
     while at < bytes.len() {
         let (_, rest) = bytes.split_at(at);

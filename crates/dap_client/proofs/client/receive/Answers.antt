@@ -27,4 +27,5 @@ returns-clause-received c =
       under_way = c.release.ensures.under_way (subst IsReady (sym same) (c.in-Ok.ensures.completes (not-false _ c.if-not-fed.false) c.requires).ready);
       released = λ s xs rest f. c.release.ensures.stands s xs rest (subst (λ (v : Intake). StandsFor v s xs rest) (sym same) f);
       made = c.in_ok-bytes.ensures.ok;
+      reads_back = c.in_ok-bytes.ensures.reads_back (c.read_is_in_range.ensures c.feed.new.self.held c.in_ok-message.message c.in_ok-message.ensures.read);
     }
