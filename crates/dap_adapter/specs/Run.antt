@@ -8,14 +8,15 @@ use Rattle.dap_message.specs.declared.message.Message.{Message}
 use Rattle.dap_debuggee.specs.Shown.{Shown}
 use Rattle.dap_session.specs.declared.phase.Phase.{Phase}
 use Rattle.dap_session.specs.declared.phase.Phase.TheVariants.{Stopped, Ended}
-use Rattle.dap_session.specs.Carried.{Goes, CarriedOut}
+use Rattle.dap_session.specs.Carried.{Goes}
 use Rattle.dap_session.specs.Handling.{turns}
-use Rattle.dap_session.specs.Plan.{Made, Plan, numbered, bytes_of}
+use Rattle.dap_session.specs.Plan.{Plan, bytes_of}
 use Rattle.dap_session.specs.Polling.{polls}
 use Rattle.dap_session.specs.Seat.{Seat}
 use Rattle.dap_session.specs.Session.{Session, fresh_session}
 use Rattle.dap_session.specs.Table.{is_phase}
 use Rattle.dap_session.specs.Taking.{takes}
+use Rattle.dap_session.specs.Writing.{Writes}
 
 -- what is done next: a message is delivered, a request is handled, or the debuggee is asked what happened, so many times already since the message
 pub data Next : Type 0 where
@@ -37,13 +38,6 @@ has_ended s = is_phase Ended s.phase
 -- where a session begins
 abbrev pub fresh_seat : {D : Type 0} → Settings → D → Seat D
 fresh_seat limits debuggee = record { session = fresh_session limits; debuggee = debuggee }
-
--- a plan was carried out, and these messages are what it writes
-pub record Writes {D : Type 0} (follows : Goes D) (plan : Plan) (old : Seat D) (outs : List Message) (new : Seat D) : Type 0 where
-  pub made : Made
-  pub carried : CarriedOut follows plan old.debuggee made new.debuggee
-  pub session : new.session ≡ made.after
-  pub outs_are : outs ≡ numbered old.session.used made.drafts
 
 -- A run from a session over these bodies, which writes these messages and stands there. It may stop after any step, and all that came is handled where the next message is to be taken.
 pub data Run {D : Type 0} (shown : D → Shown) (follows : Goes D) (start : Seat D) : List (List ℕ) → List Message → Next → Seat D → Type 0 where

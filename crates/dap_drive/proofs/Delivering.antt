@@ -19,7 +19,8 @@ use Rattle.dap_message.specs.declared.message.Message.{Message}
 use Rattle.dap_debuggee.specs.Shown.{Shown}
 use Rattle.dap_session.specs.Carried.{Goes, CarriedOut}
 use Rattle.dap_session.specs.Plan.{Plan, numbered, bytes_of, entries_of}
-use Rattle.dap_session.specs.Seat.{Seat, Writes}
+use Rattle.dap_session.specs.Seat.{Seat}
+use Rattle.dap_session.specs.Writing.{Writes}
 use Rattle.dap_session.specs.Session.{Session}
 use Rattle.dap_session.specs.Taking.{takes}
 use Rattle.dap_session.specs.declared.fault.AdapterFault.{AdapterFault}

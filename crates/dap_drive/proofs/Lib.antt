@@ -3,6 +3,7 @@ mod Streams
 mod LinesWritten
 mod Delivering
 mod Spending
+mod Reading
 mod Doing
 mod Scripting
 mod Recordings

@@ -5,16 +5,20 @@ use Rattle.std.specs.Str.Lines.{lines}
 use Rattle.dap_frame.specs.Intake.{Intake}
 use Rattle.dap_frame.specs.Settings.{Settings}
 use Rattle.dap_debuggee.specs.Shown.{Shown}
+use Rattle.dap_message.specs.OneLine.{CanonIsOneLine}
 use Rattle.dap_message.specs.Types.Call.{Call}
 use Rattle.dap_session.specs.Carried.{Goes}
 use Rattle.dap_adapter.specs.End.{End as AdapterEnd}
 use Rattle.dap_client.specs.End.{End as ClientEnd}
 use Rattle.dap_drive.specs.Driven.{Drives, Stops, StopsAt, SaysOf}
 use Rattle.dap_adapter.specs.Run.{to_take, to_turn, to_poll}
+use Rattle.dap_world.specs.Agreement.{EachScheduleAgrees}
+use Rattle.dap_world.specs.Transcripts.{EachTranscriptKeepsRules}
 use Rattle.dap_world.specs.World.{World, fresh_world}
 use Rattle.dap_drive.specs.Held.{IsQuiet, HasDone, HasTurned, HasPolled, DoesLine, HasRun, StopsOrder, StopsSend, StopsTurn, StopsPoll}
 use Rattle.dap_drive.specs.Orders.{Does, DoesTurn, Ran, idle, handles, starts, skips, does, before_turn, in_turn, before_poll, in_poll}
 use Rattle.dap_drive.specs.Script.{order_of}
+use Rattle.dap_drive.proofs.Reading.{is_read}
 use Rattle.dap_drive.specs.declared.fault.DriveFault.{DriveFault}
 use Rattle.dap_drive.specs.declared.fault.DriveFault.TheVariants as fault
 use Rattle.dap_drive.specs.declared.script.Order.{Order}
@@ -111,7 +115,7 @@ module _ {D : Type 0} (shown : D → Shown) (follows : Goes D) (limits : Setting
     ran = h.ran;
     schedule = h.quiet.at.schedule;
     transcript_is = h.quiet.at.transcript_is;
-    read = is_read limits h.world.said transcript one_line (agrees limits debuggee h.world h.quiet.at.in_range h.quiet.at.schedule).arrives.said h.quiet.at.transcript_is
+    read = is_read limits.body h.world.said transcript one_line (agrees limits debuggee h.world h.quiet.at.in_range h.quiet.at.schedule).arrives.said h.quiet.at.transcript_is
         (λ all is. keeps limits debuggee h.world all h.quiet.at.in_range h.quiet.at.schedule is);
   }
 
@@ -164,7 +168,7 @@ module _ {D : Type 0} (shown : D → Shown) (follows : Goes D) (limits : Setting
   pub part_way_begins : (all : List ℕ) (client : ClientEnd) (adapter : AdapterEnd D) (reader : Intake) (transcript : List ℕ) → IsQuiet shown follows limits debuggee client adapter reader transcript (fresh_world limits debuggee) → IsPartWay all all 0 client adapter reader transcript
   part_way_begins all client adapter reader transcript q = record { before = []; split = refl; count = refl; run = record { world = fresh_world limits debuggee; ran = starts; quiet = q } }
 
-  pub part_way_done : (all rest : List ℕ) (number : ℕ) (client : ClientEnd) (adapter : AdapterEnd D) (reader : Intake) (transcript final : List ℕ) → rest ≡ [] → final ≡ transcript → IsPartWay all rest number client adapter reader transcript → Drives shown follows limits debuggee (lines all) final
-  part_way_done all rest number client adapter reader transcript final none same p =
+  pub part_way_done : EachScheduleAgrees shown follows → EachTranscriptKeepsRules shown follows → CanonIsOneLine → (all rest : List ℕ) (number : ℕ) (client : ClientEnd) (adapter : AdapterEnd D) (reader : Intake) (transcript final : List ℕ) → rest ≡ [] → final ≡ transcript → IsPartWay all rest number client adapter reader transcript → Drives shown follows limits debuggee (lines all) final
+  part_way_done agrees keeps one_line all rest number client adapter reader transcript final none same p =
       let split : lines all ≡ p.before = p.split ∙ (ap (λ (z : List ℕ). p.before ++ lines z) none ∙ append-nil p.before) in
-      subst (λ (z : List ℕ). Drives shown follows limits debuggee (lines all) z) (sym same) (subst (λ (z : List (List ℕ)). Drives shown follows limits debuggee z transcript) (sym split) (all_ran p.before client adapter reader transcript p.run))
+      subst (λ (z : List ℕ). Drives shown follows limits debuggee (lines all) z) (sym same) (subst (λ (z : List (List ℕ)). Drives shown follows limits debuggee z transcript) (sym split) (all_ran agrees keeps one_line p.before client adapter reader transcript p.run))

@@ -14,6 +14,8 @@ use crate::script::{LineFault, Order, read_order};
 use dap_check::split_line;
 use dap_debuggee::{Debuggee, Recorded, RecordingFault};
 use dap_frame::Limits;
+use dap_message::laws::canonical_text_is_one_line;
+use dap_world::laws::each_schedule_agrees;
 use std::alloc::Global;
 
 /// Does what the line of this number asks for, which has bytes.
@@ -100,6 +102,9 @@ pub fn drive_debuggee<D: Debuggee + Drop>(
     ensures drives { IfOk result (λ transcript. Drives D.shown D.follows limits debuggee (lines script.now) transcript.items) }
     ensures stops { IfErr result (Stops D.shown D.follows limits debuggee (lines script.now)) }
 {
+    // Laws for the proof: both ends agree, and a message is one line of the transcript.
+    each_schedule_agrees::<D>();
+    canonical_text_is_one_line();
     let mut drive = Drive::open(alloc, limits, debuggee)?;
     let mut rest = script;
     let mut number = 0;

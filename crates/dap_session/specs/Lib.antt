@@ -20,3 +20,4 @@ pub mod Several
 pub mod Telling
 pub mod Setting
 pub mod RefusalLaws
+pub mod Writing

@@ -8,4 +8,4 @@ returns-then-is_empty-clause-ran g c = λ limits debuggee texts h. line_skipped 
 
 pub returns-in-Ok-clause-ran : goal.returns-in-Ok-clause-ran
 returns-in-Ok-clause-ran g c = λ limits debuggee texts h. line_ran g.D.Debuggee.shown g.D.Debuggee.follows limits debuggee texts c.args.text.now c.args.drive.now.client c.do_order.new.drive.client c.args.drive.now.adapter c.do_order.new.drive.adapter c.args.drive.now.reader c.do_order.new.drive.reader c.args.drive.now.transcript.items c.do_order.new.drive.transcript.items
-    (some_items c.args.text.now _ (omega arith) (sym c.is_empty.ensures ∙ c.if-is_empty.false)) h (c.in-Ok.ensures.done limits h.world h.quiet)
+    (some_items c.args.text.now _ (omega arith) (sym c.is_empty.ensures ∙ c.if-is_empty.false)) h (c.in-Ok.ensures.done limits debuggee h.world h.quiet)

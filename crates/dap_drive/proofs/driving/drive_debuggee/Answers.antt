@@ -21,9 +21,9 @@ loop-rest-preserved g c = record {
 pub returns-in-Err-clause-stops : goal.returns-in-Err-clause-stops
 returns-in-Err-clause-stops g c =
     part_way_stops g.D.Debuggee.shown g.D.Debuggee.follows c.args.limits c.args.debuggee c.args.script.now c.loop-rest.rest.now c.split_line.result.1.now c.split_line.result.0.now c.loop-rest.number c.in-Err.fault c.loop-rest.drive.client c.loop-rest.drive.adapter c.loop-rest.drive.reader c.loop-rest.drive.transcript.items
-    c.split_line.ensures.lines c.in-Err.ensures.bytes c.loop-rest.invariant.part (c.in-Err.ensures.stops c.args.limits)
+    c.split_line.ensures.lines c.in-Err.ensures.bytes c.loop-rest.invariant.part (c.in-Err.ensures.stops c.args.limits c.args.debuggee)
 
 pub returns-clause-drives : goal.returns-clause-drives
 returns-clause-drives g c =
-    part_way_done g.D.Debuggee.shown g.D.Debuggee.follows c.args.limits c.args.debuggee c.args.script.now c.loop-rest.rest.now c.loop-rest.number c.loop-rest.drive.client c.loop-rest.drive.adapter c.loop-rest.drive.reader c.loop-rest.drive.transcript.items c.into_transcript.result.items
+    part_way_done g.D.Debuggee.shown g.D.Debuggee.follows c.args.limits c.args.debuggee c.each_schedule_agrees.ensures.agrees c.each_schedule_agrees.ensures.rules c.canonical_text_is_one_line.ensures c.args.script.now c.loop-rest.rest.now c.loop-rest.number c.loop-rest.drive.client c.loop-rest.drive.adapter c.loop-rest.drive.reader c.loop-rest.drive.transcript.items c.into_transcript.result.items
     (no_items c.loop-rest.rest.now _ refl (sym c.is_empty.ensures ∙ c.loop-rest-test.false)) (ap (λ (v : _). v.items) c.into_transcript.ensures) c.loop-rest.invariant.part

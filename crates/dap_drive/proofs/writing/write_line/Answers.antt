@@ -12,3 +12,9 @@ returns-clause-line c =
       bounds = c.release.ensures.bounds ∙ (rw c.in_ok-append_body.ensures.same done.bounds);
       stands = λ s xs rest st. c.release.ensures.stands _ _ _ (rw c.in_ok-append_body.ensures.same (done.stands s xs rest st));
     }
+
+pub returns-in-Err-clause-unwritten : goal.returns-in-Err-clause-unwritten
+returns-in-Err-clause-unwritten c = λ some limits bodies r b f. ?
+
+pub returns-then-not-fed-clause-unwritten : goal.returns-then-not-fed-clause-unwritten
+returns-then-not-fed-clause-unwritten c = λ some limits bodies r b f. ?

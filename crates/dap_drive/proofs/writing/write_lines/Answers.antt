@@ -15,3 +15,6 @@ loop-at-preserved c =
 
 pub returns-clause-lines : goal.returns-clause-lines
 returns-clause-lines c = λ limits b. subst (λ (z : List ℕ). WritesLines limits c.loop-at.reader c.args.side z c.args.transcript.now.items c.loop-at.transcript.items) (take_all c.loop-at.at c.args.bytes.now (omega arith)) (c.loop-at.invariant.lines limits b)
+
+pub returns-in_err-at-clause-unwritten : goal.returns-in_err-at-clause-unwritten
+returns-in_err-at-clause-unwritten c = ?

@@ -11,15 +11,18 @@ loop-at-preserved g c =
     record {
       within = omega (arith, c.in_ok-at.ensures.within, c.split_at.ensures.back_len);
       reading = c.in_ok-at.ensures.reading;
-      delivered = λ limits start h. part_by_part
-          (λ z. HasDelivered g.D.Debuggee.follows limits start c.loop-at.self.client c.loop-at.self.adapter c.loop-at.self.reader c.loop-at.self.transcript.items c.loop-at.up.items z)
-          (λ z. HasDelivered g.D.Debuggee.follows limits start c.take_down.new.self.client c.take_down.new.self.adapter c.take_down.new.self.reader c.take_down.new.self.transcript.items c.take_down.new.up.items z)
-          c.loop-at.at c.in_ok-at.field-0 c.args.down.now c.split_at.result.1.now c.split_at.ensures.back (c.in_ok-at.ensures.delivered some limits start) (c.loop-at.invariant.delivered limits start h);
+      delivered = λ limits debuggee start h. part_by_part
+          (λ z. HasDelivered g.D.Debuggee.shown g.D.Debuggee.follows limits debuggee start c.loop-at.self.client c.loop-at.self.adapter c.loop-at.self.reader c.loop-at.self.transcript.items c.loop-at.up.items z)
+          (λ z. HasDelivered g.D.Debuggee.shown g.D.Debuggee.follows limits debuggee start c.take_down.new.self.client c.take_down.new.self.adapter c.take_down.new.self.reader c.take_down.new.self.transcript.items c.take_down.new.up.items z)
+          c.loop-at.at c.in_ok-at.field-0 c.args.down.now c.split_at.result.1.now c.split_at.ensures.back (c.in_ok-at.ensures.delivered some limits debuggee start) (c.loop-at.invariant.delivered limits debuggee start h);
       spends = spends_then _ _ _ _ _ c.loop-at.invariant.spends c.in_ok-at.ensures.spends;
       adapter = c.take_down.ensures.adapter ∙ c.loop-at.invariant.adapter;
     }
 
 pub returns-clause-delivered : goal.returns-clause-delivered
-returns-clause-delivered g c = λ limits start h.
-    subst (λ (z : List ℕ). HasDelivered g.D.Debuggee.follows limits start c.loop-at.self.client c.loop-at.self.adapter c.loop-at.self.reader c.loop-at.self.transcript.items c.loop-at.up.items z)
-    (drop_of_length-le c.args.down.now (omega arith)) (c.loop-at.invariant.delivered limits start h)
+returns-clause-delivered g c = λ limits debuggee start h.
+    subst (λ (z : List ℕ). HasDelivered g.D.Debuggee.shown g.D.Debuggee.follows limits debuggee start c.loop-at.self.client c.loop-at.self.adapter c.loop-at.self.reader c.loop-at.self.transcript.items c.loop-at.up.items z)
+    (drop_of_length-le c.args.down.now (omega arith)) (c.loop-at.invariant.delivered limits debuggee start h)
+
+pub returns-in_err-at-clause-stops : goal.returns-in_err-at-clause-stops
+returns-in_err-at-clause-stops g c = λ limits debuggee start h. ?

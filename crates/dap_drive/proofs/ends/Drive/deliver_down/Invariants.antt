@@ -2,15 +2,15 @@ use Rattle.std.proofs.Common.{◌≡◌, ◌-◌, ◌≤◌, [], length, drop}
 use Rattle.dap_frame.specs.Intake.{IsUnderWay}
 use Rattle.dap_frame.specs.Settings.{Settings}
 use Rattle.dap_drive.specs.Held.{HasDelivered, Spends}
-use Rattle.dap_drive.specs.World.{World}
+use Rattle.dap_world.specs.World.{World}
 use Rattle.dap_drive.proofs.ends.Drive.deliver_down.Given as goal
 
 abbrev pub invariant-loop-at : goal.invariant-loop-at
 invariant-loop-at g l = record {
   within : l.at ≤ length l.down;
   reading : IsUnderWay l.self.reader;
-  delivered : (limits : Settings) (start : World g.row.D.Denot) → HasDelivered g.D.Debuggee.follows limits start l.fn.self.client l.fn.self.adapter l.fn.self.reader l.fn.self.transcript.items [] l.down
-      → HasDelivered g.D.Debuggee.follows limits start l.self.client l.self.adapter l.self.reader l.self.transcript.items l.up.items (drop l.at l.down);
+  delivered : (limits : Settings) (debuggee : g.row.D.Denot) (start : World g.row.D.Denot) → HasDelivered g.D.Debuggee.shown g.D.Debuggee.follows limits debuggee start l.fn.self.client l.fn.self.adapter l.fn.self.reader l.fn.self.transcript.items [] l.down
+      → HasDelivered g.D.Debuggee.shown g.D.Debuggee.follows limits debuggee start l.self.client l.self.adapter l.self.reader l.self.transcript.items l.up.items (drop l.at l.down);
   spends : Spends l.fn.self.client.session l.self.client.session 0 (length l.up.items);
   adapter : l.self.adapter ≡ l.fn.self.adapter;
 }

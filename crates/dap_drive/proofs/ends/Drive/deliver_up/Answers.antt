@@ -10,15 +10,18 @@ loop-at-preserved g c =
     record {
       within = omega (arith, c.in_ok-at.ensures.within, c.split_at.ensures.back_len);
       reading = c.in_ok-at.ensures.reading;
-      delivered = λ limits start h. part_by_part
-          (λ z. HasDelivered g.D.Debuggee.follows limits start c.loop-at.self.client c.loop-at.self.adapter c.loop-at.self.reader c.loop-at.self.transcript.items z c.loop-at.down.items)
-          (λ z. HasDelivered g.D.Debuggee.follows limits start c.take_up.new.self.client c.take_up.new.self.adapter c.take_up.new.self.reader c.take_up.new.self.transcript.items z c.take_up.new.down.items)
-          c.loop-at.at c.in_ok-at.field-0 c.args.up.now c.split_at.result.1.now c.split_at.ensures.back (c.in_ok-at.ensures.delivered some limits start) (c.loop-at.invariant.delivered limits start h);
+      delivered = λ limits debuggee start h. part_by_part
+          (λ z. HasDelivered g.D.Debuggee.shown g.D.Debuggee.follows limits debuggee start c.loop-at.self.client c.loop-at.self.adapter c.loop-at.self.reader c.loop-at.self.transcript.items z c.loop-at.down.items)
+          (λ z. HasDelivered g.D.Debuggee.shown g.D.Debuggee.follows limits debuggee start c.take_up.new.self.client c.take_up.new.self.adapter c.take_up.new.self.reader c.take_up.new.self.transcript.items z c.take_up.new.down.items)
+          c.loop-at.at c.in_ok-at.field-0 c.args.up.now c.split_at.result.1.now c.split_at.ensures.back (c.in_ok-at.ensures.delivered some limits debuggee start) (c.loop-at.invariant.delivered limits debuggee start h);
       client = c.take_up.ensures.client ∙ c.loop-at.invariant.client;
       limits = c.in_ok-at.ensures.limits ∙ c.loop-at.invariant.limits;
     }
 
 pub returns-clause-delivered : goal.returns-clause-delivered
-returns-clause-delivered g c = λ limits start h.
-    subst (λ (z : List ℕ). HasDelivered g.D.Debuggee.follows limits start c.loop-at.self.client c.loop-at.self.adapter c.loop-at.self.reader c.loop-at.self.transcript.items z c.loop-at.down.items)
-    (drop_of_length-le c.args.up.now (omega arith)) (c.loop-at.invariant.delivered limits start h)
+returns-clause-delivered g c = λ limits debuggee start h.
+    subst (λ (z : List ℕ). HasDelivered g.D.Debuggee.shown g.D.Debuggee.follows limits debuggee start c.loop-at.self.client c.loop-at.self.adapter c.loop-at.self.reader c.loop-at.self.transcript.items z c.loop-at.down.items)
+    (drop_of_length-le c.args.up.now (omega arith)) (c.loop-at.invariant.delivered limits debuggee start h)
+
+pub returns-in_err-at-clause-stops : goal.returns-in_err-at-clause-stops
+returns-in_err-at-clause-stops g c = λ limits debuggee start h. ?

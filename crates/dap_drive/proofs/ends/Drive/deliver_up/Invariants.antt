@@ -2,15 +2,15 @@ use Rattle.std.proofs.Common.{◌≡◌, ◌-◌, ◌≤◌, [], length, drop}
 use Rattle.dap_frame.specs.Intake.{IsUnderWay}
 use Rattle.dap_frame.specs.Settings.{Settings}
 use Rattle.dap_drive.specs.Held.{HasDelivered}
-use Rattle.dap_drive.specs.World.{World}
+use Rattle.dap_world.specs.World.{World}
 use Rattle.dap_drive.proofs.ends.Drive.deliver_up.Given as goal
 
 abbrev pub invariant-loop-at : goal.invariant-loop-at
 invariant-loop-at g l = record {
   within : l.at ≤ length l.up;
   reading : IsUnderWay l.self.reader;
-  delivered : (limits : Settings) (start : World g.row.D.Denot) → HasDelivered g.D.Debuggee.follows limits start l.fn.self.client l.fn.self.adapter l.fn.self.reader l.fn.self.transcript.items l.up []
-      → HasDelivered g.D.Debuggee.follows limits start l.self.client l.self.adapter l.self.reader l.self.transcript.items (drop l.at l.up) l.down.items;
+  delivered : (limits : Settings) (debuggee : g.row.D.Denot) (start : World g.row.D.Denot) → HasDelivered g.D.Debuggee.shown g.D.Debuggee.follows limits debuggee start l.fn.self.client l.fn.self.adapter l.fn.self.reader l.fn.self.transcript.items l.up []
+      → HasDelivered g.D.Debuggee.shown g.D.Debuggee.follows limits debuggee start l.self.client l.self.adapter l.self.reader l.self.transcript.items (drop l.at l.up) l.down.items;
   client : l.self.client ≡ l.fn.self.client;
   limits : l.self.adapter.session.limits ≡ l.fn.self.adapter.session.limits;
 }

@@ -6,15 +6,23 @@ use Rattle.dap_session.specs.declared.phase.Phase.{Phase}
 use Rattle.dap_session.specs.declared.phase.Phase.TheVariants.{Stopped}
 use Rattle.dap_session.specs.Polling.{polls}
 use Rattle.dap_drive.specs.Lines.{WritesLines}
-use Rattle.dap_drive.proofs.Doing.{poll_done, spoken}
+use Rattle.dap_drive.proofs.Doing.{poll_done, poll_spoken, poll_refused, poll_stops, step_framed}
 use Rattle.dap_drive.proofs.ends.Drive.poll.Goals as goal
 
 pub returns-clause-polled : goal.returns-clause-polled
-returns-clause-polled g c = λ limits start q.
-    let laws = c.each_stream_has_one_split.ensures in
+returns-clause-polled g c = λ limits debuggee start q.
     let saw = c.in-Ok.ensures.saw in
     let w = subst (λ (z : List ℕ). WritesLines limits c.write_lines.new.reader Adapter z c.args.self.now.transcript.items c.write_lines.new.transcript.items) c.deref-2.ensures.value (c.in-Ok-write_lines.ensures.lines limits q.at.reader_at) in
-    let h = spoken laws limits g.D.Debuggee.shown g.D.Debuggee.follows c.args.self.now.client c.args.self.now.adapter c.poll.new.self c.args.self.now.reader c.write_lines.new.reader c.args.self.now.transcript.items c.write_lines.new.transcript.items c.in-Ok.bytes.items start q (polls c.args.self.now.adapter.session) saw.step c.in-Ok.ensures.limits w in
+    let h = poll_spoken c.frames_keep_their_laws.ensures g.D.Debuggee.shown g.D.Debuggee.follows c.each_schedule_agrees.ensures.agrees limits debuggee c.args.self.now.client c.args.self.now.adapter c.poll.new.self c.args.self.now.reader c.write_lines.new.reader c.args.self.now.transcript.items c.write_lines.new.transcript.items c.in-Ok.bytes.items start q saw c.in-Ok.ensures.limits w in
     let last = c.is_last-last.ensures ∙ (ap (λ (z : List ℕ). (length z == 0) || is_phase Stopped c.phase.result) c.deref.ensures.value ∙ ap (λ (z : Phase). (length c.in-Ok.bytes.items == 0) || is_phase Stopped z) c.phase.ensures) in
-    poll_done laws limits g.D.Debuggee.shown g.D.Debuggee.follows c.args.self.now.client c.settle.new.self.client c.args.self.now.adapter c.poll.new.self c.settle.new.self.adapter c.args.self.now.reader c.write_lines.new.reader c.settle.new.self.reader c.args.self.now.transcript.items c.write_lines.new.transcript.items c.in-Ok.bytes.items c.settle.new.self.transcript.items start q saw w c.is_last-last.result last
-    (c.in_ok-settle.ensures.settled limits _ h)
+    poll_done c.frames_keep_their_laws.ensures g.D.Debuggee.shown g.D.Debuggee.follows c.each_schedule_agrees.ensures.agrees limits debuggee c.args.self.now.client c.settle.new.self.client c.args.self.now.adapter c.poll.new.self c.settle.new.self.adapter c.args.self.now.reader c.settle.new.self.reader c.args.self.now.transcript.items c.in-Ok.bytes.items c.settle.new.self.transcript.items start q saw c.is_last-last.result last
+    (c.in_ok-settle.ensures.settled limits debuggee _ h)
+
+pub returns-in-Err-clause-stops : goal.returns-in-Err-clause-stops
+returns-in-Err-clause-stops g c = λ limits debuggee start q. ?
+
+pub returns-in-Err-write_lines-clause-stops : goal.returns-in-Err-write_lines-clause-stops
+returns-in-Err-write_lines-clause-stops g c = λ limits debuggee start q. ?
+
+pub returns-in_err-settle-clause-stops : goal.returns-in_err-settle-clause-stops
+returns-in_err-settle-clause-stops g c = λ limits debuggee start q. ?

@@ -1,18 +1,26 @@
-use Rattle.std.proofs.Common.{ℕ, List, [], sym, subst}
+use Rattle.std.proofs.Common.{ℕ, List, [], ◌∷◌, sym, subst, ◌∙◌}
 use Rattle.dap_check.specs.declared.line.Side.TheVariants.{Client}
-use Rattle.dap_client.specs.Sending.{after_send}
+use Rattle.dap_client.specs.Sending.{after_send, next_message}
+use Rattle.dap_world.specs.World.{client_said}
 use Rattle.dap_drive.specs.Held.{HasDelivered}
 use Rattle.dap_drive.specs.Lines.{WritesLines}
-use Rattle.dap_drive.specs.World.{client_said}
-use Rattle.dap_drive.proofs.Doing.{call_sent, send_done}
+use Rattle.dap_drive.proofs.Doing.{call_sent, send_done, send_stops, sent_framed}
 use Rattle.dap_drive.proofs.ends.Drive.send.Goals as goal
 
 pub returns-clause-sent : goal.returns-clause-sent
-returns-clause-sent g c = λ limits start q.
-    let laws = c.each_stream_has_one_split.ensures in
+returns-clause-sent g c = λ limits debuggee start q.
     let w = subst (λ (z : List ℕ). WritesLines limits c.write_lines.new.reader Client z c.args.self.now.transcript.items c.write_lines.new.transcript.items) c.deref.ensures.value (c.in-Ok-write_lines.ensures.lines limits q.at.reader_at) in
-    let sent = client_said (after_send c.args.call.now start.client) w.bodies start in
-    let h = call_sent laws limits g.D.Debuggee.shown g.D.Debuggee.follows c.args.self.now.client c.send.new.self c.args.self.now.adapter c.args.self.now.reader c.write_lines.new.reader c.args.self.now.transcript.items c.write_lines.new.transcript.items c.in-Ok.sent.bytes.items start c.args.call.now q c.in-Ok.ensures.session c.in-Ok.ensures.goes_on w in
-    let up = c.in_ok-down.ensures.delivered limits sent (subst (λ (z : List ℕ). HasDelivered g.D.Debuggee.follows limits sent c.send.new.self c.args.self.now.adapter c.write_lines.new.reader c.write_lines.new.transcript.items z []) (sym c.deref-2.ensures.value) h) in
-    send_done laws limits g.D.Debuggee.shown g.D.Debuggee.follows c.args.self.now.client c.send.new.self c.args.self.now.adapter c.settle.new.self.adapter c.settle.new.self.client c.args.self.now.reader c.write_lines.new.reader c.settle.new.self.reader c.args.self.now.transcript.items c.write_lines.new.transcript.items c.in-Ok.sent.bytes.items c.settle.new.self.transcript.items
-    start c.args.call.now q c.requires.plain c.in-Ok.ensures.sent c.in-Ok.ensures.bytes w (c.in_ok-settle.ensures.settled limits sent up)
+    let sent = client_said (after_send c.args.call.now start.client) (next_message start.client c.args.call.now ∷ []) start in
+    let h = call_sent c.frames_keep_their_laws.ensures g.D.Debuggee.shown g.D.Debuggee.follows c.each_schedule_agrees.ensures.agrees limits debuggee c.args.self.now.client c.send.new.self c.args.self.now.adapter c.args.self.now.reader c.write_lines.new.reader c.args.self.now.transcript.items c.write_lines.new.transcript.items c.in-Ok.sent.bytes.items start c.args.call.now q c.requires.plain c.in-Ok.ensures.sent c.in-Ok.ensures.reads_back c.in-Ok.ensures.bytes c.in-Ok.ensures.session c.in-Ok.ensures.goes_on w in
+    let up = c.in_ok-down.ensures.delivered limits debuggee sent (subst (λ (z : List ℕ). HasDelivered g.D.Debuggee.shown g.D.Debuggee.follows limits debuggee sent c.send.new.self c.args.self.now.adapter c.write_lines.new.reader c.write_lines.new.transcript.items z []) (sym c.deref-2.ensures.value) h) in
+    send_done c.frames_keep_their_laws.ensures g.D.Debuggee.shown g.D.Debuggee.follows c.each_schedule_agrees.ensures.agrees limits debuggee c.args.self.now.client c.args.self.now.adapter c.settle.new.self.adapter c.settle.new.self.client c.args.self.now.reader c.settle.new.self.reader c.args.self.now.transcript.items c.settle.new.self.transcript.items
+    start c.args.call.now q c.requires.plain c.in-Ok.ensures.sent c.in-Ok.ensures.reads_back (c.in_ok-settle.ensures.settled limits debuggee sent up)
+
+pub returns-in-Err-write_lines-clause-stops : goal.returns-in-Err-write_lines-clause-stops
+returns-in-Err-write_lines-clause-stops g c = λ limits debuggee start q. ?
+
+pub returns-in_err-down-clause-stops : goal.returns-in_err-down-clause-stops
+returns-in_err-down-clause-stops g c = λ limits debuggee start q. ?
+
+pub returns-in_err-settle-clause-stops : goal.returns-in_err-settle-clause-stops
+returns-in_err-settle-clause-stops g c = λ limits debuggee start q. ?

@@ -4,9 +4,9 @@ use Rattle.dap_drive.proofs.Doing.{all_delivered, hearing_less, round_less, roun
 use Rattle.dap_drive.proofs.ends.Drive.settle.Goals as goal
 
 pub returns-then-is_empty-clause-settled : goal.returns-then-is_empty-clause-settled
-returns-then-is_empty-clause-settled g c = λ limits start h.
-    let before = subst (λ (z : List ℕ). HasDelivered g.D.Debuggee.follows limits start c.settle.self.client c.settle.self.adapter c.settle.self.reader c.settle.self.transcript.items [] z) (sym c.deref.ensures.value) (c.settle.invariant.delivered limits start h) in
-    all_delivered c.each_stream_has_one_split.ensures g.D.Debuggee.follows limits start c.deliver_down.new.self.client c.deliver_down.new.self.adapter c.deliver_down.new.self.reader c.deliver_down.new.self.transcript.items c.in_ok-up.up.items [] (c.in_ok-up.ensures.delivered limits start before)
+returns-then-is_empty-clause-settled g c = λ limits debuggee start h.
+    let before = subst (λ (z : List ℕ). HasDelivered g.D.Debuggee.shown g.D.Debuggee.follows limits debuggee start c.settle.self.client c.settle.self.adapter c.settle.self.reader c.settle.self.transcript.items [] z) (sym c.deref.ensures.value) (c.settle.invariant.delivered limits debuggee start h) in
+    all_delivered c.frames_keep_their_laws.ensures.one_split g.D.Debuggee.shown g.D.Debuggee.follows limits debuggee start c.deliver_down.new.self.client c.deliver_down.new.self.adapter c.deliver_down.new.self.reader c.deliver_down.new.self.transcript.items c.in_ok-up.up.items [] (c.in_ok-up.ensures.delivered limits debuggee start before)
     (no_items c.in_ok-up.up.items c.in_ok-up.up.len (omega (arith, c.in_ok-up.up.ok)) (sym c.is_empty.ensures ∙ c.if-is_empty.true)) refl
 
 pub returns-then-is_empty-clause-less : goal.returns-then-is_empty-clause-less
@@ -20,10 +20,10 @@ settle-preserved g c =
     let less = round_less c.settle.self.client c.deliver_down.new.self.client c.deliver_up.new.self.client c.settle.self.adapter c.deliver_down.new.self.adapter c.deliver_up.new.self.adapter (length c.in_ok-up.up.items) c.kept-kept.result c.in_ok-up.ensures.spends some c.in_ok-up.ensures.adapter c.in_ok-down.ensures.client c.in_ok-down.ensures.limits c.kept-kept.ensures.kept c.kept-kept.ensures.bound in
     record {
       reading = c.in_ok-down.ensures.reading;
-      delivered = λ limits start h.
-          let before = subst (λ (z : List ℕ). HasDelivered g.D.Debuggee.follows limits start c.settle.self.client c.settle.self.adapter c.settle.self.reader c.settle.self.transcript.items [] z) (sym c.deref.ensures.value) (c.settle.invariant.delivered limits start h) in
-          let heard = c.in_ok-up.ensures.delivered limits start before in
-          c.in_ok-down.ensures.delivered limits start (subst (λ (z : List ℕ). HasDelivered g.D.Debuggee.follows limits start c.deliver_down.new.self.client c.deliver_down.new.self.adapter c.deliver_down.new.self.reader c.deliver_down.new.self.transcript.items z []) (sym c.deref-in-settle.ensures.value) heard);
+      delivered = λ limits debuggee start h.
+          let before = subst (λ (z : List ℕ). HasDelivered g.D.Debuggee.shown g.D.Debuggee.follows limits debuggee start c.settle.self.client c.settle.self.adapter c.settle.self.reader c.settle.self.transcript.items [] z) (sym c.deref.ensures.value) (c.settle.invariant.delivered limits debuggee start h) in
+          let heard = c.in_ok-up.ensures.delivered limits debuggee start before in
+          c.in_ok-down.ensures.delivered limits debuggee start (subst (λ (z : List ℕ). HasDelivered g.D.Debuggee.shown g.D.Debuggee.follows limits debuggee start c.deliver_down.new.self.client c.deliver_down.new.self.adapter c.deliver_down.new.self.reader c.deliver_down.new.self.transcript.items z []) (sym c.deref-in-settle.ensures.value) heard);
       less = omega (arith, less, c.settle.invariant.less);
     }
 
@@ -31,3 +31,9 @@ pub settle-smaller : goal.settle-smaller
 settle-smaller g c =
     let some = some_items c.in_ok-up.up.items c.in_ok-up.up.len (omega (arith, c.in_ok-up.up.ok)) (sym c.is_empty.ensures ∙ c.if-is_empty.false) in
     round_spends c.settle.self.client c.deliver_down.new.self.client c.deliver_up.new.self.client (length c.in_ok-up.up.items) c.in_ok-up.ensures.spends some c.in_ok-down.ensures.client
+
+pub returns-in_err-up-clause-stops : goal.returns-in_err-up-clause-stops
+returns-in_err-up-clause-stops g c = λ limits debuggee start h. ?
+
+pub returns-in_err-down-clause-stops : goal.returns-in_err-down-clause-stops
+returns-in_err-down-clause-stops g c = λ limits debuggee start h. ?

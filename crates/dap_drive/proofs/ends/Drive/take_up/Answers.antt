@@ -1,9 +1,15 @@
 use Rattle.std.proofs.Common.{List, ℕ, ap, sym, ◌∙◌, ◌++◌}
-use Rattle.dap_drive.proofs.Delivering.{served}
+use Rattle.dap_drive.proofs.Delivering.{served, served_framed, adapter_stops}
 use Rattle.dap_drive.proofs.ends.Drive.take_up.Goals as goal
 
 pub returns-clause-delivered : goal.returns-clause-delivered
-returns-clause-delivered g c = λ some limits start h.
-    served c.each_stream_has_one_split.ensures limits g.D.Debuggee.follows start c.args.self.now.client c.args.self.now.adapter c.take.new.self c.args.self.now.reader c.args.self.now.transcript.items c.args.rest.now c.args.down.now.items h some c.in-Ok.taken c.in-Ok.taken.delivered c.in-Ok.ensures.takes c.in-Ok.ensures.limits
+returns-clause-delivered g c = λ some limits debuggee start h.
+    served c.frames_keep_their_laws.ensures g.D.Debuggee.shown g.D.Debuggee.follows c.each_schedule_agrees.ensures.agrees limits debuggee start c.args.self.now.client c.args.self.now.adapter c.take.new.self c.args.self.now.reader c.args.self.now.transcript.items c.args.rest.now c.args.down.now.items h some c.in-Ok.taken c.in-Ok.taken.delivered c.in-Ok.ensures.takes c.in-Ok.ensures.limits
     c.write_lines.new.reader c.write_lines.new.transcript.items c.deref.result.now c.extend_from_slice.new.self.items c.of_adapter-used.result.0 c.of_adapter-used.ensures.used (c.deref.ensures.value ∙ ap (λ (v : _). v.items) c.of_adapter-used.ensures.bytes)
     (c.in_ok-extend_from_slice.ensures.items ∙ ap (λ (z : List ℕ). c.args.down.now.items ++ z) (c.deref-2.ensures.value ∙ sym c.deref.ensures.value)) (c.in-Ok-write_lines.ensures.lines limits)
+
+pub returns-in-Err-clause-stops : goal.returns-in-Err-clause-stops
+returns-in-Err-clause-stops g c = λ limits debuggee start h some. ?
+
+pub returns-in-Err-write_lines-clause-stops : goal.returns-in-Err-write_lines-clause-stops
+returns-in-Err-write_lines-clause-stops g c = λ limits debuggee start h some. ?
