@@ -1,11 +1,10 @@
 -- What a Rust value's parts are written as is sound: keys in byte order, texts in UTF-8, numbers of 64 bits.
-use Rattle.std.proofs.Common.{◌≡◌, ℕ, ◌<◌, ◌^◌, ℤ, pos, negsuc, List, [], ◌∷◌, ◌++◌, map, codes, true, false, Option, Some, None, IsUtf8, refl, lit<}
+use Rattle.std.proofs.Common.{ℕ, ◌<◌, ◌^◌, List, [], ◌∷◌, ◌++◌, codes, Option, Some, None, IsUtf8, refl, lit<}
 use Rattle.std.specs.List.{AllByRecursion}
 use Rattle.json.proofs.Printed.Utf8.{IsUtf8-are_ascii}
-use Rattle.serde_json.specs.Data.{Data, Items, boolean, number, string, array, object, no_members, member}
+use Rattle.serde_json.specs.Data.{Data}
 use Rattle.serde_json.specs.Find.{of_integer}
-use Rattle.serde_json.specs.View.{items_of}
-use Rattle.dap_json.specs.Sound.{IsSound, AreSound, IsSoundNumber}
+use Rattle.dap_json.specs.Sound.{IsSound, IsSoundNumber}
 use Rattle.dap_body.specs.ResponseBody.{breakpoint, thread, source, stack_frame, scope, variable, list_of, only, stack_trace_body, evaluate_body, source_body}
 use Rattle.dap_body.specs.Failure.{failure_body, row_of}
 use Rattle.dap_body.specs.Text.{HasSoundPath}

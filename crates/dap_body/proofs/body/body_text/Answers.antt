@@ -1,5 +1,4 @@
 use Rattle.std.proofs.Common.{◌≡◌, ◌∙◌, ◌++◌, ap}
-use Rattle.json.specs.Print.{print}
 use Rattle.serde_json.proofs.Texts.{print-outline}
 use Rattle.dap_body.specs.Body.{data_of}
 use Rattle.dap_body.specs.Text.{tokens_of}
