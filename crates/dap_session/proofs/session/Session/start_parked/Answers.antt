@@ -38,5 +38,6 @@ returns-clause-carries g c =
           record {
             session = rw (c.set_phase.ensures, c.settle_parked-bytes.ensures.session, c.in_ok-sheet.ensures.holds.count, count-started c.ask_start.new.self.session c.args.request.now (reply_of c.in_ok-ok.ok), c.in_ok-ok.ensures.session, c.start_phase.ensures) refl;
             bytes_are = rw (c.settle_parked-bytes.ensures.bytes, c.in_ok-sheet.ensures.holds.bytes, c.in_ok-ok.ensures.session) refl;
+            reads_back = rw c.in_ok-ok.ensures.session at c.in_ok-sheet.ensures.holds.reads_back;
           };
     }

@@ -1,6 +1,7 @@
-use Rattle.dap_session.proofs.Sheets.{writes-one}
+use Rattle.dap_session.proofs.Sheets.{writes-one, reads-text}
 use Rattle.dap_session.proofs.sheet.Sheet.reply_within.Goals as goal
 
 pub returns-clause-writes : goal.returns-clause-writes
 returns-clause-writes c =
-    λ _. writes-one _ _ _ (rw (c.deref.ensures.value, c.in_ok-text.ensures, c.as_str.ensures, c.next-seq.ensures.number) at c.in_ok-write_frame.ensures.ok) c.next-seq.ensures.used c.next-seq.ensures.last
+    λ _. writes-one _ _ _ _ (rw (c.deref.ensures.value, c.in_ok-text.ensures.canon, c.as_str.ensures, c.next-seq.ensures.number) at c.in_ok-write_frame.ensures.ok) c.next-seq.ensures.used c.next-seq.ensures.last c.requires
+    (λ small request. reads-text _ c.in_ok-text.text.items _ ? ? ?)
