@@ -1,5 +1,5 @@
 -- What a writer is given for a body.
-use Rattle.std.specs.Prelude.{◌≡◌, ℕ, List, [], ◌∷◌, ◌++◌, codes, Option, Some, None}
+use Rattle.std.specs.Prelude.{◌≡◌, ℕ, List, [], ◌∷◌, ◌++◌, codes, Option, Some, None, IsUtf8, ⊤}
 use Rattle.json.specs.Token.{Token, key, string}
 use Rattle.json.specs.Tree.{json_tokens}
 use Rattle.json.specs.Written.{Written}
@@ -18,3 +18,7 @@ path_tokens (Some path) = key (codes "path") ∷ string path ∷ []
 pub record Adds (old new : Written) (ts : List Token) : Type 0 where
   pub before : new.before ≡ old.before
   pub tokens : new.tokens ≡ old.tokens ++ ts
+
+abbrev pub HasSoundPath : Option (List ℕ) → Type 0
+HasSoundPath None = ⊤
+HasSoundPath (Some path) = IsUtf8 path

@@ -1,11 +1,14 @@
 //! The bodies of an adapter's responses as their parts, and their texts, written with no tree: Specification, the types
 //! whose names end in "Response", and "Types".
-ghost use Rattle.std.specs.Prelude.{◌≡◌, [], ◌∷◌, ◌++◌, decimal, IfOk, OnOk};
+ghost use Rattle.std.specs.Prelude.{◌≡◌, ◌<◌, ◌^◌, [], ◌∷◌, ◌++◌, decimal, IfOk, OnOk, IsUtf8};
+ghost use Rattle.std.specs.Fmt.{signed_decimal};
 ghost use Rattle.json.specs.Token.{key as key_token, number as number_token, string as string_token, boolean as boolean_token};
 ghost use Rattle.serde_json.specs.Written.{compact_text};
+ghost use Rattle.serde_json.specs.Find.{of_integer};
+ghost use Rattle.dap_json.specs.Sound.{IsSound, IsSoundNumber};
 ghost use Rattle.dap_body.specs.Body.{data_of};
 ghost use Rattle.dap_body.specs.ResponseBody.{list_of, only as only_member, stack_trace_body, evaluate_body, source_body};
-ghost use Rattle.dap_body.specs.Text.{Adds, path_tokens, tokens_of};
+ghost use Rattle.dap_body.specs.Text.{Adds, HasSoundPath, path_tokens, tokens_of};
 
 use crate::response::{Breakpoint, Scope, Source, StackFrame, Thread, Variable};
 use dap_json::Text;
@@ -50,12 +53,14 @@ pub enum Body {
 /// What is written as an object of a list.
 trait Part: Drop {
     ghost use Rattle.serde_json.specs.Data.{Data};
+    ghost use Rattle.dap_json.specs.Sound.{IsSound};
     ghost use Rattle.dap_body.specs.Text.{tokens_of, Adds};
 
     ghost written: { Self → Data };
 
     fn write(&self, out: &mut Writer) -> Result<(), AllocError>
-        ensures { OnOk result (Adds out.old out.new (tokens_of (written self.now))) };
+        ensures adds { OnOk result (Adds out.old out.new (tokens_of (written self.now))) }
+        ensures sound { OnOk result (IsSound (written self.now)) };
 }
 
 impl Part for Breakpoint {
@@ -79,8 +84,7 @@ impl Part for Thread {
 
     fn write(&self, out: &mut Writer) -> Result<(), AllocError> {
         out.begin_object()?;
-        out.key("id")?;
-        out.i64(self.id)?;
+        signed(out, "id", self.id)?;
         text(out, "name", &self.name)?;
         out.end_object()
     }
@@ -148,23 +152,35 @@ impl Part for Variable {
 // ---- members
 
 fn number(out: &mut Writer, key: &str, n: u64) -> Result<(), AllocError>
-    ensures { OnOk result (Adds out.old out.new (key_token key.now ∷ number_token (decimal n) ∷ [])) }
+    ensures adds { OnOk result (Adds out.old out.new (key_token key.now ∷ number_token (decimal n) ∷ [])) }
+    ensures range { n < 2 ^ 64 }
 {
     out.key(key)?;
     out.u64(n)
 }
 
+fn signed(out: &mut Writer, key: &str, n: i64) -> Result<(), AllocError>
+    ensures adds { OnOk result (Adds out.old out.new (key_token key.now ∷ number_token (signed_decimal n) ∷ [])) }
+    ensures range { IsSoundNumber (of_integer n) }
+{
+    out.key(key)?;
+    out.i64(n)
+}
+
 fn short(out: &mut Writer, key: &str, n: u32) -> Result<(), AllocError>
-    ensures { OnOk result (Adds out.old out.new (key_token key.now ∷ number_token (decimal n) ∷ [])) }
+    ensures adds { OnOk result (Adds out.old out.new (key_token key.now ∷ number_token (decimal n) ∷ [])) }
+    ensures range { n < 2 ^ 64 }
 {
     number(out, key, n.into())
 }
 
 fn text(out: &mut Writer, key: &str, text: &Text) -> Result<(), AllocError>
-    ensures { OnOk result (Adds out.old out.new (key_token key.now ∷ string_token text.now ∷ [])) }
+    ensures adds { OnOk result (Adds out.old out.new (key_token key.now ∷ string_token text.now ∷ [])) }
+    ensures utf8 { IsUtf8 text.now }
 {
+    let text = text.as_str();
     out.key(key)?;
-    out.string(text.as_str())
+    out.string(text)
 }
 
 fn flag(out: &mut Writer, key: &str, flag: bool) -> Result<(), AllocError>
@@ -176,7 +192,8 @@ fn flag(out: &mut Writer, key: &str, flag: bool) -> Result<(), AllocError>
 
 /// The member of a path, where there is one.
 fn write_path(out: &mut Writer, path: &Option<Text>) -> Result<(), AllocError>
-    ensures { OnOk result (Adds out.old out.new (path_tokens path.now)) }
+    ensures adds { OnOk result (Adds out.old out.new (path_tokens path.now)) }
+    ensures sound { HasSoundPath path.now }
 {
     match path {
         None => Ok(()),
@@ -185,7 +202,8 @@ fn write_path(out: &mut Writer, path: &Option<Text>) -> Result<(), AllocError>
 }
 
 fn write_list<T: Part>(out: &mut Writer, elements: &[T]) -> Result<(), AllocError>
-    ensures { OnOk result (Adds out.old out.new (tokens_of (list_of T.written elements.now))) }
+    ensures adds { OnOk result (Adds out.old out.new (tokens_of (list_of T.written elements.now))) }
+    ensures sound { OnOk result (IsSound (list_of T.written elements.now)) }
 {
     out.begin_array()?;
     for element in elements {
@@ -196,7 +214,8 @@ fn write_list<T: Part>(out: &mut Writer, elements: &[T]) -> Result<(), AllocErro
 
 /// An object of one list.
 fn write_only<T: Part>(out: &mut Writer, key: &str, elements: &[T]) -> Result<(), AllocError>
-    ensures { OnOk result (Adds out.old out.new (tokens_of (only_member key.now (list_of T.written elements.now)))) }
+    ensures adds { OnOk result (Adds out.old out.new (tokens_of (only_member key.now (list_of T.written elements.now)))) }
+    ensures sound { OnOk result (IsSound (only_member key.now (list_of T.written elements.now))) }
 {
     out.begin_object()?;
     out.key(key)?;
@@ -205,7 +224,8 @@ fn write_only<T: Part>(out: &mut Writer, key: &str, elements: &[T]) -> Result<()
 }
 
 fn write_frames(out: &mut Writer, frames: &[StackFrame], total: u64) -> Result<(), AllocError>
-    ensures { OnOk result (Adds out.old out.new (tokens_of (stack_trace_body frames.now total))) }
+    ensures adds { OnOk result (Adds out.old out.new (tokens_of (stack_trace_body frames.now total))) }
+    ensures sound { OnOk result (IsSound (stack_trace_body frames.now total)) }
 {
     out.begin_object()?;
     out.key("stackFrames")?;
@@ -215,7 +235,8 @@ fn write_frames(out: &mut Writer, frames: &[StackFrame], total: u64) -> Result<(
 }
 
 fn write_value(out: &mut Writer, value: &Text, reference: u32) -> Result<(), AllocError>
-    ensures { OnOk result (Adds out.old out.new (tokens_of (evaluate_body value.now reference))) }
+    ensures adds { OnOk result (Adds out.old out.new (tokens_of (evaluate_body value.now reference))) }
+    ensures sound { OnOk result (IsSound (evaluate_body value.now reference)) }
 {
     out.begin_object()?;
     text(out, "result", value)?;
@@ -224,7 +245,8 @@ fn write_value(out: &mut Writer, value: &Text, reference: u32) -> Result<(), All
 }
 
 fn write_content(out: &mut Writer, content: &Text) -> Result<(), AllocError>
-    ensures { OnOk result (Adds out.old out.new (tokens_of (source_body content.now))) }
+    ensures adds { OnOk result (Adds out.old out.new (tokens_of (source_body content.now))) }
+    ensures sound { OnOk result (IsSound (source_body content.now)) }
 {
     out.begin_object()?;
     text(out, "content", content)?;
@@ -232,7 +254,8 @@ fn write_content(out: &mut Writer, content: &Text) -> Result<(), AllocError>
 }
 
 fn write(out: &mut Writer, body: &Body) -> Result<(), AllocError>
-    ensures { OnOk result (Adds out.old out.new (tokens_of (data_of body.now))) }
+    ensures adds { OnOk result (Adds out.old out.new (tokens_of (data_of body.now))) }
+    ensures sound { OnOk result (IsSound (data_of body.now)) }
 {
     match body {
         Body::SetBreakpoints { breakpoints } => {
@@ -256,7 +279,8 @@ fn write(out: &mut Writer, body: &Body) -> Result<(), AllocError>
 
 /// Appends the text of a body.
 pub fn body_text(out: Vec<u8>, body: &Body) -> Result<Vec<u8>, AllocError>
-    ensures { IfOk result (λ text. text.items ≡ out.items ++ compact_text (data_of body.now)) }
+    ensures text { IfOk result (λ text. text.items ≡ out.items ++ compact_text (data_of body.now)) }
+    ensures sound { OnOk result (IsSound (data_of body.now)) }
 {
     let mut out = Writer::new(out);
     write(&mut out, body)?;

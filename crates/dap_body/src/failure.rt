@@ -2,9 +2,10 @@
 //!
 //! The short names, the numbers, the texts and their one order are this profile's choice, but for the short names
 //! `cancelled` and `notStopped`, which are the standard's own ("Response").
-ghost use Rattle.std.specs.Prelude.{◌≡◌, ◌++◌, IfOk, string_bytes};
+ghost use Rattle.std.specs.Prelude.{◌≡◌, ◌++◌, IfOk, OnOk, string_bytes};
 ghost use Rattle.serde_json.specs.View.{view};
 ghost use Rattle.serde_json.specs.Written.{compact_text};
+ghost use Rattle.dap_json.specs.Sound.{IsSound};
 ghost use Rattle.dap_body.specs.Failure.{bad_argument_format, failure_body, row_of};
 
 use dap_call::Key;
@@ -153,7 +154,8 @@ pub fn body_failure(alloc: Global, failure: Failure) -> Result<Value, AllocError
 
 /// Appends the text of that body, with no tree.
 pub fn failure_text(alloc: Global, out: Vec<u8>, failure: Failure) -> Result<Vec<u8>, AllocError>
-    ensures { IfOk result (λ text. text.items ≡ out.items ++ compact_text (failure_body failure)) }
+    ensures text { IfOk result (λ text. text.items ≡ out.items ++ compact_text (failure_body failure)) }
+    ensures sound { OnOk result (IsSound (failure_body failure)) }
 {
     let format = failure.format(alloc)?;
     let mut out = Writer::new(out);

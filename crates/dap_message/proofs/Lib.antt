@@ -12,4 +12,6 @@ pub mod Lengths
 pub mod PlainBodies
 pub mod Ranges
 pub mod AnswerTexts
+mod ReadsBack
+mod OneLine
 pub mod StraightLemmas

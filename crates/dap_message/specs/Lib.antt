@@ -32,6 +32,7 @@ pub mod Verdict
 pub mod Plain
 pub mod Canon
 pub mod ReadBack
+pub mod OneLine
 pub mod SoundMessage
 pub mod Laws
 pub mod Lengths

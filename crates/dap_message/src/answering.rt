@@ -1,10 +1,11 @@
 //! The texts of requests, responses and events, written with no tree of the message.
 //!
 //! Specification, "Request", "Response", "ErrorResponse", "Event". Each is the text that `write_message` gives of that message.
-ghost use Rattle.std.specs.Prelude.{◌≡◌, ◌≤◌, ◌++◌, length, IfOk, IsTrue, None, Some, false, true};
+ghost use Rattle.std.specs.Prelude.{◌≡◌, ◌≤◌, ◌++◌, length, IfOk, OnOk, IsTrue, None, Some, false, true};
 ghost use Rattle.json.specs.Print.{print};
-ghost use Rattle.serde_json.specs.Written.{members_text};
+ghost use Rattle.serde_json.specs.Written.{compact_text, members_text};
 ghost use Rattle.dap_json.specs.Field.{max_seq};
+ghost use Rattle.dap_json.specs.Sound.{IsSound};
 ghost use Rattle.dap_json.specs.Writable.{is_plain_tree};
 ghost use Rattle.dap_body.specs.Body.{data_in};
 ghost use Rattle.dap_body.specs.Failure.{failure_body};
@@ -19,6 +20,7 @@ ghost use Rattle.dap_message.specs.declared.message.Kind.TheVariants.{Request};
 use crate::laws::written_is_read_again;
 use dap_body::{Body, Failure, body_text, failure_text};
 use dap_json::Tree;
+use dap_json::laws::what_is_read_is_sound;
 use json::Writer;
 use std::alloc::{AllocError, Global};
 
@@ -46,6 +48,17 @@ fn room_for(body: &Body) -> usize {
         .saturating_add(ROOM)
 }
 
+/// The text of a tree that can be written, and so one that a `Value` can hold.
+fn tree_text(alloc: Global, tree: &Tree) -> Result<Vec<u8>, AllocError>
+    requires { IsTrue (is_plain_tree (Some tree.now)) }
+    ensures text { IfOk result (λ text. text.items ≡ compact_text tree.now) }
+    ensures sound { OnOk result (IsSound tree.now) }
+{
+    // A law for the proof: what is written is read again, and what is read is sound.
+    what_is_read_is_sound();
+    dap_json::write(alloc, tree.value())
+}
+
 /// A text up to the end of its body, with the comma after it.
 fn open(alloc: Global, body: &Option<Tree>) -> Result<Vec<u8>, AllocError>
     requires { IsTrue (is_plain_tree body.now) }
@@ -53,14 +66,13 @@ fn open(alloc: Global, body: &Option<Tree>) -> Result<Vec<u8>, AllocError>
     ensures sound { IfOk result (λ text. IsSoundTree body.now) }
 {
     let mut out = Vec::with_capacity(alloc, ROOM)?;
-    match body {
-        None => out.push(b'{')?,
-        Some(body) => {
-            out.extend_from_slice(b"{\"body\":")?;
-            out.extend_from_slice(&dap_json::write(alloc, body.value())?)?;
-            out.push(b',')?;
-        }
-    }
+    let Some(body) = body else {
+        out.push(b'{')?;
+        return Ok(out);
+    };
+    out.extend_from_slice(b"{\"body\":")?;
+    out.extend_from_slice(&tree_text(alloc, body)?)?;
+    out.push(b',')?;
     Ok(out)
 }
 
@@ -104,14 +116,13 @@ fn open_request(alloc: Global, arguments: &Option<Tree>) -> Result<Vec<u8>, Allo
     ensures sound { IfOk result (λ text. IsSoundTree arguments.now) }
 {
     let mut out = Vec::with_capacity(alloc, ROOM)?;
-    match arguments {
-        None => out.push(b'{')?,
-        Some(arguments) => {
-            out.extend_from_slice(b"{\"arguments\":")?;
-            out.extend_from_slice(&dap_json::write(alloc, arguments.value())?)?;
-            out.push(b',')?;
-        }
-    }
+    let Some(arguments) = arguments else {
+        out.push(b'{')?;
+        return Ok(out);
+    };
+    out.extend_from_slice(b"{\"arguments\":")?;
+    out.extend_from_slice(&tree_text(alloc, arguments)?)?;
+    out.push(b',')?;
     Ok(out)
 }
 

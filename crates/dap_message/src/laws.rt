@@ -1,6 +1,7 @@
 //! Laws of the definitions, each on a function with nothing to run.
 ghost use Rattle.dap_message.specs.Laws.{EachBodyIsOne, WrittenIsReadAgain, ReadIsSound};
 ghost use Rattle.dap_message.specs.InRange.{ReadIsInRange};
+ghost use Rattle.dap_message.specs.OneLine.{CanonIsOneLine};
 ghost use Rattle.dap_message.specs.PlainBodies.{EventBodiesArePlain, FailureBodiesArePlain, ResponseBodiesArePlain};
 ghost use Rattle.dap_message.specs.Lengths.{EventsAreShort, FailuresAreShort, FixedResponsesAreShort};
 
@@ -47,4 +48,9 @@ pub fn bodies_are_plain()
     ensures responses { ResponseBodiesArePlain }
     ensures failures { FailureBodiesArePlain }
     ensures events { EventBodiesArePlain }
+{}
+
+/// The canonical text of a message has no control character, so that it is one line of a text.
+pub fn canonical_text_is_one_line()
+    ensures { CanonIsOneLine }
 {}

@@ -5,9 +5,9 @@ use Rattle.dap_body.specs.Body.{data_of}
 use Rattle.dap_body.specs.Text.{tokens_of}
 use Rattle.dap_body.proofs.body.body_text.Goals as goal
 
-pub returns : goal.returns
-returns c =
-    let adds = c.in_ok-write.ensures in
+pub returns-clause-text : goal.returns-clause-text
+returns-clause-text c =
+    let adds = c.in_ok-write.ensures.adds in
     let d = data_of c.args.body.now in
     let before : c.write.new.out.before ≡ c.args.out.items = adds.before ∙ c.new-out.ensures.before in
     let tokens : c.write.new.out.tokens ≡ tokens_of d = adds.tokens ∙ rw c.new-out.ensures.tokens in

@@ -1,11 +1,15 @@
 use Rattle.std.proofs.lemmas.Result.{on_ok_weaker}
 use Rattle.dap_body.proofs.Tokens.{next, one}
+use Rattle.dap_body.proofs.Soundness.{frames-sound}
 use Rattle.dap_body.proofs.body.write_frames.Goals as goal
 
-pub returns : goal.returns
-returns c =
+pub returns-clause-adds : goal.returns-clause-adds
+returns-clause-adds c =
     let s1 = one c.begin_object.ensures c.in_ok-begin_object.ensures.ok in
     let s2 = one c.key.ensures c.in_ok-key.ensures.ok in
-    let s3 = c.in_ok-write_list.ensures in
-    let s4 = c.in_ok-number.ensures in
+    let s3 = c.in_ok-write_list.ensures.adds in
+    let s4 = c.in_ok-number.ensures.adds in
     on_ok_weaker c.end_object.result (λ e. next s1 (next s2 (next s3 (next s4 (one c.end_object.ensures e))))) c.end_object.ensures.ok
+
+pub returns-clause-sound : goal.returns-clause-sound
+returns-clause-sound c = on_ok_weaker c.end_object.result (λ e. frames-sound c.args.frames.now c.args.total c.in_ok-write_list.ensures.sound c.in_ok-number.ensures.range) c.end_object.ensures.ok

@@ -1,14 +1,18 @@
 use Rattle.std.proofs.lemmas.Result.{on_ok_weaker}
 use Rattle.dap_body.proofs.Tokens.{next, one}
+use Rattle.dap_body.proofs.Soundness.{stack_frame-sound}
 use Rattle.dap_body.proofs.body.StackFramePart.write.Goals as goal
 
-pub returns : goal.returns
-returns c =
+pub returns-clause-adds : goal.returns-clause-adds
+returns-clause-adds c =
     let s1 = one c.begin_object.ensures c.in_ok-begin_object.ensures.ok in
-    let s2 = c.in_ok-short.ensures in
-    let s3 = c.in_ok-short-2.ensures in
-    let s4 = c.in_ok-short-3.ensures in
-    let s5 = c.in_ok-text.ensures in
+    let s2 = c.in_ok-short.ensures.adds in
+    let s3 = c.in_ok-short-2.ensures.adds in
+    let s4 = c.in_ok-short-3.ensures.adds in
+    let s5 = c.in_ok-text.ensures.adds in
     let s6 = one c.key.ensures c.in_ok-key.ensures.ok in
-    let s7 = c.in_ok-write.ensures in
+    let s7 = c.in_ok-write.ensures.adds in
     on_ok_weaker c.end_object.result (λ e. next s1 (next s2 (next s3 (next s4 (next s5 (next s6 (next s7 (one c.end_object.ensures e)))))))) c.end_object.ensures.ok
+
+pub returns-clause-sound : goal.returns-clause-sound
+returns-clause-sound c = on_ok_weaker c.end_object.result (λ e. stack_frame-sound c.args.self.now c.in_ok-short.ensures.range c.in_ok-short-2.ensures.range c.in_ok-short-3.ensures.range c.in_ok-text.ensures.utf8 c.in_ok-write.ensures.sound) c.end_object.ensures.ok

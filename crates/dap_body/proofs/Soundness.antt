@@ -1,0 +1,92 @@
+-- What a Rust value's parts are written as is sound: keys in byte order, texts in UTF-8, numbers of 64 bits.
+use Rattle.std.proofs.Common.{◌≡◌, ℕ, ◌<◌, ◌^◌, ℤ, pos, negsuc, List, [], ◌∷◌, ◌++◌, map, codes, true, false, Option, Some, None, IsUtf8, refl, lit<}
+use Rattle.std.specs.List.{AllByRecursion}
+use Rattle.json.proofs.Printed.Utf8.{IsUtf8-are_ascii}
+use Rattle.serde_json.specs.Data.{Data, Items, boolean, number, string, array, object, no_members, member}
+use Rattle.serde_json.specs.Find.{of_integer}
+use Rattle.serde_json.specs.View.{items_of}
+use Rattle.dap_json.specs.Sound.{IsSound, AreSound, IsSoundNumber}
+use Rattle.dap_body.specs.ResponseBody.{breakpoint, thread, source, stack_frame, scope, variable, list_of, only, stack_trace_body, evaluate_body, source_body}
+use Rattle.dap_body.specs.Failure.{failure_body, row_of}
+use Rattle.dap_body.specs.Text.{HasSoundPath}
+use Rattle.dap_body.specs.declared.failure.Failure.{Failure}
+use Rattle.dap_body.specs.declared.failure.Failure.TheVariants.{NotInitialized, AlreadyInitialized, UnknownCommand, Unsupported, BadArguments, WrongPhase, NotStopped, UnknownThread, StaleReference, UnknownSource, Debuggee, TooManyBreakpoints, TooManyReferences, ReferencesExhausted, TooLarge, Busy, Cancelled}
+use Rattle.dap_body.specs.declared.response.Breakpoint.{Breakpoint}
+use Rattle.dap_body.specs.declared.response.Scope.{Scope}
+use Rattle.dap_body.specs.declared.response.Source.{Source}
+use Rattle.dap_body.specs.declared.response.StackFrame.{StackFrame}
+use Rattle.dap_body.specs.declared.response.Thread.{Thread}
+use Rattle.dap_body.specs.declared.response.Variable.{Variable}
+
+pub breakpoint-sound : (b : Breakpoint) → b.id < 2 ^ 64 → b.line < 2 ^ 64 → IsSound (breakpoint b)
+breakpoint-sound b id line = (IsUtf8-are_ascii (codes "id") refl, (refl, (refl, tt)), id, (IsUtf8-are_ascii (codes "line") refl, (refl, tt), line, (IsUtf8-are_ascii (codes "verified") refl, tt, tt, tt)))
+
+pub thread-sound : (t : Thread) → IsSoundNumber (of_integer t.id) → IsUtf8 t.name → IsSound (thread t)
+thread-sound t id name = (IsUtf8-are_ascii (codes "id") refl, (refl, tt), id, (IsUtf8-are_ascii (codes "name") refl, tt, name, tt))
+
+source-sound-if : (name : List ℕ) (path : Option (List ℕ)) (reference : ℕ) → IsUtf8 name → HasSoundPath path → reference < 2 ^ 64 → IsSound (source (record { name = name; path = path; source_reference = reference }))
+source-sound-if name None reference n p r = (IsUtf8-are_ascii (codes "name") refl, (refl, tt), n, (IsUtf8-are_ascii (codes "sourceReference") refl, tt, r, tt))
+source-sound-if name (Some path) reference n p r =
+    (IsUtf8-are_ascii (codes "name") refl, (refl, (refl, tt)), n, (IsUtf8-are_ascii (codes "path") refl, (refl, tt), p, (IsUtf8-are_ascii (codes "sourceReference") refl, tt, r, tt)))
+
+pub source-sound : (s : Source) → IsUtf8 s.name → HasSoundPath s.path → s.source_reference < 2 ^ 64 → IsSound (source s)
+source-sound s n p r = source-sound-if s.name s.path s.source_reference n p r
+
+pub stack_frame-sound : (f : StackFrame) → f.column < 2 ^ 64 → f.id < 2 ^ 64 → f.line < 2 ^ 64 → IsUtf8 f.name → IsSound (source f.source) → IsSound (stack_frame f)
+stack_frame-sound f column id line name from =
+    (IsUtf8-are_ascii (codes "column") refl, (refl, (refl, (refl, (refl, tt)))), column, (IsUtf8-are_ascii (codes "id") refl, (refl, (refl, (refl, tt))), id, (IsUtf8-are_ascii (codes "line") refl, (refl, (refl, tt)), line, (IsUtf8-are_ascii (codes "name") refl, (refl, tt), name, (IsUtf8-are_ascii (codes "source") refl, tt, from, tt)))))
+
+pub scope-sound : (s : Scope) → IsUtf8 s.name → s.variables_reference < 2 ^ 64 → IsSound (scope s)
+scope-sound s name reference = (IsUtf8-are_ascii (codes "expensive") refl, (refl, (refl, tt)), tt, (IsUtf8-are_ascii (codes "name") refl, (refl, tt), name, (IsUtf8-are_ascii (codes "variablesReference") refl, tt, reference, tt)))
+
+pub variable-sound : (v : Variable) → IsUtf8 v.name → IsUtf8 v.value → v.variables_reference < 2 ^ 64 → IsSound (variable v)
+variable-sound v name value reference = (IsUtf8-are_ascii (codes "name") refl, (refl, (refl, tt)), name, (IsUtf8-are_ascii (codes "value") refl, (refl, tt), value, (IsUtf8-are_ascii (codes "variablesReference") refl, tt, reference, tt)))
+
+-- ---- lists, and the bodies
+
+pub list-sound : {A : Type 0} (each : A → Data) (xs : List A) → AllByRecursion (λ x. IsSound (each x)) xs → IsSound (list_of each xs)
+list-sound each [] h = tt
+list-sound each (x ∷ xs) h = (h.0, list-sound each xs h.1)
+
+pub only-sound : (key : List ℕ) (d : Data) → IsUtf8 key → IsSound d → IsSound (only key d)
+only-sound key d k s = (k, tt, s, tt)
+
+pub frames-sound : (frames : List StackFrame) (total : ℕ) → IsSound (list_of stack_frame frames) → total < 2 ^ 64 → IsSound (stack_trace_body frames total)
+frames-sound frames total s t = (IsUtf8-are_ascii (codes "stackFrames") refl, (refl, tt), s, (IsUtf8-are_ascii (codes "totalFrames") refl, tt, t, tt))
+
+pub value-sound : (value : List ℕ) (reference : ℕ) → IsUtf8 value → reference < 2 ^ 64 → IsSound (evaluate_body value reference)
+value-sound value reference v r = (IsUtf8-are_ascii (codes "result") refl, (refl, tt), v, (IsUtf8-are_ascii (codes "variablesReference") refl, tt, r, tt))
+
+pub content-sound : (content : List ℕ) → IsUtf8 content → IsSound (source_body content)
+content-sound content u = (IsUtf8-are_ascii (codes "content") refl, tt, u, tt)
+
+-- ---- failures
+
+-- its number
+fits : (failure : Failure) → (row_of failure).id < 2 ^ 64
+fits NotInitialized = lit< tt
+fits AlreadyInitialized = lit< tt
+fits UnknownCommand = lit< tt
+fits Unsupported = lit< tt
+fits (BadArguments key) = lit< tt
+fits WrongPhase = lit< tt
+fits NotStopped = lit< tt
+fits UnknownThread = lit< tt
+fits StaleReference = lit< tt
+fits UnknownSource = lit< tt
+fits Debuggee = lit< tt
+fits TooManyBreakpoints = lit< tt
+fits TooManyReferences = lit< tt
+fits ReferencesExhausted = lit< tt
+fits TooLarge = lit< tt
+fits Busy = lit< tt
+fits Cancelled = lit< tt
+
+pub failure-sound : (failure : Failure) → IsUtf8 (row_of failure).format → IsSound (failure_body failure)
+failure-sound failure format =
+    (IsUtf8-are_ascii (codes "error") refl, tt, (IsUtf8-are_ascii (codes "format") refl, (refl, tt), format, (IsUtf8-are_ascii (codes "id") refl, tt, fits failure, tt)), tt)
+
+-- one element more
+pub all-push : {A : Type 0} (P : A → Type 0) (xs : List A) (x : A) → AllByRecursion P xs → P x → AllByRecursion P (xs ++ x ∷ [])
+all-push P [] x h p = (p, tt)
+all-push P (y ∷ ys) x h p = (h.0, all-push P ys x h.1 p)

@@ -1,0 +1,78 @@
+-- What is written of each kind of message is read again, where its numbers and its command are in range and its texts and its tree are sound.
+use Rattle.std.proofs.Common.{◌≡◌, ℕ, ◌≤◌, List, length, IsTrue, IsUtf8, Bool, true, ◌&&◌, nat_le, Option, Some, None, codes, refl, arith}
+use Rattle.std.proofs.lemmas.Bool.Decides.{nat_tests}
+use Rattle.json.proofs.Printed.Utf8.{IsUtf8-are_ascii}
+use Rattle.serde_json.specs.Data.{Data}
+use Rattle.dap_json.specs.Field.{max_seq}
+use Rattle.dap_json.specs.Writable.{is_plain_tree}
+use Rattle.dap_body.specs.Body.{data_in, data_of}
+use Rattle.dap_body.specs.Failure.{failure_body, row_of}
+use Rattle.dap_body.specs.declared.body.Body.{Body}
+use Rattle.dap_body.specs.declared.body.Body.TheVariants.{SetBreakpoints, Threads, StackTrace, Scopes, Variables, Evaluate, Source, LoadedSources}
+use Rattle.dap_body.specs.declared.failure.Failure.{Failure}
+use Rattle.dap_body.specs.declared.failure.Failure.TheVariants.{NotInitialized, AlreadyInitialized, UnknownCommand, Unsupported, BadArguments, WrongPhase, NotStopped, UnknownThread, StaleReference, UnknownSource, Debuggee, TooManyBreakpoints, TooManyReferences, ReferencesExhausted, TooLarge, Busy, Cancelled}
+use Rattle.dap_message.specs.Canon.{canon}
+use Rattle.dap_message.specs.Laws.{WrittenIsReadAgain}
+use Rattle.dap_message.specs.Lengths.{failed, succeeded, happened}
+use Rattle.dap_message.specs.Meaning.{Msg}
+use Rattle.dap_message.specs.Plain.{is_plain}
+use Rattle.dap_message.specs.Refusals.{max_command}
+use Rattle.dap_message.specs.SoundMessage.{IsSoundTree}
+use Rattle.dap_message.specs.declared.message.Message.{Message}
+use Rattle.dap_message.specs.declared.message.Kind.TheVariants.{Request}
+use Rattle.dap_message.proofs.PlainBodies.{failure_bodies_are_plain, response_bodies_are_plain}
+
+within : (n most : ℕ) → n ≤ most → nat_le n most ≡ true
+within n most h = grind (arith, nat_tests)
+
+-- a body that is given by its parts can be written
+pub parts-plain : (body : Option Body) → IsTrue (is_plain_tree (data_in body))
+parts-plain None = refl
+parts-plain (Some (SetBreakpoints breakpoints)) = response_bodies_are_plain.set_breakpoints breakpoints.items
+parts-plain (Some (Threads threads)) = response_bodies_are_plain.threads threads.items
+parts-plain (Some (StackTrace frames total)) = response_bodies_are_plain.stack_trace frames.items total
+parts-plain (Some (Scopes scopes)) = response_bodies_are_plain.scopes scopes.items
+parts-plain (Some (Variables variables)) = response_bodies_are_plain.variables variables.items
+parts-plain (Some (Evaluate result reference)) = response_bodies_are_plain.evaluate result reference
+parts-plain (Some (Source content)) = response_bodies_are_plain.source content
+parts-plain (Some (LoadedSources sources)) = response_bodies_are_plain.loaded_sources sources.items
+
+-- a failure's short name
+pub name-text : (failure : Failure) → IsUtf8 (row_of failure).name
+name-text NotInitialized = IsUtf8-are_ascii (codes "notInitialized") refl
+name-text AlreadyInitialized = IsUtf8-are_ascii (codes "alreadyInitialized") refl
+name-text UnknownCommand = IsUtf8-are_ascii (codes "unknownCommand") refl
+name-text Unsupported = IsUtf8-are_ascii (codes "unsupported") refl
+name-text (BadArguments key) = IsUtf8-are_ascii (codes "badArguments") refl
+name-text WrongPhase = IsUtf8-are_ascii (codes "wrongPhase") refl
+name-text NotStopped = IsUtf8-are_ascii (codes "notStopped") refl
+name-text UnknownThread = IsUtf8-are_ascii (codes "unknownThread") refl
+name-text StaleReference = IsUtf8-are_ascii (codes "staleReference") refl
+name-text UnknownSource = IsUtf8-are_ascii (codes "unknownSource") refl
+name-text Debuggee = IsUtf8-are_ascii (codes "debuggee") refl
+name-text TooManyBreakpoints = IsUtf8-are_ascii (codes "tooManyBreakpoints") refl
+name-text TooManyReferences = IsUtf8-are_ascii (codes "tooManyReferences") refl
+name-text ReferencesExhausted = IsUtf8-are_ascii (codes "referencesExhausted") refl
+name-text TooLarge = IsUtf8-are_ascii (codes "tooLarge") refl
+name-text Busy = IsUtf8-are_ascii (codes "busy") refl
+name-text Cancelled = IsUtf8-are_ascii (codes "cancelled") refl
+
+module _ (again : WrittenIsReadAgain) where
+  pub happened-back : (seq : ℕ) (event : List ℕ) (body : Option Data) → IsTrue (is_plain_tree body) → IsUtf8 event → IsSoundTree body → seq ≤ max_seq
+      → Msg (canon (happened seq event body)) (happened seq event body)
+  happened-back seq event body p u s q = again (happened seq event body) (rw (within seq max_seq q) p) (record { texts = u; tree = s })
+
+  pub asked-back : (seq : ℕ) (command : List ℕ) (arguments : Option Data) → IsTrue (is_plain_tree arguments) → IsUtf8 command → IsSoundTree arguments → seq ≤ max_seq → length command ≤ max_command
+      → Msg (canon (record { seq = seq; kind = Request command arguments })) (record { seq = seq; kind = Request command arguments })
+  asked-back seq command arguments p u s q l =
+      again (record { seq = seq; kind = Request command arguments }) (rw (within seq max_seq q, within (length command) max_command l) p) (record { texts = u; tree = s })
+
+  pub succeeded-back : (seq request_seq : ℕ) (command : List ℕ) (body : Option Data) → IsTrue (is_plain_tree body) → IsUtf8 command → IsSoundTree body
+      → seq ≤ max_seq → request_seq ≤ max_seq → length command ≤ max_command → Msg (canon (succeeded seq request_seq command body)) (succeeded seq request_seq command body)
+  succeeded-back seq r command body p u s q a l =
+      again (succeeded seq r command body) (rw (within seq max_seq q, within r max_seq a, within (length command) max_command l) p) (record { texts = (u, tt); tree = s })
+
+  pub failed-back : (seq request_seq : ℕ) (command : List ℕ) (failure : Failure) → IsUtf8 command → IsUtf8 (row_of failure).name → IsSoundTree (Some (failure_body failure))
+      → seq ≤ max_seq → request_seq ≤ max_seq → length command ≤ max_command → Msg (canon (failed seq request_seq command failure)) (failed seq request_seq command failure)
+  failed-back seq r command failure u n s q a l =
+      again (failed seq r command failure) (rw (within seq max_seq q, within r max_seq a, within (length command) max_command l) (failure_bodies_are_plain failure)) (record { texts = (u, n); tree = s })
