@@ -6,6 +6,7 @@ use Rattle.dap_frame.specs.Settings.{Settings, bounds_of}
 use Rattle.dap_history.specs.History.{Entry, Came, Went, ins_of}
 use Rattle.dap_history.specs.HistoryLaws.{HistoriesGrow}
 use Rattle.dap_history.specs.Received.{Received}
+use Rattle.dap_message.specs.InRange.{ReadIsInRange}
 use Rattle.dap_message.specs.declared.message.Message.{Message}
 use Rattle.dap_debuggee.specs.Shown.{Shown}
 use Rattle.dap_session.specs.declared.fault.AdapterFault.{AdapterFault}
@@ -20,6 +21,8 @@ use Rattle.dap_session.specs.Session.{Session, fresh_session}
 use Rattle.dap_session.specs.Within.{IsWithin, EachStepStaysWithin}
 use Rattle.dap_adapter.specs.Calls.{Step, Handled, Saw, PollRefused}
 use Rattle.dap_adapter.specs.End.{End}
+use Rattle.dap_adapter.specs.StandsFor.{GoesOn}
+use Rattle.dap_adapter.proofs.Readable.{step-reads}
 
 pub can-make : {D : Type 0} (follows : Goes D) (plan : Plan) (v w : D) (made : Made) → CarriedOut follows plan v made w → CanMake plan made
 can-make follows (at_once m) v w made c = c.0
@@ -41,44 +44,46 @@ bounds-stay : {D : Type 0} (old new : End D) → new.intake.bounds ≡ old.intak
 bounds-stay old new i l b = i ∙ (b ∙ ap bounds_of (sym l))
 
 -- a step without bytes of the client
-pub stepped : {D : Type 0} (grow : HistoriesGrow) (laws : EachStepGoesOn) (follows : Goes D) (plan : Plan) (old new : End D) (bytes : List ℕ) (from to : Seat D)
+pub stepped : {D : Type 0} (grow : HistoriesGrow) (ranges : ReadIsInRange) (laws : EachStepGoesOn) (follows : Goes D) (plan : Plan) (old new : End D) (bytes : List ℕ) (from to : Seat D)
     → from ≡ record { session = old.session; debuggee = old.debuggee } → to ≡ record { session = new.session; debuggee = new.debuggee } → new.intake ≡ old.intake
     → new.fault ≡ None → new.session.limits ≡ old.session.limits
     → Carries follows plan from to bytes
     → ((made : Made) (h : List Entry) → CanMake plan made → IsWithin old.session → Follows old.session h → Follows made.after (h ++ entries_of old.session.used made))
     → ((made : Made) → CanMake plan made → new.session ≡ made.after → IsWithin old.session → IsWithin made.after)
     → Step follows plan old new [] [] bytes
-stepped grow laws follows plan old new bytes from to a b i fault limits c go stay =
+stepped grow ranges laws follows plan old new bytes from to a b i fault limits c go stay =
     let carried = rw (a, b) at c.carried in
     let session = rw b at c.by.session in
     let can = can-make follows plan _ _ c.made carried in
+    let goes : GoesOn old new [] (entries_of old.session.used c.made) =
+    λ s h st.
+    record {
+      no_fault = fault;
+      received = rw (i, append-nil s) (received-more grow old.intake s h (entries_of old.session.used c.made) (laws.none_come old.session.used c.made) st.received);
+      session = rw session (go c.made h can st.within st.session);
+      within = rw session (stay c.made can session st.within);
+      bounds = bounds-stay old new (ap (λ (x : Intake). x.bounds) i) limits st.bounds;
+    } in
     record {
       made = c.made;
       carried = carried;
       session = session;
       bytes_are = rw a at c.by.bytes_are;
-      goes_on =
-          λ s h st.
-          record {
-            no_fault = fault;
-            received = rw (i, append-nil s) (received-more grow old.intake s h (entries_of old.session.used c.made) (laws.none_come old.session.used c.made) st.received);
-            session = rw session (go c.made h can st.within st.session);
-            within = rw session (stay c.made can session st.within);
-            bounds = bounds-stay old new (ap (λ (x : Intake). x.bounds) i) limits st.bounds;
-          };
+      goes_on = goes;
+      reads_back = step-reads ranges old new [] [] c.made goes (rw a at c.by.reads_back);
     }
 
-pub handled : {D : Type 0} (grow : HistoriesGrow) (laws : EachStepGoesOn) (within : EachStepStaysWithin) (shown : D → Shown) (follows : Goes D) (old new : End D) (bytes : List ℕ) (from to : Seat D)
+pub handled : {D : Type 0} (grow : HistoriesGrow) (ranges : ReadIsInRange) (laws : EachStepGoesOn) (within : EachStepStaysWithin) (shown : D → Shown) (follows : Goes D) (old new : End D) (bytes : List ℕ) (from to : Seat D)
     → from ≡ record { session = old.session; debuggee = old.debuggee } → to ≡ record { session = new.session; debuggee = new.debuggee } → new.intake ≡ old.intake
     → new.fault ≡ None → new.session.limits ≡ old.session.limits
     → HasTurned shown follows from to bytes → Handled shown follows old bytes new
-handled grow laws within shown follows old new bytes from to a b i fault limits t =
+handled grow ranges laws within shown follows old new bytes from to a b i fault limits t =
     let due = rw a at t.is in
     record {
       plan = t.plan;
       is = due;
       intake = i;
-      step = stepped grow laws follows t.plan old new bytes from to a b i fault limits t.carries
+      step = stepped grow ranges laws follows t.plan old new bytes from to a b i fault limits t.carries
           (λ made h can w f. laws.turn (shown old.debuggee) old.session t.plan made h w.distinct due can f)
           (λ made can is w. within.turn (shown old.debuggee) old.session t.plan made w due can);
     }
@@ -89,14 +94,14 @@ fresh-follows laws limits = record { kept = refl; answers = laws.answers_none Ca
 pub fresh-within : (limits : Settings) → IsWithin (fresh_session limits)
 fresh-within limits = record { distinct = tt; kept = omega arith; used = omega arith; references = omega arith; numbers = omega arith; breakpoints = omega arith; ids = omega arith }
 
-pub sees : {D : Type 0} (grow : HistoriesGrow) (laws : EachStepGoesOn) (within : EachStepStaysWithin) (follows : Goes D) (old new : End D) (bytes : List ℕ) (from to : Seat D)
+pub sees : {D : Type 0} (grow : HistoriesGrow) (ranges : ReadIsInRange) (laws : EachStepGoesOn) (within : EachStepStaysWithin) (follows : Goes D) (old new : End D) (bytes : List ℕ) (from to : Seat D)
     → from ≡ record { session = old.session; debuggee = old.debuggee } → to ≡ record { session = new.session; debuggee = new.debuggee } → new.intake ≡ old.intake
     → new.fault ≡ None → new.session.limits ≡ old.session.limits
     → Carries follows (polls from.session) from to bytes → new.session.used ≤ old.session.limits.seq → Saw follows old bytes new
-sees grow laws within follows old new bytes from to a b i fault limits c w =
+sees grow ranges laws within follows old new bytes from to a b i fault limits c w =
     record {
       intake = i;
-      step = stepped grow laws follows (polls old.session) old new bytes from to a b i fault limits (subst (λ (x : Seat _). Carries follows (polls x.session) from to bytes) a c)
+      step = stepped grow ranges laws follows (polls old.session) old new bytes from to a b i fault limits (subst (λ (x : Seat _). Carries follows (polls x.session) from to bytes) a c)
           (λ made h can in_range f. laws.poll old.session made h can f)
           (λ made can is in_range. within.poll old.session made in_range can (subst (λ (x : Session). x.used ≤ old.session.limits.seq) is w));
       within = w;

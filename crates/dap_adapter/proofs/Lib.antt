@@ -4,6 +4,7 @@ pub mod Knowing
 pub mod Outgoing
 pub mod Piecewise
 pub mod Polling
+pub mod Readable
 pub mod Receiving
 pub mod Refusing
 mod RunExamples

@@ -6,6 +6,7 @@ use Rattle.dap_frame.specs.Intake.{Intake, IsUnderWay, StandsFor as StandsForStr
 use Rattle.dap_frame.specs.Settings.{bounds_of}
 use Rattle.dap_history.specs.History.{In, ins_of}
 use Rattle.dap_history.specs.HistoryLaws.{HistoriesGrow}
+use Rattle.dap_message.specs.InRange.{ReadIsInRange}
 use Rattle.dap_message.specs.Meaning.{Msg}
 use Rattle.dap_message.specs.declared.message.Message.{Message}
 use Rattle.dap_session.specs.Carried.{Goes}
@@ -19,6 +20,7 @@ use Rattle.dap_adapter.specs.End.{End}
 use Rattle.dap_adapter.specs.Receives.{HasReceived}
 use Rattle.dap_adapter.specs.StandsFor.{GoesOn}
 use Rattle.dap_adapter.specs.declared.taken.Taken.{Taken}
+use Rattle.dap_adapter.proofs.Readable.{step-reads}
 
 -- the frame is still under way
 waits-goes_on : {D : Type 0} (old new : End D) (piece : List ℕ) (n : ℕ) → Gathers old.intake new.intake piece n → new.session ≡ old.session → new.fault ≡ None → GoesOn old new piece []
@@ -66,11 +68,11 @@ delivers-goes_on grow laws within old new ready piece n m plan made c read gathe
     }
 
 -- what became of the reader and of the session, said of the adapter
-pub received : {D : Type 0} (grow : HistoriesGrow) (laws : EachStepGoesOn) (within : EachStepStaysWithin) (follows : Goes D) (old new : End D) (from to : Seat D) (piece : List ℕ) (taken : Taken) (delivered : Option Message)
+pub received : {D : Type 0} (grow : HistoriesGrow) (ranges : ReadIsInRange) (laws : EachStepGoesOn) (within : EachStepStaysWithin) (follows : Goes D) (old new : End D) (from to : Seat D) (piece : List ℕ) (taken : Taken) (delivered : Option Message)
     → from ≡ record { session = old.session; debuggee = old.debuggee } → to ≡ record { session = new.session; debuggee = new.debuggee }
     → new.intake.bounds ≡ old.intake.bounds → new.session.limits ≡ old.session.limits → new.fault ≡ None
     → HasReceived old.intake new.intake from to piece taken delivered → Takes follows old piece taken delivered new
-received grow laws within follows old new from to piece taken None a b bounds limits fault w =
+received grow ranges laws within follows old new from to piece taken None a b bounds limits fault w =
     let same = sym b ∙ (w.same ∙ a) in
     let session = ap (λ (x : Seat _). x.session) same in
     record {
@@ -80,9 +82,10 @@ received grow laws within follows old new from to piece taken None a b bounds li
       debuggee = ap (λ (x : Seat _). x.debuggee) same;
       goes_on = waits-goes_on old new piece taken.used w.gathers session fault;
     }
-received grow laws within follows old new from to piece taken (Some m) a b bounds limits fault d =
+received grow ranges laws within follows old new from to piece taken (Some m) a b bounds limits fault d =
     let has = rw (a, b) at d.has_taken in
     let same = rw (a, b) at d.debuggee in
+    let goes = delivers-goes_on grow laws within old new d.whole.ready piece taken.used m (at_once has.made) has.made d.whole.completes d.read d.under_way bounds d.released has.is refl has.by.session limits fault in
     record {
       whole = d.whole;
       read = d.read;
@@ -93,6 +96,7 @@ received grow laws within follows old new from to piece taken (Some m) a b bound
         carried = (refl, same);
         session = has.by.session;
         bytes_are = has.by.bytes_are;
-        goes_on = delivers-goes_on grow laws within old new d.whole.ready piece taken.used m (at_once has.made) has.made d.whole.completes d.read d.under_way bounds d.released has.is refl has.by.session limits fault;
+        goes_on = goes;
+        reads_back = step-reads ranges old new (take taken.used piece) (In m ∷ []) has.made goes has.by.reads_back;
       };
     }

@@ -6,6 +6,7 @@ use Rattle.dap_frame.specs.Settings.{Settings, bounds_of}
 use Rattle.dap_history.specs.History.{Entry, In}
 use Rattle.dap_history.specs.Pieces.{Whole, FrameClosed, BodyRefused, NeedsMemory}
 use Rattle.dap_message.specs.Meaning.{Msg}
+use Rattle.dap_message.specs.ReadBack.{AllReadBack}
 use Rattle.dap_message.specs.declared.message.Message.{Message}
 use Rattle.dap_debuggee.specs.Shown.{Shown}
 use Rattle.dap_tables.specs.Outstanding.{Kept}
@@ -21,16 +22,17 @@ use Rattle.dap_session.specs.Polling.{polls, has_debuggee}
 use Rattle.dap_session.specs.Seat.{IsUnasked}
 use Rattle.dap_session.specs.Session.{Session, to_handle}
 use Rattle.dap_adapter.specs.End.{End}
-use Rattle.dap_adapter.specs.StandsFor.{GoesOn}
+use Rattle.dap_adapter.specs.StandsFor.{StandsFor, GoesOn}
 use Rattle.dap_session.specs.Taking.{takes}
 
--- the session went on by a plan, over these bytes of the client and what came with them
+-- the session went on by a plan, over these bytes of the client and what came with them; a client with the same limit on bodies reads each message that it wrote
 pub record Step {D : Type 0} (follows : Goes D) (plan : Plan) (old new : End D) (used : List ℕ) (came : List Entry) (bytes : List ℕ) : Type 0 where
   pub made : Made
   pub carried : CarriedOut follows plan old.debuggee made new.debuggee
   pub session : new.session ≡ made.after
   pub bytes_are : bytes ≡ bytes_of (numbered old.session.used made.drafts)
   pub goes_on : GoesOn old new used (came ++ entries_of old.session.used made)
+  pub reads_back : (s : List ℕ) (h : List Entry) → StandsFor old s h → AllReadBack old.session.limits.body (numbered old.session.used made.drafts)
 
 -- ---- take
 

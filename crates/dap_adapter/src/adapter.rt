@@ -14,6 +14,7 @@ use crate::taken::{Taken, Turned};
 use dap_debuggee::Debuggee;
 use dap_frame::{End, Frames, Limits};
 use dap_history::laws::histories_grow;
+use dap_message::laws::read_is_in_range;
 use dap_message::{BodyFault, Message, Scratch, read_message_with};
 use dap_session::laws::{each_step_goes_on, each_step_stays_within};
 use dap_session::{AdapterFault, Phase, Session};
@@ -140,6 +141,7 @@ impl<D: Debuggee + Drop> Adapter<D> {
             return Err(fault);
         }
         histories_grow();
+        read_is_in_range();
         each_step_goes_on();
         each_step_stays_within();
         match receive(
@@ -187,6 +189,7 @@ impl<D: Debuggee + Drop> Adapter<D> {
             return Err(fault);
         }
         histories_grow();
+        read_is_in_range();
         each_step_goes_on();
         each_step_stays_within();
         match self.session.turn(alloc) {
@@ -224,6 +227,7 @@ impl<D: Debuggee + Drop> Adapter<D> {
             return Err(fault);
         }
         histories_grow();
+        read_is_in_range();
         each_step_goes_on();
         each_step_stays_within();
         match self.session.poll(alloc) {

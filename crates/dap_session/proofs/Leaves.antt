@@ -2,6 +2,7 @@
 use Rattle.std.proofs.Common.{◌≡◌, ℕ, ◌+◌, ◌<◌, ◌≤◌, List, [], ◌∷◌, Bool, true, false, None, refl, sym, ap, ◌∙◌, subst, arith, length, filter, length-append}
 use Rattle.std.proofs.lemmas.List.{length-map}
 use Rattle.std.specs.Prelude.{◌==◌, not}
+use Rattle.dap_message.specs.Lengths.{max_fixed}
 use Rattle.dap_message.specs.Types.Failure.TheVariants.{Cancelled}
 use Rattle.dap_tables.specs.Outstanding.{Kept, entries, contains_seq, is_parked, parked_ones, without, HasDistinctSeqs}
 use Rattle.dap_tables.specs.declared.entry.Entry.{Entry}
@@ -34,21 +35,21 @@ count-answers passes answer rs = length-map (filter (λ (r : Entry). passes r.se
 room-left : (seq : ℕ) (kept : List Kept) → HasDistinctSeqs kept → contains_seq seq kept ≡ true → length (filter (λ (r : Entry). not (r.seq == seq)) (entries kept)) + 1 ≡ length kept
 room-left seq kept d h = let e = others-kept seq kept in let one = length-without seq kept d h in omega arith
 
-pub room-first : (seq : ℕ) (kept : List Kept) (fresh : Sheet) (used last : ℕ) → HasDistinctSeqs kept → contains_seq seq kept ≡ true → Holds fresh used [] → fresh.numbers.last ≡ last → used + length kept ≤ last → fresh.numbers.used + length (filter (λ (r : Entry). not (r.seq == seq)) (entries kept)) ≤ fresh.numbers.last
-room-first seq kept fresh used last d c h l room = let others = room-left seq kept d c in let count = h.count in omega arith
+pub room-first : (seq : ℕ) (kept : List Kept) (fresh : Sheet) (limit used last : ℕ) → HasDistinctSeqs kept → contains_seq seq kept ≡ true → Holds fresh limit used [] → fresh.numbers.last ≡ last → used + length kept ≤ last → fresh.numbers.used + length (filter (λ (r : Entry). not (r.seq == seq)) (entries kept)) ≤ fresh.numbers.last
+room-first seq kept fresh limit used last d c h l room = let others = room-left seq kept d c in let count = h.count in omega arith
 
-pub room-last : (seq : ℕ) (kept : List Kept) (fresh mid : Sheet) (used last : ℕ) → HasDistinctSeqs kept → contains_seq seq kept ≡ true → Holds fresh used [] → fresh.numbers.last ≡ last → used + length kept ≤ last → WritesAll fresh mid (answer_where (λ n. not (n == seq)) (failure Cancelled) (entries kept)) → mid.numbers.used < mid.numbers.last
-room-last seq kept fresh mid used last d c h l room w =
+pub room-last : (seq : ℕ) (kept : List Kept) (fresh mid : Sheet) (limit used last : ℕ) → HasDistinctSeqs kept → contains_seq seq kept ≡ true → Holds fresh limit used [] → fresh.numbers.last ≡ last → used + length kept ≤ last → WritesAll fresh mid (answer_where (λ n. not (n == seq)) (failure Cancelled) (entries kept)) → mid.numbers.used < mid.numbers.last
+room-last seq kept fresh mid limit used last d c h l room w =
     let others = room-left seq kept d c in
     let drafts = count-answers (λ n. not (n == seq)) (failure Cancelled) (entries kept) in
-    let count = (w.holds used [] h).count in
+    let count = (w.holds limit used [] h).count in
     let same = w.last in
     omega arith
 
-pub holds-left : (s : Session) (r : Entry) (fresh mid last : Sheet) → Holds fresh s.used [] → WritesAll fresh mid (answer_where (λ seq. not (seq == r.seq)) (failure Cancelled) (entries s.kept)) → Writes mid last (reply r plain_success) → Holds last s.used (left s r).drafts
-holds-left s r fresh mid last h w v =
-    let so_far : Holds mid s.used (answer_each (failure Cancelled) (without r.seq s.kept)) = subst (λ (ds : List Draft). Holds mid s.used ds) (answers-kept r.seq (failure Cancelled) s.kept) (w.holds s.used [] h) in
-    v.holds s.used (answer_each (failure Cancelled) (without r.seq s.kept)) so_far
+pub holds-left : (s : Session) (r : Entry) (fresh mid last : Sheet) (limit : ℕ) → Holds fresh limit s.used [] → WritesAll fresh mid (answer_where (λ seq. not (seq == r.seq)) (failure Cancelled) (entries s.kept)) → Writes max_fixed mid last (reply r plain_success) → Holds last limit s.used (left s r).drafts
+holds-left s r fresh mid last limit h w v =
+    let so_far : Holds mid limit s.used (answer_each (failure Cancelled) (without r.seq s.kept)) = subst (λ (ds : List Draft). Holds mid limit s.used ds) (answers-kept r.seq (failure Cancelled) s.kept) (w.holds limit s.used [] h) in
+    v.holds limit s.used (answer_each (failure Cancelled) (without r.seq s.kept)) so_far.room so_far
 
 -- how many a start takes that is waited for
 pub due-started : (s : Session) (r : Entry) (last : Reply) → is_parked r.seq s.kept ≡ false → length (started_parked s r last).drafts ≡ 1 + length (parked_ones s.kept)
@@ -57,12 +58,12 @@ due-started s r last h =
     let same = ap (λ (ks : List Kept). length ks) (parked-without r.seq s.kept h) in
     omega arith
 
-pub room-started : (kept : List Kept) (one : Sheet) (used last : ℕ) (r : Entry) → HasDistinctSeqs kept → Holds one used (reply r plain_success ∷ []) → one.numbers.last ≡ last → used + (1 + length (parked_ones kept)) ≤ last → one.numbers.used + length (filter (λ (x : Entry). is_parked x.seq kept) (entries kept)) ≤ one.numbers.last
-room-started kept one used last r d h l room = let others = count-parked kept d in let count = h.count in omega arith
+pub room-started : (kept : List Kept) (one : Sheet) (limit used last : ℕ) (r : Entry) → HasDistinctSeqs kept → Holds one limit used (reply r plain_success ∷ []) → one.numbers.last ≡ last → used + (1 + length (parked_ones kept)) ≤ last → one.numbers.used + length (filter (λ (x : Entry). is_parked x.seq kept) (entries kept)) ≤ one.numbers.last
+room-started kept one limit used last r d h l room = let others = count-parked kept d in let count = h.count in omega arith
 
-pub holds-started : (s : Session) (r : Entry) (last : Reply) (answer : Answer) (one all : Sheet) → HasDistinctSeqs s.kept → is_parked r.seq s.kept ≡ false → Holds one s.used (reply r plain_success ∷ []) → WritesAll one all (answer_where (λ seq. is_parked seq s.kept) answer (entries s.kept)) → Holds all s.used (reply r plain_success ∷ answer_each answer (parked_ones (without r.seq s.kept)))
-holds-started s r last answer one all d h o w =
-    subst (λ (ds : List Draft). Holds all s.used (reply r plain_success ∷ ds)) (answers-parked answer s.kept d ∙ ap (λ (ks : List Kept). answer_each answer ks) (sym (parked-without r.seq s.kept h))) (w.holds s.used (reply r plain_success ∷ []) o)
+pub holds-started : (s : Session) (r : Entry) (last : Reply) (answer : Answer) (one all : Sheet) (limit : ℕ) → HasDistinctSeqs s.kept → is_parked r.seq s.kept ≡ false → Holds one limit s.used (reply r plain_success ∷ []) → WritesAll one all (answer_where (λ seq. is_parked seq s.kept) answer (entries s.kept)) → Holds all limit s.used (reply r plain_success ∷ answer_each answer (parked_ones (without r.seq s.kept)))
+holds-started s r last answer one all limit d h o w =
+    subst (λ (ds : List Draft). Holds all limit s.used (reply r plain_success ∷ ds)) (answers-parked answer s.kept d ∙ ap (λ (ks : List Kept). answer_each answer ks) (sym (parked-without r.seq s.kept h))) (w.holds limit s.used (reply r plain_success ∷ []) o)
 
 pub count-started : (s : Session) (r : Entry) (last : Reply) → length (started_parked s r last).drafts ≡ 1 + length (parked_ones (without r.seq s.kept))
 count-started s r last = let each = length-each (by_reply None last) (parked_ones (without r.seq s.kept)) in omega arith

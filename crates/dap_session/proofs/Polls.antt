@@ -9,4 +9,4 @@ use Rattle.dap_session.specs.Seat.{Seat, Carries}
 pub polls-none : {D : Type 0} (follows : Goes D) (old : Seat D) (bytes : List ℕ) → has_debuggee old.session.phase ≡ false → bytes ≡ [] → Carries follows (polls old.session) old old bytes
 polls-none follows old bytes h b =
     let e : polls old.session ≡ at_once (nothing old.session) = rw h refl in
-    subst (λ (p : Plan). Carries follows p old old bytes) (sym e) (record { made = nothing old.session; carried = (refl, refl); by = record { session = refl; bytes_are = b } })
+    subst (λ (p : Plan). Carries follows p old old bytes) (sym e) (record { made = nothing old.session; carried = (refl, refl); by = record { session = refl; bytes_are = b; reads_back = λ _. tt } })

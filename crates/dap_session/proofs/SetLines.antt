@@ -192,7 +192,7 @@ set-carries follows plan old new r key lines sheet bytes t f s b =
     (record {
       made = _;
       carried = (done, f, refl);
-      by = record { session = rw (s, t.holds.count) refl; bytes_are = rw (b, t.holds.bytes) refl };
+      by = record { session = rw (s, t.holds.count) refl; bytes_are = rw (b, t.holds.bytes) refl; reads_back = t.holds.reads_back };
     })
 
 pub all-ok : {T E : Type 0} (r : Result T E) (A B : Type 0) (P Q : T → Type 0) → (A → B → (x : T) → P x → Q x) → OnOk r A → OnOk r B → IfOk r P → IfOk r Q

@@ -4,6 +4,7 @@ use Rattle.std.specs.Prelude.{◌==◌, ◌||◌, ◌&&◌, not, if◌then◌els
 use Rattle.std.proofs.lemmas.Bool.Decides.{nat_tests}
 use Rattle.std.proofs.lemmas.List.{append-nil}
 use Rattle.std.proofs.lemmas.List.Folds.{list_any-append}
+use Rattle.dap_message.specs.Lengths.{max_fixed}
 use Rattle.dap_tables.specs.Outstanding.{Kept, entries, without, contains_seq, is_parked, parked_ones, HasDistinctSeqs}
 use Rattle.dap_tables.specs.declared.entry.Entry.{Entry}
 use Rattle.dap_session.specs.Handling.{answer_each}
@@ -14,13 +15,13 @@ use Rattle.dap_session.specs.Plan.{Answer, Draft, reply}
 use Rattle.dap_session.specs.Sheet.{Holds, Writes}
 
 pub writes-none : (s : Sheet) → WritesAll s s []
-writes-none s = record { last = refl; holds = λ used before h. rw (append-nil before) h }
+writes-none s = record { last = refl; holds = λ limit used before h. rw (append-nil before) h }
 
-pub writes-then : (old mid new : Sheet) (d : Draft) (ds : List Draft) → Writes old mid d → WritesAll mid new ds → WritesAll old new (d ∷ ds)
+pub writes-then : (old mid new : Sheet) (d : Draft) (ds : List Draft) → Writes max_fixed old mid d → WritesAll mid new ds → WritesAll old new (d ∷ ds)
 writes-then old mid new d ds w v =
     record {
       last = v.last ∙ w.last;
-      holds = λ used before h. subst (λ (xs : List Draft). Holds new used xs) (append_assoc before (d ∷ []) ds) (v.holds used (before ++ d ∷ []) (w.holds used before h));
+      holds = λ limit used before h. subst (λ (xs : List Draft). Holds new limit used xs) (append_assoc before (d ∷ []) ds) (v.holds limit used (before ++ d ∷ []) (w.holds limit used before h.room h));
     }
 
 pub some-pass : (passes : ℕ → Bool) (r : Entry) (rest : List Entry) → passes r.seq ≡ true → filter (λ (x : Entry). passes x.seq) (r ∷ rest) ≡ r ∷ filter (λ (x : Entry). passes x.seq) rest
@@ -30,7 +31,7 @@ pub none-pass : (passes : ℕ → Bool) (r : Entry) (rest : List Entry) → pass
 none-pass passes r rest is = rw is refl
 
 -- a request that is answered
-pub goes-answered : (passes : ℕ → Bool) (answer : Answer) (requests rest : List Entry) (r : Entry) (old mid final : Sheet) → requests ≡ r ∷ rest → passes r.seq ≡ true → Writes old mid (reply r answer) → WritesAll mid final (answer_where passes answer rest) → WritesAll old final (answer_where passes answer requests)
+pub goes-answered : (passes : ℕ → Bool) (answer : Answer) (requests rest : List Entry) (r : Entry) (old mid final : Sheet) → requests ≡ r ∷ rest → passes r.seq ≡ true → Writes max_fixed old mid (reply r answer) → WritesAll mid final (answer_where passes answer rest) → WritesAll old final (answer_where passes answer requests)
 goes-answered passes answer requests rest r old mid final e is w v = rw (e, some-pass passes r rest is) (writes-then old mid final (reply r answer) (answer_where passes answer rest) w v)
 
 -- one that is not

@@ -4,6 +4,7 @@ pub mod Breakpoints
 pub mod Session
 pub mod Failures
 pub mod Plan
+pub mod InRange
 pub mod Carried
 pub mod Bodies
 pub mod Handling

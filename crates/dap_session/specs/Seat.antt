@@ -12,10 +12,12 @@ use Rattle.dap_session.specs.declared.decision.Decision.TheVariants.{Refuses, Se
 use Rattle.dap_session.specs.declared.fault.AdapterFault.{AdapterFault}
 use Rattle.dap_session.specs.declared.fault.AdapterFault.TheVariants.{SeqExhausted, OutOfMemory}
 use Rattle.dap_session.specs.Carried.{Goes, CarriedOut}
+use Rattle.dap_session.specs.InRange.{AnswersInRange}
 use Rattle.dap_session.specs.Handling.{plan_for, some_plan, turns}
 use Rattle.dap_session.specs.Plan.{Made, Plan, at_once, asking, due, affordable, answered, failure, numbered, bytes_of}
 use Rattle.dap_session.specs.Session.{Session, cancelled_by, not_cancelled_by}
 use Rattle.dap_session.specs.Taking.{takes, takes_request}
+use Rattle.dap_message.specs.ReadBack.{AllReadBack}
 use Rattle.dap_message.specs.declared.message.Message.{Message}
 
 -- a session with its debuggee
@@ -37,10 +39,11 @@ pub record IsSession (limits : Settings) (table : KeptRequests) (references : Re
   pub last : numbers.last ≡ limits.seq
   pub used : numbers.used ≤ numbers.last
 
--- the session went on, and these bytes say so
+-- the session went on, and these bytes say so; a client with the same limit on bodies reads each of the messages, where the requests that they answer are in range
 pub record MadeBy (m : Made) (old new : Session) (bytes : List ℕ) : Type 0 where
   pub session : new ≡ m.after
   pub bytes_are : bytes ≡ bytes_of (numbered old.used m.drafts)
+  pub reads_back : AnswersInRange m.drafts → AllReadBack old.limits.body (numbered old.used m.drafts)
 
 -- what was decided of a request, as a plan
 abbrev pub decided : Decision → Shown → Session → Entry → Plan

@@ -42,7 +42,7 @@ pub record IsToSet (plan : Plan) (s : Session) (r : Entry) (key : SourceKey) (li
   pub is : plan ≡ breakpoints_set s r key lines body
   pub few : are_too_many s.limits key lines s.breakpoints ≡ false
   pub last : sheet.numbers.last ≡ s.limits.seq
-  pub holds : Holds sheet s.used (reply r (success body []) ∷ [])
+  pub holds : Holds sheet s.limits.body s.used (reply r (success body []) ∷ [])
 
 -- the plan is to answer with this failure
 abbrev pub IsToFail : Untold → Plan → Session → Entry → Type 0

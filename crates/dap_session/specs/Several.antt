@@ -24,4 +24,4 @@ answer_where passes answer requests = map (λ r. reply r answer) (filter (λ r. 
 -- these messages more
 pub record WritesAll (old new : Sheet) (ds : List Draft) : Type 0 where
   pub last : new.numbers.last ≡ old.numbers.last
-  pub holds : (used : ℕ) (before : List Draft) → Holds old used before → Holds new used (before ++ ds)
+  pub holds : (limit used : ℕ) (before : List Draft) → Holds old limit used before → Holds new limit used (before ++ ds)

@@ -1,17 +1,26 @@
 -- The code's words for what a call is about to write.
-use Rattle.std.specs.Prelude.{◌≡◌, ℕ, ◌+◌, List, [], ◌∷◌, ◌++◌, length, IsTrue, ⊤}
-use Rattle.dap_json.specs.Writable.{is_plain_tree}
-use Rattle.dap_message.specs.Lengths.{AdapterEvent, initialized, output, stopped, continued, exited, terminated}
+use Rattle.std.specs.Prelude.{◌≡◌, ℕ, ◌+◌, ◌≤◌, List, [], ◌∷◌, ◌++◌, length, Option, Some, None}
+use Rattle.dap_json.specs.Field.{max_seq}
+use Rattle.dap_message.specs.Lengths.{AdapterEvent, initialized, output, stopped, continued, exited, terminated, FixedBody, none, offers, all_go_on, body_of, max_fixed}
+use Rattle.dap_message.specs.ReadBack.{AllReadBack}
 use Rattle.dap_debuggee.specs.Shown.{category_name}
 use Rattle.dap_session.specs.declared.sheet.Answer.{Answer}
 use Rattle.dap_session.specs.declared.sheet.Answer.TheVariants.{Success, Failure}
+use Rattle.dap_session.specs.declared.sheet.Fixed.{Fixed}
+use Rattle.dap_session.specs.declared.sheet.Fixed.TheVariants.{Offers, AllGoOn}
 use Rattle.dap_session.specs.declared.sheet.Event.{Event}
 use Rattle.dap_session.specs.declared.sheet.Event.TheVariants.{Initialized, Output, Stopped, Continued, Exited, Terminated}
 use Rattle.dap_session.specs.declared.sheet.Sheet.{Sheet}
+use Rattle.dap_session.specs.InRange.{AnswersInRange}
 use Rattle.dap_session.specs.Plan.{Answer as AnswerWord, success, failure, Draft, numbered, bytes_of}
 
+abbrev pub shape_of : Option Fixed → FixedBody
+shape_of None = none
+shape_of (Some (Offers capabilities)) = offers capabilities
+shape_of (Some AllGoOn) = all_go_on
+
 abbrev pub answer_of : Answer → AnswerWord
-answer_of (Success body) = success body []
+answer_of (Success body) = success (body_of (shape_of body)) []
 answer_of (Failure f) = failure f
 
 abbrev pub event_of : Event → AdapterEvent
@@ -22,17 +31,16 @@ event_of (Continued thread) = continued thread
 event_of (Exited code) = exited code
 event_of Terminated = terminated
 
-abbrev pub IsPlainAnswer : Answer → Type 0
-IsPlainAnswer (Success body) = IsTrue (is_plain_tree body)
-IsPlainAnswer (Failure f) = ⊤
-
--- the sheet holds just these messages, numbered after the first ones that were used
-pub record Holds (sheet : Sheet) (used : ℕ) (ds : List Draft) : Type 0 where
+-- the sheet holds just these messages, numbered after the first ones that were used; a client whose bodies have at most so many bytes reads each
+pub record Holds (sheet : Sheet) (limit used : ℕ) (ds : List Draft) : Type 0 where
   pub bytes : sheet.bytes.items ≡ bytes_of (numbered used ds)
   pub count : sheet.numbers.used ≡ used + length ds
+  pub in_range : sheet.numbers.last ≤ max_seq
+  pub room : max_fixed ≤ limit
+  pub reads_back : AnswersInRange ds → AllReadBack limit (numbered used ds)
 
--- one message more
-pub record Writes (old new : Sheet) (d : Draft) : Type 0 where
+-- one message more, which a client reads whose bodies may have so many bytes
+pub record Writes (most : ℕ) (old new : Sheet) (d : Draft) : Type 0 where
   pub last : new.numbers.last ≡ old.numbers.last
   pub given : new.numbers.used ≡ old.numbers.used + 1
-  pub holds : (used : ℕ) (ds : List Draft) → Holds old used ds → Holds new used (ds ++ d ∷ [])
+  pub holds : (limit used : ℕ) (ds : List Draft) → most ≤ limit → Holds old limit used ds → Holds new limit used (ds ++ d ∷ [])

@@ -72,6 +72,6 @@ IsTold (Err fault) told references = Says fault told
 -- the sheet holds all of what is made, of one answer and with these references, and nothing else is done
 pub record IsSheetOf (sheet : Sheet) (s : Session) (r : Entry) (references : LiveReferences) (made : Made) : Type 0 where
   pub last : sheet.numbers.last ≡ s.limits.seq
-  pub holds : Holds sheet s.used made.drafts
+  pub holds : Holds sheet s.limits.body s.used made.drafts
   pub count : length made.drafts ≡ 1
   pub after : made.after ≡ record s { kept = without r.seq s.kept; references = references; used = s.used + 1 }

@@ -1,21 +1,20 @@
 //! What requests do in the phases that serve them, an effect of the table each.
 ghost use Rattle.std.specs.Prelude.{◌≡◌, ◌+◌, ◌≤◌, ◌<◌, [], ◌∷◌, IfOk, OnErr, IsTrue, None, Some, true};
-ghost use Rattle.dap_json.specs.Writable.{is_plain_tree};
+ghost use Rattle.dap_message.specs.Lengths.{body_of, IsWithin};
 ghost use Rattle.dap_message.specs.Types.Call.{Call};
 ghost use Rattle.dap_tables.specs.Outstanding.{contains_seq};
 ghost use Rattle.dap_debuggee.specs.Shown.{to_start, to_resume, to_pause, to_end};
 ghost use Rattle.dap_session.specs.Seat.{MadeBy, Carries, reply_of};
 ghost use Rattle.dap_session.specs.Handling.{begun, parked, started, configured, finished, resumed, by_reply, options_of, start_phase, offered, resume_body as resume_body_word};
 ghost use Rattle.dap_session.specs.Plan.{reply, tell, answered, asking};
-ghost use Rattle.dap_session.specs.Sheet.{IsPlainAnswer, Holds, answer_of, event_of};
+ghost use Rattle.dap_session.specs.Sheet.{Holds, answer_of, event_of, shape_of};
 
 use crate::options::Options;
 use crate::phase::Phase;
 use crate::session::Session;
-use crate::sheet::{Answer, Event, Sheet};
+use crate::sheet::{Answer, Event, Fixed, Sheet};
 use dap_debuggee::{Debuggee, How};
-use dap_message::laws::bodies_are_plain;
-use dap_message::{Call, Capabilities, Failure, Tree, body_continue};
+use dap_message::{Call, Capabilities, Failure};
 use dap_tables::Entry;
 use std::alloc::{AllocError, Global};
 
@@ -58,10 +57,8 @@ pub(crate) fn options_of(call: &Call) -> Options
 }
 
 /// A success where the debuggee did what it was asked.
-fn by_reply(ok: bool, body: Option<Tree>) -> Answer
-    requires { IsTrue (is_plain_tree body) }
-    ensures answer { answer_of result ≡ by_reply body (reply_of ok) }
-    ensures plain { IsPlainAnswer result }
+fn by_reply(ok: bool, body: Option<Fixed>) -> Answer
+    ensures { answer_of result ≡ by_reply (body_of (shape_of body)) (reply_of ok) }
 {
     if ok {
         Answer::Success(body)
@@ -80,18 +77,27 @@ pub(crate) fn start_phase(ok: bool) -> Phase
     }
 }
 
-fn resume_body(alloc: Global, how: How) -> Result<Option<Tree>, AllocError>
-    ensures body { IfOk result (λ body. body ≡ resume_body_word how) }
-    ensures plain { IfOk result (λ body. IsTrue (is_plain_tree body)) }
+fn resume_body(how: How) -> Option<Fixed>
+    ensures { body_of (shape_of result) ≡ resume_body_word how }
 {
-    bodies_are_plain();
     match how {
-        How::Continue => Ok(Some(Tree::new(body_continue(alloc)?))),
-        _ => Ok(None),
+        How::Continue => Some(Fixed::AllGoOn),
+        _ => None,
     }
 }
 
 impl<D: Debuggee + Drop> Session<D> {
+    /// A sheet with nothing on it.
+    pub(crate) fn fresh_sheet(&self, alloc: Global) -> Sheet
+        ensures last { result.numbers.last ≡ self.now.session.limits.seq }
+        ensures holds { Holds result self.now.session.limits.body self.now.session.used [] }
+    {
+        // For the proof: these limits are in their ranges.
+        let _ = self.limits.body();
+        let _ = self.limits.seq();
+        Sheet::open(alloc, self.numbers())
+    }
+
     /// A sheet with one response.
     pub(crate) fn one(
         &self,
@@ -99,12 +105,11 @@ impl<D: Debuggee + Drop> Session<D> {
         request: &Entry,
         answer: Answer,
     ) -> Result<Sheet, AllocError>
-        requires room { self.now.session.used + 1 ≤ self.now.session.limits.seq }
-        requires plain { IsPlainAnswer answer }
+        requires { self.now.session.used + 1 ≤ self.now.session.limits.seq }
         ensures last { IfOk result (λ sheet. sheet.numbers.last ≡ self.now.session.limits.seq) }
-        ensures holds { IfOk result (λ sheet. Holds sheet self.now.session.used (reply request.now (answer_of answer) ∷ [])) }
+        ensures holds { IfOk result (λ sheet. Holds sheet self.now.session.limits.body self.now.session.used (reply request.now (answer_of answer) ∷ [])) }
     {
-        let mut sheet = Sheet::open(alloc, self.numbers());
+        let mut sheet = self.fresh_sheet(alloc);
         sheet.reply(alloc, request, answer)?;
         Ok(sheet)
     }
@@ -118,9 +123,9 @@ impl<D: Debuggee + Drop> Session<D> {
         event: Event,
     ) -> Result<Sheet, AllocError>
         requires room { self.now.session.used + 2 ≤ self.now.session.limits.seq }
-        requires plain { IsPlainAnswer answer }
+        requires short { IsWithin (event_of event) }
         ensures last { IfOk result (λ sheet. sheet.numbers.last ≡ self.now.session.limits.seq) }
-        ensures holds { IfOk result (λ sheet. Holds sheet self.now.session.used (reply request.now (answer_of answer) ∷ tell (event_of event) ∷ [])) }
+        ensures holds { IfOk result (λ sheet. Holds sheet self.now.session.limits.body self.now.session.used (reply request.now (answer_of answer) ∷ tell (event_of event) ∷ [])) }
     {
         let mut sheet = self.one(alloc, request, answer)?;
         sheet.tell(alloc, event)?;
@@ -134,8 +139,7 @@ impl<D: Debuggee + Drop> Session<D> {
         request: &Entry,
         answer: Answer,
     ) -> Result<Vec<u8>, AllocError>
-        requires room { self.old.session.used + 1 ≤ self.old.session.limits.seq }
-        requires plain { IsPlainAnswer answer }
+        requires { self.old.session.used + 1 ≤ self.old.session.limits.seq }
         ensures made { IfOk result (λ bytes. MadeBy (answered request.now (answer_of answer) self.old.session) self.old.session self.new.session bytes.items) }
         ensures debuggee { self.new.debuggee ≡ self.old.debuggee }
         ensures err { OnErr result (self.new.session ≡ self.old.session) }
@@ -156,14 +160,8 @@ impl<D: Debuggee + Drop> Session<D> {
         ensures debuggee { self.new.debuggee ≡ self.old.debuggee }
         ensures err { OnErr result (self.new.session ≡ self.old.session) }
     {
-        bodies_are_plain();
-        let body = Tree::new(capabilities().write(alloc)?);
-        let sheet = self.two(
-            alloc,
-            request,
-            Answer::Success(Some(body)),
-            Event::Initialized,
-        )?;
+        let body = Some(Fixed::Offers(capabilities()));
+        let sheet = self.two(alloc, request, Answer::Success(body), Event::Initialized)?;
         let bytes = self.settle(request.seq, sheet);
         self.set_options(options_of(call));
         self.set_phase(Phase::Ready);
@@ -235,7 +233,7 @@ impl<D: Debuggee + Drop> Session<D> {
         ensures carries { IfOk result (λ bytes. Carries D.follows (asking (to_resume how thread) (resumed how self.old.session request.now)) self.old self.new bytes.items) }
         ensures err { OnErr result (self.new.session ≡ self.old.session) }
     {
-        let body = resume_body(alloc, how)?;
+        let body = resume_body(how);
         if self.ask_resume(alloc, how, thread)? {
             let bytes = self.answer(alloc, request, Answer::Success(body))?;
             self.clear_references();

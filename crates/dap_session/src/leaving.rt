@@ -25,9 +25,9 @@ impl<D: Debuggee + Drop> Session<D> {
         requires kept { IsTrue (contains_seq request.now.seq self.now.session.kept) }
         requires room { self.now.session.used + length self.now.session.kept ≤ self.now.session.limits.seq }
         ensures last { IfOk result (λ sheet. sheet.numbers.last ≡ self.now.session.limits.seq) }
-        ensures holds { IfOk result (λ sheet. Holds sheet self.now.session.used (left self.now.session request.now).drafts) }
+        ensures holds { IfOk result (λ sheet. Holds sheet self.now.session.limits.body self.now.session.used (left self.now.session request.now).drafts) }
     {
-        let mut sheet = Sheet::open(alloc, self.numbers());
+        let mut sheet = self.fresh_sheet(alloc);
         let others = Chosen::AllBut(request.seq);
         answer_chosen(
             alloc,

@@ -1,5 +1,7 @@
 //! What happened to the debuggee, told to the client.
-ghost use Rattle.std.specs.Prelude.{◌≡◌, ◌+◌, ◌≤◌, ◌<◌, [], ◌∷◌, IfOk, IfErr, OnOk, OnErr, IsOk, false};
+ghost use Rattle.std.specs.Prelude.{◌≡◌, ◌+◌, ◌≤◌, ◌<◌, [], ◌∷◌, IfOk, IfErr, OnOk, OnErr, IsOk, IsTrue, false};
+ghost use Rattle.dap_message.specs.Lengths.{IsWithin};
+ghost use Rattle.dap_debuggee.specs.Laws.{is_short};
 ghost use Rattle.dap_session.specs.Seat.{MadeBy, Carries, IsBeyond, IsRefusedPoll};
 ghost use Rattle.dap_session.specs.Plan.{tell};
 ghost use Rattle.dap_session.specs.Polling.{saw, saw_reply, polls, has_debuggee};
@@ -34,10 +36,11 @@ impl<D: Debuggee + Drop> Session<D> {
     /// A sheet with one event.
     fn event(&self, alloc: Global, event: Event) -> Result<Sheet, AllocError>
         requires room { self.now.session.used + 1 ≤ self.now.session.limits.seq }
+        requires short { IsWithin (event_of event) }
         ensures last { IfOk result (λ sheet. sheet.numbers.last ≡ self.now.session.limits.seq) }
-        ensures holds { IfOk result (λ sheet. Holds sheet self.now.session.used (tell (event_of event) ∷ [])) }
+        ensures holds { IfOk result (λ sheet. Holds sheet self.now.session.limits.body self.now.session.used (tell (event_of event) ∷ [])) }
     {
-        let mut sheet = Sheet::open(alloc, self.numbers());
+        let mut sheet = self.fresh_sheet(alloc);
         sheet.tell(alloc, event)?;
         Ok(sheet)
     }
@@ -45,8 +48,10 @@ impl<D: Debuggee + Drop> Session<D> {
     /// A sheet with two events.
     fn events(&self, alloc: Global, first: Event, second: Event) -> Result<Sheet, AllocError>
         requires room { self.now.session.used + 2 ≤ self.now.session.limits.seq }
+        requires first_short { IsWithin (event_of first) }
+        requires second_short { IsWithin (event_of second) }
         ensures last { IfOk result (λ sheet. sheet.numbers.last ≡ self.now.session.limits.seq) }
-        ensures holds { IfOk result (λ sheet. Holds sheet self.now.session.used (tell (event_of first) ∷ tell (event_of second) ∷ [])) }
+        ensures holds { IfOk result (λ sheet. Holds sheet self.now.session.limits.body self.now.session.used (tell (event_of first) ∷ tell (event_of second) ∷ [])) }
     {
         let mut sheet = self.event(alloc, first)?;
         sheet.tell(alloc, second)?;
@@ -56,6 +61,7 @@ impl<D: Debuggee + Drop> Session<D> {
     /// Tells what happened.
     #[tactic(auto, unfolding(crate::specs::Polling::saw))]
     fn see(&mut self, alloc: Global, happening: Happening) -> Result<Vec<u8>, AdapterFault>
+        requires { IsTrue (is_short happening) }
         ensures made { IfOk result (λ bytes. MadeBy (saw happening self.old.session) self.old.session self.new.session bytes.items) }
         ensures within { OnOk result (self.new.session.used ≤ self.old.session.limits.seq) }
         ensures refused { IfErr result (λ fault. IsBeyond fault self.old.session (saw happening self.old.session)) }

@@ -3,6 +3,7 @@ ghost use Rattle.std.specs.Prelude.{◌≡◌, ◌+◌, ◌≤◌, ◌<◌, [], 
 ghost use Rattle.dap_tables.specs.Outstanding.{without, with_mark, contains_seq, unparked, unparked_ones, IsOrderly};
 ghost use Rattle.dap_tables.specs.Breakpoints.{count};
 ghost use Rattle.dap_session.specs.Session.{fresh_session};
+ghost use Rattle.dap_debuggee.specs.Laws.{is_short};
 ghost use Rattle.dap_debuggee.specs.Shown.{to_start, to_resume, to_pause, to_poll, to_end, done, happened};
 
 use crate::options::Options;
@@ -263,6 +264,7 @@ impl<D: Debuggee + Drop> Session<D> {
     /// What the debuggee is asked first.
     pub(crate) fn ask_poll(&mut self, alloc: Global) -> Result<Happening, AllocError>
         ensures follows { IfOk result (λ h. D.follows self.old.debuggee to_poll (happened h) self.new.debuggee) }
+        ensures in_range { IfOk result (λ h. IsTrue (is_short h)) }
         ensures session { self.new.session ≡ self.old.session }
     {
         self.debuggee.poll(alloc)

@@ -1,7 +1,7 @@
 //! Answers to several kept requests, one after the other.
 ghost use Rattle.std.specs.Prelude.{◌≡◌, ◌+◌, ◌≤◌, filter, length, OnOk};
 ghost use Rattle.dap_tables.specs.Outstanding.{entries};
-ghost use Rattle.dap_session.specs.Sheet.{IsPlainAnswer, answer_of};
+ghost use Rattle.dap_session.specs.Sheet.{answer_of};
 ghost use Rattle.dap_session.specs.Several.{chosen, answer_where, answer_by, WritesAll};
 
 use crate::sheet::{Answer, Sheet};
@@ -29,8 +29,7 @@ fn is_chosen(kept: &Outstanding, which: Chosen, seq: u64) -> bool
 
 /// A success without a body, or a failure.
 fn answer_by(failure: Option<Failure>) -> Answer
-    ensures answer { answer_of result ≡ answer_by failure }
-    ensures plain { IsPlainAnswer result }
+    ensures { answer_of result ≡ answer_by failure }
 {
     match failure {
         None => Answer::Success(None),

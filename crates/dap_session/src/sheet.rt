@@ -1,26 +1,38 @@
 //! What a call is about to write: messages with the own numbers, framed.
-ghost use Rattle.std.specs.Prelude.{nat_le, ◌≡◌, ◌+◌, ◌<◌, [], length, IfOk, OnOk, IsTrue};
+ghost use Rattle.std.specs.Prelude.{nat_le, ◌≡◌, ℕ, ◌+◌, ◌<◌, ◌≤◌, [], length, IfOk, OnOk, IsTrue};
 ghost use Rattle.dap_message.specs.Body.{data_in};
 ghost use Rattle.dap_message.specs.Canon.{canon};
 ghost use Rattle.dap_session.specs.Plan.{reply, tell, message_of, success as success_word};
-ghost use Rattle.dap_session.specs.Sheet.{answer_of, event_of, IsPlainAnswer, Holds, Writes};
+ghost use Rattle.dap_session.specs.InRange.{IsRequestInRange};
+ghost use Rattle.dap_session.specs.Sheet.{answer_of, event_of, shape_of, Holds, Writes};
+ghost use Rattle.dap_json.specs.Field.{max_seq};
 ghost use Rattle.dap_json.specs.Writable.{is_plain_tree};
-ghost use Rattle.dap_message.specs.Lengths.{event_name, event_body, succeeded};
+ghost use Rattle.dap_message.specs.Lengths.{event_name, event_body, succeeded, body_of, max_fixed, IsWithin};
+ghost use Rattle.dap_message.specs.ReadBack.{ReadsBack};
 
 use dap_debuggee::Category;
 use dap_frame::write_frame;
-use dap_message::laws::bodies_are_plain;
+use dap_message::laws::{bodies_are_plain, fixed_messages_are_short};
 use dap_message::{
-    Body, Failure, Text, Tree, body_continued, body_exited, body_output, body_stopped,
-    write_answer, write_event, write_failure, write_success,
+    Body, Capabilities, Failure, Text, Tree, body_continue, body_continued, body_exited,
+    body_output, body_stopped, write_answer, write_event, write_failure, write_success,
 };
 use dap_tables::{Entry, Seq};
 use std::alloc::{AllocError, Global};
 
-/// How a request is answered.
+/// A body of a fixed shape.
+#[derive(Clone, Copy, Debug)]
+pub(crate) enum Fixed {
+    /// What an adapter offers.
+    Offers(Capabilities),
+    /// All threads go on.
+    AllGoOn,
+}
+
+/// How a request is answered where the answer has no body, or one of a fixed shape.
 #[derive(Debug, Drop)]
 pub(crate) enum Answer {
-    Success(Option<Tree>),
+    Success(Option<Fixed>),
     Failure(Failure),
 }
 
@@ -42,15 +54,31 @@ pub(crate) struct Sheet {
     pub(crate) numbers: Seq,
 }
 
+fn fixed_body(alloc: Global, body: Option<Fixed>) -> Result<Option<Tree>, AllocError>
+    ensures body { IfOk result (λ tree. tree ≡ body_of (shape_of body)) }
+    ensures plain { IfOk result (λ tree. IsTrue (is_plain_tree tree)) }
+{
+    bodies_are_plain();
+    match body {
+        None => Ok(None),
+        Some(Fixed::Offers(capabilities)) => Ok(Some(Tree::new(capabilities.write(alloc)?))),
+        Some(Fixed::AllGoOn) => Ok(Some(Tree::new(body_continue(alloc)?))),
+    }
+}
+
 /// The text of the response to a request.
 fn replied(alloc: Global, seq: u64, request: &Entry, answer: &Answer) -> Result<Vec<u8>, AllocError>
-    requires { IsPlainAnswer answer.now }
-    ensures { IfOk result (λ text. text.items ≡ canon (message_of seq (reply request.now (answer_of answer.now)))) }
+    ensures canon { IfOk result (λ text. text.items ≡ canon (message_of seq (reply request.now (answer_of answer.now)))) }
+    ensures reads_back { IfOk result (λ text. seq ≤ max_seq → IsRequestInRange request.now → ReadsBack max_fixed (message_of seq (reply request.now (answer_of answer.now)))) }
 {
+    fixed_messages_are_short();
     let command = request.command.as_str();
     match answer {
         Answer::Failure(failure) => write_failure(alloc, seq, request.seq, command, *failure),
-        Answer::Success(body) => write_success(alloc, seq, request.seq, command, body),
+        Answer::Success(body) => {
+            let body = fixed_body(alloc, *body)?;
+            write_success(alloc, seq, request.seq, command, &body)
+        }
     }
 }
 
@@ -89,8 +117,11 @@ fn event_body(alloc: Global, event: Event) -> Result<Option<Tree>, AllocError>
 
 /// The text of an event.
 fn told(alloc: Global, seq: u64, event: Event) -> Result<Vec<u8>, AllocError>
-    ensures { IfOk result (λ text. text.items ≡ canon (message_of seq (tell (event_of event)))) }
+    requires { IsWithin (event_of event) }
+    ensures canon { IfOk result (λ text. text.items ≡ canon (message_of seq (tell (event_of event)))) }
+    ensures reads_back { OnOk result (seq ≤ max_seq → ReadsBack max_fixed (message_of seq (tell (event_of event)))) }
 {
+    fixed_messages_are_short();
     let name = event_name(&event);
     let body = event_body(alloc, event)?;
     write_event(alloc, seq, name, &body)
@@ -100,7 +131,7 @@ impl Sheet {
     /// Nothing yet, with the numbers that are left.
     pub(crate) fn open(alloc: Global, numbers: Seq) -> Sheet
         ensures last { result.numbers.last ≡ numbers.last }
-        ensures holds { Holds result numbers.used [] }
+        ensures holds { (limit : ℕ) → max_fixed ≤ limit → numbers.last ≤ max_seq → Holds result limit numbers.used [] }
     {
         Sheet {
             bytes: Vec::new(alloc),
@@ -129,9 +160,8 @@ impl Sheet {
         request: &Entry,
         answer: Answer,
     ) -> Result<(), AllocError>
-        requires left { self.old.numbers.used < self.old.numbers.last }
-        requires plain { IsPlainAnswer answer }
-        ensures { OnOk result (Writes self.old self.new (reply request.now (answer_of answer))) }
+        requires { self.old.numbers.used < self.old.numbers.last }
+        ensures { OnOk result (Writes max_fixed self.old self.new (reply request.now (answer_of answer))) }
     {
         let (seq, numbers) = self.next();
         let text = replied(alloc, seq, request, &answer)?;
@@ -148,9 +178,9 @@ impl Sheet {
         body: Option<Body>,
         most: usize,
     ) -> Result<bool, AllocError>
-        requires left { self.old.numbers.used < self.old.numbers.last }
+        requires { self.old.numbers.used < self.old.numbers.last }
         ensures fits { IfOk result (λ ok. ok ≡ nat_le (length (canon (succeeded (self.old.numbers.used + 1) request.now.seq request.now.command (data_in body)))) most) }
-        ensures writes { IfOk result (λ ok. IsTrue ok → Writes self.old self.new (reply request.now (success_word (data_in body) []))) }
+        ensures writes { IfOk result (λ ok. IsTrue ok → Writes most self.old self.new (reply request.now (success_word (data_in body) []))) }
     {
         let (seq, numbers) = self.next();
         let text = write_answer(alloc, seq, request.seq, request.command.as_str(), &body)?;
@@ -165,7 +195,8 @@ impl Sheet {
     /// Tells an event.
     pub(crate) fn tell(&mut self, alloc: Global, event: Event) -> Result<(), AllocError>
         requires left { self.old.numbers.used < self.old.numbers.last }
-        ensures { OnOk result (Writes self.old self.new (tell (event_of event))) }
+        requires short { IsWithin (event_of event) }
+        ensures { OnOk result (Writes max_fixed self.old self.new (tell (event_of event))) }
     {
         let (seq, numbers) = self.next();
         let text = told(alloc, seq, event)?;

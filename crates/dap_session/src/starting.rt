@@ -31,7 +31,7 @@ impl<D: Debuggee + Drop> Session<D> {
         requires unparked { is_parked request.now.seq self.now.session.kept ≡ false }
         requires room { self.now.session.used + (1 + length (parked_ones self.now.session.kept)) ≤ self.now.session.limits.seq }
         ensures last { IfOk result (λ sheet. sheet.numbers.last ≡ self.now.session.limits.seq) }
-        ensures holds { IfOk result (λ sheet. Holds sheet self.now.session.used (started_parked self.now.session request.now (reply_of ok)).drafts) }
+        ensures holds { IfOk result (λ sheet. Holds sheet self.now.session.limits.body self.now.session.used (started_parked self.now.session request.now (reply_of ok)).drafts) }
     {
         let mut sheet = self.one(alloc, request, Answer::Success(None))?;
         answer_chosen(

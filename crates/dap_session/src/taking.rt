@@ -6,7 +6,7 @@ ghost use Rattle.dap_session.specs.Failures.{of_known};
 ghost use Rattle.dap_session.specs.Plan.{reply, failure, plain_success};
 ghost use Rattle.dap_message.specs.Types.Failure.TheVariants.{Cancelled};
 ghost use Rattle.dap_session.specs.Seat.{MadeBy, HasTaken, NotTaken, TakesRequest, TakesNoRequest, IsBeyond, LacksRoom, NamesNone, NamesOne};
-ghost use Rattle.dap_session.specs.Sheet.{IsPlainAnswer, Holds, answer_of};
+ghost use Rattle.dap_session.specs.Sheet.{Holds, answer_of};
 ghost use Rattle.dap_session.specs.Table.{is_phase};
 ghost use Rattle.dap_session.specs.declared.phase.Phase.TheVariants.{Ended};
 ghost use Rattle.dap_session.specs.Taking.{answered_at_once, keeps, cancels, cancelled, id_in, is_cancel, is_request};
@@ -67,7 +67,6 @@ impl<D: Debuggee + Drop> Session<D> {
         request: &Entry,
         answer: Answer,
     ) -> Result<Vec<u8>, AdapterFault>
-        requires plain { IsPlainAnswer answer }
         ensures made { IfOk result (λ bytes. MadeBy (answered_at_once request.now (answer_of answer) self.old.session) self.old.session self.new.session bytes.items) }
         ensures within { OnOk result (self.old.session.used + length (answered_at_once request.now (answer_of answer) self.old.session).drafts ≤ self.old.session.limits.seq) }
         ensures refused { IfErr result (λ fault. IsBeyond fault self.old.session (answered_at_once request.now (answer_of answer) self.old.session)) }
@@ -106,7 +105,7 @@ impl<D: Debuggee + Drop> Session<D> {
         request: &Entry,
     ) -> Result<Sheet, AdapterFault>
         ensures last { IfOk result (λ sheet. sheet.numbers.last ≡ self.now.session.limits.seq) }
-        ensures holds { IfOk result (λ sheet. Holds sheet self.now.session.used (reply named.now (failure Cancelled) ∷ reply request.now plain_success ∷ [])) }
+        ensures holds { IfOk result (λ sheet. Holds sheet self.now.session.limits.body self.now.session.used (reply named.now (failure Cancelled) ∷ reply request.now plain_success ∷ [])) }
         ensures refused { IfErr result (λ fault. LacksRoom fault self.now.session 2) }
     {
         self.room(2)?;
@@ -125,7 +124,7 @@ impl<D: Debuggee + Drop> Session<D> {
         ensures none { IfOk result (λ o. IfNone o (NamesNone id self.now.session.kept)) }
         ensures one { IfOk result (λ o. IfSome o (λ sheet. NamesOne id self.now.session.kept)) }
         ensures last { IfOk result (λ o. IfSome o (λ sheet. sheet.numbers.last ≡ self.now.session.limits.seq)) }
-        ensures holds { IfOk result (λ o. IfSome o (λ sheet. Holds sheet self.now.session.used (cancelled (Some id) request.now self.now.session).drafts)) }
+        ensures holds { IfOk result (λ o. IfSome o (λ sheet. Holds sheet self.now.session.limits.body self.now.session.used (cancelled (Some id) request.now self.now.session).drafts)) }
         ensures named { OnErr result (NamesOne id self.now.session.kept) }
         ensures refused { IfErr result (λ fault. LacksRoom fault self.now.session 2) }
     {

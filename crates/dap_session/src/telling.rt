@@ -170,10 +170,10 @@ impl<D: Debuggee + Drop> Session<D> {
         requires room { self.now.session.used + 1 ≤ self.now.session.limits.seq }
         ensures fits { IfOk result (λ o. IfSome o (λ sheet. fits self.now.session request.now (data_in body) ≡ true)) }
         ensures last { IfOk result (λ o. IfSome o (λ sheet. sheet.numbers.last ≡ self.now.session.limits.seq)) }
-        ensures holds { IfOk result (λ o. IfSome o (λ sheet. Holds sheet self.now.session.used (reply request.now (success (data_in body) []) ∷ []))) }
+        ensures holds { IfOk result (λ o. IfSome o (λ sheet. Holds sheet self.now.session.limits.body self.now.session.used (reply request.now (success (data_in body) []) ∷ []))) }
         ensures too_large { IfOk result (λ o. IfNone o (fits self.now.session request.now (data_in body) ≡ false)) }
     {
-        let mut sheet = Sheet::open(alloc, self.numbers());
+        let mut sheet = self.fresh_sheet(alloc);
         if sheet.reply_within(alloc, request, body, self.limits.body())? {
             return Ok(Some(sheet));
         }

@@ -10,7 +10,7 @@ loop-request-preserved-in-Continue-1 c =
     let is = sym c.is_chosen.ensures ∙ c.if-is_chosen.true in
     record {
       room = rw c.in_ok-reply.ensures.last (room-answered (λ (seq : ℕ). chosen c.args.which c.args.kept.now.kept seq) _ _ _ _ _ _ e is c.in_ok-reply.ensures.given i.room);
-      goes = λ final w. i.goes final (goes-answered (λ (seq : ℕ). chosen c.args.which c.args.kept.now.kept seq) (answer_by c.args.failure) _ _ c.in-Some.request.now _ _ final e is (rw c.answer_by.ensures.answer at c.in_ok-reply.ensures) w);
+      goes = λ final w. i.goes final (goes-answered (λ (seq : ℕ). chosen c.args.which c.args.kept.now.kept seq) (answer_by c.args.failure) _ _ c.in-Some.request.now _ _ final e is (rw c.answer_by.ensures at c.in_ok-reply.ensures) w);
     }
 
 pub loop-request-preserved : goal.loop-request-preserved

@@ -30,4 +30,4 @@ returns-in-Ok-clause-holds g c =
     let kept_is : c.self.inside.kept.kept ≡ c.args.self.now.session.kept = ap (λ (x : Seat _). x.session.kept) c.self.view_is in
     let here : Finds c.args.id c.args.self.now.session.kept c.in-Some.named.now = subst (λ (ks : List Kept). Finds c.args.id ks c.in-Some.named.now) kept_is found in
     let drafts = cancelled-one c.args.id c.args.request.now c.in-Some.named.now c.args.self.now.session here in
-    subst (λ (ds : List Draft). Holds c.in-Ok.sheet c.args.self.now.session.used ds) (sym drafts) c.in-Ok.ensures.holds
+    subst (λ (ds : List Draft). Holds c.in-Ok.sheet c.args.self.now.session.limits.body c.args.self.now.session.used ds) (sym drafts) c.in-Ok.ensures.holds

@@ -11,5 +11,6 @@ returns-clause-carries g c =
           record {
             session = rw (c.set_phase.ensures, c.clear_references.ensures, c.settle-bytes.ensures.session, c.end.ensures.session, c.in_ok-sheet.ensures.holds.count) refl;
             bytes_are = rw (c.settle-bytes.ensures.bytes, c.in_ok-sheet.ensures.holds.bytes) refl;
+            reads_back = c.in_ok-sheet.ensures.holds.reads_back;
           };
     }

@@ -11,6 +11,7 @@ returns-then-branch-clause-carries g c =
       by =
           record {
             session = rw (c.set_phase.ensures, c.clear_references.ensures, c.in_ok-bytes.ensures.made.session, c.in_ok-ask_resume.ensures.session) refl;
-            bytes_are = rw (c.in_ok-bytes.ensures.made.bytes_are, c.in_ok-ask_resume.ensures.session, c.in_ok-body.ensures.body) refl;
+            bytes_are = rw (c.in_ok-bytes.ensures.made.bytes_are, c.in_ok-ask_resume.ensures.session, c.resume_body-body.ensures) refl;
+            reads_back = rw (c.in_ok-ask_resume.ensures.session, c.resume_body-body.ensures) at c.in_ok-bytes.ensures.made.reads_back;
           };
     }

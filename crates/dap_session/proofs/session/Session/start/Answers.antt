@@ -10,6 +10,7 @@ returns-clause-carries g c =
       by =
           record {
             session = rw (c.set_phase.ensures, c.in_ok-bytes.ensures.made.session, c.in_ok-ok.ensures.session, c.start_phase.ensures) refl;
-            bytes_are = rw (c.in_ok-bytes.ensures.made.bytes_are, c.in_ok-ok.ensures.session, c.by_reply.ensures.answer) refl;
+            bytes_are = rw (c.in_ok-bytes.ensures.made.bytes_are, c.in_ok-ok.ensures.session, c.by_reply.ensures) refl;
+            reads_back = rw (c.in_ok-ok.ensures.session, c.by_reply.ensures) at c.in_ok-bytes.ensures.made.reads_back;
           };
     }

@@ -1,10 +1,13 @@
-use Rattle.std.proofs.Common.{rules, ◌≡◌, ◌+◌, length, Err, ap, ◌∙◌, sym, refl}
+use Rattle.std.proofs.Common.{rules, ◌≡◌, ◌+◌, length, Err, ap, ◌∙◌, sym, refl, subst}
+use Rattle.dap_message.specs.ReadBack.{AllReadBack}
 use Rattle.dap_tables.specs.Outstanding.{parked_ones}
 use Rattle.dap_debuggee.specs.Shown.{to_start, done}
 use Rattle.dap_session.specs.declared.fault.AdapterFault.TheVariants.{OutOfMemory}
 use Rattle.dap_session.specs.Handling.{started_parked}
-use Rattle.dap_session.specs.Plan.{asking}
+use Rattle.dap_session.specs.InRange.{AnswersInRange}
+use Rattle.dap_session.specs.Plan.{asking, numbered}
 use Rattle.dap_session.specs.Seat.{Seat, reply_of}
+use Rattle.dap_session.specs.Session.{Session}
 use Rattle.dap_session.proofs.Leaves.{due-started, count-started, refused-for}
 use Rattle.dap_session.proofs.Unasked.{asked}
 use Rattle.dap_session.proofs.session.Session.start_parked.Goals as goal
@@ -38,5 +41,7 @@ returns-clause-carries g c =
           record {
             session = rw (c.set_phase.ensures, c.settle_parked-bytes.ensures.session, c.in_ok-sheet.ensures.holds.count, count-started c.ask_start.new.self.session c.args.request.now (reply_of c.in_ok-ok.ok), c.in_ok-ok.ensures.session, c.start_phase.ensures) refl;
             bytes_are = rw (c.settle_parked-bytes.ensures.bytes, c.in_ok-sheet.ensures.holds.bytes, c.in_ok-ok.ensures.session) refl;
+            reads_back =
+                subst (λ (x : Session). AnswersInRange (started_parked x c.args.request.now (reply_of c.in_ok-ok.ok)).drafts → AllReadBack x.limits.body (numbered x.used (started_parked x c.args.request.now (reply_of c.in_ok-ok.ok)).drafts)) c.in_ok-ok.ensures.session c.in_ok-sheet.ensures.holds.reads_back;
           };
     }

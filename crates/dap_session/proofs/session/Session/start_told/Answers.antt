@@ -8,10 +8,10 @@ use Rattle.dap_session.proofs.session.Session.start_told.Goals as goal
 pub answer_chosen-requires : goal.answer_chosen-requires
 answer_chosen-requires g c =
     let room : c.args.self.now.session.used + (1 + length (parked_ones c.self.inside.kept.kept)) ≤ c.args.self.now.session.limits.seq = subst (λ (x : Seat _). c.args.self.now.session.used + (1 + length (parked_ones x.session.kept)) ≤ c.args.self.now.session.limits.seq) (sym c.self.view_is) c.requires.room in
-    room-started c.self.inside.kept.kept _ c.args.self.now.session.used c.args.self.now.session.limits.seq c.args.request.now c.self.invariant.orderly.distinct c.in_ok-sheet.ensures.holds c.in_ok-sheet.ensures.last room
+    room-started c.self.inside.kept.kept _ _ c.args.self.now.session.used c.args.self.now.session.limits.seq c.args.request.now c.self.invariant.orderly.distinct c.in_ok-sheet.ensures.holds c.in_ok-sheet.ensures.last room
 
 pub returns-clause-holds : goal.returns-clause-holds
 returns-clause-holds g c =
     let d : HasDistinctSeqs c.args.self.now.session.kept = subst (λ (x : Seat _). HasDistinctSeqs x.session.kept) c.self.view_is c.self.invariant.orderly.distinct in
     let w = subst (λ (x : Seat _). WritesAll c.in_ok-sheet.sheet c.answer_chosen.new.sheet (answer_where (λ n. is_parked n x.session.kept) (answer_by c.start_failure.result) (entries x.session.kept))) c.self.view_is c.in_ok-answer_chosen.ensures in
-    rw (← c.start_failure.ensures) (holds-started c.args.self.now.session c.args.request.now (reply_of c.args.ok) (answer_by c.start_failure.result) c.in_ok-sheet.sheet c.answer_chosen.new.sheet d c.requires.unparked c.in_ok-sheet.ensures.holds w)
+    rw (← c.start_failure.ensures) (holds-started c.args.self.now.session c.args.request.now (reply_of c.args.ok) (answer_by c.start_failure.result) c.in_ok-sheet.sheet c.answer_chosen.new.sheet _ d c.requires.unparked c.in_ok-sheet.ensures.holds w)
