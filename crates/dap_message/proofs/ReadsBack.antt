@@ -1,11 +1,11 @@
 -- What is written of each kind of message is read again, where its numbers and its command are in range and its texts and its tree are sound.
-use Rattle.std.proofs.Common.{◌≡◌, ℕ, ◌≤◌, List, length, IsTrue, IsUtf8, Bool, true, ◌&&◌, nat_le, Option, Some, None, codes, refl, arith}
+use Rattle.std.proofs.Common.{◌≡◌, ℕ, ◌≤◌, List, length, IsTrue, IsUtf8, true, nat_le, Option, Some, None, codes, refl, arith}
 use Rattle.std.proofs.lemmas.Bool.Decides.{nat_tests}
 use Rattle.json.proofs.Printed.Utf8.{IsUtf8-are_ascii}
 use Rattle.serde_json.specs.Data.{Data}
 use Rattle.dap_json.specs.Field.{max_seq}
 use Rattle.dap_json.specs.Writable.{is_plain_tree}
-use Rattle.dap_body.specs.Body.{data_in, data_of}
+use Rattle.dap_body.specs.Body.{data_in}
 use Rattle.dap_body.specs.Failure.{failure_body, row_of}
 use Rattle.dap_body.specs.declared.body.Body.{Body}
 use Rattle.dap_body.specs.declared.body.Body.TheVariants.{SetBreakpoints, Threads, StackTrace, Scopes, Variables, Evaluate, Source, LoadedSources}
@@ -15,10 +15,8 @@ use Rattle.dap_message.specs.Canon.{canon}
 use Rattle.dap_message.specs.Laws.{WrittenIsReadAgain}
 use Rattle.dap_message.specs.Lengths.{failed, succeeded, happened}
 use Rattle.dap_message.specs.Meaning.{Msg}
-use Rattle.dap_message.specs.Plain.{is_plain}
 use Rattle.dap_message.specs.Refusals.{max_command}
 use Rattle.dap_message.specs.SoundMessage.{IsSoundTree}
-use Rattle.dap_message.specs.declared.message.Message.{Message}
 use Rattle.dap_message.specs.declared.message.Kind.TheVariants.{Request}
 use Rattle.dap_message.proofs.PlainBodies.{failure_bodies_are_plain, response_bodies_are_plain}
 

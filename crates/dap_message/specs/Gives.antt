@@ -1,5 +1,5 @@
 -- What a call answered, want of memory aside.
-use Rattle.std.specs.Prelude.{◌≡◌, Result, Ok, Err}
+use Rattle.std.specs.Prelude.{◌≡◌, Result, Err}
 use Rattle.dap_json.specs.Steps.{Returns}
 use Rattle.dap_message.specs.declared.fault.BodyRefusal.{BodyRefusal}
 use Rattle.dap_message.specs.declared.fault.BodyFault.{BodyFault}
