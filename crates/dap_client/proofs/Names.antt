@@ -1,5 +1,5 @@
 -- The names of commands are short.
-use Rattle.std.proofs.Common.{ℕ, ◌≤◌, length, arith}
+use Rattle.std.proofs.Common.{◌≤◌, length, arith}
 use Rattle.dap_message.specs.Command.{name_of}
 use Rattle.dap_message.specs.Refusals.{max_command}
 use Rattle.dap_message.specs.Types.Command.{Command}

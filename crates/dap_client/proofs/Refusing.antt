@@ -1,5 +1,5 @@
 -- Why a call on a piece is refused, from what the reader of frames, the reader of messages and the session say.
-use Rattle.std.proofs.Common.{◌≡◌, ℕ, ◌<◌, length, List, Bool, true, false, not, IsTrue, Option, Some, None, Result, Ok, Err, refl, sym, subst, true≢false}
+use Rattle.std.proofs.Common.{◌≡◌, ℕ, ◌<◌, length, List, Bool, true, false, Option, Some, None, Result, Ok, Err, refl, subst, true≢false}
 use Rattle.std.specs.Prelude.{bytes_eq, nat_le, nat_lt, if◌then◌else◌}
 use Rattle.serde_json.specs.Data.{Data}
 use Rattle.dap_frame.specs.declared.frames.FrameFault.{FrameFault}
