@@ -20,7 +20,7 @@ name-short Stdout = omega arith
 name-short Stderr = omega arith
 
 both : (a b : Bool) → IsTrue (a && b) → IsTrue a × IsTrue b
-both true b h = (tt, h)
+both true b h = (refl, h)
 both false b h = absurd (cc)
 
 -- output
