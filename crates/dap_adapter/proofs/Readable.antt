@@ -1,11 +1,11 @@
 -- What an adapter answers is in range: each response answers a request that came, and each that came was read.
-use Rattle.std.proofs.Common.{◌≡◌, ℕ, ◌+◌, ◌≤◌, List, [], ◌∷◌, ◌++◌, Bool, true, false, Option, Some, None, length, filter, refl, sym, ap, ◌∙◌, subst, append_assoc, arith}
+use Rattle.std.proofs.Common.{◌≡◌, ℕ, ◌+◌, ◌≤◌, List, [], ◌∷◌, ◌++◌, Bool, true, false, length, filter, refl, sym, ap, ◌∙◌, subst, append_assoc, arith}
 use Rattle.std.specs.Prelude.{◌==◌, cond}
 use Rattle.std.specs.List.{AllByRecursion}
 use Rattle.std.proofs.lemmas.Bool.Decides.{nat_tests}
 use Rattle.dap_json.specs.Field.{max_seq}
 use Rattle.dap_history.specs.Answers.{Answers, AnswersOne, IsAnswerTo}
-use Rattle.dap_history.specs.History.{Entry, In, Out, Drop, Came, Asked, Answered, waiting, unanswered, is_answered_in, ins_of, request_as, request_at, response_at}
+use Rattle.dap_history.specs.History.{Entry, In, Out, Drop, Came, Asked, waiting, unanswered, is_answered_in, ins_of, request_as, response_at}
 use Rattle.dap_history.specs.Received.{AreRead}
 use Rattle.dap_message.specs.InRange.{IsInRange, ReadIsInRange}
 use Rattle.dap_message.specs.ReadBack.{AllReadBack}

@@ -1,5 +1,5 @@
 -- Why a call on a piece is refused, from what the reader of frames, the reader of messages and the session say.
-use Rattle.std.proofs.Common.{◌≡◌, ℕ, ◌+◌, ◌<◌, length, List, Bool, true, false, not, IsTrue, nat_le, Ok, Err, refl, sym, subst, if◌then◌else◌}
+use Rattle.std.proofs.Common.{◌≡◌, ℕ, ◌+◌, ◌<◌, length, List, Bool, true, false, nat_le, Ok, Err, subst, if◌then◌else◌}
 use Rattle.dap_frame.specs.declared.frames.FrameFault.{FrameFault}
 use Rattle.dap_frame.specs.Feeds.{Completes, Closes}
 use Rattle.dap_frame.specs.Intake.{Intake}

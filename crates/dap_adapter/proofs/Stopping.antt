@@ -7,7 +7,6 @@ use Rattle.dap_frame.specs.Stream.{Split}
 use Rattle.dap_frame.specs.Verdict.{verdict, Refused as Refuses}
 use Rattle.dap_frame.specs.declared.frames.FrameFault.{FrameFault}
 use Rattle.dap_frame.specs.declared.limits.Bounds.{Bounds}
-use Rattle.dap_message.specs.Types.Command.{Command}
 use Rattle.dap_tables.specs.Outstanding.{Kept}
 use Rattle.dap_debuggee.specs.Shown.{Shown}
 use Rattle.dap_session.specs.declared.fault.AdapterFault.{AdapterFault}

@@ -4,7 +4,6 @@ use Rattle.std.specs.Prelude.{◌≡◌, ℕ, ◌+◌, ◌<◌, ◌≤◌, List,
 use Rattle.std.specs.Io.KnownBytes.{Appends, Consumes, IsAtEnd}
 use Rattle.dap_channel.specs.Channel.{IoEvent, Gave, ReadFailed, Took, WriteFailed, Flushed, FlushFailed, Ran, bytes_read, bytes_written, reads, is_flushed, MayGoOn, HasEnded, HasReadFailed, HasWriteFailed}
 use Rattle.dap_channel.specs.Sent.{counted}
-use Rattle.dap_frame.specs.declared.Refusal.{Refusal}
 use Rattle.dap_frame.specs.declared.frames.End.{End}
 use Rattle.dap_frame.specs.declared.frames.End.TheVariants.{Clean, Truncated, Refused as Closed}
 use Rattle.dap_frame.specs.declared.frames.FrameFault.{FrameFault}

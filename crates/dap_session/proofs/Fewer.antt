@@ -1,5 +1,5 @@
 -- A request that is handled waits for no turn any more: fewer are left to handle.
-use Rattle.std.proofs.Common.{◌≡◌, ℕ, ◌+◌, ◌<◌, ◌≤◌, List, [], ◌∷◌, Bool, true, false, cond, length, sym, arith, Option, Some, None, Result, Ok, Err, IfOk, true≢false}
+use Rattle.std.proofs.Common.{◌≡◌, ℕ, ◌+◌, ◌<◌, ◌≤◌, List, [], ◌∷◌, Bool, true, false, cond, length, sym, arith, Option, Some, None, Ok, Err, true≢false}
 use Rattle.std.specs.Prelude.{◌==◌, ◌&&◌, ◌||◌, not, if◌then◌else◌}
 use Rattle.dap_tables.specs.Outstanding.{Kept, contains_seq, is_parked, without, with_mark, marked, unparked_ones}
 use Rattle.dap_tables.specs.declared.entry.Entry.{Entry as Request}

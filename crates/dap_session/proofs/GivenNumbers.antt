@@ -1,7 +1,6 @@
 -- Numbers that are given for an answer, and taken back where it fails.
 use Rattle.std.proofs.Common.{◌≡◌, ℕ, ◌+◌, ◌<◌, ◌≤◌, List, [], ◌∷◌, ◌++◌, Bool, true, false, Option, Some, None, Result, Ok, Err, length, take, drop, drop-cons, get_or, add-one, refl, sym, ap, ◌∙◌, subst, append_assoc, arith, length-append, true≢false}
 use Rattle.std.specs.Prelude.{nat_lt, is_some, if◌then◌else◌}
-use Rattle.std.proofs.lemmas.Bool.Decides.{nat_tests}
 use Rattle.serde_json.specs.Data.{Data}
 use Rattle.dap_frame.specs.Settings.{Settings}
 use Rattle.dap_message.specs.Types.Failure.{Failure}

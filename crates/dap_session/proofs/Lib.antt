@@ -7,7 +7,6 @@ pub mod Rows
 pub mod Tellings
 pub mod Going
 pub mod Sheets
-pub mod Happenings
 pub mod Sessions
 pub mod Turning
 pub mod Unasked

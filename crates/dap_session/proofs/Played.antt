@@ -3,7 +3,6 @@ use Rattle.std.proofs.Common.{ℕ, ◌+◌, ◌++◌, List, [], ◌∷◌, lengt
 use Rattle.dap_json.specs.Read.{json_of}
 use Rattle.dap_frame.specs.Settings.{Settings}
 use Rattle.dap_message.specs.Canon.{canon}
-use Rattle.dap_message.specs.Types.Command.{Command}
 use Rattle.dap_message.specs.declared.message.Message.{Message}
 use Rattle.dap_message.specs.declared.message.Kind.TheVariants.{Request}
 use Rattle.dap_debuggee.specs.Shown.{Shown, Act, to_start, Reply, refused}

@@ -1,5 +1,5 @@
 -- Worked examples of references and breakpoints, each shown by computation.
-use Rattle.std.proofs.Common.{◌≡◌, ℕ, List, [], ◌∷◌, ◌++◌, length, Bool, false, codes, refl, replicate}
+use Rattle.std.proofs.Common.{◌≡◌, ℕ, List, [], ◌∷◌, ◌++◌, length, false, codes, refl, replicate}
 use Rattle.std.specs.Fmt.{digits}
 use Rattle.std.specs.List.{flat_map}
 use Rattle.std.specs.Str.{is_utf8, chars}
@@ -10,7 +10,6 @@ use Rattle.dap_frame.specs.Settings.{Settings, usual_settings, settings}
 use Rattle.dap_message.specs.Call.{initialize_of, thread_of, stack_trace_of, scopes_of, variables_of, evaluate_of, source_of, source_parts, given_lines, set_breakpoints_of}
 use Rattle.dap_message.specs.Canon.{canon, tree_of, response_members, event_members}
 use Rattle.dap_message.specs.Lengths.{failed}
-use Rattle.dap_message.specs.Types.Command.{Command}
 use Rattle.dap_message.specs.Types.Failure.TheVariants.{UnknownThread, StaleReference, UnknownSource, Debuggee, TooManyBreakpoints, TooManyReferences, ReferencesExhausted, TooLarge, NotStopped}
 use Rattle.dap_message.specs.Types.SourceKey.TheVariants.{Path}
 use Rattle.dap_session.specs.Bodies.{telling}

@@ -1,5 +1,5 @@
 -- Each plan is one failure at once, or writes no failure for size or room.
-use Rattle.std.proofs.Common.{◌≡◌, ◌⊎◌, inl, inr, ℕ, ◌+◌, List, [], ◌∷◌, ◌++◌, Bool, true, false, Option, Some, None, Result, Ok, Err, refl, sym, ap, ◌∙◌, subst, true≢false}
+use Rattle.std.proofs.Common.{◌≡◌, ◌⊎◌, inl, inr, ℕ, ◌+◌, List, [], ◌∷◌, ◌++◌, Bool, true, false, Option, Some, None, Ok, Err, refl, sym, ap, ◌∙◌, subst, true≢false}
 use Rattle.std.specs.Prelude.{◌||◌, nat_le, if◌then◌else◌}
 use Rattle.std.specs.List.{list_any}
 use Rattle.serde_json.specs.Data.{Data}
@@ -19,7 +19,7 @@ use Rattle.dap_session.specs.declared.effect.Effect.TheVariants as effect
 use Rattle.dap_session.specs.Bodies.{Telling, telling}
 use Rattle.dap_session.specs.Breakpoints.{are_too_many}
 use Rattle.dap_session.specs.Failures.{command_of, call_in, refusal}
-use Rattle.dap_session.specs.Handling.{begun, parked, started, configured, started_parked, left, finished, resumed, told, fits, by_reply, answer_each, answers_to, lines_asked, breakpoints_set, breakpoints_verified, breakpoints_plan, plan_for, plan_of_call, plan_of_command, plan_unless, plan as plan_at, turn_of, turns}
+use Rattle.dap_session.specs.Handling.{begun, parked, started, configured, started_parked, left, finished, resumed, told, fits, by_reply, answer_each, answers_to, lines_asked, breakpoints_verified, breakpoints_plan, plan_for, plan_of_call, plan_of_command, plan_unless, plan as plan_at, turn_of}
 use Rattle.dap_session.specs.Laws.{CanMake}
 use Rattle.dap_session.specs.Plan.{Answer, success, failure, plain_success, Draft, reply, tell, Made, Plan, at_once, asking, nothing, answered, due, affordable}
 use Rattle.dap_message.specs.ResponseBody.{set_breakpoints_body}

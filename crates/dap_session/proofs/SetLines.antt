@@ -1,5 +1,5 @@
 -- Breakpoints that are set: that they were asked for in range, and what the plan takes.
-use Rattle.std.proofs.Common.{◌≡◌, ℕ, zero, suc, ◌+◌, ◌<◌, ◌≤◌, List, [], ◌∷◌, Bool, true, false, cond, Option, Some, None, Result, Ok, Err, IfOk, OnOk, All, length, map, refl, sym, ap, ◌∙◌, subst, arith, true≢false}
+use Rattle.std.proofs.Common.{◌≡◌, ℕ, ◌<◌, ◌≤◌, List, [], ◌∷◌, Bool, true, false, cond, Option, Some, None, Result, Ok, Err, IfOk, OnOk, refl, sym, subst, arith, true≢false}
 use Rattle.std.specs.Prelude.{◌&&◌, nat_le, option_and_then, option_map, unwrap_or, if◌then◌else◌}
 use Rattle.std.specs.List.{list_all, find}
 use Rattle.std.proofs.lemmas.List.Elements.{All-cons}
@@ -8,13 +8,12 @@ use Rattle.serde_json.specs.Data.{Data, Items, no_items, item}
 use Rattle.serde_json.specs.Find.{as_u64, as_number, as_array}
 use Rattle.dap_json.specs.Field.{if_passes}
 use Rattle.dap_json.specs.Steps.{◌>>=◌}
-use Rattle.dap_message.specs.Argument.{Read, number_of, value_at, in_shape, or_bad, optional, required, must_be_there, max_number}
+use Rattle.dap_message.specs.Argument.{number_of, value_at, in_shape, or_bad, optional, required, must_be_there, max_number}
 use Rattle.dap_message.specs.Call.{call_of, each, line_in, lines_of, breakpoint_lines_of, source_key_of, given_lines, set_breakpoints_of}
 use Rattle.dap_message.specs.Types.Call.{Call}
 use Rattle.dap_message.specs.Types.Call.TheVariants as call
 use Rattle.dap_message.specs.Types.Command.{Command}
 use Rattle.dap_message.specs.Types.Command.TheVariants as command
-use Rattle.dap_message.specs.Types.Failure.TheVariants.{Debuggee, TooManyBreakpoints, TooLarge}
 use Rattle.dap_message.specs.Types.Key.{Key}
 use Rattle.dap_message.specs.Types.Key.TheVariants as key
 use Rattle.dap_message.specs.Types.SourceKey.{SourceKey}
@@ -29,7 +28,7 @@ use Rattle.dap_session.specs.declared.effect.Effect.{Effect}
 use Rattle.dap_session.specs.declared.effect.Effect.TheVariants as effect
 use Rattle.dap_session.specs.declared.phase.Phase.{Phase}
 use Rattle.dap_session.specs.Breakpoints.{are_too_many}
-use Rattle.dap_session.specs.Handling.{answers_to, breakpoints_plan, breakpoints_verified, fits, lines_asked}
+use Rattle.dap_session.specs.Handling.{breakpoints_plan, breakpoints_verified, fits, lines_asked}
 use Rattle.dap_session.specs.Plan.{Plan, due}
 use Rattle.dap_session.specs.Session.{Session}
 use Rattle.dap_session.specs.Setting.{AreLines, SetsLines, Suits, IsToSet}

@@ -2,7 +2,6 @@
 use Rattle.std.proofs.Common.{◌≡◌, ℕ, ◌+◌, ◌<◌, ◌≤◌, List, [], ◌∷◌, ◌++◌, Result, Ok, Err, IfOk, length, refl, sym, ap, ◌∙◌, subst, append_assoc, arith, length-append}
 use Rattle.std.specs.List.{AllByRecursion}
 use Rattle.std.proofs.lemmas.List.{append-nil}
-use Rattle.serde_json.specs.Data.{Data}
 use Rattle.dap_json.specs.Field.{max_seq}
 use Rattle.dap_frame.specs.Written.{frame_of}
 use Rattle.dap_message.specs.Canon.{canon}
@@ -15,7 +14,7 @@ use Rattle.dap_message.specs.declared.message.Message.{Message}
 use Rattle.dap_tables.specs.declared.entry.Entry.{Entry}
 use Rattle.dap_session.specs.InRange.{IsRequestInRange, IsDraftInRange}
 use Rattle.dap_session.specs.Plan.{Draft, message_of, numbered, bytes_of}
-use Rattle.dap_session.specs.Sheet.{Holds, Writes}
+use Rattle.dap_session.specs.Sheet.{Writes}
 use Rattle.dap_session.specs.declared.sheet.Sheet.{Sheet}
 
 numbered-append : (used : ℕ) (ds : List Draft) (d : Draft) → numbered used (ds ++ d ∷ []) ≡ numbered used ds ++ message_of (used + length ds + 1) d ∷ []
@@ -72,9 +71,6 @@ all-last P [] x a = a.0
 all-last P (y ∷ ys) x a = all-last P ys x a.1
 
 -- ---- a sheet
-
-pub holds-none : (sheet : Sheet) (limit used : ℕ) → sheet.bytes.items ≡ [] → sheet.numbers.used ≡ used → sheet.numbers.last ≤ max_seq → max_fixed ≤ limit → Holds sheet limit used []
-holds-none sheet limit used b u l r = record { bytes = b; count = omega arith; in_range = l; room = r; reads_back = λ _. tt }
 
 pub writes-one : (most : ℕ) (old new : Sheet) (d : Draft) → new.bytes.items ≡ old.bytes.items ++ frame_of (canon (message_of (old.numbers.used + 1) d)) → new.numbers.used ≡ old.numbers.used + 1 → new.numbers.last ≡ old.numbers.last
     → old.numbers.used < old.numbers.last → (old.numbers.used + 1 ≤ max_seq → IsDraftInRange d → ReadsBack most (message_of (old.numbers.used + 1) d)) → Writes most old new d

@@ -1,8 +1,7 @@
 -- What a request comes to when it is taken.
-use Rattle.std.proofs.Common.{◌≡◌, ℕ, ◌+◌, ◌<◌, ◌≤◌, List, Bool, true, false, Result, Ok, Err, IfOk, IfErr, OnOk, refl, sym, ◌∙◌, arith, length}
+use Rattle.std.proofs.Common.{◌≡◌, ℕ, ◌+◌, ◌≤◌, List, Bool, true, false, Result, Ok, Err, IfOk, IfErr, OnOk, refl, sym, ◌∙◌, length}
 use Rattle.dap_session.proofs.Turning.{within, beyond}
 use Rattle.std.specs.Prelude.{nat_le, if◌then◌else◌}
-use Rattle.std.proofs.lemmas.Bool.Decides.{nat_tests}
 use Rattle.dap_tables.specs.Outstanding.{contains_seq}
 use Rattle.dap_tables.specs.declared.entry.Entry.{Entry}
 use Rattle.dap_session.specs.declared.fault.AdapterFault.{AdapterFault}

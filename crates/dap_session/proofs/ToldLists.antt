@@ -1,14 +1,11 @@
 -- What is told of lists of the debuggee, each with its numbers.
-use Rattle.std.proofs.Common.{◌≡◌, ℕ, List, [], ◌∷◌, ◌++◌, Option, Some, None, Result, Ok, Err, length, map, refl, sym, ap, ◌∙◌}
-use Rattle.std.specs.Prelude.{option_and_then, option_map}
+use Rattle.std.proofs.Common.{◌≡◌, ℕ, List, [], ◌∷◌, Option, Some, Ok, length, map, refl, ap}
+use Rattle.std.specs.Prelude.{option_map}
 use Rattle.std.specs.List.{zip}
 use Rattle.serde_json.specs.Data.{Data}
 use Rattle.dap_message.specs.ResponseBody.{stack_trace_body, scopes_body, variables_body}
-use Rattle.dap_message.specs.Types.Call.{Call}
 use Rattle.dap_message.specs.Types.Call.TheVariants as call
-use Rattle.dap_message.specs.Types.Failure.{Failure}
 use Rattle.dap_message.specs.Types.Scope.{Scope as ScopeBody}
-use Rattle.dap_message.specs.Types.Source.{Source as SourceBody}
 use Rattle.dap_message.specs.Types.StackFrame.{StackFrame as FrameBody}
 use Rattle.dap_message.specs.Types.StackTrace.{StackTrace}
 use Rattle.dap_message.specs.Types.Variable.{Variable as VariableBody}
@@ -23,7 +20,7 @@ use Rattle.dap_tables.specs.declared.target.Target.{Target}
 use Rattle.dap_session.specs.declared.options.Options.{Options}
 use Rattle.dap_session.specs.declared.untold.Untold.{Untold}
 use Rattle.dap_session.specs.declared.untold.Untold.TheVariants.{Fails, OutOfMemory}
-use Rattle.dap_session.specs.Bodies.{Telling, telling, tells_with, with_numbers, frame_with, frame_told, scope_told, variable_told, source_of_frame, window, page, object_of}
+use Rattle.dap_session.specs.Bodies.{telling, tells_with, with_numbers, frame_with, frame_told, scope_told, variable_told, source_of_frame, window, page, object_of}
 use Rattle.dap_session.specs.References.{intern_each}
 use Rattle.dap_session.specs.Session.{Session}
 use Rattle.dap_session.specs.Telling.{Says, Tells}

@@ -1,11 +1,10 @@
 -- Where memory is refused, the debuggee was not asked but by what is asked before the answer is written.
-use Rattle.std.proofs.Common.{◌≡◌, ℕ, ◌+◌, ◌≤◌, Bool, true, false, Option, Some, None, Result, Ok, Err, refl, arith}
+use Rattle.std.proofs.Common.{◌≡◌, ◌+◌, ◌≤◌, Bool, true, false, Option, Some, None, Ok, Err, refl, arith}
 use Rattle.std.specs.Prelude.{nat_le, if◌then◌else◌}
 use Rattle.std.proofs.lemmas.Bool.Decides.{nat_tests}
 use Rattle.dap_tables.specs.Outstanding.{Kept}
-use Rattle.dap_debuggee.specs.Shown.{Shown, Act, to_start, to_resume, to_pause, to_poll, to_set_breakpoints, to_end}
+use Rattle.dap_debuggee.specs.Shown.{Shown, to_start, to_resume, to_pause, to_poll, to_set_breakpoints, to_end}
 use Rattle.dap_session.specs.declared.fault.AdapterFault.TheVariants.{SeqExhausted}
-use Rattle.dap_session.specs.declared.fault.AdapterFault.{AdapterFault}
 use Rattle.dap_session.specs.Handling.{plan, some_plan, turn_of}
 use Rattle.dap_session.specs.Plan.{Plan, at_once, asking, due, affordable}
 use Rattle.dap_session.specs.Seat.{IsUnasked}

@@ -1,6 +1,6 @@
 -- Which answers a client can read: those to requests whose number and name are such as a message may have.
 -- The greatest number and the greatest length of a command are this profile's choice.
-use Rattle.std.specs.Prelude.{ℕ, ◌≤◌, List, length}
+use Rattle.std.specs.Prelude.{◌≤◌, List, length}
 use Rattle.std.specs.List.{AllByRecursion}
 use Rattle.dap_json.specs.Field.{max_seq}
 use Rattle.dap_message.specs.Refusals.{max_command}

@@ -1,6 +1,6 @@
 -- Which command is served in which phase, and what it does there: the one table of commands and phases.
 -- Which requests come when: Overview, "Initialization" to "Debug session end", and the requests of the Specification. The phases, and that another phase refuses a command, are this profile's choice.
-use Rattle.std.specs.Prelude.{ℕ, ◌==◌, List, [], ◌∷◌, ◌++◌, Bool, true, false, Option, find, option_map}
+use Rattle.std.specs.Prelude.{ℕ, ◌==◌, List, [], ◌∷◌, ◌++◌, Bool, false, Option, find, option_map}
 use Rattle.std.specs.List.{list_any, list_all, flat_map}
 use Rattle.dap_message.specs.Types.Command.{Command}
 use Rattle.dap_message.specs.Types.Command.TheVariants as command

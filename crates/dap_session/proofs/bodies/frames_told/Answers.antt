@@ -1,5 +1,4 @@
-use Rattle.std.proofs.Common.{◌∙◌, ap}
-use Rattle.std.specs.List.{zip}
+use Rattle.std.proofs.Common.{◌∙◌}
 use Rattle.std.proofs.lemmas.Result.{IfOk-weaker}
 use Rattle.dap_session.proofs.ToldLists.{frames-zipped}
 use Rattle.dap_session.proofs.bodies.frames_told.Goals as goal
