@@ -46,6 +46,10 @@ use Rattle.dap_drive.specs.Held.{IsClientAt, IsAdapterAt, HasDelivered, StopsDel
 use Rattle.dap_drive.specs.Lines.{IsBetween, WritesLines, IsUnwritten, lines_of}
 use Rattle.dap_drive.specs.Orders.{Delivers, one_up, one_down, LacksNumbers, HasTooManyReferences}
 use Rattle.dap_drive.specs.Transcript.{text_of}
+use Rattle.dap_drive.specs.declared.fault.DriveFault.{DriveFault}
+use Rattle.dap_drive.specs.declared.fault.DriveFault.TheVariants as drive_fault
+use Rattle.dap_drive.specs.declared.writing.Unwritten.{Unwritten}
+use Rattle.dap_drive.specs.declared.writing.Unwritten.TheVariants as unwritten
 use Rattle.dap_drive.proofs.Streams.{joined, first_is, not_waiting, not_closed, completed, between_again, between_still, same_bodies, none as no_frames}
 use Rattle.dap_drive.proofs.LinesWritten.{text_append, text_of_messages}
 
@@ -73,6 +77,11 @@ not_both : (body : List ℕ) (m : Message) (cause : BodyRefusal) → IsOneMessag
 not_both body m cause (inl o) h b = o.no_refusal cause b
 not_both body m cause (inr o) h b = o.no_message m h
 
+-- the lines of what is framed are written, but where memory is refused
+pub memory_alone : (f : Unwritten) (stops : DriveFault) (i : Intake) (bytes : List ℕ) → IsUnwritten f i bytes → (f ≡ unwritten.OutOfMemory → stops ≡ drive_fault.OutOfMemory) → (IsUnwritten unwritten.Frames i bytes → ⊥) → stops ≡ drive_fault.OutOfMemory
+memory_alone unwritten.Frames stops i bytes is memory framed = absurd (framed is)
+memory_alone unwritten.OutOfMemory stops i bytes is memory framed = memory refl
+
 pub header : (limits : Settings) → AreInRange limits → 0 < (bounds_of limits).header
 header limits r = omega (arith, r.header.0)
 
@@ -95,8 +104,8 @@ module _ (laws : FrameLaws) (limits : Settings) where
 
   -- bytes of messages are written
   pub not_unwritten : (ms : List Message) (bytes : List ℕ) (i : Intake) → AreInRange limits → AllReadBack limits.body ms → bytes ≡ bytes_of ms → IsBetween limits i
-      → ((limits_of : Settings) (bodies : List (List ℕ)) → AreInRange limits_of → IsBetween limits_of i → AreFrames limits_of bodies bytes → ⊥) → ⊥
-  not_unwritten ms bytes i r h e b no = no limits (map canon ms) r b (subst (λ (z : List ℕ). AreFramesOf limits ms z) (sym e) (frames_of ms r h))
+      → IsUnwritten unwritten.Frames i bytes → ⊥
+  not_unwritten ms bytes i r h e b refuses = refuses limits (map canon ms) r b (subst (λ (z : List ℕ). AreFramesOf limits ms z) (sym e) (frames_of ms r h))
 
   pub longer : (side : Side) (ms : List Message) (said : List Said) (before after : List ℕ) → before ≡ text_of said → after ≡ before ++ text_of (said_by side ms) → after ≡ text_of (said ++ said_by side ms)
   longer side ms said before after is e = e ∙ (ap (λ (z : List ℕ). z ++ text_of (said_by side ms)) is ∙ sym (text_append said (said_by side ms)))
@@ -145,7 +154,7 @@ module _ {D : Type 0} (laws : FrameLaws) (shown : D → Shown) (follows : Goes D
 
   -- ---- the client takes a message
 
-  first_down : (client : ClientEnd) (adapter : AdapterEnd D) (reader : Intake) (transcript up rest : List ℕ) (h : At client adapter reader transcript up rest) → (x : Message) (xs : List Message) → h.world.down ≡ x ∷ xs → (n : ℕ) (w : Whole client.intake rest n) → IsFirst limits x xs w.ready.held rest n
+  first_down : (client : ClientEnd) (adapter : AdapterEnd D) (reader : Intake) (transcript up rest : List ℕ) (h : At client adapter reader transcript up rest) → (x : Message) (xs : List Message) → h.world.down ≡ x ∷ xs → (n : ℕ) (w : Whole client.intake rest n) → IsFirst laws limits x xs w.ready.held rest n
   first_down client adapter reader transcript up rest h x xs first n w =
       let c = h.at.client_at in
       let read : AllReadBack limits.body (x ∷ xs) = subst (λ (z : List Message). AllReadBack limits.body z) first (arrives client adapter reader transcript up rest h).down in
@@ -224,12 +233,12 @@ module _ {D : Type 0} (laws : FrameLaws) (shown : D → Shown) (follows : Goes D
 
   -- what the client wrote is framed
   pub heard_framed : (client next : ClientEnd) (adapter : AdapterEnd D) (reader : Intake) (transcript up rest : List ℕ) → At client adapter reader transcript up rest → (got : Got) (delivered : Option Message) → ClientTakes client rest got delivered next
-      → (bytes : List ℕ) → bytes ≡ got.bytes.items → ((limits_of : Settings) (bodies : List (List ℕ)) → AreInRange limits_of → IsBetween limits_of reader → AreFrames limits_of bodies bytes → ⊥) → ⊥
-  heard_framed client next adapter reader transcript up rest h got None t bytes is no = not_unwritten laws limits [] bytes reader h.at.in_range tt (is ∙ t.none_written) h.at.reader_at no
-  heard_framed client next adapter reader transcript up rest h got (Some m) t bytes is no =
+      → (bytes : List ℕ) → bytes ≡ got.bytes.items → IsUnwritten unwritten.Frames reader bytes → ⊥
+  heard_framed client next adapter reader transcript up rest h got None t bytes is refuses = not_unwritten laws limits [] bytes reader h.at.in_range tt (is ∙ t.none_written) h.at.reader_at refuses
+  heard_framed client next adapter reader transcript up rest h got (Some m) t bytes is refuses =
       let c = h.at.client_at in
       let client_limits : client.session.limits ≡ limits = ap (λ (z : ClientSession). z.limits) c.session_is ∙ c.limits_are in
-      not_unwritten laws limits t.made.written bytes reader h.at.in_range (subst (λ (z : Settings). AllReadBack z.body t.made.written) client_limits t.reads_back) (is ∙ t.bytes_are) h.at.reader_at no
+      not_unwritten laws limits t.made.written bytes reader h.at.in_range (subst (λ (z : Settings). AllReadBack z.body t.made.written) client_limits t.reads_back) (is ∙ t.bytes_are) h.at.reader_at refuses
 
   -- ---- why the client does not
 
@@ -296,7 +305,7 @@ module _ {D : Type 0} (laws : FrameLaws) (shown : D → Shown) (follows : Goes D
 
   -- ---- the adapter takes a message
 
-  first_up : (client : ClientEnd) (adapter : AdapterEnd D) (reader : Intake) (transcript rest down : List ℕ) (h : At client adapter reader transcript rest down) → (x : Message) (xs : List Message) → h.world.up ≡ x ∷ xs → (n : ℕ) (w : Whole adapter.intake rest n) → IsFirst limits x xs w.ready.held rest n
+  first_up : (client : ClientEnd) (adapter : AdapterEnd D) (reader : Intake) (transcript rest down : List ℕ) (h : At client adapter reader transcript rest down) → (x : Message) (xs : List Message) → h.world.up ≡ x ∷ xs → (n : ℕ) (w : Whole adapter.intake rest n) → IsFirst laws limits x xs w.ready.held rest n
   first_up client adapter reader transcript rest down h x xs first n w =
       let a = h.at.adapter_at in
       let read : AllReadBack limits.body (x ∷ xs) = subst (λ (z : List Message). AllReadBack limits.body z) first (arrives client adapter reader transcript rest down h).up in
@@ -375,16 +384,16 @@ module _ {D : Type 0} (laws : FrameLaws) (shown : D → Shown) (follows : Goes D
 
   -- what a step of the adapter wrote is framed
   pub step_framed : (client : ClientEnd) (adapter next : AdapterEnd D) (reader : Intake) (transcript up down : List ℕ) (h : At client adapter reader transcript up down) (plan : Plan) (used : List ℕ) (came : List Entry) (bytes : List ℕ) → Step follows plan adapter next used came bytes
-      → (given : List ℕ) → given ≡ bytes → ((limits_of : Settings) (bodies : List (List ℕ)) → AreInRange limits_of → IsBetween limits_of reader → AreFrames limits_of bodies given → ⊥) → ⊥
-  step_framed client adapter next reader transcript up down h plan used came bytes s given is no =
+      → (given : List ℕ) → given ≡ bytes → IsUnwritten unwritten.Frames reader given → ⊥
+  step_framed client adapter next reader transcript up down h plan used came bytes s given is refuses =
       let a = h.at.adapter_at in
       let p = h.world.adapter in
-      not_unwritten laws limits (numbered p.session.used s.made.drafts) given reader h.at.in_range (step_within adapter next p a plan used came bytes s) (is ∙ step_bytes adapter next p a plan used came bytes s) h.at.reader_at no
+      not_unwritten laws limits (numbered p.session.used s.made.drafts) given reader h.at.in_range (step_within adapter next p a plan used came bytes s) (is ∙ step_bytes adapter next p a plan used came bytes s) h.at.reader_at refuses
 
   pub served_framed : (client : ClientEnd) (adapter next : AdapterEnd D) (reader : Intake) (transcript rest down : List ℕ) → At client adapter reader transcript rest down → (taken : Taken) (delivered : Option Message) → AdapterTakes follows adapter rest taken delivered next
-      → (bytes : List ℕ) → bytes ≡ taken.bytes.items → ((limits_of : Settings) (bodies : List (List ℕ)) → AreInRange limits_of → IsBetween limits_of reader → AreFrames limits_of bodies bytes → ⊥) → ⊥
-  served_framed client adapter next reader transcript rest down h taken None t bytes is no = not_unwritten laws limits [] bytes reader h.at.in_range tt (is ∙ t.none_written) h.at.reader_at no
-  served_framed client adapter next reader transcript rest down h taken (Some m) t bytes is no = step_framed client adapter next reader transcript rest down h t.plan (take taken.used rest) (In m ∷ []) taken.bytes.items t.step bytes is no
+      → (bytes : List ℕ) → bytes ≡ taken.bytes.items → IsUnwritten unwritten.Frames reader bytes → ⊥
+  served_framed client adapter next reader transcript rest down h taken None t bytes is refuses = not_unwritten laws limits [] bytes reader h.at.in_range tt (is ∙ t.none_written) h.at.reader_at refuses
+  served_framed client adapter next reader transcript rest down h taken (Some m) t bytes is refuses = step_framed client adapter next reader transcript rest down h t.plan (take taken.used rest) (In m ∷ []) taken.bytes.items t.step bytes is refuses
 
   -- ---- why the adapter does not
 

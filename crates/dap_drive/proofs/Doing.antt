@@ -45,11 +45,12 @@ use Rattle.dap_drive.specs.Driven.{AdapterStops, ClientStops}
 use Rattle.dap_drive.specs.Faults.{FrameLaws, fault_of_adapter}
 use Rattle.dap_drive.specs.Frames.{AreFrames, AreFramesOf}
 use Rattle.dap_drive.specs.Held.{IsClientAt, IsAdapterAt, HasDelivered, HasSettled, IsQuiet, HasDone, HasTurned, HasPolled, Spends, left_to_do, polling, StopsDelivering, StopsOrder, StopsSend, StopsTurn, StopsPoll}
-use Rattle.dap_drive.specs.Lines.{IsBetween, WritesLines}
+use Rattle.dap_drive.specs.Lines.{IsBetween, WritesLines, IsUnwritten}
 use Rattle.dap_drive.specs.Orders.{DoesSend, RunsTo, none, begins, handled, idles, polled, in_send, in_run, in_run_turn, in_run_poll, LacksNumbers}
 use Rattle.dap_drive.specs.declared.fault.DriveFault.{DriveFault}
 use Rattle.dap_drive.specs.declared.fault.DriveFault.TheVariants as fault
 use Rattle.dap_drive.specs.declared.script.Order.TheVariants.{Send as ToSend, Turn as ToTurn, Poll as ToPoll, Run as ToRun}
+use Rattle.dap_drive.specs.declared.writing.Unwritten.TheVariants as unwritten
 use Rattle.dap_drive.proofs.Delivering.{longer, written, not_unwritten, more_frames, adapter_steps, step_writes, step_back, step_within, step_bytes, still_between}
 use Rattle.dap_drive.proofs.Streams.{none as no_frames, none_left, between_still}
 
@@ -178,8 +179,8 @@ module _ {D : Type 0} (laws : FrameLaws) (shown : D → Shown) (follows : Goes D
   -- ---- the client sends
 
   client_sent : (e next : ClientEnd) (s : ClientSession) (call : Call) → IsClientAt limits e s → next ≡ record e { session = after_send call e.session } → GoesOn e next [] (Out (next_message e.session call) [] ∷ []) → IsClientAt limits next (after_send call s)
-  client_sent e next s call c is goes =
-      let stands = goes c.came c.history c.stands in
+  client_sent e next s call c is on =
+      let stands = on c.came c.history c.stands in
       let same : next.intake ≡ e.intake = ap (λ (z : ClientEnd). z.intake) is in
       let bounds : e.intake.bounds ≡ bounds_of limits = c.stands.bounds ∙ (ap (λ (x : ClientSession). bounds_of x.limits) c.session_is ∙ ap bounds_of c.limits_are) in
       record {
@@ -213,9 +214,9 @@ module _ {D : Type 0} (laws : FrameLaws) (shown : D → Shown) (follows : Goes D
   sent_are client adapter reader transcript start call bytes q is = is ∙ (ap (λ (z : ClientSession). sent_bytes z call) q.at.client_at.session_is ∙ sym (append-nil (sent_bytes start.client call)))
 
   pub sent_framed : (client : ClientEnd) (adapter : AdapterEnd D) (reader : Intake) (transcript bytes : List ℕ) (start : World D) (call : Call) (q : Quiet client adapter reader transcript start) → ReadsBack client.session.limits.body (next_message client.session call) → bytes ≡ sent_bytes client.session call
-      → ((limits_of : Settings) (bodies : List (List ℕ)) → AreInRange limits_of → IsBetween limits_of reader → AreFrames limits_of bodies bytes → ⊥) → ⊥
-  sent_framed client adapter reader transcript bytes start call q back is no =
-      not_unwritten laws limits (next_message start.client call ∷ []) bytes reader q.at.in_range (sent_back client adapter reader transcript start call q back) (sent_are client adapter reader transcript start call bytes q is) q.at.reader_at no
+      → IsUnwritten unwritten.Frames reader bytes → ⊥
+  sent_framed client adapter reader transcript bytes start call q back is refuses =
+      not_unwritten laws limits (next_message start.client call ∷ []) bytes reader q.at.in_range (sent_back client adapter reader transcript start call q back) (sent_are client adapter reader transcript start call bytes q is) q.at.reader_at refuses
 
   pub call_sent : (client next : ClientEnd) (adapter : AdapterEnd D) (reader later : Intake) (transcript longer_transcript bytes : List ℕ) (start : World D) (call : Call) (q : Quiet client adapter reader transcript start)
       → IsTrue (is_plain_call call) → refusal_of call client ≡ None → ReadsBack client.session.limits.body (next_message client.session call) → bytes ≡ sent_bytes client.session call
@@ -276,10 +277,10 @@ module _ {D : Type 0} (laws : FrameLaws) (shown : D → Shown) (follows : Goes D
   spoke new made start = adapter_said (seat_after new made.after) (out_of start made) start
 
   pub step_framed : (client : ClientEnd) (old new : AdapterEnd D) (reader : Intake) (transcript bytes given : List ℕ) (start : World D) (q : Quiet client old reader transcript start) (plan : Plan) (s : Step follows plan old new [] [] bytes) → given ≡ bytes
-      → ((limits_of : Settings) (bodies : List (List ℕ)) → AreInRange limits_of → IsBetween limits_of reader → AreFrames limits_of bodies given → ⊥) → ⊥
-  step_framed client old new reader transcript bytes given start q plan s is no =
+      → IsUnwritten unwritten.Frames reader given → ⊥
+  step_framed client old new reader transcript bytes given start q plan s is refuses =
       let a = q.at.adapter_at in
-      not_unwritten laws limits (out_of start s.made) given reader q.at.in_range (step_within laws shown follows agrees limits debuggee start old new start.adapter a plan [] [] bytes s) (is ∙ step_bytes laws shown follows agrees limits debuggee start old new start.adapter a plan [] [] bytes s) q.at.reader_at no
+      not_unwritten laws limits (out_of start s.made) given reader q.at.in_range (step_within laws shown follows agrees limits debuggee start old new start.adapter a plan [] [] bytes s) (is ∙ step_bytes laws shown follows agrees limits debuggee start old new start.adapter a plan [] [] bytes s) q.at.reader_at refuses
 
   turns_so : (client : ClientEnd) (old new : AdapterEnd D) (reader : Intake) (transcript bytes : List ℕ) (start : World D) (q : Quiet client old reader transcript start) (t : Handled shown follows old bytes new) → Turns shown follows start (spoke new t.step.made start)
   turns_so client old new reader transcript bytes start q t =
@@ -357,6 +358,7 @@ module _ {D : Type 0} (laws : FrameLaws) (shown : D → Shown) (follows : Goes D
   pub poll_done : (client last_client : ClientEnd) (old new last_adapter : AdapterEnd D) (reader final_reader : Intake) (transcript bytes final : List ℕ) (start : World D) (q : Quiet client old reader transcript start) (t : Saw follows old bytes new)
       → (last : Bool) → last ≡ (length bytes == 0) || is_phase Stopped new.session.phase
       → HasSettled shown follows limits debuggee (spoke new t.step.made start) last_client last_adapter final_reader final → Done (HasPolled follows last) start last_client last_adapter final_reader final
+  unfolding polls_so
   poll_done client last_client old new last_adapter reader final_reader transcript bytes final start q t last is h =
       let a = q.at.adapter_at in
       let bytes_is : bytes ≡ bytes_of (out_of start t.step.made) = step_bytes laws shown follows agrees limits debuggee start old new start.adapter a (polls old.session) [] [] bytes t.step in

@@ -1,5 +1,5 @@
 -- The lines of a transcript, written message by message.
-use Rattle.std.proofs.Common.{◌≡◌, ℕ, ◌+◌, List, [], ◌∷◌, ◌++◌, map, take, drop, refl, sym, ap, ◌∙◌, subst, append_assoc, append-nil}
+use Rattle.std.proofs.Common.{◌≡◌, ℕ, ◌+◌, ◌<◌, List, [], ◌∷◌, ◌++◌, length, map, take, drop, refl, sym, ap, ◌∙◌, subst, append_assoc, append-nil}
 use Rattle.std.proofs.Math.Seq.{take-add}
 use Rattle.dap_frame.specs.Intake.{Intake, IsUnderWay}
 use Rattle.dap_frame.specs.Laws.{EachStreamHasOneSplit}
@@ -9,9 +9,11 @@ use Rattle.dap_check.specs.declared.line.Side.{Side}
 use Rattle.dap_message.specs.Canon.{canon}
 use Rattle.dap_message.specs.declared.message.Message.{Message}
 use Rattle.dap_world.specs.World.{Said, said_by}
-use Rattle.dap_drive.specs.Lines.{IsBetween, WritesLine, WritesLines, lines_of}
+use Rattle.dap_drive.specs.Lines.{IsBetween, WritesLine, WritesLines, IsUnwritten, lines_of}
 use Rattle.dap_drive.specs.Transcript.{mark_of, line_of, text_of}
-use Rattle.dap_drive.proofs.Streams.{joined, behind}
+use Rattle.dap_drive.specs.declared.writing.Unwritten.{Unwritten}
+use Rattle.dap_drive.specs.declared.writing.Unwritten.TheVariants as unwritten
+use Rattle.dap_drive.proofs.Streams.{joined, behind, rest_framed}
 
 -- lines one after the other
 pub lines_append : (side : Side) (xs ys : List (List ℕ)) → lines_of side (xs ++ ys) ≡ lines_of side xs ++ lines_of side ys
@@ -47,6 +49,15 @@ line_written laws limits i j side bytes rest before now after at n is w l gather
           ∙ ap (λ (z : List ℕ). before ++ z) (sym (lines_append side w.bodies (l.body ∷ [])))));
       between = record { bounds = l.bounds ∙ w.between.bounds; under_way = gathering; came = w.between.came ++ take n rest; bodies = w.between.bodies ++ l.body ∷ []; stands = came };
     }
+
+-- the lines of what is left of frames are written, but where memory is refused
+pub rest_unwritten : (laws : EachStreamHasOneSplit) (f : Unwritten) (i j : Intake) (side : Side) (all rest before now : List ℕ) (at : ℕ) → rest ≡ drop at all → 0 < length rest
+    → ((limits : Settings) → IsBetween limits i → WritesLines limits j side (take at all) before now) → (0 < length rest → IsUnwritten f j rest) → IsUnwritten f i all
+rest_unwritten laws unwritten.Frames i j side all rest before now at is some lines h = λ limits bodies r b w.
+    let first = lines limits b in
+    let more = rest_framed laws (bounds_of limits) bodies first.bodies at all w first.frames in
+    h some limits more.0 r first.between (subst (λ (z : List ℕ). FramesThen (bounds_of limits) more.0 [] z) (sym is) more.1)
+rest_unwritten laws unwritten.OutOfMemory i j side all rest before now at is some lines h = tt
 
 -- a mark, a body and a line feed are a line
 pub one_line : (side : Side) (mark body before marked written ended : List ℕ) → mark ≡ mark_of side → marked ≡ before ++ mark → written ≡ marked ++ body → ended ≡ written ++ 10 ∷ [] → ended ≡ before ++ lines_of side (body ∷ [])

@@ -8,7 +8,8 @@ use Rattle.dap_message.specs.Call.{stack_trace_of, thread_of}
 use Rattle.dap_message.specs.Types.Call.TheVariants as call
 use Rattle.dap_check.specs.declared.line.Side.TheVariants.{Client, Adapter}
 use Rattle.dap_drive.specs.Script.{order_of, text_before, text_after}
-use Rattle.dap_drive.specs.Transcript.{said_by, text_of}
+use Rattle.dap_drive.specs.Lines.{lines_of}
+use Rattle.dap_drive.specs.Transcript.{text_of}
 use Rattle.dap_drive.specs.declared.script.LineFault.TheVariants.{Script, Call}
 use Rattle.dap_drive.specs.declared.script.Order.TheVariants.{Send, Turn, Poll, Run}
 
@@ -58,7 +59,7 @@ parted_once = (refl, refl, refl)
 
 -- ---- a transcript
 
-two_sides : text_of (said_by Client (codes "{}" ∷ []) ++ said_by Adapter (codes "[]" ∷ codes "1" ∷ [])) ≡ codes "> {}\n< []\n< 1\n"
+two_sides : lines_of Client (codes "{}" ∷ []) ++ lines_of Adapter (codes "[]" ∷ codes "1" ∷ []) ≡ codes "> {}\n< []\n< 1\n"
 two_sides = refl
 
 nothing_said : text_of [] ≡ []

@@ -60,6 +60,14 @@ module _ (laws : EachStreamHasOneSplit) (b : Bounds) where
       let later : r.0 ≡ xs = cc lists in
       (first, subst (λ (z : List (List ℕ)). FramesThen b z [] (drop n piece)) later (subst (λ (z : List ℕ). FramesThen b r.0 z (drop n piece)) (sym same.1) r.2.frames))
 
+  -- what is behind some whole frames are whole frames too
+  pub rest_framed : (xs ys : List (List ℕ)) (at : ℕ) (all : List ℕ) → FramesThen b xs [] all → FramesThen b ys [] (take at all) → (zs : List (List ℕ)) × FramesThen b zs [] (drop at all)
+  rest_framed xs ys at all f g =
+      let r = laws.some b (drop at all) in
+      let split : Split b all (ys ++ r.0) r.1 = record { frames = subst (λ (z : List ℕ). FramesThen b (ys ++ r.0) r.1 z) (take-append-drop at all) (joined b ys r.0 r.1 (take at all) (drop at all) g r.2.frames); ends = r.2.ends } in
+      let same = laws.one b all xs (ys ++ r.0) [] r.1 (whole xs all f) split in
+      (r.0, subst (λ (z : List ℕ). FramesThen b r.0 z (drop at all)) (sym same.1) r.2.frames)
+
   -- ---- a reader to which whole frames came
 
   at : (i : Intake) (s : List ℕ) (xs : List (List ℕ)) (rest : List ℕ) → i.bounds ≡ b → StandsFor i s xs rest → Split b s xs rest
@@ -72,6 +80,10 @@ module _ (laws : EachStreamHasOneSplit) (b : Bounds) where
       let all : Split b (s ++ piece) (xs ++ y ∷ ys) [] = whole (xs ++ y ∷ ys) (s ++ piece) (joined b xs (y ∷ ys) [] s piece (at i s xs [] e st).frames f) in
       let same = laws.one b (s ++ piece) xs (xs ++ y ∷ ys) piece [] waits all in
       omega (arith, ap length same.0, length-append xs (y ∷ ys))
+
+  pub not_left_waiting : (i j : Intake) (s : List ℕ) (xs : List (List ℕ)) (piece : List ℕ) (n : ℕ) (ys : List (List ℕ)) → 0 < length piece → i.bounds ≡ b → StandsFor i s xs [] → Gathers i j piece n → FramesThen b ys [] piece → ⊥
+  not_left_waiting i j s xs piece n [] some e st g f = omega (arith, ap length f)
+  not_left_waiting i j s xs piece n (y ∷ ys) some e st g f = not_waiting i j s xs piece n y ys e st g f
 
   -- the one that became whole is the frame of the bytes that were used
   pub completed : (i j : Intake) (s : List ℕ) (xs : List (List ℕ)) (piece : List ℕ) (n : ℕ) → i.bounds ≡ b → StandsFor i s xs [] → Completes i j piece n → FramesThen b (j.held ∷ []) [] (take n piece)

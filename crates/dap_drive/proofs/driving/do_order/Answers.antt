@@ -19,3 +19,12 @@ returns-in-Ok-poll-clause-done g c = λ limits debuggee start q. poll_line g.D.D
 
 pub returns-in-Ok-run-clause-done : goal.returns-in-Ok-run-clause-done
 returns-in-Ok-run-clause-done g c = λ limits debuggee start q. line_done g.D.Debuggee.shown g.D.Debuggee.follows limits debuggee c.args.text.now Run start c.run.new.self.client c.run.new.self.adapter c.run.new.self.reader c.run.new.self.transcript.items (rw c.in-Ok-Run.field-0-is at c.in-Ok-Run.ensures.gives) (c.in-Ok-run.ensures.ran limits debuggee start q)
+
+pub returns-in-Ok-Turn-clause-stops : goal.returns-in-Ok-Turn-clause-stops
+returns-in-Ok-Turn-clause-stops g c = λ limits debuggee start q. turn_line_stops g.D.Debuggee.shown g.D.Debuggee.follows limits debuggee c.in-Err-turn.fault c.args.number c.args.text.now start (rw c.in-Ok-Turn.field-0-is at c.in-Ok-Turn.ensures.gives) (c.in-Err-turn.ensures.stops limits debuggee start q)
+
+pub returns-in-Ok-Poll-clause-stops : goal.returns-in-Ok-Poll-clause-stops
+returns-in-Ok-Poll-clause-stops g c = λ limits debuggee start q. poll_line_stops g.D.Debuggee.shown g.D.Debuggee.follows limits debuggee c.in-Err-poll.fault c.args.number c.args.text.now start (rw c.in-Ok-Poll.field-0-is at c.in-Ok-Poll.ensures.gives) (c.in-Err-poll.ensures.stops limits debuggee start q)
+
+pub returns-in-Ok-Run-clause-stops : goal.returns-in-Ok-Run-clause-stops
+returns-in-Ok-Run-clause-stops g c = λ limits debuggee start q. order_line_stops g.D.Debuggee.shown g.D.Debuggee.follows limits debuggee Run c.in-Err-run.fault c.args.number c.args.text.now start (rw c.in-Ok-Run.field-0-is at c.in-Ok-Run.ensures.gives) (c.in-Err-run.ensures.stops limits debuggee start q)

@@ -1,6 +1,8 @@
-use Rattle.std.proofs.Common.{◌∙◌}
-use Rattle.std.proofs.lemmas.Bool.{not-false}
+use Rattle.std.proofs.Common.{◌∙◌, arith}
+use Rattle.std.proofs.lemmas.Bool.{not-false, not-true}
+use Rattle.dap_frame.specs.Settings.{bounds_of}
 use Rattle.dap_drive.proofs.LinesWritten.{one_line}
+use Rattle.dap_drive.proofs.Streams.{not_closed, not_left_waiting}
 use Rattle.dap_drive.proofs.writing.write_line.Goals as goal
 
 pub returns-clause-line : goal.returns-clause-line
@@ -14,7 +16,9 @@ returns-clause-line c =
     }
 
 pub returns-in-Err-clause-unwritten : goal.returns-in-Err-clause-unwritten
-returns-in-Err-clause-unwritten c = λ some limits bodies r b f. ?
+returns-in-Err-clause-unwritten c = λ some limits bodies r b f.
+    not_closed c.each_stream_has_one_split.ensures (bounds_of limits) c.moves_are_in_order.ensures.bodies c.args.reader.now c.feed.new.self b.came b.bodies c.args.bytes.now c.in-Err._fault bodies (omega (arith, r.header.0)) b.bounds b.stands (c.in-Err.ensures.closes c.requires.under_way) f
 
 pub returns-then-not-fed-clause-unwritten : goal.returns-then-not-fed-clause-unwritten
-returns-then-not-fed-clause-unwritten c = λ some limits bodies r b f. ?
+returns-then-not-fed-clause-unwritten c = λ some limits bodies r b f.
+    not_left_waiting c.each_stream_has_one_split.ensures (bounds_of limits) c.args.reader.now c.feed.new.self b.came b.bodies c.args.bytes.now c.in-Ok.fed.used bodies some b.bounds b.stands (c.in-Ok.ensures.gathers (not-true _ c.if-not-fed.true) c.requires.under_way) f

@@ -1,5 +1,6 @@
-use Rattle.std.proofs.Common.{List, ℕ, ◌<◌, length, ◌∙◌, subst, arith}
+use Rattle.std.proofs.Common.{List, ℕ, ◌<◌, length, sym, ◌∙◌, subst, arith}
 use Rattle.std.proofs.Math.ListN.{drop_of_length-le}
+use Rattle.std.proofs.lemmas.Result.{err_from_is_err_and}
 use Rattle.dap_drive.specs.Held.{HasDelivered}
 use Rattle.dap_drive.proofs.Doing.{part_by_part}
 use Rattle.dap_drive.proofs.Spending.{spends_then}
@@ -25,4 +26,8 @@ returns-clause-delivered g c = λ limits debuggee start h.
     (drop_of_length-le c.args.down.now (omega arith)) (c.loop-at.invariant.delivered limits debuggee start h)
 
 pub returns-in_err-at-clause-stops : goal.returns-in_err-at-clause-stops
-returns-in_err-at-clause-stops g c = λ limits debuggee start h. ?
+returns-in_err-at-clause-stops g c =
+    let p = err_from_is_err_and c.from_residual.result c.from_residual.ensures.1 in
+    let some : 0 < length c.split_at.result.1.now = omega (arith, c.split_at.ensures.back_len) in
+    rw (p.1, p.2) (λ limits debuggee start h. c.in_err-at.ensures.stops limits debuggee start
+        (subst (λ (z : List ℕ). HasDelivered g.D.Debuggee.shown g.D.Debuggee.follows limits debuggee start c.loop-at.self.client c.loop-at.self.adapter c.loop-at.self.reader c.loop-at.self.transcript.items c.loop-at.up.items z) (sym c.split_at.ensures.back) (c.loop-at.invariant.delivered limits debuggee start h)) some)

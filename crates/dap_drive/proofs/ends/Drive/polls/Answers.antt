@@ -1,5 +1,6 @@
 use Rattle.std.proofs.Common.{arith}
-use Rattle.dap_drive.proofs.Doing.{run_polls, run_ends, run_enough}
+use Rattle.std.proofs.lemmas.Result.{err_from_is_err_and}
+use Rattle.dap_drive.proofs.Doing.{run_polls, run_ends, run_enough, run_poll_stops}
 use Rattle.dap_drive.proofs.ends.Drive.polls.Goals as goal
 
 pub returns-then-last-clause-ran : goal.returns-then-last-clause-ran
@@ -19,4 +20,8 @@ pub returns-clause-ran : goal.returns-clause-ran
 returns-clause-ran g c = λ limits debuggee start q. run_enough c.frames_keep_their_laws.ensures g.D.Debuggee.shown g.D.Debuggee.follows c.each_schedule_agrees.ensures.agrees limits debuggee c.loop-poll.self.client c.loop-poll.self.adapter c.loop-poll.self.reader c.loop-poll.self.transcript.items start c.loop-poll._poll (omega arith) (omega arith) (c.loop-poll.invariant.ran limits debuggee start q)
 
 pub returns-in_err-last-clause-stops : goal.returns-in_err-last-clause-stops
-returns-in_err-last-clause-stops g c = λ limits debuggee start q. ?
+returns-in_err-last-clause-stops g c =
+    let p = err_from_is_err_and c.from_residual.result c.from_residual.ensures.1 in
+    rw (p.1, p.2) (λ limits debuggee start q.
+        let h = c.loop-poll.invariant.ran limits debuggee start q in
+        run_poll_stops c.frames_keep_their_laws.ensures g.D.Debuggee.shown g.D.Debuggee.follows c.each_schedule_agrees.ensures.agrees limits debuggee start h.world c.loop-poll._poll c.in_err-last.field-0.0 h.done (omega arith) (c.in_err-last.ensures.stops limits debuggee h.world h.quiet))

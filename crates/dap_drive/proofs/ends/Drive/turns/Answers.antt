@@ -1,4 +1,5 @@
-use Rattle.dap_drive.proofs.Doing.{run_begins, run_handles, run_idles}
+use Rattle.std.proofs.lemmas.Result.{err_from_is_err_and}
+use Rattle.dap_drive.proofs.Doing.{run_begins, run_handles, run_idles, run_turn_stops}
 use Rattle.dap_drive.proofs.ends.Drive.turns.Goals as goal
 
 pub turns-init : goal.turns-init
@@ -21,4 +22,8 @@ returns-then-not-more-clause-ran g c = λ limits debuggee start q.
     run_idles c.frames_keep_their_laws.ensures g.D.Debuggee.shown g.D.Debuggee.follows c.each_schedule_agrees.ensures.agrees limits debuggee c.turn.new.self.client c.turn.new.self.adapter c.turn.new.self.reader c.turn.new.self.transcript.items start h.world c.in_ok-more.more h.done c.if-not-more.true (c.in_ok-more.ensures.turned limits debuggee h.world h.quiet)
 
 pub returns-in_err-more-clause-stops : goal.returns-in_err-more-clause-stops
-returns-in_err-more-clause-stops g c = λ limits debuggee start q. ?
+returns-in_err-more-clause-stops g c =
+    let p = err_from_is_err_and c.from_residual.result c.from_residual.ensures.1 in
+    rw (p.1, p.2) (λ limits debuggee start q.
+        let h = c.turns.invariant.ran limits debuggee start q in
+        run_turn_stops c.frames_keep_their_laws.ensures g.D.Debuggee.shown g.D.Debuggee.follows c.each_schedule_agrees.ensures.agrees limits debuggee start h.world c.in_err-more.field-0.0 h.done (c.in_err-more.ensures.stops limits debuggee h.world h.quiet))
