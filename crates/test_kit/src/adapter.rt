@@ -1,0 +1,386 @@
+//! Rows of an adapter over the shared recording.
+//!
+//! | a line | says |
+//! |---|---|
+//! | `> BODY` | this message is taken |
+//! | `turn` | the oldest request that waits is handled |
+//! | `idle` | no request waits to be handled |
+//! | `poll` | the debuggee is asked what happened |
+//! | `< BODY` | this message comes next of what the last call hands out |
+//! | `! FAULT` | the last call closes the adapter with this fault: each call answers it from then on, and nothing is held |
+//! | `phase P`, `kept N`, `references N`, `breakpoints N`, `held N` | what is seen, until the row says otherwise |
+//!
+//! At each call all that the last one handed out has to be named, and as many requests are kept as were taken and not
+//! answered.
+
+use crate::bodies::{frame_with_next, is_request};
+use crate::facts::{Counts, Facts, is_printed, tell};
+use crate::given::{Given, note, wrong};
+use crate::outcome::Outcome;
+use crate::player::{Player, Setting};
+use crate::samples::recorded;
+use dap_adapter::{Adapter, AdapterFault, Phase, Turned};
+use dap_debuggee::{Debuggee, Recorded, Stubborn};
+use std::alloc::Global;
+use std::marker::Model;
+
+/// A call of an adapter.
+#[derive(Clone, Copy)]
+enum Act<'a> {
+    /// A message with this body is taken.
+    Take(&'a str),
+    Turn,
+    Idle,
+    Poll,
+}
+
+/// An adapter that follows a row. A contract sees nothing of it.
+#[derive(Drop)]
+pub struct Playing<D: Debuggee + Drop> {
+    adapter: Adapter<D>,
+    size: usize,
+    given: Given,
+    fault: Option<AdapterFault>,
+    facts: Facts,
+    phase: Option<Phase>,
+}
+
+impl<D: Debuggee + Drop> Model for Playing<D> {
+    ghost use Rattle.std.specs.Prelude.{ℕ};
+
+    ghost Value = { ℕ };
+
+    ghost view = { λ _. 0 };
+}
+
+pub(crate) fn phase_named(name: &str) -> Option<Phase> {
+    match name {
+        "Fresh" => Some(Phase::Fresh),
+        "Ready" => Some(Phase::Ready),
+        "Configured" => Some(Phase::Configured),
+        "Parked" => Some(Phase::Parked),
+        "Running" => Some(Phase::Running),
+        "Stopped" => Some(Phase::Stopped),
+        "Exited" => Some(Phase::Exited),
+        "Ended" => Some(Phase::Ended),
+        _ => None,
+    }
+}
+
+impl<D: Debuggee + Drop> Playing<D> {
+    fn new(alloc: Global, adapter: Adapter<D>, size: usize) -> Playing<D> {
+        Playing {
+            adapter,
+            size,
+            given: Given::new(alloc),
+            fault: None,
+            facts: Facts::none(),
+            phase: None,
+        }
+    }
+
+    fn counts(&self) -> Counts {
+        Counts {
+            waiting: self.adapter.kept(),
+            references: self.adapter.references(),
+            breakpoints: self.adapter.breakpoints(),
+            held: self.adapter.held(),
+        }
+    }
+
+    fn is_in_phase(&self) -> bool {
+        match self.phase {
+            None => true,
+            Some(phase) => self.adapter.phase() == phase,
+        }
+    }
+
+    /// Whether all that the row says is seen; else what is seen is told.
+    fn shows(&self, came: &mut String) -> Outcome {
+        let counts = self.counts();
+        if self.facts.hold(&counts) && self.is_in_phase() {
+            return Outcome::Right;
+        }
+        tell(came, &self.adapter.phase());
+        tell(came, &counts);
+        Outcome::Wrong
+    }
+
+    /// Whether all that came of the last call was named, and the rest is as the row says.
+    fn settle(&self, came: &mut String) -> Outcome {
+        if let Some(fault) = self.fault {
+            tell(came, &fault);
+            return Outcome::Wrong;
+        }
+        if !self.given.is_named() {
+            self.given.tell(came);
+            return Outcome::Wrong;
+        }
+        self.shows(came)
+    }
+
+    /// Takes a piece: how many bytes are used, and whether a message is delivered; nothing where memory for the bytes that it
+    /// hands out is refused here.
+    fn take_piece(
+        &mut self,
+        alloc: Global,
+        piece: &[u8],
+    ) -> Result<Option<(usize, bool)>, AdapterFault> {
+        match self.adapter.take(alloc, piece) {
+            Ok(taken) => {
+                let (used, delivers) = (taken.used, taken.delivered.is_some());
+                let added = self.given.add(&taken.bytes);
+                // The proof of a call is shorter than that of a value that goes out of scope.
+                drop(taken);
+                match added {
+                    Ok(()) => Ok(Some((used, delivers))),
+                    Err(_) => Ok(None),
+                }
+            }
+            Err(fault) => Err(fault),
+        }
+    }
+
+    /// Takes so many of the bytes, in pieces: right where no other one is used, and the last of them delivers a message.
+    fn take_frame(
+        &mut self,
+        alloc: Global,
+        bytes: &[u8],
+        count: usize,
+    ) -> Result<Outcome, AdapterFault> {
+        let mut rest = bytes;
+        let mut at: usize = 0;
+        for _ in 0..count {
+            let (piece, _) = rest.split_at(self.size.min(rest.len()));
+            let Some((used, delivers)) = self.take_piece(alloc, piece)? else {
+                return Ok(Outcome::Refused);
+            };
+            let (_, later) = rest.split_at(used.min(rest.len()));
+            rest = later;
+            at = at.saturating_add(used);
+            if delivers || at >= count {
+                return Ok(Outcome::of(delivers && at == count));
+            }
+        }
+        Ok(Outcome::Wrong)
+    }
+
+    /// Takes a message. Where pieces have any size, a byte of the next frame comes with it.
+    fn take(&mut self, alloc: Global, body: &str) -> Result<Outcome, AdapterFault> {
+        match frame_with_next(alloc, body, self.size) {
+            Ok((frame, count)) => {
+                let taken = self.take_frame(alloc, &frame, count);
+                drop(frame);
+                if taken == Ok(Outcome::Right) && is_request(body) {
+                    self.facts.asked();
+                }
+                taken
+            }
+            Err(_) => Ok(Outcome::Refused),
+        }
+    }
+
+    fn turn(&mut self, alloc: Global) -> Result<Outcome, AdapterFault> {
+        match self.adapter.turn(alloc) {
+            Ok(Turned::Idle) => Ok(Outcome::Wrong),
+            Ok(Turned::Done { bytes }) => Ok(Outcome::of_added(self.given.add(&bytes))),
+            Err(fault) => Err(fault),
+        }
+    }
+
+    fn is_idle(&mut self, alloc: Global) -> Result<Outcome, AdapterFault> {
+        match self.adapter.turn(alloc) {
+            Ok(Turned::Idle) => Ok(Outcome::Right),
+            Ok(Turned::Done { bytes }) => {
+                let _ = self.given.add(&bytes);
+                Ok(Outcome::Wrong)
+            }
+            Err(fault) => Err(fault),
+        }
+    }
+
+    fn poll(&mut self, alloc: Global) -> Result<Outcome, AdapterFault> {
+        match self.adapter.poll(alloc) {
+            Ok(bytes) => Ok(Outcome::of_added(self.given.add(&bytes))),
+            Err(fault) => Err(fault),
+        }
+    }
+
+    fn call(&mut self, alloc: Global, act: Act<'_>) -> Result<Outcome, AdapterFault> {
+        match act {
+            Act::Take(body) => self.take(alloc, body),
+            Act::Turn => self.turn(alloc),
+            Act::Idle => self.is_idle(alloc),
+            Act::Poll => self.poll(alloc),
+        }
+    }
+
+    /// The fault of taking a byte.
+    fn fault_of_take(&mut self, alloc: Global) -> Option<AdapterFault> {
+        match self.take_piece(alloc, b"x") {
+            Ok(_) => None,
+            Err(fault) => Some(fault),
+        }
+    }
+
+    /// Whether each call answers a fault, nothing is held, and as many requests are kept as before.
+    fn is_closed(&mut self, alloc: Global, fault: AdapterFault) -> bool {
+        self.fault_of_take(alloc) == Some(fault)
+            && self.is_idle(alloc) == Err(fault)
+            && self.poll(alloc) == Err(fault)
+            && self.adapter.held() == 0
+            && self.adapter.kept() == self.facts.waiting()
+    }
+
+    /// What comes of a call. A fault is kept for the line that names it.
+    fn made(&mut self, alloc: Global, act: Act<'_>, came: &mut String) -> Outcome {
+        match self.call(alloc, act) {
+            Ok(Outcome::Wrong) => {
+                self.given.tell(came);
+                Outcome::Wrong
+            }
+            Ok(outcome) => outcome,
+            Err(AdapterFault::OutOfMemory) => {
+                note(
+                    came,
+                    "memory was refused, and the adapter is not closed as it was",
+                );
+                Outcome::of_refusal(self.is_closed(alloc, AdapterFault::OutOfMemory))
+            }
+            Err(fault) => {
+                self.fault = Some(fault);
+                Outcome::Right
+            }
+        }
+    }
+
+    /// Makes a call, once all that came before was named.
+    fn act(&mut self, alloc: Global, act: Act<'_>, came: &mut String) -> Outcome {
+        match self.settle(came) {
+            Outcome::Right => self.made(alloc, act, came),
+            outcome => outcome,
+        }
+    }
+
+    /// Whether a message comes next.
+    fn gives(&mut self, alloc: Global, text: &str, came: &mut String) -> Outcome {
+        match self.given.passes_text(alloc, text) {
+            Ok((true, answers)) => {
+                if answers {
+                    self.facts.answered();
+                }
+                Outcome::Right
+            }
+            Ok((false, _)) => {
+                self.given.tell(came);
+                Outcome::Wrong
+            }
+            Err(_) => Outcome::Refused,
+        }
+    }
+
+    /// Whether the last call met a fault of this name, which closed the adapter.
+    fn is_closed_by(&mut self, alloc: Global, name: &str, came: &mut String) -> Outcome {
+        let Some(fault) = self.fault else {
+            return wrong(came, "no fault");
+        };
+        tell(came, &fault);
+        self.fault = None;
+        match is_printed(alloc, &fault, name) {
+            Ok(is_so) => Outcome::of(is_so && self.is_closed(alloc, fault)),
+            Err(_) => Outcome::Refused,
+        }
+    }
+
+    /// Notes a fact, and compares.
+    fn says(&mut self, name: &str, value: &str, came: &mut String) -> Outcome {
+        if name == "phase" {
+            self.phase = phase_named(value);
+            if self.phase.is_none() {
+                return wrong(came, "no phase has this name");
+            }
+            return self.shows(came);
+        }
+        let is_said = match value.parse::<usize>() {
+            Ok(count) => self.facts.say(name, count),
+            Err(_) => false,
+        };
+        let outcome = self.shows(came);
+        self.facts.go_on();
+        if is_said {
+            outcome
+        } else {
+            wrong(came, "another count, or no such line")
+        }
+    }
+
+    fn follow_line(&mut self, alloc: Global, line: &str, came: &mut String) -> Outcome {
+        match line {
+            ">" => self.act(alloc, Act::Take(""), came),
+            "turn" => self.act(alloc, Act::Turn, came),
+            "idle" => self.act(alloc, Act::Idle, came),
+            "poll" => self.act(alloc, Act::Poll, came),
+            _ => match line.split_once(' ') {
+                Some((">", body)) => self.act(alloc, Act::Take(body), came),
+                Some(("<", text)) => self.gives(alloc, text, came),
+                Some(("!", name)) => self.is_closed_by(alloc, name, came),
+                Some((name, value)) => self.says(name, value, came),
+                None => wrong(came, "no such line"),
+            },
+        }
+    }
+
+    fn forget_facts(&mut self) {
+        self.facts = self.facts.forgotten();
+        self.phase = None;
+    }
+}
+
+impl Player for Playing<Recorded> {
+    fn open(alloc: Global, setting: &Setting<'_>, _came: &mut String) -> Result<Self, Outcome> {
+        match recorded(alloc) {
+            Ok(debuggee) => match Adapter::open(alloc, setting.limits, debuggee) {
+                Ok(adapter) => Ok(Playing::new(alloc, adapter, setting.size)),
+                Err(_) => Err(Outcome::Refused),
+            },
+            Err(outcome) => Err(outcome),
+        }
+    }
+
+    fn follow(&mut self, alloc: Global, line: &str, came: &mut String) -> Outcome {
+        self.follow_line(alloc, line, came)
+    }
+
+    fn finish(&mut self, _alloc: Global, came: &mut String) -> Outcome {
+        self.settle(came)
+    }
+
+    fn forget(&mut self) {
+        self.forget_facts()
+    }
+}
+
+/// Over a debuggee that refuses to start when it is asked first.
+impl Player for Playing<Stubborn> {
+    fn open(alloc: Global, setting: &Setting<'_>, _came: &mut String) -> Result<Self, Outcome> {
+        match recorded(alloc) {
+            Ok(debuggee) => match Adapter::open(alloc, setting.limits, Stubborn::new(debuggee)) {
+                Ok(adapter) => Ok(Playing::new(alloc, adapter, setting.size)),
+                Err(_) => Err(Outcome::Refused),
+            },
+            Err(outcome) => Err(outcome),
+        }
+    }
+
+    fn follow(&mut self, alloc: Global, line: &str, came: &mut String) -> Outcome {
+        self.follow_line(alloc, line, came)
+    }
+
+    fn finish(&mut self, _alloc: Global, came: &mut String) -> Outcome {
+        self.settle(came)
+    }
+
+    fn forget(&mut self) {
+        self.forget_facts()
+    }
+}
