@@ -1,9 +1,9 @@
 //! Rows that are wrong: each is told to be, in the line that differs.
 
+use crate::playing::Playing;
 use dap_debuggee::Recorded;
 use std::alloc::Global;
 use std::test::Fail;
-use test_kit::adapter::Playing;
 use test_kit::outcome::Outcome;
 use test_kit::rows::outcome_of;
 

@@ -1,10 +1,10 @@
 //! Sessions at the greatest sizes, with ample memory. Their rows are too long to be written, so they are made.
 
+use crate::playing::Playing;
 use dap_debuggee::Recorded;
 use std::alloc::{AllocError, Global};
 use std::fmt::Write;
 use std::test::Fail;
-use test_kit::adapter::Playing;
 use test_kit::rows::{add_many, play_rows};
 
 /// Plays a row that was made.

@@ -6,4 +6,6 @@ mod differences;
 #[cfg(test)]
 mod greatest;
 #[cfg(test)]
+mod playing;
+#[cfg(test)]
 mod sessions;

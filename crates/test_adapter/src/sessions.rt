@@ -1,8 +1,8 @@
-//! Sessions, call by call, with the messages that they hand out. What the lines of a row say stands in `test_kit`, `adapter.rt`.
+//! Sessions, call by call, with the messages that they hand out. What the lines of a row say stands in `playing.rt`.
 
+use crate::playing::Playing;
 use dap_debuggee::{Recorded, Stubborn};
 use std::test::Fail;
-use test_kit::adapter::Playing;
 use test_kit::rows::play_rows;
 
 pub(crate) static ROWS: [&str; 27] = [

@@ -2,4 +2,6 @@
 #![tactic(auto)]
 
 #[cfg(test)]
+mod judged;
+#[cfg(test)]
 mod transcripts;

@@ -1,9 +1,9 @@
-//! Transcripts, what is told of them, and the sentence that explains it. What the lines of a row say stands in `test_kit`,
-//! `checked.rt`.
+//! Transcripts, what is told of them, and the sentence that explains it. What the lines of a row say stands in
+//! `judged.rt`.
 
+use crate::judged::Judged;
 use dap_check::{Rule, laws};
 use std::test::Fail;
-use test_kit::checked::Judged;
 use test_kit::rows::play_rows;
 
 pub(crate) static ROWS: [&str; 27] = [

@@ -1,7 +1,7 @@
-//! A client, call by call. What the lines of a row say stands in `test_kit`, `client.rt`.
+//! A client, call by call. What the lines of a row say stands in `asking.rt`.
 
+use crate::asking::Asking;
 use std::test::Fail;
-use test_kit::client::Asking;
 use test_kit::rows::play_rows;
 
 pub(crate) static ROWS: [&str; 14] = [

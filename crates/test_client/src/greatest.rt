@@ -1,11 +1,11 @@
 //! A client at the greatest sizes, with ample memory: nothing is refused. The rows are too long to be written, so they are
 //! made.
 
+use crate::asking::Asking;
 use crate::calls::ROWS;
 use std::alloc::{AllocError, Global};
 use std::fmt::Write;
 use std::test::Fail;
-use test_kit::client::Asking;
 use test_kit::rows::{add_many, play_rows};
 
 /// Plays a row that was made, which may come after the one that initializes.

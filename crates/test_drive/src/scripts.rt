@@ -1,12 +1,12 @@
 //! Scripts, the transcripts that they give, and the faults at which they stop. What the lines of a row say stands in
-//! `test_kit`, `scripts.rt`.
+//! `driven.rt`.
 
+use crate::driven::Driven;
 use dap_drive::{DriveFault, drive};
 use dap_frame::Limits;
 use std::alloc::Global;
 use std::test::Fail;
 use test_kit::rows::play_rows;
-use test_kit::scripts::Driven;
 
 pub(crate) static ROWS: [&str; 9] = [
     r#"

@@ -4,10 +4,7 @@
 //! says one of three things: it is right, it is wrong, or memory was refused and nothing else has happened.
 #![tactic(auto)]
 
-pub mod adapter;
 pub mod bodies;
-pub mod checked;
-pub mod client;
 pub mod facts;
 pub mod given;
 pub mod json;
@@ -15,6 +12,5 @@ pub mod outcome;
 pub mod player;
 pub mod rows;
 pub mod samples;
-pub mod scripts;
 pub mod served;
 pub mod streams;

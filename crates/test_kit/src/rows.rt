@@ -29,12 +29,12 @@ struct End {
 }
 
 /// What stands behind a word with which one of the lines begins.
-pub(crate) fn heading<'a>(row: &'a str, word: &str) -> Option<&'a str> {
+fn heading<'a>(row: &'a str, word: &str) -> Option<&'a str> {
     row.split('\n').find_map(|line| line.strip_prefix(word))
 }
 
 /// Whether a line says nothing to whoever follows the row.
-pub(crate) fn is_heading(line: &str) -> bool {
+pub fn is_heading(line: &str) -> bool {
     line.is_empty()
         || line.starts_with('#')
         || line.starts_with("row ")
@@ -66,7 +66,7 @@ fn limits_of(text: &str) -> Option<Limits> {
 }
 
 /// The limits that a row names, or the usual ones.
-pub(crate) fn limits_in(row: &str) -> Option<Limits> {
+fn limits_in(row: &str) -> Option<Limits> {
     match heading(row, "limits ") {
         None => Some(Limits::usual()),
         Some(text) => limits_of(text),

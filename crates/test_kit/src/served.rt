@@ -1,11 +1,25 @@
 //! Rows of a stream that is served: `> BODY` a message of the client, `< BODY` one that has to come for it, and `phase P` how
 //! far the session is then.
 
-use crate::adapter::phase_named;
 use crate::bodies::body_of;
 use dap_adapter::Phase;
 use dap_frame::write_frame;
 use std::alloc::{AllocError, Global};
+
+/// The phase of an adapter that a row names.
+pub fn phase_named(name: &str) -> Option<Phase> {
+    match name {
+        "Fresh" => Some(Phase::Fresh),
+        "Ready" => Some(Phase::Ready),
+        "Configured" => Some(Phase::Configured),
+        "Parked" => Some(Phase::Parked),
+        "Running" => Some(Phase::Running),
+        "Stopped" => Some(Phase::Stopped),
+        "Exited" => Some(Phase::Exited),
+        "Ended" => Some(Phase::Ended),
+        _ => None,
+    }
+}
 
 /// A stream, and what it comes to.
 #[derive(Drop)]

@@ -12,17 +12,17 @@
 //! At each call all that the last one wrote has to be named, and as many requests are outstanding as were sent and not
 //! answered.
 
-use crate::bodies::{body_of, frame_with_next, is_response};
-use crate::facts::{Counts, Facts, is_printed, tell};
-use crate::given::{Given, note, wrong};
-use crate::json::{text_of, value_of};
-use crate::outcome::Outcome;
-use crate::player::{Player, Setting};
 use dap_client::{Client, ClientFault, Phase, SendFault};
 use dap_message::{Call, CallFault, Command, read_call};
 use serde_json::Value;
 use std::alloc::{AllocError, Global};
 use std::marker::Model;
+use test_kit::bodies::{body_of, frame_with_next, is_response};
+use test_kit::facts::{Counts, Facts, is_printed, tell};
+use test_kit::given::{Given, note, wrong};
+use test_kit::json::{text_of, value_of};
+use test_kit::outcome::Outcome;
+use test_kit::player::{Player, Setting};
 
 /// Why a call or a piece was refused.
 #[derive(Clone, Copy, Debug, PartialEq, Eq)]
@@ -33,7 +33,7 @@ enum Refusal {
 
 /// A client that follows a row. A contract sees nothing of it.
 #[derive(Drop)]
-pub struct Asking {
+pub(crate) struct Asking {
     client: Client,
     size: usize,
     given: Given,

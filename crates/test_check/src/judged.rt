@@ -11,20 +11,20 @@
 //! | `= line L rule N: SENTENCE` | the first line that breaks a rule, the rule, and the sentence that explains it |
 //! | `! FAULT` | the text is no transcript |
 
-use crate::bodies::body_of;
-use crate::facts::{is_printed, tell};
-use crate::given::{note, wrong};
-use crate::json::text_of;
-use crate::outcome::Outcome;
-use crate::player::{Player, Setting};
-use crate::rows::is_heading;
 use dap_check::{CheckFault, Checked, check, explain, sentence};
 use std::alloc::{AllocError, Global};
 use std::marker::Model;
+use test_kit::bodies::body_of;
+use test_kit::facts::{is_printed, tell};
+use test_kit::given::{note, wrong};
+use test_kit::json::text_of;
+use test_kit::outcome::Outcome;
+use test_kit::player::{Player, Setting};
+use test_kit::rows::is_heading;
 
 /// What is told of a transcript. A contract sees nothing of it.
 #[derive(Drop)]
-pub struct Judged {
+pub(crate) struct Judged {
     /// As a row writes it; no text at a fault.
     told: String,
     fault: Option<CheckFault>,

@@ -13,16 +13,17 @@
 //! At each call all that the last one handed out has to be named, and as many requests are kept as were taken and not
 //! answered.
 
-use crate::bodies::{frame_with_next, is_request};
-use crate::facts::{Counts, Facts, is_printed, tell};
-use crate::given::{Given, note, wrong};
-use crate::outcome::Outcome;
-use crate::player::{Player, Setting};
-use crate::samples::recorded;
 use dap_adapter::{Adapter, AdapterFault, Phase, Turned};
 use dap_debuggee::{Debuggee, Recorded, Stubborn};
 use std::alloc::Global;
 use std::marker::Model;
+use test_kit::bodies::{frame_with_next, is_request};
+use test_kit::facts::{Counts, Facts, is_printed, tell};
+use test_kit::given::{Given, note, wrong};
+use test_kit::outcome::Outcome;
+use test_kit::player::{Player, Setting};
+use test_kit::samples::recorded;
+use test_kit::served::phase_named;
 
 /// A call of an adapter.
 #[derive(Clone, Copy)]
@@ -36,7 +37,7 @@ enum Act<'a> {
 
 /// An adapter that follows a row. A contract sees nothing of it.
 #[derive(Drop)]
-pub struct Playing<D: Debuggee + Drop> {
+pub(crate) struct Playing<D: Debuggee + Drop> {
     adapter: Adapter<D>,
     size: usize,
     given: Given,
@@ -51,20 +52,6 @@ impl<D: Debuggee + Drop> Model for Playing<D> {
     ghost Value = { ℕ };
 
     ghost view = { λ _. 0 };
-}
-
-pub(crate) fn phase_named(name: &str) -> Option<Phase> {
-    match name {
-        "Fresh" => Some(Phase::Fresh),
-        "Ready" => Some(Phase::Ready),
-        "Configured" => Some(Phase::Configured),
-        "Parked" => Some(Phase::Parked),
-        "Running" => Some(Phase::Running),
-        "Stopped" => Some(Phase::Stopped),
-        "Exited" => Some(Phase::Exited),
-        "Ended" => Some(Phase::Ended),
-        _ => None,
-    }
 }
 
 impl<D: Debuggee + Drop> Playing<D> {

@@ -9,22 +9,22 @@
 //!
 //! A script ends in a line feed where pieces have a size, and does not where they have none.
 
-use crate::bodies::body_of;
-use crate::facts::{is_printed, tell};
-use crate::given::{note, wrong};
-use crate::outcome::Outcome;
-use crate::player::{Player, Setting};
-use crate::rows::is_heading;
-use crate::samples::RECORDING;
 use dap_drive::{DriveFault, drive};
 use dap_frame::Limits;
 use std::alloc::{AllocError, Global};
 use std::marker::Model;
 use std::str;
+use test_kit::bodies::body_of;
+use test_kit::facts::{is_printed, tell};
+use test_kit::given::{note, wrong};
+use test_kit::outcome::Outcome;
+use test_kit::player::{Player, Setting};
+use test_kit::rows::is_heading;
+use test_kit::samples::RECORDING;
 
 /// What a script came to. A contract sees nothing of it.
 #[derive(Drop)]
-pub struct Driven {
+pub(crate) struct Driven {
     transcript: Vec<u8>,
     /// How much of it the row has named.
     named: usize,
