@@ -22,8 +22,9 @@ use test_kit::facts::{Counts, Facts, is_printed, tell};
 use test_kit::given::{Given, note, wrong};
 use test_kit::outcome::Outcome;
 use test_kit::player::{Player, Setting};
-use test_kit::samples::recorded;
+use test_kit::samples::debuggee;
 use test_kit::served::phase_named;
+use test_kit::words::{Counted, Word, parts, word_named};
 
 /// A call of an adapter.
 #[derive(Clone, Copy)]
@@ -33,6 +34,17 @@ enum Act<'a> {
     Turn,
     Idle,
     Poll,
+}
+
+/// The call that a line makes, if it makes one.
+fn act_of(word: Word, rest: &str) -> Option<Act<'_>> {
+    match word {
+        Word::Client => Some(Act::Take(rest)),
+        Word::Turn => Some(Act::Turn),
+        Word::Idle => Some(Act::Idle),
+        Word::Poll => Some(Act::Poll),
+        _ => None,
+    }
 }
 
 /// An adapter that follows a row. A contract sees nothing of it.
@@ -85,7 +97,7 @@ impl<D: Debuggee + Drop> Playing<D> {
     /// Whether all that the row says is seen; else what is seen is told.
     fn shows(&self, came: &mut String) -> Outcome {
         let counts = self.counts();
-        if self.facts.hold(&counts) && self.is_in_phase() {
+        if self.facts.are_so(&counts) && self.is_in_phase() {
             return Outcome::Right;
         }
         tell(came, &self.adapter.phase());
@@ -159,7 +171,7 @@ impl<D: Debuggee + Drop> Playing<D> {
                 let taken = self.take_frame(alloc, &frame, count);
                 drop(frame);
                 if taken == Ok(Outcome::Right) && is_request(body) {
-                    self.facts.asked();
+                    self.facts.count_request();
                 }
                 taken
             }
@@ -202,25 +214,18 @@ impl<D: Debuggee + Drop> Playing<D> {
         }
     }
 
-    /// The fault of taking a byte.
-    fn fault_of_take(&mut self, alloc: Global) -> Option<AdapterFault> {
-        match self.take_piece(alloc, b"x") {
-            Ok(_) => None,
-            Err(fault) => Some(fault),
-        }
-    }
-
     /// Whether each call answers a fault, nothing is held, and as many requests are kept as before.
     fn is_closed(&mut self, alloc: Global, fault: AdapterFault) -> bool {
-        self.fault_of_take(alloc) == Some(fault)
-            && self.is_idle(alloc) == Err(fault)
-            && self.poll(alloc) == Err(fault)
-            && self.adapter.held() == 0
-            && self.adapter.kept() == self.facts.waiting()
+        for act in [Act::Take("x"), Act::Idle, Act::Poll] {
+            if self.call(alloc, act) != Err(fault) {
+                return false;
+            }
+        }
+        self.adapter.held() == 0 && self.adapter.kept() == self.facts.waiting()
     }
 
     /// What comes of a call. A fault is kept for the line that names it.
-    fn made(&mut self, alloc: Global, act: Act<'_>, came: &mut String) -> Outcome {
+    fn outcome_of(&mut self, alloc: Global, act: Act<'_>, came: &mut String) -> Outcome {
         match self.call(alloc, act) {
             Ok(Outcome::Wrong) => {
                 self.given.tell(came);
@@ -244,7 +249,7 @@ impl<D: Debuggee + Drop> Playing<D> {
     /// Makes a call, once all that came before was named.
     fn act(&mut self, alloc: Global, act: Act<'_>, came: &mut String) -> Outcome {
         match self.settle(came) {
-            Outcome::Right => self.made(alloc, act, came),
+            Outcome::Right => self.outcome_of(alloc, act, came),
             outcome => outcome,
         }
     }
@@ -254,7 +259,7 @@ impl<D: Debuggee + Drop> Playing<D> {
         match self.given.passes_text(alloc, text) {
             Ok((true, answers)) => {
                 if answers {
-                    self.facts.answered();
+                    self.facts.count_answer();
                 }
                 Outcome::Right
             }
@@ -279,17 +284,18 @@ impl<D: Debuggee + Drop> Playing<D> {
         }
     }
 
-    /// Notes a fact, and compares.
-    fn says(&mut self, name: &str, value: &str, came: &mut String) -> Outcome {
-        if name == "phase" {
-            self.phase = phase_named(value);
-            if self.phase.is_none() {
-                return wrong(came, "no phase has this name");
-            }
-            return self.shows(came);
+    fn is_in(&mut self, name: &str, came: &mut String) -> Outcome {
+        self.phase = phase_named(name);
+        if self.phase.is_none() {
+            return wrong(came, "no phase has this name");
         }
+        self.shows(came)
+    }
+
+    /// Notes a count, and compares.
+    fn counts_so(&mut self, counted: Counted, value: &str, came: &mut String) -> Outcome {
         let is_said = match value.parse::<usize>() {
-            Ok(count) => self.facts.say(name, count),
+            Ok(count) => self.facts.note(counted, count),
             Err(_) => false,
         };
         let outcome = self.shows(came);
@@ -297,35 +303,45 @@ impl<D: Debuggee + Drop> Playing<D> {
         if is_said {
             outcome
         } else {
-            wrong(came, "another count, or no such line")
+            wrong(came, "another count")
+        }
+    }
+
+    /// What is compared at a line at which no call is made.
+    fn compare(&mut self, alloc: Global, word: Word, rest: &str, came: &mut String) -> Outcome {
+        match word {
+            Word::Adapter => self.gives(alloc, rest, came),
+            Word::Fault => self.is_closed_by(alloc, rest, came),
+            Word::Phase => self.is_in(rest, came),
+            Word::Count(counted) => self.counts_so(counted, rest, came),
+            _ => wrong(came, "no line of an adapter"),
+        }
+    }
+
+    fn follow_word(&mut self, alloc: Global, word: Word, rest: &str, came: &mut String) -> Outcome {
+        match act_of(word, rest) {
+            Some(act) => self.act(alloc, act, came),
+            None => self.compare(alloc, word, rest, came),
         }
     }
 
     fn follow_line(&mut self, alloc: Global, line: &str, came: &mut String) -> Outcome {
-        match line {
-            ">" => self.act(alloc, Act::Take(""), came),
-            "turn" => self.act(alloc, Act::Turn, came),
-            "idle" => self.act(alloc, Act::Idle, came),
-            "poll" => self.act(alloc, Act::Poll, came),
-            _ => match line.split_once(' ') {
-                Some((">", body)) => self.act(alloc, Act::Take(body), came),
-                Some(("<", text)) => self.gives(alloc, text, came),
-                Some(("!", name)) => self.is_closed_by(alloc, name, came),
-                Some((name, value)) => self.says(name, value, came),
-                None => wrong(came, "no such line"),
-            },
+        let (name, rest) = parts(line);
+        match word_named(name) {
+            Some(word) => self.follow_word(alloc, word, rest, came),
+            None => wrong(came, "no such line"),
         }
     }
 
     fn forget_facts(&mut self) {
-        self.facts = self.facts.forgotten();
+        self.facts = self.facts.of_what_waits();
         self.phase = None;
     }
 }
 
 impl Player for Playing<Recorded> {
     fn open(alloc: Global, setting: &Setting<'_>, _came: &mut String) -> Result<Self, Outcome> {
-        match recorded(alloc) {
+        match debuggee(alloc) {
             Ok(debuggee) => match Adapter::open(alloc, setting.limits, debuggee) {
                 Ok(adapter) => Ok(Playing::new(alloc, adapter, setting.size)),
                 Err(_) => Err(Outcome::Refused),
@@ -350,7 +366,7 @@ impl Player for Playing<Recorded> {
 /// Over a debuggee that refuses to start when it is asked first.
 impl Player for Playing<Stubborn> {
     fn open(alloc: Global, setting: &Setting<'_>, _came: &mut String) -> Result<Self, Outcome> {
-        match recorded(alloc) {
+        match debuggee(alloc) {
             Ok(debuggee) => match Adapter::open(alloc, setting.limits, Stubborn::new(debuggee)) {
                 Ok(adapter) => Ok(Playing::new(alloc, adapter, setting.size)),
                 Err(_) => Err(Outcome::Refused),

@@ -127,7 +127,7 @@ fn sentence_of(alloc: Global, text: &str, found: Checked) -> Result<String, Outc
 }
 
 /// A finding, as a row writes it.
-fn finding(alloc: Global, text: &str, found: Checked) -> Result<String, Outcome> {
+fn text_of_finding(alloc: Global, text: &str, found: Checked) -> Result<String, Outcome> {
     let Checked::Finding { line, rule } = found else {
         return Err(Outcome::Wrong);
     };
@@ -145,19 +145,19 @@ fn finding(alloc: Global, text: &str, found: Checked) -> Result<String, Outcome>
 }
 
 /// What is told, as a row writes it.
-fn told(alloc: Global, text: &str, checked: Checked) -> Result<String, Outcome> {
+fn text_of_verdict(alloc: Global, text: &str, checked: Checked) -> Result<String, Outcome> {
     match checked {
         Checked::Legal => match String::from_str(alloc, "legal") {
             Ok(told) => Ok(told),
             Err(_) => Err(Outcome::Refused),
         },
-        found => finding(alloc, text, found),
+        found => text_of_finding(alloc, text, found),
     }
 }
 
 fn judge(alloc: Global, text: &str, any_seq: bool) -> Result<Judged, Outcome> {
     match check(alloc, text.as_bytes(), any_seq) {
-        Ok(checked) => match told(alloc, text, checked) {
+        Ok(checked) => match text_of_verdict(alloc, text, checked) {
             Ok(told) => Ok(Judged {
                 told,
                 fault: None,

@@ -23,6 +23,7 @@ use test_kit::given::{Given, note, wrong};
 use test_kit::json::{text_of, value_of};
 use test_kit::outcome::Outcome;
 use test_kit::player::{Player, Setting};
+use test_kit::words::{Counted, Word, parts, word_named};
 
 /// Why a call or a piece was refused.
 #[derive(Clone, Copy, Debug, PartialEq, Eq)]
@@ -51,17 +52,21 @@ impl Model for Asking {
     ghost view = { λ _. 0 };
 }
 
+static PHASES: [(&str, Phase); 8] = [
+    ("Fresh", Phase::Fresh),
+    ("Initializing", Phase::Initializing),
+    ("Configuring", Phase::Configuring),
+    ("Running", Phase::Running),
+    ("Stopped", Phase::Stopped),
+    ("Resuming", Phase::Resuming),
+    ("Exited", Phase::Exited),
+    ("Ended", Phase::Ended),
+];
+
 fn phase_named(name: &str) -> Option<Phase> {
-    match name {
-        "Fresh" => Some(Phase::Fresh),
-        "Initializing" => Some(Phase::Initializing),
-        "Configuring" => Some(Phase::Configuring),
-        "Running" => Some(Phase::Running),
-        "Stopped" => Some(Phase::Stopped),
-        "Resuming" => Some(Phase::Resuming),
-        "Exited" => Some(Phase::Exited),
-        "Ended" => Some(Phase::Ended),
-        _ => None,
+    match PHASES.iter().find(|phase| phase.0 == name) {
+        Some(phase) => Some(phase.1),
+        None => None,
     }
 }
 
@@ -125,7 +130,7 @@ impl Asking {
     /// Whether all that the row says is known; else what is known is told.
     fn shows(&self, came: &mut String) -> Outcome {
         let counts = self.counts();
-        if self.facts.hold(&counts) && self.is_in_phase() && self.is_as_ready() {
+        if self.facts.are_so(&counts) && self.is_in_phase() && self.is_as_ready() {
             return Outcome::Right;
         }
         tell(came, &self.client.phase());
@@ -156,7 +161,7 @@ impl Asking {
                 let added = self.given.add(&sent.bytes);
                 // The proof of a call is shorter than that of a value that goes out of scope.
                 drop(sent);
-                self.facts.asked();
+                self.facts.count_request();
                 Ok(Outcome::of_added(added))
             }
             Err(fault) => Err(fault),
@@ -245,7 +250,7 @@ impl Asking {
                 let taken = self.take_bytes(alloc, &frame, count, 1);
                 drop(frame);
                 if taken == Ok(Outcome::Right) && is_response(body) {
-                    self.facts.answered();
+                    self.facts.count_answer();
                 }
                 taken
             }
@@ -277,7 +282,7 @@ impl Asking {
                 let bytes = text.as_str().as_bytes();
                 let taken = self.take_bytes(alloc, bytes, bytes.len(), messages);
                 if taken == Ok(Outcome::Right) && is_response(text.as_str()) {
-                    self.facts.answered();
+                    self.facts.count_answer();
                 }
                 drop(text);
                 taken
@@ -303,7 +308,7 @@ impl Asking {
     }
 
     /// What comes of a piece or a message. A fault is kept for the line that names it.
-    fn taken(
+    fn outcome_of(
         &mut self,
         alloc: Global,
         taken: Result<Outcome, ClientFault>,
@@ -328,7 +333,7 @@ impl Asking {
 
     fn takes(&mut self, alloc: Global, text: &str, came: &mut String) -> Outcome {
         let taken = self.take(alloc, text);
-        self.taken(alloc, taken, came)
+        self.outcome_of(alloc, taken, came)
     }
 
     fn takes_text(&mut self, alloc: Global, words: &str, came: &mut String) -> Outcome {
@@ -339,7 +344,7 @@ impl Asking {
             return wrong(came, "no count of messages");
         };
         let taken = self.take_text(alloc, json, messages);
-        self.taken(alloc, taken, came)
+        self.outcome_of(alloc, taken, came)
     }
 
     /// Whether the client writes a message next.
@@ -384,9 +389,9 @@ impl Asking {
     }
 
     /// Notes a count, and compares.
-    fn counts_so(&mut self, name: &str, value: &str, came: &mut String) -> Outcome {
+    fn counts_so(&mut self, counted: Counted, value: &str, came: &mut String) -> Outcome {
         let is_said = match value.parse::<usize>() {
-            Ok(count) => self.facts.say(name, count),
+            Ok(count) => self.facts.note(counted, count),
             Err(_) => false,
         };
         let outcome = self.shows(came);
@@ -394,7 +399,7 @@ impl Asking {
         if is_said {
             outcome
         } else {
-            wrong(came, "another count, or no such line")
+            wrong(came, "another count")
         }
     }
 
@@ -412,14 +417,34 @@ impl Asking {
     }
 
     /// What is done at a line that is no comparison, once all that came before was named.
-    fn act(&mut self, alloc: Global, word: &str, rest: &str, came: &mut String) -> Outcome {
+    fn act(&mut self, alloc: Global, word: Word, rest: &str, came: &mut String) -> Outcome {
         match self.settle(came) {
             Outcome::Right => match word {
-                "send" => self.sends(alloc, rest, came),
-                "bytes" => self.takes_text(alloc, rest, came),
+                Word::Send => self.sends(alloc, rest, came),
+                Word::Bytes => self.takes_text(alloc, rest, came),
                 _ => self.takes(alloc, rest, came),
             },
             outcome => outcome,
+        }
+    }
+
+    /// What is compared at a line at which nothing is done.
+    fn compare(&mut self, alloc: Global, word: Word, rest: &str, came: &mut String) -> Outcome {
+        match word {
+            Word::Client => self.writes(alloc, rest, came),
+            Word::Fault => self.is_refused(alloc, rest, came),
+            Word::Phase => self.is_in(rest, came),
+            Word::Ready => self.is_ready(true, came),
+            Word::Not => self.is_ready(false, came),
+            Word::Count(counted) => self.counts_so(counted, rest, came),
+            _ => wrong(came, "no line of a client"),
+        }
+    }
+
+    fn follow_word(&mut self, alloc: Global, word: Word, rest: &str, came: &mut String) -> Outcome {
+        match word {
+            Word::Send | Word::Bytes | Word::Adapter => self.act(alloc, word, rest, came),
+            _ => self.compare(alloc, word, rest, came),
         }
     }
 }
@@ -441,19 +466,10 @@ impl Player for Asking {
     }
 
     fn follow(&mut self, alloc: Global, line: &str, came: &mut String) -> Outcome {
-        match line {
-            "ready" => self.is_ready(true, came),
-            "not ready" => self.is_ready(false, came),
-            _ => match line.split_once(' ') {
-                Some((">", text)) => self.writes(alloc, text, came),
-                Some(("!", name)) => self.is_refused(alloc, name, came),
-                Some(("phase", name)) => self.is_in(name, came),
-                Some(("<", text)) => self.act(alloc, "<", text, came),
-                Some(("send", words)) => self.act(alloc, "send", words, came),
-                Some(("bytes", words)) => self.act(alloc, "bytes", words, came),
-                Some((name, value)) => self.counts_so(name, value, came),
-                None => wrong(came, "no such line"),
-            },
+        let (name, rest) = parts(line);
+        match word_named(name) {
+            Some(word) => self.follow_word(alloc, word, rest, came),
+            None => wrong(came, "no such line"),
         }
     }
 
@@ -462,7 +478,7 @@ impl Player for Asking {
     }
 
     fn forget(&mut self) {
-        self.facts = self.facts.forgotten();
+        self.facts = self.facts.of_what_waits();
         self.phase = None;
         self.ready = None;
     }

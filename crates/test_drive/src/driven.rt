@@ -89,7 +89,7 @@ fn run(alloc: Global, script: &[u8], limits: Limits) -> Result<Driven, Outcome> 
 }
 
 /// A script without the line feed at its end.
-fn unended(script: &[u8]) -> &[u8] {
+fn without_line_feed(script: &[u8]) -> &[u8] {
     script.strip_suffix(b"\n").unwrap_or(script)
 }
 
@@ -166,7 +166,7 @@ impl Player for Driven {
             Ok(script) => {
                 let bytes = script.as_str().as_bytes();
                 let driven = if setting.size == 0 {
-                    run(alloc, unended(bytes), setting.limits)
+                    run(alloc, without_line_feed(bytes), setting.limits)
                 } else {
                     run(alloc, bytes, setting.limits)
                 };

@@ -1,5 +1,6 @@
 //! What a row says of an end: each fact holds until the row says otherwise, but for the bytes that are held.
 
+use crate::words::Counted;
 use std::alloc::{AllocError, Global};
 use std::fmt::{Debug, Write};
 
@@ -42,7 +43,7 @@ impl Facts {
     }
 
     /// The same, but for what waits.
-    pub fn forgotten(self) -> Facts {
+    pub fn of_what_waits(self) -> Facts {
         Facts {
             waiting: self.waiting,
             ..Facts::none()
@@ -50,12 +51,12 @@ impl Facts {
     }
 
     /// A request more waits.
-    pub fn asked(&mut self) {
+    pub fn count_request(&mut self) {
         self.waiting = self.waiting.saturating_add(1);
     }
 
     /// One fewer.
-    pub fn answered(&mut self) {
+    pub fn count_answer(&mut self) {
         self.waiting = self.waiting.saturating_sub(1);
     }
 
@@ -69,31 +70,22 @@ impl Facts {
     }
 
     /// Whether all that was said is so.
-    pub fn hold(&self, counts: &Counts) -> bool {
+    pub fn are_so(&self, counts: &Counts) -> bool {
         self.waiting == counts.waiting
             && holds(self.references, counts.references)
             && holds(self.breakpoints, counts.breakpoints)
             && holds(self.held, counts.held)
     }
 
-    /// Notes a fact; false where no fact has this name, or another number of requests waits.
-    pub fn say(&mut self, name: &str, count: usize) -> bool {
-        match name {
-            "kept" | "outstanding" => self.waiting == count,
-            "references" => {
-                self.references = Some(count);
-                true
-            }
-            "breakpoints" => {
-                self.breakpoints = Some(count);
-                true
-            }
-            "held" => {
-                self.held = Some(count);
-                true
-            }
-            _ => false,
+    /// Notes a count; false where another number of requests waits.
+    pub fn note(&mut self, counted: Counted, count: usize) -> bool {
+        match counted {
+            Counted::Waiting => return self.waiting == count,
+            Counted::References => self.references = Some(count),
+            Counted::Breakpoints => self.breakpoints = Some(count),
+            Counted::Held => self.held = Some(count),
         }
+        true
     }
 }
 

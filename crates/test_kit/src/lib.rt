@@ -14,3 +14,4 @@ pub mod rows;
 pub mod samples;
 pub mod served;
 pub mod streams;
+pub mod words;

@@ -28,11 +28,11 @@ pub static NOT_INITIALIZED: &[u8; 178] =
     br#"{"body":{"error":{"format":"The session is not initialized.","id":1001}},"command":"threads","message":"notInitialized","request_seq":1,"seq":1,"success":false,"type":"response"}"#;
 
 /// The debuggee of `RECORDING`, or what there is in its place.
-pub fn recorded(alloc: Global) -> Result<Recorded, Outcome>
-    ensures { IfOk result (λ recorded. recorded.state ≡ State.NotStarted) }
+pub fn debuggee(alloc: Global) -> Result<Recorded, Outcome>
+    ensures { IfOk result (λ debuggee. debuggee.state ≡ State.NotStarted) }
 {
     match Recorded::read(alloc, RECORDING) {
-        Ok(recorded) => Ok(recorded),
+        Ok(debuggee) => Ok(debuggee),
         Err(RecordingFault::OutOfMemory) => Err(Outcome::Refused),
         Err(_) => Err(Outcome::Wrong),
     }

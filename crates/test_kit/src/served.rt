@@ -2,22 +2,27 @@
 //! far the session is then.
 
 use crate::bodies::body_of;
+use crate::words::{Word, parts, word_named};
 use dap_adapter::Phase;
 use dap_frame::write_frame;
 use std::alloc::{AllocError, Global};
 
+static PHASES: [(&str, Phase); 8] = [
+    ("Fresh", Phase::Fresh),
+    ("Ready", Phase::Ready),
+    ("Configured", Phase::Configured),
+    ("Parked", Phase::Parked),
+    ("Running", Phase::Running),
+    ("Stopped", Phase::Stopped),
+    ("Exited", Phase::Exited),
+    ("Ended", Phase::Ended),
+];
+
 /// The phase of an adapter that a row names.
 pub fn phase_named(name: &str) -> Option<Phase> {
-    match name {
-        "Fresh" => Some(Phase::Fresh),
-        "Ready" => Some(Phase::Ready),
-        "Configured" => Some(Phase::Configured),
-        "Parked" => Some(Phase::Parked),
-        "Running" => Some(Phase::Running),
-        "Stopped" => Some(Phase::Stopped),
-        "Exited" => Some(Phase::Exited),
-        "Ended" => Some(Phase::Ended),
-        _ => None,
+    match PHASES.iter().find(|phase| phase.0 == name) {
+        Some(phase) => Some(phase.1),
+        None => None,
     }
 }
 
@@ -46,14 +51,19 @@ fn add_frame(alloc: Global, frames: &mut Vec<u8>, text: &str) -> Result<(), Allo
 impl Stream {
     /// Appends what a line says; a line that says nothing of a stream is passed over.
     fn add_line(&mut self, alloc: Global, line: &str) -> Result<(), AllocError> {
-        match line.split_once(' ') {
-            Some((">", text)) => add_frame(alloc, &mut self.input, text),
-            Some(("<", text)) => add_frame(alloc, &mut self.answers, text),
-            Some(("phase", name)) => match phase_named(name) {
-                Some(phase) => self.add_end(phase),
-                None => Ok(()),
-            },
+        let (name, text) = parts(line);
+        match word_named(name) {
+            Some(Word::Client) => add_frame(alloc, &mut self.input, text),
+            Some(Word::Adapter) => add_frame(alloc, &mut self.answers, text),
+            Some(Word::Phase) => self.add_phase(text),
             _ => Ok(()),
+        }
+    }
+
+    fn add_phase(&mut self, name: &str) -> Result<(), AllocError> {
+        match phase_named(name) {
+            Some(phase) => self.add_end(phase),
+            None => Ok(()),
         }
     }
 
