@@ -474,10 +474,20 @@ kept 1
 "#,
 ];
 
+/// The rows. A proof looks at their texts here alone.
+fn rows() -> &'static [&'static str] {
+    &ROWS
+}
+
+/// The row in a place.
+fn row_at(place: usize) -> &'static str {
+    rows().get(place).copied().unwrap_or("")
+}
+
 #[test]
 fn sessions(rt: HostRuntime) -> Result<(), Fail> {
-    play_rows::<Playing<Recorded>>(&rt, &ROWS, usize::MAX)?;
-    play_rows::<Playing<Recorded>>(&rt, &ROWS, 7)
+    play_rows::<Playing<Recorded>>(&rt, rows(), usize::MAX)?;
+    play_rows::<Playing<Recorded>>(&rt, rows(), 7)
 }
 
 pub(crate) static STUBBORN: [&str; 1] = [
@@ -511,7 +521,7 @@ fn a_stubborn_debuggee(rt: HostRuntime) -> Result<(), Fail> {
 #[test]
 fn pieces_do_not_matter(rt: HostRuntime) -> Result<(), Fail> {
     for size in 1..69 {
-        play_rows::<Playing<Recorded>>(&rt, &[ROWS[3]], size)?;
+        play_rows::<Playing<Recorded>>(&rt, &[row_at(3)], size)?;
     }
     Ok(())
 }

@@ -195,16 +195,26 @@ outstanding 0
 "#,
 ];
 
+/// The rows. A proof looks at their texts here alone.
+fn rows() -> &'static [&'static str] {
+    &ROWS
+}
+
+/// The row in a place.
+pub(crate) fn row_at(place: usize) -> &'static str {
+    rows().get(place).copied().unwrap_or("")
+}
+
 #[test]
 fn calls(rt: HostRuntime) -> Result<(), Fail> {
-    play_rows::<Asking>(&rt, &ROWS, usize::MAX)?;
-    play_rows::<Asking>(&rt, &ROWS, 7)
+    play_rows::<Asking>(&rt, rows(), usize::MAX)?;
+    play_rows::<Asking>(&rt, rows(), 7)
 }
 
 /// In pieces of each size.
 #[test]
 fn pieces_do_not_matter(rt: HostRuntime) -> Result<(), Fail> {
-    let rows: [&str; 2] = [ROWS[0], ROWS[12]];
+    let rows: [&str; 2] = [row_at(0), row_at(12)];
     for size in 1..172 {
         play_rows::<Asking>(&rt, &rows, size)?;
     }

@@ -2,18 +2,23 @@
 //! made.
 
 use crate::asking::Asking;
-use crate::calls::ROWS;
+use crate::calls::row_at;
 use std::alloc::{AllocError, Global};
 use std::fmt::Write;
 use std::test::Fail;
 use test_kit::rows::{add_many, play_rows};
 
-/// Plays a row that was made, which may come after the one that initializes.
+/// Plays a row after the one that initializes, which it may come after.
+fn play_both<'a>(rt: &HostRuntime, first: &'a str, row: &'a str) -> Result<(), Fail> {
+    let rows: [&'a str; 2] = [first, row];
+    play_rows::<Asking>(rt, &rows, usize::MAX)
+}
+
+/// Plays a row that was made.
 fn play(rt: &HostRuntime, row: Result<String, AllocError>) -> Result<(), Fail> {
     match row {
         Ok(row) => {
-            let rows: [&str; 2] = [ROWS[1], row.as_str()];
-            let played = play_rows::<Asking>(rt, &rows, usize::MAX);
+            let played = play_both(rt, row_at(1), row.as_str());
             // The proof of a call is shorter than that of a value that goes out of scope.
             drop(row);
             played

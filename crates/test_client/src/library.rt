@@ -129,13 +129,16 @@ fn answer_to(seq: u64, delivered: Option<Message>) -> Option<Tree> {
 }
 
 fn initialize(alloc: Global) -> Option<Call> {
-    Some(Call::Initialize(Initialize {
-        adapter_id: Text::copied(alloc, "rec").ok()?,
-        lines_start_at_1: true,
-        columns_start_at_1: true,
-        supports_variable_paging: false,
-        supports_run_in_terminal_request: false,
-    }))
+    match Text::copied(alloc, "rec") {
+        Ok(adapter_id) => Some(Call::Initialize(Initialize {
+            adapter_id,
+            lines_start_at_1: true,
+            columns_start_at_1: true,
+            supports_variable_paging: false,
+            supports_run_in_terminal_request: false,
+        })),
+        Err(_) => None,
+    }
 }
 
 /// Appends a variable's line.
