@@ -1,5 +1,0 @@
-//! Worked examples of the checker, as tests alone.
-#![tactic(auto)]
-
-#[cfg(test)]
-mod transcripts;

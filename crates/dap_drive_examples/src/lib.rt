@@ -1,5 +1,0 @@
-//! Worked examples of scripts that both ends are driven by, as tests alone.
-#![tactic(auto)]
-
-#[cfg(test)]
-mod scripts;

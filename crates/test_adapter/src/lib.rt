@@ -1,0 +1,11 @@
+//! Sessions of an adapter, as tests alone.
+#![tactic(auto)]
+
+#[cfg(test)]
+mod differences;
+#[cfg(test)]
+mod greatest;
+#[cfg(test)]
+mod playing;
+#[cfg(test)]
+mod sessions;

@@ -1,0 +1,389 @@
+//! Rows of an adapter over the shared recording.
+//!
+//! | a line | says |
+//! |---|---|
+//! | `> BODY` | this message is taken |
+//! | `turn` | the oldest request that waits is handled |
+//! | `idle` | no request waits to be handled |
+//! | `poll` | the debuggee is asked what happened |
+//! | `< BODY` | this message comes next of what the last call hands out |
+//! | `! FAULT` | the last call closes the adapter with this fault: each call answers it from then on, and nothing is held |
+//! | `phase P`, `kept N`, `references N`, `breakpoints N`, `held N` | what is seen, until the row says otherwise |
+//!
+//! At each call all that the last one handed out has to be named, and as many requests are kept as were taken and not
+//! answered.
+
+use dap_adapter::{Adapter, AdapterFault, Phase, Turned};
+use dap_debuggee::{Debuggee, Recorded, Stubborn};
+use std::alloc::Global;
+use std::marker::Model;
+use test_kit::bodies::{frame_with_next, is_request};
+use test_kit::facts::{Counts, Facts, is_printed, tell};
+use test_kit::given::{Given, note, wrong};
+use test_kit::outcome::Outcome;
+use test_kit::player::{Player, Setting};
+use test_kit::samples::debuggee;
+use test_kit::served::phase_named;
+use test_kit::words::{Counted, Word, parts, word_named};
+
+/// A call of an adapter.
+#[derive(Clone, Copy)]
+enum Act<'a> {
+    /// A message with this body is taken.
+    Take(&'a str),
+    Turn,
+    Idle,
+    Poll,
+}
+
+/// The call that a line makes, if it makes one.
+fn act_of(word: Word, rest: &str) -> Option<Act<'_>> {
+    match word {
+        Word::Client => Some(Act::Take(rest)),
+        Word::Turn => Some(Act::Turn),
+        Word::Idle => Some(Act::Idle),
+        Word::Poll => Some(Act::Poll),
+        _ => None,
+    }
+}
+
+/// An adapter that follows a row. A contract sees nothing of it.
+#[derive(Drop)]
+pub(crate) struct Playing<D: Debuggee + Drop> {
+    adapter: Adapter<D>,
+    size: usize,
+    given: Given,
+    fault: Option<AdapterFault>,
+    facts: Facts,
+    phase: Option<Phase>,
+}
+
+impl<D: Debuggee + Drop> Model for Playing<D> {
+    ghost use Rattle.std.specs.Prelude.{ℕ};
+
+    ghost Value = { ℕ };
+
+    ghost view = { λ _. 0 };
+}
+
+impl<D: Debuggee + Drop> Playing<D> {
+    fn new(alloc: Global, adapter: Adapter<D>, size: usize) -> Playing<D> {
+        Playing {
+            adapter,
+            size,
+            given: Given::new(alloc),
+            fault: None,
+            facts: Facts::none(),
+            phase: None,
+        }
+    }
+
+    fn counts(&self) -> Counts {
+        Counts {
+            waiting: self.adapter.kept(),
+            references: self.adapter.references(),
+            breakpoints: self.adapter.breakpoints(),
+            held: self.adapter.held(),
+        }
+    }
+
+    fn is_in_phase(&self) -> bool {
+        match self.phase {
+            None => true,
+            Some(phase) => self.adapter.phase() == phase,
+        }
+    }
+
+    /// Whether all that the row says is seen; else what is seen is told.
+    fn shows(&self, came: &mut String) -> Outcome {
+        let counts = self.counts();
+        if self.facts.are_so(&counts) && self.is_in_phase() {
+            return Outcome::Right;
+        }
+        tell(came, &self.adapter.phase());
+        tell(came, &counts);
+        Outcome::Wrong
+    }
+
+    /// Whether all that came of the last call was named, and the rest is as the row says.
+    fn settle(&self, came: &mut String) -> Outcome {
+        if let Some(fault) = self.fault {
+            tell(came, &fault);
+            return Outcome::Wrong;
+        }
+        if !self.given.is_named() {
+            self.given.tell(came);
+            return Outcome::Wrong;
+        }
+        self.shows(came)
+    }
+
+    /// Takes a piece: how many bytes are used, and whether a message is delivered; nothing where memory for the bytes that it
+    /// hands out is refused here.
+    fn take_piece(
+        &mut self,
+        alloc: Global,
+        piece: &[u8],
+    ) -> Result<Option<(usize, bool)>, AdapterFault> {
+        match self.adapter.take(alloc, piece) {
+            Ok(taken) => {
+                let (used, delivers) = (taken.used, taken.delivered.is_some());
+                let added = self.given.add(&taken.bytes);
+                // The proof of a call is shorter than that of a value that goes out of scope.
+                drop(taken);
+                match added {
+                    Ok(()) => Ok(Some((used, delivers))),
+                    Err(_) => Ok(None),
+                }
+            }
+            Err(fault) => Err(fault),
+        }
+    }
+
+    /// Takes so many of the bytes, in pieces: right where no other one is used, and the last of them delivers a message.
+    fn take_frame(
+        &mut self,
+        alloc: Global,
+        bytes: &[u8],
+        count: usize,
+    ) -> Result<Outcome, AdapterFault> {
+        let mut rest = bytes;
+        let mut at: usize = 0;
+        for _ in 0..count {
+            let (piece, _) = rest.split_at(self.size.min(rest.len()));
+            let Some((used, delivers)) = self.take_piece(alloc, piece)? else {
+                return Ok(Outcome::Refused);
+            };
+            let (_, later) = rest.split_at(used.min(rest.len()));
+            rest = later;
+            at = at.saturating_add(used);
+            if delivers || at >= count {
+                return Ok(Outcome::of(delivers && at == count));
+            }
+        }
+        Ok(Outcome::Wrong)
+    }
+
+    /// Takes a message. Where pieces have any size, a byte of the next frame comes with it.
+    fn take(&mut self, alloc: Global, body: &str) -> Result<Outcome, AdapterFault> {
+        match frame_with_next(alloc, body, self.size) {
+            Ok((frame, count)) => {
+                let taken = self.take_frame(alloc, &frame, count);
+                drop(frame);
+                if taken == Ok(Outcome::Right) && is_request(body) {
+                    self.facts.count_request();
+                }
+                taken
+            }
+            Err(_) => Ok(Outcome::Refused),
+        }
+    }
+
+    fn turn(&mut self, alloc: Global) -> Result<Outcome, AdapterFault> {
+        match self.adapter.turn(alloc) {
+            Ok(Turned::Idle) => Ok(Outcome::Wrong),
+            Ok(Turned::Done { bytes }) => Ok(Outcome::of_added(self.given.add(&bytes))),
+            Err(fault) => Err(fault),
+        }
+    }
+
+    fn is_idle(&mut self, alloc: Global) -> Result<Outcome, AdapterFault> {
+        match self.adapter.turn(alloc) {
+            Ok(Turned::Idle) => Ok(Outcome::Right),
+            Ok(Turned::Done { bytes }) => {
+                let _ = self.given.add(&bytes);
+                Ok(Outcome::Wrong)
+            }
+            Err(fault) => Err(fault),
+        }
+    }
+
+    fn poll(&mut self, alloc: Global) -> Result<Outcome, AdapterFault> {
+        match self.adapter.poll(alloc) {
+            Ok(bytes) => Ok(Outcome::of_added(self.given.add(&bytes))),
+            Err(fault) => Err(fault),
+        }
+    }
+
+    fn call(&mut self, alloc: Global, act: Act<'_>) -> Result<Outcome, AdapterFault> {
+        match act {
+            Act::Take(body) => self.take(alloc, body),
+            Act::Turn => self.turn(alloc),
+            Act::Idle => self.is_idle(alloc),
+            Act::Poll => self.poll(alloc),
+        }
+    }
+
+    /// Whether each call answers a fault, nothing is held, and as many requests are kept as before.
+    fn is_closed(&mut self, alloc: Global, fault: AdapterFault) -> bool {
+        for act in [Act::Take("x"), Act::Idle, Act::Poll] {
+            if self.call(alloc, act) != Err(fault) {
+                return false;
+            }
+        }
+        self.adapter.held() == 0 && self.adapter.kept() == self.facts.waiting()
+    }
+
+    /// What comes of a call. A fault is kept for the line that names it.
+    fn outcome_of(&mut self, alloc: Global, act: Act<'_>, came: &mut String) -> Outcome {
+        match self.call(alloc, act) {
+            Ok(Outcome::Wrong) => {
+                self.given.tell(came);
+                Outcome::Wrong
+            }
+            Ok(outcome) => outcome,
+            Err(AdapterFault::OutOfMemory) => {
+                note(
+                    came,
+                    "memory was refused, and the adapter is not closed as it was",
+                );
+                Outcome::of_refusal(self.is_closed(alloc, AdapterFault::OutOfMemory))
+            }
+            Err(fault) => {
+                self.fault = Some(fault);
+                Outcome::Right
+            }
+        }
+    }
+
+    /// Makes a call, once all that came before was named.
+    fn act(&mut self, alloc: Global, act: Act<'_>, came: &mut String) -> Outcome {
+        match self.settle(came) {
+            Outcome::Right => self.outcome_of(alloc, act, came),
+            outcome => outcome,
+        }
+    }
+
+    /// Whether a message comes next.
+    fn gives(&mut self, alloc: Global, text: &str, came: &mut String) -> Outcome {
+        match self.given.passes_text(alloc, text) {
+            Ok((true, answers)) => {
+                if answers {
+                    self.facts.count_answer();
+                }
+                Outcome::Right
+            }
+            Ok((false, _)) => {
+                self.given.tell(came);
+                Outcome::Wrong
+            }
+            Err(_) => Outcome::Refused,
+        }
+    }
+
+    /// Whether the last call met a fault of this name, which closed the adapter.
+    fn is_closed_by(&mut self, alloc: Global, name: &str, came: &mut String) -> Outcome {
+        let Some(fault) = self.fault else {
+            return wrong(came, "no fault");
+        };
+        tell(came, &fault);
+        self.fault = None;
+        match is_printed(alloc, &fault, name) {
+            Ok(is_so) => Outcome::of(is_so && self.is_closed(alloc, fault)),
+            Err(_) => Outcome::Refused,
+        }
+    }
+
+    fn is_in(&mut self, name: &str, came: &mut String) -> Outcome {
+        self.phase = phase_named(name);
+        if self.phase.is_none() {
+            return wrong(came, "no phase has this name");
+        }
+        self.shows(came)
+    }
+
+    /// Notes a count, and compares.
+    fn counts_so(&mut self, counted: Counted, value: &str, came: &mut String) -> Outcome {
+        let is_said = match value.parse::<usize>() {
+            Ok(count) => self.facts.note(counted, count),
+            Err(_) => false,
+        };
+        let outcome = self.shows(came);
+        self.facts.go_on();
+        if is_said {
+            outcome
+        } else {
+            wrong(came, "another count")
+        }
+    }
+
+    /// What is compared at a line at which no call is made.
+    fn compare(&mut self, alloc: Global, word: Word, rest: &str, came: &mut String) -> Outcome {
+        match word {
+            Word::Adapter => self.gives(alloc, rest, came),
+            Word::Fault => self.is_closed_by(alloc, rest, came),
+            Word::Phase => self.is_in(rest, came),
+            Word::Count(counted) => self.counts_so(counted, rest, came),
+            _ => wrong(came, "no line of an adapter"),
+        }
+    }
+
+    fn follow_word(&mut self, alloc: Global, word: Word, rest: &str, came: &mut String) -> Outcome {
+        match act_of(word, rest) {
+            Some(act) => self.act(alloc, act, came),
+            None => self.compare(alloc, word, rest, came),
+        }
+    }
+
+    fn follow_line(&mut self, alloc: Global, line: &str, came: &mut String) -> Outcome {
+        let (name, rest) = parts(line);
+        match word_named(name) {
+            Some(word) => self.follow_word(alloc, word, rest, came),
+            None => wrong(came, "no such line"),
+        }
+    }
+
+    fn forget_facts(&mut self) {
+        self.facts = self.facts.of_what_waits();
+        self.phase = None;
+    }
+}
+
+impl Player for Playing<Recorded> {
+    fn open(alloc: Global, setting: &Setting<'_>, _came: &mut String) -> Result<Self, Outcome> {
+        match debuggee(alloc) {
+            Ok(debuggee) => match Adapter::open(alloc, setting.limits, debuggee) {
+                Ok(adapter) => Ok(Playing::new(alloc, adapter, setting.size)),
+                Err(_) => Err(Outcome::Refused),
+            },
+            Err(outcome) => Err(outcome),
+        }
+    }
+
+    fn follow(&mut self, alloc: Global, line: &str, came: &mut String) -> Outcome {
+        self.follow_line(alloc, line, came)
+    }
+
+    fn finish(&mut self, _alloc: Global, came: &mut String) -> Outcome {
+        self.settle(came)
+    }
+
+    fn forget(&mut self) {
+        self.forget_facts()
+    }
+}
+
+/// Over a debuggee that refuses to start when it is asked first.
+impl Player for Playing<Stubborn> {
+    fn open(alloc: Global, setting: &Setting<'_>, _came: &mut String) -> Result<Self, Outcome> {
+        match debuggee(alloc) {
+            Ok(debuggee) => match Adapter::open(alloc, setting.limits, Stubborn::new(debuggee)) {
+                Ok(adapter) => Ok(Playing::new(alloc, adapter, setting.size)),
+                Err(_) => Err(Outcome::Refused),
+            },
+            Err(outcome) => Err(outcome),
+        }
+    }
+
+    fn follow(&mut self, alloc: Global, line: &str, came: &mut String) -> Outcome {
+        self.follow_line(alloc, line, came)
+    }
+
+    fn finish(&mut self, _alloc: Global, came: &mut String) -> Outcome {
+        self.settle(came)
+    }
+
+    fn forget(&mut self) {
+        self.forget_facts()
+    }
+}

@@ -1,0 +1,527 @@
+//! Sessions, call by call, with the messages that they hand out. What the lines of a row say stands in `playing.rt`.
+
+use crate::playing::Playing;
+use dap_debuggee::{Recorded, Stubborn};
+use std::test::Fail;
+use test_kit::rows::play_rows;
+
+pub(crate) static ROWS: [&str; 27] = [
+    r#"
+row initializes
+> {"seq":1,"type":"request","command":"initialize","arguments":{"adapterID":"rec"}}
+turn
+< capabilities seq 1 to 1
+< {"event":"initialized","seq":2,"type":"event"}
+"#,
+    r#"
+row a launch is parked
+> {"seq":1,"type":"request","command":"initialize","arguments":{"adapterID":"rec"}}
+turn
+< capabilities seq 1 to 1
+< {"event":"initialized","seq":2,"type":"event"}
+> {"seq":2,"type":"request","command":"launch"}
+turn
+phase Parked
+"#,
+    r#"
+row stops at its entry
+> {"seq":1,"type":"request","command":"initialize","arguments":{"adapterID":"rec"}}
+turn
+< capabilities seq 1 to 1
+< {"event":"initialized","seq":2,"type":"event"}
+> {"seq":2,"type":"request","command":"launch"}
+turn
+> {"seq":3,"type":"request","command":"configurationDone"}
+turn
+< {"command":"configurationDone","request_seq":3,"seq":3,"success":true,"type":"response"}
+< {"command":"launch","request_seq":2,"seq":4,"success":true,"type":"response"}
+poll
+< {"body":{"category":"stdout","output":"go\n"},"event":"output","seq":5,"type":"event"}
+poll
+< {"body":{"allThreadsStopped":true,"reason":"entry","threadId":1},"event":"stopped","seq":6,"type":"event"}
+phase Stopped
+references 0
+"#,
+    r#"
+row a request before initialize
+> {"seq":1,"type":"request","command":"threads"}
+turn
+< notInitialized seq 1 to 1 threads
+phase Fresh
+"#,
+    r#"
+# Two requests are kept at most: a third is `busy` at once, and a parked one keeps its place.
+row busy where two are kept
+limits 8192 4194304 2 1 1 1000 1
+after a launch is parked
+> {"seq":3,"type":"request","command":"threads"}
+kept 2
+> {"seq":4,"type":"request","command":"loadedSources"}
+< busy seq 3 to 4 loadedSources
+kept 2
+turn
+< {"body":{"threads":[]},"command":"threads","request_seq":3,"seq":4,"success":true,"type":"response"}
+kept 1
+> {"seq":5,"type":"request","command":"configurationDone"}
+kept 2
+turn
+< {"command":"configurationDone","request_seq":5,"seq":5,"success":true,"type":"response"}
+< {"command":"launch","request_seq":2,"seq":6,"success":true,"type":"response"}
+kept 0
+phase Running
+"#,
+    r#"
+# `cancel` answers the request that it names, and then itself.
+row a request is cancelled
+after initializes
+> {"seq":2,"type":"request","command":"threads"}
+kept 1
+> {"seq":3,"type":"request","command":"cancel","arguments":{"requestId":2}}
+< cancelled seq 3 to 2 threads
+< {"command":"cancel","request_seq":3,"seq":4,"success":true,"type":"response"}
+kept 0
+idle
+kept 0
+phase Ready
+"#,
+    r#"
+# A parked launch is not cancelled, nor what is not kept; a bad number is refused; nothing is cancelled before `initialize`.
+row nothing is cancelled
+> {"seq":9,"type":"request","command":"cancel","arguments":{"requestId":"x"}}
+< notInitialized seq 1 to 9 cancel
+kept 0
+> {"seq":1,"type":"request","command":"initialize","arguments":{"adapterID":"rec"}}
+kept 1
+turn
+< capabilities seq 2 to 1
+< {"event":"initialized","seq":3,"type":"event"}
+kept 0
+> {"seq":2,"type":"request","command":"launch"}
+kept 1
+turn
+kept 1
+> {"seq":3,"type":"request","command":"cancel","arguments":{"requestId":2}}
+< {"command":"cancel","request_seq":3,"seq":4,"success":true,"type":"response"}
+kept 1
+> {"seq":4,"type":"request","command":"cancel","arguments":{"requestId":77}}
+< {"command":"cancel","request_seq":4,"seq":5,"success":true,"type":"response"}
+kept 1
+> {"seq":5,"type":"request","command":"cancel"}
+< {"command":"cancel","request_seq":5,"seq":6,"success":true,"type":"response"}
+kept 1
+> {"seq":6,"type":"request","command":"cancel","arguments":{"requestId":"x"}}
+< badArguments requestId seq 7 to 6 cancel
+kept 1
+idle
+kept 1
+phase Parked
+"#,
+    r#"
+# `disconnect` answers every other request, the parked one too, and then itself. After it a message that is no request has
+# no effect.
+row disconnect answers all
+after a launch is parked
+> {"seq":3,"type":"request","command":"disconnect"}
+kept 2
+> {"seq":4,"type":"request","command":"threads"}
+kept 3
+> {"seq":5,"type":"request","command":"loadedSources"}
+kept 4
+turn
+< cancelled seq 3 to 2 launch
+< cancelled seq 4 to 4 threads
+< cancelled seq 5 to 5 loadedSources
+< {"command":"disconnect","request_seq":3,"seq":6,"success":true,"type":"response"}
+kept 0
+idle
+kept 0
+poll
+kept 0
+> {"seq":6,"type":"event","event":"x"}
+kept 0
+> {"seq":7,"type":"x"}
+kept 0
+phase Ended
+"#,
+    r#"
+# Each refusal of a session that is only initialized.
+row refused requests
+after initializes
+> {"seq":2,"type":"request","command":"initialize","arguments":{"adapterID":"rec"}}
+turn
+< alreadyInitialized seq 3 to 2 initialize
+> {"seq":3,"type":"request","command":"foo"}
+turn
+< unknownCommand seq 4 to 3 foo
+> {"seq":4,"type":"request","command":"restart"}
+turn
+< unsupported seq 5 to 4 restart
+> {"seq":5,"type":"request","command":"next","arguments":{}}
+turn
+< badArguments threadId seq 6 to 5 next
+> {"seq":6,"type":"request","command":"next","arguments":{"threadId":1}}
+turn
+< wrongPhase seq 7 to 6 next
+phase Ready
+"#,
+    r#"
+# A run to a moment that waits is held until `pause`; meanwhile no frames are told.
+row runs and pauses
+after stops at its entry
+> {"seq":4,"type":"request","command":"continue","arguments":{"threadId":1}}
+turn
+< {"body":{"allThreadsContinued":true},"command":"continue","request_seq":4,"seq":7,"success":true,"type":"response"}
+poll
+> {"seq":5,"type":"request","command":"stackTrace","arguments":{"threadId":1}}
+turn
+< notStopped seq 8 to 5 stackTrace
+> {"seq":6,"type":"request","command":"pause","arguments":{"threadId":1}}
+turn
+< {"command":"pause","request_seq":6,"seq":9,"success":true,"type":"response"}
+poll
+< {"body":{"allThreadsStopped":true,"reason":"pause","threadId":1},"event":"stopped","seq":10,"type":"event"}
+> {"seq":7,"type":"request","command":"continue","arguments":{"threadId":1}}
+turn
+< {"body":{"allThreadsContinued":true},"command":"continue","request_seq":7,"seq":11,"success":true,"type":"response"}
+poll
+< {"body":{"exitCode":0},"event":"exited","seq":12,"type":"event"}
+< {"event":"terminated","seq":13,"type":"event"}
+poll
+phase Exited
+"#,
+    r#"
+# `terminate` ends the debuggee, which then has no threads.
+row terminates
+after stops at its entry
+> {"seq":4,"type":"request","command":"terminate"}
+turn
+< {"command":"terminate","request_seq":4,"seq":7,"success":true,"type":"response"}
+< {"event":"terminated","seq":8,"type":"event"}
+> {"seq":5,"type":"request","command":"threads"}
+turn
+< {"body":{"threads":[]},"command":"threads","request_seq":5,"seq":9,"success":true,"type":"response"}
+phase Exited
+"#,
+    r#"
+# The six resuming commands, each of a thread that exists; `pause` of a stopped debuggee changes nothing.
+row each step
+after stops at its entry
+> {"seq":4,"type":"request","command":"next","arguments":{"threadId":2}}
+turn
+< unknownThread seq 7 to 4 next
+> {"seq":5,"type":"request","command":"pause","arguments":{"threadId":9}}
+turn
+< {"command":"pause","request_seq":5,"seq":8,"success":true,"type":"response"}
+> {"seq":6,"type":"request","command":"stepIn","arguments":{"threadId":1}}
+turn
+< {"command":"stepIn","request_seq":6,"seq":9,"success":true,"type":"response"}
+poll
+< {"body":{"allThreadsStopped":true,"reason":"step","threadId":1},"event":"stopped","seq":10,"type":"event"}
+> {"seq":7,"type":"request","command":"stepOut","arguments":{"threadId":1}}
+turn
+< {"command":"stepOut","request_seq":7,"seq":11,"success":true,"type":"response"}
+poll
+< {"body":{"allThreadsStopped":true,"reason":"step","threadId":1},"event":"stopped","seq":12,"type":"event"}
+> {"seq":8,"type":"request","command":"stepBack","arguments":{"threadId":1}}
+turn
+< {"command":"stepBack","request_seq":8,"seq":13,"success":true,"type":"response"}
+poll
+< {"body":{"allThreadsStopped":true,"reason":"step","threadId":1},"event":"stopped","seq":14,"type":"event"}
+> {"seq":9,"type":"request","command":"reverseContinue","arguments":{"threadId":1}}
+turn
+< {"command":"reverseContinue","request_seq":9,"seq":15,"success":true,"type":"response"}
+poll
+< {"body":{"allThreadsStopped":true,"reason":"entry","threadId":1},"event":"stopped","seq":16,"type":"event"}
+> {"seq":10,"type":"request","command":"next","arguments":{"threadId":1}}
+turn
+< {"command":"next","request_seq":10,"seq":17,"success":true,"type":"response"}
+poll
+< {"body":{"allThreadsStopped":true,"reason":"step","threadId":1},"event":"stopped","seq":18,"type":"event"}
+> {"seq":11,"type":"request","command":"threads"}
+turn
+< {"body":{"threads":[{"id":1,"name":"main"}]},"command":"threads","request_seq":11,"seq":19,"success":true,"type":"response"}
+phase Stopped
+"#,
+    r#"
+row a parked launch outlives its cancel
+after a launch is parked
+> {"seq":3,"type":"request","command":"cancel","arguments":{"requestId":2}}
+< {"command":"cancel","request_seq":3,"seq":3,"success":true,"type":"response"}
+> {"seq":4,"type":"request","command":"configurationDone"}
+turn
+< {"command":"configurationDone","request_seq":4,"seq":4,"success":true,"type":"response"}
+< {"command":"launch","request_seq":2,"seq":5,"success":true,"type":"response"}
+poll
+< {"body":{"category":"stdout","output":"go\n"},"event":"output","seq":6,"type":"event"}
+poll
+< {"body":{"allThreadsStopped":true,"reason":"entry","threadId":1},"event":"stopped","seq":7,"type":"event"}
+phase Stopped
+"#,
+    r#"
+# A number names one object until the debuggee goes on; later ones come behind it.
+row looks into a stop
+after stops at its entry
+> {"seq":4,"type":"request","command":"stackTrace","arguments":{"threadId":1}}
+turn
+< {"body":{"stackFrames":[{"column":1,"id":1,"line":1,"name":"main","source":{"name":"a.c","path":"/a.c","sourceReference":1}}],"totalFrames":1},"command":"stackTrace","request_seq":4,"seq":7,"success":true,"type":"response"}
+> {"seq":5,"type":"request","command":"scopes","arguments":{"frameId":1}}
+turn
+< {"body":{"scopes":[{"expensive":false,"name":"Locals","variablesReference":2}]},"command":"scopes","request_seq":5,"seq":8,"success":true,"type":"response"}
+> {"seq":6,"type":"request","command":"scopes","arguments":{"frameId":1}}
+turn
+< {"body":{"scopes":[{"expensive":false,"name":"Locals","variablesReference":2}]},"command":"scopes","request_seq":6,"seq":9,"success":true,"type":"response"}
+> {"seq":7,"type":"request","command":"variables","arguments":{"variablesReference":2}}
+turn
+< {"body":{"variables":[{"name":"x","value":"1","variablesReference":0},{"name":"p","value":"P","variablesReference":3}]},"command":"variables","request_seq":7,"seq":10,"success":true,"type":"response"}
+> {"seq":8,"type":"request","command":"variables","arguments":{"variablesReference":3}}
+turn
+< {"body":{"variables":[{"name":"a","value":"7","variablesReference":0}]},"command":"variables","request_seq":8,"seq":11,"success":true,"type":"response"}
+> {"seq":9,"type":"request","command":"evaluate","arguments":{"expression":"p","frameId":1}}
+turn
+< {"body":{"result":"P","variablesReference":3},"command":"evaluate","request_seq":9,"seq":12,"success":true,"type":"response"}
+> {"seq":10,"type":"request","command":"evaluate","arguments":{"expression":"q","frameId":1}}
+turn
+< debuggee seq 13 to 10 evaluate
+> {"seq":11,"type":"request","command":"next","arguments":{"threadId":2}}
+turn
+< unknownThread seq 14 to 11 next
+> {"seq":12,"type":"request","command":"next","arguments":{"threadId":1}}
+turn
+< {"command":"next","request_seq":12,"seq":15,"success":true,"type":"response"}
+poll
+< {"body":{"allThreadsStopped":true,"reason":"step","threadId":1},"event":"stopped","seq":16,"type":"event"}
+> {"seq":13,"type":"request","command":"variables","arguments":{"variablesReference":2}}
+turn
+< staleReference seq 17 to 13 variables
+> {"seq":14,"type":"request","command":"stackTrace","arguments":{"threadId":1}}
+turn
+< {"body":{"stackFrames":[{"column":1,"id":4,"line":2,"name":"main","source":{"name":"a.c","path":"/a.c","sourceReference":1}}],"totalFrames":1},"command":"stackTrace","request_seq":14,"seq":18,"success":true,"type":"response"}
+> {"seq":15,"type":"request","command":"scopes","arguments":{"frameId":4}}
+turn
+< {"body":{"scopes":[]},"command":"scopes","request_seq":15,"seq":19,"success":true,"type":"response"}
+references 1
+"#,
+    r#"
+# The two that there were stay live.
+row a third reference is refused
+limits 8192 4194304 64 2 4096 9007199254740991 2147483647
+after stops at its entry
+> {"seq":4,"type":"request","command":"stackTrace","arguments":{"threadId":1}}
+turn
+< {"body":{"stackFrames":[{"column":1,"id":1,"line":1,"name":"main","source":{"name":"a.c","path":"/a.c","sourceReference":1}}],"totalFrames":1},"command":"stackTrace","request_seq":4,"seq":7,"success":true,"type":"response"}
+> {"seq":5,"type":"request","command":"scopes","arguments":{"frameId":1}}
+turn
+< {"body":{"scopes":[{"expensive":false,"name":"Locals","variablesReference":2}]},"command":"scopes","request_seq":5,"seq":8,"success":true,"type":"response"}
+> {"seq":6,"type":"request","command":"variables","arguments":{"variablesReference":2}}
+turn
+< tooManyReferences seq 9 to 6 variables
+> {"seq":7,"type":"request","command":"scopes","arguments":{"frameId":1}}
+turn
+< {"body":{"scopes":[{"expensive":false,"name":"Locals","variablesReference":2}]},"command":"scopes","request_seq":7,"seq":10,"success":true,"type":"response"}
+references 2
+"#,
+    r#"
+# Numbers that died never come again.
+row no number is left
+limits 8192 4194304 64 65536 4096 9007199254740991 2
+after stops at its entry
+> {"seq":4,"type":"request","command":"stackTrace","arguments":{"threadId":1}}
+turn
+< {"body":{"stackFrames":[{"column":1,"id":1,"line":1,"name":"main","source":{"name":"a.c","path":"/a.c","sourceReference":1}}],"totalFrames":1},"command":"stackTrace","request_seq":4,"seq":7,"success":true,"type":"response"}
+> {"seq":5,"type":"request","command":"scopes","arguments":{"frameId":1}}
+turn
+< {"body":{"scopes":[{"expensive":false,"name":"Locals","variablesReference":2}]},"command":"scopes","request_seq":5,"seq":8,"success":true,"type":"response"}
+> {"seq":6,"type":"request","command":"next","arguments":{"threadId":1}}
+turn
+< {"command":"next","request_seq":6,"seq":9,"success":true,"type":"response"}
+poll
+< {"body":{"allThreadsStopped":true,"reason":"step","threadId":1},"event":"stopped","seq":10,"type":"event"}
+> {"seq":7,"type":"request","command":"stackTrace","arguments":{"threadId":1}}
+turn
+< referencesExhausted seq 11 to 7 stackTrace
+references 0
+"#,
+    r#"
+# Of two frames none gets a number where there is room for one alone.
+row refused frames take no number
+limits 8192 4194304 64 1 4096 9007199254740991 2147483647
+after stops at its entry
+> {"seq":4,"type":"request","command":"stepIn","arguments":{"threadId":1}}
+turn
+< {"command":"stepIn","request_seq":4,"seq":7,"success":true,"type":"response"}
+poll
+< {"body":{"allThreadsStopped":true,"reason":"step","threadId":1},"event":"stopped","seq":8,"type":"event"}
+> {"seq":5,"type":"request","command":"stackTrace","arguments":{"threadId":1}}
+turn
+< tooManyReferences seq 9 to 5 stackTrace
+references 0
+> {"seq":6,"type":"request","command":"stackTrace","arguments":{"threadId":1,"startFrame":1}}
+turn
+< {"body":{"stackFrames":[{"column":1,"id":1,"line":1,"name":"main","source":{"name":"a.c","path":"/a.c","sourceReference":1}}],"totalFrames":2},"command":"stackTrace","request_seq":6,"seq":10,"success":true,"type":"response"}
+references 1
+> {"seq":7,"type":"request","command":"loadedSources"}
+turn
+< {"body":{"sources":[{"name":"a.c","path":"/a.c","sourceReference":1}]},"command":"loadedSources","request_seq":7,"seq":11,"success":true,"type":"response"}
+> {"seq":8,"type":"request","command":"source","arguments":{"sourceReference":1}}
+turn
+< {"body":{"content":"one\ntwo\nthree\n"},"command":"source","request_seq":8,"seq":12,"success":true,"type":"response"}
+> {"seq":9,"type":"request","command":"source","arguments":{"sourceReference":2}}
+turn
+< unknownSource seq 13 to 9 source
+"#,
+    r#"
+# Lines replace those of the same source, ids never come again, and an answer that is too large changes nothing.
+row breakpoints are replaced
+limits 8192 1024 64 65536 4096 9007199254740991 2147483647
+after initializes
+> {"seq":2,"type":"request","command":"setBreakpoints","arguments":{"source":{"path":"/a.c"},"breakpoints":[{"line":1},{"line":3},{"line":9}]}}
+turn
+< {"body":{"breakpoints":[{"id":1,"line":1,"verified":true},{"id":2,"line":3,"verified":true},{"id":3,"line":9,"verified":false}]},"command":"setBreakpoints","request_seq":2,"seq":3,"success":true,"type":"response"}
+breakpoints 3
+> {"seq":3,"type":"request","command":"setBreakpoints","arguments":{"source":{"path":"/a.c"},"breakpoints":[]}}
+turn
+< {"body":{"breakpoints":[]},"command":"setBreakpoints","request_seq":3,"seq":4,"success":true,"type":"response"}
+breakpoints 0
+> {"seq":4,"type":"request","command":"setBreakpoints","arguments":{"source":{"path":"/a.c"},"lines":[2]}}
+turn
+< {"body":{"breakpoints":[{"id":4,"line":2,"verified":true}]},"command":"setBreakpoints","request_seq":4,"seq":5,"success":true,"type":"response"}
+breakpoints 1
+> {"seq":5,"type":"request","command":"setBreakpoints","arguments":{"source":{"path":"/a.c"},"lines":[1,1,1,1,1,1,1,1,1,1,1,1,1,1,1,1,1,1,1,1,1,1,1,1,1,1,1,1,1,1,1,1,1,1,1,1,1,1,1,1,1,1,1,1,1,1,1,1,1,1,1,1,1,1,1,1,1,1,1,1,1,1,1,1,1,1,1,1,1,1,1,1,1,1,1,1,1,1,1,1,1,1,1,1,1,1,1,1,1,1,1,1,1,1,1,1,1,1,1,1]}}
+turn
+< tooLarge seq 6 to 5 setBreakpoints
+> {"seq":6,"type":"request","command":"setBreakpoints","arguments":{"source":{"path":"/a.c"},"lines":[3]}}
+turn
+< {"body":{"breakpoints":[{"id":5,"line":3,"verified":true}]},"command":"setBreakpoints","request_seq":6,"seq":7,"success":true,"type":"response"}
+breakpoints 1
+"#,
+    r#"
+# More breakpoints than there is room for are refused whole.
+row a third breakpoint is refused
+limits 8192 4194304 64 65536 2 9007199254740991 2147483647
+after initializes
+> {"seq":2,"type":"request","command":"setBreakpoints","arguments":{"source":{"path":"/a.c"},"breakpoints":[{"line":1},{"line":3},{"line":9}]}}
+turn
+< tooManyBreakpoints seq 3 to 2 setBreakpoints
+breakpoints 0
+"#,
+    r#"
+# A client that counts lines from 0 gets them as it asked for them.
+row lines begin at 0
+> {"seq":1,"type":"request","command":"initialize","arguments":{"linesStartAt1":false}}
+turn
+< capabilities seq 1 to 1
+< {"event":"initialized","seq":2,"type":"event"}
+> {"seq":2,"type":"request","command":"setBreakpoints","arguments":{"source":{"path":"/a.c"},"lines":[0]}}
+turn
+< {"body":{"breakpoints":[{"id":1,"line":0,"verified":true}]},"command":"setBreakpoints","request_seq":2,"seq":3,"success":true,"type":"response"}
+breakpoints 1
+"#,
+    r#"
+row a number that is kept already
+> {"seq":1,"type":"request","command":"initialize","arguments":{"adapterID":"rec"}}
+> {"seq":1,"type":"request","command":"initialize","arguments":{"adapterID":"rec"}}
+! RepeatedSeq { seq: 1 }
+kept 1
+"#,
+    r#"
+row a response that nothing waits for
+after initializes
+> {"seq":2,"type":"response","request_seq":9,"success":true,"command":"threads"}
+! Unmatched { request_seq: 9 }
+kept 0
+"#,
+    r#"
+row a request after the end
+> {"seq":2,"type":"request","command":"disconnect"}
+turn
+< {"command":"disconnect","request_seq":2,"seq":1,"success":true,"type":"response"}
+> {"seq":3,"type":"request","command":"threads"}
+! Ended
+kept 0
+"#,
+    r#"
+row a body without bytes
+> {"seq":1,"type":"request","command":"initialize","arguments":{"adapterID":"rec"}}
+>
+! Body { cause: NotJson, offset: 103 }
+kept 1
+"#,
+    r#"
+row a number below 0
+> {"seq":1,"type":"request","command":"initialize","arguments":{"adapterID":"rec"}}
+> {"seq":-1}
+! Body { cause: BadSeq, offset: 103 }
+kept 1
+"#,
+    r#"
+row no body at all
+>
+! Body { cause: NotJson, offset: 0 }
+kept 0
+"#,
+    r#"
+# The request is still kept, and nothing more is answered.
+row numbers run out
+limits 8192 4194304 64 1 1 3 1
+after initializes
+> {"seq":2,"type":"request","command":"threads"}
+turn
+< {"body":{"threads":[]},"command":"threads","request_seq":2,"seq":3,"success":true,"type":"response"}
+> {"seq":3,"type":"request","command":"loadedSources"}
+turn
+! SeqExhausted
+kept 1
+"#,
+];
+
+/// The rows. A proof looks at their texts here alone.
+fn rows() -> &'static [&'static str] {
+    &ROWS
+}
+
+/// The row in a place.
+fn row_at(place: usize) -> &'static str {
+    rows().get(place).copied().unwrap_or("")
+}
+
+#[test]
+fn sessions(rt: HostRuntime) -> Result<(), Fail> {
+    play_rows::<Playing<Recorded>>(&rt, rows(), usize::MAX)?;
+    play_rows::<Playing<Recorded>>(&rt, rows(), 7)
+}
+
+pub(crate) static STUBBORN: [&str; 1] = [
+    r#"
+# Where a debuggee refuses to start, `launch` fails, and the next one succeeds.
+row a refused start
+> {"seq":1,"type":"request","command":"initialize","arguments":{"adapterID":"rec"}}
+turn
+< capabilities seq 1 to 1
+< {"event":"initialized","seq":2,"type":"event"}
+> {"seq":2,"type":"request","command":"configurationDone"}
+turn
+< {"command":"configurationDone","request_seq":2,"seq":3,"success":true,"type":"response"}
+> {"seq":3,"type":"request","command":"launch"}
+turn
+< debuggee seq 4 to 3 launch
+phase Configured
+> {"seq":4,"type":"request","command":"launch"}
+turn
+< {"command":"launch","request_seq":4,"seq":5,"success":true,"type":"response"}
+phase Running
+"#,
+];
+
+#[test]
+fn a_stubborn_debuggee(rt: HostRuntime) -> Result<(), Fail> {
+    play_rows::<Playing<Stubborn>>(&rt, &STUBBORN, usize::MAX)
+}
+
+/// A request before `initialize`, in pieces of each size.
+#[test]
+fn pieces_do_not_matter(rt: HostRuntime) -> Result<(), Fail> {
+    for size in 1..69 {
+        play_rows::<Playing<Recorded>>(&rt, &[row_at(3)], size)?;
+    }
+    Ok(())
+}

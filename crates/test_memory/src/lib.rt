@@ -1,0 +1,19 @@
+//! Worked examples that may meet want of memory, as tests alone. With ample memory each gives the example's answer.
+//! `scripts/refuse-allocations` runs them with each allocation refused in turn: then each gives that answer, or says
+//! `refused` and shows that nothing else has happened.
+#![tactic(auto)]
+
+#[cfg(test)]
+mod bodies;
+#[cfg(test)]
+mod calls;
+#[cfg(test)]
+mod debuggee;
+#[cfg(test)]
+mod files;
+#[cfg(test)]
+mod outcomes;
+#[cfg(test)]
+mod requests;
+#[cfg(test)]
+mod serving;
