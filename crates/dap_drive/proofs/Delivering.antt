@@ -3,12 +3,9 @@ use Rattle.std.proofs.Common.{◌≡◌, ℕ, ◌<◌, List, [], ◌∷◌, ◌+
 use Rattle.std.specs.Prelude.{◌⊎◌}
 use Rattle.dap_frame.specs.Intake.{Intake, StandsFor as StandsForStream}
 use Rattle.dap_frame.specs.Settings.{Settings, AreInRange, bounds_of}
-use Rattle.dap_frame.specs.Stream.{FramesThen}
 use Rattle.dap_frame.specs.Written.{frame_of}
-use Rattle.dap_frame.specs.declared.frames.FrameFault.{FrameFault}
-use Rattle.dap_frame.specs.declared.limits.Bounds.{Bounds}
 use Rattle.dap_history.specs.History.{Entry, In}
-use Rattle.dap_history.specs.Pieces.{Whole, FrameClosed, BodyRefused}
+use Rattle.dap_history.specs.Pieces.{Whole}
 use Rattle.dap_message.specs.Canon.{canon}
 use Rattle.dap_message.specs.Laws.{IsOneMessage, IsOneRefusal}
 use Rattle.dap_message.specs.Meaning.{Msg}

@@ -8,7 +8,7 @@ use Rattle.std.proofs.lemmas.List.Filters.{length-filter_both}
 use Rattle.dap_frame.specs.Intake.{Intake, IsUnderWay, StandsFor as StandsForStream}
 use Rattle.dap_frame.specs.Laws.{EachStreamHasOneSplit}
 use Rattle.dap_frame.specs.Settings.{Settings, AreInRange, bounds_of}
-use Rattle.dap_frame.specs.Stream.{FramesThen, Split}
+use Rattle.dap_frame.specs.Stream.{Split}
 use Rattle.dap_frame.specs.declared.limits.Bounds.{Bounds}
 use Rattle.dap_debuggee.specs.Shown.{Shown}
 use Rattle.dap_history.specs.History.{Out}
@@ -33,7 +33,7 @@ use Rattle.dap_adapter.specs.StandsFor.{StandsFor as AdapterStandsFor}
 use Rattle.dap_check.specs.declared.line.Side.TheVariants.{Client, Adapter}
 use Rattle.dap_client.specs.End.{End as ClientEnd}
 use Rattle.dap_client.specs.Calls.{refusal_of}
-use Rattle.dap_client.specs.Sending.{first_of, refusals_in_order, next_message, sent_bytes, after_send}
+use Rattle.dap_client.specs.Sending.{next_message, sent_bytes, after_send}
 use Rattle.dap_client.specs.Session.{Session as ClientSession, fresh_session}
 use Rattle.dap_client.specs.StandsFor.{StandsFor as ClientStandsFor, GoesOn}
 use Rattle.dap_message.specs.Canon.{canon}
@@ -41,17 +41,16 @@ use Rattle.dap_message.specs.ReadBack.{ReadsBack, AllReadBack}
 use Rattle.dap_message.specs.declared.message.Message.{Message}
 use Rattle.dap_world.specs.Agreement.{EachScheduleAgrees}
 use Rattle.dap_world.specs.World.{World, fresh_world, client_said, adapter_said, Sends, Turns, Polls, Schedule, by_sending, by_turning, by_polling, starts, goes}
-use Rattle.dap_drive.specs.Driven.{AdapterStops, ClientStops}
 use Rattle.dap_drive.specs.Faults.{FrameLaws, fault_of_adapter}
-use Rattle.dap_drive.specs.Frames.{AreFrames, AreFramesOf}
+use Rattle.dap_drive.specs.Frames.{AreFramesOf}
 use Rattle.dap_drive.specs.Held.{IsClientAt, IsAdapterAt, HasDelivered, HasSettled, IsQuiet, HasDone, HasTurned, HasPolled, Spends, left_to_do, polling, StopsDelivering, StopsOrder, StopsSend, StopsTurn, StopsPoll}
-use Rattle.dap_drive.specs.Lines.{IsBetween, WritesLines, IsUnwritten}
+use Rattle.dap_drive.specs.Lines.{WritesLines, IsUnwritten}
 use Rattle.dap_drive.specs.Orders.{DoesSend, RunsTo, none, begins, handled, idles, polled, in_send, in_run, in_run_turn, in_run_poll, LacksNumbers}
 use Rattle.dap_drive.specs.declared.fault.DriveFault.{DriveFault}
 use Rattle.dap_drive.specs.declared.fault.DriveFault.TheVariants as fault
-use Rattle.dap_drive.specs.declared.script.Order.TheVariants.{Send as ToSend, Turn as ToTurn, Poll as ToPoll, Run as ToRun}
+use Rattle.dap_drive.specs.declared.script.Order.TheVariants.{Run as ToRun}
 use Rattle.dap_drive.specs.declared.writing.Unwritten.TheVariants as unwritten
-use Rattle.dap_drive.proofs.Delivering.{longer, written, not_unwritten, more_frames, adapter_steps, step_writes, step_back, step_within, step_bytes, still_between}
+use Rattle.dap_drive.proofs.Delivering.{longer, written, not_unwritten, adapter_steps, step_writes, step_back, step_within, step_bytes, still_between}
 use Rattle.dap_drive.proofs.Streams.{none as no_frames, none_left, between_still}
 
 -- ---- part by part

@@ -1,25 +1,22 @@
 -- What the checker reads of a transcript is what both ends wrote.
-use Rattle.std.proofs.Common.{◌≡◌, ℕ, ◌+◌, ◌-◌, ◌<◌, ◌≤◌, ◌==◌, List, [], ◌∷◌, ◌++◌, length, map, take, drop, get_or, Bool, true, false, ◌&&◌, nat_le, codes, Some, refl, sym, ap, ◌∙◌, subst, arith, append_assoc, append-nil, if◌then◌else◌}
+use Rattle.std.proofs.Common.{◌≡◌, ℕ, ◌+◌, ◌-◌, ◌<◌, ◌==◌, List, [], ◌∷◌, ◌++◌, length, map, take, get_or, Bool, true, false, refl, sym, ap, ◌∙◌, subst, arith, append_assoc, if◌then◌else◌}
 use Rattle.std.proofs.lemmas.Bool.Decides.{nat_tests}
-use Rattle.std.proofs.lemmas.Bool.{and_from}
-use Rattle.std.proofs.lemmas.List.{length-append}
-use Rattle.std.proofs.lemmas.List.Folds.{list_all-append}
 use Rattle.std.proofs.lemmas.List.Splits.{length-slice_split, slice_split_at}
 use Rattle.std.proofs.lemmas.List.Sums.{AllPass-from_list_all}
-use Rattle.std.specs.List.{All, list_all, slice_split}
+use Rattle.std.specs.List.{All, slice_split}
 use Rattle.std.specs.Str.Lines.{lines, lines_of_parts, strip_carriage_return}
 use Rattle.dap_message.specs.Canon.{canon}
 use Rattle.dap_message.specs.Meaning.{Msg}
 use Rattle.dap_message.specs.OneLine.{is_printed, IsOneLine, CanonIsOneLine}
 use Rattle.dap_message.specs.ReadBack.{AllReadBack}
 use Rattle.dap_message.specs.declared.message.Message.{Message}
-use Rattle.dap_check.specs.Transcript.{AreLines, IsLine}
+use Rattle.dap_check.specs.Transcript.{AreLines}
 use Rattle.dap_check.specs.declared.line.Line.{Line}
 use Rattle.dap_check.specs.declared.line.Side.{Side}
 use Rattle.dap_check.specs.declared.line.Side.TheVariants.{Client, Adapter}
 use Rattle.dap_world.specs.Transcripts.{said_of, KeepsRules}
 use Rattle.dap_world.specs.World.{Said, messages_of}
-use Rattle.dap_drive.specs.Transcript.{mark_of, line_of, text_of, IsReadAs}
+use Rattle.dap_drive.specs.Transcript.{mark_of, text_of, IsReadAs}
 
 -- ---- the lines of a text
 

@@ -1,6 +1,6 @@
 -- A worked schedule, shown by computation: a launch is parked, and a disconnect cancels it.
-use Rattle.std.proofs.Common.{◌≡◌, ℕ, List, [], ◌∷◌, length, map, true, false, Option, Some, None, Result, Ok, Err, codes, refl}
-use Rattle.std.specs.Prelude.{◌++◌, IsTrue}
+use Rattle.std.proofs.Common.{◌≡◌, List, [], ◌∷◌, length, map, true, false, Option, Some, None, Result, Ok, Err, codes, refl}
+use Rattle.std.specs.Prelude.{IsTrue}
 use Rattle.std.specs.Fmt.{digits}
 use Rattle.std.specs.Str.{is_utf8, chars}
 use Rattle.json.specs.Print.{escape_byte}
@@ -75,30 +75,43 @@ module _ {D : Type 0} (shown : D → Shown) (follows : Goes D) (d : D) where
 
   abbrev w0 : World D
   w0 = fresh_world usual_settings d
+
   abbrev w1 : World D
   w1 = sent initialize w0
+
   abbrev w2 : World D
   w2 = up w1
+
   abbrev w3 : World D
   w3 = turned w2
+
   abbrev w4 : World D
   w4 = down w3
+
   abbrev w5 : World D
   w5 = down w4
+
   abbrev w6 : World D
   w6 = sent (call.Launch None) w5
+
   abbrev w7 : World D
   w7 = up w6
+
   abbrev w8 : World D
   w8 = turned w7
+
   abbrev w9 : World D
   w9 = sent call.Disconnect w8
+
   abbrev w10 : World D
   w10 = up w9
+
   abbrev w11 : World D
   w11 = turned w10
+
   abbrev w12 : World D
   w12 = down w11
+
   abbrev w13 : World D
   w13 = down w12
 

@@ -30,4 +30,4 @@ returns-in_err-at-clause-stops g c =
     let p = err_from_is_err_and c.from_residual.result c.from_residual.ensures.1 in
     let some : 0 < length c.split_at.result.1.now = omega (arith, c.split_at.ensures.back_len) in
     rw (p.1, p.2) (λ limits debuggee start h. c.in_err-at.ensures.stops limits debuggee start
-        (subst (λ (z : List ℕ). HasDelivered g.D.Debuggee.shown g.D.Debuggee.follows limits debuggee start c.loop-at.self.client c.loop-at.self.adapter c.loop-at.self.reader c.loop-at.self.transcript.items c.loop-at.up.items z) (sym c.split_at.ensures.back) (c.loop-at.invariant.delivered limits debuggee start h)) some)
+    (subst (λ (z : List ℕ). HasDelivered g.D.Debuggee.shown g.D.Debuggee.follows limits debuggee start c.loop-at.self.client c.loop-at.self.adapter c.loop-at.self.reader c.loop-at.self.transcript.items c.loop-at.up.items z) (sym c.split_at.ensures.back) (c.loop-at.invariant.delivered limits debuggee start h)) some)

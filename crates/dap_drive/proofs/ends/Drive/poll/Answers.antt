@@ -33,6 +33,6 @@ pub returns-in_err-settle-clause-stops : goal.returns-in_err-settle-clause-stops
 returns-in_err-settle-clause-stops g c =
     let p = err_from_is_err_and c.from_residual.result c.from_residual.ensures.1 in
     rw (p.1, p.2) (λ limits debuggee start q.
-        let w = subst (λ (z : List ℕ). WritesLines limits c.write_lines.new.reader Adapter z c.args.self.now.transcript.items c.write_lines.new.transcript.items) c.deref-2.ensures.value (c.in-Ok-write_lines.ensures.lines limits q.at.reader_at) in
-        let h = poll_spoken c.frames_keep_their_laws.ensures g.D.Debuggee.shown g.D.Debuggee.follows c.each_schedule_agrees.ensures.agrees limits debuggee c.args.self.now.client c.args.self.now.adapter c.poll.new.self c.args.self.now.reader c.write_lines.new.reader c.args.self.now.transcript.items c.write_lines.new.transcript.items c.in-Ok.bytes.items start q c.in-Ok.ensures.saw c.in-Ok.ensures.limits w in
-        poll_stops c.frames_keep_their_laws.ensures g.D.Debuggee.shown g.D.Debuggee.follows c.each_schedule_agrees.ensures.agrees limits debuggee c.args.self.now.client c.args.self.now.adapter c.poll.new.self c.args.self.now.reader c.args.self.now.transcript.items c.in-Ok.bytes.items start q c.in-Ok.ensures.saw c.in_err-settle.field-0.0 (c.in_err-settle.ensures.stops limits debuggee _ h))
+    let w = subst (λ (z : List ℕ). WritesLines limits c.write_lines.new.reader Adapter z c.args.self.now.transcript.items c.write_lines.new.transcript.items) c.deref-2.ensures.value (c.in-Ok-write_lines.ensures.lines limits q.at.reader_at) in
+    let h = poll_spoken c.frames_keep_their_laws.ensures g.D.Debuggee.shown g.D.Debuggee.follows c.each_schedule_agrees.ensures.agrees limits debuggee c.args.self.now.client c.args.self.now.adapter c.poll.new.self c.args.self.now.reader c.write_lines.new.reader c.args.self.now.transcript.items c.write_lines.new.transcript.items c.in-Ok.bytes.items start q c.in-Ok.ensures.saw c.in-Ok.ensures.limits w in
+    poll_stops c.frames_keep_their_laws.ensures g.D.Debuggee.shown g.D.Debuggee.follows c.each_schedule_agrees.ensures.agrees limits debuggee c.args.self.now.client c.args.self.now.adapter c.poll.new.self c.args.self.now.reader c.args.self.now.transcript.items c.in-Ok.bytes.items start q c.in-Ok.ensures.saw c.in_err-settle.field-0.0 (c.in_err-settle.ensures.stops limits debuggee _ h))

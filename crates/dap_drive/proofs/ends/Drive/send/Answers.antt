@@ -27,16 +27,16 @@ pub returns-in_err-down-clause-stops : goal.returns-in_err-down-clause-stops
 returns-in_err-down-clause-stops g c =
     let p = err_from_is_err_and c.from_residual.result c.from_residual.ensures.1 in
     rw (p.1, p.2) (λ limits debuggee start q.
-        let w = subst (λ (z : List ℕ). WritesLines limits c.write_lines.new.reader Client z c.args.self.now.transcript.items c.write_lines.new.transcript.items) c.deref.ensures.value (c.in-Ok-write_lines.ensures.lines limits q.at.reader_at) in
-        let sent = client_said (after_send c.args.call.now start.client) (next_message start.client c.args.call.now ∷ []) start in
-        let h = call_sent c.frames_keep_their_laws.ensures g.D.Debuggee.shown g.D.Debuggee.follows c.each_schedule_agrees.ensures.agrees limits debuggee c.args.self.now.client c.send.new.self c.args.self.now.adapter c.args.self.now.reader c.write_lines.new.reader c.args.self.now.transcript.items c.write_lines.new.transcript.items c.in-Ok.sent.bytes.items start c.args.call.now q c.requires.plain c.in-Ok.ensures.sent c.in-Ok.ensures.reads_back c.in-Ok.ensures.bytes c.in-Ok.ensures.session c.in-Ok.ensures.goes_on w in
-        send_stops c.frames_keep_their_laws.ensures g.D.Debuggee.shown g.D.Debuggee.follows c.each_schedule_agrees.ensures.agrees limits debuggee c.args.self.now.client c.args.self.now.adapter c.args.self.now.reader c.args.self.now.transcript.items start c.args.call.now c.in_err-down.field-0.0 c.args.line q c.requires.plain c.in-Ok.ensures.sent c.in-Ok.ensures.reads_back (c.in_err-down.ensures.stops limits debuggee sent (subst (λ (z : List ℕ). HasDelivered g.D.Debuggee.shown g.D.Debuggee.follows limits debuggee sent c.send.new.self c.args.self.now.adapter c.write_lines.new.reader c.write_lines.new.transcript.items z []) (sym c.deref-2.ensures.value) h)))
+    let w = subst (λ (z : List ℕ). WritesLines limits c.write_lines.new.reader Client z c.args.self.now.transcript.items c.write_lines.new.transcript.items) c.deref.ensures.value (c.in-Ok-write_lines.ensures.lines limits q.at.reader_at) in
+    let sent = client_said (after_send c.args.call.now start.client) (next_message start.client c.args.call.now ∷ []) start in
+    let h = call_sent c.frames_keep_their_laws.ensures g.D.Debuggee.shown g.D.Debuggee.follows c.each_schedule_agrees.ensures.agrees limits debuggee c.args.self.now.client c.send.new.self c.args.self.now.adapter c.args.self.now.reader c.write_lines.new.reader c.args.self.now.transcript.items c.write_lines.new.transcript.items c.in-Ok.sent.bytes.items start c.args.call.now q c.requires.plain c.in-Ok.ensures.sent c.in-Ok.ensures.reads_back c.in-Ok.ensures.bytes c.in-Ok.ensures.session c.in-Ok.ensures.goes_on w in
+    send_stops c.frames_keep_their_laws.ensures g.D.Debuggee.shown g.D.Debuggee.follows c.each_schedule_agrees.ensures.agrees limits debuggee c.args.self.now.client c.args.self.now.adapter c.args.self.now.reader c.args.self.now.transcript.items start c.args.call.now c.in_err-down.field-0.0 c.args.line q c.requires.plain c.in-Ok.ensures.sent c.in-Ok.ensures.reads_back (c.in_err-down.ensures.stops limits debuggee sent (subst (λ (z : List ℕ). HasDelivered g.D.Debuggee.shown g.D.Debuggee.follows limits debuggee sent c.send.new.self c.args.self.now.adapter c.write_lines.new.reader c.write_lines.new.transcript.items z []) (sym c.deref-2.ensures.value) h)))
 
 pub returns-in_err-settle-clause-stops : goal.returns-in_err-settle-clause-stops
 returns-in_err-settle-clause-stops g c =
     let p = err_from_is_err_and c.from_residual-in_err-settle.result c.from_residual-in_err-settle.ensures.1 in
     rw (p.1, p.2) (λ limits debuggee start q.
-        let w = subst (λ (z : List ℕ). WritesLines limits c.write_lines.new.reader Client z c.args.self.now.transcript.items c.write_lines.new.transcript.items) c.deref.ensures.value (c.in-Ok-write_lines.ensures.lines limits q.at.reader_at) in
-        let sent = client_said (after_send c.args.call.now start.client) (next_message start.client c.args.call.now ∷ []) start in
-        let h = call_sent c.frames_keep_their_laws.ensures g.D.Debuggee.shown g.D.Debuggee.follows c.each_schedule_agrees.ensures.agrees limits debuggee c.args.self.now.client c.send.new.self c.args.self.now.adapter c.args.self.now.reader c.write_lines.new.reader c.args.self.now.transcript.items c.write_lines.new.transcript.items c.in-Ok.sent.bytes.items start c.args.call.now q c.requires.plain c.in-Ok.ensures.sent c.in-Ok.ensures.reads_back c.in-Ok.ensures.bytes c.in-Ok.ensures.session c.in-Ok.ensures.goes_on w in
-        send_stops c.frames_keep_their_laws.ensures g.D.Debuggee.shown g.D.Debuggee.follows c.each_schedule_agrees.ensures.agrees limits debuggee c.args.self.now.client c.args.self.now.adapter c.args.self.now.reader c.args.self.now.transcript.items start c.args.call.now c.in_err-settle.field-0.0 c.args.line q c.requires.plain c.in-Ok.ensures.sent c.in-Ok.ensures.reads_back (c.in_err-settle.ensures.stops limits debuggee sent (c.in_ok-down.ensures.delivered limits debuggee sent (subst (λ (z : List ℕ). HasDelivered g.D.Debuggee.shown g.D.Debuggee.follows limits debuggee sent c.send.new.self c.args.self.now.adapter c.write_lines.new.reader c.write_lines.new.transcript.items z []) (sym c.deref-2.ensures.value) h))))
+    let w = subst (λ (z : List ℕ). WritesLines limits c.write_lines.new.reader Client z c.args.self.now.transcript.items c.write_lines.new.transcript.items) c.deref.ensures.value (c.in-Ok-write_lines.ensures.lines limits q.at.reader_at) in
+    let sent = client_said (after_send c.args.call.now start.client) (next_message start.client c.args.call.now ∷ []) start in
+    let h = call_sent c.frames_keep_their_laws.ensures g.D.Debuggee.shown g.D.Debuggee.follows c.each_schedule_agrees.ensures.agrees limits debuggee c.args.self.now.client c.send.new.self c.args.self.now.adapter c.args.self.now.reader c.write_lines.new.reader c.args.self.now.transcript.items c.write_lines.new.transcript.items c.in-Ok.sent.bytes.items start c.args.call.now q c.requires.plain c.in-Ok.ensures.sent c.in-Ok.ensures.reads_back c.in-Ok.ensures.bytes c.in-Ok.ensures.session c.in-Ok.ensures.goes_on w in
+    send_stops c.frames_keep_their_laws.ensures g.D.Debuggee.shown g.D.Debuggee.follows c.each_schedule_agrees.ensures.agrees limits debuggee c.args.self.now.client c.args.self.now.adapter c.args.self.now.reader c.args.self.now.transcript.items start c.args.call.now c.in_err-settle.field-0.0 c.args.line q c.requires.plain c.in-Ok.ensures.sent c.in-Ok.ensures.reads_back (c.in_err-settle.ensures.stops limits debuggee sent (c.in_ok-down.ensures.delivered limits debuggee sent (subst (λ (z : List ℕ). HasDelivered g.D.Debuggee.shown g.D.Debuggee.follows limits debuggee sent c.send.new.self c.args.self.now.adapter c.write_lines.new.reader c.write_lines.new.transcript.items z []) (sym c.deref-2.ensures.value) h))))

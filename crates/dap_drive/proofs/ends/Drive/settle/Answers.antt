@@ -37,12 +37,12 @@ pub returns-in_err-up-clause-stops : goal.returns-in_err-up-clause-stops
 returns-in_err-up-clause-stops g c =
     let p = err_from_is_err_and c.from_residual.result c.from_residual.ensures.1 in
     rw (p.1, p.2) (λ limits debuggee start h. c.in_err-up.ensures.stops limits debuggee start
-        (subst (λ (z : List ℕ). HasDelivered g.D.Debuggee.shown g.D.Debuggee.follows limits debuggee start c.settle.self.client c.settle.self.adapter c.settle.self.reader c.settle.self.transcript.items [] z) (sym c.deref.ensures.value) (c.settle.invariant.delivered limits debuggee start h)))
+    (subst (λ (z : List ℕ). HasDelivered g.D.Debuggee.shown g.D.Debuggee.follows limits debuggee start c.settle.self.client c.settle.self.adapter c.settle.self.reader c.settle.self.transcript.items [] z) (sym c.deref.ensures.value) (c.settle.invariant.delivered limits debuggee start h)))
 
 pub returns-in_err-down-clause-stops : goal.returns-in_err-down-clause-stops
 returns-in_err-down-clause-stops g c =
     let p = err_from_is_err_and c.from_residual-in_err-down.result c.from_residual-in_err-down.ensures.1 in
     rw (p.1, p.2) (λ limits debuggee start h.
-        let before = subst (λ (z : List ℕ). HasDelivered g.D.Debuggee.shown g.D.Debuggee.follows limits debuggee start c.settle.self.client c.settle.self.adapter c.settle.self.reader c.settle.self.transcript.items [] z) (sym c.deref.ensures.value) (c.settle.invariant.delivered limits debuggee start h) in
-        let heard = c.in_ok-up.ensures.delivered limits debuggee start before in
-        c.in_err-down.ensures.stops limits debuggee start (subst (λ (z : List ℕ). HasDelivered g.D.Debuggee.shown g.D.Debuggee.follows limits debuggee start c.deliver_down.new.self.client c.deliver_down.new.self.adapter c.deliver_down.new.self.reader c.deliver_down.new.self.transcript.items z []) (sym c.deref-in-settle.ensures.value) heard))
+    let before = subst (λ (z : List ℕ). HasDelivered g.D.Debuggee.shown g.D.Debuggee.follows limits debuggee start c.settle.self.client c.settle.self.adapter c.settle.self.reader c.settle.self.transcript.items [] z) (sym c.deref.ensures.value) (c.settle.invariant.delivered limits debuggee start h) in
+    let heard = c.in_ok-up.ensures.delivered limits debuggee start before in
+    c.in_err-down.ensures.stops limits debuggee start (subst (λ (z : List ℕ). HasDelivered g.D.Debuggee.shown g.D.Debuggee.follows limits debuggee start c.deliver_down.new.self.client c.deliver_down.new.self.adapter c.deliver_down.new.self.reader c.deliver_down.new.self.transcript.items z []) (sym c.deref-in-settle.ensures.value) heard))

@@ -38,7 +38,7 @@ pub returns-in_err-settle-clause-stops : goal.returns-in_err-settle-clause-stops
 returns-in_err-settle-clause-stops g c =
     let p = err_from_is_err_and c.from_residual.result c.from_residual.ensures.1 in
     rw (p.1, p.2) (λ limits debuggee start q.
-        let gives = rw c.in-Ok-Done.field-0-is at c.in-Ok-Done.ensures.gives in
-        let w = subst (λ (z : List ℕ). WritesLines limits c.write_lines.new.reader Adapter z c.args.self.now.transcript.items c.write_lines.new.transcript.items) c.deref.ensures.value (c.in-Ok.ensures.lines limits q.at.reader_at) in
-        let h = turn_spoken c.frames_keep_their_laws.ensures g.D.Debuggee.shown g.D.Debuggee.follows c.each_schedule_agrees.ensures.agrees limits debuggee c.args.self.now.client c.args.self.now.adapter c.turn.new.self c.args.self.now.reader c.write_lines.new.reader c.args.self.now.transcript.items c.write_lines.new.transcript.items c.in-Ok-Done.bytes.items start q gives c.in-Ok-Done.ensures.limits w in
-        turn_stops c.frames_keep_their_laws.ensures g.D.Debuggee.shown g.D.Debuggee.follows c.each_schedule_agrees.ensures.agrees limits debuggee c.args.self.now.client c.args.self.now.adapter c.turn.new.self c.args.self.now.reader c.args.self.now.transcript.items c.in-Ok-Done.bytes.items start q gives c.in_err-settle.field-0.0 (c.in_err-settle.ensures.stops limits debuggee _ h))
+    let gives = rw c.in-Ok-Done.field-0-is at c.in-Ok-Done.ensures.gives in
+    let w = subst (λ (z : List ℕ). WritesLines limits c.write_lines.new.reader Adapter z c.args.self.now.transcript.items c.write_lines.new.transcript.items) c.deref.ensures.value (c.in-Ok.ensures.lines limits q.at.reader_at) in
+    let h = turn_spoken c.frames_keep_their_laws.ensures g.D.Debuggee.shown g.D.Debuggee.follows c.each_schedule_agrees.ensures.agrees limits debuggee c.args.self.now.client c.args.self.now.adapter c.turn.new.self c.args.self.now.reader c.write_lines.new.reader c.args.self.now.transcript.items c.write_lines.new.transcript.items c.in-Ok-Done.bytes.items start q gives c.in-Ok-Done.ensures.limits w in
+    turn_stops c.frames_keep_their_laws.ensures g.D.Debuggee.shown g.D.Debuggee.follows c.each_schedule_agrees.ensures.agrees limits debuggee c.args.self.now.client c.args.self.now.adapter c.turn.new.self c.args.self.now.reader c.args.self.now.transcript.items c.in-Ok-Done.bytes.items start q gives c.in_err-settle.field-0.0 (c.in_err-settle.ensures.stops limits debuggee _ h))

@@ -25,5 +25,5 @@ pub returns-in_err-more-clause-stops : goal.returns-in_err-more-clause-stops
 returns-in_err-more-clause-stops g c =
     let p = err_from_is_err_and c.from_residual.result c.from_residual.ensures.1 in
     rw (p.1, p.2) (λ limits debuggee start q.
-        let h = c.turns.invariant.ran limits debuggee start q in
-        run_turn_stops c.frames_keep_their_laws.ensures g.D.Debuggee.shown g.D.Debuggee.follows c.each_schedule_agrees.ensures.agrees limits debuggee start h.world c.in_err-more.field-0.0 h.done (c.in_err-more.ensures.stops limits debuggee h.world h.quiet))
+    let h = c.turns.invariant.ran limits debuggee start q in
+    run_turn_stops c.frames_keep_their_laws.ensures g.D.Debuggee.shown g.D.Debuggee.follows c.each_schedule_agrees.ensures.agrees limits debuggee start h.world c.in_err-more.field-0.0 h.done (c.in_err-more.ensures.stops limits debuggee h.world h.quiet))
