@@ -1,5 +1,5 @@
 -- Whatever is under way, and whatever was written, is read back by the other end: each step writes only that.
-use Rattle.std.proofs.Common.{◌≡◌, ℕ, List, [], ◌∷◌, ◌++◌, map, refl, sym, ap, ◌∙◌, subst}
+use Rattle.std.proofs.Common.{◌≡◌, ℕ, List, [], ◌∷◌, ◌++◌, refl, sym, ap, subst}
 use Rattle.std.specs.List.{AllByRecursion}
 use Rattle.dap_frame.specs.Settings.{Settings, AreInRange}
 use Rattle.dap_message.specs.ReadBack.{ReadsBack, AllReadBack}
@@ -11,7 +11,7 @@ use Rattle.dap_session.specs.Carried.{Goes}
 use Rattle.dap_session.specs.Seat.{Seat}
 use Rattle.dap_client.specs.Sending.{next_message, after_send}
 use Rattle.dap_client.specs.Session.{Session as ClientSession}
-use Rattle.dap_world.specs.World.{World, Said, said_by, messages_of, fresh_world, client_said, adapter_said, Sends, ComesUp, ComesDown, Turns, Polls, Step, by_sending, by_coming_up, by_coming_down, by_turning, by_polling, Schedule, starts, goes}
+use Rattle.dap_world.specs.World.{World, Said, said_by, messages_of, client_said, adapter_said, Step, by_sending, by_coming_up, by_coming_down, by_turning, by_polling, Schedule, starts, goes}
 use Rattle.dap_world.specs.Agreement.{AllArrive}
 use Rattle.dap_world.proofs.Lasting.{schedule-stands}
 use Rattle.dap_world.proofs.Standing.{Stands}
