@@ -1,78 +1,47 @@
--- A worked schedule, shown by computation: a launch is parked, and a disconnect cancels it.
-use Rattle.std.proofs.Common.{◌≡◌, List, [], ◌∷◌, length, map, true, false, Option, Some, None, Result, Ok, Err, codes, refl}
-use Rattle.std.specs.Prelude.{IsTrue}
+-- Worked schedules, each shown by computation: what is written, in which place each request is, and where a step is none.
+use Rattle.std.proofs.Common.{◌≡◌, ℕ, List, [], ◌∷◌, length, map, true, false, Some, None, Err, codes, pos, refl}
 use Rattle.std.specs.Fmt.{digits}
 use Rattle.std.specs.Str.{is_utf8, chars}
 use Rattle.json.specs.Print.{escape_byte}
 use Rattle.serde_json.proofs.OnLiterals.{serde_json_on_literals}
 use Rattle.dap_json.specs.Read.{json_of}
-use Rattle.dap_frame.specs.Settings.{usual_settings}
-use Rattle.dap_message.specs.Call.{initialize_of}
+use Rattle.dap_frame.specs.Settings.{Settings, settings, usual_settings}
+use Rattle.dap_message.specs.Call.{initialize_of, cancel_of}
 use Rattle.dap_message.specs.CallTree.{initialize_members}
 use Rattle.dap_message.specs.Canon.{canon, tree_of, request_members, response_members, event_members}
-use Rattle.dap_message.specs.PlainCall.{is_plain_call}
-use Rattle.dap_message.specs.ReadBack.{ReadsBack, AllReadBack}
+use Rattle.dap_message.specs.ReadBack.{AllReadBack}
 use Rattle.dap_message.specs.Types.Call.{Call}
 use Rattle.dap_message.specs.Types.Call.TheVariants as call
+use Rattle.dap_message.specs.declared.message.Kind.TheVariants.{Other}
 use Rattle.dap_message.specs.declared.message.Message.{Message}
+use Rattle.dap_debuggee.specs.Played.{Played, unplayed, shown_of}
 use Rattle.dap_debuggee.specs.Shown.{Shown}
-use Rattle.dap_session.specs.declared.fault.AdapterFault.{AdapterFault}
+use Rattle.dap_debuggee.specs.declared.recording.Recording.{Recording}
+use Rattle.dap_session.specs.declared.fault.AdapterFault.TheVariants.{SeqExhausted}
 use Rattle.dap_session.specs.Carried.{Goes}
+use Rattle.dap_session.specs.Bodies.{telling}
 use Rattle.dap_session.specs.Handling.{plan_for, turns}
-use Rattle.dap_session.specs.Plan.{Made, Plan, at_once, numbered}
 use Rattle.dap_session.specs.Taking.{takes}
-use Rattle.dap_client.specs.declared.fault.ClientFault.{ClientFault}
-use Rattle.dap_client.specs.Sending.{first_of, refusals_in_order, next_message, after_send}
-use Rattle.dap_client.specs.Taking.{Made as ClientMade, takes as client_takes}
 use Rattle.dap_tables.specs.Outstanding.{parked_ones}
 use Rattle.dap_world.specs.Agreement.{names_of, asked_in, answered_in}
-use Rattle.dap_world.specs.World.{World, messages_of, fresh_world, client_said, adapter_said, by_sending, by_coming_up, by_coming_down, by_turning, Schedule, starts, goes}
+use Rattle.dap_world.specs.World.{World, messages_of, fresh_world, starts}
+use Rattle.dap_world.proofs.PlayedWorlds.{sent, up, down, turned, Leads, sends, comes_up, comes_down, turns_once}
 
--- ---- calls
+-- ---- words
 
 abbrev initialize : Call
 initialize = call.Initialize (record { adapter_id = codes "rec"; lines_start_at_1 = true; columns_start_at_1 = true; supports_variable_paging = false; supports_run_in_terminal_request = false })
 
+abbrev texts : {D : Type 0} → World D → List (List ℕ)
+texts w = map (λ m. canon m) (messages_of w.said)
+
+abbrev first_message : List Message → Message
+first_message [] = record { seq = 0; kind = Other [] }
+first_message (m ∷ later) = m
+
+-- ---- a launch is parked, and a disconnect cancels it, whatever the debuggee shows
+
 module _ {D : Type 0} (shown : D → Shown) (follows : Goes D) (d : D) where
-  -- ---- one step each
-
-  abbrev sent : Call → World D → World D
-  sent c w = client_said (after_send c w.client) (next_message w.client c ∷ []) w
-
-  abbrev spoke : Made → World D → World D
-  spoke made w = adapter_said (record { session = made.after; debuggee = w.adapter.debuggee }) (numbered w.adapter.session.used made.drafts) w
-
-  abbrev heard_by : Result ClientMade ClientFault → World D → World D
-  heard_by (Ok made) w = client_said made.after made.written w
-  heard_by (Err fault) w = w
-
-  abbrev planned : Result Plan AdapterFault → World D → World D
-  planned (Ok (at_once made)) w = spoke made w
-  planned _ w = w
-
-  abbrev turned_by : Result (Option Plan) AdapterFault → World D → World D
-  turned_by (Ok (Some (at_once made))) w = spoke made w
-  turned_by _ w = w
-
-  abbrev took_up : List Message → World D → World D
-  took_up [] w = w
-  took_up (m ∷ later) w = planned (takes m w.adapter.session) (record w { up = later })
-
-  abbrev up : World D → World D
-  up w = took_up w.up w
-
-  abbrev took_down : List Message → World D → World D
-  took_down [] w = w
-  took_down (m ∷ later) w = heard_by (client_takes m w.client) (record w { down = later })
-
-  abbrev down : World D → World D
-  down w = took_down w.down w
-
-  abbrev turned : World D → World D
-  turned w = turned_by (turns (shown w.adapter.debuggee) w.adapter.session) w
-
-  -- ---- the schedule
-
   abbrev w0 : World D
   w0 = fresh_world usual_settings d
 
@@ -83,7 +52,7 @@ module _ {D : Type 0} (shown : D → Shown) (follows : Goes D) (d : D) where
   w2 = up w1
 
   abbrev w3 : World D
-  w3 = turned w2
+  w3 = turned shown w2
 
   abbrev w4 : World D
   w4 = down w3
@@ -98,7 +67,7 @@ module _ {D : Type 0} (shown : D → Shown) (follows : Goes D) (d : D) where
   w7 = up w6
 
   abbrev w8 : World D
-  w8 = turned w7
+  w8 = turned shown w7
 
   abbrev w9 : World D
   w9 = sent call.Disconnect w8
@@ -107,7 +76,7 @@ module _ {D : Type 0} (shown : D → Shown) (follows : Goes D) (d : D) where
   w10 = up w9
 
   abbrev w11 : World D
-  w11 = turned w10
+  w11 = turned shown w10
 
   abbrev w12 : World D
   w12 = down w11
@@ -116,7 +85,7 @@ module _ {D : Type 0} (shown : D → Shown) (follows : Goes D) (d : D) where
   w13 = down w12
 
   -- what was written by then, in order
-  lines : map (λ m. canon m) (messages_of w13.said) ≡
+  lines : texts w13 ≡
       codes "{\"arguments\":{\"adapterID\":\"rec\"},\"command\":\"initialize\",\"seq\":1,\"type\":\"request\"}"
       ∷ codes "{\"body\":{\"supportsCancelRequest\":true,\"supportsConfigurationDoneRequest\":true,\"supportsLoadedSourcesRequest\":true,\"supportsStepBack\":true,\"supportsTerminateRequest\":true},\"command\":\"initialize\",\"request_seq\":1,\"seq\":1,\"success\":true,\"type\":\"response\"}"
       ∷ codes "{\"event\":\"initialized\",\"seq\":2,\"type\":\"event\"}"
@@ -125,86 +94,155 @@ module _ {D : Type 0} (shown : D → Shown) (follows : Goes D) (d : D) where
       ∷ codes "{\"body\":{\"error\":{\"format\":\"The request was cancelled.\",\"id\":1012}},\"command\":\"launch\",\"message\":\"cancelled\",\"request_seq\":2,\"seq\":3,\"success\":false,\"type\":\"response\"}"
       ∷ codes "{\"command\":\"disconnect\",\"request_seq\":3,\"seq\":4,\"success\":true,\"type\":\"response\"}"
       ∷ []
-  unfolding canon tree_of request_members response_members event_members initialize_members escape_byte digits plan_for initialize_of json_of is_utf8 chars serde_json_on_literals
+  unfolding canon tree_of request_members response_members event_members initialize_members escape_byte digits plan_for initialize_of cancel_of telling json_of is_utf8 chars serde_json_on_literals
   lines = refl
 
   -- after the turn that parks it, the launch alone is outstanding, and nothing is under way
   parked_alone : (names_of w8.client.outstanding ≡ names_of w8.adapter.session.kept) × (length (parked_ones w8.adapter.session.kept) ≡ 1) × (length w8.client.outstanding ≡ 1) × (w8.up ≡ []) × (w8.down ≡ [])
-  unfolding canon tree_of request_members response_members event_members initialize_members escape_byte digits plan_for initialize_of json_of is_utf8 chars serde_json_on_literals
+  unfolding canon tree_of request_members response_members event_members initialize_members escape_byte digits plan_for initialize_of cancel_of telling json_of is_utf8 chars serde_json_on_literals
   parked_alone = (refl, refl, refl, refl, refl)
 
   -- two are outstanding: one is kept, and the other is under way up
   one_each : (length w9.client.outstanding ≡ 2) × (length w9.adapter.session.kept ≡ 1) × (length (asked_in w9.up) ≡ 1)
-  unfolding canon tree_of request_members response_members event_members initialize_members escape_byte digits plan_for initialize_of json_of is_utf8 chars serde_json_on_literals
+  unfolding canon tree_of request_members response_members event_members initialize_members escape_byte digits plan_for initialize_of cancel_of telling json_of is_utf8 chars serde_json_on_literals
   one_each = (refl, refl, refl)
 
   -- then both responses are under way down, and in the end none is outstanding
   both_answered : (length (answered_in w11.down) ≡ 2) × (w11.adapter.session.kept ≡ []) × (length w11.client.outstanding ≡ 2) × (w13.client.outstanding ≡ [])
-  unfolding canon tree_of request_members response_members event_members initialize_members escape_byte digits plan_for initialize_of json_of is_utf8 chars serde_json_on_literals
+  unfolding canon tree_of request_members response_members event_members initialize_members escape_byte digits plan_for initialize_of cancel_of telling json_of is_utf8 chars serde_json_on_literals
   both_answered = (refl, refl, refl, refl)
 
-  -- ---- it is a schedule, where what is written is read back
-
-  abbrev Leads : World D → Type 0
-  Leads w = Schedule shown follows usual_settings d w
-
-  sends : (c : Call) (w : World D) → IsTrue (is_plain_call c) → first_of refusals_in_order c false w.client ≡ None → ReadsBack w.client.limits.body (next_message w.client c) → Leads w → Leads (sent c w)
-  sends c w plain free back s = goes w (sent c w) s (by_sending c (record { plain = plain; free = free; reads_back = back; is = refl }))
-
-  comes_up : (w : World D) (m : Message) (later : List Message) (made : Made) → w.up ≡ m ∷ later → takes m w.adapter.session ≡ Ok (at_once made) → AllReadBack w.adapter.session.limits.body (numbered w.adapter.session.used made.drafts) → Leads w → Leads (up w)
-  comes_up w m later made first taken back s = rw (first, taken) (goes w (spoke made (record w { up = later })) s (by_coming_up (record {
-    message = m;
-    later = later;
-    first = first;
-    plan = at_once made;
-    taken = taken;
-    outs = numbered w.adapter.session.used made.drafts;
-    seat = record { session = made.after; debuggee = w.adapter.debuggee };
-    writes = record { made = made; carried = (refl, refl); session = refl; outs_are = refl };
-    reads_back = back;
-    is = refl;
-  })))
-
-  comes_down : (w : World D) (m : Message) (later : List Message) (made : ClientMade) → w.down ≡ m ∷ later → client_takes m w.client ≡ Ok made → AllReadBack w.client.limits.body made.written → Leads w → Leads (down w)
-  comes_down w m later made first taken back s = rw (first, taken) (goes w (client_said made.after made.written (record w { down = later })) s (by_coming_down (record {
-    message = m;
-    later = later;
-    first = first;
-    made = made;
-    taken = taken;
-    reads_back = back;
-    is = refl;
-  })))
-
-  turns_once : (w : World D) (made : Made) → turns (shown w.adapter.debuggee) w.adapter.session ≡ Ok (Some (at_once made)) → AllReadBack w.adapter.session.limits.body (numbered w.adapter.session.used made.drafts) → Leads w → Leads (turned w)
-  turns_once w made is back s = rw is (goes w (spoke made w) s (by_turning (record {
-    plan = at_once made;
-    turned = is;
-    outs = numbered w.adapter.session.used made.drafts;
-    seat = record { session = made.after; debuggee = w.adapter.debuggee };
-    writes = record { made = made; carried = (refl, refl); session = refl; outs_are = refl };
-    reads_back = back;
-    is = refl;
-  })))
-
-  begun : AllReadBack usual_settings.body (messages_of w5.said) → Leads w5
-  unfolding canon tree_of request_members response_members event_members initialize_members escape_byte digits plan_for initialize_of json_of is_utf8 chars serde_json_on_literals
+  -- it is a schedule, where what is written is read back
+  begun : AllReadBack usual_settings.body (messages_of w5.said) → Leads shown follows usual_settings d w5
+  unfolding canon tree_of request_members response_members event_members initialize_members escape_byte digits plan_for initialize_of cancel_of telling json_of is_utf8 chars serde_json_on_literals
   begun back =
-      comes_down w4 _ _ _ refl refl tt
-      (comes_down w3 _ _ _ refl refl tt
-      (turns_once w2 _ refl (back.1.0, (back.1.1.0, tt))
-      (comes_up w1 _ _ _ refl refl tt
-      (sends initialize w0 refl refl back.0 starts))))
+      comes_down shown follows usual_settings d w4 _ _ _ refl refl tt
+      (comes_down shown follows usual_settings d w3 _ _ _ refl refl tt
+      (turns_once shown follows usual_settings d w2 _ refl (back.1.0, (back.1.1.0, tt))
+      (comes_up shown follows usual_settings d w1 _ _ _ refl refl tt
+      (sends shown follows usual_settings d initialize w0 refl refl back.0 starts))))
 
-  whole_schedule : AllReadBack usual_settings.body (messages_of w13.said) → Leads w13
-  unfolding canon tree_of request_members response_members event_members initialize_members escape_byte digits plan_for initialize_of json_of is_utf8 chars serde_json_on_literals
+  whole_schedule : AllReadBack usual_settings.body (messages_of w13.said) → Leads shown follows usual_settings d w13
+  unfolding canon tree_of request_members response_members event_members initialize_members escape_byte digits plan_for initialize_of cancel_of telling json_of is_utf8 chars serde_json_on_literals
   whole_schedule back =
       let later = back.1.1.1 in
-      comes_down w12 _ _ _ refl refl tt
-      (comes_down w11 _ _ _ refl refl tt
-      (turns_once w10 _ refl (later.1.1.0, (later.1.1.1.0, tt))
-      (comes_up w9 _ _ _ refl refl tt
-      (sends call.Disconnect w8 refl refl later.1.0
-      (turns_once w7 _ refl tt
-      (comes_up w6 _ _ _ refl refl tt
-      (sends (call.Launch None) w5 refl refl later.0 (begun (back.0, (back.1.0, (back.1.1.0, tt)))))))))))
+      comes_down shown follows usual_settings d w12 _ _ _ refl refl tt
+      (comes_down shown follows usual_settings d w11 _ _ _ refl refl tt
+      (turns_once shown follows usual_settings d w10 _ refl (later.1.1.0, (later.1.1.1.0, tt))
+      (comes_up shown follows usual_settings d w9 _ _ _ refl refl tt
+      (sends shown follows usual_settings d call.Disconnect w8 refl refl later.1.0
+      (turns_once shown follows usual_settings d w7 _ refl tt
+      (comes_up shown follows usual_settings d w6 _ _ _ refl refl tt
+      (sends shown follows usual_settings d (call.Launch None) w5 refl refl later.0 (begun (back.0, (back.1.0, (back.1.1.0, tt)))))))))))
+
+-- ---- two requests wait, and the first of them is cancelled: nine lines
+
+abbrev nothing_recorded : Recording
+nothing_recorded = record { exit = pos 0; sources = []; moments = []; scopes = []; variables = [] }
+
+abbrev v0 : World Played
+v0 = fresh_world usual_settings (unplayed nothing_recorded)
+
+abbrev v1 : World Played
+v1 = sent initialize v0
+
+abbrev v2 : World Played
+v2 = up v1
+
+abbrev v3 : World Played
+v3 = turned shown_of v2
+
+abbrev v4 : World Played
+v4 = down v3
+
+abbrev v5 : World Played
+v5 = down v4
+
+abbrev v6 : World Played
+v6 = sent call.Threads v5
+
+abbrev v7 : World Played
+v7 = up v6
+
+abbrev v8 : World Played
+v8 = sent call.Threads v7
+
+abbrev v9 : World Played
+v9 = up v8
+
+abbrev v10 : World Played
+v10 = sent (call.Cancel (Some 2)) v9
+
+abbrev v11 : World Played
+v11 = up v10
+
+abbrev v12 : World Played
+v12 = down v11
+
+abbrev v13 : World Played
+v13 = down v12
+
+abbrev v14 : World Played
+v14 = turned shown_of v13
+
+abbrev v15 : World Played
+v15 = down v14
+
+nine_lines : texts v15 ≡
+    codes "{\"arguments\":{\"adapterID\":\"rec\"},\"command\":\"initialize\",\"seq\":1,\"type\":\"request\"}"
+    ∷ codes "{\"body\":{\"supportsCancelRequest\":true,\"supportsConfigurationDoneRequest\":true,\"supportsLoadedSourcesRequest\":true,\"supportsStepBack\":true,\"supportsTerminateRequest\":true},\"command\":\"initialize\",\"request_seq\":1,\"seq\":1,\"success\":true,\"type\":\"response\"}"
+    ∷ codes "{\"event\":\"initialized\",\"seq\":2,\"type\":\"event\"}"
+    ∷ codes "{\"command\":\"threads\",\"seq\":2,\"type\":\"request\"}"
+    ∷ codes "{\"command\":\"threads\",\"seq\":3,\"type\":\"request\"}"
+    ∷ codes "{\"arguments\":{\"requestId\":2},\"command\":\"cancel\",\"seq\":4,\"type\":\"request\"}"
+    ∷ codes "{\"body\":{\"error\":{\"format\":\"The request was cancelled.\",\"id\":1012}},\"command\":\"threads\",\"message\":\"cancelled\",\"request_seq\":2,\"seq\":3,\"success\":false,\"type\":\"response\"}"
+    ∷ codes "{\"command\":\"cancel\",\"request_seq\":4,\"seq\":4,\"success\":true,\"type\":\"response\"}"
+    ∷ codes "{\"body\":{\"threads\":[]},\"command\":\"threads\",\"request_seq\":3,\"seq\":5,\"success\":true,\"type\":\"response\"}"
+    ∷ []
+unfolding canon tree_of request_members response_members event_members initialize_members escape_byte digits plan_for initialize_of cancel_of telling json_of is_utf8 chars serde_json_on_literals
+nine_lines = refl
+
+-- of three outstanding requests one is kept, and two are answered under way down
+three_places : (length v11.client.outstanding ≡ 3) × (v11.up ≡ []) × (length v11.adapter.session.kept ≡ 1) × (length (answered_in v11.down) ≡ 2) × (v15.client.outstanding ≡ [])
+unfolding canon tree_of request_members response_members event_members initialize_members escape_byte digits plan_for initialize_of cancel_of telling json_of is_utf8 chars serde_json_on_literals
+three_places = (refl, refl, refl, refl, refl)
+
+nine_lines_lead : (follows : Goes Played) → AllReadBack usual_settings.body (messages_of v15.said) → Leads shown_of follows usual_settings (unplayed nothing_recorded) v15
+unfolding canon tree_of request_members response_members event_members initialize_members escape_byte digits plan_for initialize_of cancel_of telling json_of is_utf8 chars serde_json_on_literals
+nine_lines_lead follows back =
+    let d = unplayed nothing_recorded in
+    let later = back.1.1.1 in
+    comes_down shown_of follows usual_settings d v14 _ _ _ refl refl tt
+    (turns_once shown_of follows usual_settings d v13 _ refl (later.1.1.1.1.1.0, tt)
+    (comes_down shown_of follows usual_settings d v12 _ _ _ refl refl tt
+    (comes_down shown_of follows usual_settings d v11 _ _ _ refl refl tt
+    (comes_up shown_of follows usual_settings d v10 _ _ _ refl refl (later.1.1.1.0, (later.1.1.1.1.0, tt))
+    (sends shown_of follows usual_settings d (call.Cancel (Some 2)) v9 refl refl later.1.1.0
+    (comes_up shown_of follows usual_settings d v8 _ _ _ refl refl tt
+    (sends shown_of follows usual_settings d call.Threads v7 refl refl later.1.0
+    (comes_up shown_of follows usual_settings d v6 _ _ _ refl refl tt
+    (sends shown_of follows usual_settings d call.Threads v5 refl refl later.0
+    (begun shown_of follows d (back.0, (back.1.0, (back.1.1.0, tt)))))))))))))
+
+-- ---- too few own numbers: one closes a turn, three close the cancel that comes up
+
+abbrev with_numbers : ℕ → Settings
+with_numbers n = settings 8192 4194304 64 65536 4096 n 2147483647
+
+module _ {D : Type 0} (shown : D → Shown) (d : D) where
+  abbrev u2 : World D
+  u2 = up (sent initialize (fresh_world (with_numbers 1) d))
+
+  no_turn : turns (shown u2.adapter.debuggee) u2.adapter.session ≡ Err SeqExhausted
+  unfolding canon tree_of request_members response_members event_members initialize_members escape_byte digits plan_for initialize_of cancel_of telling json_of is_utf8 chars serde_json_on_literals
+  no_turn = refl
+
+  abbrev t5 : World D
+  t5 = down (down (turned shown (up (sent initialize (fresh_world (with_numbers 3) d)))))
+
+  abbrev t8 : World D
+  t8 = sent (call.Cancel (Some 2)) (up (sent call.Threads t5))
+
+  no_cancel : (length t8.up ≡ 1) × (takes (first_message t8.up) t8.adapter.session ≡ Err SeqExhausted)
+  unfolding canon tree_of request_members response_members event_members initialize_members escape_byte digits plan_for initialize_of cancel_of telling json_of is_utf8 chars serde_json_on_literals
+  no_cancel = (refl, refl)
