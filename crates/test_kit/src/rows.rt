@@ -229,10 +229,10 @@ fn tell_wrong(
     came: &str,
 ) -> io::Result<()> {
     let (name, text) = (name_at(rows, end.place), line_of(rows, end));
-    eprintln!(rt;
-        "row '{name}', line {}, in pieces of {size}: {text}",
-        end.line
-    )?;
+    if size < usize::MAX {
+        eprintln!(rt; "in pieces of {size}:")?;
+    }
+    eprintln!(rt; "row '{name}', line {}: {text}", end.line)?;
     eprintln!(rt; "    what came: {came}")
 }
 
