@@ -92,6 +92,7 @@ fn follow_lines<P: Player>(
         if is_heading(text) {
             continue;
         }
+        came.clear();
         let outcome = player.follow(alloc, text, came);
         if outcome != Outcome::Right {
             return End {
@@ -101,6 +102,7 @@ fn follow_lines<P: Player>(
             };
         }
     }
+    came.clear();
     End {
         outcome: player.finish(alloc, came),
         place,
