@@ -101,6 +101,7 @@ impl<D: Debuggee + Drop> Playing<D> {
             return Outcome::Right;
         }
         tell(came, &self.adapter.phase());
+        note(came, ", ");
         tell(came, &counts);
         Outcome::Wrong
     }
@@ -301,10 +302,10 @@ impl<D: Debuggee + Drop> Playing<D> {
         let outcome = self.shows(came);
         self.facts.go_on();
         if is_said {
-            outcome
-        } else {
-            wrong(came, "another count")
+            return outcome;
         }
+        tell(came, &self.counts());
+        Outcome::Wrong
     }
 
     /// What is compared at a line at which no call is made.

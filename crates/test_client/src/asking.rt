@@ -134,6 +134,7 @@ impl Asking {
             return Outcome::Right;
         }
         tell(came, &self.client.phase());
+        note(came, ", ");
         tell(came, &counts);
         Outcome::Wrong
     }
@@ -397,10 +398,10 @@ impl Asking {
         let outcome = self.shows(came);
         self.facts.go_on();
         if is_said {
-            outcome
-        } else {
-            wrong(came, "another count")
+            return outcome;
         }
+        tell(came, &self.counts());
+        Outcome::Wrong
     }
 
     fn is_in(&mut self, name: &str, came: &mut String) -> Outcome {

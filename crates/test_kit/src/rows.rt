@@ -92,6 +92,7 @@ fn follow_lines<P: Player>(
         if is_heading(text) {
             continue;
         }
+        came.clear();
         let outcome = player.follow(alloc, text, came);
         if outcome != Outcome::Right {
             return End {
@@ -101,6 +102,7 @@ fn follow_lines<P: Player>(
             };
         }
     }
+    came.clear();
     End {
         outcome: player.finish(alloc, came),
         place,
@@ -229,10 +231,10 @@ fn tell_wrong(
     came: &str,
 ) -> io::Result<()> {
     let (name, text) = (name_at(rows, end.place), line_of(rows, end));
-    eprintln!(rt;
-        "row '{name}', line {}, in pieces of {size}: {text}",
-        end.line
-    )?;
+    if size < usize::MAX {
+        eprintln!(rt; "in pieces of {size}:")?;
+    }
+    eprintln!(rt; "row '{name}', line {}: {text}", end.line)?;
     eprintln!(rt; "    what came: {came}")
 }
 
