@@ -1,48 +1,81 @@
--- Schedules that are played out, step by step, where the debuggee is asked nothing: each world is computed from the one before.
-use Rattle.std.proofs.Common.{◌≡◌, List, [], ◌∷◌, Option, Some, None, Result, Ok, Err, refl}
-use Rattle.std.specs.Prelude.{IsTrue, false}
+-- Schedules that are played out, step by step: each world is computed from the one before, where a debuggee's answers are.
+use Rattle.std.proofs.Common.{◌≡◌, List, [], ◌∷◌, Option, Some, None, Result, Ok, Err, refl, sym, subst}
+use Rattle.std.specs.Prelude.{◌++◌, ◌≤◌, IsTrue, false}
+use Rattle.std.specs.List.{AllByRecursion}
 use Rattle.dap_frame.specs.Settings.{Settings}
 use Rattle.dap_message.specs.PlainCall.{is_plain_call}
 use Rattle.dap_message.specs.ReadBack.{ReadsBack, AllReadBack}
 use Rattle.dap_message.specs.Types.Call.{Call}
 use Rattle.dap_message.specs.declared.message.Message.{Message}
-use Rattle.dap_debuggee.specs.Shown.{Shown}
+use Rattle.dap_debuggee.specs.Shown.{Shown, Act, Reply}
+use Rattle.dap_check.specs.declared.line.Side.{Side}
+use Rattle.dap_check.specs.declared.line.Side.TheVariants.{Client, Adapter}
 use Rattle.dap_session.specs.declared.fault.AdapterFault.{AdapterFault}
-use Rattle.dap_session.specs.Carried.{Goes}
+use Rattle.dap_session.specs.Carried.{Goes, CarriedOut}
 use Rattle.dap_session.specs.Handling.{turns}
-use Rattle.dap_session.specs.Plan.{Made, Plan, at_once, numbered}
+use Rattle.dap_session.specs.Plan.{Made, Plan, at_once, asking, numbered}
+use Rattle.dap_session.specs.Polling.{polls}
+use Rattle.dap_session.specs.Seat.{Seat}
 use Rattle.dap_session.specs.Taking.{takes}
 use Rattle.dap_client.specs.declared.fault.ClientFault.{ClientFault}
 use Rattle.dap_client.specs.Sending.{first_of, refusals_in_order, next_message, after_send}
 use Rattle.dap_client.specs.Taking.{Made as ClientMade, takes as client_takes}
-use Rattle.dap_world.specs.World.{World, client_said, adapter_said, by_sending, by_coming_up, by_coming_down, by_turning, Schedule, goes}
+use Rattle.dap_world.specs.World.{World, Said, said_by, messages_of, client_said, adapter_said, by_sending, by_coming_up, by_coming_down, by_turning, by_polling, Schedule, goes}
+use Rattle.dap_world.proofs.Arriving.{messages-more}
+
+-- ---- a debuggee whose answers are computed
+
+abbrev pub Replies : Type 0 → Type 0
+Replies D = Act → D → Reply × D
+
+abbrev pub FollowsBy : {D : Type 0} → Replies D → Goes D
+FollowsBy replies v act r w = (r ≡ (replies act v).0) × (w ≡ (replies act v).1)
+
+abbrev pub made_by : {D : Type 0} → Replies D → Plan → D → Made
+made_by replies (at_once made) v = made
+made_by replies (asking act makes) v = makes (replies act v).0
+
+abbrev pub left_by : {D : Type 0} → Replies D → Plan → D → D
+left_by replies (at_once made) v = v
+left_by replies (asking act makes) v = (replies act v).1
+
+carried : {D : Type 0} (replies : Replies D) (plan : Plan) (v : D) → CarriedOut (FollowsBy replies) plan v (made_by replies plan v) (left_by replies plan v)
+carried replies (at_once made) v = (refl, refl)
+carried replies (asking act makes) v = ((replies act v).0, (refl, refl), refl)
 
 -- ---- one step each; where none can be made, the world stays
 
 abbrev pub sent : {D : Type 0} → Call → World D → World D
 sent c w = client_said (after_send c w.client) (next_message w.client c ∷ []) w
 
-abbrev pub spoke : {D : Type 0} → Made → World D → World D
-spoke made w = adapter_said (record { session = made.after; debuggee = w.adapter.debuggee }) (numbered w.adapter.session.used made.drafts) w
+abbrev pub out_of : {D : Type 0} → Replies D → Plan → World D → List Message
+out_of replies plan w = numbered w.adapter.session.used (made_by replies plan w.adapter.debuggee).drafts
 
-abbrev pub planned : {D : Type 0} → Result Plan AdapterFault → World D → World D
-planned (Ok (at_once made)) w = spoke made w
-planned _ w = w
+abbrev pub seat_after : {D : Type 0} → Replies D → Plan → World D → Seat D
+seat_after replies plan w = record { session = (made_by replies plan w.adapter.debuggee).after; debuggee = left_by replies plan w.adapter.debuggee }
 
-abbrev pub turned_by : {D : Type 0} → Result (Option Plan) AdapterFault → World D → World D
-turned_by (Ok (Some (at_once made))) w = spoke made w
-turned_by _ w = w
+abbrev pub spoke : {D : Type 0} → Replies D → Plan → World D → World D
+spoke replies plan w = adapter_said (seat_after replies plan w) (out_of replies plan w) w
+
+abbrev pub planned : {D : Type 0} → Replies D → Result Plan AdapterFault → World D → World D
+planned replies (Ok plan) w = spoke replies plan w
+planned replies (Err fault) w = w
+
+abbrev pub turned_by : {D : Type 0} → Replies D → Result (Option Plan) AdapterFault → World D → World D
+turned_by replies (Ok (Some plan)) w = spoke replies plan w
+turned_by replies (Ok None) w = w
+turned_by replies (Err fault) w = w
 
 abbrev pub heard_by : {D : Type 0} → Result ClientMade ClientFault → World D → World D
 heard_by (Ok made) w = client_said made.after made.written w
 heard_by (Err fault) w = w
 
-abbrev pub took_up : {D : Type 0} → List Message → World D → World D
-took_up [] w = w
-took_up (m ∷ later) w = planned (takes m w.adapter.session) (record w { up = later })
+abbrev pub took_up : {D : Type 0} → Replies D → List Message → World D → World D
+took_up replies [] w = w
+took_up replies (m ∷ later) w = planned replies (takes m w.adapter.session) (record w { up = later })
 
-abbrev pub up : {D : Type 0} → World D → World D
-up w = took_up w.up w
+abbrev pub up : {D : Type 0} → Replies D → World D → World D
+up replies w = took_up replies w.up w
 
 abbrev pub took_down : {D : Type 0} → List Message → World D → World D
 took_down [] w = w
@@ -51,50 +84,82 @@ took_down (m ∷ later) w = heard_by (client_takes m w.client) (record w { down 
 abbrev pub down : {D : Type 0} → World D → World D
 down w = took_down w.down w
 
-abbrev pub turned : {D : Type 0} → (D → Shown) → World D → World D
-turned shown w = turned_by (turns (shown w.adapter.debuggee) w.adapter.session) w
+abbrev pub turned : {D : Type 0} → (D → Shown) → Replies D → World D → World D
+turned shown replies w = turned_by replies (turns (shown w.adapter.debuggee) w.adapter.session) w
+
+abbrev pub polled : {D : Type 0} → Replies D → World D → World D
+polled replies w = spoke replies (polls w.adapter.session) w
 
 -- ---- each is a step of a schedule, where what is written is read back
 
-module _ {D : Type 0} (shown : D → Shown) (follows : Goes D) (limits : Settings) (d : D) where
+parts : {A : Type 0} (P : A → Type 0) (xs ys : List A) → AllByRecursion P (xs ++ ys) → AllByRecursion P xs × AllByRecursion P ys
+parts P [] ys h = (tt, h)
+parts P (x ∷ xs) ys h = let p = parts P xs ys h.1 in ((h.0, p.0), p.1)
+
+both_read : (limit : _) (said : List Said) (side : Side) (ms : List Message) → AllReadBack limit (messages_of (said ++ said_by side ms)) → AllReadBack limit (messages_of said) × AllReadBack limit ms
+both_read limit said side ms h = parts (ReadsBack limit) (messages_of said) ms (subst (λ (z : List Message). AllReadBack limit z) (messages-more said side ms) h)
+
+module _ {D : Type 0} (shown : D → Shown) (replies : Replies D) (limits : Settings) (d : D) where
+  -- where all that was said is read back, a schedule leads there
   abbrev pub Leads : World D → Type 0
-  Leads w = Schedule shown follows limits d w
+  Leads w = AllReadBack limits.body (messages_of w.said) → Schedule shown (FollowsBy replies) limits d w
 
-  pub sends : (c : Call) (w : World D) → IsTrue (is_plain_call c) → first_of refusals_in_order c false w.client ≡ None → ReadsBack w.client.limits.body (next_message w.client c) → Leads w → Leads (sent c w)
-  sends c w plain free back s = goes w (sent c w) s (by_sending c (record { plain = plain; free = free; reads_back = back; is = refl }))
+  pub sends : (c : Call) (w : World D) → IsTrue (is_plain_call c) → first_of refusals_in_order c false w.client ≡ None → w.client.limits ≡ limits → Leads w → Leads (sent c w)
+  sends c w plain free same s = λ h.
+      let p = both_read limits.body w.said Client (next_message w.client c ∷ []) h in
+      goes w (sent c w) (s p.0) (by_sending c (record { plain = plain; free = free; reads_back = subst (λ (z : Settings). ReadsBack z.body (next_message w.client c)) (sym same) p.1.0; is = refl }))
 
-  pub comes_up : (w : World D) (m : Message) (later : List Message) (made : Made) → w.up ≡ m ∷ later → takes m w.adapter.session ≡ Ok (at_once made) → AllReadBack w.adapter.session.limits.body (numbered w.adapter.session.used made.drafts) → Leads w → Leads (up w)
-  comes_up w m later made first taken back s = rw (first, taken) (goes w (spoke made (record w { up = later })) s (by_coming_up (record {
-    message = m;
-    later = later;
-    first = first;
-    plan = at_once made;
-    taken = taken;
-    outs = numbered w.adapter.session.used made.drafts;
-    seat = record { session = made.after; debuggee = w.adapter.debuggee };
-    writes = record { made = made; carried = (refl, refl); session = refl; outs_are = refl };
-    reads_back = back;
-    is = refl;
-  })))
+  pub comes_up : (w : World D) (m : Message) (later : List Message) (plan : Plan) → w.up ≡ m ∷ later → takes m w.adapter.session ≡ Ok plan → w.adapter.session.limits ≡ limits → Leads w → Leads (up replies w)
+  comes_up w m later plan first taken same s = rw (first, taken) (λ h.
+      let p = both_read limits.body w.said Adapter (out_of replies plan w) h in
+      goes w (spoke replies plan (record w { up = later })) (s p.0) (by_coming_up (record {
+        message = m;
+        later = later;
+        first = first;
+        plan = plan;
+        taken = taken;
+        outs = out_of replies plan w;
+        seat = seat_after replies plan w;
+        writes = record { made = made_by replies plan w.adapter.debuggee; carried = carried replies plan w.adapter.debuggee; session = refl; outs_are = refl };
+        reads_back = subst (λ (z : Settings). AllReadBack z.body (out_of replies plan w)) (sym same) p.1;
+        is = refl;
+      })))
 
-  pub comes_down : (w : World D) (m : Message) (later : List Message) (made : ClientMade) → w.down ≡ m ∷ later → client_takes m w.client ≡ Ok made → AllReadBack w.client.limits.body made.written → Leads w → Leads (down w)
-  comes_down w m later made first taken back s = rw (first, taken) (goes w (client_said made.after made.written (record w { down = later })) s (by_coming_down (record {
-    message = m;
-    later = later;
-    first = first;
-    made = made;
-    taken = taken;
-    reads_back = back;
-    is = refl;
-  })))
+  pub comes_down : (w : World D) (m : Message) (later : List Message) (made : ClientMade) → w.down ≡ m ∷ later → client_takes m w.client ≡ Ok made → w.client.limits ≡ limits → Leads w → Leads (down w)
+  comes_down w m later made first taken same s = rw (first, taken) (λ h.
+      let p = both_read limits.body w.said Client made.written h in
+      goes w (client_said made.after made.written (record w { down = later })) (s p.0) (by_coming_down (record {
+        message = m;
+        later = later;
+        first = first;
+        made = made;
+        taken = taken;
+        reads_back = subst (λ (z : Settings). AllReadBack z.body made.written) (sym same) p.1;
+        is = refl;
+      })))
 
-  pub turns_once : (w : World D) (made : Made) → turns (shown w.adapter.debuggee) w.adapter.session ≡ Ok (Some (at_once made)) → AllReadBack w.adapter.session.limits.body (numbered w.adapter.session.used made.drafts) → Leads w → Leads (turned shown w)
-  turns_once w made is back s = rw is (goes w (spoke made w) s (by_turning (record {
-    plan = at_once made;
-    turned = is;
-    outs = numbered w.adapter.session.used made.drafts;
-    seat = record { session = made.after; debuggee = w.adapter.debuggee };
-    writes = record { made = made; carried = (refl, refl); session = refl; outs_are = refl };
-    reads_back = back;
-    is = refl;
-  })))
+  pub turns_once : (w : World D) (plan : Plan) → turns (shown w.adapter.debuggee) w.adapter.session ≡ Ok (Some plan) → w.adapter.session.limits ≡ limits → Leads w → Leads (turned shown replies w)
+  turns_once w plan is same s = rw is (λ h.
+      let p = both_read limits.body w.said Adapter (out_of replies plan w) h in
+      goes w (spoke replies plan w) (s p.0) (by_turning (record {
+        plan = plan;
+        turned = is;
+        outs = out_of replies plan w;
+        seat = seat_after replies plan w;
+        writes = record { made = made_by replies plan w.adapter.debuggee; carried = carried replies plan w.adapter.debuggee; session = refl; outs_are = refl };
+        reads_back = subst (λ (z : Settings). AllReadBack z.body (out_of replies plan w)) (sym same) p.1;
+        is = refl;
+      })))
+
+  pub polls_once : (w : World D) → (seat_after replies (polls w.adapter.session) w).session.used ≤ w.adapter.session.limits.seq → w.adapter.session.limits ≡ limits → Leads w → Leads (polled replies w)
+  polls_once w within same s = λ h.
+      let plan = polls w.adapter.session in
+      let p = both_read limits.body w.said Adapter (out_of replies plan w) h in
+      goes w (spoke replies plan w) (s p.0) (by_polling (record {
+        outs = out_of replies plan w;
+        seat = seat_after replies plan w;
+        writes = record { made = made_by replies plan w.adapter.debuggee; carried = carried replies plan w.adapter.debuggee; session = refl; outs_are = refl };
+        within = within;
+        reads_back = subst (λ (z : Settings). AllReadBack z.body (out_of replies plan w)) (sym same) p.1;
+        is = refl;
+      }))
