@@ -124,8 +124,9 @@ pub fn drive_debuggee<D: Debuggee + Drop>(
 ///
 /// # Errors
 /// `Recording` where the recording is none; then, of the first line that is not done, counted from 1: `Script` where it is no
-/// order, `Call` where its arguments are refused or cannot be written, `Send` with the client's refusal; `Adapter` and
-/// `Client` where that end is closed by a fault; `OutOfMemory` where memory is refused. There is no transcript then.
+/// order, `Call` where its arguments are refused or cannot be written, `Send` with the client's refusal; `Adapter` where the
+/// adapter has too few own numbers left for what it does next, `Client` where the next message would give the client more
+/// references than it may know; `OutOfMemory` where memory is refused. There is no transcript then.
 pub fn drive(
     alloc: Global,
     recording: &[u8],

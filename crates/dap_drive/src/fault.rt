@@ -19,10 +19,10 @@ pub enum DriveFault {
     /// The client refuses to send the request of a line.
     #[error("line {line} is not sent")]
     Send { line: u64, cause: SendFault },
-    /// The adapter is closed by a fault.
+    /// The adapter has too few own numbers left for what it does next (its fault `SeqExhausted`).
     #[error("the adapter is closed")]
     Adapter,
-    /// The client is closed by a fault.
+    /// The next message would give the client more references than it may know (its fault `ReferenceLimit`).
     #[error("the client is closed")]
     Client,
     /// Memory was refused.
