@@ -1,5 +1,5 @@
 -- A worked schedule in which the client meets its limit of references: a debuggee that stops once more while it is stopped.
-use Rattle.std.proofs.Common.{◌≡◌, List, [], ◌∷◌, length, true, false, Some, None, Err, codes, pos, refl, arith}
+use Rattle.std.proofs.Common.{◌≡◌, [], ◌∷◌, length, Some, None, Err, codes, pos, refl, arith}
 use Rattle.std.specs.Fmt.{digits}
 use Rattle.std.specs.Str.{is_utf8, chars}
 use Rattle.json.specs.Print.{escape_byte}
@@ -11,8 +11,6 @@ use Rattle.dap_message.specs.CallTree.{initialize_members, stack_trace_members}
 use Rattle.dap_message.specs.Canon.{canon, tree_of, request_members, response_members, event_members}
 use Rattle.dap_message.specs.Types.Call.{Call}
 use Rattle.dap_message.specs.Types.Call.TheVariants as call
-use Rattle.dap_message.specs.declared.message.Kind.TheVariants.{Other}
-use Rattle.dap_message.specs.declared.message.Message.{Message}
 use Rattle.dap_debuggee.specs.Shown.{Shown, Act, to_start, to_resume, to_pause, to_poll, to_set_breakpoints, to_end, Reply, done, happened}
 use Rattle.dap_debuggee.specs.declared.answers.Happening.TheVariants as happening
 use Rattle.dap_debuggee.specs.declared.answers.State.{State}
@@ -23,7 +21,7 @@ use Rattle.dap_session.specs.Polling.{saw}
 use Rattle.dap_client.specs.Taking.{takes as client_takes}
 use Rattle.dap_client.specs.declared.fault.ClientFault.TheVariants.{ReferenceLimit}
 use Rattle.dap_world.specs.World.{World, fresh_world, starts}
-use Rattle.dap_world.proofs.PlayedWorlds.{sent, up, down, turned, polled, Leads, sends, comes_up, comes_down, turns_once, polls_once}
+use Rattle.dap_world.proofs.PlayedWorlds.{initialize, first_message, sent, up, down, turned, polled, Leads, sends, comes_up, comes_down, turns_once, polls_once}
 
 -- ---- the debuggee: one thread with one frame, which stops whenever it is asked what happened
 
@@ -52,9 +50,6 @@ shows v = record {
 }
 
 -- ---- calls
-
-abbrev initialize : Call
-initialize = call.Initialize (record { adapter_id = codes "rec"; lines_start_at_1 = true; columns_start_at_1 = true; supports_variable_paging = false; supports_run_in_terminal_request = false })
 
 abbrev stack_trace : Call
 stack_trace = call.StackTrace (record { thread_id = pos 1; start_frame = 0; levels = 0 })
@@ -156,10 +151,6 @@ x29 = up replies x28
 
 abbrev x30 : World State
 x30 = turned shows replies x29
-
-abbrev first_message : List Message → Message
-first_message [] = record { seq = 0; kind = Other [] }
-first_message (m ∷ later) = m
 
 -- It knows a reference of the stop before, and none is live at the adapter: the answer to `next` came when it stood in the
 -- second stop, and so did not end what it knew.

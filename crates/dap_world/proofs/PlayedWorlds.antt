@@ -1,11 +1,13 @@
 -- Schedules that are played out, step by step: each world is computed from the one before, where a debuggee's answers are.
-use Rattle.std.proofs.Common.{◌≡◌, List, [], ◌∷◌, Option, Some, None, Result, Ok, Err, refl, sym, subst}
+use Rattle.std.proofs.Common.{◌≡◌, true, codes, List, [], ◌∷◌, Option, Some, None, Result, Ok, Err, refl, sym, subst}
 use Rattle.std.specs.Prelude.{◌++◌, ◌≤◌, IsTrue, false}
 use Rattle.std.specs.List.{AllByRecursion}
 use Rattle.dap_frame.specs.Settings.{Settings}
 use Rattle.dap_message.specs.PlainCall.{is_plain_call}
 use Rattle.dap_message.specs.ReadBack.{ReadsBack, AllReadBack}
 use Rattle.dap_message.specs.Types.Call.{Call}
+use Rattle.dap_message.specs.Types.Call.TheVariants as call
+use Rattle.dap_message.specs.declared.message.Kind.TheVariants.{Other}
 use Rattle.dap_message.specs.declared.message.Message.{Message}
 use Rattle.dap_debuggee.specs.Shown.{Shown, Act, Reply}
 use Rattle.dap_check.specs.declared.line.Side.{Side}
@@ -22,6 +24,16 @@ use Rattle.dap_client.specs.Sending.{first_of, refusals_in_order, next_message, 
 use Rattle.dap_client.specs.Taking.{Made as ClientMade, takes as client_takes}
 use Rattle.dap_world.specs.World.{World, Said, said_by, messages_of, client_said, adapter_said, by_sending, by_coming_up, by_coming_down, by_turning, by_polling, Schedule, goes}
 use Rattle.dap_world.proofs.Arriving.{messages-more}
+
+-- ---- words of the examples
+
+abbrev pub initialize : Call
+initialize = call.Initialize (record { adapter_id = codes "rec"; lines_start_at_1 = true; columns_start_at_1 = true; supports_variable_paging = false; supports_run_in_terminal_request = false })
+
+-- the one that is under way first; there is one where this is used
+abbrev pub first_message : List Message → Message
+first_message [] = record { seq = 0; kind = Other [] }
+first_message (m ∷ later) = m
 
 -- ---- a debuggee whose answers are computed
 

@@ -1,5 +1,5 @@
 -- Worked schedules, each shown by computation: what is written, in which place each request is, and where a step is none.
-use Rattle.std.proofs.Common.{◌≡◌, ℕ, List, [], ◌∷◌, length, map, true, false, Some, None, Err, codes, pos, refl}
+use Rattle.std.proofs.Common.{◌≡◌, ℕ, List, [], ◌∷◌, length, map, Some, None, Err, codes, pos, refl}
 use Rattle.std.specs.Fmt.{digits}
 use Rattle.std.specs.Str.{is_utf8, chars}
 use Rattle.json.specs.Print.{escape_byte}
@@ -9,10 +9,7 @@ use Rattle.dap_frame.specs.Settings.{Settings, settings, usual_settings}
 use Rattle.dap_message.specs.Call.{initialize_of, cancel_of}
 use Rattle.dap_message.specs.CallTree.{initialize_members}
 use Rattle.dap_message.specs.Canon.{canon, tree_of, request_members, response_members, event_members}
-use Rattle.dap_message.specs.Types.Call.{Call}
 use Rattle.dap_message.specs.Types.Call.TheVariants as call
-use Rattle.dap_message.specs.declared.message.Kind.TheVariants.{Other}
-use Rattle.dap_message.specs.declared.message.Message.{Message}
 use Rattle.dap_debuggee.specs.Played.{Played, unplayed, shown_of}
 use Rattle.dap_debuggee.specs.Shown.{Shown}
 use Rattle.dap_debuggee.specs.declared.recording.Recording.{Recording}
@@ -23,19 +20,12 @@ use Rattle.dap_session.specs.Taking.{takes}
 use Rattle.dap_tables.specs.Outstanding.{parked_ones}
 use Rattle.dap_world.specs.Agreement.{names_of, asked_in, answered_in}
 use Rattle.dap_world.specs.World.{World, messages_of, fresh_world, starts}
-use Rattle.dap_world.proofs.PlayedWorlds.{Replies, sent, up, down, turned, Leads, sends, comes_up, comes_down, turns_once}
+use Rattle.dap_world.proofs.PlayedWorlds.{initialize, first_message, Replies, sent, up, down, turned, Leads, sends, comes_up, comes_down, turns_once}
 
 -- ---- words
 
-abbrev initialize : Call
-initialize = call.Initialize (record { adapter_id = codes "rec"; lines_start_at_1 = true; columns_start_at_1 = true; supports_variable_paging = false; supports_run_in_terminal_request = false })
-
 abbrev texts : {D : Type 0} → World D → List (List ℕ)
 texts w = map (λ m. canon m) (messages_of w.said)
-
-abbrev first_message : List Message → Message
-first_message [] = record { seq = 0; kind = Other [] }
-first_message (m ∷ later) = m
 
 -- ---- a launch is parked, and a disconnect cancels it, whatever the debuggee shows
 
