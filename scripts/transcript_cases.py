@@ -424,6 +424,7 @@ def transcripts():
         expect(f"check: {name}", check(lines), wanted)
         expect(f"check: {name}: any seq", check(lines, "--any-seq"), wanted if with_any is None else with_any)
     check_lines()
+    check_explained()
     check_bodies()
     check_files()
     check_examples()
@@ -462,6 +463,62 @@ def check_lines():
         expect(f"check: {name}", check(text), wanted)
         if wanted[1] != found(6, 1)[1]:
             expect(f"check: {name}: any seq", check(text, "--any-seq"), wanted)
+
+
+# Of each its lines, the words, what is found, and why: the examples of docs/TRANSCRIPTS.md among them.
+WENT_ON = [*stopped_at(), req(3, "next", {"threadId": 1}), ok(3, "next"), req(4, "scopes", FRAME)]
+EXPLAINED = [
+    ("a gap", [ASK, req(3, "threads")], [], (2, 1), "seq 2 was due, after the message of line 1"),
+    ("a first seq of 0", [req(0, "threads")], [], (1, 1), "seq 1 was due, in the first message of its side"),
+    (
+        "a second answer",
+        [*OPEN, answer(2, 1, "initialize")],
+        [],
+        (3, 2),
+        "response to request 1 of line 1, which line 2 answered already",
+    ),
+    ("no initialize", [req(1, "threads")], [], (1, 3), "the first request of the client is not initialize"),
+    ("no initialize, any seq", [req(0, "threads")], ["--any-seq"], (1, 3), "the first request of the client is not initialize"),
+    ("initialized at first", [event(1, "initialized")], [], (1, 4), "event initialized, before any initialize request"),
+    (
+        "what is not offered",
+        [*OPEN, req(2, "terminate")],
+        [],
+        (3, 5),
+        "the request needs supportsTerminateRequest, which line 2 does not set to true",
+    ),
+    ("a stale frame", WENT_ON, [], (7, 6), "frameId 1, which line 4 gave, until the debuggee went on or ended in line 6"),
+    (
+        "after the end",
+        [*OPEN, req(2, "disconnect"), ok(2, "disconnect"), event(3, "output")],
+        [],
+        (5, 7),
+        "after the successful response to disconnect in line 4",
+    ),
+]
+
+
+def check_explained():
+    """Why each rule is broken, and that nothing is explained where there is no finding or it was not asked for."""
+    for name, lines, words, place, why in EXPLAINED:
+        status, told, err = found(*place)
+        expect(f"check: {name}", check(lines, *words), (status, told, err))
+        expect(f"check: {name}: explained", check(lines, *words, "--explain"), (status, told + why.encode() + b"\n", err))
+    expect("check: legal: explained", check(OPEN, "--explain"), LEGAL)
+    expect("check: no message: explained", check(["x"], "--explain"), refused("BadLine at line 1"))
+
+
+def full_device():
+    """The output of `check` and `drive` cannot be written."""
+    for name, words in [
+        ("check: legal", ["check", "\n".join(OPEN).encode()]),
+        ("check: a finding", ["check", req(2, "initialize").encode()]),
+        ("check: a finding, explained", ["check", "--explain", event(1, "initialized").encode()]),
+        ("drive", ["drive", RECORDING, BEGIN.encode()]),
+    ]:
+        with open("/dev/full", "wb") as full:
+            done = subprocess.run([DAP, *with_files(*words)], stdout=full, stderr=subprocess.PIPE, timeout=60)
+        expect(f"{name}: a full device", (done.returncode, done.stderr), (5, b"dap: Write\n"))
 
 
 def check_bodies():
@@ -637,6 +694,8 @@ def drives():
     drive_faults()
     drive_stopped(checks)
     drive_files()
+    if checks:
+        full_device()
 
 
 def drive_faults():

@@ -270,7 +270,7 @@ module _ {C D : Type 0} (goes : C → IoEvent → C → Type 0) (shown : D → S
         in_turn = (now, r.logged.in_turn);
         small = (fits, r.logged.small);
         few = omega (arith, r.logged.made);
-        reason = ((λ still. (large, nothing)), r.logged.flushed);
+        reason = ((λ still. (large, nothing)), r.logged.flushed, (λ ended. absurd (not_both (has_ended e.session) (ap (λ (p : Phase). is_phase Ended p) (sym phase) ∙ ended) going)));
       }
 
   pub session_ended : (c : C) (e : End D) (g : List ℕ) (w n : ℕ) (read : List ℕ) (served : Served) → n ≤ b.most → IsThrough goes shown follows b c e g w n read true → g ≡ [] → served.end ≡ Clean → served.phase ≡ e.session.phase → Serves goes shown follows b c (Ok served)
@@ -298,7 +298,7 @@ module _ {C D : Type 0} (goes : C → IoEvent → C → Type 0) (shown : D → S
         in_turn = r.logged.in_turn;
         small = r.logged.small;
         few = omega (arith, r.logged.made);
-        reason = ((λ still. absurd (not_both (has_ended e.session) t.ended_is (ap (λ (p : Phase). is_phase Ended p) (sym phase) ∙ still))), r.logged.flushed);
+        reason = ((λ still. absurd (not_both (has_ended e.session) t.ended_is (ap (λ (p : Phase). is_phase Ended p) (sym phase) ∙ still))), r.logged.flushed, (λ ended. r.logged.goes_on));
       }
 
   pub ended_through : (c : C) (e : End D) (g : List ℕ) (w n : ℕ) (read : List ℕ) (served : Served) (ended : Bool) → ended ≡ true → n ≤ b.most → IsThrough goes shown follows b c e g w n read ended → g ≡ [] → served.end ≡ Clean → served.phase ≡ e.session.phase → Serves goes shown follows b c (Ok served)

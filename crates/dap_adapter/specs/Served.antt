@@ -224,9 +224,9 @@ HasCause most log (Adapter fault) = IsTrue (is_flushed log) × MayGoOn log
 HasCause most log TooManyReads = (reads log ≡ most) × IsTrue (is_flushed log) × MayGoOn log
 HasCause most log OutOfMemory = IsTrue (is_flushed log) × MayGoOn log
 
--- the same of each outcome: unless the session ended, the last call found the end of the input
+-- the same of each outcome: unless the session ended, the last call found the end of the input; where it ended, no call failed
 abbrev pub HasReason : ℕ → List IoEvent → Result Served ServeFault → Type 0
-HasReason most log (Ok served) = (is_phase Ended served.phase ≡ false → HasEnded log) × IsTrue (is_flushed log)
+HasReason most log (Ok served) = (is_phase Ended served.phase ≡ false → HasEnded log) × IsTrue (is_flushed log) × (is_phase Ended served.phase ≡ true → MayGoOn log)
 HasReason most log (Err fault) = HasCause most log fault
 
 -- calls that led to this channel, and what they say of serving

@@ -7,7 +7,7 @@ ghost use Rattle.dap_frame.specs.declared.frames.End.{End};
 ghost use Rattle.dap_message.specs.Meaning.{Msg};
 ghost use Rattle.dap_adapter.specs.Calls.{TakeRefused};
 ghost use Rattle.dap_adapter.specs.Receives.{HasReceived, IsUnread};
-ghost use Rattle.dap_tables.specs.Breakpoints.{count};
+ghost use Rattle.dap_tables.specs.SourceMap.{count};
 ghost use Rattle.dap_session.specs.Session.{fresh_session, oldest};
 
 use crate::taken::{Taken, Turned};

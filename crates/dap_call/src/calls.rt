@@ -1,8 +1,8 @@
 //! From a command and its arguments to a call: a function for each row of keys.
-ghost use Rattle.std.specs.Prelude.{◌≡◌, IfOk, IsErrOf, OnErr, true, is_some, option_map, option_and_then};
+ghost use Rattle.std.specs.Prelude.{◌≡◌, IfOk, IsErrOf, OnErr, Some, true, is_some, option_map, option_and_then};
 ghost use Rattle.serde_json.specs.View.{view};
 ghost use Rattle.dap_call.specs.Lent.{seen};
-ghost use Rattle.dap_call.specs.Argument.{Gives, read_map};
+ghost use Rattle.dap_call.specs.Argument.{Gives, read_map, must_be_there};
 ghost use Rattle.dap_call.specs.Call.{lines_of, line_in, breakpoint_lines_of, name_in, names_of, filters_of, source_key_of, source_reference_of, source_parts as source_parts_of, initialize_of, cancel_of, given_lines, set_breakpoints_of, set_function_breakpoints_of, set_exception_breakpoints_of, stack_trace_of, scopes_of, variables_of, evaluate_of, source_of, set_variable_of, modules_of, breakpoint_locations_of, completions_of, thread_of, tree_of, call_of, takes_memory};
 ghost use Rattle.dap_call.specs.declared.call.CallFault.TheVariants.{OutOfMemory};
 
@@ -418,13 +418,23 @@ fn thread(given: Option<&Value>) -> Result<i64, Key>
     Arguments::required(given)?.required_int(Key::ThreadId)
 }
 
+/// A copy of a value that is an object.
+fn object(value: &Value) -> Result<Option<Tree>, CallFault>
+    ensures { Gives result (must_be_there (Some (view value.now))) }
+{
+    if !value.is_object() {
+        return Err(Key::Arguments.into());
+    }
+    Ok(Some(Tree::new(value.clone()?)))
+}
+
 fn tree(given: Option<&Value>) -> Result<Option<Tree>, CallFault>
     ensures { Gives result (tree_of (seen given.entry)) }
 {
     match given {
-        None | Some(Value::Null) => Ok(None),
-        Some(object) if object.is_object() => Ok(Some(Tree::new(object.clone()?))),
-        Some(_) => Err(Key::Arguments.into()),
+        None => Ok(None),
+        Some(Value::Null) => Ok(None),
+        Some(value) => object(value),
     }
 }
 

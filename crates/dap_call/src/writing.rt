@@ -1,5 +1,6 @@
 //! From a call to its arguments: a function for each row of keys.
-ghost use Rattle.std.specs.Prelude.{◌≡◌, IsTrue, IfOk, OnErr, is_some, option_map};
+ghost use Rattle.std.specs.Prelude.{◌≡◌, IsTrue, IfOk, OnOk, OnErr, is_some, option_map};
+ghost use Rattle.serde_json.specs.Data.{no_members};
 ghost use Rattle.serde_json.specs.View.{view, members_view, items_view};
 ghost use Rattle.dap_json.specs.Writable.{is_plain_tree};
 ghost use Rattle.dap_call.specs.Call.{call_of};
@@ -85,36 +86,44 @@ fn texts(alloc: Global, texts: &[Text]) -> Result<Vec<Value>, AllocError>
 }
 
 #[tactic(auto, unfolding(crate::specs::CallTree::initialize_members))]
-fn initialize(alloc: Global, call: &Initialize) -> Result<Members, AllocError>
-    ensures { IfOk result (λ m. members_view m.entries ≡ initialize_members call.now) }
+fn add_initialize(
+    alloc: Global,
+    members: &mut Members,
+    call: &Initialize,
+) -> Result<(), AllocError>
+    requires { members_view members.old.entries ≡ no_members }
+    ensures { OnOk result (members_view members.new.entries ≡ initialize_members call.now) }
 {
-    let mut members = Map::new(alloc);
-    add_text(alloc, &mut members, Key::AdapterId, &call.adapter_id)?;
+    add_text(alloc, members, Key::AdapterId, &call.adapter_id)?;
+    add_if_false(alloc, members, Key::LinesStartAt1, call.lines_start_at_1)?;
     add_if_false(
         alloc,
-        &mut members,
-        Key::LinesStartAt1,
-        call.lines_start_at_1,
-    )?;
-    add_if_false(
-        alloc,
-        &mut members,
+        members,
         Key::ColumnsStartAt1,
         call.columns_start_at_1,
     )?;
     add_if_true(
         alloc,
-        &mut members,
+        members,
         Key::SupportsVariablePaging,
         call.supports_variable_paging,
     )?;
     add_if_true(
         alloc,
-        &mut members,
+        members,
         Key::SupportsRunInTerminalRequest,
         call.supports_run_in_terminal_request,
-    )?;
-    Ok(members)
+    )
+}
+
+fn initialize(alloc: Global, call: &Initialize) -> Result<Members, AllocError>
+    ensures { IfOk result (λ m. members_view m.entries ≡ initialize_members call.now) }
+{
+    let mut members = Map::new(alloc);
+    match add_initialize(alloc, &mut members, call) {
+        Ok(()) => Ok(members),
+        Err(fault) => Err(fault),
+    }
 }
 
 fn cancel(alloc: Global, request_id: Option<u64>) -> Result<Members, AllocError>

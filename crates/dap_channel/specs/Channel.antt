@@ -76,6 +76,16 @@ HasEnded (WriteFailed ∷ log) = ⊥
 HasEnded (Flushed ∷ log) = ⊥
 HasEnded (FlushFailed ∷ log) = ⊥
 
+-- the last call was a flush that did not fail
+abbrev pub HasFlushed : List IoEvent → Type 0
+HasFlushed [] = ⊥
+HasFlushed (Gave room bytes ∷ log) = ⊥
+HasFlushed (ReadFailed ∷ log) = ⊥
+HasFlushed (Took bytes left ∷ log) = ⊥
+HasFlushed (WriteFailed ∷ log) = ⊥
+HasFlushed (Flushed ∷ log) = Unit {0}
+HasFlushed (FlushFailed ∷ log) = ⊥
+
 -- the last call was a read that failed
 abbrev pub HasReadFailed : List IoEvent → Type 0
 HasReadFailed [] = ⊥

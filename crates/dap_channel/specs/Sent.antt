@@ -1,6 +1,6 @@
 -- Bytes that went out by calls of a channel. That a count stays at its greatest value is this profile's choice.
 use Rattle.std.specs.Prelude.{◌≡◌, ℕ, List, IsTrue, min}
-use Rattle.dap_channel.specs.Channel.{IoEvent, Ran, bytes_written, reads, is_flushed, MayGoOn, HasWriteFailed}
+use Rattle.dap_channel.specs.Channel.{IoEvent, Ran, bytes_written, reads, is_flushed, HasFlushed, MayGoOn, HasWriteFailed}
 
 -- a count of bytes, which stays at its greatest value
 abbrev pub counted : ℕ → ℕ
@@ -14,13 +14,14 @@ pub record Writes {C : Type 0} (goes : C → IoEvent → C → Type 0) (c d : C)
   pub written : bytes_written log ≡ bytes
   pub goes_on : MayGoOn log
 
--- the same, and all is flushed
+-- the same, and the last call is a flush that did not fail, also where there is nothing to write
 pub record Sends {C : Type 0} (goes : C → IoEvent → C → Type 0) (c d : C) (bytes : List ℕ) : Type 0 where
   pub log : List IoEvent
   pub ran : Ran goes c log d
   pub no_reads : reads log ≡ 0
   pub written : bytes_written log ≡ bytes
   pub flushed : IsTrue (is_flushed log)
+  pub last : HasFlushed log
   pub goes_on : MayGoOn log
 
 -- the same, but the last call is where the writer failed or took nothing

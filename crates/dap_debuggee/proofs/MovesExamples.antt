@@ -7,7 +7,7 @@ use Rattle.dap_debuggee.specs.Played.{lines_in}
 use Rattle.dap_debuggee.specs.declared.answers.Frame.{Frame}
 use Rattle.dap_debuggee.specs.declared.answers.How.{How}
 use Rattle.dap_debuggee.specs.declared.answers.How.TheVariants.{StepIn, Next, StepOut, Continue, StepBack, ReverseContinue}
-use Rattle.dap_debuggee.specs.declared.lines.SetLines.{SetLines}
+use Rattle.dap_tables.specs.SourceMap.{OfSource}
 use Rattle.dap_debuggee.specs.declared.moves.Move.{Move}
 use Rattle.dap_debuggee.specs.declared.moves.Reason.{Reason}
 use Rattle.dap_debuggee.specs.declared.moves.Reason.TheVariants.{Entry, Step, Breakpoint, Pause}
@@ -36,7 +36,7 @@ moments =
 abbrev sources : List RecordedSource
 sources = record { name = codes "a.c"; path = Some (codes "/a.c"); text = codes "\n\n\n\n\n\n\n\n\n"; lines = 9 } ∷ []
 
-abbrev move : List SetLines → How → ℕ → Move
+abbrev move : List (OfSource ℕ) → How → ℕ → Move
 move set how i = move_of sources moments (lines_in set) how i
 
 abbrev to : ℕ → Reason → Move
@@ -46,10 +46,10 @@ to place reason = record { to = place; held = false; reason = reason }
 abbrev held : Move
 held = record { to = 4; held = true; reason = Pause }
 
-abbrev by_path : List ℕ → List SetLines
+abbrev by_path : List ℕ → List (OfSource ℕ)
 by_path lines = record { source = Path (codes "/a.c"); lines = lines } ∷ []
 
-abbrev by_number : ℕ → List ℕ → List SetLines
+abbrev by_number : ℕ → List ℕ → List (OfSource ℕ)
 by_number n lines = record { source = Reference n; lines = lines } ∷ []
 
 -- ---- forward
@@ -108,14 +108,14 @@ of_two_threads = (refl, refl, refl, refl)
 abbrev in_second : Moment
 in_second = record { threads = record { id = pos 1; name = codes "main"; frames = record { object = 0; name = codes "f"; source = 1; line = 4 } ∷ [] } ∷ []; thread = 0; output = []; waits = false; frames = record { from = 0; to = 0 }; holders = record { from = 0; to = 0 } }
 
-abbrev from_first : List SetLines → Move
+abbrev from_first : List (OfSource ℕ) → Move
 from_first set = move_of (record { name = codes "a"; path = Some (codes "/a.c"); text = codes "\n\n\n"; lines = 3 } ∷ record { name = codes "b"; path = Some (codes "/a.c"); text = codes "\n\n\n\n"; lines = 4 } ∷ []) (moment false (1 ∷ []) ∷ in_second ∷ []) (lines_in set) Continue 0
 
 -- by their path both stop, by its number the second alone
 of_two_sources : (from_first (by_path (4 ∷ [])) ≡ to 1 Breakpoint) × (from_first (by_number 2 (4 ∷ [])) ≡ to 1 Breakpoint) × (from_first (by_number 1 (4 ∷ [])) ≡ to 2 Breakpoint)
 of_two_sources = (refl, refl, refl)
 
-abbrev unnamed : List SetLines → Move
+abbrev unnamed : List (OfSource ℕ) → Move
 unnamed set = move_of (record { name = codes "a"; path = None; text = codes "\n"; lines = 1 } ∷ []) (moment false (1 ∷ []) ∷ moment false (1 ∷ []) ∷ []) (lines_in set) Continue 0
 
 without_a_path : (unnamed (by_number 1 (1 ∷ [])) ≡ to 1 Breakpoint) × (unnamed (by_path (1 ∷ [])) ≡ to 2 Breakpoint) × (unnamed (record { source = Path []; lines = 1 ∷ [] } ∷ []) ≡ to 2 Breakpoint)

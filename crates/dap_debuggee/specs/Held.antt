@@ -9,9 +9,7 @@ use Rattle.dap_debuggee.specs.declared.recording.RecordedThread.{RecordedThread}
 use Rattle.std.specs.Str.{IsCharBoundary}
 use Rattle.dap_debuggee.specs.Shown.{done, refused, happened, Last}
 use Rattle.dap_call.specs.declared.call.SourceKey.{SourceKey}
-use Rattle.dap_call.specs.SameSource.{is_source}
 use Rattle.dap_debuggee.specs.Recording.{id_at}
-use Rattle.dap_debuggee.specs.declared.lines.SetLines.{SetLines}
 use Rattle.dap_debuggee.specs.Moves.{reason_text}
 use Rattle.dap_debuggee.specs.Played.{Played, Run}
 use Rattle.std.specs.Option.{IsSome}
@@ -88,25 +86,6 @@ IsReady moments g = (output_left moments g ≡ []) ⊎ ((g.moment ≤ g.last) ×
 -- a run whose output is all told
 abbrev pub rest_of : Going → Run
 rest_of g = record { output = []; move = g.to; paused = g.paused }
-
--- the place of a source's lines
-abbrev pub found_at : SourceKey → List SetLines → Option ℕ
-found_at key [] = None
-found_at key (s ∷ set) = if is_source s.source key then Some 0 else option_map (λ k. suc k) (found_at key set)
-
-abbrev pub lines_at : Option ℕ → List SetLines → List ℕ
-lines_at None set = []
-lines_at (Some k) set = unwrap_or (option_map (λ e. e.lines) (slice_get set k)) []
-
--- at its place, or behind all
-abbrev pub put_at : Option ℕ → SetLines → List SetLines → List SetLines
-put_at None e set = set ++ e ∷ []
-put_at (Some k) e set = slice_set set k e
-
--- the two tables have the places of the sources, and no others
-pub record HasPlaces {A : Type 0} (paths : BTreeMap (String A) ℕ) (numbers : BTreeMap ℕ ℕ) (set : List SetLines) : Type 0 where
-  pub by_path : (path : List ℕ) → get_by_text paths path ≡ found_at (Path path) set
-  pub by_number : (n : ℕ) → get nat_cmp numbers n ≡ found_at (Reference n) set
 
 -- how many lines the longest source of a path has
 abbrev pub is_of_path : List ℕ → RecordedSource → Bool

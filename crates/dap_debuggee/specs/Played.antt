@@ -6,7 +6,6 @@ use Rattle.std.specs.Ordering.{int_eq}
 use Rattle.dap_call.specs.declared.call.SourceKey.{SourceKey}
 use Rattle.dap_call.specs.declared.call.SourceKey.TheVariants.{Path, Reference}
 use Rattle.dap_debuggee.specs.Shown.{Shown, Act, to_start, to_resume, to_pause, to_poll, to_set_breakpoints, to_end, Reply, done, refused, happened, remembered, Last}
-use Rattle.dap_call.specs.SameSource.{is_source}
 use Rattle.dap_debuggee.specs.Recording.{id_at}
 use Rattle.dap_debuggee.specs.Moves.{move_of, is_forward, reason_text}
 use Rattle.dap_debuggee.specs.declared.answers.State.{State}
@@ -28,7 +27,7 @@ use Rattle.dap_debuggee.specs.declared.recording.Recording.{Recording}
 use Rattle.dap_debuggee.specs.declared.recording.Span.{Span}
 use Rattle.dap_debuggee.specs.declared.moves.Reason.TheVariants.{Entry}
 use Rattle.dap_debuggee.specs.declared.moves.Move.{Move}
-use Rattle.dap_debuggee.specs.declared.lines.SetLines.{SetLines}
+use Rattle.dap_tables.specs.SourceMap.{OfSource, set_of, of_others, with_set}
 
 -- ---- the view
 
@@ -44,17 +43,16 @@ pub record Played : Type 0 where
   -- the moment that is shown
   pub at : ℕ
   pub run : Option Run
-  -- as they were set, a source once
-  pub set : List SetLines
+  -- the lines of each source that has some, in the order of the sources' names
+  pub set : List (OfSource ℕ)
   pub acts : ℕ
   pub last : Option Last
 
 -- ---- lines
 
 -- the lines of a source, none where none were set
-abbrev pub lines_in : List SetLines → SourceKey → List ℕ
-lines_in [] key = []
-lines_in (s ∷ set) key = if is_source s.source key then s.lines else lines_in set key
+abbrev pub lines_in : List (OfSource ℕ) → SourceKey → List ℕ
+lines_in set key = set_of key set
 
 -- ---- output
 
@@ -139,7 +137,7 @@ pausing run v = record {
   last = v.last;
 }
 
-abbrev pub with_lines : List SetLines → Played → Played
+abbrev pub with_lines : List (OfSource ℕ) → Played → Played
 with_lines set v = record {
   recording = v.recording;
   state = v.state;
@@ -181,10 +179,9 @@ abbrev pub polled : State → Option Run → Played → Happening × Played
 polled Running (Some run) v = ran run (first_piece run.output) v
 polled _ _ v = (happening.Nothing, v)
 
--- the lines of one source replaced
-abbrev pub replaced : SourceKey → List ℕ → List SetLines → List SetLines
-replaced key lines [] = record { source = key; lines = lines } ∷ []
-replaced key lines (s ∷ set) = if is_source s.source key then record { source = key; lines = lines } ∷ set else s ∷ replaced key lines set
+-- the lines of one source replaced; where there are none, it has no entry
+abbrev pub replaced : SourceKey → List ℕ → List (OfSource ℕ) → List (OfSource ℕ)
+replaced key lines set = with_set key lines (of_others key set)
 
 -- the answer to an act and the view after it, before the act is counted
 abbrev pub start_in : State → Played → Reply × Played

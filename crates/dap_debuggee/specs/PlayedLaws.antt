@@ -1,13 +1,9 @@
 -- A recorded debuggee keeps the laws of every debuggee.
 use Rattle.std.proofs.Common.{◌≡◌, ℕ, ◌+◌, ◌%◌, ◌^◌, ℤ, Bool, true, false, ◌&&◌, not, nat_lt, if◌then◌else◌, List, [], ◌∷◌, length, map, Option, Some, None, IsTrue, refl, sym, ap, subst, suc, option_map, unwrap_or, ◌∙◌, true≢false}
-use Rattle.std.proofs.lemmas.Bool.Decides.{Decides-eqb}
-use Rattle.std.proofs.lemmas.Slice.Eq.{bytes_eq-Decides}
 use Rattle.std.specs.List.{slice_get}
 use Rattle.dap_call.specs.declared.call.SourceKey.{SourceKey}
-use Rattle.dap_call.specs.declared.call.SourceKey.TheVariants.{Path, Reference}
 use Rattle.dap_debuggee.specs.Shown.{Act, to_start, to_resume, to_pause, to_poll, to_set_breakpoints, to_end, Reply, done, refused, happened}
 use Rattle.dap_debuggee.specs.Laws.{may_answer, state_after, keeps_answers, keeps_frames, lines_after, Counts, Remembers, Answers, Moves, SetsLines, KeepsAnswers, KeepsFrames, KeepsSources, SameFrames, SameSources, NoThreads, VerifiesEach}
-use Rattle.dap_call.specs.SameSource.{is_source}
 use Rattle.dap_debuggee.specs.Played.{Played, Run, act_on, asked, started, resumed, start_in, resume_in, pause_in, polled, ran, arrived, with_run, pausing, with_lines, resting, replaced, lines_in, first_piece, shown_of, has_source_line, source_shown, FollowsPlayed}
 use Rattle.dap_debuggee.specs.declared.answers.State.{State}
 use Rattle.dap_debuggee.specs.declared.answers.State.TheVariants.{NotStarted, Running, Stopped, Gone}
@@ -15,7 +11,7 @@ use Rattle.dap_debuggee.specs.declared.answers.How.{How}
 use Rattle.dap_debuggee.specs.declared.answers.Category.TheVariants.{Stdout}
 use Rattle.dap_debuggee.specs.declared.answers.Happening.{Happening}
 use Rattle.dap_debuggee.specs.declared.answers.Happening.TheVariants as happening
-use Rattle.dap_debuggee.specs.declared.lines.SetLines.{SetLines}
+use Rattle.dap_tables.specs.SourceMapLaws.{set-of-put}
 
 -- ---- an act, a row for each answer
 
@@ -355,36 +351,6 @@ keeps_answers-played v w a r f keeps = record {
 
 -- ---- lines
 
-pub same_source : (a b : SourceKey) → is_source a b ≡ true → a ≡ b
-same_source (Path p) (Path q) e = ap Path ((bytes_eq-Decides p q).0 e)
-same_source (Reference m) (Reference n) e = ap Reference ((Decides-eqb m n).0 e)
-same_source (Path p) (Reference n) e = absurd (true≢false (sym e))
-same_source (Reference m) (Path q) e = absurd (true≢false (sym e))
-
--- the first entry is for the source that is set
-at_first : (b c : Bool) (new old before : List ℕ) → b ≡ c → (if b then new else before) ≡ (if b then new else (if c then old else before))
-at_first true c new old before is = refl
-at_first false true new old before is = absurd (true≢false (sym is))
-at_first false false new old before is = refl
-
--- it is for another one
-further : (b c : Bool) (new old before : List ℕ) → (b ≡ true → c ≡ true → ⊥) → (if c then old else (if b then new else before)) ≡ (if b then new else (if c then old else before))
-further true true new old before apart = absurd (apart refl refl)
-further true false new old before apart = refl
-further false c new old before apart = refl
-
-lines_by : (b : Bool) (key source : SourceKey) (lines : List ℕ) (s : SetLines) (set : List SetLines) → is_source s.source source ≡ b
-    → lines_in (replaced source lines set) key ≡ (if is_source source key then lines else lines_in set key)
-    → lines_in (if b then record { source = source; lines = lines } ∷ set else s ∷ replaced source lines set) key ≡ (if is_source source key then lines else (if is_source s.source key then s.lines else lines_in set key))
-lines_by true key source lines s set is rest = at_first (is_source source key) (is_source s.source key) lines s.lines (lines_in set key) (ap (λ k. is_source k key) (sym (same_source s.source source is)))
-lines_by false key source lines s set is rest =
-    ap (λ t. if is_source s.source key then s.lines else t) rest
-    ∙ further (is_source source key) (is_source s.source key) lines s.lines (lines_in set key) (λ x y. true≢false (sym y ∙ sym (ap (is_source s.source) (same_source source key x)) ∙ is))
-
-lines_set : (key source : SourceKey) (lines : List ℕ) (set : List SetLines) → lines_in (replaced source lines set) key ≡ (if is_source source key then lines else lines_in set key)
-lines_set key source lines [] = refl
-lines_set key source lines (s ∷ set) = lines_by (is_source s.source source) key source lines s set refl (lines_set key source lines set)
-
 lines_row : (v w : Played) (a : Act) (r : Reply) → Row v a r w → (key : SourceKey) → lines_in w.set key ≡ lines_after a (lines_in v.set) key
 lines_row v _ _ _ (starts is) key = refl
 lines_row v _ _ _ does_not_start key = refl
@@ -397,7 +363,7 @@ lines_row v _ _ _ (holds run) key = refl
 lines_row v _ _ _ (tells piece run is) key = refl
 lines_row v _ _ _ (stops reason thread at is) key = refl
 lines_row v _ _ _ (exits code is) key = refl
-lines_row v _ _ _ (sets source lines) key = lines_set key source lines v.set
+lines_row v _ _ _ (sets source lines) key = set-of-put source key lines v.set
 lines_row v _ _ _ ends key = refl
 
 pub sets_lines-played : SetsLines shown_of FollowsPlayed

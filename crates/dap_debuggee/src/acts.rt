@@ -1,4 +1,6 @@
 //! What a recorded debuggee does when it is asked.
+ghost use Rattle.std.specs.Prelude.{◌≡◌, IfOk};
+
 use crate::answers::{Asked, DebuggeeFault, How, State};
 use crate::recorded::{Going, LastAsked, Recorded};
 use dap_call::SourceKey;
@@ -8,7 +10,7 @@ impl Recorded {
     ghost use Rattle.std.specs.Prelude.{◌≡◌, ◌<◌, length, None, OnOk, OnErr, IsErrOf};
     ghost use Rattle.dap_debuggee.specs.Shown.{to_start, to_resume, to_pause, to_set_breakpoints, to_end, done};
     ghost use Rattle.dap_debuggee.specs.Laws.{Replies};
-    ghost use Rattle.dap_debuggee.specs.Played.{FollowsPlayed, resting};
+    ghost use Rattle.dap_debuggee.specs.Played.{FollowsPlayed, resting, replaced, with_lines};
     ghost use Rattle.dap_debuggee.specs.Held.{HasRun};
 
     pub(crate) fn to_start(&mut self) -> Result<(), DebuggeeFault>
@@ -85,6 +87,24 @@ impl Recorded {
         self.note(LastAsked::Done(Asked::End));
     }
 
+    /// Puts lines in place of those of a source.
+    fn put_lines(
+        &mut self,
+        alloc: Global,
+        source: &SourceKey,
+        lines: &[u32],
+    ) -> Result<(), AllocError>
+        ensures set { OnOk result (self.new ≡ with_lines (replaced source.now lines.now self.old.set) self.old) }
+        ensures memory { OnErr result (self.new ≡ self.old) }
+    {
+        if lines.is_empty() {
+            self.set.remove(source);
+            return Ok(());
+        }
+        let copy = copied(alloc, lines)?;
+        self.set.put(source.clone()?, copy)
+    }
+
     pub(crate) fn to_set(
         &mut self,
         alloc: Global,
@@ -94,8 +114,16 @@ impl Recorded {
         ensures follows { OnOk result (FollowsPlayed self.old (to_set_breakpoints source.now lines.now) done self.new) }
         ensures memory { OnErr result (self.new ≡ self.old) }
     {
-        self.set.set(alloc, source, lines)?;
+        self.put_lines(alloc, source, lines)?;
         self.note(LastAsked::Done(Asked::SetBreakpoints));
         Ok(())
     }
+}
+
+fn copied(alloc: Global, lines: &[u32]) -> Result<Vec<u32>, AllocError>
+    ensures { IfOk result (λ copy. copy.items ≡ lines.now) }
+{
+    let mut copy = Vec::new(alloc);
+    copy.extend_from_slice(lines)?;
+    Ok(copy)
 }

@@ -9,7 +9,6 @@ mod acts;
 mod answers;
 mod debuggee;
 mod laws;
-mod lines;
 mod moves;
 mod paths;
 mod polls;

@@ -5,8 +5,8 @@ ghost use Rattle.dap_debuggee.specs.Moves.{reason_text, has_line as has_line_in,
 ghost use Rattle.dap_debuggee.specs.Played.{lines_in};
 
 use crate::answers::{Frame, How};
-use crate::lines::LineTable;
 use crate::recording::{Moment, RecordedSource};
+use dap_tables::SourceMap;
 
 /// Why a run stopped.
 #[derive(Clone, Copy, Debug, PartialEq, Eq)]
@@ -78,7 +78,7 @@ fn has_line(line: u32, lines: &[u32]) -> bool
 }
 
 /// Whether the line of the newest frame has a breakpoint, by the path of its source or by its number.
-fn is_at_breakpoint(moment: &Moment, sources: &[RecordedSource], set: &LineTable) -> bool
+fn is_at_breakpoint(moment: &Moment, sources: &[RecordedSource], set: &SourceMap<u32>) -> bool
     ensures { result ≡ stands_at_breakpoint (lines_in set.now) sources.now moment.now }
 {
     let Some(frame) = top(moment) else {
@@ -99,7 +99,7 @@ pub(crate) struct Plan<'r> {
     pub(crate) sources: &'r [RecordedSource],
     pub(crate) moments: &'r [Moment],
     /// The lines that are set.
-    pub(crate) set: &'r LineTable,
+    pub(crate) set: &'r SourceMap<u32>,
 }
 
 impl Plan<'_> {

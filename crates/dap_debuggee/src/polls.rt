@@ -22,6 +22,7 @@ impl Recorded {
         ensures happened { IfOk result (λ h. h ≡ (arrived (rest_of going) self.old).0) }
         ensures view { IfOk result (λ h. self.new ≡ asked to_poll (happened h) (arrived (rest_of going) self.old).1) }
         ensures in_range { IfOk result (λ h. IsTrue (is_short h)) }
+        ensures kept { OnErr result (self.new ≡ self.old) }
     {
         let to = going.to;
         if to.held && !going.paused {
@@ -49,6 +50,7 @@ impl Recorded {
         ensures memory { OnErr result (self.old.state ≡ State.Running) }
         ensures follows { IfOk result (λ h. FollowsPlayed self.old to_poll (happened h) self.new) }
         ensures in_range { IfOk result (λ h. IsTrue (is_short h)) }
+        ensures kept { OnErr result (self.new ≡ self.old) }
     {
         match (self.state, self.going) {
             (State::Running, Some(going)) => self.tell(alloc, going),
@@ -66,6 +68,7 @@ impl Recorded {
         requires going { self.old.run ≡ run_of self.old.recording.moments (Some going) }
         ensures follows { IfOk result (λ h. FollowsPlayed self.old to_poll (happened h) self.new) }
         ensures in_range { IfOk result (λ h. IsTrue (is_short h)) }
+        ensures kept { OnErr result (self.new ≡ self.old) }
     {
         let moments = self.recording.moments.as_slice();
         let going = run::skipped(moments, going);

@@ -9,13 +9,13 @@ use crate::answers::{
     Asked, DebuggeeFault, Evaluation, Frame, Happening, How, Scope, Source, State, Thread, Variable,
 };
 use crate::debuggee::Debuggee;
-use crate::lines::LineTable;
 use crate::moves::{Move, Plan, Reason};
 use crate::paths::Paths;
 use crate::recording::Recording;
 use crate::{moves, paths};
 use dap_call::SourceKey;
 use dap_json::Text;
+use dap_tables::SourceMap;
 use std::alloc::{AllocError, Global};
 use std::marker::Model;
 
@@ -68,7 +68,8 @@ pub struct Recorded {
     /// The place of the moment that is shown.
     pub(crate) at: usize,
     pub(crate) going: Option<Going>,
-    pub(crate) set: LineTable,
+    /// The lines that are set.
+    pub(crate) set: SourceMap<u32>,
     pub(crate) acts: u64,
     pub(crate) last: LastAsked,
 }
@@ -115,7 +116,7 @@ impl Recorded {
             state: State::NotStarted,
             at: 0,
             going: None,
-            set: LineTable::new(alloc),
+            set: SourceMap::new(alloc),
             acts: 0,
             last: LastAsked::Never,
         })
@@ -252,6 +253,7 @@ impl Debuggee for Recorded {
         ensures follows { IfOk result (λ h. FollowsPlayed self.old to_poll (happened h) self.new) }
         ensures in_range { IfOk result (λ h. IsTrue (is_short h)) }
         ensures memory { OnErr result (self.old.state ≡ State.Running) }
+        ensures kept { OnErr result (self.new ≡ self.old) }
     {
         self.to_poll(alloc)
     }

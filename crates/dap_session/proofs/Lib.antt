@@ -22,4 +22,5 @@ pub mod Fewer
 pub mod GivenNumbers
 pub mod SetLines
 pub mod Refusals
+pub mod Stale
 pub mod ToldLists

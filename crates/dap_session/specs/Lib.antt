@@ -21,4 +21,5 @@ pub mod Several
 pub mod Telling
 pub mod Setting
 pub mod RefusalLaws
+pub mod StaleLaws
 pub mod Writing

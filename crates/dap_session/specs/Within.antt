@@ -4,7 +4,8 @@ use Rattle.dap_frame.specs.Settings.{Settings}
 use Rattle.dap_message.specs.declared.message.Message.{Message}
 use Rattle.dap_tables.specs.Outstanding.{HasDistinctSeqs}
 use Rattle.dap_debuggee.specs.Shown.{Shown}
-use Rattle.dap_tables.specs.Breakpoints.{count, max_id}
+use Rattle.dap_tables.specs.SourceMap.{count}
+use Rattle.dap_tables.specs.Breakpoints.{max_id}
 use Rattle.dap_session.specs.Handling.{turns}
 use Rattle.dap_session.specs.Laws.{CanMake}
 use Rattle.dap_session.specs.Plan.{Made, Plan, due}

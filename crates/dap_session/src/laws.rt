@@ -2,6 +2,7 @@
 ghost use Rattle.dap_session.specs.Laws.{EachStepGoesOn};
 ghost use Rattle.dap_session.specs.ReferenceLaws.{ReferencesAreApart};
 ghost use Rattle.dap_session.specs.RefusalLaws.{RefusalsChangeNothing};
+ghost use Rattle.dap_session.specs.StaleLaws.{DeadNumbersAreStale};
 ghost use Rattle.dap_session.specs.Within.{EachStepStaysWithin};
 
 use dap_history::laws::histories_grow;
@@ -25,6 +26,14 @@ pub fn each_step_stays_within()
 pub fn references_are_apart()
     ensures { ReferencesAreApart }
 {}
+
+/// A served request with good arguments whose number died, or names nothing of its kind, is answered `staleReference` where
+/// the debuggee is stopped, whatever steps came since it died, and nothing else is done.
+pub fn dead_numbers_are_stale()
+    ensures { DeadNumbersAreStale }
+{
+    references_are_apart();
+}
 
 /// An answer that is refused for its size, or for want of room or of numbers, changes nothing: the debuggee is asked nothing,
 /// and references and breakpoints are as they were.

@@ -1,7 +1,7 @@
 //! A session with its debuggee: what is kept, and how it changes.
 ghost use Rattle.std.specs.Prelude.{◌≡◌, ◌+◌, ◌≤◌, ◌<◌, [], ◌∷◌, ◌++◌, length, IfOk, OnOk, OnErr, IsTrue, true, false, not, nat_lt};
 ghost use Rattle.dap_tables.specs.Outstanding.{without, with_mark, contains_seq, unparked, unparked_ones, IsOrderly};
-ghost use Rattle.dap_tables.specs.Breakpoints.{count};
+ghost use Rattle.dap_tables.specs.SourceMap.{count};
 ghost use Rattle.dap_session.specs.Session.{fresh_session};
 ghost use Rattle.dap_debuggee.specs.Laws.{is_short};
 ghost use Rattle.dap_debuggee.specs.Shown.{to_start, to_resume, to_pause, to_poll, to_end, done, happened};

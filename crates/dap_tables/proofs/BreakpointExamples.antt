@@ -1,8 +1,9 @@
 -- Small tables of breakpoints, worked out.
-use Rattle.std.proofs.Common.{◌≡◌, [], ◌∷◌, false, codes, refl, lit≤, lit<, arith}
+use Rattle.std.proofs.Common.{◌≡◌, ℕ, [], ◌∷◌, false, codes, refl, lit≤, lit<, arith}
 use Rattle.dap_call.specs.declared.call.SourceKey.{SourceKey}
 use Rattle.dap_call.specs.declared.call.SourceKey.TheVariants.{Path, Reference}
-use Rattle.dap_tables.specs.Breakpoints.{SetBreakpoints, no_breakpoints, set_of, count, replaced, count_with, max_id, HasDistinctSources, HasNoEmptyList, IsRefusedForRoom, IsRefusedForIds}
+use Rattle.dap_tables.specs.SourceMap.{set_of, count, HasDistinctSources, HasNoEmptyList}
+use Rattle.dap_tables.specs.Breakpoints.{SetBreakpoints, no_breakpoints, replaced, count_with, max_id, IsRefusedForRoom, IsRefusedForIds}
 use Rattle.dap_call.specs.SameSource.{is_source}
 
 abbrev a : SourceKey
@@ -64,5 +65,5 @@ the_greatest = refl
 two_are_distinct : HasDistinctSources two_names.sources
 two_are_distinct = (refl, (refl, tt))
 
-an_empty_list_is_none : ¬ (HasNoEmptyList (record { source = a; set = [] } ∷ []))
+an_empty_list_is_none : ¬ (HasNoEmptyList {A = ℕ} (record { source = a; set = [] } ∷ []))
 an_empty_list_is_none f = let some = f.0 in absurd (omega arith)

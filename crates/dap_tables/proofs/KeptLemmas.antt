@@ -8,7 +8,7 @@ use Rattle.std.proofs.lemmas.List.Folds.{list_any-append}
 use Rattle.std.proofs.lemmas.Bool.Decides.{nat_tests}
 use Rattle.dap_tables.specs.declared.entry.Entry.{Entry}
 use Rattle.dap_tables.specs.Outstanding.{Kept, marked, entries, contains_seq, entry_with, without, is_parked, with_mark, oldest_unparked, unparked_ones, HasDistinctSeqs, IsOrderly}
-use Rattle.dap_tables.proofs.Lists.{or-false, or-left, or-right}
+use Rattle.dap_tables.specs.Ors.{or-false, or-left, or-right}
 
 pub eqb-flip : (a b : ℕ) → (a == b) ≡ (b == a)
 eqb-flip a b = grind (arith, nat_tests)

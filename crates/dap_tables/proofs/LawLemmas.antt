@@ -12,7 +12,7 @@ use Rattle.dap_tables.specs.declared.target.Target.{Target}
 use Rattle.dap_tables.specs.References.{LiveReferences, ReferenceTable, place_of, target_of, numbered_at}
 use Rattle.dap_tables.specs.Breakpoints.{SetBreakpoints, no_breakpoints, numbered, replaced}
 use Rattle.dap_tables.specs.TableLaws.{ReferenceCall, Gave, Refused, WentBack, Cleared, Does, Runs, gives, leaves, NumbersNeverComeAgain, ids_given, lines_of_all, IdsNeverComeAgain}
-use Rattle.dap_tables.proofs.Lists.{or-false}
+use Rattle.dap_tables.specs.Ors.{or-false}
 
 -- ---- numbers
 

@@ -12,6 +12,7 @@ pub mod IndexLemmas
 pub mod KnownLemmas
 pub mod SourceLemmas
 pub mod StoreLemmas
+pub mod SourceMapLemmas
 pub mod SetLemmas
 pub mod LawLemmas
 mod Examples

@@ -6,18 +6,6 @@ use Rattle.std.specs.Option.{option_map, option_copied}
 use Rattle.std.specs.Prelude.{is_some}
 use denote.Ref.{Bor}
 
-pub or-false : (a b : Bool) → a ≡ false → b ≡ false → (a || b) ≡ false
-or-false true b h k = cc
-or-false false b h k = k
-
-pub or-left : (a b : Bool) → (a || b) ≡ false → a ≡ false
-or-left true b h = h
-or-left false b h = refl
-
-pub or-right : (a b : Bool) → (a || b) ≡ false → b ≡ false
-or-right true b h = cc
-or-right false b h = h
-
 module _ {X Y : Type 0} (f : X → Y) (p : Y → Bool) where
   pub list_any-map : (xs : List X) → list_any p (map f xs) ≡ list_any (λ x. p (f x)) xs
   list_any-map [] = refl

@@ -1,23 +1,14 @@
 -- Breakpoints, as a finite map from sources to lists.
 --
 -- Specification, "SetBreakpointsRequest": a request replaces all breakpoints of one source.
--- That a path and a reference are two names, with two lists, that ids rise and never come again, and the two limits, are this profile's choices.
-use Rattle.std.specs.Prelude.{◌≡◌, ℕ, ◌+◌, ◌≤◌, ◌<◌, List, [], ◌∷◌, length, filter, not, Bool, true, false, if◌then◌else◌}
-use Rattle.std.specs.List.{list_any}
-use Rattle.std.specs.Ordering.{is_lt, nat_cmp}
-use Rattle.std.specs.Cmp.Lexicographic.{slice_cmp}
-use Rattle.dap_call.specs.SameSource.{is_source}
+-- That ids rise and never come again, and the two limits, are this profile's choices.
+use Rattle.std.specs.Prelude.{ℕ, ◌+◌, ◌≤◌, ◌<◌, List, [], ◌∷◌, length}
 use Rattle.dap_call.specs.declared.call.SourceKey.{SourceKey}
-use Rattle.dap_call.specs.declared.call.SourceKey.TheVariants.{Path, Reference}
+use Rattle.dap_tables.specs.SourceMap.{OfSource, count, of_others, with_set, HasDistinctSources, HasNoEmptyList}
 
--- the breakpoints of one source, each its id and its line
-pub record OfSource : Type 0 where
-  pub source : SourceKey
-  pub set : List (ℕ × ℕ)
-
--- those of each source that has some, and the id that comes next. The sources stand in the order of their names: paths by their bytes, then references
+-- those of each source that has some, each its id and its line, and the id that comes next
 pub record SetBreakpoints : Type 0 where
-  pub sources : List OfSource
+  pub sources : List (OfSource (ℕ × ℕ))
   pub next_id : ℕ
 
 abbrev pub no_breakpoints : SetBreakpoints
@@ -32,38 +23,7 @@ pub record BreakpointTable : Type 0 where
 abbrev pub max_id : ℕ
 max_id = 9007199254740991
 
--- ---- names of sources
-
-abbrev pub comes_before : SourceKey → SourceKey → Bool
-comes_before (Path p) (Path q) = is_lt (slice_cmp nat_cmp p q)
-comes_before (Path p) (Reference n) = true
-comes_before (Reference n) (Path p) = false
-comes_before (Reference m) (Reference n) = is_lt (nat_cmp m n)
-
 -- ---- the map
-
--- the breakpoints of a source, none where it has no list
-abbrev pub set_of : SourceKey → List OfSource → List (ℕ × ℕ)
-set_of key [] = []
-set_of key (s ∷ sources) = if is_source key s.source then s.set else set_of key sources
-
--- how many there are together
-abbrev pub count : List OfSource → ℕ
-count [] = 0
-count (s ∷ sources) = length s.set + count sources
-
-abbrev pub of_others : SourceKey → List OfSource → List OfSource
-of_others key sources = filter (λ s. not (is_source key s.source)) sources
-
--- one more source, in its place by name
-abbrev pub in_place : OfSource → List OfSource → List OfSource
-in_place s [] = s ∷ []
-in_place s (t ∷ sources) = if comes_before s.source t.source then s ∷ t ∷ sources else t ∷ in_place s sources
-
--- an empty list is none
-abbrev pub with_set : SourceKey → List (ℕ × ℕ) → List OfSource → List OfSource
-with_set key [] sources = sources
-with_set key (b ∷ set) sources = in_place (record { source = key; set = b ∷ set }) sources
 
 -- ids from the first on, in the order of the lines
 abbrev pub numbered : ℕ → List ℕ → List (ℕ × ℕ)
@@ -101,16 +61,6 @@ pub record TakesIds (key : SourceKey) (lines : List ℕ) (table : BreakpointTabl
   pub ids : table.breakpoints.next_id + length lines ≤ max_id + 1
 
 -- ---- what is true of every table
-
--- no source comes twice
-abbrev pub HasDistinctSources : List OfSource → Type 0
-HasDistinctSources [] = Unit {0}
-HasDistinctSources (s ∷ sources) = (list_any (λ t. is_source s.source t.source) sources ≡ false) × HasDistinctSources sources
-
--- no list is empty
-abbrev pub HasNoEmptyList : List OfSource → Type 0
-HasNoEmptyList [] = Unit {0}
-HasNoEmptyList (s ∷ sources) = (0 < length s.set) × HasNoEmptyList sources
 
 pub record IsOrderly (table : BreakpointTable) : Type 0 where
   pub bound : count table.breakpoints.sources ≤ table.room

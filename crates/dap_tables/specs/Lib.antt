@@ -8,8 +8,11 @@ pub mod OutstandingStore
 pub mod Seq
 pub mod References
 pub mod ReferenceStore
+pub mod Ors
+pub mod SourceMap
+pub mod SourceMapLaws
+pub mod SourceStore
 pub mod Breakpoints
-pub mod BreakpointStore
 pub mod Known
 pub mod KnownStore
 pub mod KnownLaws

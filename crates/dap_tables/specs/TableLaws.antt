@@ -6,7 +6,8 @@ use Rattle.dap_call.specs.declared.call.SourceKey.{SourceKey}
 use Rattle.dap_tables.specs.declared.ref_fault.RefFault.TheVariants.{Full, Exhausted}
 use Rattle.dap_tables.specs.declared.target.Target.{Target}
 use Rattle.dap_tables.specs.References.{ReferenceTable, target_of, interned, taken_back, cleared}
-use Rattle.dap_tables.specs.Breakpoints.{SetBreakpoints, no_breakpoints, numbered, replaced, count, count_with}
+use Rattle.dap_tables.specs.SourceMap.{count}
+use Rattle.dap_tables.specs.Breakpoints.{SetBreakpoints, no_breakpoints, numbered, replaced, count_with}
 
 -- ---- references
 

@@ -1,11 +1,12 @@
 //! The breakpoints that are set, by source.
 ghost use Rattle.std.specs.Prelude.{◌≡◌, ◌+◌, ◌<◌, ◌≤◌, ◌↔◌, List, ℕ, [], ◌++◌, length, false, IsTrue, IsOk, IfOk, OnOk, OnErr, Ok, Err};
 ghost use Rattle.dap_call.specs.declared.call.SourceKey.{SourceKey as Source};
-ghost use Rattle.dap_tables.specs.Breakpoints.{BreakpointTable, no_breakpoints, set_of, count, of_others, with_set, numbered, replaced, max_id, IsAllowed, IsRefusedForRoom, IsRefusedForIds, TakesIds, IsOrderly};
+ghost use Rattle.dap_tables.specs.SourceMap.{set_of, count, of_others, with_set};
+ghost use Rattle.dap_tables.specs.Breakpoints.{BreakpointTable, no_breakpoints, numbered, replaced, max_id, IsAllowed, IsRefusedForRoom, IsRefusedForIds, TakesIds, IsOrderly};
 ghost use Rattle.dap_call.specs.SameSource.{is_source};
 
 use crate::bp_fault::BpFault;
-use crate::source_sets::SourceSets;
+use crate::source_map::SourceMap;
 use dap_call::SourceKey;
 use std::alloc::{AllocError, Global};
 use std::marker::Model;
@@ -19,7 +20,7 @@ const MAX_ID: u64 = 9007199254740991;
 #[derive(Drop)]
 pub struct Breakpoints {
     alloc: Global,
-    sets: SourceSets,
+    sets: SourceMap<(u64, u32)>,
     len: usize,
     next_id: u64,
     room: usize,
@@ -27,7 +28,8 @@ pub struct Breakpoints {
 
 impl Model for Breakpoints {
     ghost use Rattle.std.specs.Prelude.{◌≡◌};
-    ghost use Rattle.dap_tables.specs.Breakpoints.{BreakpointTable, count, IsOrderly};
+    ghost use Rattle.dap_tables.specs.SourceMap.{count};
+    ghost use Rattle.dap_tables.specs.Breakpoints.{BreakpointTable, IsOrderly};
 
     ghost Value = { BreakpointTable };
 
@@ -52,7 +54,7 @@ fn numbered(alloc: Global, first: u64, lines: &[u32]) -> Result<Vec<(u64, u32)>,
 
 /// Sets these lines in place of those of a source, with ids from the first on.
 fn set_lines(
-    sets: &mut SourceSets,
+    sets: &mut SourceMap<(u64, u32)>,
     alloc: Global,
     source: SourceKey,
     first: u64,
@@ -79,7 +81,7 @@ impl Breakpoints {
     {
         Ok(Breakpoints {
             alloc,
-            sets: SourceSets::new(alloc),
+            sets: SourceMap::new(alloc),
             len: 0,
             next_id: 1,
             room: k,

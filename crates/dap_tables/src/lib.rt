@@ -25,7 +25,7 @@ mod seq;
 mod seq_index;
 mod seq_tree;
 mod slot;
-mod source_sets;
+mod source_map;
 mod target;
 
 pub use bp_fault::BpFault;
@@ -40,4 +40,5 @@ pub use ref_fault::RefFault;
 pub use reference_kind::ReferenceKind;
 pub use references::References;
 pub use seq::Seq;
+pub use source_map::SourceMap;
 pub use target::Target;

@@ -12,6 +12,7 @@ mod verdict;
 mod wrapping;
 
 pub use dap_check::{CheckFault, Checked, Rule, check};
+pub use dap_client::SendFault;
 pub use dap_drive::{DriveFault, drive};
 pub use dap_world::laws;
 pub use fault::{ToolFault, fault_line, status};

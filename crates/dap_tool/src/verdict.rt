@@ -1,9 +1,9 @@
 //! What a program tells of a transcript.
 
-ghost use Rattle.std.specs.Prelude.{◌≡◌, ◌∷◌, ◌++◌, [], List, IfOk, string_bytes};
+ghost use Rattle.std.specs.Prelude.{◌≡◌, ◌⊎◌, ◌∷◌, ◌++◌, [], List, IfOk, IfErr, IsOk, string_bytes};
 ghost use Rattle.std.specs.Str.Lines.{lines};
 ghost use Rattle.dap_check.specs.Reasons.{reason_of};
-ghost use Rattle.dap_check.specs.Transcript.{AreLines};
+ghost use Rattle.dap_check.specs.Transcript.{AreLines, IsRefusedIn};
 ghost use Rattle.dap_check.specs.declared.line.Line.{Line};
 ghost use Rattle.dap_tool.specs.Verdicts.{text_of_finding, text_of_checked, text_of_reason, text_of_why};
 
@@ -49,6 +49,10 @@ pub fn explanation_line(
     ensures legal { checked ≡ Checked.Legal → IfOk result (λ text. text.items ≡ []) }
     ensures finding { (earlier : List Line) (line : Line) (later : List Line) (rule : Rule) → AreLines 1 (lines bytes.now) (earlier ++ line ∷ later)
         → checked ≡ Checked.Finding line.number rule → IfOk result (λ text. text.items ≡ text_of_why (reason_of rule earlier line)) }
+
+    // A legal transcript is never refused, and any other only for memory or for what `check` refuses it for.
+    ensures told { checked ≡ Checked.Legal → IsOk result }
+    ensures refused { IfErr result (λ fault. (fault ≡ CheckFault.OutOfMemory) ⊎ IsRefusedIn (lines bytes.now) fault) }
 {
     let Checked::Finding { line, rule } = checked else {
         return Ok(Vec::new(alloc));

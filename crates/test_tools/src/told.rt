@@ -4,7 +4,9 @@ use dap_adapter::{AdapterFault, ServeFault};
 use dap_debuggee::{Recorded, RecordingFault};
 use dap_frame::{FrameFault, Refusal};
 use dap_message::BodyRefusal;
-use dap_tool::{FileFault, ShowFault, ToolFault, WrapFault, fault_line, status};
+use dap_tool::{
+    CheckFault, DriveFault, FileFault, SendFault, ShowFault, ToolFault, WrapFault, fault_line, status,
+};
 use std::alloc::Global;
 use std::test::Fail;
 
@@ -177,7 +179,7 @@ fn faults_of_tools(rt: HostRuntime) -> Result<(), Fail> {
     expect_none(&rt, other_told(rt.alloc(), &TOLD))
 }
 
-static IN_WORDS: [(ToolFault, &str); 14] = [
+static IN_WORDS: [(ToolFault, &str); 24] = [
     (
         ToolFault::Serve(ServeFault::Read),
         "the session is broken off",
@@ -226,6 +228,52 @@ static IN_WORDS: [(ToolFault, &str); 14] = [
     ),
     (
         ToolFault::File(FileFault::OutOfMemory),
+        "memory is exhausted",
+    ),
+    (
+        ToolFault::Check(CheckFault::BadLine { line: 7 }),
+        "line 7 is of neither side",
+    ),
+    (
+        ToolFault::Check(CheckFault::Body {
+            line: 8,
+            cause: BodyRefusal::NotJson,
+        }),
+        "line 8 is no message",
+    ),
+    (
+        ToolFault::Check(CheckFault::OutOfMemory),
+        "memory is exhausted",
+    ),
+    (
+        ToolFault::Drive(DriveFault::Recording),
+        "the recording is refused",
+    ),
+    (
+        ToolFault::Drive(DriveFault::Script { line: 2 }),
+        "line 2 is no order",
+    ),
+    (
+        ToolFault::Drive(DriveFault::Call { line: 3 }),
+        "line 3 has arguments that are refused",
+    ),
+    (
+        ToolFault::Drive(DriveFault::Send {
+            line: 4,
+            cause: SendFault::WrongPhase,
+        }),
+        "line 4 is not sent",
+    ),
+    (
+        ToolFault::Drive(DriveFault::Adapter),
+        "the adapter is closed",
+    ),
+    (
+        ToolFault::Drive(DriveFault::Client),
+        "the client is closed",
+    ),
+    (
+        ToolFault::Drive(DriveFault::OutOfMemory),
         "memory is exhausted",
     ),
     (ToolFault::Truncated, "the input ends within a frame"),

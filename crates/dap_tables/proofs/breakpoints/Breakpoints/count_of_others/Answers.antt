@@ -1,6 +1,6 @@
 use Rattle.std.proofs.Common.{rules, ◌≡◌, length, arith}
-use Rattle.dap_tables.specs.Breakpoints.{set_of}
-use Rattle.dap_tables.proofs.SetLemmas.{count-others}
+use Rattle.dap_tables.specs.SourceMap.{set_of}
+use Rattle.dap_tables.proofs.SourceMapLemmas.{count-others}
 use Rattle.dap_tables.proofs.breakpoints.Breakpoints.count_of_others.Goals as goal
 
 pub overflow_sub-result : goal.overflow_sub-result

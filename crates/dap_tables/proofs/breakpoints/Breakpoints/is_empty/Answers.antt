@@ -1,8 +1,9 @@
 use Rattle.std.proofs.Common.{◌≡◌, ap, sym, ◌∙◌, arith, ℕ, true}
 use Rattle.std.specs.Prelude.{nat_eq}
 use Rattle.std.proofs.lemmas.Bool.Decides.{nat_tests}
-use Rattle.dap_tables.specs.Breakpoints.{BreakpointTable, count}
-use Rattle.dap_tables.proofs.SetLemmas.{count-none}
+use Rattle.dap_tables.specs.SourceMap.{count}
+use Rattle.dap_tables.specs.Breakpoints.{BreakpointTable}
+use Rattle.dap_tables.proofs.SourceMapLemmas.{count-none}
 use Rattle.dap_tables.proofs.breakpoints.Breakpoints.is_empty.Goals as goal
 
 is-none : (n : ℕ) → nat_eq n 0 ≡ true → n ≡ 0

@@ -1,5 +1,6 @@
 use Rattle.std.proofs.Common.{rules, ◌≡◌, ◌+◌, ◌-◌, ◌≤◌, List, length, sym, ap, subst, ◌∙◌, arith}
-use Rattle.dap_tables.specs.Breakpoints.{OfSource, BreakpointTable, SetBreakpoints, count, of_others, with_set, numbered, max_id, IsOrderly}
+use Rattle.dap_tables.specs.SourceMap.{count, of_others, with_set}
+use Rattle.dap_tables.specs.Breakpoints.{BreakpointTable, SetBreakpoints, numbered, max_id, IsOrderly}
 use Rattle.dap_tables.proofs.SetLemmas.{count-replaced, orderly-replaced}
 use Rattle.dap_tables.proofs.breakpoints.Breakpoints.replace.Goals as goal
 
@@ -18,8 +19,8 @@ invariant_of-self-2 c =
     let ids = c.self.invariant.1.ids in
     let all = count-replaced source lines old in
     let orderly = orderly-replaced source lines table c.self.invariant.1 (omega arith) (omega arith) in (
-      ap (λ n. n + length lines) others ∙ sym all ∙ ap (λ (ss : List OfSource). count ss) (sym sets),
-      subst (λ (ss : List OfSource). IsOrderly (record { room = inside.room; breakpoints = record { sources = ss; next_id = inside.next_id + length lines } })) (sym sets) orderly,
+      ap (λ n. n + length lines) others ∙ sym all ∙ ap (λ ss. count ss) (sym sets),
+      subst (λ ss. IsOrderly (record { room = inside.room; breakpoints = record { sources = ss; next_id = inside.next_id + length lines } })) (sym sets) orderly,
     )
 
 pub returns-clause-orderly : goal.returns-clause-orderly

@@ -1,46 +1,51 @@
-//! Lists of breakpoints by the names of their sources, stored as two maps.
-ghost use Rattle.std.specs.Prelude.{◌≡◌, [], ◌∷◌, ◌++◌, length, OnOk, OnErr, string_bytes};
+//! A map from sources to lists, stored as two maps.
+ghost use Rattle.std.specs.Prelude.{◌≡◌, [], OnOk, OnErr, string_bytes};
 ghost use Rattle.dap_call.specs.declared.call.SourceKey.TheVariants.{Path, Reference};
-ghost use Rattle.dap_tables.specs.Breakpoints.{set_of, of_others, in_place};
+ghost use Rattle.dap_tables.specs.SourceMap.{set_of, of_others, with_set};
 
 use dap_call::SourceKey;
 use std::alloc::{AllocError, Global};
 use std::collections::BTreeMap;
 use std::marker::Model;
 
-/// The lists of breakpoints of those sources that have one.
+/// A map from sources to lists, in which no list is empty. A path and a reference are two names, with two lists, even where
+/// they mean one file. A contract sees the lists in the order of their names: paths by their bytes, then references.
 #[derive(Drop)]
-pub(crate) struct SourceSets {
-    paths: BTreeMap<String, Vec<(u64, u32)>>,
-    references: BTreeMap<u32, Vec<(u64, u32)>>,
+pub struct SourceMap<T> {
+    paths: BTreeMap<String, Vec<T>>,
+    references: BTreeMap<u64, Vec<T>>,
 }
 
-impl Model for SourceSets {
+impl<T> Model for SourceMap<T> {
     ghost use Rattle.std.specs.Prelude.{List};
     ghost use Rattle.std.specs.BTreeMap.{IsOrdered};
     ghost use Rattle.std.specs.Ordering.{nat_cmp};
     ghost use Rattle.std.specs.String.{string_cmp};
-    ghost use Rattle.dap_tables.specs.Breakpoints.{OfSource};
-    ghost use Rattle.dap_tables.specs.BreakpointStore.{sources_of};
+    ghost use Rattle.dap_tables.specs.SourceMap.{OfSource};
+    ghost use Rattle.dap_tables.specs.SourceStore.{sources_of};
 
-    ghost Value = { List OfSource };
+    ghost Value = { List (OfSource T) };
 
     ghost view = { λ s. sources_of s.paths s.references };
 
     ghost invariant = { λ s. IsOrdered string_cmp s.paths × IsOrdered nat_cmp s.references };
 }
 
-impl SourceSets {
-    pub(crate) fn new(alloc: Global) -> SourceSets
+impl<T: Drop> SourceMap<T> {
+    ghost use Rattle.dap_tables.specs.SourceMap.{in_place};
+
+    /// No source has a list yet.
+    pub fn new(alloc: Global) -> SourceMap<T>
         ensures { result ≡ [] }
     {
-        SourceSets {
+        SourceMap {
             paths: BTreeMap::new(alloc),
             references: BTreeMap::new(alloc),
         }
     }
 
-    fn of_path(&self, path: &str) -> &[(u64, u32)]
+    /// The list of the source with a path, empty where it has none.
+    pub fn of_path(&self, path: &str) -> &[T]
         ensures { result.now ≡ set_of (Path path.now) self.now }
     {
         match self.paths.get(path) {
@@ -49,7 +54,8 @@ impl SourceSets {
         }
     }
 
-    fn of_reference(&self, reference: u32) -> &[(u64, u32)]
+    /// The list of the source with a reference, of any size, empty where it has none.
+    pub fn of_reference(&self, reference: u64) -> &[T]
         ensures { result.now ≡ set_of (Reference reference) self.now }
     {
         match self.references.get(&reference) {
@@ -58,16 +64,17 @@ impl SourceSets {
         }
     }
 
-    pub(crate) fn of_source(&self, source: &SourceKey) -> &[(u64, u32)]
+    /// The list of a source, empty where it has none.
+    pub fn of_source(&self, source: &SourceKey) -> &[T]
         ensures { result.now ≡ set_of source.now self.now }
     {
         match source {
             SourceKey::Path(path) => self.of_path(path.as_str()),
-            SourceKey::Reference(reference) => self.of_reference(*reference),
+            SourceKey::Reference(reference) => self.of_reference(*reference as u64),
         }
     }
 
-    fn put_path(&mut self, path: String, set: Vec<(u64, u32)>) -> Result<(), AllocError>
+    fn put_path(&mut self, path: String, set: Vec<T>) -> Result<(), AllocError>
         ensures put { OnOk result (self.new ≡ in_place (record { source = Path (string_bytes path); set = set.items }) (of_others (Path (string_bytes path)) self.old)) }
         ensures memory { OnErr result (self.new ≡ self.old) }
     {
@@ -75,7 +82,7 @@ impl SourceSets {
         Ok(())
     }
 
-    fn put_reference(&mut self, reference: u32, set: Vec<(u64, u32)>) -> Result<(), AllocError>
+    fn put_reference(&mut self, reference: u64, set: Vec<T>) -> Result<(), AllocError>
         ensures put { OnOk result (self.new ≡ in_place (record { source = Reference reference; set = set.items }) (of_others (Reference reference) self.old)) }
         ensures memory { OnErr result (self.new ≡ self.old) }
     {
@@ -83,14 +90,29 @@ impl SourceSets {
         Ok(())
     }
 
-    pub(crate) fn put(&mut self, source: SourceKey, set: Vec<(u64, u32)>) -> Result<(), AllocError>
+    fn put_some(&mut self, source: SourceKey, set: Vec<T>) -> Result<(), AllocError>
         ensures put { OnOk result (self.new ≡ in_place (record { source = source; set = set.items }) (of_others source self.old)) }
         ensures memory { OnErr result (self.new ≡ self.old) }
     {
         match source {
             SourceKey::Path(path) => self.put_path(path.into_string()?, set),
-            SourceKey::Reference(reference) => self.put_reference(reference, set),
+            SourceKey::Reference(reference) => self.put_reference(reference as u64, set),
         }
+    }
+
+    /// Puts a list in place of the one that a source has. An empty one leaves the source without a list, and takes no memory.
+    ///
+    /// # Errors
+    /// `AllocError` where memory is refused. The map is then as it was.
+    pub fn put(&mut self, source: SourceKey, set: Vec<T>) -> Result<(), AllocError>
+        ensures put { OnOk result (self.new ≡ with_set source set.items (of_others source self.old)) }
+        ensures memory { OnErr result (self.new ≡ self.old) }
+    {
+        if set.is_empty() {
+            self.remove(&source);
+            return Ok(());
+        }
+        self.put_some(source, set)
     }
 
     fn remove_path(&mut self, path: &str)
@@ -99,18 +121,19 @@ impl SourceSets {
         self.paths.remove(path);
     }
 
-    fn remove_reference(&mut self, reference: u32)
+    fn remove_reference(&mut self, reference: u64)
         ensures { self.new ≡ of_others (Reference reference) self.old }
     {
         self.references.remove(&reference);
     }
 
-    pub(crate) fn remove(&mut self, source: &SourceKey)
+    /// Leaves a source without a list.
+    pub fn remove(&mut self, source: &SourceKey)
         ensures { self.new ≡ of_others source.now self.old }
     {
         match source {
             SourceKey::Path(path) => self.remove_path(path.as_str()),
-            SourceKey::Reference(reference) => self.remove_reference(*reference),
+            SourceKey::Reference(reference) => self.remove_reference(*reference as u64),
         }
     }
 }

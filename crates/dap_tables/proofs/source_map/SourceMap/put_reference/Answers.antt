@@ -1,14 +1,14 @@
 use Rattle.std.proofs.Common.{List, ◌++◌, map, sym, ap, ◌∙◌}
 use Rattle.dap_call.specs.declared.call.SourceKey.TheVariants.{Reference}
-use Rattle.dap_tables.specs.Breakpoints.{OfSource, of_others, in_place}
-use Rattle.dap_tables.specs.BreakpointStore.{at_path, at_reference}
+use Rattle.dap_tables.specs.SourceMap.{of_others, in_place}
+use Rattle.dap_tables.specs.SourceStore.{at_path, at_reference}
 use Rattle.dap_tables.proofs.StoreLemmas.{reference-put}
-use Rattle.dap_tables.proofs.source_sets.SourceSets.put_reference.Goals as goal
+use Rattle.dap_tables.proofs.source_map.SourceMap.put_reference.Goals as goal
 
 pub returns-clause-put : goal.returns-clause-put
-returns-clause-put c =
+returns-clause-put g c =
     let inside = c.self.inside in
     let key = Reference c.args.reference in
     ap (λ es. map at_path inside.paths.entries ++ map at_reference es) c.in_ok-insert.ensures.entries
     ∙ sym (reference-put c.args.reference c.args.set inside.paths inside.references c.insert.ensures.was_ordered)
-    ∙ ap (λ (ss : List OfSource). in_place (record { source = key; set = c.args.set.items }) (of_others key ss)) c.self.view_is
+    ∙ ap (λ ss. in_place (record { source = key; set = c.args.set.items }) (of_others key ss)) c.self.view_is
