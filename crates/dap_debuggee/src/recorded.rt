@@ -1,5 +1,5 @@
 //! A debuggee that plays a recorded run.
-ghost use Rattle.std.specs.Prelude.{◌≡◌, ◌<◌, length};
+ghost use Rattle.std.specs.Prelude.{◌≡◌, ◌<◌, ◌≤◌, length};
 ghost use Rattle.dap_debuggee.specs.Held.{last_of};
 ghost use Rattle.std.specs.Prelude.{if◌then◌else◌};
 ghost use Rattle.dap_debuggee.specs.Moves.{is_forward};
@@ -103,6 +103,7 @@ impl Recorded {
     ghost use Rattle.dap_debuggee.specs.Held.{noted};
     ghost use Rattle.dap_debuggee.specs.Played.{shown_of};
     ghost use Rattle.dap_debuggee.specs.Told.{ToldCanBeAsked, NamesOneHolder};
+    ghost use Rattle.dap_tables.specs.SourceMap.{count, HasNoEmptyList};
 
     /// A recording that is not started.
     pub(crate) fn of_recording(alloc: Global, recording: Recording) -> Result<Recorded, AllocError>
@@ -158,6 +159,15 @@ impl Recorded {
         ensures { NamesOneHolder (shown_of self.now) }
     {
         self.is_recording();
+    }
+
+    /// Each source that has an entry among the lines that are set has a line there, so that there are at most as many entries
+    /// as lines, whatever was set before. There is nothing to run.
+    pub fn entries_have_lines(&self)
+        ensures filled { HasNoEmptyList self.now.set }
+        ensures few { length self.now.set ≤ count self.now.set }
+    {
+        self.set.no_list_is_empty();
     }
 
     /// What a move is decided by.

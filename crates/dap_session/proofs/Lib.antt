@@ -23,4 +23,5 @@ pub mod GivenNumbers
 pub mod SetLines
 pub mod Refusals
 pub mod Stale
+pub mod Ordered
 pub mod ToldLists

@@ -22,4 +22,5 @@ pub mod Telling
 pub mod Setting
 pub mod RefusalLaws
 pub mod StaleLaws
+pub mod OrderLaws
 pub mod Writing

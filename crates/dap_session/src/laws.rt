@@ -1,5 +1,6 @@
 //! Laws of the definitions, each on a function with nothing to run.
 ghost use Rattle.dap_session.specs.Laws.{EachStepGoesOn};
+ghost use Rattle.dap_session.specs.OrderLaws.{RefusalsComeInOrder};
 ghost use Rattle.dap_session.specs.ReferenceLaws.{ReferencesAreApart};
 ghost use Rattle.dap_session.specs.RefusalLaws.{RefusalsChangeNothing};
 ghost use Rattle.dap_session.specs.StaleLaws.{DeadNumbersAreStale};
@@ -39,4 +40,9 @@ pub fn dead_numbers_are_stale()
 /// and references and breakpoints are as they were.
 pub fn refusals_change_nothing()
     ensures { RefusalsChangeNothing }
+{}
+
+/// A request is refused with the first failure, in the one order that the failures have, whose test holds.
+pub fn refusals_come_in_order()
+    ensures { RefusalsComeInOrder }
 {}

@@ -1,4 +1,4 @@
-use Rattle.std.proofs.Common.{List, ◌++◌, map, sym, ap, ◌∙◌}
+use Rattle.std.proofs.Common.{◌++◌, map, sym, ap, ◌∙◌}
 use Rattle.dap_call.specs.declared.call.SourceKey.TheVariants.{Path}
 use Rattle.dap_tables.specs.SourceMap.{of_others}
 use Rattle.dap_tables.specs.SourceStore.{at_path, at_reference}
