@@ -1,4 +1,4 @@
-use Rattle.std.proofs.Common.{rules, ◌≡◌, ◌+◌, ◌-◌, ◌≤◌, List, length, sym, ap, subst, ◌∙◌, arith}
+use Rattle.std.proofs.Common.{rules, ◌≡◌, ◌+◌, ◌-◌, ◌≤◌, length, sym, ap, subst, ◌∙◌, arith}
 use Rattle.dap_tables.specs.SourceMap.{count, of_others, with_set}
 use Rattle.dap_tables.specs.Breakpoints.{BreakpointTable, SetBreakpoints, numbered, max_id, IsOrderly}
 use Rattle.dap_tables.proofs.SetLemmas.{count-replaced, orderly-replaced}
