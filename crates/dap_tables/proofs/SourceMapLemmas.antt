@@ -1,5 +1,5 @@
 -- How much a map from sources to lists holds, and what is true of it, once the list of a source is put in place.
-use Rattle.std.proofs.Common.{◌≡◌, ◌+◌, ◌<◌, List, [], ◌∷◌, Bool, true, false, not, length, refl, sym, ap, subst, ◌∙◌, arith}
+use Rattle.std.proofs.Common.{◌≡◌, ◌+◌, ◌<◌, ◌≤◌, lit≤, List, [], ◌∷◌, Bool, true, false, not, length, refl, sym, ap, subst, ◌∙◌, arith}
 use Rattle.std.specs.Prelude.{if◌then◌else◌}
 use Rattle.std.specs.List.{list_any}
 use Rattle.dap_call.specs.declared.call.SourceKey.{SourceKey}
@@ -69,7 +69,7 @@ module _ {T : Type 0} where
   filled-by true s xs f more = more
   filled-by false s xs f more = (f, more)
 
-  filled-others : (key : SourceKey) (ss : List (OfSource T)) → HasNoEmptyList ss → HasNoEmptyList (of_others key ss)
+  pub filled-others : (key : SourceKey) (ss : List (OfSource T)) → HasNoEmptyList ss → HasNoEmptyList (of_others key ss)
   filled-others key [] f = tt
   filled-others key (s ∷ ss) f = filled-by (is_source key s.source) s (of_others key ss) f.0 (filled-others key ss f.1)
 
@@ -77,7 +77,7 @@ module _ {T : Type 0} where
   filled-place-by true s t xs f g more = (f, g)
   filled-place-by false s t xs f g more = (g.0, more)
 
-  filled-place : (s : OfSource T) (xs : List (OfSource T)) → 0 < length s.set → HasNoEmptyList xs → HasNoEmptyList (in_place s xs)
+  pub filled-place : (s : OfSource T) (xs : List (OfSource T)) → 0 < length s.set → HasNoEmptyList xs → HasNoEmptyList (in_place s xs)
   filled-place s [] f g = (f, tt)
   filled-place s (t ∷ xs) f g = filled-place-by (comes_before s.source t.source) s t xs f g (filled-place s xs f g.1)
 
@@ -90,3 +90,7 @@ module _ {T : Type 0} where
   pub count-none : (ss : List (OfSource T)) → HasNoEmptyList ss → count ss ≡ 0 → ss ≡ []
   count-none [] f h = refl
   count-none (s ∷ ss) f h = let some = f.0 in absurd (omega arith)
+
+  pub few-entries : (ss : List (OfSource T)) → HasNoEmptyList ss → length ss ≤ count ss
+  few-entries [] f = lit≤ tt
+  few-entries (s ∷ ss) f = let some = f.0 in let rest = few-entries ss f.1 in omega arith

@@ -1,7 +1,7 @@
 //! A map from sources to lists, stored as two maps.
-ghost use Rattle.std.specs.Prelude.{◌≡◌, [], OnOk, OnErr, string_bytes};
+ghost use Rattle.std.specs.Prelude.{◌≡◌, ◌<◌, ◌≤◌, [], length, OnOk, OnErr, string_bytes};
 ghost use Rattle.dap_call.specs.declared.call.SourceKey.TheVariants.{Path, Reference};
-ghost use Rattle.dap_tables.specs.SourceMap.{set_of, of_others, with_set};
+ghost use Rattle.dap_tables.specs.SourceMap.{set_of, count, of_others, with_set, HasNoEmptyList};
 
 use dap_call::SourceKey;
 use std::alloc::{AllocError, Global};
@@ -21,14 +21,14 @@ impl<T> Model for SourceMap<T> {
     ghost use Rattle.std.specs.BTreeMap.{IsOrdered};
     ghost use Rattle.std.specs.Ordering.{nat_cmp};
     ghost use Rattle.std.specs.String.{string_cmp};
-    ghost use Rattle.dap_tables.specs.SourceMap.{OfSource};
+    ghost use Rattle.dap_tables.specs.SourceMap.{OfSource, HasNoEmptyList};
     ghost use Rattle.dap_tables.specs.SourceStore.{sources_of};
 
     ghost Value = { List (OfSource T) };
 
     ghost view = { λ s. sources_of s.paths s.references };
 
-    ghost invariant = { λ s. IsOrdered string_cmp s.paths × IsOrdered nat_cmp s.references };
+    ghost invariant = { λ s. IsOrdered string_cmp s.paths × IsOrdered nat_cmp s.references × HasNoEmptyList (sources_of s.paths s.references) };
 }
 
 impl<T: Drop> SourceMap<T> {
@@ -42,6 +42,15 @@ impl<T: Drop> SourceMap<T> {
             paths: BTreeMap::new(alloc),
             references: BTreeMap::new(alloc),
         }
+    }
+
+    /// Each source that has an entry has something in its list, so that there are at most as many entries as there is in all
+    /// lists together. There is nothing to run.
+    pub fn no_list_is_empty(&self)
+        ensures filled { HasNoEmptyList self.now }
+        ensures few { length self.now ≤ count self.now }
+    {
+        let _ = &self.paths;
     }
 
     /// The list of the source with a path, empty where it has none.
@@ -75,6 +84,7 @@ impl<T: Drop> SourceMap<T> {
     }
 
     fn put_path(&mut self, path: String, set: Vec<T>) -> Result<(), AllocError>
+        requires { 0 < length set.items }
         ensures put { OnOk result (self.new ≡ in_place (record { source = Path (string_bytes path); set = set.items }) (of_others (Path (string_bytes path)) self.old)) }
         ensures memory { OnErr result (self.new ≡ self.old) }
     {
@@ -83,6 +93,7 @@ impl<T: Drop> SourceMap<T> {
     }
 
     fn put_reference(&mut self, reference: u64, set: Vec<T>) -> Result<(), AllocError>
+        requires { 0 < length set.items }
         ensures put { OnOk result (self.new ≡ in_place (record { source = Reference reference; set = set.items }) (of_others (Reference reference) self.old)) }
         ensures memory { OnErr result (self.new ≡ self.old) }
     {
@@ -91,6 +102,7 @@ impl<T: Drop> SourceMap<T> {
     }
 
     fn put_some(&mut self, source: SourceKey, set: Vec<T>) -> Result<(), AllocError>
+        requires { 0 < length set.items }
         ensures put { OnOk result (self.new ≡ in_place (record { source = source; set = set.items }) (of_others source self.old)) }
         ensures memory { OnErr result (self.new ≡ self.old) }
     {

@@ -1,7 +1,8 @@
-use Rattle.std.proofs.Common.{◌++◌, map, sym, ap, ◌∙◌}
+use Rattle.std.proofs.Common.{subst, List, ◌++◌, map, sym, ap, ◌∙◌}
 use Rattle.dap_call.specs.declared.call.SourceKey.TheVariants.{Reference}
-use Rattle.dap_tables.specs.SourceMap.{of_others, in_place}
-use Rattle.dap_tables.specs.SourceStore.{at_path, at_reference}
+use Rattle.dap_tables.specs.SourceMap.{HasNoEmptyList, of_others, in_place}
+use Rattle.dap_tables.specs.SourceStore.{sources_of, at_path, at_reference}
+use Rattle.dap_tables.proofs.SourceMapLemmas.{filled-others, filled-place}
 use Rattle.dap_tables.proofs.StoreLemmas.{reference-put}
 use Rattle.dap_tables.proofs.source_map.SourceMap.put_reference.Goals as goal
 
@@ -12,3 +13,9 @@ returns-clause-put g c =
     ap (λ es. map at_path inside.paths.entries ++ map at_reference es) c.in_ok-insert.ensures.entries
     ∙ sym (reference-put c.args.reference c.args.set inside.paths inside.references c.insert.ensures.was_ordered)
     ∙ ap (λ ss. in_place (record { source = key; set = c.args.set.items }) (of_others key ss)) c.self.view_is
+
+pub invariant_of-self-2 : goal.invariant_of-self-2
+invariant_of-self-2 g c =
+    let inside = c.self.inside in
+    let are = ap (λ es. map at_path inside.paths.entries ++ map at_reference es) c.in_ok-insert.ensures.entries ∙ sym (reference-put c.args.reference c.args.set inside.paths inside.references c.insert.ensures.was_ordered) in
+    (c.self.invariant.0, c.insert.ensures.ordered, subst (λ ss. HasNoEmptyList ss) (sym are) (filled-place (record { source = Reference c.args.reference; set = c.args.set.items }) (of_others (Reference c.args.reference) (sources_of inside.paths inside.references)) c.requires (filled-others (Reference c.args.reference) (sources_of inside.paths inside.references) c.self.invariant.2)))
