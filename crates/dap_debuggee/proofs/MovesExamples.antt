@@ -47,10 +47,10 @@ abbrev held : Move
 held = record { to = 4; held = true; reason = Pause }
 
 abbrev by_path : List ℕ → List (OfSource ℕ)
-by_path lines = record { source = Path (codes "/a.c"); lines = lines } ∷ []
+by_path lines = record { source = Path (codes "/a.c"); set = lines } ∷ []
 
 abbrev by_number : ℕ → List ℕ → List (OfSource ℕ)
-by_number n lines = record { source = Reference n; lines = lines } ∷ []
+by_number n lines = record { source = Reference n; set = lines } ∷ []
 
 -- ---- forward
 
@@ -79,7 +79,7 @@ continue_by_number : (move (by_number 1 (6 ∷ [])) Continue 0 ≡ to 3 Breakpoi
 continue_by_number = (refl, refl, refl)
 
 -- another path, the moment stood at, and the line of a frame that is not the newest
-no_breakpoints : (move (record { source = Path (codes "/b.c"); lines = 9 ∷ [] } ∷ []) Continue 0 ≡ held) × (move (by_path (9 ∷ [])) Continue 2 ≡ held) × (move (by_path (1 ∷ [])) Continue 0 ≡ held)
+no_breakpoints : (move (record { source = Path (codes "/b.c"); set = 9 ∷ [] } ∷ []) Continue 0 ≡ held) × (move (by_path (9 ∷ [])) Continue 2 ≡ held) × (move (by_path (1 ∷ [])) Continue 0 ≡ held)
 no_breakpoints = (refl, refl, refl)
 
 -- ---- backward, where nothing holds a run
@@ -118,7 +118,7 @@ of_two_sources = (refl, refl, refl)
 abbrev unnamed : List (OfSource ℕ) → Move
 unnamed set = move_of (record { name = codes "a"; path = None; text = codes "\n"; lines = 1 } ∷ []) (moment false (1 ∷ []) ∷ moment false (1 ∷ []) ∷ []) (lines_in set) Continue 0
 
-without_a_path : (unnamed (by_number 1 (1 ∷ [])) ≡ to 1 Breakpoint) × (unnamed (by_path (1 ∷ [])) ≡ to 2 Breakpoint) × (unnamed (record { source = Path []; lines = 1 ∷ [] } ∷ []) ≡ to 2 Breakpoint)
+without_a_path : (unnamed (by_number 1 (1 ∷ [])) ≡ to 1 Breakpoint) × (unnamed (by_path (1 ∷ [])) ≡ to 2 Breakpoint) × (unnamed (record { source = Path []; set = 1 ∷ [] } ∷ []) ≡ to 2 Breakpoint)
 without_a_path = (refl, refl, refl)
 
 -- ---- lines
