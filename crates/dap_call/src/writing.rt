@@ -86,11 +86,7 @@ fn texts(alloc: Global, texts: &[Text]) -> Result<Vec<Value>, AllocError>
 }
 
 #[tactic(auto, unfolding(crate::specs::CallTree::initialize_members))]
-fn add_initialize(
-    alloc: Global,
-    members: &mut Members,
-    call: &Initialize,
-) -> Result<(), AllocError>
+fn add_initialize(alloc: Global, members: &mut Members, call: &Initialize) -> Result<(), AllocError>
     requires { members_view members.old.entries ≡ no_members }
     ensures { OnOk result (members_view members.new.entries ≡ initialize_members call.now) }
 {

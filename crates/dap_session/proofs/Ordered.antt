@@ -1,5 +1,5 @@
 -- The first test that holds, in two ways of writing it down.
-use Rattle.std.proofs.Common.{◌≡◌, ◌&&◌, not, Bool, true, false, cond, List, [], ◌∷◌, Option, Some, None, Ok, Err, refl, ap}
+use Rattle.std.proofs.Common.{◌≡◌, ◌&&◌, not, Bool, true, false, cond, [], ◌∷◌, Option, Some, None, Ok, Err, refl, ap}
 use Rattle.std.specs.Prelude.{find}
 use Rattle.dap_message.specs.Argument.{Read}
 use Rattle.dap_message.specs.Failure.{in_order}
@@ -11,7 +11,7 @@ use Rattle.dap_message.specs.Types.Key.{Key}
 use Rattle.dap_tables.specs.declared.entry.Entry.{Entry}
 use Rattle.dap_debuggee.specs.Shown.{Shown}
 use Rattle.dap_session.specs.declared.phase.Phase.TheVariants.{Fresh}
-use Rattle.dap_session.specs.Failures.{command_of, call_in, of_known, is_early, is_initialize, waits_for_stop, lacks_thread, thread_named, lacks_reference, reference_named, lacks_source, source_named, when, first, name_refused, key_refused, phase_refused, read_refused, known_refused}
+use Rattle.dap_session.specs.Failures.{command_of, call_in, is_early, is_initialize, waits_for_stop, lacks_thread, thread_named, lacks_reference, reference_named, lacks_source, source_named, when, first, name_refused, key_refused, phase_refused, read_refused, known_refused}
 use Rattle.dap_session.specs.OrderLaws.{fails, RefusalsComeInOrder}
 use Rattle.dap_session.specs.Session.{Session}
 use Rattle.dap_session.specs.Table.{is_phase, is_served, is_never_served}

@@ -43,7 +43,7 @@ use Rattle.dap_session.specs.Bodies.{Told, Telling, telling, tells_only, tells_w
 use Rattle.dap_session.specs.Breakpoints.{are_too_many}
 use Rattle.dap_tables.specs.SourceMap.{count}
 use Rattle.dap_tables.specs.Breakpoints.{SetBreakpoints, count_with, replaced, max_id}
-use Rattle.dap_tables.proofs.SourceMapLemmas.{count-replaced}
+use Rattle.dap_tables.proofs.SetLemmas.{count-replaced}
 use Rattle.dap_session.specs.Failures.{command_of, call_in, refusal, of_known}
 use Rattle.dap_session.specs.Handling.{begun, parked, started, configured, started_parked, left, finished, resumed, told, fits, by_reply, lines_asked, breakpoints_set, breakpoints_answered, breakpoints_verified, breakpoints_plan, plan_for, plan_of_call, plan_of_command, plan_unless, plan as plan_at, turn_of, turns}
 use Rattle.dap_session.specs.Laws.{CanMake}

@@ -1,5 +1,5 @@
 -- A served request of a stop whose number names nothing is refused for that alone.
-use Rattle.std.proofs.Common.{◌≡◌, ℕ, Bool, true, false, not, ◌&&◌, Option, Some, None, Ok, refl, sym, ap, ◌∙◌, true≢false}
+use Rattle.std.proofs.Common.{◌≡◌, ℕ, Bool, true, false, not, ◌&&◌, [], ◌∷◌, Option, Some, None, refl, sym, ap, ◌∙◌, true≢false}
 use Rattle.dap_message.specs.Types.Call.{Call}
 use Rattle.dap_message.specs.Types.Call.TheVariants as call
 use Rattle.dap_message.specs.Types.Command.{Command}
@@ -11,7 +11,7 @@ use Rattle.dap_tables.specs.declared.reference_kind.ReferenceKind.{ReferenceKind
 use Rattle.dap_tables.specs.References.{LiveReferences, target_of, is_of_kind}
 use Rattle.dap_debuggee.specs.Shown.{Shown}
 use Rattle.dap_session.specs.declared.phase.Phase.TheVariants.{Stopped}
-use Rattle.dap_session.specs.Failures.{command_of, call_in, reference_named, lacks_reference, when, or_else, first, name_refused, key_refused, phase_refused, call_refused, read_refused, known_refused, refusal, waits_for_stop}
+use Rattle.dap_session.specs.Failures.{call_in, reference_named, lacks_reference, when, or_else, first, name_refused, key_refused, phase_refused, call_refused, read_refused, known_refused, refusal, waits_for_stop}
 use Rattle.dap_session.specs.Handling.{plan_unless}
 use Rattle.dap_session.specs.ReferenceLaws.{ReferencesAreApart}
 use Rattle.dap_session.specs.Session.{Session}

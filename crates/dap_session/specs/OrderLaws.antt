@@ -1,6 +1,6 @@
 -- The tests before a request is served stand in the one order of failures.
 -- That order is this profile's choice.
-use Rattle.std.specs.Prelude.{◌≡◌, ◌&&◌, not, Bool, true, false, Option, Some, None, is_none, find, Ok, Err}
+use Rattle.std.specs.Prelude.{◌≡◌, ◌&&◌, not, Bool, true, false, Option, Some, is_none, find, Ok, Err}
 use Rattle.dap_message.specs.Argument.{Read}
 use Rattle.dap_message.specs.Failure.{in_order}
 use Rattle.dap_message.specs.Types.Call.{Call}

@@ -1,4 +1,4 @@
-use Rattle.std.proofs.Common.{subst, List, ◌++◌, map, sym, ap, ◌∙◌}
+use Rattle.std.proofs.Common.{subst, ◌++◌, map, sym, ap, ◌∙◌}
 use Rattle.dap_call.specs.declared.call.SourceKey.TheVariants.{Reference}
 use Rattle.dap_tables.specs.SourceMap.{HasNoEmptyList, of_others, in_place}
 use Rattle.dap_tables.specs.SourceStore.{sources_of, at_path, at_reference}
