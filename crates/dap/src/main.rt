@@ -12,16 +12,14 @@ use dap_channel::{Input, Pipe};
 use dap_debuggee::Recorded;
 use dap_frame::End;
 use dap_tool::{
-    Checked, FileFault, ToolFault, explanation_line, fault_line, read_whole, status, verdict_line,
+    Checked, FileFault, ToolFault, explanation_line, fault_line, most_reads, read_whole, status,
+    verdict_line,
 };
 use std::alloc::{AllocError, AllocFailed, Global};
 use std::fs::File;
 use std::io;
 use std::io::Write;
 use std::process::ExitCode;
-
-/// More reads than an input has that is read for hours.
-const MAX_READS: u64 = 1000000000;
 
 /// The status of a wrong command line.
 const USAGE: u8 = 2;
@@ -131,7 +129,7 @@ fn serve(rt: &HostRuntime, matches: &ArgMatches<'_>) -> u8 {
         reader: rt.reader(),
         writer: io::writer(rt),
     };
-    match dap_adapter::serve(rt.alloc(), &mut pipe, recording, limits, MAX_READS) {
+    match dap_adapter::serve(rt.alloc(), &mut pipe, recording, limits, most_reads()) {
         Ok(served) if served.end == End::Truncated => tell(rt, &ToolFault::Truncated),
         Ok(_) => 0,
         Err(fault) => tell(rt, &ToolFault::Serve(fault)),

@@ -8,6 +8,7 @@
 mod fault;
 mod files;
 mod listing;
+mod reads;
 mod verdict;
 mod wrapping;
 
@@ -18,5 +19,6 @@ pub use dap_world::laws;
 pub use fault::{ToolFault, fault_line, status};
 pub use files::{FileFault, MAX_FILE, read_channel, read_whole, reading_is_of_the_log};
 pub use listing::{ShowFault, show};
+pub use reads::most_reads;
 pub use verdict::{explanation_line, verdict_line};
 pub use wrapping::{WrapFault, wrap};
