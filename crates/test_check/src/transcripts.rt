@@ -6,7 +6,7 @@ use dap_check::{Rule, laws};
 use std::test::Fail;
 use test_kit::rows::play_rows;
 
-pub(crate) static ROWS: [&str; 27] = [
+pub(crate) static ROWS: [&str; 28] = [
     r#"
 row no bytes
 = legal
@@ -134,6 +134,13 @@ row what is offered is taken back
 < {"seq":3,"type":"event","event":"capabilities","body":{"capabilities":{"supportsStepBack":true}}}
 > {"seq":2,"type":"request","command":"terminate"}
 = line 5 rule 5: the request needs supportsTerminateRequest, which line 3 does not set to true
+"#,
+    r#"
+row the least of two rules that a line breaks
+> {"seq":1,"type":"request","command":"initialize"}
+< {"seq":1,"type":"response","request_seq":1,"success":true,"command":"initialize"}
+> {"seq":2,"type":"request","command":"setVariable","arguments":{"variablesReference":1}}
+= line 3 rule 5: the request needs supportsSetVariable, which line 2 does not set to true
 "#,
     r#"
 row a number below 0
