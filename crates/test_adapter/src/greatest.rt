@@ -21,7 +21,8 @@ fn play(rt: &HostRuntime, row: Result<String, AllocError>, size: usize) -> Resul
 }
 
 /// The lines that initialize.
-const INITIALIZES: &str = r#"> {"seq":1,"type":"request","command":"initialize","arguments":{"adapterID":"rec"}}
+const INITIALIZES: &str =
+    r#"> {"seq":1,"type":"request","command":"initialize","arguments":{"adapterID":"rec"}}
 turn
 < capabilities seq 1 to 1
 < {"event":"initialized","seq":2,"type":"event"}
@@ -187,7 +188,9 @@ fn many_breakpoints_are_set(rt: HostRuntime) -> Result<(), Fail> {
 /// What stands in a recording of one moment before its output and its frames.
 const BEGINS: &str =
     r#"recording {"exit":0,"sources":[{"name":"a","text":"x\n"}],"moments":[{"thread":1,"output":""#;
+
 const FRAMES: &str = r#"","threads":[{"id":1,"name":"t","frames":["#;
+
 const ENDS: &str = "]}]}]}\n";
 
 /// Appends the lines that initialize and start the debuggee.
@@ -307,12 +310,24 @@ fn many_variables_are_told(rt: HostRuntime) -> Result<(), Fail> {
     play(&rt, many_variables(rt.alloc()), usize::MAX)
 }
 
-/// So many frames of a recording.
-fn add_recorded_frames(row: &mut String, count: u32) -> Result<(), AllocError> {
+/// So many scopes of a recording.
+fn add_recorded_scopes(row: &mut String, count: u32) -> Result<(), AllocError> {
+    row.push_str(r#"{"name":""}"#)?;
+    for _ in 1..count {
+        row.push_str(r#",{"name":""}"#)?;
+    }
+    Ok(())
+}
+
+/// The same scopes as they are told, with the references from 2 on.
+fn add_told_scopes(row: &mut String, count: u32) -> Result<(), AllocError> {
     let mut comma = "";
-    for _ in 0..count {
-        row.push_str(comma)?;
-        row.push_str(r#"{"name":"f","source":0,"line":1}"#)?;
+    for place in 0..count {
+        write!(
+            row,
+            "{comma}{{\"expensive\":false,\"name\":\"\",\"variablesReference\":{}}}",
+            place.saturating_add(2)
+        )?;
         comma = ",";
     }
     Ok(())
@@ -322,24 +337,33 @@ fn many_references(alloc: Global) -> Result<String, AllocError> {
     let mut row = String::from_str(alloc, "row many references\n")?;
     row.push_str(BEGINS)?;
     row.push_str(FRAMES)?;
-    add_recorded_frames(&mut row, 65537)?;
+    row.push_str(r#"{"name":"f","source":0,"line":1,"scopes":["#)?;
+    add_recorded_scopes(&mut row, 65535)?;
+    row.push_str(r#"]},{"name":"g","source":0,"line":1}"#)?;
     row.push_str(ENDS)?;
     add_start(&mut row)?;
     add_entry(&mut row, 5)?;
     row.push_str(
-        r#"> {"seq":4,"type":"request","command":"stackTrace","arguments":{"threadId":1,"levels":65536}}
+        r#"> {"seq":4,"type":"request","command":"stackTrace","arguments":{"threadId":1,"levels":1}}
 turn
-< tooLarge seq 6 to 4 stackTrace
-references 0
-> {"seq":5,"type":"request","command":"stackTrace","arguments":{"threadId":1}}
+< {"body":{"stackFrames":[{"column":1,"id":1,"line":1,"name":"f","source":{"name":"a","sourceReference":1}}],"totalFrames":2},"command":"stackTrace","request_seq":4,"seq":6,"success":true,"type":"response"}
+> {"seq":5,"type":"request","command":"scopes","arguments":{"frameId":1}}
 turn
-< tooManyReferences seq 7 to 5 stackTrace
-references 0"#,
+< {"body":{"scopes":["#,
+    )?;
+    add_told_scopes(&mut row, 65535)?;
+    row.push_str(
+        r#"]},"command":"scopes","request_seq":5,"seq":7,"success":true,"type":"response"}
+references 65536
+> {"seq":6,"type":"request","command":"stackTrace","arguments":{"threadId":1,"startFrame":1}}
+turn
+< tooManyReferences seq 8 to 6 stackTrace
+references 65536"#,
     )?;
     Ok(row)
 }
 
-/// There is room for 65536 references, so that the answer is too large, and for no 65537th, so that there is none.
+/// As many references are given as may be live, and no 65537th.
 #[test]
 fn many_references_are_given(rt: HostRuntime) -> Result<(), Fail> {
     play(&rt, many_references(rt.alloc()), usize::MAX)

@@ -75,10 +75,7 @@ static DEEDS: [Deed; 27] = [
     Deed::Status(ToolFault::Truncated, 4),
     Deed::Status(ToolFault::OutOfMemory, 6),
     Deed::Named("threads", Some((Command::Threads, None))),
-    Deed::Named(
-        "stepBack",
-        Some((Command::StepBack, Some(Gate::StepBack))),
-    ),
+    Deed::Named("stepBack", Some((Command::StepBack, Some(Gate::StepBack)))),
     Deed::Named("goto", None),
     Deed::Numbers(3),
     Deed::PlainCall(
@@ -232,7 +229,13 @@ fn offers(tree: &Value, command: Command, wanted: bool) -> bool {
     Capabilities::read(Some(tree)).allows(command) == wanted
 }
 
-fn changes(alloc: Global, tree: &Value, object: &str, command: Command, wanted: bool) -> Option<bool> {
+fn changes(
+    alloc: Global,
+    tree: &Value,
+    object: &str,
+    command: Command,
+    wanted: bool,
+) -> Option<bool> {
     match tree_of(alloc, object) {
         Ok(object) => {
             let mut offered = Capabilities::read(Some(tree));

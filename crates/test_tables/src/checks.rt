@@ -15,7 +15,10 @@ const IS_AMPLE: bool = true;
 
 /// Fails the test where one of its calls answers something else, by the place of the first; or where memory is refused though
 /// there is enough. Where there is not, that is noted.
-pub(crate) fn judge(rt: &HostRuntime, other: Result<Option<usize>, AllocError>) -> Result<(), Fail> {
+pub(crate) fn judge(
+    rt: &HostRuntime,
+    other: Result<Option<usize>, AllocError>,
+) -> Result<(), Fail> {
     match other {
         Ok(None) => Ok(()),
         Ok(Some(place)) => Err(Fail::new(format_args!("call {place} answers something else"))),
