@@ -8,7 +8,7 @@ use test_kit::outcome::Outcome;
 use test_kit::rows::outcome_of;
 
 /// A row, what it comes to, and in which of its lines.
-static ROWS: [(&str, Outcome, usize); 8] = [
+static ROWS: [(&str, Outcome, usize); 11] = [
     (
         r#"row as it is
 > {"seq":1,"type":"request","command":"threads"}
@@ -66,6 +66,27 @@ idle"#,
 phase Ready"#,
         Outcome::Wrong,
         2,
+    ),
+    (
+        r#"row a message less
+bytes 1 "Content-Length: 46\r\n\r\n""#,
+        Outcome::Wrong,
+        2,
+    ),
+    (
+        r#"row bytes that nobody takes
+> {"seq":1,"type":"request","command":"threads"}
+bytes 0 "Content-Length: 46\r\n\r\n{\"seq\":2,\"type\":\"request\",\"command\":\"threads\"}x""#,
+        Outcome::Wrong,
+        3,
+    ),
+    (
+        r#"row another fault
+> {"seq":1,"type":"request","command":"threads"}
+> {"seq":1,"type":"request","command":"threads"}
+! RepeatedSeq { seq: 2 }"#,
+        Outcome::Wrong,
+        4,
     ),
     (
         r#"row no fault

@@ -4,6 +4,8 @@
 #[cfg(test)]
 mod differences;
 #[cfg(test)]
+mod frames;
+#[cfg(test)]
 mod greatest;
 #[cfg(test)]
 mod playing;

@@ -3,15 +3,18 @@
 //! | a line | says |
 //! |---|---|
 //! | `> BODY` | this message is taken |
+//! | `bytes N TEXT` | the bytes of this JSON text are taken, and so many messages are delivered |
 //! | `turn` | the oldest request that waits is handled |
 //! | `idle` | no request waits to be handled |
 //! | `poll` | the debuggee is asked what happened |
 //! | `< BODY` | this message comes next of what the last call hands out |
-//! | `! FAULT` | the last call closes the adapter with this fault: each call answers it from then on, and nothing is held |
+//! | `! FAULT` | the last call closes the adapter with this fault: each call answers it from then on, nothing is held, and all else is as it was right before that call |
 //! | `phase P`, `kept N`, `references N`, `breakpoints N`, `held N` | what is seen, until the row says otherwise |
+//! | `free of memory` | from here on no call takes memory, so that one which is refused any is wrong |
+//! | `recording JSON` | the debuggee is of this recording; of the shared one if left out |
 //!
 //! At each call all that the last one handed out has to be named, and as many requests are kept as were taken and not
-//! answered.
+//! answered. A call that is refused memory closes the adapter too.
 
 use dap_adapter::{Adapter, AdapterFault, Phase, Turned};
 use dap_debuggee::{Debuggee, Recorded, Stubborn};
@@ -20,9 +23,11 @@ use std::marker::Model;
 use test_kit::bodies::{frame_with_next, is_request};
 use test_kit::facts::{Counts, Facts, is_printed, tell};
 use test_kit::given::{Given, note, wrong};
+use test_kit::json::text_of;
 use test_kit::outcome::Outcome;
 use test_kit::player::{Player, Setting};
-use test_kit::samples::debuggee;
+use test_kit::rows::heading;
+use test_kit::samples::{RECORDING, debuggee_of};
 use test_kit::served::phase_named;
 use test_kit::words::{Counted, Word, parts, word_named};
 
@@ -31,6 +36,8 @@ use test_kit::words::{Counted, Word, parts, word_named};
 enum Act<'a> {
     /// A message with this body is taken.
     Take(&'a str),
+    /// The bytes that a JSON text is are taken, and so many messages are delivered.
+    Bytes(&'a str),
     Turn,
     Idle,
     Poll,
@@ -40,10 +47,43 @@ enum Act<'a> {
 fn act_of(word: Word, rest: &str) -> Option<Act<'_>> {
     match word {
         Word::Client => Some(Act::Take(rest)),
+        Word::Bytes => Some(Act::Bytes(rest)),
         Word::Turn => Some(Act::Turn),
         Word::Idle => Some(Act::Idle),
         Word::Poll => Some(Act::Poll),
         _ => None,
+    }
+}
+
+/// What is seen of an adapter.
+#[derive(Clone, Copy, Debug, PartialEq, Eq)]
+struct Seen {
+    counts: Counts,
+    phase: Phase,
+}
+
+impl Seen {
+    fn of<D: Debuggee + Drop>(adapter: &Adapter<D>) -> Seen {
+        Seen {
+            counts: Counts {
+                waiting: adapter.kept(),
+                references: adapter.references(),
+                breakpoints: adapter.breakpoints(),
+                held: adapter.held(),
+            },
+            phase: adapter.phase(),
+        }
+    }
+
+    /// The same with nothing held.
+    fn closed(self) -> Seen {
+        Seen {
+            counts: Counts {
+                held: 0,
+                ..self.counts
+            },
+            ..self
+        }
     }
 }
 
@@ -56,6 +96,10 @@ pub(crate) struct Playing<D: Debuggee + Drop> {
     fault: Option<AdapterFault>,
     facts: Facts,
     phase: Option<Phase>,
+    /// What was seen right before the last call of the adapter.
+    before: Seen,
+    /// Whether no call takes memory any more.
+    is_free: bool,
 }
 
 impl<D: Debuggee + Drop> Model for Playing<D> {
@@ -69,22 +113,19 @@ impl<D: Debuggee + Drop> Model for Playing<D> {
 impl<D: Debuggee + Drop> Playing<D> {
     fn new(alloc: Global, adapter: Adapter<D>, size: usize) -> Playing<D> {
         Playing {
+            before: Seen::of(&adapter),
             adapter,
             size,
             given: Given::new(alloc),
             fault: None,
             facts: Facts::none(),
             phase: None,
+            is_free: false,
         }
     }
 
-    fn counts(&self) -> Counts {
-        Counts {
-            waiting: self.adapter.kept(),
-            references: self.adapter.references(),
-            breakpoints: self.adapter.breakpoints(),
-            held: self.adapter.held(),
-        }
+    fn seen(&self) -> Seen {
+        Seen::of(&self.adapter)
     }
 
     fn is_in_phase(&self) -> bool {
@@ -96,13 +137,10 @@ impl<D: Debuggee + Drop> Playing<D> {
 
     /// Whether all that the row says is seen; else what is seen is told.
     fn shows(&self, came: &mut String) -> Outcome {
-        let counts = self.counts();
-        if self.facts.are_so(&counts) && self.is_in_phase() {
+        if self.facts.are_so(&self.seen().counts) && self.is_in_phase() {
             return Outcome::Right;
         }
-        tell(came, &self.adapter.phase());
-        note(came, ", ");
-        tell(came, &counts);
+        tell(came, &self.seen());
         Outcome::Wrong
     }
 
@@ -126,6 +164,7 @@ impl<D: Debuggee + Drop> Playing<D> {
         alloc: Global,
         piece: &[u8],
     ) -> Result<Option<(usize, bool)>, AdapterFault> {
+        self.before = self.seen();
         match self.adapter.take(alloc, piece) {
             Ok(taken) => {
                 let (used, delivers) = (taken.used, taken.delivered.is_some());
@@ -141,15 +180,16 @@ impl<D: Debuggee + Drop> Playing<D> {
         }
     }
 
-    /// Takes so many of the bytes, in pieces: right where no other one is used, and the last of them delivers a message.
-    fn take_frame(
+    /// Takes so many of the bytes, in pieces: right where no other one is used, and so many messages are delivered.
+    fn take_bytes(
         &mut self,
         alloc: Global,
         bytes: &[u8],
         count: usize,
+        messages: usize,
     ) -> Result<Outcome, AdapterFault> {
         let mut rest = bytes;
-        let mut at: usize = 0;
+        let (mut at, mut delivered): (usize, usize) = (0, 0);
         for _ in 0..count {
             let (piece, _) = rest.split_at(self.size.min(rest.len()));
             let Some((used, delivers)) = self.take_piece(alloc, piece)? else {
@@ -158,8 +198,9 @@ impl<D: Debuggee + Drop> Playing<D> {
             let (_, later) = rest.split_at(used.min(rest.len()));
             rest = later;
             at = at.saturating_add(used);
-            if delivers || at >= count {
-                return Ok(Outcome::of(delivers && at == count));
+            delivered = delivered.saturating_add(usize::from(delivers));
+            if at >= count {
+                return Ok(Outcome::of(at == count && delivered == messages));
             }
         }
         Ok(Outcome::Wrong)
@@ -169,18 +210,44 @@ impl<D: Debuggee + Drop> Playing<D> {
     fn take(&mut self, alloc: Global, body: &str) -> Result<Outcome, AdapterFault> {
         match frame_with_next(alloc, body, self.size) {
             Ok((frame, count)) => {
-                let taken = self.take_frame(alloc, &frame, count);
+                let taken = self.take_bytes(alloc, &frame, count, 1);
                 drop(frame);
-                if taken == Ok(Outcome::Right) && is_request(body) {
-                    self.facts.count_request();
-                }
+                self.count_request(taken, body);
                 taken
             }
             Err(_) => Ok(Outcome::Refused),
         }
     }
 
+    /// Takes the bytes that a JSON text is, in which so many messages end.
+    fn take_text(&mut self, alloc: Global, words: &str) -> Result<Outcome, AdapterFault> {
+        let (messages, json) = parts(words);
+        let Ok(messages) = messages.parse::<usize>() else {
+            return Ok(Outcome::Wrong);
+        };
+        match text_of(alloc, json) {
+            Ok(text) => {
+                let bytes = text.as_str().as_bytes();
+                let taken = self.take_bytes(alloc, bytes, bytes.len(), messages);
+                if messages > 0 {
+                    self.count_request(taken, text.as_str());
+                }
+                drop(text);
+                taken
+            }
+            Err(outcome) => Ok(outcome),
+        }
+    }
+
+    /// A request that was taken waits.
+    fn count_request(&mut self, taken: Result<Outcome, AdapterFault>, text: &str) {
+        if taken == Ok(Outcome::Right) && is_request(text) {
+            self.facts.count_request();
+        }
+    }
+
     fn turn(&mut self, alloc: Global) -> Result<Outcome, AdapterFault> {
+        self.before = self.seen();
         match self.adapter.turn(alloc) {
             Ok(Turned::Idle) => Ok(Outcome::Wrong),
             Ok(Turned::Done { bytes }) => Ok(Outcome::of_added(self.given.add(&bytes))),
@@ -189,6 +256,7 @@ impl<D: Debuggee + Drop> Playing<D> {
     }
 
     fn is_idle(&mut self, alloc: Global) -> Result<Outcome, AdapterFault> {
+        self.before = self.seen();
         match self.adapter.turn(alloc) {
             Ok(Turned::Idle) => Ok(Outcome::Right),
             Ok(Turned::Done { bytes }) => {
@@ -200,6 +268,7 @@ impl<D: Debuggee + Drop> Playing<D> {
     }
 
     fn poll(&mut self, alloc: Global) -> Result<Outcome, AdapterFault> {
+        self.before = self.seen();
         match self.adapter.poll(alloc) {
             Ok(bytes) => Ok(Outcome::of_added(self.given.add(&bytes))),
             Err(fault) => Err(fault),
@@ -209,20 +278,27 @@ impl<D: Debuggee + Drop> Playing<D> {
     fn call(&mut self, alloc: Global, act: Act<'_>) -> Result<Outcome, AdapterFault> {
         match act {
             Act::Take(body) => self.take(alloc, body),
+            Act::Bytes(words) => self.take_text(alloc, words),
             Act::Turn => self.turn(alloc),
             Act::Idle => self.is_idle(alloc),
             Act::Poll => self.poll(alloc),
         }
     }
 
-    /// Whether each call answers a fault, nothing is held, and as many requests are kept as before.
+    /// Whether each call answers a fault.
+    fn answers_only(&mut self, alloc: Global, fault: AdapterFault) -> bool {
+        self.take_piece(alloc, b"x") == Err(fault)
+            && self.is_idle(alloc) == Err(fault)
+            && self.poll(alloc) == Err(fault)
+    }
+
+    /// Whether each call answers the fault of the last one, nothing is held, and all else is as it was right before that.
     fn is_closed(&mut self, alloc: Global, fault: AdapterFault) -> bool {
-        for act in [Act::Take("x"), Act::Idle, Act::Poll] {
-            if self.call(alloc, act) != Err(fault) {
-                return false;
-            }
-        }
-        self.adapter.held() == 0 && self.adapter.kept() == self.facts.waiting()
+        let before = self.before;
+        before.counts.waiting == self.facts.waiting()
+            && self.seen() == before.closed()
+            && self.answers_only(alloc, fault)
+            && self.seen() == before.closed()
     }
 
     /// What comes of a call. A fault is kept for the line that names it.
@@ -233,6 +309,9 @@ impl<D: Debuggee + Drop> Playing<D> {
                 Outcome::Wrong
             }
             Ok(outcome) => outcome,
+            Err(AdapterFault::OutOfMemory) if self.is_free => {
+                wrong(came, "memory was refused where none is taken")
+            }
             Err(AdapterFault::OutOfMemory) => {
                 note(
                     came,
@@ -304,8 +383,13 @@ impl<D: Debuggee + Drop> Playing<D> {
         if is_said {
             return outcome;
         }
-        tell(came, &self.counts());
+        tell(came, &self.seen().counts);
         Outcome::Wrong
+    }
+
+    fn is_free_from_here(&mut self) -> Outcome {
+        self.is_free = true;
+        Outcome::Right
     }
 
     /// What is compared at a line at which no call is made.
@@ -315,6 +399,7 @@ impl<D: Debuggee + Drop> Playing<D> {
             Word::Fault => self.is_closed_by(alloc, rest, came),
             Word::Phase => self.is_in(rest, came),
             Word::Count(counted) => self.counts_so(counted, rest, came),
+            Word::Free => self.is_free_from_here(),
             _ => wrong(came, "no line of an adapter"),
         }
     }
@@ -340,9 +425,17 @@ impl<D: Debuggee + Drop> Playing<D> {
     }
 }
 
+/// The recording that a row is played over.
+fn recording_of<'a>(setting: &Setting<'a>) -> &'a [u8] {
+    match heading(setting.row, "recording ") {
+        Some(recording) => recording.as_bytes(),
+        None => RECORDING.as_slice(),
+    }
+}
+
 impl Player for Playing<Recorded> {
     fn open(alloc: Global, setting: &Setting<'_>, _came: &mut String) -> Result<Self, Outcome> {
-        match debuggee(alloc) {
+        match debuggee_of(alloc, recording_of(setting)) {
             Ok(debuggee) => match Adapter::open(alloc, setting.limits, debuggee) {
                 Ok(adapter) => Ok(Playing::new(alloc, adapter, setting.size)),
                 Err(_) => Err(Outcome::Refused),
@@ -367,7 +460,7 @@ impl Player for Playing<Recorded> {
 /// Over a debuggee that refuses to start when it is asked first.
 impl Player for Playing<Stubborn> {
     fn open(alloc: Global, setting: &Setting<'_>, _came: &mut String) -> Result<Self, Outcome> {
-        match debuggee(alloc) {
+        match debuggee_of(alloc, recording_of(setting)) {
             Ok(debuggee) => match Adapter::open(alloc, setting.limits, Stubborn::new(debuggee)) {
                 Ok(adapter) => Ok(Playing::new(alloc, adapter, setting.size)),
                 Err(_) => Err(Outcome::Refused),

@@ -5,7 +5,7 @@ use dap_debuggee::{Recorded, Stubborn};
 use std::test::Fail;
 use test_kit::rows::play_rows;
 
-pub(crate) static ROWS: [&str; 27] = [
+pub(crate) static ROWS: [&str; 43] = [
     r#"
 row initializes
 > {"seq":1,"type":"request","command":"initialize","arguments":{"adapterID":"rec"}}
@@ -52,7 +52,7 @@ phase Fresh
     r#"
 # Two requests are kept at most: a third is `busy` at once, and a parked one keeps its place.
 row busy where two are kept
-limits 8192 4194304 2 1 1 1000 1
+limits 8192 4194304 2 65536 4096 9007199254740991 2147483647
 after a launch is parked
 > {"seq":3,"type":"request","command":"threads"}
 kept 2
@@ -117,8 +117,7 @@ kept 1
 phase Parked
 "#,
     r#"
-# `disconnect` answers every other request, the parked one too, and then itself. After it a message that is no request has
-# no effect.
+# `disconnect` answers every other request, the parked one too, and then itself. A further request closes the adapter.
 row disconnect answers all
 after a launch is parked
 > {"seq":3,"type":"request","command":"disconnect"}
@@ -133,15 +132,23 @@ turn
 < cancelled seq 5 to 5 loadedSources
 < {"command":"disconnect","request_seq":3,"seq":6,"success":true,"type":"response"}
 kept 0
-idle
-kept 0
-poll
-kept 0
-> {"seq":6,"type":"event","event":"x"}
-kept 0
-> {"seq":7,"type":"x"}
-kept 0
 phase Ended
+idle
+> {"seq":6,"type":"request","command":"threads"}
+! Ended
+"#,
+    r#"
+# A message that is no request has no effect.
+row messages after the end
+after initializes
+> {"seq":2,"type":"request","command":"disconnect"}
+turn
+< {"command":"disconnect","request_seq":2,"seq":3,"success":true,"type":"response"}
+phase Ended
+> {"seq":3,"type":"event","event":"x"}
+kept 0
+> {"seq":4,"type":"x"}
+kept 0
 "#,
     r#"
 # Each refusal of a session that is only initialized.
@@ -471,6 +478,204 @@ turn
 turn
 ! SeqExhausted
 kept 1
+"#,
+    r#"
+# What is parked does not hold up what came behind it.
+row a launch is parked with others kept
+after initializes
+> {"seq":2,"type":"request","command":"threads"}
+> {"seq":3,"type":"request","command":"launch"}
+> {"seq":4,"type":"request","command":"loadedSources"}
+kept 3
+turn
+< {"body":{"threads":[]},"command":"threads","request_seq":2,"seq":3,"success":true,"type":"response"}
+turn
+kept 2
+phase Parked
+turn
+< {"body":{"sources":[{"name":"a.c","path":"/a.c","sourceReference":1}]},"command":"loadedSources","request_seq":4,"seq":4,"success":true,"type":"response"}
+kept 1
+idle
+"#,
+    r#"
+# It needs no room of its own.
+row a cancel where all room is taken
+limits 8192 4194304 2 65536 4096 9007199254740991 2147483647
+after initializes
+> {"seq":2,"type":"request","command":"threads"}
+> {"seq":3,"type":"request","command":"loadedSources"}
+kept 2
+> {"seq":4,"type":"request","command":"cancel","arguments":{"requestId":3}}
+< cancelled seq 3 to 3 loadedSources
+< {"command":"cancel","request_seq":4,"seq":4,"success":true,"type":"response"}
+kept 1
+turn
+< {"body":{"threads":[]},"command":"threads","request_seq":2,"seq":5,"success":true,"type":"response"}
+kept 0
+"#,
+    r#"
+# Arguments are tested before the phase.
+row bad arguments after the exit
+after stops at its entry
+> {"seq":4,"type":"request","command":"terminate"}
+turn
+< {"command":"terminate","request_seq":4,"seq":7,"success":true,"type":"response"}
+< {"event":"terminated","seq":8,"type":"event"}
+phase Exited
+> {"seq":5,"type":"request","command":"next","arguments":{}}
+turn
+< badArguments threadId seq 9 to 5 next
+> {"seq":6,"type":"request","command":"next","arguments":{"threadId":1}}
+turn
+< wrongPhase seq 10 to 6 next
+"#,
+    r#"
+# From 60 bytes to the greatest length, 64.
+row long commands
+after initializes
+> {"seq":2,"type":"request","command":"cccccccccccccccccccccccccccccccccccccccccccccccccccccccccccc"}
+turn
+< unknownCommand seq 3 to 2 cccccccccccccccccccccccccccccccccccccccccccccccccccccccccccc
+> {"seq":3,"type":"request","command":"ccccccccccccccccccccccccccccccccccccccccccccccccccccccccccccc"}
+turn
+< unknownCommand seq 4 to 3 ccccccccccccccccccccccccccccccccccccccccccccccccccccccccccccc
+> {"seq":4,"type":"request","command":"cccccccccccccccccccccccccccccccccccccccccccccccccccccccccccccc"}
+turn
+< unknownCommand seq 5 to 4 cccccccccccccccccccccccccccccccccccccccccccccccccccccccccccccc
+> {"seq":5,"type":"request","command":"ccccccccccccccccccccccccccccccccccccccccccccccccccccccccccccccc"}
+turn
+< unknownCommand seq 6 to 5 ccccccccccccccccccccccccccccccccccccccccccccccccccccccccccccccc
+> {"seq":6,"type":"request","command":"cccccccccccccccccccccccccccccccccccccccccccccccccccccccccccccccc"}
+turn
+< unknownCommand seq 7 to 6 cccccccccccccccccccccccccccccccccccccccccccccccccccccccccccccccc
+"#,
+    r#"
+# It needs two numbers, and one is left: the request that it names is still kept.
+row no number is left for a cancel
+limits 8192 4194304 64 65536 4096 3 2147483647
+after initializes
+> {"seq":2,"type":"request","command":"threads"}
+> {"seq":3,"type":"request","command":"cancel","arguments":{"requestId":2}}
+! SeqExhausted
+kept 1
+"#,
+    r#"
+row no number is left for a third request
+limits 8192 4194304 2 65536 4096 2 2147483647
+after initializes
+> {"seq":2,"type":"request","command":"threads"}
+> {"seq":3,"type":"request","command":"threads"}
+> {"seq":4,"type":"request","command":"threads"}
+! SeqExhausted
+kept 2
+"#,
+    r#"
+row no number is left for an output
+limits 8192 4194304 64 65536 4096 4 2147483647
+after a launch is parked
+> {"seq":3,"type":"request","command":"configurationDone"}
+turn
+< {"command":"configurationDone","request_seq":3,"seq":3,"success":true,"type":"response"}
+< {"command":"launch","request_seq":2,"seq":4,"success":true,"type":"response"}
+poll
+! SeqExhausted
+phase Running
+"#,
+    r#"
+row no number is left for a stop
+limits 8192 4194304 64 65536 4096 5 2147483647
+after a launch is parked
+> {"seq":3,"type":"request","command":"configurationDone"}
+turn
+< {"command":"configurationDone","request_seq":3,"seq":3,"success":true,"type":"response"}
+< {"command":"launch","request_seq":2,"seq":4,"success":true,"type":"response"}
+poll
+< {"body":{"category":"stdout","output":"go\n"},"event":"output","seq":5,"type":"event"}
+poll
+! SeqExhausted
+phase Running
+"#,
+    r#"
+# It needs two numbers, and one is left.
+row no number is left for an exit
+limits 8192 4194304 64 65536 4096 11 2147483647
+after stops at its entry
+> {"seq":4,"type":"request","command":"continue","arguments":{"threadId":1}}
+turn
+< {"body":{"allThreadsContinued":true},"command":"continue","request_seq":4,"seq":7,"success":true,"type":"response"}
+> {"seq":5,"type":"request","command":"pause","arguments":{"threadId":1}}
+turn
+< {"command":"pause","request_seq":5,"seq":8,"success":true,"type":"response"}
+poll
+< {"body":{"allThreadsStopped":true,"reason":"pause","threadId":1},"event":"stopped","seq":9,"type":"event"}
+> {"seq":6,"type":"request","command":"continue","arguments":{"threadId":1}}
+turn
+< {"body":{"allThreadsContinued":true},"command":"continue","request_seq":6,"seq":10,"success":true,"type":"response"}
+poll
+! SeqExhausted
+phase Running
+"#,
+    r#"
+row what takes no memory before initialize
+free of memory
+idle
+poll
+bytes 0 "Content-Length: 46\r\n\r\n{\"seq\":1,"
+held 9
+bytes 0 "\"type\":"
+held 16
+phase Fresh
+"#,
+    r#"
+row what takes no memory after initialize
+after initializes
+free of memory
+idle
+poll
+bytes 0 "Content-Length: 46\r"
+held 19
+phase Ready
+"#,
+    r#"
+row what takes no memory beside a parked launch
+after a launch is parked
+free of memory
+idle
+poll
+kept 1
+"#,
+    r#"
+row what takes no memory in a stop
+after stops at its entry
+free of memory
+idle
+bytes 0 "A: b\r\n"
+held 6
+phase Stopped
+"#,
+    r#"
+row what takes no memory after the exit
+after stops at its entry
+> {"seq":4,"type":"request","command":"terminate"}
+turn
+< {"command":"terminate","request_seq":4,"seq":7,"success":true,"type":"response"}
+< {"event":"terminated","seq":8,"type":"event"}
+free of memory
+idle
+poll
+phase Exited
+"#,
+    r#"
+row what takes no memory after the end
+after stops at its entry
+> {"seq":4,"type":"request","command":"disconnect"}
+turn
+< {"command":"disconnect","request_seq":4,"seq":7,"success":true,"type":"response"}
+free of memory
+idle
+poll
+bytes 0 "Content-Length: 46\r\n\r\n"
+phase Ended
 "#,
 ];
 

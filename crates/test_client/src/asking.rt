@@ -5,15 +5,16 @@
 //! | `send COMMAND`, `send COMMAND JSON` | this call is sent, with the arguments that the JSON is |
 //! | `< BODY` | this message comes, and is delivered |
 //! | `> BODY` | the client writes this message next, for the last of those |
-//! | `! FAULT` | the last of those was refused with this fault: a call, and nothing has changed; a message, and the client is closed, so that it answers this fault to any piece, and `Ended` to any call |
+//! | `! FAULT` | the last of those was refused with this fault: a call, and nothing has changed; a message, and the client is closed, so that it answers this fault to any piece, and `Ended` to any call; nothing is held then, and all else is as it was right before that piece |
 //! | `bytes N TEXT` | the bytes of this JSON text come, and so many messages are delivered |
 //! | `phase P`, `outstanding N`, `references N`, `held N`, `ready`, `not ready` | what the client knows, until the row says otherwise |
+//! | `free of memory` | from here on no call takes memory, so that one which is refused any is wrong |
 //!
 //! At each call all that the last one wrote has to be named, and as many requests are outstanding as were sent and not
-//! answered.
+//! answered. A call that is refused memory changes nothing, and a piece that is closes the client too.
 
 use dap_client::{Client, ClientFault, Phase, SendFault};
-use dap_message::{Call, CallFault, Command, read_call};
+use dap_message::{Call, CallFault, Capabilities, Command, read_call};
 use serde_json::Value;
 use std::alloc::{AllocError, Global};
 use std::marker::Model;
@@ -32,6 +33,42 @@ enum Refusal {
     Take(ClientFault),
 }
 
+/// What is seen of a client.
+#[derive(Clone, Copy, Debug, PartialEq, Eq)]
+struct Seen {
+    counts: Counts,
+    phase: Phase,
+    ready: bool,
+    capabilities: Capabilities,
+}
+
+impl Seen {
+    fn of(client: &Client) -> Seen {
+        Seen {
+            counts: Counts {
+                waiting: client.outstanding(),
+                references: client.references(),
+                breakpoints: 0,
+                held: client.held(),
+            },
+            phase: client.phase(),
+            ready: client.ready(),
+            capabilities: client.capabilities(),
+        }
+    }
+
+    /// The same with nothing held.
+    fn closed(self) -> Seen {
+        Seen {
+            counts: Counts {
+                held: 0,
+                ..self.counts
+            },
+            ..self
+        }
+    }
+}
+
 /// A client that follows a row. A contract sees nothing of it.
 #[derive(Drop)]
 pub(crate) struct Asking {
@@ -42,6 +79,10 @@ pub(crate) struct Asking {
     facts: Facts,
     phase: Option<Phase>,
     ready: Option<bool>,
+    /// What was seen right before the last call of the client.
+    before: Seen,
+    /// Whether no call takes memory any more.
+    is_free: bool,
 }
 
 impl Model for Asking {
@@ -104,13 +145,8 @@ fn call_of(alloc: Global, words: &str) -> Result<Call, Outcome> {
 }
 
 impl Asking {
-    fn counts(&self) -> Counts {
-        Counts {
-            waiting: self.client.outstanding(),
-            references: self.client.references(),
-            breakpoints: 0,
-            held: self.client.held(),
-        }
+    fn seen(&self) -> Seen {
+        Seen::of(&self.client)
     }
 
     fn is_in_phase(&self) -> bool {
@@ -129,13 +165,13 @@ impl Asking {
 
     /// Whether all that the row says is known; else what is known is told.
     fn shows(&self, came: &mut String) -> Outcome {
-        let counts = self.counts();
-        if self.facts.are_so(&counts) && self.is_in_phase() && self.is_as_ready() {
+        let seen = self.seen();
+        if self.facts.are_so(&seen.counts) && self.is_in_phase() && self.is_as_ready() {
             return Outcome::Right;
         }
-        tell(came, &self.client.phase());
+        tell(came, &seen.phase);
         note(came, ", ");
-        tell(came, &counts);
+        tell(came, &seen.counts);
         Outcome::Wrong
     }
 
@@ -157,6 +193,7 @@ impl Asking {
         if !call.plain() {
             return Ok(Outcome::Wrong);
         }
+        self.before = self.seen();
         match self.client.send(alloc, call) {
             Ok(sent) => {
                 let added = self.given.add(&sent.bytes);
@@ -186,15 +223,22 @@ impl Asking {
         match self.send(alloc, words) {
             Ok(Outcome::Wrong) => wrong(came, "these words are no call that can be sent"),
             Ok(outcome) => outcome,
-            Err(SendFault::OutOfMemory) => {
-                note(came, "memory was refused, and something has changed: ");
-                Outcome::of_refusal(self.shows(came) == Outcome::Right)
+            Err(fault) if self.seen() != self.before => {
+                tell(came, &fault);
+                wrong(came, ", and something has changed")
             }
+            Err(SendFault::OutOfMemory) => self.is_short(came),
             Err(fault) => {
                 self.refusal = Some(Refusal::Send(fault));
                 Outcome::Right
             }
         }
+    }
+
+    /// Memory was refused, and nothing else has happened.
+    fn is_short(&self, came: &mut String) -> Outcome {
+        note(came, "memory was refused where none is taken");
+        Outcome::of_refusal(!self.is_free)
     }
 
     /// Takes a piece: how many bytes are used, and whether a message is delivered; nothing where memory for the bytes that it
@@ -204,6 +248,7 @@ impl Asking {
         alloc: Global,
         piece: &[u8],
     ) -> Result<Option<(usize, bool)>, ClientFault> {
+        self.before = self.seen();
         match self.client.take(alloc, piece) {
             Ok(got) => {
                 let (used, delivers) = (got.used, got.delivered.is_some());
@@ -300,12 +345,19 @@ impl Asking {
         }
     }
 
-    /// Whether the client answers a fault to a piece, `Ended` to a call, and holds nothing, with its tables as they were.
-    fn is_closed(&mut self, alloc: Global, fault: ClientFault) -> bool {
+    /// Whether the client answers a fault to a piece, and `Ended` to a call.
+    fn answers_only(&mut self, alloc: Global, fault: ClientFault) -> bool {
         self.fault_of_take(alloc) == Some(fault)
             && self.send_plain(alloc, &Call::Threads) == Err(SendFault::Ended)
-            && self.client.held() == 0
-            && self.client.outstanding() == self.facts.waiting()
+    }
+
+    /// Whether it answers the fault of the last piece, nothing is held, and all else is as it was right before that.
+    fn is_closed(&mut self, alloc: Global, fault: ClientFault) -> bool {
+        let before = self.before;
+        before.counts.waiting == self.facts.waiting()
+            && self.seen() == before.closed()
+            && self.answers_only(alloc, fault)
+            && self.seen() == before.closed()
     }
 
     /// What comes of a piece or a message. A fault is kept for the line that names it.
@@ -318,13 +370,13 @@ impl Asking {
         match taken {
             Ok(Outcome::Wrong) => wrong(came, "another count of bytes or messages"),
             Ok(outcome) => outcome,
-            Err(ClientFault::OutOfMemory) => {
-                note(
-                    came,
-                    "memory was refused, and the client is not closed as it was",
-                );
-                Outcome::of_refusal(self.is_closed(alloc, ClientFault::OutOfMemory))
+            Err(ClientFault::OutOfMemory) if self.is_closed(alloc, ClientFault::OutOfMemory) => {
+                self.is_short(came)
             }
+            Err(ClientFault::OutOfMemory) => wrong(
+                came,
+                "memory was refused, and the client is not closed as it was",
+            ),
             Err(fault) => {
                 self.refusal = Some(Refusal::Take(fault));
                 Outcome::Right
@@ -400,7 +452,7 @@ impl Asking {
         if is_said {
             return outcome;
         }
-        tell(came, &self.counts());
+        tell(came, &self.seen().counts);
         Outcome::Wrong
     }
 
@@ -429,6 +481,11 @@ impl Asking {
         }
     }
 
+    fn is_free_from_here(&mut self) -> Outcome {
+        self.is_free = true;
+        Outcome::Right
+    }
+
     /// What is compared at a line at which nothing is done.
     fn compare(&mut self, alloc: Global, word: Word, rest: &str, came: &mut String) -> Outcome {
         match word {
@@ -438,6 +495,7 @@ impl Asking {
             Word::Ready => self.is_ready(true, came),
             Word::Not => self.is_ready(false, came),
             Word::Count(counted) => self.counts_so(counted, rest, came),
+            Word::Free => self.is_free_from_here(),
             _ => wrong(came, "no line of a client"),
         }
     }
@@ -454,6 +512,7 @@ impl Player for Asking {
     fn open(alloc: Global, setting: &Setting<'_>, _came: &mut String) -> Result<Self, Outcome> {
         match Client::open(alloc, setting.limits) {
             Ok(client) => Ok(Asking {
+                before: Seen::of(&client),
                 client,
                 size: setting.size,
                 given: Given::new(alloc),
@@ -461,6 +520,7 @@ impl Player for Asking {
                 facts: Facts::none(),
                 phase: None,
                 ready: None,
+                is_free: false,
             }),
             Err(_) => Err(Outcome::Refused),
         }

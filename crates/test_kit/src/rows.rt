@@ -5,6 +5,7 @@
 //! | `row NAME` | how the row is called |
 //! | `limits H B N R K S M` | the limits, in the order of `Limits::new`; the usual ones if left out |
 //! | `after NAME` | first the lines of that row, of the same list, are followed |
+//! | `recording JSON` | for those who follow rows over a recording |
 //! | `# ..`, none | nothing |
 //!
 //! What other lines say stands with each kind of row.
@@ -29,7 +30,7 @@ struct End {
 }
 
 /// What stands behind a word with which one of the lines begins.
-fn heading<'a>(row: &'a str, word: &str) -> Option<&'a str> {
+pub fn heading<'a>(row: &'a str, word: &str) -> Option<&'a str> {
     row.split('\n').find_map(|line| line.strip_prefix(word))
 }
 
@@ -40,6 +41,7 @@ pub fn is_heading(line: &str) -> bool {
         || line.starts_with("row ")
         || line.starts_with("limits ")
         || line.starts_with("after ")
+        || line.starts_with("recording ")
 }
 
 /// The name of a row.

@@ -27,11 +27,11 @@ pub static THREADS: &[u8; 46] = br#"{"seq":1,"type":"request","command":"threads
 pub static NOT_INITIALIZED: &[u8; 178] =
     br#"{"body":{"error":{"format":"The session is not initialized.","id":1001}},"command":"threads","message":"notInitialized","request_seq":1,"seq":1,"success":false,"type":"response"}"#;
 
-/// The debuggee of `RECORDING`, or what there is in its place.
-pub fn debuggee(alloc: Global) -> Result<Recorded, Outcome>
+/// The debuggee of a recording, or what there is in its place.
+pub fn debuggee_of(alloc: Global, recording: &[u8]) -> Result<Recorded, Outcome>
     ensures { IfOk result (λ debuggee. debuggee.state ≡ State.NotStarted) }
 {
-    match Recorded::read(alloc, RECORDING) {
+    match Recorded::read(alloc, recording) {
         Ok(debuggee) => Ok(debuggee),
         Err(RecordingFault::OutOfMemory) => Err(Outcome::Refused),
         Err(_) => Err(Outcome::Wrong),

@@ -17,6 +17,8 @@ pub enum Word {
     Phase,
     Ready,
     Not,
+    /// `free of memory`.
+    Free,
     Count(Counted),
 }
 
@@ -29,7 +31,7 @@ pub enum Counted {
     Held,
 }
 
-static WORDS: [(&str, Word); 16] = [
+static WORDS: [(&str, Word); 17] = [
     (">", Word::Client),
     ("<", Word::Adapter),
     ("!", Word::Fault),
@@ -41,6 +43,7 @@ static WORDS: [(&str, Word); 16] = [
     ("phase", Word::Phase),
     ("ready", Word::Ready),
     ("not", Word::Not),
+    ("free", Word::Free),
     ("kept", Word::Count(Counted::Waiting)),
     ("outstanding", Word::Count(Counted::Waiting)),
     ("references", Word::Count(Counted::References)),

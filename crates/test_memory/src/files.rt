@@ -4,6 +4,7 @@ use crate::outcomes::{both, judge, refused};
 use dap_adapter::{AdapterFault, ServeFault};
 use dap_channel::Input;
 use dap_frame::{Fed, Frames, Limits, write_frame};
+use dap_message::BodyRefusal;
 use dap_tool::{FileFault, ShowFault, ToolFault, WrapFault, fault_line, read_whole, show, wrap};
 use std::alloc::Global;
 use std::io;
@@ -111,7 +112,7 @@ fn reading_a_file(rt: HostRuntime) -> Result<(), Fail> {
 
 fn tells_fault(alloc: Global) -> Option<bool> {
     let fault = ServeFault::Adapter(AdapterFault::Body {
-        cause: dap_message::BodyRefusal::BadSeq,
+        cause: BodyRefusal::BadSeq,
         offset: 103,
     });
     match fault_line(alloc, &ToolFault::Serve(fault)) {
@@ -130,15 +131,32 @@ fn telling_a_fault(rt: HostRuntime) -> Result<(), Fail> {
 static FILE: &[u8; 130] =
     b"{\"seq\":1,\"type\":\"request\",\"command\":\"initialize\",\"arguments\":{\"adapterID\":\"rec\"}}\n\r\n{\"seq\":1,\"type\":\"request\",\"command\":\"threads\"}";
 
-fn wraps(alloc: Global) -> Option<bool> {
-    match wrap(alloc, FILE, Limits::usual()) {
-        Ok(frames) => Some(frames.as_slice() == INPUT.as_slice()),
-        Err(fault) => refused(fault == WrapFault::OutOfMemory),
+static THREADS: &[u8; 47] = b"{\"seq\":1,\"type\":\"request\",\"command\":\"threads\"}\n";
+
+static THREADS_FRAME: &[u8; 68] =
+    b"Content-Length: 46\r\n\r\n{\"seq\":1,\"type\":\"request\",\"command\":\"threads\"}";
+
+/// Whether a file is framed so, or refused.
+fn wraps(alloc: Global, file: &[u8], wanted: Result<&[u8], WrapFault>) -> Option<bool> {
+    match (wrap(alloc, file, Limits::usual()), wanted) {
+        (Ok(frames), wanted) => Some(wanted == Ok(frames.as_slice())),
+        (Err(WrapFault::OutOfMemory), _) => None,
+        (Err(fault), wanted) => Some(wanted == Err(fault)),
     }
 }
 
-/// Two bodies are framed, or none is.
+fn wraps_all(alloc: Global) -> Option<bool> {
+    let no_message = WrapFault::Body {
+        cause: BodyRefusal::BadSeq,
+        line: 1,
+    };
+    let first = wraps(alloc, FILE, Ok(INPUT));
+    let second = both(first, wraps(alloc, THREADS, Ok(THREADS_FRAME)));
+    both(second, wraps(alloc, b"{}", Err(no_message)))
+}
+
+/// The bodies of a file are framed, or none is.
 #[test]
 fn wrapping(rt: HostRuntime) -> Result<(), Fail> {
-    judge(&rt, wraps(rt.alloc()))
+    judge(&rt, wraps_all(rt.alloc()))
 }

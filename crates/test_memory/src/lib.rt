@@ -1,6 +1,6 @@
 //! Worked examples that may meet want of memory, as tests alone. With ample memory each gives the example's answer.
-//! `scripts/refuse-allocations` runs them with each allocation refused in turn: then each gives that answer, or says
-//! `refused` and shows that nothing else has happened.
+//! `scripts/refuse-allocations` runs a copy of them with each allocation refused in turn: then each gives that answer, or
+//! says `refused` and shows that nothing else has happened.
 #![tactic(auto)]
 
 #[cfg(test)]
@@ -12,8 +12,8 @@ mod debuggee;
 #[cfg(test)]
 mod files;
 #[cfg(test)]
-mod outcomes;
+mod free;
 #[cfg(test)]
-mod requests;
+mod outcomes;
 #[cfg(test)]
 mod serving;

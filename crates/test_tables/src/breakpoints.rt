@@ -1,11 +1,11 @@
 //! The table of breakpoints.
 
-use crate::checks::check;
+use crate::checks::judge;
 use dap_call::SourceKey;
 use dap_json::Text;
 use dap_tables::{BpFault, Breakpoints};
 use std::alloc::{AllocError, Global};
-use std::process::Abort;
+use std::test::Fail;
 
 /// The name of a source.
 #[derive(Clone, Copy)]
@@ -26,8 +26,6 @@ fn source(alloc: Global, name: Name<'_>) -> Result<SourceKey, AllocError> {
 enum Op<'a> {
     /// The lines of the source are replaced.
     Replace(Name<'a>, &'a [u32], Result<u64, BpFault>),
-    /// The same, of the clone of the source.
-    ReplaceOfClone(Name<'a>, &'a [u32], Result<u64, BpFault>),
     /// The lines of the source are checked.
     Check(Name<'a>, &'a [u32], Result<(), BpFault>),
     /// The breakpoints of the source.
@@ -36,42 +34,96 @@ enum Op<'a> {
     Count(usize, bool, u64),
 }
 
+// What is seen of a table: how many breakpoints are set, the next id, and the first and the count of one source.
+fn seen(table: &Breakpoints, source: &SourceKey) -> (usize, u64, Option<(u64, u32)>, usize) {
+    let set = table.of_source(source);
+    (
+        table.len(),
+        table.next_id(),
+        set.first().copied(),
+        set.len(),
+    )
+}
+
+// Memory was refused: the table is as it was, and the next try is answered.
+fn is_refused(
+    table: &mut Breakpoints,
+    before: (usize, u64, Option<(u64, u32)>, usize),
+    source: &SourceKey,
+    lines: &[u32],
+    answer: Result<u64, BpFault>,
+) -> Result<bool, AllocError> {
+    if seen(table, source) == before && table.replace(source.clone()?, lines) == answer {
+        Err(AllocError)
+    } else {
+        Ok(false)
+    }
+}
+
+// Whether the lines of a source are replaced so.
+fn replaces(
+    table: &mut Breakpoints,
+    source: &SourceKey,
+    lines: &[u32],
+    answer: Result<u64, BpFault>,
+) -> Result<bool, AllocError> {
+    let before = seen(table, source);
+    match table.replace(source.clone()?, lines) {
+        Err(BpFault::OutOfMemory) => is_refused(table, before, source, lines, answer),
+        first => Ok(first == answer),
+    }
+}
+
 // Whether a call answers what its row says.
 fn is_done(alloc: Global, table: &mut Breakpoints, op: Op<'_>) -> Result<bool, AllocError> {
-    Ok(match op {
-        Op::Replace(name, lines, answer) => table.replace(source(alloc, name)?, lines) == answer,
-        Op::ReplaceOfClone(name, lines, answer) => {
-            table.replace(source(alloc, name)?.clone()?, lines) == answer
+    match op {
+        Op::Replace(name, lines, answer) => {
+            let source = source(alloc, name)?;
+            let is_so = replaces(table, &source, lines, answer);
+            drop(source);
+            is_so
         }
         Op::Check(name, lines, answer) => {
             let source = source(alloc, name)?;
             let found = table.check(&source, lines);
             drop(source);
-            found == answer
+            Ok(found == answer)
         }
         Op::Show(name, shown) => {
             let source = source(alloc, name)?;
             let is_so = table.of_source(&source) == shown;
             drop(source);
-            is_so
+            Ok(is_so)
         }
         Op::Count(len, empty, next) => {
-            (table.len(), table.is_empty(), table.next_id()) == (len, empty, next)
+            Ok((table.len(), table.is_empty(), table.next_id()) == (len, empty, next))
         }
-    })
+    }
 }
 
-// Fails the test at the first call that answers something else, with a fresh table.
-fn expect(rt: &impl Abort, alloc: Global, room: usize, ops: &[Op<'_>]) {
+// The place of the first call that answers something else.
+fn other_call(
+    alloc: Global,
+    table: &mut Breakpoints,
+    ops: &[Op<'_>],
+) -> Result<Option<usize>, AllocError> {
+    for (place, op) in ops.iter().enumerate() {
+        if !is_done(alloc, table, *op)? {
+            return Ok(Some(place));
+        }
+    }
+    Ok(None)
+}
+
+// Likewise with a fresh table.
+fn other(alloc: Global, room: usize, ops: &[Op<'_>]) -> Result<Option<usize>, AllocError> {
     match Breakpoints::open(alloc, room) {
         Ok(mut table) => {
-            for (place, op) in ops.iter().enumerate() {
-                let is_so = matches!(is_done(alloc, &mut table, *op), Ok(true));
-                check(rt, is_so, place);
-            }
+            let other = other_call(alloc, &mut table, ops);
             drop(table);
+            other
         }
-        Err(_) => check(rt, false, "table"),
+        Err(fault) => Err(fault),
     }
 }
 
@@ -86,13 +138,13 @@ static ONE: [Op<'static>; 12] = [
     Op::Check(Name::Path("/a.c"), &[1, 1, 1, 1], Ok(())),
     Op::Check(Name::Path("/a.c"), &[1, 1, 1, 1, 1], Err(BpFault::Full)),
     Op::Check(Name::Reference(1), &[1, 1, 1, 1], Err(BpFault::Full)),
-    Op::ReplaceOfClone(Name::Path("/a.c"), &[1, 1, 1, 1, 1], Err(BpFault::Full)),
+    Op::Replace(Name::Path("/a.c"), &[1, 1, 1, 1, 1], Err(BpFault::Full)),
     Op::Show(Name::Path("/a.c"), &[(4, 2)]),
 ];
 
 #[test]
-fn one_source(rt: HostRuntime) {
-    expect(&rt, rt.alloc(), 4, &ONE);
+fn one_source(rt: HostRuntime) -> Result<(), Fail> {
+    judge(&rt, other(rt.alloc(), 4, &ONE))
 }
 
 static SEVERAL: [Op<'static>; 14] = [
@@ -114,6 +166,6 @@ static SEVERAL: [Op<'static>; 14] = [
 
 // A path and a reference are two names, whatever they mean, and so are two paths.
 #[test]
-fn several_sources(rt: HostRuntime) {
-    expect(&rt, rt.alloc(), 5, &SEVERAL);
+fn several_sources(rt: HostRuntime) -> Result<(), Fail> {
+    judge(&rt, other(rt.alloc(), 5, &SEVERAL))
 }

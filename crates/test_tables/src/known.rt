@@ -1,7 +1,9 @@
 //! The table of known references.
 
-use crate::checks::check;
+use crate::checks::{check, judge};
 use dap_tables::{Known, KnownFault, ReferenceKind};
+use std::alloc::{AllocError, Global};
+use std::test::Fail;
 
 /// A call of a table, and what it answers.
 #[derive(Clone, Copy)]
@@ -15,16 +17,70 @@ enum Op<'a> {
     Clear,
 }
 
+// What is seen of a table: how many are held, and which of some.
+fn seen(known: &Known) -> (usize, [bool; 6]) {
+    let held = [
+        known.has(ReferenceKind::Frame, 1),
+        known.has(ReferenceKind::Frame, 2),
+        known.has(ReferenceKind::Frame, 3),
+        known.has(ReferenceKind::Frame, 7),
+        known.has(ReferenceKind::Holder, 1),
+        known.has(ReferenceKind::Holder, 7),
+    ];
+    (known.len(), held)
+}
+
+// Whether references are given so. Where memory is refused the table is as it was, and the next try is answered.
+fn is_given(
+    known: &mut Known,
+    given: &[(ReferenceKind, u32)],
+    answer: Result<(), KnownFault>,
+) -> Result<bool, AllocError> {
+    let before = seen(known);
+    match known.add(given) {
+        Err(KnownFault::OutOfMemory) => {
+            if seen(known) == before && known.add(given) == answer {
+                Err(AllocError)
+            } else {
+                Ok(false)
+            }
+        }
+        added => Ok(added == answer),
+    }
+}
+
 // Whether a call answers what its row says.
-fn is_done(known: &mut Known, op: Op<'_>) -> bool {
+fn is_done(known: &mut Known, op: Op<'_>) -> Result<bool, AllocError> {
     match op {
-        Op::Add(given, answer) => known.add(given) == answer,
-        Op::Has(kind, number, held) => known.has(kind, number) == held,
-        Op::Count(len, empty) => (known.len(), known.is_empty()) == (len, empty),
+        Op::Add(given, answer) => is_given(known, given, answer),
+        Op::Has(kind, number, held) => Ok(known.has(kind, number) == held),
+        Op::Count(len, empty) => Ok((known.len(), known.is_empty()) == (len, empty)),
         Op::Clear => {
             known.clear();
-            true
+            Ok(true)
         }
+    }
+}
+
+// The place of the first call that answers something else.
+fn other_call(known: &mut Known, ops: &[Op<'_>]) -> Result<Option<usize>, AllocError> {
+    for (place, op) in ops.iter().enumerate() {
+        if !is_done(known, *op)? {
+            return Ok(Some(place));
+        }
+    }
+    Ok(None)
+}
+
+// Likewise with a fresh table of three references.
+fn other(alloc: Global, ops: &[Op<'_>]) -> Result<Option<usize>, AllocError> {
+    match Known::open(alloc, 3) {
+        Ok(mut known) => {
+            let other = other_call(&mut known, ops);
+            drop(known);
+            other
+        }
+        Err(fault) => Err(fault),
     }
 }
 
@@ -68,20 +124,12 @@ static THREE: [Op<'static>; 15] = [
 ];
 
 #[test]
-fn three_references(rt: HostRuntime) {
-    match Known::open(rt.alloc(), 3) {
-        Ok(mut known) => {
-            for (place, op) in THREE.iter().enumerate() {
-                check(&rt, is_done(&mut known, *op), place);
-            }
-            drop(known);
-        }
-        Err(_) => check(&rt, false, "table"),
-    }
+fn three_references(rt: HostRuntime) -> Result<(), Fail> {
+    judge(&rt, other(rt.alloc(), &THREE))
 }
 
-// Whether the frame and the holder of a number are given.
-fn is_given(known: &mut Known, number: u32) -> bool {
+// Whether the frame and the holder of a number may be given.
+fn are_given(known: &mut Known, number: u32) -> bool {
     let pair = [
         (ReferenceKind::Frame, number),
         (ReferenceKind::Holder, number),
@@ -105,7 +153,7 @@ fn a_thousand_known_references(rt: HostRuntime) {
     match Known::open(rt.alloc(), 1000) {
         Ok(mut known) => {
             for number in 0..500 {
-                check(&rt, is_given(&mut known, number), number);
+                check(&rt, are_given(&mut known, number), number);
             }
             for number in 0..500 {
                 check(&rt, is_known(&mut known, number), number);

@@ -1,9 +1,9 @@
 //! The table of references.
 
-use crate::checks::check;
+use crate::checks::{check, judge};
 use dap_tables::{RefFault, ReferenceKind, References, Target};
-use std::alloc::Global;
-use std::process::Abort;
+use std::alloc::{AllocError, Global};
+use std::test::Fail;
 
 fn frame(object: u64) -> Target {
     Target {
@@ -43,35 +43,88 @@ enum Op {
     Clear,
 }
 
+// What is seen of a table: how many targets have a number, and those of the first numbers.
+fn seen(table: &References) -> (usize, [Option<Target>; 4]) {
+    let targets = [
+        table.target(1).copied(),
+        table.target(2).copied(),
+        table.target(3).copied(),
+        table.target(4).copied(),
+    ];
+    (table.len(), targets)
+}
+
+// Memory was refused: the table is as it was, and the next try is answered.
+fn is_refused(
+    table: &mut References,
+    before: (usize, [Option<Target>; 4]),
+    target: Target,
+    answer: Result<u32, RefFault>,
+) -> Result<bool, AllocError> {
+    if seen(table) == before && intern_for_now(table, target) == answer && seen(table) == before {
+        Err(AllocError)
+    } else {
+        Ok(false)
+    }
+}
+
+// Whether a target gets this, for now or for good.
+fn gets(
+    table: &mut References,
+    target: Target,
+    for_now: bool,
+    answer: Result<u32, RefFault>,
+) -> Result<bool, AllocError> {
+    let before = seen(table);
+    let given = if for_now {
+        intern_for_now(table, target)
+    } else {
+        table.intern(target)
+    };
+    match given {
+        Err(RefFault::OutOfMemory) => is_refused(table, before, target, answer),
+        given => Ok(given == answer),
+    }
+}
+
 // Whether a call answers what its row says.
-fn is_done(table: &mut References, op: Op) -> bool {
+fn is_done(table: &mut References, op: Op) -> Result<bool, AllocError> {
     match op {
-        Op::Intern(kind, object, answer) => table.intern(Target { kind, object }) == answer,
+        Op::Intern(kind, object, answer) => gets(table, Target { kind, object }, false, answer),
         Op::InternForNow(kind, object, answer) => {
-            intern_for_now(table, Target { kind, object }) == answer
+            gets(table, Target { kind, object }, true, answer)
         }
         Op::Finds(number, kind, object) => {
-            table.target(number).copied() == Some(Target { kind, object })
+            Ok(table.target(number).copied() == Some(Target { kind, object }))
         }
-        Op::Lacks(number) => table.target(number).is_none(),
-        Op::Count(len, empty) => (table.len(), table.is_empty()) == (len, empty),
+        Op::Lacks(number) => Ok(table.target(number).is_none()),
+        Op::Count(len, empty) => Ok((table.len(), table.is_empty()) == (len, empty)),
         Op::Clear => {
             table.clear();
-            true
+            Ok(true)
         }
     }
 }
 
-// Fails the test at the first call that answers something else, with a fresh table of two references.
-fn expect(rt: &impl Abort, alloc: Global, last: u32, ops: &[Op]) {
+// The place of the first call that answers something else.
+fn other_call(table: &mut References, ops: &[Op]) -> Result<Option<usize>, AllocError> {
+    for (place, op) in ops.iter().enumerate() {
+        if !is_done(table, *op)? {
+            return Ok(Some(place));
+        }
+    }
+    Ok(None)
+}
+
+// Likewise with a fresh table of two references.
+fn other(alloc: Global, last: u32, ops: &[Op]) -> Result<Option<usize>, AllocError> {
     match References::open(alloc, 2, last) {
         Ok(mut table) => {
-            for (place, op) in ops.iter().enumerate() {
-                check(rt, is_done(&mut table, *op), place);
-            }
+            let other = other_call(&mut table, ops);
             drop(table);
+            other
         }
-        Err(_) => check(rt, false, "table"),
+        Err(fault) => Err(fault),
     }
 }
 
@@ -96,8 +149,8 @@ static TWO: [Op; 17] = [
 ];
 
 #[test]
-fn two_references(rt: HostRuntime) {
-    expect(&rt, rt.alloc(), 100, &TWO);
+fn two_references(rt: HostRuntime) -> Result<(), Fail> {
+    judge(&rt, other(rt.alloc(), 100, &TWO))
 }
 
 static EXHAUSTED: [Op; 7] = [
@@ -111,8 +164,8 @@ static EXHAUSTED: [Op; 7] = [
 ];
 
 #[test]
-fn no_number_is_left(rt: HostRuntime) {
-    expect(&rt, rt.alloc(), 3, &EXHAUSTED);
+fn no_number_is_left(rt: HostRuntime) -> Result<(), Fail> {
+    judge(&rt, other(rt.alloc(), 3, &EXHAUSTED))
 }
 
 // Whether the frame and the holder of an object get numbers.

@@ -10,8 +10,9 @@ use std::test::Fail;
 use test_kit::served::{Stream, stream_of};
 use test_kit::streams::{Flushed, Pieces, Stuck};
 
-/// A whole session. What its lines say stands in `test_kit`, `served.rt`.
-static SESSION: &str = r#"
+/// A whole session, and a run with a pause and an exit. What their lines say stands in `test_kit`, `served.rt`.
+static SESSIONS: [&str; 2] = [
+    r#"
 row a whole session
 > {"seq":1,"type":"request","command":"initialize","arguments":{"adapterID":"rec"}}
 < capabilities seq 1 to 1
@@ -51,7 +52,38 @@ phase Exited
 > {"seq":10,"type":"request","command":"disconnect"}
 < {"command":"disconnect","request_seq":10,"seq":18,"success":true,"type":"response"}
 phase Ended
-"#;
+"#,
+    r#"
+row a run with a pause and an exit
+> {"seq":1,"type":"request","command":"initialize","arguments":{"adapterID":"rec"}}
+< capabilities seq 1 to 1
+< {"event":"initialized","seq":2,"type":"event"}
+phase Ready
+> {"seq":2,"type":"request","command":"launch"}
+phase Parked
+> {"seq":3,"type":"request","command":"configurationDone"}
+< {"command":"configurationDone","request_seq":3,"seq":3,"success":true,"type":"response"}
+< {"command":"launch","request_seq":2,"seq":4,"success":true,"type":"response"}
+< {"body":{"category":"stdout","output":"go\n"},"event":"output","seq":5,"type":"event"}
+< {"body":{"allThreadsStopped":true,"reason":"entry","threadId":1},"event":"stopped","seq":6,"type":"event"}
+phase Stopped
+> {"seq":4,"type":"request","command":"continue","arguments":{"threadId":1}}
+< {"body":{"allThreadsContinued":true},"command":"continue","request_seq":4,"seq":7,"success":true,"type":"response"}
+phase Running
+> {"seq":5,"type":"request","command":"stackTrace","arguments":{"threadId":1}}
+< notStopped seq 8 to 5 stackTrace
+phase Running
+> {"seq":6,"type":"request","command":"pause","arguments":{"threadId":1}}
+< {"command":"pause","request_seq":6,"seq":9,"success":true,"type":"response"}
+< {"body":{"allThreadsStopped":true,"reason":"pause","threadId":1},"event":"stopped","seq":10,"type":"event"}
+phase Stopped
+> {"seq":7,"type":"request","command":"continue","arguments":{"threadId":1}}
+< {"body":{"allThreadsContinued":true},"command":"continue","request_seq":7,"seq":11,"success":true,"type":"response"}
+< {"body":{"exitCode":0},"event":"exited","seq":12,"type":"event"}
+< {"event":"terminated","seq":13,"type":"event"}
+phase Exited
+"#,
+];
 
 /// The last of the ends that a front of the input holds.
 fn reached(ends: &[(usize, usize, Phase)], count: usize) -> (usize, usize, Phase) {
@@ -62,6 +94,12 @@ fn reached(ends: &[(usize, usize, Phase)], count: usize) -> (usize, usize, Phase
         }
     }
     last
+}
+
+/// How far the session is at its end.
+fn last_phase(whole: &Stream) -> Phase {
+    let (_, _, phase) = reached(&whole.ends, whole.input.len());
+    phase
 }
 
 /// Whether bytes behind `disconnect` change nothing.
@@ -78,16 +116,17 @@ fn is_over(alloc: Global, whole: &Stream, later: &[u8]) -> bool {
         )
 }
 
-/// The size of pieces in which the session is served otherwise; 0 where it is otherwise with bytes behind it.
-fn other_piece(alloc: Global, whole: &Stream) -> Option<usize> {
-    let is_right = (whole.input.len(), whole.answers.len()) == (861, 2155)
+/// Whether bytes behind a session of this length change nothing.
+fn is_over_behind(alloc: Global, whole: &Stream) -> bool {
+    (whole.input.len(), whole.answers.len()) == (861, 2155)
         && is_over(alloc, whole, b"Content-Length: 46")
         && is_over(alloc, whole, b"\r\n\r\n")
-        && is_over(alloc, whole, b"Content-Length: 0\r\n\r\n");
-    if !is_right {
-        return Some(0);
-    }
-    other_size(alloc, &whole.input, &whole.answers, Phase::Ended, 200)
+        && is_over(alloc, whole, b"Content-Length: 0\r\n\r\n")
+}
+
+/// The size of pieces in which the session is served otherwise.
+fn other_piece(alloc: Global, whole: &Stream) -> Option<usize> {
+    other_size(alloc, &whole.input, &whole.answers, last_phase(whole), 200)
 }
 
 /// The first so many bytes, where there are as many.
@@ -156,23 +195,39 @@ fn other_room(alloc: Global, whole: &Stream) -> Option<usize> {
 }
 
 /// Whether a reader that fails after so many calls, and reads that are used up then, end the session.
-fn is_unread(alloc: Global, whole: &Stream, calls: usize) -> bool {
-    let (_, length, _) = reached(&whole.ends, calls.saturating_mul(60));
+fn is_unread(alloc: Global, whole: &Stream, size: usize, calls: usize) -> bool {
+    let (_, length, _) = reached(&whole.ends, calls.saturating_mul(size));
     let failing = Terms {
         calls_left: calls,
-        ..pieces(60)
+        ..pieces(size)
     };
     let few = Terms {
         max_reads: calls as u64,
-        ..pieces(60)
+        ..pieces(size)
     };
     is_failed(alloc, whole, failing, ServeFault::Read, length)
         && is_failed(alloc, whole, few, ServeFault::TooManyReads, length)
 }
 
+/// How many reads are made in pieces of a size. Past its last byte a session is read on, unless it has ended.
+fn reads_of(whole: &Stream, size: usize) -> usize {
+    let pieces = whole.input.len().div_ceil(size.max(1));
+    pieces.saturating_add(usize::from(last_phase(whole) != Phase::Ended))
+}
+
 fn other_read(alloc: Global, whole: &Stream) -> Option<usize> {
-    for calls in 0..whole.input.len().div_ceil(60) {
-        if !is_unread(alloc, whole, calls) {
+    for calls in 0..reads_of(whole, 60) {
+        if !is_unread(alloc, whole, 60, calls) {
+            return Some(calls);
+        }
+    }
+    None
+}
+
+/// The same with bytes one by one.
+fn other_byte(alloc: Global, whole: &Stream) -> Option<usize> {
+    for calls in 0..reads_of(whole, 1) {
+        if !is_unread(alloc, whole, 1, calls) {
             return Some(calls);
         }
     }
@@ -186,6 +241,8 @@ enum Trial {
     Cuts,
     Writers,
     Readers,
+    Bytes,
+    Later,
     Flushes,
     Stuck,
 }
@@ -197,6 +254,8 @@ fn other_of(alloc: Global, whole: &Stream, trial: Trial) -> Option<usize> {
         Trial::Cuts => other_cut(alloc, whole),
         Trial::Writers => other_room(alloc, whole),
         Trial::Readers => other_read(alloc, whole),
+        Trial::Bytes => other_byte(alloc, whole),
+        Trial::Later if !is_over_behind(alloc, whole) => Some(0),
         Trial::Flushes if !are_flushed(alloc, whole) => Some(0),
         Trial::Stuck if !is_stuck(alloc, whole) => Some(0),
         _ => None,
@@ -204,8 +263,8 @@ fn other_of(alloc: Global, whole: &Stream, trial: Trial) -> Option<usize> {
 }
 
 /// Tries a fresh session.
-fn expect(rt: &HostRuntime, trial: Trial) -> Result<(), Fail> {
-    match stream_of(rt.alloc(), SESSION) {
+fn expect(rt: &HostRuntime, session: &str, trial: Trial) -> Result<(), Fail> {
+    match stream_of(rt.alloc(), session) {
         Ok(whole) => {
             let other = other_of(rt.alloc(), &whole, trial);
             // The proof of a call is shorter than that of a value that goes out of scope.
@@ -216,28 +275,53 @@ fn expect(rt: &HostRuntime, trial: Trial) -> Result<(), Fail> {
     }
 }
 
-/// A whole session, in pieces of each size; what comes after `disconnect` changes nothing.
+/// Tries both sessions.
+fn expect_both(rt: &HostRuntime, trial: Trial) -> Result<(), Fail> {
+    for session in &SESSIONS {
+        expect(rt, session, trial)?;
+    }
+    Ok(())
+}
+
+/// Tries the one that ends with `disconnect`.
+fn expect_first(rt: &HostRuntime, trial: Trial) -> Result<(), Fail> {
+    expect(rt, SESSIONS[0], trial)
+}
+
+/// Whole sessions, in pieces of each size.
 #[test]
-fn whole_session(rt: HostRuntime) -> Result<(), Fail> {
-    expect(&rt, Trial::Pieces)
+fn whole_sessions(rt: HostRuntime) -> Result<(), Fail> {
+    expect_both(&rt, Trial::Pieces)
+}
+
+/// What comes after `disconnect` changes nothing.
+#[test]
+fn bytes_behind_a_session(rt: HostRuntime) -> Result<(), Fail> {
+    expect_first(&rt, Trial::Later)
 }
 
 /// Every front of a session is served up to its last whole frame.
 #[test]
 fn cut_short(rt: HostRuntime) -> Result<(), Fail> {
-    expect(&rt, Trial::Cuts)
+    expect_both(&rt, Trial::Cuts)
 }
 
 /// A writer that takes so many bytes and then fails: that count is told, and those bytes went out.
 #[test]
 fn failing_writer(rt: HostRuntime) -> Result<(), Fail> {
-    expect(&rt, Trial::Writers)
+    expect_both(&rt, Trial::Writers)
 }
 
 /// A reader that fails at each read in turn, and reads that are used up: what came before is answered.
 #[test]
 fn failing_reader(rt: HostRuntime) -> Result<(), Fail> {
-    expect(&rt, Trial::Readers)
+    expect_both(&rt, Trial::Readers)
+}
+
+/// The same with bytes one by one.
+#[test]
+fn failing_reader_of_bytes(rt: HostRuntime) -> Result<(), Fail> {
+    expect_both(&rt, Trial::Bytes)
 }
 
 /// How serving ends where so many flushes succeed, how many there were, and how many bytes went out; nothing where those are
@@ -268,7 +352,7 @@ fn flushed(
 
 fn are_all_flushed(alloc: Global, whole: &Stream) -> bool {
     match flushed(alloc, whole, 1000) {
-        Some((end, flushes, _)) => end == clean(Phase::Ended) && flushes > 0,
+        Some((end, flushes, _)) => end == clean(last_phase(whole)) && flushes > 0,
         None => false,
     }
 }
@@ -292,7 +376,7 @@ fn are_flushed(alloc: Global, whole: &Stream) -> bool {
 /// What is written is flushed; a flush that fails is told with all that went out.
 #[test]
 fn flushes(rt: HostRuntime) -> Result<(), Fail> {
-    expect(&rt, Trial::Flushes)
+    expect_both(&rt, Trial::Flushes)
 }
 
 fn is_stuck(alloc: Global, whole: &Stream) -> bool {
@@ -311,5 +395,5 @@ fn is_stuck(alloc: Global, whole: &Stream) -> bool {
 /// A writer that takes nothing has failed.
 #[test]
 fn a_writer_that_takes_nothing(rt: HostRuntime) -> Result<(), Fail> {
-    expect(&rt, Trial::Stuck)
+    expect_both(&rt, Trial::Stuck)
 }

@@ -1,43 +1,9 @@
 //! What a reader gives over many calls, with values worked out by hand.
 
 use crate::checks::check;
-use crate::frames::{Bodies, FRAME, NONE, feed_all, framed, limits, opened, seen_of};
+use crate::frames::{Bodies, FRAME, framed, limits, opened, seen_of};
 use dap_frame::{End, Fed, FrameFault, Frames, Limits, Refusal};
 use std::alloc::Global;
-
-/// Whether a stream in pieces of seven bytes gives a hundred such bodies, and no more is held than one.
-fn is_whole_by_sevens(frames: &mut Frames, stream: &[u8], body: &[u8]) -> bool {
-    let mut bodies = NONE;
-    for piece in stream.chunks(7) {
-        let fault = feed_all(frames, piece, body, &mut bodies);
-        if fault.is_some() || frames.held() > 1024 {
-            return false;
-        }
-    }
-    bodies
-        == Bodies {
-            wanted: 100,
-            others: 0,
-        }
-}
-
-/// Whether a reader of bodies of 1024 bytes gives a hundred of them so.
-fn gives_a_hundred(alloc: Global, frames: &mut Frames) -> bool {
-    let body = [b'a'; 1024];
-    match framed(alloc, &body, 100, b"") {
-        Ok(stream) => is_whole_by_sevens(frames, &stream, &body),
-        Err(_) => false,
-    }
-}
-
-/// A hundred bodies of the greatest size, in pieces of seven bytes: none is lost, and no more is held than a body.
-#[test]
-fn pieces_of_seven(rt: HostRuntime) {
-    match opened(rt.alloc(), &limits(32, 1024)) {
-        Some(mut frames) => check(&rt, gives_a_hundred(rt.alloc(), &mut frames), "pieces"),
-        None => check(&rt, false, "reader"),
-    }
-}
 
 /// Whether a reader gives just this body for its frame, cut after so many bytes, and is then at a clean end.
 fn passes(frames: &mut Frames, frame: &[u8], cut: usize, body: &[u8]) -> bool {
