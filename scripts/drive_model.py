@@ -69,9 +69,11 @@ def is_plain(value, depth=100):
 
 def call_of(command, arguments):
     """The arguments as they are written: without what is not known, and without keys that have their default value."""
-    told = {key: value for key, value in (arguments or {}).items() if value is not None}
     if command in ("launch", "attach"):
         return arguments
+    # Where no key is known, arguments may be anything.
+    told = arguments if isinstance(arguments, dict) else {}
+    told = {key: value for key, value in told.items() if value is not None}
     if command == "initialize":
         flags = {key: False for key in ("columnsStartAt1", "linesStartAt1") if told.get(key) is False}
         on = {key: True for key in ("supportsRunInTerminalRequest", "supportsVariablePaging") if told.get(key)}
@@ -84,7 +86,7 @@ def call_of(command, arguments):
     if command == "source":
         inner = (told.get("source") or {}).get("sourceReference")
         return {"sourceReference": inner or told.get("sourceReference", 0)}
-    defaults = ("startFrame", "levels", "start", "count")
+    defaults = ("startFrame", "levels", "start", "count", "startModule", "moduleCount")
     known = {key: told[key] for key, _, _ in CALLS.get(command, []) if key in told and (told[key] or key not in defaults)}
     return known or None
 
@@ -191,7 +193,7 @@ class Client:
 class Adapter(Session):
     """Its calls give the bodies that they write."""
 
-    def __init__(self, recording, max_requests, max_seq, **limits):
+    def __init__(self, recording, max_requests=64, max_seq=GREATEST, **limits):
         super().__init__(recording, **limits)
         self.max_requests = max_requests
         self.max_seq = max_seq
@@ -209,19 +211,29 @@ class Adapter(Session):
         return out
 
     def take(self, request):
-        named = (request.get("arguments") or {}).get("requestId")
         if request["command"] == "cancel":
-            for one in self.kept:
-                if one["seq"] == named and one is not self.parked:
-                    self.fail(one, "cancelled")
-                    self.kept.remove(one)
-                    break
-            self.respond(request)
+            self.cancel(request)
         elif len(self.kept) >= self.max_requests:
             self.fail(request, "busy")
         else:
             self.kept.append(request)
         return self.handed_out()
+
+    def cancel(self, request):
+        """A request that is named, kept and not parked fails; with good arguments the `cancel` itself succeeds in any case."""
+        arguments = request.get("arguments")
+        try:
+            self.test("cancel", arguments)
+        except Failed as failure:
+            self.fail(request, failure.name, failure.key)
+            return
+        named = (arguments or {}).get("requestId")
+        for one in self.kept:
+            if one["seq"] == named and one is not self.parked:
+                self.fail(one, "cancelled")
+                self.kept.remove(one)
+                break
+        self.respond(request)
 
     def turn(self):
         """None where no request can be handled."""
@@ -249,6 +261,16 @@ class Adapter(Session):
         if self.phase == "Running":
             self.poll_once()
         return self.handed_out()
+
+    def run(self):
+        """What is handed out until no request can be handled, and then by polls."""
+        while (bodies := self.turn()) is not None:
+            yield bodies
+        for _ in range(65536):
+            bodies = self.poll()
+            yield bodies
+            if not bodies or self.phase == "Stopped":
+                return
 
     def polls(self):
         """Requests are handled one at a time here, and polls are asked for."""
@@ -283,7 +305,6 @@ class Drive:
         for body in bodies:
             self.transcript += b"< " + body + b"\n"
             self.client.take(json.loads(body))
-        return len(bodies) > 0
 
     def send(self, command, arguments=None):
         request = self.client.send(command, arguments)
@@ -291,20 +312,14 @@ class Drive:
         self.delivered(self.adapter.take(request))
 
     def turn(self):
-        bodies = self.adapter.turn()
-        if bodies is not None:
-            self.delivered(bodies)
-        return bodies is not None
+        self.delivered(self.adapter.turn() or [])
 
     def poll(self):
-        return self.delivered(self.adapter.poll())
+        self.delivered(self.adapter.poll())
 
     def run(self):
-        while self.turn():
-            pass
-        for _ in range(65536):
-            if not self.poll() or self.adapter.phase == "Stopped":
-                return
+        for bodies in self.adapter.run():
+            self.delivered(bodies)
 
 
 def script_line(drive, line):

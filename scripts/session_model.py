@@ -22,6 +22,7 @@ FAILURES = {
     "unknownThread": (1008, "The thread does not exist."),
     "staleReference": (1009, "The reference is not valid in this stop."),
     "tooManyReferences": (1010, "Too many references are in use."),
+    "busy": (1011, "Too many requests are waiting."),
     "cancelled": (1012, "The request was cancelled."),
     "debuggee": (1013, "The debuggee refused."),
     "unknownSource": (1014, "The source does not exist."),

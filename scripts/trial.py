@@ -26,6 +26,14 @@ def run(words, given=b""):
     return done.returncode, done.stdout, done.stderr
 
 
+def words_of(options):
+    """The words of options: each name with its value, or alone where that is true."""
+    words = []
+    for name, value in options.items():
+        words += ["--" + name.replace("_", "-"), *([] if value is True else [str(value)])]
+    return words
+
+
 def expect(name, got, wanted):
     if got == wanted:
         print("ok", name)

@@ -10,7 +10,7 @@ import subprocess
 
 from session_model import FAILURES, RESUMING, Session
 from trial import CAPABILITIES, DAP, FOLDER, HERE, RECORDING, RECORDINGS, expect, frame, frames_of, recording_of, request
-from trial import run, split
+from trial import run, split, words_of
 
 # The messages that come for a request, each by the request's number and command: a success, a failure, an event.
 def ok(body=None):
@@ -550,7 +550,8 @@ class Guided:
 
     def __init__(self, path, **limits):
         self.path = path
-        self.words = [word for name, value in limits.items() for word in ("--" + name.replace("_", "-"), str(value))]
+        self.limits = limits
+        self.words = words_of(limits)
         self.session = Session(recording_of(path), **limits)
         self.requests = []
         self.answers = []
@@ -739,23 +740,28 @@ def mixed():
         with open(paths[-1], "w") as file:
             json.dump(random_recording(random.Random(seed)), file)
     for seed in range(12 * len(paths)):
-        choice = random.Random(seed)
         path = paths[seed % len(paths)]
-        limits = {
-            "max_references": choice.choice([None, None, None, 2, 5, 9]),
-            "max_reference": choice.choice([None, None, None, None, 9, 30]),
-            "max_breakpoints": choice.choice([None, 1, 2, 5]),
-            "max_body": choice.choice([None, None, 1024]),
-        }
-        guided = Mixed(choice, path, **{name: most for name, most in limits.items() if most is not None})
-        flags = ("linesStartAt1", "columnsStartAt1", "supportsVariablePaging")
-        if choice.randrange(8):
-            guided.ask("initialize", {flag: choice.choice([None, True, False]) for flag in flags})
-        for _ in range(choice.randrange(120)):
-            guided.step()
-            if guided.session.phase == "Exited" and choice.randrange(4) == 0:
-                break
+        guided = mixed_session(random.Random(seed), path)
         guided.compare(f"mixed: {seed}, over {os.path.basename(path)}, {' '.join(guided.words)}")
+
+
+def mixed_session(choice, path, most=120):
+    """A random session over the recording of a file, of fewer requests than `most` and the first, under random limits."""
+    limits = {
+        "max_references": choice.choice([None, None, None, 2, 5, 9]),
+        "max_reference": choice.choice([None, None, None, None, 9, 30]),
+        "max_breakpoints": choice.choice([None, 1, 2, 5]),
+        "max_body": choice.choice([None, None, 1024]),
+    }
+    guided = Mixed(choice, path, **{name: value for name, value in limits.items() if value is not None})
+    flags = ("linesStartAt1", "columnsStartAt1", "supportsVariablePaging")
+    if choice.randrange(8):
+        guided.ask("initialize", {flag: choice.choice([None, True, False]) for flag in flags})
+    for _ in range(choice.randrange(most)):
+        guided.step()
+        if guided.session.phase == "Exited" and choice.randrange(4) == 0:
+            break
+    return guided
 
 
 def follow():

@@ -21,7 +21,7 @@ import sys
 import slow_check
 from drive_model import MAY_SEND, RESUMING, Drive, Fault, drive_of, script_line
 from slow_check import GATES, USED_AT
-from trial import FOLDER, RECORDINGS, expect, failures, recording_of, run
+from trial import FOLDER, RECORDINGS, expect, failures, recording_of, run, words_of
 
 COUNT = 300
 EDITS = 6
@@ -59,20 +59,26 @@ class Scripted:
         self.choice = choice
         self.drive = Drive(recording, **limits)
         self.ids = sorted({thread["id"] for moment in recording["moments"] for thread in moment["threads"]})
-        self.names = [source["path"] for source in recording["sources"] if "path" in source]
+        self.names = [source["path"] for source in recording["sources"] if "path" in source] or ["/none"]
         self.lines = []
         self.is_over = False
 
     def line(self, line):
         self.lines.append(line)
         try:
-            script_line(self.drive, line)
+            # An empty line is skipped.
+            if line:
+                script_line(self.drive, line)
         except Fault:
             self.is_over = True
 
     def number(self, kind):
         known = sorted(number for its_kind, number in self.drive.client.known if its_kind == kind)
         return self.choice.choice(known or [1])
+
+    def thread(self):
+        there = [thread["id"] for thread in self.drive.adapter.debuggee.threads()]
+        return self.choice.choice(there if there and self.choice.randrange(8) else self.ids)
 
     def arguments(self, command):
         pick = self.choice.choice
@@ -91,12 +97,13 @@ class Scripted:
             return pick([None, {"adapterID": "rec"}, {"linesStartAt1": False, "columnsStartAt1": False}])
         if command == "source":
             return {"sourceReference": pick([0, 1, 1, 2])}
-        return {"threadId": pick(self.ids), "filters": [], "levels": pick([0, 0, 1]), "startFrame": pick([None, 0, 1])}
+        return {"threadId": self.thread(), "filters": [], "levels": pick([0, 0, 1]), "startFrame": pick([None, 0, 1])}
 
     def send(self):
         """What may be sent: mostly what leads on, to a stop and from there to variables."""
         lead = {"Fresh": ["initialize"], "Configuring": ["launch", "configurationDone", "setBreakpoints"]}
-        lead["Stopped"] = ["stackTrace", "scopes", "variables", "evaluate", "scopes", "variables"] + sorted(RESUMING)
+        resuming = self.choice.choice(sorted(RESUMING))
+        lead["Stopped"] = [resuming] * 2 + ["stackTrace", "scopes", "variables", "evaluate"] * 3
         lead["Running"] = ["pause"]
         client = self.drive.client
         if len(client.waiting) >= client.max_requests and self.choice.randrange(8):
@@ -424,7 +431,7 @@ class Trial:
         path = RECORDINGS[seed % len(RECORDINGS)]
         recording = recording_of(path)
         script, limits = random_script(choice, recording)
-        words = [word for name, value in limits.items() for word in ("--" + name.replace("_", "-"), str(value))]
+        words = words_of(limits)
         wanted = drive_of(recording, script, **limits)
         got = run(with_files("drive", path, script, *words))
         self.drives[wanted[2].decode().split(" at ")[0].strip() or "done"] += 1

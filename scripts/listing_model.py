@@ -1,0 +1,103 @@
+"""A model of `dap show` and `dap wrap`: from the bytes of a file to a status, an output and the line of a fault.
+
+It is written from docs/PROFILE.md, "Streams and frames", "Refusals of framing", "Listing a stream" and "Framing the lines of a
+file", and shares nothing with the crates. Lines, JSON and messages are those of slow_check.py.
+"""
+import re
+
+from session_model import frame
+from slow_check import Refused, lines_of, need, read_message
+
+MAX_HEADER = 8192
+MAX_BODY = 4194304
+# A name of the bytes 33 to 126 but the colon; a value of the bytes 9 and 32 to 126.
+FIELD = re.compile(rb"([!-9;-~]+):([\t -~]*)")
+CONTROL = re.compile("[\x00-\x1f\x7f]")
+
+
+def frames_in(stream, max_header=MAX_HEADER, max_body=MAX_BODY):
+    """The offset and the body of each frame, up to the first refusal."""
+    at = 0
+    while at < len(stream):
+        end = stream.find(b"\r\n\r\n", at, at + max_header)
+        if end < 0:
+            raise Refused(f"HeaderTooLong at {at}" if len(stream) - at >= max_header else "Truncated")
+        start = end + 4
+        stop = start + given_at(f"at {at}", body_length, stream[at:end], max_body)
+        need(stop <= len(stream), "Truncated")
+        yield at, stream[start:stop]
+        at = stop
+
+
+def body_length(block, max_body):
+    """What the lines of a header block say of the body."""
+    fields = [FIELD.fullmatch(line) for line in block.split(b"\r\n")]
+    need(all(fields), "BadHeader")
+    lengths = [field[2].strip(b"\t ") for field in fields if field[1].lower() == b"content-length"]
+    need(lengths, "NoLength")
+    need(len(lengths) == 1, "TwoLengths")
+    need(re.fullmatch(b"[0-9]+", lengths[0]), "BadLength")
+    digits = lengths[0].lstrip(b"0") or b"0"
+    need(len(digits) <= len(str(max_body)) and int(digits) <= max_body, "BodyTooLong")
+    return int(digits)
+
+
+def given_at(place, read, *given):
+    """What `read` gives, or its refusal and the place."""
+    try:
+        return read(*given)
+    except Refused as refusal:
+        raise Refused(f"{refusal} {place}") from None
+
+
+def refusal_of(refused):
+    """The status and the line of what is refused."""
+    return 4 if str(refused) == "Truncated" else 3, f"dap: {refused}\n".encode()
+
+
+def line_for(offset, message):
+    """The line of a message."""
+    told = f"{offset} {message.seq} "
+    if message.type == "request":
+        return f"{told}request {without_controls(message.command)}\n"
+    if message.type == "response":
+        outcome = "ok" if message.success else "failed"
+        return f"{told}response {without_controls(message.command)} {message.request_seq} {outcome}\n"
+    if message.type == "event":
+        return f"{told}event {without_controls(message.event)}\n"
+    return f"{told}other {without_controls(message.type)}\n"
+
+
+def without_controls(text):
+    return CONTROL.sub("?", text)
+
+
+def show(stream, max_header=MAX_HEADER, max_body=MAX_BODY):
+    """What was listed before a refusal stays."""
+    lines = []
+    try:
+        for offset, body in frames_in(stream, max_header, max_body):
+            lines.append(line_for(offset, given_at(f"at {offset}", read_message, None, None, body)))
+    except Refused as refused:
+        status, line = refusal_of(refused)
+        return status, "".join(lines).encode(), line
+    return 0, "".join(lines).encode(), b""
+
+
+def wrap(content, max_header=MAX_HEADER, max_body=MAX_BODY):
+    """At a refused line there are no frames at all. The header limit changes nothing."""
+    frames = []
+    try:
+        for number, line in lines_of(content):
+            given_at(f"at line {number}", read_line, line, max_body)
+            frames.append(frame(line))
+    except Refused as refused:
+        status, line = refusal_of(refused)
+        return status, b"", line
+    return 0, b"".join(frames), b""
+
+
+def read_line(line, max_body):
+    """A line is a message first, and then no longer than may be."""
+    read_message(None, None, line)
+    need(len(line) <= max_body, "BodyTooLong")
