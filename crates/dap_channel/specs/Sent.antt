@@ -14,15 +14,19 @@ pub record Writes {C : Type 0} (goes : C → IoEvent → C → Type 0) (c d : C)
   pub written : bytes_written log ≡ bytes
   pub goes_on : MayGoOn log
 
--- the same, and the last call is a flush that did not fail, also where there is nothing to write
+-- the same, and all is flushed
 pub record Sends {C : Type 0} (goes : C → IoEvent → C → Type 0) (c d : C) (bytes : List ℕ) : Type 0 where
   pub log : List IoEvent
   pub ran : Ran goes c log d
   pub no_reads : reads log ≡ 0
   pub written : bytes_written log ≡ bytes
   pub flushed : IsTrue (is_flushed log)
-  pub last : HasFlushed log
   pub goes_on : MayGoOn log
+
+-- the same, and the last call is a flush that did not fail, also where there is nothing to write
+pub record Flushes {C : Type 0} (goes : C → IoEvent → C → Type 0) (c d : C) (bytes : List ℕ) : Type 0 where
+  pub sends : Sends goes c d bytes
+  pub last : HasFlushed sends.log
 
 -- the same, but the last call is where the writer failed or took nothing
 pub record WritesShort {C : Type 0} (goes : C → IoEvent → C → Type 0) (c d : C) (bytes : List ℕ) : Type 0 where

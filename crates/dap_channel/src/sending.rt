@@ -1,7 +1,7 @@
 //! Bytes to a channel, and how many went out.
 
 ghost use Rattle.std.specs.Prelude.{◌≡◌, ℕ, ◌+◌, ◌<◌, ◌≤◌, length, take, OnOk, IfOk, IfErr};
-ghost use Rattle.dap_channel.specs.Sent.{Writes, WritesShort, Sends, counted};
+ghost use Rattle.dap_channel.specs.Sent.{Flushes, Writes, WritesShort, Sends, counted};
 
 use crate::channel::Channel;
 
@@ -29,6 +29,7 @@ fn write_counted<C: Channel>(channel: &mut C, bytes: &[u8]) -> Result<(), usize>
 /// How many bytes went out in all, where a write or the flush failed, or a write took nothing.
 pub fn send<C: Channel>(channel: &mut C, bytes: &[u8], written: u64) -> Result<u64, u64>
     ensures sent { OnOk result (Sends C.goes channel.old channel.new bytes.now) }
+    ensures last { OnOk result (Flushes C.goes channel.old channel.new bytes.now) }
     ensures count { IfOk result (λ n. n ≡ counted (written + length bytes.now)) }
 
     // What went out is a front of the bytes.

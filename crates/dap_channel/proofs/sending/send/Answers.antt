@@ -6,7 +6,11 @@ use Rattle.dap_channel.proofs.sending.send.Goals as goal
 pub returns-in-Ok-clause-sent : goal.returns-in-Ok-clause-sent
 returns-in-Ok-clause-sent g c =
     let so = c.in_default.ensures.ok in
-    record { log = Flushed ∷ so.log; ran = (c.write_counted.new.channel, so.ran, c.in-Ok.ensures.ok); no_reads = so.no_reads; written = so.written; flushed = refl; last = tt; goes_on = so.goes_on }
+    record { log = Flushed ∷ so.log; ran = (c.write_counted.new.channel, so.ran, c.in-Ok.ensures.ok); no_reads = so.no_reads; written = so.written; flushed = refl; goes_on = so.goes_on }
+
+pub returns-in-Ok-clause-last : goal.returns-in-Ok-clause-last
+unfolding returns-in-Ok-clause-sent
+returns-in-Ok-clause-last g c = record { sends = returns-in-Ok-clause-sent g c; last = tt }
 
 pub returns-in-Err-flush-clause-short : goal.returns-in-Err-flush-clause-short
 returns-in-Err-flush-clause-short g c =
