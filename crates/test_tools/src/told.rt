@@ -5,7 +5,8 @@ use dap_debuggee::{Recorded, RecordingFault};
 use dap_frame::{FrameFault, Refusal};
 use dap_message::BodyRefusal;
 use dap_tool::{
-    CheckFault, DriveFault, FileFault, SendFault, ShowFault, ToolFault, WrapFault, fault_line, status,
+    CheckFault, DriveFault, FileFault, SendFault, ShowFault, ToolFault, WrapFault, fault_line,
+    status,
 };
 use std::alloc::Global;
 use std::test::Fail;
@@ -268,10 +269,7 @@ static IN_WORDS: [(ToolFault, &str); 24] = [
         ToolFault::Drive(DriveFault::Adapter),
         "the adapter is closed",
     ),
-    (
-        ToolFault::Drive(DriveFault::Client),
-        "the client is closed",
-    ),
+    (ToolFault::Drive(DriveFault::Client), "the client is closed"),
     (
         ToolFault::Drive(DriveFault::OutOfMemory),
         "memory is exhausted",
