@@ -1,6 +1,4 @@
 //! What a recorded debuggee does when it is asked.
-ghost use Rattle.std.specs.Prelude.{◌≡◌, IfOk};
-
 use crate::answers::{Asked, DebuggeeFault, How, State};
 use crate::recorded::{Going, LastAsked, Recorded};
 use dap_call::SourceKey;
@@ -96,13 +94,13 @@ impl Recorded {
     ) -> Result<(), AllocError>
         ensures set { OnOk result (self.new ≡ with_lines (replaced source.now lines.now self.old.set) self.old) }
         ensures memory { OnErr result (self.new ≡ self.old) }
+        ensures some { OnErr result (0 < length lines.now) }
     {
         if lines.is_empty() {
             self.set.remove(source);
             return Ok(());
         }
-        let copy = copied(alloc, lines)?;
-        self.set.put(source.clone()?, copy)
+        self.set.put(source.clone()?, lines.to_vec(alloc)?)
     }
 
     pub(crate) fn to_set(
@@ -113,17 +111,10 @@ impl Recorded {
     ) -> Result<(), AllocError>
         ensures follows { OnOk result (FollowsPlayed self.old (to_set_breakpoints source.now lines.now) done self.new) }
         ensures memory { OnErr result (self.new ≡ self.old) }
+        ensures some { OnErr result (0 < length lines.now) }
     {
         self.put_lines(alloc, source, lines)?;
         self.note(LastAsked::Done(Asked::SetBreakpoints));
         Ok(())
     }
-}
-
-fn copied(alloc: Global, lines: &[u32]) -> Result<Vec<u32>, AllocError>
-    ensures { IfOk result (λ copy. copy.items ≡ lines.now) }
-{
-    let mut copy = Vec::new(alloc);
-    copy.extend_from_slice(lines)?;
-    Ok(copy)
 }

@@ -227,7 +227,7 @@ fn last_told(how: How, at: usize, to: usize) -> usize
 }
 
 impl Debuggee for Recorded {
-    ghost use Rattle.std.specs.Prelude.{◌≡◌, IfOk, IsTrue, IsErrOf, OnOk, OnErr};
+    ghost use Rattle.std.specs.Prelude.{◌≡◌, ◌<◌, length, IfOk, IsTrue, IsErrOf, OnOk, OnErr};
     ghost use Rattle.std.specs.Option.{IsSome};
     ghost use Rattle.dap_debuggee.specs.Shown.{to_start, to_resume, to_pause, to_poll, to_set_breakpoints, done, happened};
     ghost use Rattle.dap_debuggee.specs.Laws.{Replies, Tells, is_short, FramesInRange, NamesOneFrame};
@@ -276,6 +276,7 @@ impl Debuggee for Recorded {
     ) -> Result<(), AllocError>
         ensures follows { OnOk result (FollowsPlayed self.old (to_set_breakpoints source.now lines.now) done self.new) }
         ensures memory { OnErr result (self.new ≡ self.old) }
+        ensures some { OnErr result (0 < length lines.now) }
     {
         self.to_set(alloc, source, lines)
     }

@@ -86,7 +86,7 @@ impl<T: Drop> SourceMap<T> {
     fn put_path(&mut self, path: String, set: Vec<T>) -> Result<(), AllocError>
         requires { 0 < length set.items }
         ensures put { OnOk result (self.new ≡ in_place (record { source = Path (string_bytes path); set = set.items }) (of_others (Path (string_bytes path)) self.old)) }
-        ensures memory { OnErr result (self.new ≡ self.old) }
+        ensures err { OnErr result (self.new ≡ self.old) }
     {
         self.paths.insert(path, set)?;
         Ok(())
@@ -95,7 +95,7 @@ impl<T: Drop> SourceMap<T> {
     fn put_reference(&mut self, reference: u64, set: Vec<T>) -> Result<(), AllocError>
         requires { 0 < length set.items }
         ensures put { OnOk result (self.new ≡ in_place (record { source = Reference reference; set = set.items }) (of_others (Reference reference) self.old)) }
-        ensures memory { OnErr result (self.new ≡ self.old) }
+        ensures err { OnErr result (self.new ≡ self.old) }
     {
         self.references.insert(reference, set)?;
         Ok(())
@@ -104,7 +104,7 @@ impl<T: Drop> SourceMap<T> {
     fn put_some(&mut self, source: SourceKey, set: Vec<T>) -> Result<(), AllocError>
         requires { 0 < length set.items }
         ensures put { OnOk result (self.new ≡ in_place (record { source = source; set = set.items }) (of_others source self.old)) }
-        ensures memory { OnErr result (self.new ≡ self.old) }
+        ensures err { OnErr result (self.new ≡ self.old) }
     {
         match source {
             SourceKey::Path(path) => self.put_path(path.into_string()?, set),
@@ -118,7 +118,8 @@ impl<T: Drop> SourceMap<T> {
     /// `AllocError` where memory is refused. The map is then as it was.
     pub fn put(&mut self, source: SourceKey, set: Vec<T>) -> Result<(), AllocError>
         ensures put { OnOk result (self.new ≡ with_set source set.items (of_others source self.old)) }
-        ensures memory { OnErr result (self.new ≡ self.old) }
+        ensures err { OnErr result (self.new ≡ self.old) }
+        ensures memory { OnErr result (0 < length set.items) }
     {
         if set.is_empty() {
             self.remove(&source);
