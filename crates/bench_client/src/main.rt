@@ -5,8 +5,9 @@
 #![tactic(auto)]
 
 use dap_client::{Client, ClientFault, Phase, SendFault};
-use dap_frame::{FrameFault, Frames, Limits};
-use dap_message::{Call, Command, Kind, Message, Scratch, read_call, read_message_with};
+use dap_frame::Limits;
+use dap_message::{Call, Command, Kind, Message, read_call};
+use dap_reader::{MessageReader, Next, ReadFault};
 use std::alloc::{AllocError, Global};
 use std::fs::File;
 use std::io;
@@ -39,9 +40,12 @@ impl From<io::Error> for Failure {
     }
 }
 
-impl From<FrameFault> for Failure {
-    fn from(_refused: FrameFault) -> Failure {
-        Failure::Requests
+impl From<ReadFault> for Failure {
+    fn from(fault: ReadFault) -> Failure {
+        match fault {
+            ReadFault::OutOfMemory => Failure::Memory,
+            _ => Failure::Requests,
+        }
     }
 }
 
@@ -58,9 +62,7 @@ impl From<ClientFault> for Failure {
 #[derive(Drop)]
 struct Requests<'a> {
     rest: &'a [u8],
-    frames: Frames,
-    /// Kept from body to body.
-    scratch: Scratch,
+    reader: MessageReader,
     read: u64,
 }
 
@@ -95,17 +97,12 @@ fn call_of(alloc: Global, message: Message) -> Result<Option<Call>, Failure> {
 
 /// The next message of the file.
 fn next_message(alloc: Global, requests: &mut Requests<'_>) -> Result<Message, Failure> {
-    let fed = requests.frames.feed(requests.rest)?;
-    let (_, rest) = requests.rest.split_at(fed.used.min(requests.rest.len()));
+    let Next { used, message } = requests.reader.next(alloc, requests.rest)?;
+    let (_, rest) = requests.rest.split_at(used);
     requests.rest = rest;
-    let read = match requests.frames.body() {
-        Some(body) => read_message_with(alloc, body, &mut requests.scratch),
-        None => return Err(Failure::Requests),
-    };
-    requests.frames.release();
-    match read {
-        Ok(message) => Ok(message),
-        Err(_) => Err(Failure::Requests),
+    match message {
+        Some(message) => Ok(message),
+        None => Err(Failure::Requests),
     }
 }
 
@@ -173,13 +170,12 @@ fn take(alloc: Global, replay: &mut Replay<'_>, piece: &[u8]) -> Result<(), Fail
 /// A client that took nothing, with the requests that it is to send.
 fn opened<'a>(alloc: Global, requests: &'a [u8]) -> Result<Replay<'a>, Failure> {
     let client = Client::open(alloc, Limits::usual())?;
-    let frames = Frames::open(alloc, &Limits::usual())?;
+    let reader = MessageReader::open(alloc, &Limits::usual())?;
     Ok(Replay {
         client,
         requests: Requests {
             rest: requests,
-            frames,
-            scratch: Scratch::new(alloc),
+            reader,
             read: 0,
         },
         next: None,

@@ -1,4 +1,4 @@
--- An adapter stands for the bytes that come, from what the reader of frames says.
+-- An adapter stands for the bytes that come, from what the reader of messages says.
 use Rattle.std.proofs.Common.{◌≡◌, ℕ, List, [], ◌∷◌, ◌++◌, Option, Some, None, Ok, refl, ap, sym, ◌∙◌, take}
 use Rattle.std.proofs.lemmas.List.{append-nil}
 use Rattle.dap_frame.specs.Feeds.{Completes, Gathers}
@@ -85,10 +85,10 @@ received grow ranges laws within follows old new from to piece taken None a b bo
 received grow ranges laws within follows old new from to piece taken (Some m) a b bounds limits fault d =
     let has = rw (a, b) at d.has_taken in
     let same = rw (a, b) at d.debuggee in
-    let goes = delivers-goes_on grow laws within old new d.whole.ready piece taken.used m (at_once has.made) has.made d.whole.completes d.read d.under_way bounds d.released has.is refl has.by.session limits fault in
+    let goes = delivers-goes_on grow laws within old new d.gives.whole.ready piece taken.used m (at_once has.made) has.made d.gives.whole.completes d.gives.read d.gives.under_way bounds d.gives.stands has.is refl has.by.session limits fault in
     record {
-      whole = d.whole;
-      read = d.read;
+      whole = d.gives.whole;
+      read = d.gives.read;
       plan = at_once has.made;
       is = has.is;
       step = record {

@@ -1,7 +1,6 @@
--- Why a call on a piece is refused, from what the reader of frames, the reader of messages and the session say.
-use Rattle.std.proofs.Common.{◌≡◌, ℕ, ◌+◌, ◌<◌, length, List, Bool, true, false, nat_le, Ok, Err, subst, if◌then◌else◌}
-use Rattle.dap_frame.specs.declared.frames.FrameFault.{FrameFault}
-use Rattle.dap_frame.specs.Feeds.{Completes, Closes}
+-- Why a call on a piece is refused, from what the reader of messages and the session say.
+use Rattle.std.proofs.Common.{◌≡◌, ℕ, ◌+◌, List, Bool, true, false, nat_le, Ok, Err, subst, if◌then◌else◌}
+use Rattle.dap_frame.specs.Feeds.{Completes}
 use Rattle.dap_frame.specs.Intake.{Intake}
 use Rattle.dap_message.specs.Meaning.{Msg}
 use Rattle.dap_message.specs.declared.message.Message.{Message}
@@ -18,19 +17,16 @@ use Rattle.dap_session.specs.Session.{Session}
 use Rattle.dap_session.specs.Table.{is_phase}
 use Rattle.dap_session.specs.Taking.{takes_as, taken_in}
 use Rattle.dap_adapter.specs.Calls.{TakeRefused}
-use Rattle.dap_adapter.specs.Receives.{IsUnread}
+use Rattle.dap_adapter.specs.Receives.{IsBy}
+use Rattle.dap_reader.specs.Reader.{IsRefused}
+use Rattle.dap_reader.specs.declared.fault.ReadFault.{ReadFault}
+use Rattle.dap_reader.specs.declared.fault.ReadFault.TheVariants as read
 
-pub closed_refused : (old new : Intake) (s : Session) (piece : List ℕ) (fault : FrameFault) → 0 < length piece → Closes old new piece fault → TakeRefused old s piece (Frame fault)
-closed_refused old new s piece fault h c = record { some = h; closed = new; closes = c }
-
-pub unread_refused : (old ready : Intake) (s : Session) (piece : List ℕ) (n : ℕ) (fault : AdapterFault) → Completes old ready piece n → IsUnread ready fault → TakeRefused old s piece fault
-unread_refused old ready s piece n (Body cause offset) c u = record { n = n; whole = record { ready = ready; completes = c }; bad = u.0; starts = u.1 }
-unread_refused old ready s piece n OutOfMemory c u = (n, record { ready = ready; completes = c })
-unread_refused old ready s piece n (Frame f) c u = absurd u
-unread_refused old ready s piece n (RepeatedSeq seq) c u = absurd u
-unread_refused old ready s piece n (Unmatched seq) c u = absurd u
-unread_refused old ready s piece n Ended c u = absurd u
-unread_refused old ready s piece n SeqExhausted c u = absurd u
+pub reader_refused : (old : Intake) (s : Session) (piece : List ℕ) (r : ReadFault) (f : AdapterFault) → IsRefused old piece r → IsBy r f → TakeRefused old s piece f
+reader_refused old s piece (read.Frame cause) f h is = rw is h
+reader_refused old s piece (read.Body cause offset) f h is = rw is h
+reader_refused old s piece read.OutOfMemory f h is = rw is h
+reader_refused old s piece read.Closed f h is = absurd is
 
 -- the faults that a session has by a message
 abbrev IsOfSession : AdapterFault → Type 0

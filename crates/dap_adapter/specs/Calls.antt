@@ -1,7 +1,7 @@
 -- What the calls of an adapter do, as their contracts say it.
 use Rattle.std.specs.Prelude.{◌≡◌, ℕ, ◌+◌, ◌<◌, ◌≤◌, List, [], ◌∷◌, ◌++◌, length, take, Option, Some, None, Ok, Err, ⊤, true}
 use Rattle.dap_frame.specs.Feeds.{Gathers}
-use Rattle.dap_frame.specs.Intake.{Intake, IsUnderWay}
+use Rattle.dap_frame.specs.Intake.{Intake}
 use Rattle.dap_frame.specs.Settings.{Settings, bounds_of}
 use Rattle.dap_history.specs.History.{Entry, In}
 use Rattle.dap_history.specs.Pieces.{Whole, FrameClosed, BodyRefused, NeedsMemory}
@@ -21,6 +21,7 @@ use Rattle.dap_session.specs.Plan.{Made, Plan, numbered, bytes_of, entries_of}
 use Rattle.dap_session.specs.Polling.{polls, has_debuggee}
 use Rattle.dap_session.specs.Seat.{IsUnasked}
 use Rattle.dap_session.specs.Session.{Session, to_handle}
+use Rattle.dap_reader.specs.Reader.{Reader}
 use Rattle.dap_adapter.specs.End.{End}
 use Rattle.dap_adapter.specs.StandsFor.{StandsFor, GoesOn}
 use Rattle.dap_session.specs.Taking.{takes}
@@ -115,8 +116,8 @@ PollRefused follows old fault new = ⊥
 -- ---- what holds between calls
 
 -- what holds of every adapter
-pub record IsAdapter (limits : Settings) (intake : Intake) (fault : Option AdapterFault) : Type 0 where
-  pub bounds : intake.bounds ≡ bounds_of limits
-  pub under_way : fault ≡ None → IsUnderWay intake
+pub record IsAdapter (limits : Settings) (reader : Reader) (fault : Option AdapterFault) : Type 0 where
+  pub bounds : reader.intake.bounds ≡ bounds_of limits
+  pub reads : fault ≡ None → reader.fault ≡ None
   -- after a fault nothing is held
-  pub given_up : (f : AdapterFault) → fault ≡ Some f → intake.held ≡ []
+  pub closed : (f : AdapterFault) → fault ≡ Some f → reader.intake.held ≡ []

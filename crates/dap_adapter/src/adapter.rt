@@ -2,20 +2,20 @@
 ghost use Rattle.std.specs.Prelude.{◌≡◌, ◌≢◌, ℕ, List, ◌<◌, ◌≤◌, [], length, max, IfOk, IfErr, OnOk, OnErr, IfSome, Some, None, Ok, Err, IsOk, false};
 ghost use Rattle.dap_debuggee.specs.declared.answers.State.{State};
 ghost use Rattle.dap_frame.specs.Ends.{EndsWith};
-ghost use Rattle.dap_frame.specs.Intake.{IsReady, IsUnderWay, StandsFor as StandsForStream};
+ghost use Rattle.dap_frame.specs.Intake.{StandsFor as StandsForStream};
 ghost use Rattle.dap_frame.specs.declared.frames.End.{End};
-ghost use Rattle.dap_message.specs.Meaning.{Msg};
 ghost use Rattle.dap_adapter.specs.Calls.{TakeRefused};
-ghost use Rattle.dap_adapter.specs.Receives.{HasReceived, IsUnread};
+ghost use Rattle.dap_adapter.specs.Receives.{HasReceived, IsBy};
+ghost use Rattle.dap_reader.specs.declared.fault.ReadFault.{ReadFault};
 ghost use Rattle.dap_tables.specs.SourceMap.{count};
 ghost use Rattle.dap_session.specs.Session.{fresh_session, oldest};
 
 use crate::taken::{Taken, Turned};
 use dap_debuggee::Debuggee;
-use dap_frame::{End, Frames, Limits};
+use dap_frame::{End, Limits};
 use dap_history::laws::histories_grow;
 use dap_message::laws::read_is_in_range;
-use dap_message::{BodyFault, Message, Scratch, read_message_with};
+use dap_reader::{MessageReader, Next, ReadFault};
 use dap_session::laws::{each_step_goes_on, each_step_stays_within};
 use dap_session::{AdapterFault, Phase, Session};
 use std::alloc::{AllocError, Global};
@@ -25,9 +25,7 @@ use std::marker::Model;
 #[derive(Drop)]
 pub struct Adapter<D: Debuggee + Drop> {
     session: Session<D>,
-    frames: Frames,
-    /// Kept from body to body.
-    scratch: Scratch,
+    reader: MessageReader,
     fault: Option<AdapterFault>,
 }
 
@@ -41,9 +39,9 @@ impl<D: Debuggee + Drop> Model for Adapter<D> {
 
     ghost coded = { Prim.hlevel (codes, coded_data, D.code) };
 
-    ghost view = { λ a. record { session = a.session.session; intake = a.frames; fault = a.fault; debuggee = a.session.debuggee } };
+    ghost view = { λ a. record { session = a.session.session; intake = a.reader.intake; fault = a.fault; debuggee = a.session.debuggee } };
 
-    ghost invariant = { λ a. IsAdapter a.session.session.limits a.frames a.fault };
+    ghost invariant = { λ a. IsAdapter a.session.session.limits a.reader a.fault };
 }
 
 impl<D: Debuggee + Drop> Adapter<D> {
@@ -61,12 +59,11 @@ impl<D: Debuggee + Drop> Adapter<D> {
         ensures stands { IfOk result (λ a. StandsFor a [] []) }
     {
         histories_grow();
-        let frames = Frames::open(alloc, &limits)?;
+        let reader = MessageReader::open(alloc, &limits)?;
         let session = Session::open(alloc, limits, debuggee)?;
         Ok(Adapter {
             session,
-            frames,
-            scratch: Scratch::new(alloc),
+            reader,
             fault: None,
         })
     }
@@ -109,7 +106,7 @@ impl<D: Debuggee + Drop> Adapter<D> {
         ensures closed { IfSome self.now.fault (λ fault. result ≡ 0) }
     {
         let _ = &self.fault;
-        self.frames.held()
+        self.reader.held()
     }
 
     /// Uses the bytes of a piece up to the end of one frame at most, and delivers the message that becomes whole.
@@ -144,16 +141,10 @@ impl<D: Debuggee + Drop> Adapter<D> {
         read_is_in_range();
         each_step_goes_on();
         each_step_stays_within();
-        match receive(
-            alloc,
-            &mut self.frames,
-            &mut self.scratch,
-            &mut self.session,
-            piece,
-        ) {
+        match receive(alloc, &mut self.reader, &mut self.session, piece) {
             Ok(taken) => Ok(taken),
             Err(fault) => {
-                self.frames.close();
+                self.reader.close();
                 self.fault = Some(fault);
                 Err(fault)
             }
@@ -245,7 +236,7 @@ impl<D: Debuggee + Drop> Adapter<D> {
         ensures open { self.now.fault ≡ None → result ≢ End.Refused }
     {
         let _ = &self.fault;
-        self.frames.finish()
+        self.reader.finish()
     }
 
     /// Nothing more is taken or handed out.
@@ -255,67 +246,55 @@ impl<D: Debuggee + Drop> Adapter<D> {
         ensures held { self.new.intake.held ≡ [] }
         ensures fault { self.new.fault ≡ Some fault }
     {
-        self.frames.close();
+        self.reader.close();
         self.fault = Some(fault);
     }
 }
 
-/// The message that the ready body is.
-fn read_body(
-    alloc: Global,
-    frames: &mut Frames,
-    scratch: &mut Scratch,
-) -> Result<Message, AdapterFault>
-    requires { IsReady frames.old }
-    ensures same { frames.new ≡ frames.old }
-    ensures read { IfOk result (Msg frames.old.held) }
-    ensures fault { IfErr result (IsUnread frames.old) }
+/// The fault of an adapter whose stream is refused.
+fn refused_by(fault: ReadFault) -> AdapterFault
+    requires { fault ≢ ReadFault.Closed }
+    ensures { IsBy fault result }
 {
-    let offset = frames.offset();
-    let Some(body) = frames.body() else {
-        unreachable!()
-    };
-    match read_message_with(alloc, body, scratch) {
-        Ok(message) => Ok(message),
-        Err(BodyFault::Refused(cause)) => Err(AdapterFault::Body { cause, offset }),
-        Err(BodyFault::OutOfMemory) => Err(AdapterFault::OutOfMemory),
+    match fault {
+        ReadFault::Frame(fault) => AdapterFault::Frame(fault),
+        ReadFault::Body { cause, offset } => AdapterFault::Body { cause, offset },
+        ReadFault::OutOfMemory => AdapterFault::OutOfMemory,
+        ReadFault::Closed => unreachable!(),
     }
 }
 
 /// Takes bytes up to the end of a frame at most, and hands its message to the session.
 fn receive<D: Debuggee + Drop>(
     alloc: Global,
-    frames: &mut Frames,
-    scratch: &mut Scratch,
+    reader: &mut MessageReader,
     session: &mut Session<D>,
     piece: &[u8],
 ) -> Result<Taken, AdapterFault>
-    requires { IsUnderWay frames.old }
-    ensures bounds { frames.new.bounds ≡ frames.old.bounds }
-    ensures under_way { OnOk result (IsUnderWay frames.new) }
-    ensures received { IfOk result (λ taken. HasReceived frames.old frames.new session.old session.new piece.now taken taken.delivered) }
+    requires { reader.old.fault ≡ None }
+    ensures bounds { reader.new.intake.bounds ≡ reader.old.intake.bounds }
+    ensures open { OnOk result (reader.new.fault ≡ None) }
+    ensures received { IfOk result (λ taken. HasReceived reader.old.intake reader.new.intake session.old session.new piece.now taken taken.delivered) }
     ensures progress { IfOk result (λ taken. 0 < length piece.now → 0 < taken.used) }
     ensures within { IfOk result (λ taken. taken.used ≤ length piece.now) }
-    ensures refused { IfErr result (λ fault. TakeRefused frames.old session.old.session piece.now fault) }
+    ensures refused { IfErr result (λ fault. TakeRefused reader.old.intake session.old.session piece.now fault) }
     ensures err { OnErr result (session.new ≡ session.old) }
     ensures limits { session.new.session.limits ≡ session.old.session.limits }
 {
-    let fed = match frames.feed(piece) {
-        Ok(fed) => fed,
-        Err(fault) => return Err(AdapterFault::Frame(fault)),
+    let Next { used, message } = match reader.next(alloc, piece) {
+        Ok(next) => next,
+        Err(fault) => return Err(refused_by(fault)),
     };
-    if !fed.ready {
+    let Some(message) = message else {
         return Ok(Taken {
-            used: fed.used,
+            used,
             delivered: None,
             bytes: Vec::new(alloc),
         });
-    }
-    let message = read_body(alloc, frames, scratch)?;
-    frames.release();
+    };
     let bytes = session.take(alloc, &message)?;
     Ok(Taken {
-        used: fed.used,
+        used,
         delivered: Some(message),
         bytes,
     })

@@ -1,4 +1,4 @@
--- A client stands for the bytes that come and for what it hands out, from what the reader of frames and the session say.
+-- A client stands for the bytes that come and for what it hands out, from what the reader of messages and the session say.
 use Rattle.std.proofs.Common.{◌≡◌, ℕ, List, [], ◌∷◌, ◌++◌, Option, Some, None, Result, Ok, Err, refl, ap, subst, sym, ◌∙◌, take}
 use Rattle.std.specs.Prelude.{OnOk}
 use Rattle.std.proofs.lemmas.List.{append-nil}
@@ -21,6 +21,7 @@ use Rattle.dap_client.specs.Session.{Session, fresh_session}
 use Rattle.dap_client.specs.StandsFor.{StandsFor, GoesOn}
 use Rattle.dap_client.specs.Taking.{Made, takes, entries_of, bytes_of}
 use Rattle.dap_client.specs.Within.{EachStepStaysWithin}
+use Rattle.dap_reader.specs.Reader.{Reader, StandsFor as ReaderStandsFor}
 use Rattle.dap_client.specs.declared.fault.ClientFault.{ClientFault}
 use Rattle.dap_client.specs.declared.got.Got.{Got}
 
@@ -30,14 +31,14 @@ none-met None never = refl
 none-met (Some f) never = absurd (never f refl)
 
 -- nothing was used, and nothing came
-pub opened : EachStepGoesOn → EachStepStaysWithin → (e : End) (limits : Settings) → e.fault ≡ None → e.session ≡ fresh_session limits → e.intake.bounds ≡ bounds_of limits
-    → IsUnderWay e.intake → StandsForStream e.intake [] [] [] → StandsFor e [] []
-opened laws within e limits fault fresh bounds under_way stream = record {
+pub opened : EachStepGoesOn → EachStepStaysWithin → (r : Reader) (e : End) (limits : Settings) → e.fault ≡ None → e.session ≡ fresh_session limits → e.intake ≡ r.intake → r.intake.bounds ≡ bounds_of limits
+    → ReaderStandsFor r [] [] → StandsFor e [] []
+opened laws within r e limits fault fresh same bounds st = record {
   no_fault = fault;
-  received = record { under_way = under_way; bodies = []; rest = []; stream = stream; read = tt };
+  received = rw same (record { under_way = st.under_way; bodies = st.bodies; rest = st.rest; stream = st.stream; read = st.read });
   session = rw fresh (laws.opened limits);
   within = rw fresh (within.fresh limits);
-  bounds = rw fresh bounds;
+  bounds = rw (fresh, same) bounds;
 }
 
 -- a request more went
@@ -128,12 +129,12 @@ received grow laws within old new piece got None bounds limits fault w =
 received grow laws within old new piece got (Some m) bounds limits fault d =
     let x = made-of (takes m old.session) new.session got.bytes.items d.made in
     record {
-      whole = d.whole;
-      read = d.read;
+      whole = d.gives.whole;
+      read = d.gives.read;
       made = x.0;
       is = x.1;
       session = x.2;
       bytes_are = x.3;
       reads_back = back-of old.session.limits.body (takes m old.session) x.0 x.1 d.reads_back;
-      goes_on = delivers-goes_on grow laws within old new d.whole.ready piece got.used m x.0 d.whole.completes d.read d.under_way bounds d.released x.1 x.2 limits fault;
+      goes_on = delivers-goes_on grow laws within old new d.gives.whole.ready piece got.used m x.0 d.gives.whole.completes d.gives.read d.gives.under_way bounds d.gives.stands x.1 x.2 limits fault;
     }

@@ -1,9 +1,8 @@
--- Why a call on a piece is refused, from what the reader of frames, the reader of messages and the session say.
-use Rattle.std.proofs.Common.{◌≡◌, ℕ, ◌<◌, length, List, Bool, true, false, Option, Some, None, Result, Ok, Err, refl, subst, true≢false}
+-- Why a call on a piece is refused, from what the session says.
+use Rattle.std.proofs.Common.{◌≡◌, ℕ, length, List, Bool, true, false, Option, Some, None, Result, Ok, Err, refl, subst, true≢false}
 use Rattle.std.specs.Prelude.{bytes_eq, nat_le, nat_lt, if◌then◌else◌}
 use Rattle.serde_json.specs.Data.{Data}
-use Rattle.dap_frame.specs.declared.frames.FrameFault.{FrameFault}
-use Rattle.dap_frame.specs.Feeds.{Completes, Closes}
+use Rattle.dap_frame.specs.Feeds.{Completes}
 use Rattle.dap_frame.specs.Intake.{Intake}
 use Rattle.dap_message.specs.Command.{command_named}
 use Rattle.dap_message.specs.Meaning.{Msg}
@@ -16,23 +15,9 @@ use Rattle.dap_client.specs.declared.fault.ClientFault.{ClientFault}
 use Rattle.dap_client.specs.declared.fault.ClientFault.TheVariants as fault
 use Rattle.dap_client.specs.Calls.{TakeRefused}
 use Rattle.dap_client.specs.Keeping.{IsWhyClosed}
-use Rattle.dap_client.specs.Receives.{IsUnread}
 use Rattle.dap_client.specs.Seen.{learned, after_response}
 use Rattle.dap_client.specs.Session.{Session}
 use Rattle.dap_client.specs.Taking.{Made, takes, takes_as, takes_answer, answered_within, declined, answered}
-
-pub closed_refused : (old new : Intake) (s : Session) (piece : List ℕ) (x : FrameFault) → 0 < length piece → Closes old new piece x → TakeRefused old s piece (fault.Frame x)
-closed_refused old new s piece x h c = record { some = h; closed = new; closes = c }
-
-pub unread_refused : (old ready : Intake) (s : Session) (piece : List ℕ) (n : ℕ) (f : ClientFault) → Completes old ready piece n → IsUnread ready f → TakeRefused old s piece f
-unread_refused old ready s piece n (fault.Body cause offset) c u = record { n = n; whole = record { ready = ready; completes = c }; bad = u.0; starts = u.1 }
-unread_refused old ready s piece n fault.OutOfMemory c u = (n, record { ready = ready; completes = c })
-unread_refused old ready s piece n (fault.Frame x) c u = absurd u
-unread_refused old ready s piece n (fault.Unmatched seq) c u = absurd u
-unread_refused old ready s piece n (fault.CommandMismatch seq) c u = absurd u
-unread_refused old ready s piece n (fault.RepeatedSeq seq) c u = absurd u
-unread_refused old ready s piece n fault.ReferenceLimit c u = absurd u
-unread_refused old ready s piece n fault.SeqExhausted c u = absurd u
 
 -- a fault of the stream, not of a message
 abbrev is_of_stream : ClientFault → Bool

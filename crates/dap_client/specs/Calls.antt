@@ -1,7 +1,7 @@
 -- What the calls of a client do, as their contracts say it.
 use Rattle.std.specs.Prelude.{◌≡◌, ℕ, List, [], ◌∷◌, take, Option, Some, None, Ok, Err, is_some}
 use Rattle.dap_frame.specs.Feeds.{Gathers}
-use Rattle.dap_frame.specs.Intake.{Intake, IsUnderWay}
+use Rattle.dap_frame.specs.Intake.{Intake}
 use Rattle.dap_frame.specs.Settings.{Settings, bounds_of}
 use Rattle.dap_history.specs.History.{In}
 use Rattle.dap_history.specs.Pieces.{Whole, FrameClosed, BodyRefused, NeedsMemory}
@@ -19,6 +19,7 @@ use Rattle.dap_client.specs.Sending.{first_of, refusals_in_order}
 use Rattle.dap_client.specs.Session.{Session}
 use Rattle.dap_client.specs.StandsFor.{GoesOn}
 use Rattle.dap_client.specs.Taking.{Made, takes, entries_of, bytes_of}
+use Rattle.dap_reader.specs.Reader.{Reader}
 
 -- ---- send
 
@@ -73,8 +74,8 @@ TakeRefused old s piece fault = ClosedBy old s piece fault
 -- ---- what holds between calls
 
 -- what holds of every client
-pub record IsClient (limits : Settings) (intake : Intake) (fault : Option ClientFault) : Type 0 where
-  pub bounds : intake.bounds ≡ bounds_of limits
-  pub under_way : fault ≡ None → IsUnderWay intake
+pub record IsClient (limits : Settings) (reader : Reader) (fault : Option ClientFault) : Type 0 where
+  pub bounds : reader.intake.bounds ≡ bounds_of limits
+  pub reads : fault ≡ None → reader.fault ≡ None
   -- after a fault nothing is held
-  pub given_up : (f : ClientFault) → fault ≡ Some f → intake.held ≡ []
+  pub closed : (f : ClientFault) → fault ≡ Some f → reader.intake.held ≡ []

@@ -1,12 +1,11 @@
 //! A client, call by call.
-ghost use Rattle.std.specs.Prelude.{◌≡◌, ℕ, ◌+◌, ◌<◌, ◌≤◌, List, [], ◌∷◌, length, max, IfOk, IfErr, OnOk, OnErr, IfSome, IsTrue, None, Some, Err};
-ghost use Rattle.dap_frame.specs.Intake.{IsReady, IsUnderWay};
+ghost use Rattle.std.specs.Prelude.{◌≡◌, ◌≢◌, ℕ, ◌+◌, ◌<◌, ◌≤◌, List, [], ◌∷◌, length, max, IfOk, IfErr, OnOk, OnErr, IfSome, IsTrue, None, Some, Err};
 ghost use Rattle.dap_history.specs.History.{Entry, Out, Went, waiting};
-ghost use Rattle.dap_message.specs.Meaning.{Msg};
 ghost use Rattle.dap_message.specs.PlainCall.{is_plain_call};
 ghost use Rattle.dap_message.specs.ReadBack.{ReadsBack};
 ghost use Rattle.dap_client.specs.Calls.{refusal_of, NotSent, Takes, TakeRefused};
-ghost use Rattle.dap_client.specs.Receives.{HasReceived, IsUnread};
+ghost use Rattle.dap_client.specs.Receives.{HasReceived, IsBy};
+ghost use Rattle.dap_reader.specs.declared.fault.ReadFault.{ReadFault};
 ghost use Rattle.dap_client.specs.Seen.{phase_in, ready_in, capabilities_in, references_in};
 ghost use Rattle.dap_client.specs.Sending.{next_message, sent_bytes, after_send};
 ghost use Rattle.dap_client.specs.Session.{fresh_session};
@@ -17,10 +16,11 @@ use crate::got::{Got, Sent};
 use crate::laws::{each_step_goes_on, each_step_stays_within};
 use crate::phase::Phase;
 use crate::session::Session;
-use dap_frame::{Frames, Limits};
+use dap_frame::Limits;
 use dap_history::laws::histories_grow;
 use dap_message::laws::read_is_in_range;
-use dap_message::{BodyFault, Call, Capabilities, Message, Scratch, read_message_with};
+use dap_message::{Call, Capabilities};
+use dap_reader::{MessageReader, Next, ReadFault};
 use std::alloc::{AllocError, Global};
 use std::marker::Model;
 
@@ -28,9 +28,7 @@ use std::marker::Model;
 #[derive(Drop)]
 pub struct Client {
     session: Session,
-    frames: Frames,
-    /// Kept from body to body.
-    scratch: Scratch,
+    reader: MessageReader,
     fault: Option<ClientFault>,
 }
 
@@ -44,9 +42,9 @@ impl Model for Client {
 
     ghost coded = { Prim.hlevel (codes, coded_data) };
 
-    ghost view = { λ c. record { session = c.session; intake = c.frames; fault = c.fault } };
+    ghost view = { λ c. record { session = c.session; intake = c.reader.intake; fault = c.fault } };
 
-    ghost invariant = { λ c. IsClient c.session.limits c.frames c.fault };
+    ghost invariant = { λ c. IsClient c.session.limits c.reader c.fault };
 }
 
 impl Client {
@@ -58,12 +56,11 @@ impl Client {
     {
         each_step_goes_on();
         each_step_stays_within();
-        let frames = Frames::open(alloc, &limits)?;
+        let reader = MessageReader::open(alloc, &limits)?;
         let session = Session::open(alloc, limits)?;
         Ok(Client {
             session,
-            frames,
-            scratch: Scratch::new(alloc),
+            reader,
             fault: None,
         })
     }
@@ -118,7 +115,7 @@ impl Client {
         ensures closed { IfSome self.now.fault (λ fault. result ≡ 0) }
     {
         let _ = &self.fault;
-        self.frames.held()
+        self.reader.held()
     }
 
     /// Sends a call: the framed request, with the next own number. A refused call changes nothing, and the client goes on.
@@ -182,16 +179,10 @@ impl Client {
         histories_grow();
         each_step_goes_on();
         each_step_stays_within();
-        match receive(
-            alloc,
-            &mut self.frames,
-            &mut self.scratch,
-            &mut self.session,
-            piece,
-        ) {
+        match receive(alloc, &mut self.reader, &mut self.session, piece) {
             Ok(got) => Ok(got),
             Err(fault) => {
-                self.frames.close();
+                self.reader.close();
                 self.fault = Some(fault);
                 Err(fault)
             }
@@ -199,64 +190,52 @@ impl Client {
     }
 }
 
-/// The message that the ready body is.
-fn read_body(
-    alloc: Global,
-    frames: &mut Frames,
-    scratch: &mut Scratch,
-) -> Result<Message, ClientFault>
-    requires { IsReady frames.old }
-    ensures same { frames.new ≡ frames.old }
-    ensures read { IfOk result (Msg frames.old.held) }
-    ensures fault { IfErr result (IsUnread frames.old) }
+/// The fault of a client whose stream is refused.
+fn refused_by(fault: ReadFault) -> ClientFault
+    requires { fault ≢ ReadFault.Closed }
+    ensures { IsBy fault result }
 {
-    let offset = frames.offset();
-    let Some(body) = frames.body() else {
-        unreachable!()
-    };
-    match read_message_with(alloc, body, scratch) {
-        Ok(message) => Ok(message),
-        Err(BodyFault::Refused(cause)) => Err(ClientFault::Body { cause, offset }),
-        Err(BodyFault::OutOfMemory) => Err(ClientFault::OutOfMemory),
+    match fault {
+        ReadFault::Frame(fault) => ClientFault::Frame(fault),
+        ReadFault::Body { cause, offset } => ClientFault::Body { cause, offset },
+        ReadFault::OutOfMemory => ClientFault::OutOfMemory,
+        ReadFault::Closed => unreachable!(),
     }
 }
 
 /// Takes bytes up to the end of a frame at most, and hands its message to the session.
 fn receive(
     alloc: Global,
-    frames: &mut Frames,
-    scratch: &mut Scratch,
+    reader: &mut MessageReader,
     session: &mut Session,
     piece: &[u8],
 ) -> Result<Got, ClientFault>
-    requires { IsUnderWay frames.old }
-    ensures bounds { frames.new.bounds ≡ frames.old.bounds }
-    ensures under_way { OnOk result (IsUnderWay frames.new) }
-    ensures received { IfOk result (λ got. HasReceived frames.old frames.new session.old session.new piece.now got got.delivered) }
+    requires { reader.old.fault ≡ None }
+    ensures bounds { reader.new.intake.bounds ≡ reader.old.intake.bounds }
+    ensures open { OnOk result (reader.new.fault ≡ None) }
+    ensures received { IfOk result (λ got. HasReceived reader.old.intake reader.new.intake session.old session.new piece.now got got.delivered) }
     ensures progress { IfOk result (λ got. 0 < length piece.now → 0 < got.used) }
     ensures within { IfOk result (λ got. got.used ≤ length piece.now) }
-    ensures refused { IfErr result (λ fault. TakeRefused frames.old session.old piece.now fault) }
+    ensures refused { IfErr result (λ fault. TakeRefused reader.old.intake session.old piece.now fault) }
     ensures err { OnErr result (session.new ≡ session.old) }
     ensures limits { session.new.limits ≡ session.old.limits }
 {
-    let fed = match frames.feed(piece) {
-        Ok(fed) => fed,
-        Err(fault) => return Err(ClientFault::Frame(fault)),
+    let Next { used, message } = match reader.next(alloc, piece) {
+        Ok(next) => next,
+        Err(fault) => return Err(refused_by(fault)),
     };
-    if !fed.ready {
+    let Some(message) = message else {
         return Ok(Got {
-            used: fed.used,
+            used,
             delivered: None,
             bytes: Vec::new(alloc),
         });
-    }
+    };
     // A law for the proof: what is read is in range.
     read_is_in_range();
-    let message = read_body(alloc, frames, scratch)?;
-    frames.release();
     let bytes = session.take(alloc, &message)?;
     Ok(Got {
-        used: fed.used,
+        used,
         delivered: Some(message),
         bytes,
     })

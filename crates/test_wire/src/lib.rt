@@ -22,4 +22,6 @@ mod messages;
 #[cfg(test)]
 mod readers;
 #[cfg(test)]
+mod streams;
+#[cfg(test)]
 mod trees;

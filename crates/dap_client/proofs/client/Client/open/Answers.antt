@@ -4,5 +4,5 @@ use Rattle.dap_client.proofs.client.Client.open.Goals as goal
 
 pub returns-clause-stands : goal.returns-clause-stands
 returns-clause-stands c =
-    opened c.each_step_goes_on.ensures c.each_step_stays_within.ensures (record { session = c.in_ok-session.session; intake = c.in_ok-frames.frames; fault = None }) c.args.limits
-    refl c.in_ok-session.ensures c.in_ok-frames.ensures.bounds c.in_ok-frames.ensures.under_way c.in_ok-frames.ensures.fresh
+    opened c.each_step_goes_on.ensures c.each_step_stays_within.ensures c.in_ok-reader.reader (record { session = c.in_ok-session.session; intake = c.in_ok-reader.reader.intake; fault = None }) c.args.limits
+    refl c.in_ok-session.ensures refl c.in_ok-reader.ensures.bounds c.in_ok-reader.ensures.stands

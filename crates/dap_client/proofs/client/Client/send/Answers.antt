@@ -6,7 +6,7 @@ use Rattle.dap_client.proofs.client.Client.send.Goals as goal
 
 pub returns-clause-goes_on : goal.returns-clause-goes_on
 returns-clause-goes_on c =
-    let old : End = record { session = c.self.inside.session; intake = c.self.inside.frames; fault = c.self.inside.fault } in
+    let old : End = record { session = c.self.inside.session; intake = c.self.inside.reader.intake; fault = c.self.inside.fault } in
     let call = c.args.call.now in
     on-both c.send.result
     (λ (sent : first_of refusals_in_order call c.is_some-closed.result old.session ≡ None) (session : c.send.new.self ≡ after_send call old.session).

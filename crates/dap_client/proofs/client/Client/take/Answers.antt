@@ -6,8 +6,8 @@ use Rattle.dap_client.proofs.client.Client.take.Goals as goal
 
 pub returns-in-Ok-clause-takes : goal.returns-in-Ok-clause-takes
 returns-in-Ok-clause-takes c =
-    let new : End = record { session = c.receive.new.session; intake = c.receive.new.frames; fault = c.self.inside.fault } in
-    let old : End = record { session = c.self.inside.session; intake = c.self.inside.frames; fault = c.self.inside.fault } in
+    let new : End = record { session = c.receive.new.session; intake = c.receive.new.reader.intake; fault = c.self.inside.fault } in
+    let old : End = record { session = c.self.inside.session; intake = c.self.inside.reader.intake; fault = c.self.inside.fault } in
     subst (λ (x : End). Takes x c.args.piece.now c.in-Ok.got c.in-Ok.got.delivered new) c.self.view_is
     (received c.histories_grow.ensures c.each_step_goes_on.ensures c.each_step_stays_within.ensures old new c.args.piece.now c.in-Ok.got c.in-Ok.got.delivered
     c.in-Ok.ensures.bounds c.in-Ok.ensures.limits (none-met c.self.inside.fault c.in_default.not-Some) c.in-Ok.ensures.received)

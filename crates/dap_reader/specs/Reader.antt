@@ -1,0 +1,58 @@
+-- A reader of messages: the bytes that it used, the messages that its whole frames are, and why it reads no more.
+-- Overview, "Base Protocol".
+use Rattle.std.specs.Prelude.{◌≡◌, ℕ, List, [], Option, Some, None}
+use Rattle.dap_frame.specs.Feeds.{Gathers}
+use Rattle.dap_frame.specs.Intake.{Intake, IsUnderWay, StandsFor as StandsForStream}
+use Rattle.dap_history.specs.Pieces.{Whole, FrameClosed, BodyRefused, NeedsMemory}
+use Rattle.dap_history.specs.Received.{AreRead}
+use Rattle.dap_message.specs.Meaning.{Msg}
+use Rattle.dap_message.specs.Refusals.{Bad}
+use Rattle.dap_message.specs.declared.message.Message.{Message}
+use Rattle.dap_reader.specs.declared.fault.ReadFault.{ReadFault}
+use Rattle.dap_reader.specs.declared.fault.ReadFault.TheVariants.{Frame, Body, OutOfMemory, Closed}
+
+-- what a reader is: its reader of frames, and why it reads no more
+pub record Reader : Type 0 where
+  pub intake : Intake
+  pub fault : Option ReadFault
+
+-- what holds of every reader
+pub record IsReader (intake : Intake) (fault : Option ReadFault) : Type 0 where
+  pub under_way : fault ≡ None → IsUnderWay intake
+  -- after a fault nothing is held
+  pub closed : (f : ReadFault) → fault ≡ Some f → intake.held ≡ []
+
+-- a message came whole, and its frame was given up
+pub record GivesOne (old new : Intake) (piece : List ℕ) (used : ℕ) (m : Message) : Type 0 where
+  pub whole : Whole old piece used
+  pub read : Msg whole.ready.held m
+  pub under_way : IsUnderWay new
+  pub stands : (s : List ℕ) (xs : List (List ℕ)) (rest : List ℕ) → StandsForStream whole.ready s xs rest → StandsForStream new s xs rest
+
+-- what a call of `next` does with the first bytes of a piece
+abbrev pub Gives : Intake → Intake → List ℕ → ℕ → Option Message → Type 0
+Gives old new piece used None = Gathers old new piece used
+Gives old new piece used (Some m) = GivesOne old new piece used m
+
+-- why a ready body is not read
+abbrev pub IsUnread : Intake → ReadFault → Type 0
+IsUnread i (Body cause offset) = Bad i.held cause × (offset ≡ i.start)
+IsUnread i OutOfMemory = Unit {0}
+IsUnread i (Frame fault) = ⊥
+IsUnread i Closed = ⊥
+
+-- why a call on a piece is refused
+abbrev pub IsRefused : Intake → List ℕ → ReadFault → Type 0
+IsRefused old piece (Frame fault) = FrameClosed old piece fault
+IsRefused old piece (Body cause offset) = BodyRefused old piece cause offset
+IsRefused old piece OutOfMemory = NeedsMemory old piece
+IsRefused old piece Closed = ⊥
+
+-- the reader, after the bytes s, whose whole frames are these messages
+pub record StandsFor (r : Reader) (s : List ℕ) (ms : List Message) : Type 0 where
+  pub no_fault : r.fault ≡ None
+  pub under_way : IsUnderWay r.intake
+  pub bodies : List (List ℕ)
+  pub rest : List ℕ
+  pub stream : StandsForStream r.intake s bodies rest
+  pub read : AreRead bodies ms
