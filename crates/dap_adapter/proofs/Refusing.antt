@@ -1,4 +1,4 @@
--- Why a call on a piece is refused, from what the reader of messages and the session say.
+-- Why a call on a piece is refused, from what the session says.
 use Rattle.std.proofs.Common.{◌≡◌, ℕ, ◌+◌, List, Bool, true, false, nat_le, Ok, Err, subst, if◌then◌else◌}
 use Rattle.dap_frame.specs.Feeds.{Completes}
 use Rattle.dap_frame.specs.Intake.{Intake}
@@ -17,16 +17,6 @@ use Rattle.dap_session.specs.Session.{Session}
 use Rattle.dap_session.specs.Table.{is_phase}
 use Rattle.dap_session.specs.Taking.{takes_as, taken_in}
 use Rattle.dap_adapter.specs.Calls.{TakeRefused}
-use Rattle.dap_adapter.specs.Receives.{IsBy}
-use Rattle.dap_reader.specs.Reader.{IsRefused}
-use Rattle.dap_reader.specs.declared.fault.ReadFault.{ReadFault}
-use Rattle.dap_reader.specs.declared.fault.ReadFault.TheVariants as read
-
-pub reader_refused : (old : Intake) (s : Session) (piece : List ℕ) (r : ReadFault) (f : AdapterFault) → IsRefused old piece r → IsBy r f → TakeRefused old s piece f
-reader_refused old s piece (read.Frame cause) f h is = rw is h
-reader_refused old s piece (read.Body cause offset) f h is = rw is h
-reader_refused old s piece read.OutOfMemory f h is = rw is h
-reader_refused old s piece read.Closed f h is = absurd is
 
 -- the faults that a session has by a message
 abbrev IsOfSession : AdapterFault → Type 0

@@ -1,9 +1,8 @@
 -- What a reader of messages stands for, from what its reader of frames says.
-use Rattle.std.proofs.Common.{arith, ◌≡◌, ℕ, List, [], ◌∷◌, ◌++◌, length, take, Option, Some, None, refl, sym, ap, option_to_list}
+use Rattle.std.proofs.Common.{arith, ◌≡◌, ℕ, List, [], ◌∷◌, ◌++◌, take, Option, Some, None, refl, option_to_list}
 use Rattle.std.proofs.lemmas.List.{append-nil, take_all}
-use Rattle.dap_frame.specs.Feeds.{Completes, Closes}
+use Rattle.dap_frame.specs.Feeds.{Completes}
 use Rattle.dap_frame.specs.Intake.{Intake}
-use Rattle.dap_frame.specs.declared.frames.FrameFault.{FrameFault}
 use Rattle.dap_history.specs.HistoryLaws.{HistoriesGrow}
 use Rattle.dap_message.specs.declared.message.Message.{Message}
 use Rattle.dap_reader.specs.Reader.{Reader, Gives, IsUnread, IsRefused, StandsFor}
