@@ -7,7 +7,7 @@
 use dap_client::{Client, ClientFault, Phase, SendFault};
 use dap_frame::Limits;
 use dap_message::{Call, Command, Kind, Message, read_call};
-use dap_reader::{MessageReader, Next, ReadFault};
+use dap_reader::{MessageReader, ReadFault};
 use std::alloc::{AllocError, Global};
 use std::fs::File;
 use std::io;
@@ -97,9 +97,7 @@ fn call_of(alloc: Global, message: Message) -> Result<Option<Call>, Failure> {
 
 /// The next message of the file.
 fn next_message(alloc: Global, requests: &mut Requests<'_>) -> Result<Message, Failure> {
-    let Next { used, message } = requests.reader.next(alloc, requests.rest)?;
-    let (_, rest) = requests.rest.split_at(used);
-    requests.rest = rest;
+    let message = requests.reader.next_in(alloc, &mut requests.rest)?;
     match message {
         Some(message) => Ok(message),
         None => Err(Failure::Requests),

@@ -10,17 +10,16 @@ use Rattle.dap_message.specs.InRange.{ReadIsInRange}
 use Rattle.dap_message.specs.declared.message.Message.{Message}
 use Rattle.dap_debuggee.specs.Shown.{Shown}
 use Rattle.dap_session.specs.declared.fault.AdapterFault.{AdapterFault}
-use Rattle.dap_session.specs.declared.fault.AdapterFault.TheVariants.{SeqExhausted, OutOfMemory, Frame, Body, RepeatedSeq, Unmatched, Ended}
 use Rattle.dap_session.specs.Carried.{Goes, CarriedOut}
 use Rattle.dap_session.specs.Follows.{Follows}
 use Rattle.dap_session.specs.Laws.{CanMake, EachStepGoesOn}
 use Rattle.dap_session.specs.Plan.{Made, Plan, at_once, asking, entries_of}
 use Rattle.dap_session.specs.Polling.{polls}
-use Rattle.dap_session.specs.Seat.{Seat, Carries, HasTurned, HasTooMany, IsRefusedPoll}
+use Rattle.dap_session.specs.SessionState.{SessionState, Carries, HasTurned}
 use Rattle.dap_session.specs.Session.{Session, fresh_session}
 use Rattle.dap_session.specs.Within.{IsWithin, EachStepStaysWithin}
-use Rattle.dap_adapter.specs.Calls.{Step, Handled, Saw, PollRefused}
-use Rattle.dap_adapter.specs.End.{End}
+use Rattle.dap_adapter.specs.Calls.{Step, Handled, Saw}
+use Rattle.dap_adapter.specs.AdapterState.{AdapterState}
 use Rattle.dap_adapter.specs.StandsFor.{GoesOn}
 use Rattle.dap_adapter.proofs.Readable.{step-reads}
 
@@ -40,11 +39,11 @@ received-more laws i s h k e r =
     record { under_way = r.under_way; bodies = r.bodies; rest = r.rest; stream = r.stream; read = rw same r.read }
 
 -- bounds stay where the limits and the bounds do
-bounds-stay : {D : Type 0} (old new : End D) → new.intake.bounds ≡ old.intake.bounds → new.session.limits ≡ old.session.limits → old.intake.bounds ≡ bounds_of old.session.limits → new.intake.bounds ≡ bounds_of new.session.limits
+bounds-stay : {D : Type 0} (old new : AdapterState D) → new.intake.bounds ≡ old.intake.bounds → new.session.limits ≡ old.session.limits → old.intake.bounds ≡ bounds_of old.session.limits → new.intake.bounds ≡ bounds_of new.session.limits
 bounds-stay old new i l b = i ∙ (b ∙ ap bounds_of (sym l))
 
 -- a step without bytes of the client
-pub stepped : {D : Type 0} (grow : HistoriesGrow) (ranges : ReadIsInRange) (laws : EachStepGoesOn) (follows : Goes D) (plan : Plan) (old new : End D) (bytes : List ℕ) (from to : Seat D)
+pub stepped : {D : Type 0} (grow : HistoriesGrow) (ranges : ReadIsInRange) (laws : EachStepGoesOn) (follows : Goes D) (plan : Plan) (old new : AdapterState D) (bytes : List ℕ) (from to : SessionState D)
     → from ≡ record { session = old.session; debuggee = old.debuggee } → to ≡ record { session = new.session; debuggee = new.debuggee } → new.intake ≡ old.intake
     → new.fault ≡ None → new.session.limits ≡ old.session.limits
     → Carries follows plan from to bytes
@@ -73,7 +72,7 @@ stepped grow ranges laws follows plan old new bytes from to a b i fault limits c
       reads_back = step-reads ranges old new [] [] c.made goes (rw a at c.by.reads_back);
     }
 
-pub handled : {D : Type 0} (grow : HistoriesGrow) (ranges : ReadIsInRange) (laws : EachStepGoesOn) (within : EachStepStaysWithin) (shown : D → Shown) (follows : Goes D) (old new : End D) (bytes : List ℕ) (from to : Seat D)
+pub handled : {D : Type 0} (grow : HistoriesGrow) (ranges : ReadIsInRange) (laws : EachStepGoesOn) (within : EachStepStaysWithin) (shown : D → Shown) (follows : Goes D) (old new : AdapterState D) (bytes : List ℕ) (from to : SessionState D)
     → from ≡ record { session = old.session; debuggee = old.debuggee } → to ≡ record { session = new.session; debuggee = new.debuggee } → new.intake ≡ old.intake
     → new.fault ≡ None → new.session.limits ≡ old.session.limits
     → HasTurned shown follows from to bytes → Handled shown follows old bytes new
@@ -94,28 +93,15 @@ fresh-follows laws limits = record { kept = refl; answers = laws.answers_none Ca
 pub fresh-within : (limits : Settings) → IsWithin (fresh_session limits)
 fresh-within limits = record { distinct = tt; kept = omega arith; used = omega arith; references = omega arith; numbers = omega arith; breakpoints = omega arith; ids = omega arith }
 
-pub sees : {D : Type 0} (grow : HistoriesGrow) (ranges : ReadIsInRange) (laws : EachStepGoesOn) (within : EachStepStaysWithin) (follows : Goes D) (old new : End D) (bytes : List ℕ) (from to : Seat D)
+pub sees : {D : Type 0} (grow : HistoriesGrow) (ranges : ReadIsInRange) (laws : EachStepGoesOn) (within : EachStepStaysWithin) (follows : Goes D) (old new : AdapterState D) (bytes : List ℕ) (from to : SessionState D)
     → from ≡ record { session = old.session; debuggee = old.debuggee } → to ≡ record { session = new.session; debuggee = new.debuggee } → new.intake ≡ old.intake
     → new.fault ≡ None → new.session.limits ≡ old.session.limits
     → Carries follows (polls from.session) from to bytes → new.session.used ≤ old.session.limits.seq → Saw follows old bytes new
 sees grow ranges laws within follows old new bytes from to a b i fault limits c w =
     record {
       intake = i;
-      step = stepped grow ranges laws follows (polls old.session) old new bytes from to a b i fault limits (subst (λ (x : Seat _). Carries follows (polls x.session) from to bytes) a c)
+      step = stepped grow ranges laws follows (polls old.session) old new bytes from to a b i fault limits (subst (λ (x : SessionState _). Carries follows (polls x.session) from to bytes) a c)
           (λ made h can in_range f. laws.poll old.session made h can f)
           (λ made can is in_range. within.poll old.session made in_range can (subst (λ (x : Session). x.used ≤ old.session.limits.seq) is w));
       within = w;
     }
-
-pub too_many : {D : Type 0} (follows : Goes D) (fault : AdapterFault) (old new : End D) (from to : Seat D)
-    → from ≡ record { session = old.session; debuggee = old.debuggee } → to ≡ record { session = new.session; debuggee = new.debuggee }
-    → IsRefusedPoll follows fault (polls from.session) from to → fault ≡ SeqExhausted → PollRefused follows old fault new
-too_many follows SeqExhausted old new from to a b h is =
-    let all : HasTooMany follows (polls old.session) from to = subst (λ (x : Seat _). HasTooMany follows (polls x.session) from to) a h in
-    record { made = all.made; carried = rw (a, b) at all.carried; short = rw a at all.short }
-too_many follows OutOfMemory old new from to a b h is = absurd (cc)
-too_many follows (Frame f) old new from to a b h is = h
-too_many follows (Body cause offset) old new from to a b h is = h
-too_many follows (RepeatedSeq seq) old new from to a b h is = h
-too_many follows (Unmatched seq) old new from to a b h is = h
-too_many follows Ended old new from to a b h is = h

@@ -1,24 +1,18 @@
 -- When the debuggee is asked no more.
-use Rattle.std.proofs.Common.{◌≡◌, ℕ, ◌<◌, ◌≤◌, List, length, Bool, true, false, refl, ap, arith}
+use Rattle.std.proofs.Common.{◌≡◌, ℕ, ◌<◌, List, length, Bool, true, false, refl, ap, arith}
 use Rattle.std.specs.Prelude.{◌==◌, ◌||◌, if◌then◌else◌}
 use Rattle.std.proofs.lemmas.Bool.Decides.{nat_tests}
 use Rattle.dap_session.specs.declared.phase.Phase.{Phase}
 use Rattle.dap_session.specs.declared.phase.Phase.TheVariants.{Stopped}
 use Rattle.dap_session.specs.Table.{is_phase}
 use Rattle.dap_adapter.specs.Run.{to_take, to_poll, after_poll}
-use Rattle.dap_adapter.specs.Serving.{polling}
+use Rattle.dap_adapter.specs.PrivateServing.{next_after_polls}
 
 apart : (i : ℕ) → i < 65536 → (i == 65536) ≡ false
 apart i h = grind (arith, nat_tests)
 
-same : (i : ℕ) → 65536 ≤ i → i ≤ 65536 → (i == 65536) ≡ true
-same i h k = grind (arith, nat_tests)
-
-pub polling_below : (i : ℕ) → i < 65536 → polling i ≡ to_poll i
+pub polling_below : (i : ℕ) → i < 65536 → next_after_polls i ≡ to_poll i
 polling_below i h = ap (λ (b : Bool). if b then to_take else to_poll i) (apart i h)
-
-pub polling_end : (i : ℕ) → 65536 ≤ i → i ≤ 65536 → polling i ≡ to_take
-polling_end i h k = ap (λ (b : Bool). if b then to_take else to_poll i) (same i h k)
 
 neither : (a b c : Bool) → a ≡ false → b ≡ false → (a || b || c) ≡ c
 neither true b c h k = cc
@@ -34,7 +28,7 @@ either_second true b c h = refl
 either_second false true c h = refl
 either_second false false c h = cc
 
-pub goes_on : (made : ℕ) (bytes : List ℕ) (phase : Phase) → (length bytes == 0) ≡ false → is_phase Stopped phase ≡ false → after_poll made bytes phase ≡ polling made
+pub goes_on : (made : ℕ) (bytes : List ℕ) (phase : Phase) → (length bytes == 0) ≡ false → is_phase Stopped phase ≡ false → after_poll made bytes phase ≡ next_after_polls made
 goes_on made bytes phase h k = ap (λ (b : Bool). if b then to_take else to_poll made) (neither (length bytes == 0) (is_phase Stopped phase) (made == 65536) h k)
 
 pub ends_quiet : (made : ℕ) (bytes : List ℕ) (phase : Phase) → (length bytes == 0) ≡ true → after_poll made bytes phase ≡ to_take

@@ -5,7 +5,7 @@ use Rattle.std.specs.List.{AllByRecursion}
 use Rattle.std.proofs.lemmas.Bool.Decides.{nat_tests}
 use Rattle.dap_json.specs.Field.{max_seq}
 use Rattle.dap_history.specs.Answers.{Answers, AnswersOne, IsAnswerTo}
-use Rattle.dap_history.specs.History.{Entry, In, Out, Drop, Came, Asked, waiting, unanswered, is_answered_in, ins_of, request_as, response_at}
+use Rattle.dap_history.specs.History.{Entry, In, Out, ReferencesEnd, Came, Asked, waiting, if_unanswered, is_answered_in, ins_of, request_as, response_at}
 use Rattle.dap_history.specs.Received.{AreRead}
 use Rattle.dap_message.specs.InRange.{IsInRange, ReadIsInRange}
 use Rattle.dap_message.specs.ReadBack.{AllReadBack}
@@ -15,8 +15,8 @@ use Rattle.dap_message.specs.declared.message.Kind.{Kind}
 use Rattle.dap_message.specs.declared.message.Kind.TheVariants.{Request, Response, Event, Other}
 use Rattle.dap_tables.specs.declared.entry.Entry.{Entry as Kept}
 use Rattle.dap_session.specs.InRange.{IsRequestInRange, AnswersInRange}
-use Rattle.dap_session.specs.Plan.{Answer, success, failure, Draft, reply, tell, Made, message_of, names_of, numbered, outs, dropping, entries_of}
-use Rattle.dap_adapter.specs.End.{End}
+use Rattle.dap_session.specs.Plan.{Answer, success, failure, Draft, reply, emit, Made, message_of, names_of, numbered_messages, outs, references_end_if, entries_of}
+use Rattle.dap_adapter.specs.AdapterState.{AdapterState}
 use Rattle.dap_adapter.specs.StandsFor.{StandsFor, GoesOn}
 
 abbrev AreMessagesInRange : List Message → Type 0
@@ -34,7 +34,7 @@ ins-front : (h k : List Entry) → AreMessagesInRange (ins_of (h ++ k)) → AreM
 ins-front [] k a = tt
 ins-front (In m ∷ h) k a = (a.0, ins-front h k a.1)
 ins-front (Out m names ∷ h) k a = ins-front h k a
-ins-front (Drop ∷ h) k a = ins-front h k a
+ins-front (ReferencesEnd ∷ h) k a = ins-front h k a
 
 -- ---- requests that wait
 
@@ -49,7 +49,7 @@ if-in-range : (b : Bool) (q : Asked) (qs : List Asked) → IsAskedInRange q → 
 if-in-range true q qs r a = a
 if-in-range false q qs r a = (r, a)
 
-asked-in-range : (seq : ℕ) (kind : Kind) (later : List Entry) (qs : List Asked) → IsInRange (record { seq = seq; kind = kind }) → AreAskedInRange qs → AreAskedInRange (unanswered Came (request_as seq kind) later ++ qs)
+asked-in-range : (seq : ℕ) (kind : Kind) (later : List Entry) (qs : List Asked) → IsInRange (record { seq = seq; kind = kind }) → AreAskedInRange qs → AreAskedInRange (if_unanswered Came (request_as seq kind) later ++ qs)
 asked-in-range seq (Request command arguments) later qs r a = if-in-range (is_answered_in Came seq later) (record { seq = seq; command = command; arguments = arguments }) qs (record { seq = r.seq; command = r.kind }) a
 asked-in-range seq (Response request_seq ok command message body) later qs r a = a
 asked-in-range seq (Event event body) later qs r a = a
@@ -59,7 +59,7 @@ waiting-in-range : (h : List Entry) → AreMessagesInRange (ins_of h) → AreAsk
 waiting-in-range [] a = tt
 waiting-in-range (In m ∷ h) a = asked-in-range m.seq m.kind h (waiting Came h) a.0 (waiting-in-range h a.1)
 waiting-in-range (Out m names ∷ h) a = waiting-in-range h a
-waiting-in-range (Drop ∷ h) a = waiting-in-range h a
+waiting-in-range (ReferencesEnd ∷ h) a = waiting-in-range h a
 
 -- ---- one of them
 
@@ -105,8 +105,8 @@ drafts-in-range all came answers before used (reply r answer ∷ ds) is =
       answer-in-range (used + 1) r answer (waiting Came before) (waiting-in-range before first) (answers before e (outs (used + 1) ds) is),
       drafts-in-range all came answers (before ++ e ∷ []) (used + 1) ds (moved before e (outs (used + 1) ds) all is),
     )
-drafts-in-range all came answers before used (tell event ∷ ds) is =
-    let e : Entry = Out (message_of (used + 1) (tell event)) (names_of (tell event)) in
+drafts-in-range all came answers before used (emit event ∷ ds) is =
+    let e : Entry = Out (message_of (used + 1) (emit event)) (names_of (emit event)) in
     (tt, drafts-in-range all came answers (before ++ e ∷ []) (used + 1) ds (moved before e (outs (used + 1) ds) all is))
 
 parts : (h came drops entries : List Entry) → (h ++ (came ++ drops)) ++ entries ≡ h ++ (came ++ (drops ++ entries))
@@ -114,13 +114,13 @@ parts h came drops entries = append_assoc h (came ++ drops) entries ∙ ap (λ (
 
 -- ---- a step
 
-made-in-range : {D : Type 0} → ReadIsInRange → (e : End D) (s : List ℕ) (h came : List Entry) (used : ℕ) (m : Made) → StandsFor e s (h ++ (came ++ entries_of used m)) → AnswersInRange m.drafts
+made-in-range : {D : Type 0} → ReadIsInRange → (e : AdapterState D) (s : List ℕ) (h came : List Entry) (used : ℕ) (m : Made) → StandsFor e s (h ++ (came ++ entries_of used m)) → AnswersInRange m.drafts
 made-in-range law e s h came used m st =
     drafts-in-range (h ++ (came ++ entries_of used m)) (read-in-range law st.received.bodies (ins_of (h ++ (came ++ entries_of used m))) st.received.read) st.session.answers
-    (h ++ (came ++ dropping m.drops)) used m.drafts (parts h came (dropping m.drops) (outs used m.drafts))
+    (h ++ (came ++ references_end_if m.drops)) used m.drafts (parts h came (references_end_if m.drops) (outs used m.drafts))
 
 -- an adapter that stands for some history after the step answered requests in range
-pub step-reads : {D : Type 0} → ReadIsInRange → (old new : End D) (used : List ℕ) (came : List Entry) (m : Made) → GoesOn old new used (came ++ entries_of old.session.used m)
-    → (AnswersInRange m.drafts → AllReadBack old.session.limits.body (numbered old.session.used m.drafts))
-    → (s : List ℕ) (h : List Entry) → StandsFor old s h → AllReadBack old.session.limits.body (numbered old.session.used m.drafts)
+pub step-reads : {D : Type 0} → ReadIsInRange → (old new : AdapterState D) (used : List ℕ) (came : List Entry) (m : Made) → GoesOn old new used (came ++ entries_of old.session.used m)
+    → (AnswersInRange m.drafts → AllReadBack old.session.limits.body (numbered_messages old.session.used m.drafts))
+    → (s : List ℕ) (h : List Entry) → StandsFor old s h → AllReadBack old.session.limits.body (numbered_messages old.session.used m.drafts)
 step-reads law old new used came m goes reads s h st = reads (made-in-range law new (s ++ used) h came old.session.used m (goes s h st))

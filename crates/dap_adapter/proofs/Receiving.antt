@@ -11,19 +11,20 @@ use Rattle.dap_message.specs.Meaning.{Msg}
 use Rattle.dap_message.specs.declared.message.Message.{Message}
 use Rattle.dap_session.specs.Carried.{Goes}
 use Rattle.dap_session.specs.Laws.{CanMake, EachStepGoesOn}
-use Rattle.dap_session.specs.Plan.{Made, Plan, at_once, entries_of}
-use Rattle.dap_session.specs.Seat.{Seat}
+use Rattle.dap_session.specs.Plan.{Made, Plan, entries_of}
+use Rattle.dap_session.specs.SessionState.{SessionState}
 use Rattle.dap_session.specs.Taking.{takes}
 use Rattle.dap_session.specs.Within.{EachStepStaysWithin}
 use Rattle.dap_adapter.specs.Calls.{Takes}
-use Rattle.dap_adapter.specs.End.{End}
-use Rattle.dap_adapter.specs.Receives.{HasReceived}
+use Rattle.dap_adapter.specs.AdapterState.{AdapterState}
+use Rattle.dap_adapter.specs.PrivateReceives.{HasReceived}
 use Rattle.dap_adapter.specs.StandsFor.{GoesOn}
 use Rattle.dap_adapter.specs.declared.taken.Taken.{Taken}
+use Rattle.dap_adapter.proofs.Adapting.{can-make}
 use Rattle.dap_adapter.proofs.Readable.{step-reads}
 
 -- the frame is still under way
-waits-goes_on : {D : Type 0} (old new : End D) (piece : List ℕ) (n : ℕ) → Gathers old.intake new.intake piece n → new.session ≡ old.session → new.fault ≡ None → GoesOn old new piece []
+waits-goes_on : {D : Type 0} (old new : AdapterState D) (piece : List ℕ) (n : ℕ) → Gathers old.intake new.intake piece n → new.session ≡ old.session → new.fault ≡ None → GoesOn old new piece []
 waits-goes_on old new piece n g same fault s h st =
     record {
       no_fault = fault;
@@ -41,7 +42,7 @@ waits-goes_on old new piece n g same fault s h st =
     }
 
 -- a body came whole, was read, given up, and something was made of it
-delivers-goes_on : {D : Type 0} (grow : HistoriesGrow) (laws : EachStepGoesOn) (within : EachStepStaysWithin) (old new : End D) (ready : Intake) (piece : List ℕ) (n : ℕ) (m : Message) (plan : Plan) (made : Made)
+delivers-goes_on : {D : Type 0} (grow : HistoriesGrow) (laws : EachStepGoesOn) (within : EachStepStaysWithin) (old new : AdapterState D) (ready : Intake) (piece : List ℕ) (n : ℕ) (m : Message) (plan : Plan) (made : Made)
     → Completes old.intake ready piece n → Msg ready.held m
     → IsUnderWay new.intake → new.intake.bounds ≡ old.intake.bounds
     → ((s : List ℕ) (xs : List (List ℕ)) (rest : List ℕ) → StandsForStream ready s xs rest → StandsForStream new.intake s xs rest)
@@ -68,35 +69,35 @@ delivers-goes_on grow laws within old new ready piece n m plan made c read gathe
     }
 
 -- what became of the reader and of the session, said of the adapter
-pub received : {D : Type 0} (grow : HistoriesGrow) (ranges : ReadIsInRange) (laws : EachStepGoesOn) (within : EachStepStaysWithin) (follows : Goes D) (old new : End D) (from to : Seat D) (piece : List ℕ) (taken : Taken) (delivered : Option Message)
+pub received : {D : Type 0} (grow : HistoriesGrow) (ranges : ReadIsInRange) (laws : EachStepGoesOn) (within : EachStepStaysWithin) (follows : Goes D) (old new : AdapterState D) (from to : SessionState D) (piece : List ℕ) (taken : Taken) (delivered : Option Message)
     → from ≡ record { session = old.session; debuggee = old.debuggee } → to ≡ record { session = new.session; debuggee = new.debuggee }
     → new.intake.bounds ≡ old.intake.bounds → new.session.limits ≡ old.session.limits → new.fault ≡ None
-    → HasReceived old.intake new.intake from to piece taken delivered → Takes follows old piece taken delivered new
+    → HasReceived follows old.intake new.intake from to piece taken delivered → Takes follows old piece taken delivered new
 received grow ranges laws within follows old new from to piece taken None a b bounds limits fault w =
     let same = sym b ∙ (w.same ∙ a) in
-    let session = ap (λ (x : Seat _). x.session) same in
+    let session = ap (λ (x : SessionState _). x.session) same in
     record {
       gathers = w.gathers;
       none_written = w.none_written;
       session = session;
-      debuggee = ap (λ (x : Seat _). x.debuggee) same;
+      debuggee = ap (λ (x : SessionState _). x.debuggee) same;
       goes_on = waits-goes_on old new piece taken.used w.gathers session fault;
     }
 received grow ranges laws within follows old new from to piece taken (Some m) a b bounds limits fault d =
     let has = rw (a, b) at d.has_taken in
-    let same = rw (a, b) at d.debuggee in
-    let goes = delivers-goes_on grow laws within old new d.gives.whole.ready piece taken.used m (at_once has.made) has.made d.gives.whole.completes d.gives.read d.gives.under_way bounds d.gives.stands has.is refl has.by.session limits fault in
+    let can = can-make follows has.plan _ _ has.carries.made has.carries.carried in
+    let goes = delivers-goes_on grow laws within old new d.gives.whole.ready piece taken.used m has.plan has.carries.made d.gives.whole.completes d.gives.read d.gives.under_way bounds d.gives.stands has.is can has.carries.by.session limits fault in
     record {
       whole = d.gives.whole;
       read = d.gives.read;
-      plan = at_once has.made;
+      plan = has.plan;
       is = has.is;
       step = record {
-        made = has.made;
-        carried = (refl, same);
-        session = has.by.session;
-        bytes_are = has.by.bytes_are;
+        made = has.carries.made;
+        carried = has.carries.carried;
+        session = has.carries.by.session;
+        bytes_are = has.carries.by.bytes_are;
         goes_on = goes;
-        reads_back = step-reads ranges old new (take taken.used piece) (In m ∷ []) has.made goes has.by.reads_back;
+        reads_back = step-reads ranges old new (take taken.used piece) (In m ∷ []) has.carries.made goes has.carries.by.reads_back;
       };
     }

@@ -11,11 +11,11 @@ use Rattle.dap_tables.specs.Outstanding.{contains_seq}
 use Rattle.dap_session.specs.declared.fault.AdapterFault.{AdapterFault}
 use Rattle.dap_session.specs.declared.fault.AdapterFault.TheVariants.{SeqExhausted, OutOfMemory, Frame, Body, RepeatedSeq, Unmatched, Ended}
 use Rattle.dap_session.specs.declared.phase.Phase.TheVariants as phase
-use Rattle.dap_session.specs.Plan.{Plan, at_once, due}
-use Rattle.dap_session.specs.Seat.{NotTaken}
+use Rattle.dap_session.specs.Plan.{Plan, at_once, messages_due}
+use Rattle.dap_session.specs.SessionState.{NotTaken}
 use Rattle.dap_session.specs.Session.{Session}
 use Rattle.dap_session.specs.Table.{is_phase}
-use Rattle.dap_session.specs.Taking.{takes_as, taken_in}
+use Rattle.dap_session.specs.Taking.{takes, takes_as, after_taking}
 use Rattle.dap_adapter.specs.Calls.{TakeRefused}
 
 -- the faults that a session has by a message
@@ -40,12 +40,12 @@ of_request false false c seq plan fault e = of_affordable c plan fault e
 of_kind : (seq : ℕ) (kind : Kind) (s : Session) (fault : AdapterFault) → takes_as seq kind s ≡ Err fault → IsOfSession fault
 of_kind seq (Request command arguments) s fault e =
     let r : Entry = record { seq = seq; command = command; arguments = arguments } in
-    of_request (is_phase phase.Ended s.phase) (contains_seq seq s.kept) (nat_le (s.used + due (at_once (taken_in r s))) s.limits.seq) seq (at_once (taken_in r s)) fault e
+    of_request (is_phase phase.Ended s.phase) (contains_seq seq s.kept) (nat_le (s.used + messages_due (at_once (after_taking r s))) s.limits.seq) seq (at_once (after_taking r s)) fault e
 of_kind seq (Response request_seq success command message body) s fault e = let is : Unmatched request_seq ≡ fault = cc in subst IsOfSession is tt
 of_kind seq (Event event body) s fault e = cc
 of_kind seq (Other tag) s fault e = cc
 
-pub untaken_refused : (old ready : Intake) (s : Session) (piece : List ℕ) (n : ℕ) (m : Message) (fault : AdapterFault) → Completes old ready piece n → Msg ready.held m → NotTaken fault m s → TakeRefused old s piece fault
+pub untaken_refused : (old ready : Intake) (s : Session) (piece : List ℕ) (n : ℕ) (m : Message) (fault : AdapterFault) → Completes old ready piece n → Msg ready.held m → NotTaken fault (takes m s) → TakeRefused old s piece fault
 untaken_refused old ready s piece n m OutOfMemory c read t = (n, record { ready = ready; completes = c })
 untaken_refused old ready s piece n m (Frame f) c read t = absurd (of_kind m.seq m.kind s (Frame f) t)
 untaken_refused old ready s piece n m (Body cause offset) c read t = absurd (of_kind m.seq m.kind s (Body cause offset) t)

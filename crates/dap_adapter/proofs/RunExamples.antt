@@ -7,9 +7,9 @@ use Rattle.dap_message.specs.declared.message.Kind.TheVariants.{Event}
 use Rattle.dap_debuggee.specs.Shown.{Shown}
 use Rattle.dap_session.specs.declared.phase.Phase.TheVariants.{Running, Stopped, Exited, Ended}
 use Rattle.dap_session.specs.Carried.{Goes}
-use Rattle.dap_session.specs.Plan.{at_once, nothing}
+use Rattle.dap_session.specs.Plan.{at_once, no_change}
 use Rattle.dap_session.specs.Session.{fresh_session}
-use Rattle.dap_adapter.specs.Run.{to_take, to_poll, after_poll, has_ended, fresh_seat, Run, begins, delivers, idles, sees}
+use Rattle.dap_adapter.specs.Run.{to_take, to_poll, after_poll, has_ended, fresh_state, Run, begins, delivers, idles, sees}
 
 -- ---- when the debuggee is asked no more
 
@@ -43,14 +43,14 @@ ended_is_over = refl
 
 module _ {D : Type 0} (shown : D → Shown) (follows : Goes D) (limits : Settings) (d : D) where
   -- no body came
-  nothing_came : Run shown follows (fresh_seat limits d) [] [] to_take (fresh_seat limits d)
+  nothing_came : Run shown follows (fresh_state limits d) [] [] to_take (fresh_state limits d)
   nothing_came = begins
 
   -- an event is delivered, no request waits, and there is no debuggee to ask: nothing is written
-  event_came : (x : List ℕ) (seq : ℕ) (event : List ℕ) (body : Option Data) → Msg x (record { seq = seq; kind = Event event body }) → Run shown follows (fresh_seat limits d) (x ∷ []) [] to_take (fresh_seat limits d)
+  event_came : (x : List ℕ) (seq : ℕ) (event : List ℕ) (body : Option Data) → Msg x (record { seq = seq; kind = Event event body }) → Run shown follows (fresh_state limits d) (x ∷ []) [] to_take (fresh_state limits d)
   event_came x seq event body is =
-      let p = fresh_seat limits d in
-      let none = nothing (fresh_session limits) in
+      let p = fresh_state limits d in
+      let none = no_change (fresh_session limits) in
       sees (x ∷ []) [] [] p p 0
       (idles (x ∷ []) [] p
       (delivers [] [] [] p p x (record { seq = seq; kind = Event event body }) (at_once none) begins refl is refl (record { made = none; carried = (refl, refl); session = refl; outs_are = refl }))

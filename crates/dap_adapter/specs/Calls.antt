@@ -17,28 +17,28 @@ use Rattle.dap_adapter.specs.declared.taken.Turned.{Turned}
 use Rattle.dap_adapter.specs.declared.taken.Turned.TheVariants.{Idle, Done}
 use Rattle.dap_session.specs.Carried.{Goes, CarriedOut}
 use Rattle.dap_session.specs.Handling.{turns}
-use Rattle.dap_session.specs.Plan.{Made, Plan, numbered, bytes_of, entries_of}
+use Rattle.dap_session.specs.Plan.{Made, Plan, numbered_messages, bytes_of, entries_of}
 use Rattle.dap_session.specs.Polling.{polls, has_debuggee}
-use Rattle.dap_session.specs.Seat.{IsUnasked}
+use Rattle.dap_session.specs.SessionState.{IsUnasked}
 use Rattle.dap_session.specs.Session.{Session, to_handle}
 use Rattle.dap_reader.specs.Reader.{Reader}
-use Rattle.dap_adapter.specs.End.{End}
+use Rattle.dap_adapter.specs.AdapterState.{AdapterState}
 use Rattle.dap_adapter.specs.StandsFor.{StandsFor, GoesOn}
 use Rattle.dap_session.specs.Taking.{takes}
 
 -- the session went on by a plan, over these bytes of the client and what came with them; a client with the same limit on bodies reads each message that it wrote
-pub record Step {D : Type 0} (follows : Goes D) (plan : Plan) (old new : End D) (used : List ℕ) (came : List Entry) (bytes : List ℕ) : Type 0 where
+pub record Step {D : Type 0} (follows : Goes D) (plan : Plan) (old new : AdapterState D) (used : List ℕ) (came : List Entry) (bytes : List ℕ) : Type 0 where
   pub made : Made
   pub carried : CarriedOut follows plan old.debuggee made new.debuggee
   pub session : new.session ≡ made.after
-  pub bytes_are : bytes ≡ bytes_of (numbered old.session.used made.drafts)
+  pub bytes_are : bytes ≡ bytes_of (numbered_messages old.session.used made.drafts)
   pub goes_on : GoesOn old new used (came ++ entries_of old.session.used made)
-  pub reads_back : (s : List ℕ) (h : List Entry) → StandsFor old s h → AllReadBack old.session.limits.body (numbered old.session.used made.drafts)
+  pub reads_back : (s : List ℕ) (h : List Entry) → StandsFor old s h → AllReadBack old.session.limits.body (numbered_messages old.session.used made.drafts)
 
 -- ---- take
 
 -- a message came whole, and this was made of it
-pub record Delivers {D : Type 0} (follows : Goes D) (old : End D) (piece : List ℕ) (taken : Taken) (m : Message) (new : End D) : Type 0 where
+pub record Delivers {D : Type 0} (follows : Goes D) (old : AdapterState D) (piece : List ℕ) (taken : Taken) (m : Message) (new : AdapterState D) : Type 0 where
   pub whole : Whole old.intake piece taken.used
   pub read : Msg whole.ready.held m
   pub plan : Plan
@@ -46,14 +46,14 @@ pub record Delivers {D : Type 0} (follows : Goes D) (old : End D) (piece : List 
   pub step : Step follows plan old new (take taken.used piece) (In m ∷ []) taken.bytes.items
 
 -- the frame is still under way, and nothing else changed
-pub record Waits {D : Type 0} (old : End D) (piece : List ℕ) (taken : Taken) (new : End D) : Type 0 where
+pub record Waits {D : Type 0} (old : AdapterState D) (piece : List ℕ) (taken : Taken) (new : AdapterState D) : Type 0 where
   pub gathers : Gathers old.intake new.intake piece taken.used
   pub none_written : taken.bytes.items ≡ []
   pub session : new.session ≡ old.session
   pub debuggee : new.debuggee ≡ old.debuggee
   pub goes_on : GoesOn old new piece []
 
-abbrev pub Takes : {D : Type 0} → Goes D → End D → List ℕ → Taken → Option Message → End D → Type 0
+abbrev pub Takes : {D : Type 0} → Goes D → AdapterState D → List ℕ → Taken → Option Message → AdapterState D → Type 0
 Takes follows old piece taken None new = Waits old piece taken new
 Takes follows old piece taken (Some m) new = Delivers follows old piece taken m new
 
@@ -74,13 +74,13 @@ TakeRefused old s piece fault = ClosedBy old s piece fault
 
 -- ---- turn
 
-pub record Handled {D : Type 0} (shown : D → Shown) (follows : Goes D) (old : End D) (bytes : List ℕ) (new : End D) : Type 0 where
+pub record Handled {D : Type 0} (shown : D → Shown) (follows : Goes D) (old : AdapterState D) (bytes : List ℕ) (new : AdapterState D) : Type 0 where
   pub plan : Plan
   pub is : turns (shown old.debuggee) old.session ≡ Ok (Some plan)
   pub intake : new.intake ≡ old.intake
   pub step : Step follows plan old new [] [] bytes
 
-abbrev pub TurnGives : {D : Type 0} → (D → Shown) → Goes D → End D → Turned → End D → Type 0
+abbrev pub TurnGives : {D : Type 0} → (D → Shown) → Goes D → AdapterState D → Turned → AdapterState D → Type 0
 TurnGives shown follows old Idle new = (turns (shown old.debuggee) old.session ≡ Ok None) × (new ≡ old)
 TurnGives shown follows old (Done bytes) new = Handled shown follows old bytes.items new
 
@@ -90,25 +90,25 @@ AreFewer Idle old new = ⊤
 AreFewer (Done bytes) old new = to_handle new < to_handle old
 
 -- why a turn was refused: then the debuggee was not asked, but where memory was refused after it was
-abbrev pub TurnRefused : {D : Type 0} → (D → Shown) → End D → AdapterFault → End D → Type 0
+abbrev pub TurnRefused : {D : Type 0} → (D → Shown) → AdapterState D → AdapterFault → AdapterState D → Type 0
 TurnRefused shown old OutOfMemory new = IsUnasked (turns (shown old.debuggee) old.session) old.debuggee new.debuggee
 TurnRefused shown old fault new = (turns (shown old.debuggee) old.session ≡ Err fault) × (new.debuggee ≡ old.debuggee)
 
 -- ---- poll
 
-pub record Saw {D : Type 0} (follows : Goes D) (old : End D) (bytes : List ℕ) (new : End D) : Type 0 where
+pub record Saw {D : Type 0} (follows : Goes D) (old : AdapterState D) (bytes : List ℕ) (new : AdapterState D) : Type 0 where
   pub intake : new.intake ≡ old.intake
   pub step : Step follows (polls old.session) old new [] [] bytes
   pub within : new.session.used ≤ old.session.limits.seq
 
 -- the events of what happened were more than own numbers are left
-pub record TooManyEvents {D : Type 0} (follows : Goes D) (old new : End D) : Type 0 where
+pub record TooManyEvents {D : Type 0} (follows : Goes D) (old new : AdapterState D) : Type 0 where
   pub made : Made
   pub carried : CarriedOut follows (polls old.session) old.debuggee made new.debuggee
   pub short : old.session.limits.seq < old.session.used + length made.drafts
 
 -- why a poll was refused. Memory may be refused where there is a debuggee to ask
-abbrev pub PollRefused : {D : Type 0} → Goes D → End D → AdapterFault → End D → Type 0
+abbrev pub PollRefused : {D : Type 0} → Goes D → AdapterState D → AdapterFault → AdapterState D → Type 0
 PollRefused follows old OutOfMemory new = has_debuggee old.session.phase ≡ true
 PollRefused follows old SeqExhausted new = TooManyEvents follows old new
 PollRefused follows old fault new = ⊥

@@ -1,7 +1,7 @@
-pub mod End
+pub mod AdapterState
 pub mod StandsFor
 pub mod Calls
-pub mod Receives
+pub mod PrivateReceives
 pub mod Run
 pub mod Served
-pub mod Serving
+pub mod PrivateServing

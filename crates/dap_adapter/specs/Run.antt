@@ -12,7 +12,7 @@ use Rattle.dap_session.specs.Carried.{Goes}
 use Rattle.dap_session.specs.Handling.{turns}
 use Rattle.dap_session.specs.Plan.{Plan, bytes_of}
 use Rattle.dap_session.specs.Polling.{polls}
-use Rattle.dap_session.specs.Seat.{Seat}
+use Rattle.dap_session.specs.SessionState.{SessionState}
 use Rattle.dap_session.specs.Session.{Session, fresh_session}
 use Rattle.dap_session.specs.Table.{is_phase}
 use Rattle.dap_session.specs.Taking.{takes}
@@ -36,30 +36,30 @@ abbrev pub has_ended : Session → Bool
 has_ended s = is_phase Ended s.phase
 
 -- where a session begins
-abbrev pub fresh_seat : {D : Type 0} → Settings → D → Seat D
-fresh_seat limits debuggee = record { session = fresh_session limits; debuggee = debuggee }
+abbrev pub fresh_state : {D : Type 0} → Settings → D → SessionState D
+fresh_state limits debuggee = record { session = fresh_session limits; debuggee = debuggee }
 
 -- A run from a session over these bodies, which writes these messages and stands there. It may stop after any step, and all that came is handled where the next message is to be taken.
-pub data Run {D : Type 0} (shown : D → Shown) (follows : Goes D) (start : Seat D) : List (List ℕ) → List Message → Next → Seat D → Type 0 where
+pub data Run {D : Type 0} (shown : D → Shown) (follows : Goes D) (start : SessionState D) : List (List ℕ) → List Message → Next → SessionState D → Type 0 where
   begins : Run shown follows start [] [] to_take start
   -- the next body is a message, and it is delivered
-  delivers : (xs : List (List ℕ)) (outs now : List Message) (p q : Seat D) (x : List ℕ) (m : Message) (plan : Plan)
+  delivers : (xs : List (List ℕ)) (outs now : List Message) (p q : SessionState D) (x : List ℕ) (m : Message) (plan : Plan)
       → Run shown follows start xs outs to_take p → has_ended p.session ≡ false → Msg x m → takes m p.session ≡ Ok plan → Writes follows plan p now q
       → Run shown follows start (xs ++ x ∷ []) (outs ++ now) to_turn q
   -- the oldest request that is not parked is handled
-  handles : (xs : List (List ℕ)) (outs now : List Message) (p q : Seat D) (plan : Plan)
+  handles : (xs : List (List ℕ)) (outs now : List Message) (p q : SessionState D) (plan : Plan)
       → Run shown follows start xs outs to_turn p → turns (shown p.debuggee) p.session ≡ Ok (Some plan) → Writes follows plan p now q
       → Run shown follows start xs (outs ++ now) to_turn q
   -- no request waits to be handled
-  idles : (xs : List (List ℕ)) (outs : List Message) (p : Seat D)
+  idles : (xs : List (List ℕ)) (outs : List Message) (p : SessionState D)
       → Run shown follows start xs outs to_turn p → turns (shown p.debuggee) p.session ≡ Ok None
       → Run shown follows start xs outs (to_poll 0) p
   -- what happened is told
-  sees : (xs : List (List ℕ)) (outs now : List Message) (p q : Seat D) (made : ℕ)
+  sees : (xs : List (List ℕ)) (outs now : List Message) (p q : SessionState D) (made : ℕ)
       → Run shown follows start xs outs (to_poll made) p → Writes follows (polls p.session) p now q → q.session.used ≤ p.session.limits.seq
       → Run shown follows start xs (outs ++ now) (after_poll (made + 1) (bytes_of now) q.session.phase) q
 
 -- a run over the frames of these bytes, with this rest after them
-pub record RanTo {D : Type 0} (shown : D → Shown) (follows : Goes D) (limits : Settings) (start : D) (used : List ℕ) (xs : List (List ℕ)) (rest : List ℕ) (outs : List Message) (next : Next) (p : Seat D) : Type 0 where
+pub record RanTo {D : Type 0} (shown : D → Shown) (follows : Goes D) (limits : Settings) (start : D) (used : List ℕ) (xs : List (List ℕ)) (rest : List ℕ) (outs : List Message) (next : Next) (p : SessionState D) : Type 0 where
   pub split : Split (bounds_of limits) used xs rest
-  pub run : Run shown follows (fresh_seat limits start) xs outs next p
+  pub run : Run shown follows (fresh_state limits start) xs outs next p

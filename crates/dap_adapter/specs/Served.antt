@@ -3,7 +3,7 @@
 use Rattle.std.specs.Prelude.{◌≡◌, ℕ, ◌+◌, ◌<◌, ◌≤◌, List, [], ◌∷◌, ◌++◌, length, IsTrue, true, false, Option, Result, Ok, Err}
 use Rattle.std.specs.Io.KnownBytes.{Appends, Consumes, IsAtEnd}
 use Rattle.dap_channel.specs.Channel.{IoEvent, Gave, ReadFailed, Took, WriteFailed, Flushed, FlushFailed, Ran, bytes_read, bytes_written, reads, is_flushed, MayGoOn, HasEnded, HasReadFailed, HasWriteFailed}
-use Rattle.dap_channel.specs.Sent.{counted}
+use Rattle.dap_channel.specs.Sent.{saturating_count}
 use Rattle.dap_frame.specs.declared.frames.End.{End}
 use Rattle.dap_frame.specs.declared.frames.End.TheVariants.{Clean, Truncated, Refused as Closed}
 use Rattle.dap_frame.specs.declared.frames.FrameFault.{FrameFault}
@@ -23,13 +23,13 @@ use Rattle.dap_session.specs.Carried.{Goes, CarriedOut}
 use Rattle.dap_session.specs.Handling.{turns}
 use Rattle.dap_session.specs.Plan.{Made, bytes_of}
 use Rattle.dap_session.specs.Polling.{polls}
-use Rattle.dap_session.specs.Seat.{Seat}
+use Rattle.dap_session.specs.SessionState.{SessionState}
 use Rattle.dap_session.specs.Table.{is_phase}
 use Rattle.dap_session.specs.Taking.{takes}
 use Rattle.dap_adapter.specs.declared.served.Served.{Served}
 use Rattle.dap_adapter.specs.declared.served.ServeFault.{ServeFault}
 use Rattle.dap_adapter.specs.declared.served.ServeFault.TheVariants.{Read, Write, Adapter, TooManyReads, OutOfMemory}
-use Rattle.dap_adapter.specs.Run.{Next, to_take, to_turn, to_poll, has_ended, fresh_seat, Run, RanTo}
+use Rattle.dap_adapter.specs.Run.{Next, to_take, to_turn, to_poll, has_ended, fresh_state, Run, RanTo}
 
 -- what serving begins with: the limits, how many reads there may be at most, the channel and the debuggee
 pub record Start (C D : Type 0) : Type 0 where
@@ -44,7 +44,7 @@ pub record Start (C D : Type 0) : Type 0 where
 pub record FrameRefused {D : Type 0} (shown : D → Shown) (follows : Goes D) (limits : Settings) (start : D) (used : List ℕ) (outs : List Message) (fault : FrameFault) : Type 0 where
   pub bodies : List (List ℕ)
   pub rest : List ℕ
-  pub seat : Seat D
+  pub seat : SessionState D
   pub there : RanTo shown follows limits start used bodies rest outs to_take seat
   pub goes_on : has_ended seat.session ≡ false
   pub verdict_is : verdict (bounds_of limits) rest ≡ Refuses fault.cause (length rest)
@@ -54,37 +54,37 @@ pub record FrameRefused {D : Type 0} (shown : D → Shown) (follows : Goes D) (l
 pub record BodyRefused {D : Type 0} (shown : D → Shown) (follows : Goes D) (limits : Settings) (start : D) (used : List ℕ) (outs : List Message) (cause : BodyRefusal) (offset : ℕ) : Type 0 where
   pub bodies : List (List ℕ)
   pub body : List ℕ
-  pub seat : Seat D
+  pub seat : SessionState D
   pub split : Split (bounds_of limits) used (bodies ++ body ∷ []) []
-  pub run : Run shown follows (fresh_seat limits start) bodies outs to_take seat
+  pub run : Run shown follows (fresh_state limits start) bodies outs to_take seat
   pub goes_on : has_ended seat.session ≡ false
   pub bad : Bad body cause
   pub starts : LastStartsAt (bounds_of limits) offset used (bodies ++ body ∷ []) body
 
 -- after the frames comes one whose message closes the adapter
-pub record TakeRefused {D : Type 0} (shown : D → Shown) (follows : Goes D) (limits : Settings) (start : D) (used : List ℕ) (outs : List Message) (fault : AdapterFault) : Type 0 where
+pub record StopsAtTake {D : Type 0} (shown : D → Shown) (follows : Goes D) (limits : Settings) (start : D) (used : List ℕ) (outs : List Message) (fault : AdapterFault) : Type 0 where
   pub bodies : List (List ℕ)
   pub body : List ℕ
-  pub seat : Seat D
+  pub seat : SessionState D
   pub split : Split (bounds_of limits) used (bodies ++ body ∷ []) []
-  pub run : Run shown follows (fresh_seat limits start) bodies outs to_take seat
+  pub run : Run shown follows (fresh_state limits start) bodies outs to_take seat
   pub goes_on : has_ended seat.session ≡ false
   pub message : Message
   pub message_is : Msg body message
   pub refused : takes message seat.session ≡ Err fault
 
 -- the next request is not handled
-pub record TurnRefused {D : Type 0} (shown : D → Shown) (follows : Goes D) (limits : Settings) (start : D) (used : List ℕ) (outs : List Message) (fault : AdapterFault) : Type 0 where
+pub record StopsAtTurn {D : Type 0} (shown : D → Shown) (follows : Goes D) (limits : Settings) (start : D) (used : List ℕ) (outs : List Message) (fault : AdapterFault) : Type 0 where
   pub bodies : List (List ℕ)
-  pub seat : Seat D
+  pub seat : SessionState D
   pub there : RanTo shown follows limits start used bodies [] outs to_turn seat
   pub refused : turns (shown seat.debuggee) seat.session ≡ Err fault
 
 -- more happened than own numbers are left to tell it with
-pub record PollRefused {D : Type 0} (shown : D → Shown) (follows : Goes D) (limits : Settings) (start : D) (used : List ℕ) (outs : List Message) (fault : AdapterFault) : Type 0 where
+pub record StopsAtPoll {D : Type 0} (shown : D → Shown) (follows : Goes D) (limits : Settings) (start : D) (used : List ℕ) (outs : List Message) (fault : AdapterFault) : Type 0 where
   pub is : fault ≡ SeqExhausted
   pub bodies : List (List ℕ)
-  pub seat : Seat D
+  pub seat : SessionState D
   pub made : ℕ
   pub there : RanTo shown follows limits start used bodies [] outs (to_poll made) seat
   pub told : Made
@@ -93,9 +93,9 @@ pub record PollRefused {D : Type 0} (shown : D → Shown) (follows : Goes D) (li
   pub short : seat.session.limits.seq < seat.session.used + length told.drafts
 
 pub data IsRefused {D : Type 0} (shown : D → Shown) (follows : Goes D) (limits : Settings) (start : D) (used : List ℕ) (outs : List Message) (fault : AdapterFault) : Type 0 where
-  in_take : TakeRefused shown follows limits start used outs fault → IsRefused shown follows limits start used outs fault
-  in_turn : TurnRefused shown follows limits start used outs fault → IsRefused shown follows limits start used outs fault
-  in_poll : PollRefused shown follows limits start used outs fault → IsRefused shown follows limits start used outs fault
+  in_take : StopsAtTake shown follows limits start used outs fault → IsRefused shown follows limits start used outs fault
+  in_turn : StopsAtTurn shown follows limits start used outs fault → IsRefused shown follows limits start used outs fault
+  in_poll : StopsAtPoll shown follows limits start used outs fault → IsRefused shown follows limits start used outs fault
 
 -- a run over the bytes used stops by just this fault of the adapter, with these messages made before it
 abbrev pub StopsBy : {D : Type 0} → (D → Shown) → Goes D → Settings → D → List ℕ → List Message → AdapterFault → Type 0
@@ -114,7 +114,7 @@ pub record MakesSome {D : Type 0} (shown : D → Shown) (follows : Goes D) (limi
   pub bodies : List (List ℕ)
   pub rest : List ℕ
   pub next : Next
-  pub seat : Seat D
+  pub seat : SessionState D
   pub there : RanTo shown follows limits start used bodies rest outs next seat
 
 -- all that was read is handled, and what the run makes, all of it and nothing else, is written
@@ -122,7 +122,7 @@ pub record IsCaughtUp {D : Type 0} (shown : D → Shown) (follows : Goes D) (lim
   pub bodies : List (List ℕ)
   pub rest : List ℕ
   pub outs : List Message
-  pub seat : Seat D
+  pub seat : SessionState D
   pub there : RanTo shown follows limits start read bodies rest outs to_take seat
   pub unrefused : IsUnrefused (verdict (bounds_of limits) rest)
   pub goes_on : has_ended seat.session ≡ false
@@ -142,7 +142,7 @@ pub record Completes {D : Type 0} (shown : D → Shown) (follows : Goes D) (limi
   pub bodies : List (List ℕ)
   pub rest : List ℕ
   pub outs : List Message
-  pub seat : Seat D
+  pub seat : SessionState D
   pub there : RanTo shown follows limits start used bodies rest outs to_take seat
   pub written_is : written ≡ bytes_of outs
   pub phase : served.phase ≡ seat.session.phase
@@ -158,7 +158,7 @@ pub record CutShort {D : Type 0} (shown : D → Shown) (follows : Goes D) (limit
   pub others : List ℕ
   pub outs_are : bytes_of outs ≡ front ++ others
   pub written_is : written ≡ front
-  pub count : n ≡ counted (length front)
+  pub count : n ≡ saturating_count (length front)
 
 -- a run stops by a fault of the adapter, and all that it made before is written
 pub record StopsThere {D : Type 0} (shown : D → Shown) (follows : Goes D) (limits : Settings) (start : D) (read written : List ℕ) (fault : AdapterFault) : Type 0 where

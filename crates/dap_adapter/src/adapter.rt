@@ -5,7 +5,7 @@ ghost use Rattle.dap_frame.specs.Ends.{EndsWith};
 ghost use Rattle.dap_frame.specs.Intake.{StandsFor as StandsForStream};
 ghost use Rattle.dap_frame.specs.declared.frames.End.{End};
 ghost use Rattle.dap_adapter.specs.Calls.{TakeRefused};
-ghost use Rattle.dap_adapter.specs.Receives.{HasReceived, IsBy};
+ghost use Rattle.dap_adapter.specs.PrivateReceives.{HasReceived, IsBy};
 ghost use Rattle.dap_reader.specs.declared.fault.ReadFault.{ReadFault};
 ghost use Rattle.dap_tables.specs.SourceMap.{count};
 ghost use Rattle.dap_session.specs.Session.{fresh_session, oldest};
@@ -32,10 +32,10 @@ pub struct Adapter<D: Debuggee + Drop> {
 impl<D: Debuggee + Drop> Model for Adapter<D> {
     ghost use Rattle.std.specs.Coded.{codes};
     ghost use Rattle.dap_json.specs.Stored.{coded_data};
-    ghost use Rattle.dap_adapter.specs.End.{End as AdapterEnd};
+    ghost use Rattle.dap_adapter.specs.AdapterState.{AdapterState};
     ghost use Rattle.dap_adapter.specs.Calls.{IsAdapter};
 
-    ghost Value = { AdapterEnd D };
+    ghost Value = { AdapterState D };
 
     ghost coded = { Prim.hlevel (codes, coded_data, D.code) };
 
@@ -274,7 +274,7 @@ fn receive<D: Debuggee + Drop>(
     requires { reader.old.fault ≡ None }
     ensures bounds { reader.new.intake.bounds ≡ reader.old.intake.bounds }
     ensures open { OnOk result (reader.new.fault ≡ None) }
-    ensures received { IfOk result (λ taken. HasReceived reader.old.intake reader.new.intake session.old session.new piece.now taken taken.delivered) }
+    ensures received { IfOk result (λ taken. HasReceived D.follows reader.old.intake reader.new.intake session.old session.new piece.now taken taken.delivered) }
     ensures progress { IfOk result (λ taken. 0 < length piece.now → 0 < taken.used) }
     ensures within { IfOk result (λ taken. taken.used ≤ length piece.now) }
     ensures refused { IfErr result (λ fault. TakeRefused reader.old.intake session.old.session piece.now fault) }

@@ -1,7 +1,7 @@
 //! Bytes that are gathered before they go out.
-ghost use Rattle.std.specs.Prelude.{◌≡◌, ℕ, ◌+◌, ◌<◌, [], ◌++◌, length, OnOk, IfErr};
-ghost use Rattle.dap_channel.specs.Sent.{Sends, counted};
-ghost use Rattle.dap_adapter.specs.Serving.{FallsShort, Gathers, GathersNot};
+ghost use Rattle.std.specs.Prelude.{◌≡◌, ℕ, ◌+◌, ◌<◌, [], length, OnOk, IfErr};
+ghost use Rattle.dap_channel.specs.Sent.{Sends, saturating_count};
+ghost use Rattle.dap_adapter.specs.PrivateServing.{sink_of, FallsShort, Gathers, GathersNot};
 
 use crate::served::ServeFault;
 use dap_channel::{Channel, send};
@@ -32,8 +32,8 @@ impl Outlet {
     pub(crate) fn send<C: Channel>(&mut self, channel: &mut C) -> Result<(), ServeFault>
         ensures sent { OnOk result (Sends C.goes channel.old channel.new self.old.gathered.items) }
         ensures none { OnOk result (self.new.gathered.items ≡ []) }
-        ensures count { OnOk result ((others : ℕ) → self.old.written ≡ counted others → self.new.written ≡ counted (others + length self.old.gathered.items)) }
-        ensures short { IfErr result (FallsShort C.goes channel.old channel.new self.old.gathered.items self.old.written) }
+        ensures count { OnOk result ((others : ℕ) → self.old.written ≡ saturating_count others → self.new.written ≡ saturating_count (others + length self.old.gathered.items)) }
+        ensures short { IfErr result (FallsShort C.goes (sink_of channel.old self.old) channel.new self.old.gathered.items) }
     {
         if self.gathered.is_empty() {
             return Ok(());
@@ -54,9 +54,9 @@ impl Outlet {
         channel: &mut C,
         bytes: &[u8],
     ) -> Result<(), ServeFault>
-        ensures gathers { OnOk result (Gathers C.goes channel.old channel.new (self.old.gathered.items ++ bytes.now) self.new.gathered.items self.old.written self.new.written) }
+        ensures gathers { OnOk result (Gathers C.goes (sink_of channel.old self.old) bytes.now (sink_of channel.new self.new)) }
         ensures few { OnOk result (length self.new.gathered.items < 65536) }
-        ensures refused { IfErr result (GathersNot C.goes channel.old channel.new self.old.gathered.items bytes.now self.new.gathered.items self.old.written self.new.written) }
+        ensures refused { IfErr result (GathersNot C.goes (sink_of channel.old self.old) bytes.now (sink_of channel.new self.new)) }
     {
         if let Err(_) = self.gathered.extend_from_slice(bytes) {
             return Err(ServeFault::OutOfMemory);

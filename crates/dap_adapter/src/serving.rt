@@ -9,7 +9,7 @@ ghost use Rattle.dap_channel.specs.Channel.{IoEvent, Pipes, bytes_read, bytes_wr
 ghost use Rattle.dap_adapter.specs.declared.served.Served.{Served};
 ghost use Rattle.dap_adapter.specs.declared.served.ServeFault.{ServeFault};
 ghost use Rattle.dap_adapter.specs.Served.{Start, Serves, ServesBytes, Comes, ReadsInTurn, AreSmall, HasReason};
-ghost use Rattle.dap_adapter.specs.Serving.{Reaches, Leads, Breaks, Handled, BreaksOff, Uses, UsesUp, BreaksIn, EndsIn, serve_fault_of};
+ghost use Rattle.dap_adapter.specs.PrivateServing.{served_by, sink_of, progress_of, place_at, Reaches, Leads, Breaks, AfterHandling, BreaksOff, Uses, UsesUp, BreaksIn, EndsIn, serve_fault_of};
 
 use crate::adapter::Adapter;
 use crate::outlet::Outlet;
@@ -71,8 +71,8 @@ fn turns<C: Channel, D: Debuggee + Drop>(
     channel: &mut C,
     outlet: &mut Outlet,
 ) -> Result<(), ServeFault>
-    ensures idle { OnOk result (Leads C.goes D.shown D.follows channel.old adapter.old outlet.old.gathered.items outlet.old.written to_turn channel.new adapter.new outlet.new.gathered.items outlet.new.written (to_poll 0)) }
-    ensures halts { IfErr result (Breaks C.goes D.shown D.follows channel.old adapter.old outlet.old.gathered.items outlet.old.written to_turn channel.new outlet.new.gathered.items outlet.new.written) }
+    ensures idle { OnOk result (Leads (served_by C.goes D.shown D.follows) (progress_of channel.old adapter.old outlet.old) to_turn (progress_of channel.new adapter.new outlet.new) (to_poll 0)) }
+    ensures halts { IfErr result (Breaks (served_by C.goes D.shown D.follows) (progress_of channel.old adapter.old outlet.old) to_turn (sink_of channel.new outlet.new)) }
 {
     calls_add_up::<C>();
     'turns: loop {
@@ -94,8 +94,8 @@ fn polls<C: Channel, D: Debuggee + Drop>(
     channel: &mut C,
     outlet: &mut Outlet,
 ) -> Result<(), ServeFault>
-    ensures told { OnOk result (Leads C.goes D.shown D.follows channel.old adapter.old outlet.old.gathered.items outlet.old.written (to_poll 0) channel.new adapter.new outlet.new.gathered.items outlet.new.written to_take) }
-    ensures halts { IfErr result (Breaks C.goes D.shown D.follows channel.old adapter.old outlet.old.gathered.items outlet.old.written (to_poll 0) channel.new outlet.new.gathered.items outlet.new.written) }
+    ensures told { OnOk result (Leads (served_by C.goes D.shown D.follows) (progress_of channel.old adapter.old outlet.old) (to_poll 0) (progress_of channel.new adapter.new outlet.new) to_take) }
+    ensures halts { IfErr result (Breaks (served_by C.goes D.shown D.follows) (progress_of channel.old adapter.old outlet.old) (to_poll 0) (sink_of channel.new outlet.new)) }
 {
     calls_add_up::<C>();
     for _poll in 0..MAX_POLLS {
@@ -124,8 +124,8 @@ fn handle<C: Channel, D: Debuggee + Drop>(
     outlet: &mut Outlet,
     bytes: &[u8],
 ) -> Result<(), ServeFault>
-    ensures handled { OnOk result (Handled C.goes D.shown D.follows channel.old adapter.old outlet.old.gathered.items outlet.old.written bytes.now channel.new adapter.new outlet.new.gathered.items outlet.new.written) }
-    ensures halts { IfErr result (BreaksOff C.goes D.shown D.follows channel.old adapter.old outlet.old.gathered.items outlet.old.written bytes.now channel.new outlet.new.gathered.items outlet.new.written) }
+    ensures handled { OnOk result (AfterHandling (served_by C.goes D.shown D.follows) (progress_of channel.old adapter.old outlet.old) bytes.now (progress_of channel.new adapter.new outlet.new)) }
+    ensures halts { IfErr result (BreaksOff (served_by C.goes D.shown D.follows) (progress_of channel.old adapter.old outlet.old) bytes.now (sink_of channel.new outlet.new)) }
 {
     calls_add_up::<C>();
     if let Err(fault) = outlet.gather(channel, bytes) {
@@ -167,8 +167,8 @@ fn serve_frame<C: Channel, D: Debuggee + Drop>(
 ) -> Result<usize, ServeFault>
     ensures some { IfOk result (λ k. 0 < length piece.now → 0 < k) }
     ensures within { IfOk result (λ k. k ≤ length piece.now) }
-    ensures uses { IfOk result (Uses C.goes D.shown D.follows channel.old adapter.old outlet.old.gathered.items outlet.old.written channel.new adapter.new outlet.new.gathered.items outlet.new.written piece.now) }
-    ensures halts { IfErr result (BreaksIn C.goes D.shown D.follows channel.old adapter.old outlet.old.gathered.items outlet.old.written channel.new outlet.new.gathered.items outlet.new.written piece.now) }
+    ensures uses { IfOk result (Uses (served_by C.goes D.shown D.follows) (progress_of channel.old adapter.old outlet.old) (progress_of channel.new adapter.new outlet.new) piece.now) }
+    ensures halts { IfErr result (BreaksIn (served_by C.goes D.shown D.follows) (progress_of channel.old adapter.old outlet.old) (sink_of channel.new outlet.new) piece.now) }
 {
     // A law for the proof: what was read is one list of frames.
     each_stream_has_one_split();
@@ -194,8 +194,8 @@ fn serve_piece<C: Channel, D: Debuggee + Drop>(
     outlet: &mut Outlet,
     piece: &[u8],
 ) -> Result<bool, ServeFault>
-    ensures uses_up { IfOk result (UsesUp C.goes D.shown D.follows channel.old adapter.old outlet.old.gathered.items outlet.old.written channel.new adapter.new outlet.new.gathered.items outlet.new.written piece.now) }
-    ensures halts { IfErr result (BreaksIn C.goes D.shown D.follows channel.old adapter.old outlet.old.gathered.items outlet.old.written channel.new outlet.new.gathered.items outlet.new.written piece.now) }
+    ensures uses_up { IfOk result (UsesUp (served_by C.goes D.shown D.follows) (progress_of channel.old adapter.old outlet.old) (progress_of channel.new adapter.new outlet.new) piece.now) }
+    ensures halts { IfErr result (BreaksIn (served_by C.goes D.shown D.follows) (progress_of channel.old adapter.old outlet.old) (sink_of channel.new outlet.new) piece.now) }
 {
     let mut at = 0;
     while at < piece.len() {
@@ -219,9 +219,9 @@ fn serve_read<C: Channel, D: Debuggee + Drop>(
     outlet: &mut Outlet,
     piece: &[u8],
 ) -> Result<bool, ServeFault>
-    ensures uses_up { IfOk result (UsesUp C.goes D.shown D.follows channel.old adapter.old outlet.old.gathered.items outlet.old.written channel.new adapter.new outlet.new.gathered.items outlet.new.written piece.now) }
+    ensures uses_up { IfOk result (UsesUp (served_by C.goes D.shown D.follows) (progress_of channel.old adapter.old outlet.old) (progress_of channel.new adapter.new outlet.new) piece.now) }
     ensures none_left { OnOk result (outlet.new.gathered.items ≡ []) }
-    ensures stops { IfErr result (EndsIn C.goes D.shown D.follows channel.old adapter.old outlet.old.gathered.items outlet.old.written channel.new piece.now) }
+    ensures stops { IfErr result (EndsIn (served_by C.goes D.shown D.follows) (progress_of channel.old adapter.old outlet.old) channel.new piece.now) }
 {
     calls_add_up::<C>();
     match serve_piece(alloc, adapter, channel, outlet, piece) {
@@ -249,7 +249,7 @@ fn serve_reads<C: Channel, D: Debuggee + Drop>(
 ) -> Result<Served, ServeFault>
     requires going { has_ended adapter.old.session ≡ false }
     requires none { outlet.old.gathered.items ≡ [] }
-    ensures { (b : Start C D) → max_reads ≡ b.most → Reaches C.goes D.shown D.follows b channel.old adapter.old outlet.old.gathered.items outlet.old.written 0 [] [] [] to_take → Serves C.goes D.shown D.follows b channel.new result }
+    ensures { (b : Start C D) → max_reads ≡ b.most → Reaches (served_by C.goes D.shown D.follows b) (progress_of channel.old adapter.old outlet.old) (place_at 0 [] [] []) to_take → Serves C.goes D.shown D.follows b channel.new result }
 {
     let mut buffer = [0; 4096];
     for _read in 0..max_reads {

@@ -4,9 +4,9 @@ use Rattle.std.specs.Fmt.{digits}
 use Rattle.json.specs.Print.{escape_byte}
 use Rattle.serde_json.specs.Data.{boolean, negative, number, string, array, object, no_items, no_members, member}
 use Rattle.serde_json.specs.Written.{compact_text}
-use Rattle.dap_json.specs.Put.{whole}
+use Rattle.dap_json.specs.Put.{whole_number}
 use Rattle.dap_call.specs.declared.key.Key.TheVariants as key
-use Rattle.dap_body.specs.Failure.{row_of, in_order, failure_body}
+use Rattle.dap_body.specs.Failure.{row_of, failures_in_order, failure_body}
 use Rattle.dap_body.specs.ResponseBody.{set_breakpoints_body, threads_body, continue_body, stack_trace_body, scopes_body, variables_body, evaluate_body, source_body, loaded_sources_body}
 use Rattle.dap_body.specs.EventBody.{output_body, stopped_body, continued_body, exited_body}
 use Rattle.dap_body.specs.declared.failure.Failure.TheVariants.{NotInitialized, BadArguments, NotStopped, Debuggee, TooLarge, Busy, Cancelled}
@@ -14,7 +14,7 @@ use Rattle.dap_body.specs.declared.response.Source.{Source}
 
 -- ---- failures
 
-numbers_in_order : map (λ f. (row_of f).id) (in_order key.Path) ≡ 1001 ∷ 1002 ∷ 1003 ∷ 1004 ∷ 1005 ∷ 1007 ∷ 1006 ∷ 1008 ∷ 1009 ∷ 1014 ∷ 1013 ∷ 1015 ∷ 1010 ∷ 1017 ∷ 1016 ∷ []
+numbers_in_order : map (λ f. (row_of f).id) (failures_in_order key.Path) ≡ 1001 ∷ 1002 ∷ 1003 ∷ 1004 ∷ 1005 ∷ 1007 ∷ 1006 ∷ 1008 ∷ 1009 ∷ 1014 ∷ 1013 ∷ 1015 ∷ 1010 ∷ 1017 ∷ 1016 ∷ []
 numbers_in_order = refl
 
 outside_the_order : ((row_of Busy).id ≡ 1011) × ((row_of Cancelled).id ≡ 1012)
@@ -35,7 +35,7 @@ one_row_for_all_keys = (refl, refl)
 first_and_last_text : ((row_of NotInitialized).format ≡ codes "The session is not initialized.") × ((row_of TooLarge).format ≡ codes "The response would be too large.")
 first_and_last_text = (refl, refl)
 
-as_an_error : failure_body Cancelled ≡ object (member (codes "error") (object (member (codes "format") (string (codes "The request was cancelled.")) (member (codes "id") (whole 1012) no_members))) no_members)
+as_an_error : failure_body Cancelled ≡ object (member (codes "error") (object (member (codes "format") (string (codes "The request was cancelled.")) (member (codes "id") (whole_number 1012) no_members))) no_members)
 as_an_error = refl
 
 text_of_an_error : compact_text (failure_body NotInitialized) ≡ codes "{\"error\":{\"format\":\"The session is not initialized.\",\"id\":1001}}"
@@ -46,7 +46,7 @@ text_of_a_bad_key : compact_text (failure_body (BadArguments key.ThreadId)) ≡ 
 unfolding escape_byte digits
 text_of_a_bad_key = refl
 
-fifteen_in_order : length (in_order key.Arguments) ≡ 15
+fifteen_in_order : length (failures_in_order key.Arguments) ≡ 15
 fifteen_in_order = refl
 
 a_refusal_of_the_debuggee : row_of Debuggee ≡ record { id = 1013; name = codes "debuggee"; format = codes "The debuggee refused." }
@@ -123,7 +123,7 @@ a_stop : compact_text (stopped_body (codes "pause") (pos 1)) ≡ codes "{\"allTh
 unfolding escape_byte digits
 a_stop = refl
 
-stop_as_data : stopped_body (codes "step") (pos 2) ≡ object (member (codes "allThreadsStopped") (boolean true) (member (codes "reason") (string (codes "step")) (member (codes "threadId") (whole 2) no_members)))
+stop_as_data : stopped_body (codes "step") (pos 2) ≡ object (member (codes "allThreadsStopped") (boolean true) (member (codes "reason") (string (codes "step")) (member (codes "threadId") (whole_number 2) no_members)))
 stop_as_data = refl
 
 a_thread_goes_on : compact_text (continued_body (negsuc 0)) ≡ codes "{\"allThreadsContinued\":true,\"threadId\":-1}"
@@ -137,7 +137,7 @@ least_exit_code : compact_text (exited_body (negsuc 2147483647)) ≡ codes "{\"e
 unfolding escape_byte digits
 least_exit_code = refl
 
-exit_as_data : exited_body (pos 0) ≡ object (member (codes "exitCode") (whole 0) no_members)
+exit_as_data : exited_body (pos 0) ≡ object (member (codes "exitCode") (whole_number 0) no_members)
 exit_as_data = refl
 
 a_quote_is_escaped : compact_text (output_body (codes "console") (codes "say \"a\"")) ≡ codes "{\"category\":\"console\",\"output\":\"say \\\"a\\\"\"}"
@@ -148,7 +148,7 @@ a_stop_below_0 : compact_text (stopped_body (codes "entry") (negsuc 900719925474
 unfolding escape_byte digits
 a_stop_below_0 = refl
 
-thread_0_goes_on : continued_body (pos 0) ≡ object (member (codes "allThreadsContinued") (boolean true) (member (codes "threadId") (whole 0) no_members))
+thread_0_goes_on : continued_body (pos 0) ≡ object (member (codes "allThreadsContinued") (boolean true) (member (codes "threadId") (whole_number 0) no_members))
 thread_0_goes_on = refl
 
 greatest_exit_code : compact_text (exited_body (pos 2147483647)) ≡ codes "{\"exitCode\":2147483647}"

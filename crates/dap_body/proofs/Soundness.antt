@@ -1,13 +1,13 @@
 -- What a Rust value's parts are written as is sound: keys in byte order, texts in UTF-8, numbers of 64 bits.
-use Rattle.std.proofs.Common.{ℕ, ◌<◌, ◌^◌, List, [], ◌∷◌, ◌++◌, codes, Option, Some, None, IsUtf8, refl, lit<}
+use Rattle.std.proofs.Common.{ℕ, ◌<◌, ◌^◌, List, [], ◌∷◌, codes, Option, Some, None, IsUtf8, refl, lit<}
 use Rattle.std.specs.List.{AllByRecursion}
 use Rattle.json.proofs.Printed.Utf8.{IsUtf8-are_ascii}
 use Rattle.serde_json.specs.Data.{Data}
 use Rattle.serde_json.specs.Find.{of_integer}
 use Rattle.dap_json.specs.Sound.{IsSound, IsSoundNumber}
-use Rattle.dap_body.specs.ResponseBody.{breakpoint, thread, source, stack_frame, scope, variable, list_of, only, stack_trace_body, evaluate_body, source_body}
+use Rattle.dap_body.specs.ResponseBody.{breakpoint, thread, source, stack_frame, scope, variable, list_of, only_member, stack_trace_body, evaluate_body, source_body}
 use Rattle.dap_body.specs.Failure.{failure_body, row_of}
-use Rattle.dap_body.specs.Text.{HasSoundPath}
+use Rattle.dap_body.specs.PrivateText.{HasSoundPath}
 use Rattle.dap_body.specs.declared.failure.Failure.{Failure}
 use Rattle.dap_body.specs.declared.failure.Failure.TheVariants.{NotInitialized, AlreadyInitialized, UnknownCommand, Unsupported, BadArguments, WrongPhase, NotStopped, UnknownThread, StaleReference, UnknownSource, Debuggee, TooManyBreakpoints, TooManyReferences, ReferencesExhausted, TooLarge, Busy, Cancelled}
 use Rattle.dap_body.specs.declared.response.Breakpoint.{Breakpoint}
@@ -47,8 +47,8 @@ pub list-sound : {A : Type 0} (each : A → Data) (xs : List A) → AllByRecursi
 list-sound each [] h = tt
 list-sound each (x ∷ xs) h = (h.0, list-sound each xs h.1)
 
-pub only-sound : (key : List ℕ) (d : Data) → IsUtf8 key → IsSound d → IsSound (only key d)
-only-sound key d k s = (k, tt, s, tt)
+pub only_member-sound : (key : List ℕ) (d : Data) → IsUtf8 key → IsSound d → IsSound (only_member key d)
+only_member-sound key d k s = (k, tt, s, tt)
 
 pub frames-sound : (frames : List StackFrame) (total : ℕ) → IsSound (list_of stack_frame frames) → total < 2 ^ 64 → IsSound (stack_trace_body frames total)
 frames-sound frames total s t = (IsUtf8-are_ascii (codes "stackFrames") refl, (refl, tt), s, (IsUtf8-are_ascii (codes "totalFrames") refl, tt, t, tt))
@@ -84,8 +84,3 @@ fits Cancelled = lit< tt
 pub failure-sound : (failure : Failure) → IsUtf8 (row_of failure).format → IsSound (failure_body failure)
 failure-sound failure format =
     (IsUtf8-are_ascii (codes "error") refl, tt, (IsUtf8-are_ascii (codes "format") refl, (refl, tt), format, (IsUtf8-are_ascii (codes "id") refl, tt, fits failure, tt)), tt)
-
--- one element more
-pub all-push : {A : Type 0} (P : A → Type 0) (xs : List A) (x : A) → AllByRecursion P xs → P x → AllByRecursion P (xs ++ x ∷ [])
-all-push P [] x h p = (p, tt)
-all-push P (y ∷ ys) x h p = (h.0, all-push P ys x h.1 p)

@@ -2,7 +2,7 @@
 -- The numbers, the short names, the texts and their one order are this profile's choice, but for the short names `cancelled` and `notStopped`, which are the standard's own ("Response").
 use Rattle.std.specs.Prelude.{ℕ, List, [], ◌∷◌, ◌++◌, codes}
 use Rattle.serde_json.specs.Data.{Data, string, object, no_members, member}
-use Rattle.dap_json.specs.Put.{whole}
+use Rattle.dap_json.specs.Put.{whole_number}
 use Rattle.dap_call.specs.Key.{text_of}
 use Rattle.dap_call.specs.declared.key.Key.{Key}
 use Rattle.dap_body.specs.declared.failure.Failure.{Failure}
@@ -14,34 +14,34 @@ pub record Row : Type 0 where
   pub name : List ℕ
   pub format : List ℕ
 
-abbrev pub numbered : ℕ → List ℕ → List ℕ → Row
-numbered id name format = record { id = id; name = name; format = format }
+abbrev pub failure_row : ℕ → List ℕ → List ℕ → Row
+failure_row id name format = record { id = id; name = name; format = format }
 
 abbrev pub bad_argument_format : Key → List ℕ
 bad_argument_format key = codes "The argument " ++ (text_of key ++ codes " is missing or malformed.")
 
 abbrev pub row_of : Failure → Row
-row_of NotInitialized = numbered 1001 (codes "notInitialized") (codes "The session is not initialized.")
-row_of AlreadyInitialized = numbered 1002 (codes "alreadyInitialized") (codes "The session is already initialized.")
-row_of UnknownCommand = numbered 1003 (codes "unknownCommand") (codes "The command is not known.")
-row_of Unsupported = numbered 1004 (codes "unsupported") (codes "The command is not supported.")
-row_of (BadArguments key) = numbered 1005 (codes "badArguments") (bad_argument_format key)
-row_of WrongPhase = numbered 1007 (codes "wrongPhase") (codes "The request does not fit the state of the session.")
-row_of NotStopped = numbered 1006 (codes "notStopped") (codes "The debuggee is not stopped.")
-row_of UnknownThread = numbered 1008 (codes "unknownThread") (codes "The thread does not exist.")
-row_of StaleReference = numbered 1009 (codes "staleReference") (codes "The reference is not valid in this stop.")
-row_of UnknownSource = numbered 1014 (codes "unknownSource") (codes "The source does not exist.")
-row_of Debuggee = numbered 1013 (codes "debuggee") (codes "The debuggee refused.")
-row_of TooManyBreakpoints = numbered 1015 (codes "tooManyBreakpoints") (codes "Too many breakpoints are set.")
-row_of TooManyReferences = numbered 1010 (codes "tooManyReferences") (codes "Too many references are in use.")
-row_of ReferencesExhausted = numbered 1017 (codes "referencesExhausted") (codes "No reference numbers are left.")
-row_of TooLarge = numbered 1016 (codes "tooLarge") (codes "The response would be too large.")
-row_of Busy = numbered 1011 (codes "busy") (codes "Too many requests are waiting.")
-row_of Cancelled = numbered 1012 (codes "cancelled") (codes "The request was cancelled.")
+row_of NotInitialized = failure_row 1001 (codes "notInitialized") (codes "The session is not initialized.")
+row_of AlreadyInitialized = failure_row 1002 (codes "alreadyInitialized") (codes "The session is already initialized.")
+row_of UnknownCommand = failure_row 1003 (codes "unknownCommand") (codes "The command is not known.")
+row_of Unsupported = failure_row 1004 (codes "unsupported") (codes "The command is not supported.")
+row_of (BadArguments key) = failure_row 1005 (codes "badArguments") (bad_argument_format key)
+row_of WrongPhase = failure_row 1007 (codes "wrongPhase") (codes "The request does not fit the state of the session.")
+row_of NotStopped = failure_row 1006 (codes "notStopped") (codes "The debuggee is not stopped.")
+row_of UnknownThread = failure_row 1008 (codes "unknownThread") (codes "The thread does not exist.")
+row_of StaleReference = failure_row 1009 (codes "staleReference") (codes "The reference is not valid in this stop.")
+row_of UnknownSource = failure_row 1014 (codes "unknownSource") (codes "The source does not exist.")
+row_of Debuggee = failure_row 1013 (codes "debuggee") (codes "The debuggee refused.")
+row_of TooManyBreakpoints = failure_row 1015 (codes "tooManyBreakpoints") (codes "Too many breakpoints are set.")
+row_of TooManyReferences = failure_row 1010 (codes "tooManyReferences") (codes "Too many references are in use.")
+row_of ReferencesExhausted = failure_row 1017 (codes "referencesExhausted") (codes "No reference numbers are left.")
+row_of TooLarge = failure_row 1016 (codes "tooLarge") (codes "The response would be too large.")
+row_of Busy = failure_row 1011 (codes "busy") (codes "Too many requests are waiting.")
+row_of Cancelled = failure_row 1012 (codes "cancelled") (codes "The request was cancelled.")
 
 -- The order in which an adapter tests a request, where `key` is the first bad one: the first of these that holds is answered. Busy and Cancelled come outside it.
-abbrev pub in_order : Key → List Failure
-in_order key =
+abbrev pub failures_in_order : Key → List Failure
+failures_in_order key =
     NotInitialized ∷ AlreadyInitialized ∷ UnknownCommand ∷ Unsupported ∷ BadArguments key ∷ WrongPhase ∷ NotStopped ∷ UnknownThread ∷ StaleReference ∷ UnknownSource
     ∷ Debuggee ∷ TooManyBreakpoints ∷ TooManyReferences ∷ ReferencesExhausted ∷ TooLarge ∷ []
 
@@ -50,6 +50,6 @@ abbrev pub failure_body : Failure → Data
 failure_body failure = object (
     member (codes "error") (object (
     member (codes "format") (string (row_of failure).format) (
-    member (codes "id") (whole (row_of failure).id)
+    member (codes "id") (whole_number (row_of failure).id)
     no_members)))
     no_members)

@@ -2,4 +2,4 @@ pub mod Failure
 pub mod ResponseBody
 pub mod EventBody
 pub mod Body
-pub mod Text
+pub mod PrivateText

@@ -4,7 +4,7 @@ use Rattle.std.specs.Prelude.{ℕ, List, true, false, Option, Some, None, codes,
 use Rattle.serde_json.specs.Data.{Data, boolean, number, string, array, object, Members, no_members, member}
 use Rattle.serde_json.specs.Find.{of_integer}
 use Rattle.serde_json.specs.View.{items_of}
-use Rattle.dap_json.specs.Put.{whole}
+use Rattle.dap_json.specs.Put.{whole_number}
 use Rattle.dap_body.specs.declared.response.Breakpoint.{Breakpoint}
 use Rattle.dap_body.specs.declared.response.Scope.{Scope}
 use Rattle.dap_body.specs.declared.response.Source.{Source}
@@ -16,8 +16,8 @@ use Rattle.dap_body.specs.declared.response.Variable.{Variable}
 
 abbrev pub breakpoint : Breakpoint → Data
 breakpoint b = object (
-    member (codes "id") (whole b.id) (
-    member (codes "line") (whole b.line) (
+    member (codes "id") (whole_number b.id) (
+    member (codes "line") (whole_number b.line) (
     member (codes "verified") (boolean b.verified)
     no_members)))
 
@@ -36,14 +36,14 @@ abbrev pub source : Source → Data
 source s = object (
     member (codes "name") (string s.name) (
     with_path s.path (
-    member (codes "sourceReference") (whole s.source_reference)
+    member (codes "sourceReference") (whole_number s.source_reference)
     no_members)))
 
 abbrev pub stack_frame : StackFrame → Data
 stack_frame f = object (
-    member (codes "column") (whole f.column) (
-    member (codes "id") (whole f.id) (
-    member (codes "line") (whole f.line) (
+    member (codes "column") (whole_number f.column) (
+    member (codes "id") (whole_number f.id) (
+    member (codes "line") (whole_number f.line) (
     member (codes "name") (string f.name) (
     member (codes "source") (source f.source)
     no_members)))))
@@ -52,14 +52,14 @@ abbrev pub scope : Scope → Data
 scope s = object (
     member (codes "expensive") (boolean false) (
     member (codes "name") (string s.name) (
-    member (codes "variablesReference") (whole s.variables_reference)
+    member (codes "variablesReference") (whole_number s.variables_reference)
     no_members)))
 
 abbrev pub variable : Variable → Data
 variable v = object (
     member (codes "name") (string v.name) (
     member (codes "value") (string v.value) (
-    member (codes "variablesReference") (whole v.variables_reference)
+    member (codes "variablesReference") (whole_number v.variables_reference)
     no_members)))
 
 -- ---- the bodies
@@ -67,39 +67,39 @@ variable v = object (
 abbrev pub list_of : {A : Type 0} → (A → Data) → List A → Data
 list_of each xs = array (items_of (map each xs))
 
-abbrev pub only : List ℕ → Data → Data
-only key d = object (member key d no_members)
+abbrev pub only_member : List ℕ → Data → Data
+only_member key d = object (member key d no_members)
 
 abbrev pub set_breakpoints_body : List Breakpoint → Data
-set_breakpoints_body breakpoints = only (codes "breakpoints") (list_of breakpoint breakpoints)
+set_breakpoints_body breakpoints = only_member (codes "breakpoints") (list_of breakpoint breakpoints)
 
 abbrev pub threads_body : List Thread → Data
-threads_body threads = only (codes "threads") (list_of thread threads)
+threads_body threads = only_member (codes "threads") (list_of thread threads)
 
 abbrev pub continue_body : Data
-continue_body = only (codes "allThreadsContinued") (boolean true)
+continue_body = only_member (codes "allThreadsContinued") (boolean true)
 
 -- `totalFrames` counts all frames of the thread, not only those of the list
 abbrev pub stack_trace_body : List StackFrame → ℕ → Data
 stack_trace_body frames total = object (
     member (codes "stackFrames") (list_of stack_frame frames) (
-    member (codes "totalFrames") (whole total)
+    member (codes "totalFrames") (whole_number total)
     no_members))
 
 abbrev pub scopes_body : List Scope → Data
-scopes_body scopes = only (codes "scopes") (list_of scope scopes)
+scopes_body scopes = only_member (codes "scopes") (list_of scope scopes)
 
 abbrev pub variables_body : List Variable → Data
-variables_body variables = only (codes "variables") (list_of variable variables)
+variables_body variables = only_member (codes "variables") (list_of variable variables)
 
 abbrev pub evaluate_body : List ℕ → ℕ → Data
 evaluate_body result reference = object (
     member (codes "result") (string result) (
-    member (codes "variablesReference") (whole reference)
+    member (codes "variablesReference") (whole_number reference)
     no_members))
 
 abbrev pub source_body : List ℕ → Data
-source_body content = only (codes "content") (string content)
+source_body content = only_member (codes "content") (string content)
 
 abbrev pub loaded_sources_body : List Source → Data
-loaded_sources_body sources = only (codes "sources") (list_of source sources)
+loaded_sources_body sources = only_member (codes "sources") (list_of source sources)

@@ -7,8 +7,8 @@ ghost use Rattle.serde_json.specs.Written.{compact_text};
 ghost use Rattle.serde_json.specs.Find.{of_integer};
 ghost use Rattle.dap_json.specs.Sound.{IsSound, IsSoundNumber};
 ghost use Rattle.dap_body.specs.Body.{data_of};
-ghost use Rattle.dap_body.specs.ResponseBody.{list_of, only as only_member, stack_trace_body, evaluate_body, source_body};
-ghost use Rattle.dap_body.specs.Text.{Adds, HasSoundPath, path_tokens, tokens_of};
+ghost use Rattle.dap_body.specs.ResponseBody.{list_of, only_member, stack_trace_body, evaluate_body, source_body};
+ghost use Rattle.dap_body.specs.PrivateText.{Adds, HasSoundPath, path_tokens, tokens_of};
 
 use crate::response::{Breakpoint, Scope, Source, StackFrame, Thread, Variable};
 use dap_json::Text;
@@ -54,7 +54,7 @@ pub enum Body {
 trait Part: Drop {
     ghost use Rattle.serde_json.specs.Data.{Data};
     ghost use Rattle.dap_json.specs.Sound.{IsSound};
-    ghost use Rattle.dap_body.specs.Text.{tokens_of, Adds};
+    ghost use Rattle.dap_body.specs.PrivateText.{tokens_of, Adds};
 
     ghost written: { Self → Data };
 

@@ -6,7 +6,7 @@ ghost use Rattle.std.specs.Prelude.{◌≡◌, IfOk, OnOk, codes, option_map};
 ghost use Rattle.serde_json.specs.Data.{string};
 ghost use Rattle.serde_json.specs.View.{view, members_view};
 ghost use Rattle.dap_json.specs.Put.{put_if};
-ghost use Rattle.dap_body.specs.ResponseBody.{list_of, only as only_member, set_breakpoints_body, threads_body, continue_body, stack_trace_body, scopes_body, variables_body, evaluate_body, source_body, loaded_sources_body};
+ghost use Rattle.dap_body.specs.ResponseBody.{list_of, only_member, set_breakpoints_body, threads_body, continue_body, stack_trace_body, scopes_body, variables_body, evaluate_body, source_body, loaded_sources_body};
 
 use dap_json::Text;
 use dap_json::members::Members;

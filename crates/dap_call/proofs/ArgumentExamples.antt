@@ -2,7 +2,7 @@
 use Rattle.std.proofs.Common.{◌≡◌, codes, true, false, Float, Some, None, Ok, Err, pos, negsuc, refl}
 use Rattle.serde_json.specs.Data.{Data, boolean, null, number, unsigned, negative, float, string, array, object, no_items, no_members, put}
 use Rattle.serde_json.specs.Find.{as_str, as_bool}
-use Rattle.dap_call.specs.Argument.{int_of, number_of, seq_of, value_at, required, optional, optional_or, may_be_absent, must_be_there}
+use Rattle.dap_call.specs.Argument.{int_of, number_of, seq_of, value_at, required_at, optional_at, optional_or, may_be_absent, must_be_there}
 use Rattle.dap_call.specs.declared.key.Key.TheVariants as key
 
 -- ---- shapes
@@ -42,17 +42,17 @@ null_is_absent = (refl, refl)
 without_arguments : value_at key.Start None ≡ None
 without_arguments = refl
 
-required_has_to_be_there : (required number_of key.Levels (Some three) ≡ Ok 3) × (required number_of key.Start (Some three) ≡ Err key.Start) × (required number_of key.Line (Some three) ≡ Err key.Line)
+required_has_to_be_there : (required_at number_of key.Levels (Some three) ≡ Ok 3) × (required_at number_of key.Start (Some three) ≡ Err key.Start) × (required_at number_of key.Line (Some three) ≡ Err key.Line)
 required_has_to_be_there = (refl, refl, refl)
 
-required_has_a_shape : (required number_of key.Count (Some three) ≡ Err key.Count) × (required as_str key.Count (Some three) ≡ Ok (codes "3"))
+required_has_a_shape : (required_at number_of key.Count (Some three) ≡ Err key.Count) × (required_at as_str key.Count (Some three) ≡ Ok (codes "3"))
 required_has_a_shape = (refl, refl)
 
-optional_may_be_absent : (optional number_of key.Levels (Some three) ≡ Ok (Some 3)) × (optional number_of key.Start (Some three) ≡ Ok None) × (optional number_of key.Line None ≡ Ok None)
+optional_may_be_absent : (optional_at number_of key.Levels (Some three) ≡ Ok (Some 3)) × (optional_at number_of key.Start (Some three) ≡ Ok None) × (optional_at number_of key.Line None ≡ Ok None)
 optional_may_be_absent = (refl, refl, refl)
 
 -- a value that is there in another shape is bad, and not absent
-optional_has_a_shape : optional number_of key.Count (Some three) ≡ Err key.Count
+optional_has_a_shape : optional_at number_of key.Count (Some three) ≡ Err key.Count
 optional_has_a_shape = refl
 
 default_where_it_is_absent : (optional_or number_of 7 key.Levels (Some three) ≡ Ok 3) × (optional_or number_of 7 key.Start (Some three) ≡ Ok 7) × (optional_or number_of 7 key.Count (Some three) ≡ Err key.Count)

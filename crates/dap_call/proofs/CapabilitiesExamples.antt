@@ -1,7 +1,7 @@
 -- Worked examples of what an adapter offers, each shown by computation.
 use Rattle.std.proofs.Common.{◌≡◌, codes, true, false, Some, None, refl}
 use Rattle.serde_json.specs.Data.{Data, boolean, null, string, array, object, no_items, item, no_members, put}
-use Rattle.dap_call.specs.Capabilities.{is_flag, offered_by, updated_by, has, is_allowed, written}
+use Rattle.dap_call.specs.Capabilities.{is_flag, offered_by, updated_by, has, is_allowed, capabilities_data}
 use Rattle.dap_call.specs.declared.capabilities.Capabilities.{Capabilities}
 use Rattle.dap_call.specs.declared.command.Command.TheVariants.{StepBack, ReverseContinue, SetExceptionBreakpoints, Threads, Terminate, Cancel}
 use Rattle.dap_call.specs.declared.command.Gate.TheVariants as gate
@@ -60,11 +60,11 @@ what_is_no_object_changes_nothing = refl
 
 -- ---- what is written
 
-only_what_is_set : written offered ≡ object (put (codes "supportsStepBack") (boolean true) no_members)
+only_what_is_set : capabilities_data offered ≡ object (put (codes "supportsStepBack") (boolean true) no_members)
 only_what_is_set = refl
 
-nothing_is_set : written (offered_by None) ≡ object no_members
+nothing_is_set : capabilities_data (offered_by None) ≡ object no_members
 nothing_is_set = refl
 
-written_is_read_again : offered_by (Some (written (step_back_is (boolean true)))) ≡ offered
+written_is_read_again : offered_by (Some (capabilities_data (step_back_is (boolean true)))) ≡ offered
 written_is_read_again = refl

@@ -7,12 +7,12 @@ use Rattle.serde_json.specs.Data.{Data, null, array, object, Items, no_items, it
 use Rattle.serde_json.specs.Find.{as_array, as_number, as_u64}
 use Rattle.serde_json.proofs.Views.{get_member-put, get_member-put_other}
 use Rattle.dap_json.specs.Field.{if_passes, max_seq}
-use Rattle.dap_json.specs.Inside.{within, whole_of, numbers_in}
-use Rattle.dap_call.specs.Given.{reference_at, references_in, or_none, frame_ids, holders_of}
+use Rattle.dap_json.specs.Inside.{if_within, whole_of, numbers_in}
+use Rattle.dap_call.specs.GivenReferences.{reference_at, references_in, or_none, frame_ids, holders_of}
 use Rattle.dap_call.specs.Gathered.{given_holders, AreGivenBy, AreGathered}
 use Rattle.dap_call.specs.declared.command.Command.{Command}
 use Rattle.dap_call.specs.declared.command.Command.TheVariants as command
-use Rattle.dap_call.specs.declared.gathering.Given.{Given}
+use Rattle.dap_call.specs.declared.gathering.GatheredReferences.{GatheredReferences}
 
 -- the walkers' words and the readers' are the same
 numbers_are : (key : List ℕ) (least : ℕ) (ds : Items) → numbers_in key least 2147483647 ds ≡ references_in key least ds
@@ -24,12 +24,12 @@ abbrev items_in : List ℕ → ℕ → Option Data → List ℕ
 items_in key least found = references_in key least (or_none (option_and_then as_array found))
 
 abbrev own_in : Option Data → List ℕ
-own_in found = cons_option (within 1 2147483647 (if_passes (λ n. nat_le n max_seq) (option_and_then as_u64 (option_and_then as_number found)))) []
+own_in found = cons_option (if_within 1 2147483647 (if_passes (λ n. nat_le n max_seq) (option_and_then as_u64 (option_and_then as_number found)))) []
 
 apart : (key wanted : List ℕ) → bytes_eq key wanted ≡ false → wanted ≢ key
 apart key wanted e = λ same. true≢false (sym ((bytes_eq-Decides key wanted).1 (sym same)) ∙ e)
 
-module _ (old new : Given) (found : Members) (are : AreGathered old (object found)) where
+module _ (old new : GatheredReferences) (found : Members) (are : AreGathered old (object found)) where
   abbrev SameFrames : Type 0
   SameFrames = new.frames.items ≡ old.frames.items
 
@@ -83,7 +83,7 @@ module _ (old new : Given) (found : Members) (are : AreGathered old (object foun
     own = own_stays (codes "variables") (array ds) (apart (codes "variables") (codes "variablesReference") refl) s4;
   }
 
-  pub with_own : (d : Data) → new.own.items ≡ [] ++ cons_option (within 1 2147483647 (whole_of d)) [] → SameFrames → SameScopes → SameVariables → AreGathered new (object (put (codes "variablesReference") d found))
+  pub with_own : (d : Data) → new.own.items ≡ [] ++ cons_option (if_within 1 2147483647 (whole_of d)) [] → SameFrames → SameScopes → SameVariables → AreGathered new (object (put (codes "variablesReference") d found))
   with_own d is s1 s2 s3 = record {
     frames = frames_stay (codes "variablesReference") d (apart (codes "variablesReference") (codes "stackFrames") refl) s1;
     scopes = scopes_stay (codes "variablesReference") d (apart (codes "variablesReference") (codes "scopes") refl) s2;
@@ -92,10 +92,10 @@ module _ (old new : Given) (found : Members) (are : AreGathered old (object foun
   }
 
 -- nothing is gathered at first
-pub none_yet : (given : Given) → AreGivenBy given null → AreGathered given (object no_members)
+pub none_yet : (given : GatheredReferences) → AreGivenBy given null → AreGathered given (object no_members)
 none_yet given are = record { frames = are.frames; scopes = are.holders command.Scopes; variables = are.holders command.Variables; own = are.holders command.Evaluate }
 
-pub given_by : (given : Given) (body : Data) → AreGathered given body → AreGivenBy given body
+pub given_by : (given : GatheredReferences) (body : Data) → AreGathered given body → AreGivenBy given body
 given_by given body are = record { frames = are.frames; holders = λ c. by c }
   where
     by : (c : Command) → given_holders c given ≡ holders_of c body

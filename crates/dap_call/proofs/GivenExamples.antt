@@ -5,7 +5,7 @@ use Rattle.serde_json.specs.Data.{null, array, string, object, no_items, no_memb
 use Rattle.serde_json.proofs.OnLiterals.{serde_json_on_literals}
 use Rattle.std.specs.Prelude.{option_map}
 use Rattle.dap_json.specs.Read.{json_of}
-use Rattle.dap_call.specs.Given.{reference_at, frame_ids, holders_of}
+use Rattle.dap_call.specs.GivenReferences.{reference_at, frame_ids, holders_of}
 use Rattle.dap_call.specs.declared.command.Command.TheVariants.{Threads, Scopes, Variables, Evaluate, SetVariable, StackTrace}
 
 -- ---- frames

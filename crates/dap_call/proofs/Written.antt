@@ -4,9 +4,9 @@ use Rattle.std.specs.Prelude.{is_some, IsTrue}
 use Rattle.std.specs.Ordering.{nat_cmp, match_ordering}
 use Rattle.std.specs.Cmp.Lexicographic.{slice_cmp}
 use Rattle.serde_json.specs.Data.{Data, Members, no_members, member, boolean, string, array, put}
-use Rattle.dap_json.specs.Put.{whole}
+use Rattle.dap_json.specs.Put.{whole_number}
 use Rattle.dap_call.specs.Key.{text_of}
-use Rattle.dap_call.specs.CallTree.{if_any, with, with_number, with_false, with_true, with_optional, int, source_tree, breakpoint_items, function_items, text_items, initialize_members, set_breakpoints_members, set_function_breakpoints_members, set_exception_breakpoints_members, thread_members, stack_trace_members, scopes_members, variables_members, evaluate_members, source_members, set_variable_members, modules_members, breakpoint_locations_members, completions_members}
+use Rattle.dap_call.specs.CallTree.{if_any, with, with_number, with_false, with_true, with_optional, int, source_tree, breakpoint_items, initialize_members, set_breakpoints_members, thread_members, stack_trace_members, variables_members, evaluate_members, set_variable_members, modules_members, breakpoint_locations_members, completions_members}
 use Rattle.dap_call.specs.declared.call.Initialize.{Initialize}
 use Rattle.dap_call.specs.declared.call.StackTrace.{StackTrace}
 use Rattle.dap_call.specs.declared.call.Variables.{Variables}
@@ -36,12 +36,12 @@ with_any k d ms = put_any (text_of k) d ms
 
 number_any : (k : Key) (n : ℕ) (ms : Members) → AnyWritten ms → AnyWritten (with_number k n ms)
 number_any k zero ms w = w
-number_any k (suc n) ms w = with_any k (whole (suc n)) ms
+number_any k (suc n) ms w = with_any k (whole_number (suc n)) ms
 
 -- a number that is not the default is written
 number_there : (k : Key) (n : ℕ) (ms : Members) → n ≢ 0 → AnyWritten (with_number k n ms)
 number_there k zero ms h = absurd (h refl)
-number_there k (suc n) ms h = with_any k (whole (suc n)) ms
+number_there k (suc n) ms h = with_any k (whole_number (suc n)) ms
 
 false_any : (k : Key) (b : Bool) (ms : Members) → AnyWritten ms → AnyWritten (with_false k b ms)
 false_any k true ms w = w
@@ -53,7 +53,7 @@ true_any k false ms w = w
 
 optional_any : (k : Key) (n : Option ℕ) (ms : Members) → AnyWritten ms → AnyWritten (with_optional k n ms)
 optional_any k None ms w = w
-optional_any k (Some n) ms w = with_any k (whole n) ms
+optional_any k (Some n) ms w = with_any k (whole_number n) ms
 
 -- ---- the rows that always write a key
 
@@ -67,12 +67,6 @@ pub set_breakpoints_any : (source : SourceKey) (lines : List ℕ) → AnyWritten
 unfolding set_breakpoints_members
 set_breakpoints_any source lines = with_any key.Breakpoints (array (breakpoint_items lines)) (with key.Source (source_tree source) no_members)
 
-pub functions_any : (names : List (List ℕ)) → AnyWritten (set_function_breakpoints_members names)
-functions_any names = with_any key.Breakpoints (array (function_items names)) no_members
-
-pub filters_any : (filters : List (List ℕ)) → AnyWritten (set_exception_breakpoints_members filters)
-filters_any filters = with_any key.Filters (array (text_items filters)) no_members
-
 pub thread_any : (thread : ℤ) → AnyWritten (thread_members thread)
 thread_any thread = with_any key.ThreadId (int thread) no_members
 
@@ -80,31 +74,25 @@ pub stack_trace_any : (a : StackTrace) → AnyWritten (stack_trace_members a)
 unfolding stack_trace_members
 stack_trace_any a = number_any key.Levels a.levels _ (number_any key.StartFrame a.start_frame _ (thread_any a.thread_id))
 
-pub scopes_any : (frame : ℕ) → AnyWritten (scopes_members frame)
-scopes_any frame = with_any key.FrameId (whole frame) no_members
-
 pub variables_any : (a : Variables) → AnyWritten (variables_members a)
 unfolding variables_members
-variables_any a = number_any key.Count a.count _ (number_any key.Start a.start _ (with_any key.VariablesReference (whole a.variables_reference) no_members))
+variables_any a = number_any key.Count a.count _ (number_any key.Start a.start _ (with_any key.VariablesReference (whole_number a.variables_reference) no_members))
 
 pub evaluate_any : (a : Evaluate) → AnyWritten (evaluate_members a)
 unfolding evaluate_members
 evaluate_any a = optional_any key.FrameId a.frame_id _ (with_any key.Expression (string a.expression) no_members)
 
-pub source_any : (reference : ℕ) → AnyWritten (source_members reference)
-source_any reference = with_any key.SourceReference (whole reference) no_members
-
 pub set_variable_any : (a : SetVariable) → AnyWritten (set_variable_members a)
 unfolding set_variable_members
-set_variable_any a = with_any key.Value (string a.value) (with key.Name (string a.name) (with key.VariablesReference (whole a.variables_reference) no_members))
+set_variable_any a = with_any key.Value (string a.value) (with key.Name (string a.name) (with key.VariablesReference (whole_number a.variables_reference) no_members))
 
 pub locations_any : (a : BreakpointLocations) → AnyWritten (breakpoint_locations_members a)
 unfolding breakpoint_locations_members
-locations_any a = optional_any key.EndLine a.end_line _ (with_any key.Line (whole a.line) (with key.Source (source_tree a.source) no_members))
+locations_any a = optional_any key.EndLine a.end_line _ (with_any key.Line (whole_number a.line) (with key.Source (source_tree a.source) no_members))
 
 pub completions_any : (a : Completions) → AnyWritten (completions_members a)
 unfolding completions_members
-completions_any a = optional_any key.Line a.line _ (optional_any key.FrameId a.frame_id _ (with_any key.Column (whole a.column) (with key.Text (string a.text) no_members)))
+completions_any a = optional_any key.Line a.line _ (optional_any key.FrameId a.frame_id _ (with_any key.Column (whole_number a.column) (with key.Text (string a.text) no_members)))
 
 -- ---- modules, whose keys all have defaults
 

@@ -65,20 +65,20 @@ or_bad k None = Err k
 or_bad k (Some x) = Ok x
 
 -- the value at a key, which has to be there in this shape
-abbrev pub required : {A : Type 0} → (Data → Option A) → Key → Option Data → Read A
-required shape k arguments = or_bad k (option_and_then shape (value_at k arguments))
+abbrev pub required_at : {A : Type 0} → (Data → Option A) → Key → Option Data → Read A
+required_at shape k arguments = or_bad k (option_and_then shape (value_at k arguments))
 
 abbrev pub in_shape : {A : Type 0} → (Data → Option A) → Key → Option Data → Read (Option A)
 in_shape shape k None = Ok None
 in_shape shape k (Some d) = or_bad k (option_map Some (shape d))
 
 -- the value at a key, which may be absent, but has this shape where it is there
-abbrev pub optional : {A : Type 0} → (Data → Option A) → Key → Option Data → Read (Option A)
-optional shape k arguments = in_shape shape k (value_at k arguments)
+abbrev pub optional_at : {A : Type 0} → (Data → Option A) → Key → Option Data → Read (Option A)
+optional_at shape k arguments = in_shape shape k (value_at k arguments)
 
 abbrev pub optional_or : {A : Type 0} → (Data → Option A) → A → Key → Option Data → Read A
 optional_or shape default k arguments = do
-  found ← optional shape k arguments
+  found ← optional_at shape k arguments
   Ok (unwrap_or found default)
 
 -- ---- the whole

@@ -7,7 +7,7 @@ use Rattle.std.specs.Prelude.{ℕ, zero, suc, ℤ, List, [], ◌∷◌, Bool, tr
 use Rattle.serde_json.specs.Data.{Data, Items, no_items, item}
 use Rattle.serde_json.specs.Find.{as_str, as_bool, as_array}
 use Rattle.dap_json.specs.Steps.{◌>>=◌}
-use Rattle.dap_call.specs.Argument.{Read, int_of, number_of, seq_of, value_at, required, optional, optional_or, may_be_absent, must_be_there}
+use Rattle.dap_call.specs.Argument.{Read, int_of, number_of, seq_of, value_at, required_at, optional_at, optional_or, may_be_absent, must_be_there}
 use Rattle.dap_call.specs.declared.key.Key.TheVariants as key
 use Rattle.dap_call.specs.declared.call.Call.{Call}
 use Rattle.dap_call.specs.declared.call.Call.TheVariants as call
@@ -56,7 +56,7 @@ read_ok (Err k) = None
 unfoldable pub source_parts : Data → Read (Option (List ℕ) × ℕ)
 source_parts d = do
   source ← must_be_there (Some d)
-  path ← optional as_str key.Path source
+  path ← optional_at as_str key.Path source
   reference ← optional_or number_of 0 key.SourceReference source
   Ok (path, reference)
 
@@ -88,39 +88,39 @@ initialize_of given = do
 unfoldable pub cancel_of : Option Data → Read Call
 cancel_of given = do
   arguments ← may_be_absent given
-  request ← optional seq_of key.RequestId arguments
+  request ← optional_at seq_of key.RequestId arguments
   Ok (call.Cancel request)
 
 -- both keys are tested, and `breakpoints` counts
 unfoldable pub given_lines : Option Data → Read (List ℕ)
 given_lines arguments = do
-  breakpoints ← optional breakpoint_lines_of key.Breakpoints arguments
-  lines ← optional lines_of key.Lines arguments
+  breakpoints ← optional_at breakpoint_lines_of key.Breakpoints arguments
+  lines ← optional_at lines_of key.Lines arguments
   Ok (unwrap_or breakpoints (unwrap_or lines []))
 
 unfoldable pub set_breakpoints_of : Option Data → Read Call
 set_breakpoints_of given = do
   arguments ← must_be_there given
-  source ← required source_key_of key.Source arguments
+  source ← required_at source_key_of key.Source arguments
   lines ← given_lines arguments
   Ok (call.SetBreakpoints source lines)
 
 unfoldable pub set_function_breakpoints_of : Option Data → Read Call
 set_function_breakpoints_of given = do
   arguments ← must_be_there given
-  names ← required names_of key.Breakpoints arguments
+  names ← required_at names_of key.Breakpoints arguments
   Ok (call.SetFunctionBreakpoints names)
 
 unfoldable pub set_exception_breakpoints_of : Option Data → Read Call
 set_exception_breakpoints_of given = do
   arguments ← must_be_there given
-  filters ← required filters_of key.Filters arguments
+  filters ← required_at filters_of key.Filters arguments
   Ok (call.SetExceptionBreakpoints filters)
 
 unfoldable pub stack_trace_of : Option Data → Read Call
 stack_trace_of given = do
   arguments ← must_be_there given
-  thread ← required int_of key.ThreadId arguments
+  thread ← required_at int_of key.ThreadId arguments
   start ← optional_or number_of 0 key.StartFrame arguments
   levels ← optional_or number_of 0 key.Levels arguments
   Ok (call.StackTrace (record { thread_id = thread; start_frame = start; levels = levels }))
@@ -128,20 +128,20 @@ stack_trace_of given = do
 unfoldable pub evaluate_of : Option Data → Read Call
 evaluate_of given = do
   arguments ← must_be_there given
-  expression ← required as_str key.Expression arguments
-  frame ← optional number_of key.FrameId arguments
+  expression ← required_at as_str key.Expression arguments
+  frame ← optional_at number_of key.FrameId arguments
   Ok (call.Evaluate (record { expression = expression; frame_id = frame }))
 
 unfoldable pub scopes_of : Option Data → Read Call
 scopes_of given = do
   arguments ← must_be_there given
-  frame ← required number_of key.FrameId arguments
+  frame ← required_at number_of key.FrameId arguments
   Ok (call.Scopes frame)
 
 unfoldable pub variables_of : Option Data → Read Call
 variables_of given = do
   arguments ← must_be_there given
-  reference ← required number_of key.VariablesReference arguments
+  reference ← required_at number_of key.VariablesReference arguments
   start ← optional_or number_of 0 key.Start arguments
   count ← optional_or number_of 0 key.Count arguments
   Ok (call.Variables (record { variables_reference = reference; start = start; count = count }))
@@ -150,16 +150,16 @@ variables_of given = do
 unfoldable pub source_of : Option Data → Read Call
 source_of given = do
   arguments ← may_be_absent given
-  source ← optional source_reference_of key.Source arguments
+  source ← optional_at source_reference_of key.Source arguments
   reference ← optional_or number_of 0 key.SourceReference arguments
   Ok (call.Source (if unwrap_or source 0 == 0 then reference else unwrap_or source 0))
 
 unfoldable pub set_variable_of : Option Data → Read Call
 set_variable_of given = do
   arguments ← must_be_there given
-  reference ← required number_of key.VariablesReference arguments
-  name ← required as_str key.Name arguments
-  value ← required as_str key.Value arguments
+  reference ← required_at number_of key.VariablesReference arguments
+  name ← required_at as_str key.Name arguments
+  value ← required_at as_str key.Value arguments
   Ok (call.SetVariable (record { variables_reference = reference; name = name; value = value }))
 
 unfoldable pub modules_of : Option Data → Read Call
@@ -172,40 +172,40 @@ modules_of given = do
 unfoldable pub breakpoint_locations_of : Option Data → Read Call
 breakpoint_locations_of given = do
   arguments ← must_be_there given
-  source ← required source_key_of key.Source arguments
-  line ← required number_of key.Line arguments
-  end ← optional number_of key.EndLine arguments
+  source ← required_at source_key_of key.Source arguments
+  line ← required_at number_of key.Line arguments
+  end ← optional_at number_of key.EndLine arguments
   Ok (call.BreakpointLocations (record { source = source; line = line; end_line = end }))
 
 unfoldable pub completions_of : Option Data → Read Call
 completions_of given = do
   arguments ← must_be_there given
-  text ← required as_str key.Text arguments
-  column ← required number_of key.Column arguments
-  frame ← optional number_of key.FrameId arguments
-  line ← optional number_of key.Line arguments
+  text ← required_at as_str key.Text arguments
+  column ← required_at number_of key.Column arguments
+  frame ← optional_at number_of key.FrameId arguments
+  line ← optional_at number_of key.Line arguments
   Ok (call.Completions (record { text = text; column = column; frame_id = frame; line = line }))
 
 -- the one key of the commands that name a thread
 unfoldable pub thread_of : Option Data → Read ℤ
 thread_of given = do
   arguments ← must_be_there given
-  required int_of key.ThreadId arguments
+  required_at int_of key.ThreadId arguments
 
 -- the whole arguments, where they are kept as a tree
 abbrev pub tree_of : Option Data → Read (Option Data)
 tree_of given = may_be_absent given
 
 -- what was read, made a call
-abbrev pub called : {A : Type 0} → (A → Call) → Read A → Read Call
-called make (Ok x) = Ok (make x)
-called make (Err k) = Err k
+abbrev pub call_from : {A : Type 0} → (A → Call) → Read A → Read Call
+call_from make (Ok x) = Ok (make x)
+call_from make (Err k) = Err k
 
 -- where a command has no keys, its arguments are ignored
 abbrev pub call_of : Command → Option Data → Read Call
 call_of command.Initialize given = initialize_of given
-call_of command.Launch given = called call.Launch (tree_of given)
-call_of command.Attach given = called call.Attach (tree_of given)
+call_of command.Launch given = call_from call.Launch (tree_of given)
+call_of command.Attach given = call_from call.Attach (tree_of given)
 call_of command.ConfigurationDone given = Ok call.ConfigurationDone
 call_of command.Disconnect given = Ok call.Disconnect
 call_of command.Threads given = Ok call.Threads
@@ -214,13 +214,13 @@ call_of command.Cancel given = cancel_of given
 call_of command.SetBreakpoints given = set_breakpoints_of given
 call_of command.SetFunctionBreakpoints given = set_function_breakpoints_of given
 call_of command.SetExceptionBreakpoints given = set_exception_breakpoints_of given
-call_of command.Continue given = called call.Continue (thread_of given)
-call_of command.Next given = called call.Next (thread_of given)
-call_of command.StepIn given = called call.StepIn (thread_of given)
-call_of command.StepOut given = called call.StepOut (thread_of given)
-call_of command.Pause given = called call.Pause (thread_of given)
-call_of command.StepBack given = called call.StepBack (thread_of given)
-call_of command.ReverseContinue given = called call.ReverseContinue (thread_of given)
+call_of command.Continue given = call_from call.Continue (thread_of given)
+call_of command.Next given = call_from call.Next (thread_of given)
+call_of command.StepIn given = call_from call.StepIn (thread_of given)
+call_of command.StepOut given = call_from call.StepOut (thread_of given)
+call_of command.Pause given = call_from call.Pause (thread_of given)
+call_of command.StepBack given = call_from call.StepBack (thread_of given)
+call_of command.ReverseContinue given = call_from call.ReverseContinue (thread_of given)
 call_of command.StackTrace given = stack_trace_of given
 call_of command.Scopes given = scopes_of given
 call_of command.Variables given = variables_of given
@@ -230,7 +230,7 @@ call_of command.LoadedSources given = Ok call.LoadedSources
 call_of command.SetVariable given = set_variable_of given
 call_of command.Restart given = Ok call.Restart
 call_of command.Modules given = modules_of given
-call_of command.ExceptionInfo given = called call.ExceptionInfo (thread_of given)
+call_of command.ExceptionInfo given = call_from call.ExceptionInfo (thread_of given)
 call_of command.BreakpointLocations given = breakpoint_locations_of given
 call_of command.Completions given = completions_of given
 

@@ -4,7 +4,7 @@ use Rattle.std.specs.Prelude.{map, ℕ, zero, suc, ℤ, List, Bool, true, false,
 use Rattle.serde_json.specs.Data.{Data, boolean, number, string, array, object, Items, Members, no_members, member, put}
 use Rattle.serde_json.specs.Find.{of_integer}
 use Rattle.serde_json.specs.View.{items_of}
-use Rattle.dap_json.specs.Put.{put_if, whole}
+use Rattle.dap_json.specs.Put.{put_if, whole_number}
 use Rattle.dap_call.specs.Key.{text_of}
 use Rattle.dap_call.specs.declared.key.Key.{Key}
 use Rattle.dap_call.specs.declared.key.Key.TheVariants as key
@@ -31,7 +31,7 @@ with k d ms = put (text_of k) d ms
 -- a number whose default is 0
 abbrev pub with_number : Key → ℕ → Members → Members
 with_number k zero ms = ms
-with_number k (suc n) ms = with k (whole (suc n)) ms
+with_number k (suc n) ms = with k (whole_number (suc n)) ms
 
 -- a flag whose default is `true`
 abbrev pub with_false : Key → Bool → Members → Members
@@ -45,7 +45,7 @@ with_true k false ms = ms
 
 -- a number that may be absent
 abbrev pub with_optional : Key → Option ℕ → Members → Members
-with_optional k n ms = put_if (text_of k) (option_map whole n) ms
+with_optional k n ms = put_if (text_of k) (option_map whole_number n) ms
 
 abbrev pub int : ℤ → Data
 int z = number (of_integer z)
@@ -59,10 +59,10 @@ if_any (member k d ms) = Some (object (member k d ms))
 
 abbrev pub source_tree : SourceKey → Data
 source_tree (Path path) = object (with key.Path (string path) no_members)
-source_tree (Reference reference) = object (with key.SourceReference (whole reference) no_members)
+source_tree (Reference reference) = object (with key.SourceReference (whole_number reference) no_members)
 
 abbrev pub breakpoint_tree : ℕ → Data
-breakpoint_tree line = object (with key.Line (whole line) no_members)
+breakpoint_tree line = object (with key.Line (whole_number line) no_members)
 
 abbrev pub breakpoint_items : List ℕ → Items
 breakpoint_items lines = items_of (map breakpoint_tree lines)
@@ -105,29 +105,29 @@ unfoldable pub stack_trace_members : StackTrace → Members
 stack_trace_members a = with_number key.Levels a.levels (with_number key.StartFrame a.start_frame (thread_members a.thread_id))
 
 abbrev pub scopes_members : ℕ → Members
-scopes_members frame = with key.FrameId (whole frame) no_members
+scopes_members frame = with key.FrameId (whole_number frame) no_members
 
 unfoldable pub variables_members : Variables → Members
-variables_members a = with_number key.Count a.count (with_number key.Start a.start (with key.VariablesReference (whole a.variables_reference) no_members))
+variables_members a = with_number key.Count a.count (with_number key.Start a.start (with key.VariablesReference (whole_number a.variables_reference) no_members))
 
 unfoldable pub evaluate_members : Evaluate → Members
 evaluate_members a = with_optional key.FrameId a.frame_id (with key.Expression (string a.expression) no_members)
 
 -- 0 is written too
 abbrev pub source_members : ℕ → Members
-source_members reference = with key.SourceReference (whole reference) no_members
+source_members reference = with key.SourceReference (whole_number reference) no_members
 
 unfoldable pub set_variable_members : SetVariable → Members
-set_variable_members a = with key.Value (string a.value) (with key.Name (string a.name) (with key.VariablesReference (whole a.variables_reference) no_members))
+set_variable_members a = with key.Value (string a.value) (with key.Name (string a.name) (with key.VariablesReference (whole_number a.variables_reference) no_members))
 
 unfoldable pub modules_members : Modules → Members
 modules_members a = with_number key.ModuleCount a.module_count (with_number key.StartModule a.start_module no_members)
 
 unfoldable pub breakpoint_locations_members : BreakpointLocations → Members
-breakpoint_locations_members a = with_optional key.EndLine a.end_line (with key.Line (whole a.line) (with key.Source (source_tree a.source) no_members))
+breakpoint_locations_members a = with_optional key.EndLine a.end_line (with key.Line (whole_number a.line) (with key.Source (source_tree a.source) no_members))
 
 unfoldable pub completions_members : Completions → Members
-completions_members a = with_optional key.Line a.line (with_optional key.FrameId a.frame_id (with key.Column (whole a.column) (with key.Text (string a.text) no_members)))
+completions_members a = with_optional key.Line a.line (with_optional key.FrameId a.frame_id (with key.Column (whole_number a.column) (with key.Text (string a.text) no_members)))
 
 -- the trees of `launch` and `attach` are kept whole; a command without keys, and one whose keys are all left out, writes nothing
 abbrev pub call_tree : Call → Option Data

@@ -15,13 +15,13 @@ use Rattle.dap_call.specs.declared.command.Gate.TheVariants.{BreakpointLocations
 abbrev pub is_flag : Gate → Option Data → Bool
 is_flag gate body = unwrap_or (option_and_then (bool_at (flag_of gate)) body) false
 
-abbrev pub replaced : Option Data → Bool → Bool
-replaced None before = before
-replaced (Some d) before = unwrap_or (as_bool d) false
+abbrev pub flag_after : Option Data → Bool → Bool
+flag_after None before = before
+flag_after (Some d) before = unwrap_or (as_bool d) false
 
 -- what a flag is after an update: what the object names it, or what it was
 abbrev pub updated_flag : Gate → Data → Bool → Bool
-updated_flag gate d before = replaced (get (flag_of gate) d) before
+updated_flag gate d before = flag_after (get (flag_of gate) d) before
 
 abbrev pub has : Capabilities → Gate → Bool
 has c BreakpointLocations = c.breakpoint_locations
@@ -77,5 +77,5 @@ with_flag gate false ms = ms
 abbrev pub flags : Capabilities → Members
 flags c = with_flag Terminate c.terminate (with_flag StepBack c.step_back (with_flag SetVariable c.set_variable (with_flag Restart c.restart (with_flag Modules c.modules (with_flag LoadedSources c.loaded_sources (with_flag FunctionBreakpoints c.function_breakpoints (with_flag ExceptionInfo c.exception_info (with_flag ConfigurationDone c.configuration_done (with_flag Completions c.completions (with_flag Cancel c.cancel (with_flag BreakpointLocations c.breakpoint_locations no_members)))))))))))
 
-abbrev pub written : Capabilities → Data
-written c = object (flags c)
+abbrev pub capabilities_data : Capabilities → Data
+capabilities_data c = object (flags c)

@@ -11,43 +11,43 @@ pub record Row : Type 0 where
   pub name : List ℕ
   pub gate : Option Gate
 
-abbrev pub free : List ℕ → Row
-free name = record { name = name; gate = None }
+abbrev pub ungated_row : List ℕ → Row
+ungated_row name = record { name = name; gate = None }
 
-abbrev pub gated : List ℕ → Gate → Row
-gated name gate = record { name = name; gate = Some gate }
+abbrev pub gated_row : List ℕ → Gate → Row
+gated_row name gate = record { name = name; gate = Some gate }
 
 abbrev pub row_of : Command → Row
-row_of Initialize = free (codes "initialize")
-row_of Launch = free (codes "launch")
-row_of Attach = free (codes "attach")
-row_of ConfigurationDone = gated (codes "configurationDone") gate.ConfigurationDone
-row_of Disconnect = free (codes "disconnect")
-row_of Threads = free (codes "threads")
-row_of Terminate = gated (codes "terminate") gate.Terminate
-row_of Cancel = gated (codes "cancel") gate.Cancel
-row_of SetBreakpoints = free (codes "setBreakpoints")
-row_of SetFunctionBreakpoints = gated (codes "setFunctionBreakpoints") gate.FunctionBreakpoints
-row_of SetExceptionBreakpoints = free (codes "setExceptionBreakpoints")
-row_of Continue = free (codes "continue")
-row_of Next = free (codes "next")
-row_of StepIn = free (codes "stepIn")
-row_of StepOut = free (codes "stepOut")
-row_of Pause = free (codes "pause")
-row_of StepBack = gated (codes "stepBack") gate.StepBack
-row_of ReverseContinue = gated (codes "reverseContinue") gate.StepBack
-row_of StackTrace = free (codes "stackTrace")
-row_of Scopes = free (codes "scopes")
-row_of Variables = free (codes "variables")
-row_of Evaluate = free (codes "evaluate")
-row_of Source = free (codes "source")
-row_of LoadedSources = gated (codes "loadedSources") gate.LoadedSources
-row_of SetVariable = gated (codes "setVariable") gate.SetVariable
-row_of Restart = gated (codes "restart") gate.Restart
-row_of Modules = gated (codes "modules") gate.Modules
-row_of ExceptionInfo = gated (codes "exceptionInfo") gate.ExceptionInfo
-row_of BreakpointLocations = gated (codes "breakpointLocations") gate.BreakpointLocations
-row_of Completions = gated (codes "completions") gate.Completions
+row_of Initialize = ungated_row (codes "initialize")
+row_of Launch = ungated_row (codes "launch")
+row_of Attach = ungated_row (codes "attach")
+row_of ConfigurationDone = gated_row (codes "configurationDone") gate.ConfigurationDone
+row_of Disconnect = ungated_row (codes "disconnect")
+row_of Threads = ungated_row (codes "threads")
+row_of Terminate = gated_row (codes "terminate") gate.Terminate
+row_of Cancel = gated_row (codes "cancel") gate.Cancel
+row_of SetBreakpoints = ungated_row (codes "setBreakpoints")
+row_of SetFunctionBreakpoints = gated_row (codes "setFunctionBreakpoints") gate.FunctionBreakpoints
+row_of SetExceptionBreakpoints = ungated_row (codes "setExceptionBreakpoints")
+row_of Continue = ungated_row (codes "continue")
+row_of Next = ungated_row (codes "next")
+row_of StepIn = ungated_row (codes "stepIn")
+row_of StepOut = ungated_row (codes "stepOut")
+row_of Pause = ungated_row (codes "pause")
+row_of StepBack = gated_row (codes "stepBack") gate.StepBack
+row_of ReverseContinue = gated_row (codes "reverseContinue") gate.StepBack
+row_of StackTrace = ungated_row (codes "stackTrace")
+row_of Scopes = ungated_row (codes "scopes")
+row_of Variables = ungated_row (codes "variables")
+row_of Evaluate = ungated_row (codes "evaluate")
+row_of Source = ungated_row (codes "source")
+row_of LoadedSources = gated_row (codes "loadedSources") gate.LoadedSources
+row_of SetVariable = gated_row (codes "setVariable") gate.SetVariable
+row_of Restart = gated_row (codes "restart") gate.Restart
+row_of Modules = gated_row (codes "modules") gate.Modules
+row_of ExceptionInfo = gated_row (codes "exceptionInfo") gate.ExceptionInfo
+row_of BreakpointLocations = gated_row (codes "breakpointLocations") gate.BreakpointLocations
+row_of Completions = gated_row (codes "completions") gate.Completions
 
 abbrev pub name_of : Command → List ℕ
 name_of command = (row_of command).name

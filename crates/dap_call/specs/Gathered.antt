@@ -1,16 +1,16 @@
 -- The references that a body gives, where they were gathered with no tree.
 use Rattle.std.specs.Prelude.{◌≡◌, ℕ, List, []}
 use Rattle.serde_json.specs.Data.{Data}
-use Rattle.dap_call.specs.Given.{frame_ids, holders_of}
+use Rattle.dap_call.specs.GivenReferences.{frame_ids, holders_of}
 use Rattle.dap_call.specs.declared.command.Command.{Command}
 use Rattle.dap_call.specs.declared.command.Command.TheVariants.{Scopes, Variables, Evaluate, SetVariable}
-use Rattle.dap_call.specs.declared.gathering.Given.{Given}
+use Rattle.dap_call.specs.declared.gathering.GatheredReferences.{GatheredReferences}
 
-abbrev pub given_frames : Given → List ℕ
+abbrev pub given_frames : GatheredReferences → List ℕ
 given_frames given = given.frames.items
 
 -- by the command of the response
-abbrev pub given_holders : Command → Given → List ℕ
+abbrev pub given_holders : Command → GatheredReferences → List ℕ
 given_holders Scopes given = given.scopes.items
 given_holders Variables given = given.variables.items
 given_holders Evaluate given = given.own.items
@@ -18,13 +18,13 @@ given_holders SetVariable given = given.own.items
 given_holders _ given = []
 
 -- the same as the walkers give over the body
-pub record AreGivenBy (given : Given) (body : Data) : Type 0 where
+pub record AreGivenBy (given : GatheredReferences) (body : Data) : Type 0 where
   pub frames : given_frames given ≡ frame_ids body
   pub holders : (command : Command) → given_holders command given ≡ holders_of command body
 
 -- ---- words for private functions
 
-pub record AreGathered (given : Given) (body : Data) : Type 0 where
+pub record AreGathered (given : GatheredReferences) (body : Data) : Type 0 where
   pub frames : given.frames.items ≡ frame_ids body
   pub scopes : given.scopes.items ≡ holders_of Scopes body
   pub variables : given.variables.items ≡ holders_of Variables body

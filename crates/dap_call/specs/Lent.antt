@@ -6,5 +6,5 @@ use Rattle.serde_json.specs.View.{view}
 use Rattle.serde_json.specs.declared.value.Value.{Value}
 
 -- the data of a value that may be absent
-abbrev pub seen : Option (Bor Value) → Option Data
-seen found = option_map (λ value. view value.now) found
+abbrev pub lent_data : Option (Bor Value) → Option Data
+lent_data found = option_map (λ value. view value.now) found

@@ -1,6 +1,6 @@
 pub mod Command
 pub mod Capabilities
-pub mod Given
+pub mod GivenReferences
 pub mod Gathered
 pub mod Key
 pub mod Lent

@@ -2,8 +2,8 @@
 ghost use Rattle.std.specs.Prelude.{◌≡◌, [], option_map};
 ghost use Rattle.serde_json.specs.View.{view};
 ghost use Rattle.serde_json.specs.Find.{as_str, as_bool};
-ghost use Rattle.dap_call.specs.Lent.{seen};
-ghost use Rattle.dap_call.specs.Argument.{Gives, is_int as is_int_number, read_map, value_at, required, optional, optional_or, int_of, number_of, seq_of, may_be_absent, must_be_there};
+ghost use Rattle.dap_call.specs.Lent.{lent_data};
+ghost use Rattle.dap_call.specs.Argument.{Gives, is_int as is_int_number, read_map, value_at, required_at, optional_at, optional_or, int_of, number_of, seq_of, may_be_absent, must_be_there};
 
 use crate::call::CallFault;
 use crate::key::Key;
@@ -78,19 +78,19 @@ impl<'v> Model for Arguments<'v> {
     ghost use Rattle.std.specs.Coded.{coded_option};
     ghost use Rattle.serde_json.specs.Data.{Data};
     ghost use Rattle.dap_json.specs.Stored.{coded_data};
-    ghost use Rattle.dap_call.specs.Lent.{seen};
+    ghost use Rattle.dap_call.specs.Lent.{lent_data};
 
     ghost Value = { Option Data };
 
     ghost coded = { coded_option coded_data };
 
-    ghost view = { λ a. seen a.object };
+    ghost view = { λ a. lent_data a.object };
 }
 
 impl<'v> Arguments<'v> {
     /// Arguments that are an object, or absent.
     pub(crate) fn optional(given: Option<&'v Value>) -> Result<Arguments<'v>, Key>
-        ensures { result ≡ may_be_absent (seen given.entry) }
+        ensures { result ≡ may_be_absent (lent_data given.entry) }
     {
         match given {
             None | Some(Value::Null) => Ok(Arguments { object: None }),
@@ -103,7 +103,7 @@ impl<'v> Arguments<'v> {
 
     /// Arguments that are an object.
     pub(crate) fn required(given: Option<&'v Value>) -> Result<Arguments<'v>, Key>
-        ensures { result ≡ must_be_there (seen given.entry) }
+        ensures { result ≡ must_be_there (lent_data given.entry) }
     {
         match given {
             Some(object) if object.is_object() => Ok(Arguments {
@@ -114,33 +114,33 @@ impl<'v> Arguments<'v> {
     }
 
     pub(crate) fn value(&self, key: Key) -> Option<&'v Value>
-        ensures { seen result ≡ value_at key self.now }
+        ensures { lent_data result ≡ value_at key self.now }
     {
         field::present(self.object?, key.name())
     }
 
     pub(crate) fn required_int(&self, key: Key) -> Result<i64, Key>
-        ensures { result ≡ required int_of key self.now }
+        ensures { result ≡ required_at int_of key self.now }
     {
         self.value(key).and_then(int).ok_or(key)
     }
 
     pub(crate) fn required_number(&self, key: Key) -> Result<u32, Key>
-        ensures { result ≡ required number_of key self.now }
+        ensures { result ≡ required_at number_of key self.now }
     {
         self.value(key).and_then(number).ok_or(key)
     }
 
     /// The text at a key, lent.
     fn required_str(&self, key: Key) -> Result<&'v str, Key>
-        ensures { read_map (λ text. text.now) result ≡ required as_str key self.now }
+        ensures { read_map (λ text. text.now) result ≡ required_at as_str key self.now }
     {
         self.value(key).and_then(Value::as_str).ok_or(key)
     }
 
     /// Likewise.
     pub(crate) fn optional_str(&self, key: Key) -> Result<Option<&'v str>, Key>
-        ensures { read_map (option_map (λ text. text.now)) result ≡ optional as_str key self.now }
+        ensures { read_map (option_map (λ text. text.now)) result ≡ optional_at as_str key self.now }
     {
         match self.value(key) {
             None => Ok(None),
@@ -149,13 +149,13 @@ impl<'v> Arguments<'v> {
     }
 
     pub(crate) fn required_text(&self, alloc: Global, key: Key) -> Result<Text, CallFault>
-        ensures { Gives result (required as_str key self.now) }
+        ensures { Gives result (required_at as_str key self.now) }
     {
         Ok(Text::copied(alloc, self.required_str(key)?)?)
     }
 
     pub(crate) fn optional_number(&self, key: Key) -> Result<Option<u32>, Key>
-        ensures { result ≡ optional number_of key self.now }
+        ensures { result ≡ optional_at number_of key self.now }
     {
         match self.value(key) {
             None => Ok(None),
@@ -173,7 +173,7 @@ impl<'v> Arguments<'v> {
     }
 
     pub(crate) fn optional_seq(&self, key: Key) -> Result<Option<u64>, Key>
-        ensures { result ≡ optional seq_of key self.now }
+        ensures { result ≡ optional_at seq_of key self.now }
     {
         match self.value(key) {
             None => Ok(None),

@@ -1,7 +1,7 @@
 //! From a command and its arguments to a call: a function for each row of keys.
 ghost use Rattle.std.specs.Prelude.{◌≡◌, IfOk, IsErrOf, OnErr, Some, true, is_some, option_map, option_and_then};
 ghost use Rattle.serde_json.specs.View.{view};
-ghost use Rattle.dap_call.specs.Lent.{seen};
+ghost use Rattle.dap_call.specs.Lent.{lent_data};
 ghost use Rattle.dap_call.specs.Argument.{Gives, read_map, must_be_there};
 ghost use Rattle.dap_call.specs.Call.{lines_of, line_in, breakpoint_lines_of, name_in, names_of, filters_of, source_key_of, source_reference_of, source_parts as source_parts_of, initialize_of, cancel_of, given_lines, set_breakpoints_of, set_function_breakpoints_of, set_exception_breakpoints_of, stack_trace_of, scopes_of, variables_of, evaluate_of, source_of, set_variable_of, modules_of, breakpoint_locations_of, completions_of, thread_of, tree_of, call_of, takes_memory};
 ghost use Rattle.dap_call.specs.declared.call.CallFault.TheVariants.{OutOfMemory};
@@ -144,7 +144,7 @@ fn filters(alloc: Global, filters: &Value) -> Result<Option<List<Text>>, AllocEr
 
 #[tactic(auto, unfolding(crate::specs::Call::initialize_of))]
 fn initialize(alloc: Global, given: Option<&Value>) -> Result<Call, CallFault>
-    ensures { Gives result (initialize_of (seen given.entry)) }
+    ensures { Gives result (initialize_of (lent_data given.entry)) }
 {
     let arguments = Arguments::optional(given)?;
     let adapter_id = arguments.text_or_empty(alloc, Key::AdapterId)?;
@@ -166,7 +166,7 @@ fn initialize(alloc: Global, given: Option<&Value>) -> Result<Call, CallFault>
 
 #[tactic(auto, unfolding(crate::specs::Call::cancel_of))]
 fn cancel(given: Option<&Value>) -> Result<Call, Key>
-    ensures { result ≡ cancel_of (seen given.entry) }
+    ensures { result ≡ cancel_of (lent_data given.entry) }
 {
     let arguments = Arguments::optional(given)?;
     let request_id = arguments.optional_seq(Key::RequestId)?;
@@ -175,7 +175,7 @@ fn cancel(given: Option<&Value>) -> Result<Call, Key>
 
 #[tactic(auto, unfolding(crate::specs::Call::set_breakpoints_of))]
 fn set_breakpoints(alloc: Global, given: Option<&Value>) -> Result<Call, CallFault>
-    ensures { Gives result (set_breakpoints_of (seen given.entry)) }
+    ensures { Gives result (set_breakpoints_of (lent_data given.entry)) }
 {
     let arguments = Arguments::required(given)?;
     let source = arguments.required_source(alloc, Key::Source)?;
@@ -185,7 +185,7 @@ fn set_breakpoints(alloc: Global, given: Option<&Value>) -> Result<Call, CallFau
 
 #[tactic(auto, unfolding(crate::specs::Call::set_function_breakpoints_of))]
 fn set_function_breakpoints(alloc: Global, given: Option<&Value>) -> Result<Call, CallFault>
-    ensures { Gives result (set_function_breakpoints_of (seen given.entry)) }
+    ensures { Gives result (set_function_breakpoints_of (lent_data given.entry)) }
 {
     let arguments = Arguments::required(given)?;
     let names = arguments.required_names(alloc, Key::Breakpoints)?;
@@ -194,7 +194,7 @@ fn set_function_breakpoints(alloc: Global, given: Option<&Value>) -> Result<Call
 
 #[tactic(auto, unfolding(crate::specs::Call::set_exception_breakpoints_of))]
 fn set_exception_breakpoints(alloc: Global, given: Option<&Value>) -> Result<Call, CallFault>
-    ensures { Gives result (set_exception_breakpoints_of (seen given.entry)) }
+    ensures { Gives result (set_exception_breakpoints_of (lent_data given.entry)) }
 {
     let arguments = Arguments::required(given)?;
     let filters = arguments.required_filters(alloc, Key::Filters)?;
@@ -202,10 +202,10 @@ fn set_exception_breakpoints(alloc: Global, given: Option<&Value>) -> Result<Cal
 }
 
 impl Arguments<'_> {
-    ghost use Rattle.dap_call.specs.Argument.{required, optional, value_at};
+    ghost use Rattle.dap_call.specs.Argument.{required_at, optional_at, value_at};
 
     fn required_source(&self, alloc: Global, key: Key) -> Result<SourceKey, CallFault>
-        ensures key { Gives result (required source_key_of key self.now) }
+        ensures key { Gives result (required_at source_key_of key self.now) }
         ensures memory { IsErrOf result OutOfMemory → is_some (option_and_then source_key_of (value_at key self.now)) ≡ true }
     {
         let source = self.value(key).ok_or(key)?;
@@ -213,7 +213,7 @@ impl Arguments<'_> {
     }
 
     fn optional_source_reference(&self, key: Key) -> Result<Option<u32>, Key>
-        ensures { result ≡ optional source_reference_of key self.now }
+        ensures { result ≡ optional_at source_reference_of key self.now }
     {
         match self.value(key) {
             None => Ok(None),
@@ -222,21 +222,21 @@ impl Arguments<'_> {
     }
 
     fn required_names(&self, alloc: Global, key: Key) -> Result<List<Text>, CallFault>
-        ensures { Gives result (required names_of key self.now) }
+        ensures { Gives result (required_at names_of key self.now) }
     {
         let value = self.value(key).ok_or(key)?;
         Ok(names(alloc, value)?.ok_or(key)?)
     }
 
     fn required_filters(&self, alloc: Global, key: Key) -> Result<List<Text>, CallFault>
-        ensures { Gives result (required filters_of key self.now) }
+        ensures { Gives result (required_at filters_of key self.now) }
     {
         let value = self.value(key).ok_or(key)?;
         Ok(filters(alloc, value)?.ok_or(key)?)
     }
 
     fn optional_lines(&self, alloc: Global, key: Key) -> Result<Option<List<u32>>, CallFault>
-        ensures { Gives result (optional lines_of key self.now) }
+        ensures { Gives result (optional_at lines_of key self.now) }
     {
         match self.value(key) {
             None => Ok(None),
@@ -246,7 +246,7 @@ impl Arguments<'_> {
 
     /// Refuses a key whose value is there, but is no array of lines.
     fn test_lines(&self, key: Key) -> Result<(), Key>
-        ensures { result ≡ read_map (λ _. tt) (optional lines_of key self.now) }
+        ensures { result ≡ read_map (λ _. tt) (optional_at lines_of key self.now) }
     {
         match self.value(key) {
             Some(value) if !are_lines(value) => Err(key),
@@ -259,7 +259,7 @@ impl Arguments<'_> {
         alloc: Global,
         key: Key,
     ) -> Result<Option<List<u32>>, CallFault>
-        ensures { Gives result (optional breakpoint_lines_of key self.now) }
+        ensures { Gives result (optional_at breakpoint_lines_of key self.now) }
     {
         match self.value(key) {
             None => Ok(None),
@@ -287,7 +287,7 @@ impl Arguments<'_> {
 
 #[tactic(auto, unfolding(crate::specs::Call::stack_trace_of))]
 fn stack_trace(given: Option<&Value>) -> Result<Call, Key>
-    ensures { result ≡ stack_trace_of (seen given.entry) }
+    ensures { result ≡ stack_trace_of (lent_data given.entry) }
 {
     let arguments = Arguments::required(given)?;
     let thread_id = arguments.required_int(Key::ThreadId)?;
@@ -302,7 +302,7 @@ fn stack_trace(given: Option<&Value>) -> Result<Call, Key>
 
 #[tactic(auto, unfolding(crate::specs::Call::evaluate_of))]
 fn evaluate(alloc: Global, given: Option<&Value>) -> Result<Call, CallFault>
-    ensures { Gives result (evaluate_of (seen given.entry)) }
+    ensures { Gives result (evaluate_of (lent_data given.entry)) }
 {
     let arguments = Arguments::required(given)?;
     let expression = arguments.required_text(alloc, Key::Expression)?;
@@ -315,7 +315,7 @@ fn evaluate(alloc: Global, given: Option<&Value>) -> Result<Call, CallFault>
 
 #[tactic(auto, unfolding(crate::specs::Call::scopes_of))]
 fn scopes(given: Option<&Value>) -> Result<Call, Key>
-    ensures { result ≡ scopes_of (seen given.entry) }
+    ensures { result ≡ scopes_of (lent_data given.entry) }
 {
     let arguments = Arguments::required(given)?;
     let frame_id = arguments.required_number(Key::FrameId)?;
@@ -324,7 +324,7 @@ fn scopes(given: Option<&Value>) -> Result<Call, Key>
 
 #[tactic(auto, unfolding(crate::specs::Call::variables_of))]
 fn variables(given: Option<&Value>) -> Result<Call, Key>
-    ensures { result ≡ variables_of (seen given.entry) }
+    ensures { result ≡ variables_of (lent_data given.entry) }
 {
     let arguments = Arguments::required(given)?;
     let variables_reference = arguments.required_number(Key::VariablesReference)?;
@@ -340,7 +340,7 @@ fn variables(given: Option<&Value>) -> Result<Call, Key>
 /// A reference above 0 in the source counts before the one beside it; both are tested.
 #[tactic(auto, unfolding(crate::specs::Call::source_of))]
 fn source(given: Option<&Value>) -> Result<Call, Key>
-    ensures { result ≡ source_of (seen given.entry) }
+    ensures { result ≡ source_of (lent_data given.entry) }
 {
     let arguments = Arguments::optional(given)?;
     let inner = arguments
@@ -353,7 +353,7 @@ fn source(given: Option<&Value>) -> Result<Call, Key>
 
 #[tactic(auto, unfolding(crate::specs::Call::set_variable_of))]
 fn set_variable(alloc: Global, given: Option<&Value>) -> Result<Call, CallFault>
-    ensures { Gives result (set_variable_of (seen given.entry)) }
+    ensures { Gives result (set_variable_of (lent_data given.entry)) }
 {
     let arguments = Arguments::required(given)?;
     let variables_reference = arguments.required_number(Key::VariablesReference)?;
@@ -368,7 +368,7 @@ fn set_variable(alloc: Global, given: Option<&Value>) -> Result<Call, CallFault>
 
 #[tactic(auto, unfolding(crate::specs::Call::modules_of))]
 fn modules(given: Option<&Value>) -> Result<Call, Key>
-    ensures { result ≡ modules_of (seen given.entry) }
+    ensures { result ≡ modules_of (lent_data given.entry) }
 {
     let arguments = Arguments::optional(given)?;
     let start_module = arguments.number_or(Key::StartModule, 0)?;
@@ -381,7 +381,7 @@ fn modules(given: Option<&Value>) -> Result<Call, Key>
 
 #[tactic(auto, unfolding(crate::specs::Call::breakpoint_locations_of))]
 fn breakpoint_locations(alloc: Global, given: Option<&Value>) -> Result<Call, CallFault>
-    ensures { Gives result (breakpoint_locations_of (seen given.entry)) }
+    ensures { Gives result (breakpoint_locations_of (lent_data given.entry)) }
 {
     let arguments = Arguments::required(given)?;
     let source = arguments.required_source(alloc, Key::Source)?;
@@ -396,7 +396,7 @@ fn breakpoint_locations(alloc: Global, given: Option<&Value>) -> Result<Call, Ca
 
 #[tactic(auto, unfolding(crate::specs::Call::completions_of))]
 fn completions(alloc: Global, given: Option<&Value>) -> Result<Call, CallFault>
-    ensures { Gives result (completions_of (seen given.entry)) }
+    ensures { Gives result (completions_of (lent_data given.entry)) }
 {
     let arguments = Arguments::required(given)?;
     let text = arguments.required_text(alloc, Key::Text)?;
@@ -413,7 +413,7 @@ fn completions(alloc: Global, given: Option<&Value>) -> Result<Call, CallFault>
 
 #[tactic(auto, unfolding(crate::specs::Call::thread_of))]
 fn thread(given: Option<&Value>) -> Result<i64, Key>
-    ensures { result ≡ thread_of (seen given.entry) }
+    ensures { result ≡ thread_of (lent_data given.entry) }
 {
     Arguments::required(given)?.required_int(Key::ThreadId)
 }
@@ -429,7 +429,7 @@ fn object(value: &Value) -> Result<Option<Tree>, CallFault>
 }
 
 fn tree(given: Option<&Value>) -> Result<Option<Tree>, CallFault>
-    ensures { Gives result (tree_of (seen given.entry)) }
+    ensures { Gives result (tree_of (lent_data given.entry)) }
 {
     match given {
         None => Ok(None),
@@ -448,7 +448,7 @@ pub fn read_call(
     command: Command,
     arguments: Option<&Value>,
 ) -> Result<Call, CallFault>
-    ensures call { Gives result (call_of command (seen arguments.entry)) }
+    ensures call { Gives result (call_of command (lent_data arguments.entry)) }
     ensures memory { IsErrOf result OutOfMemory → takes_memory command ≡ true }
 {
     match command {

@@ -3,7 +3,7 @@
 //! Specification, "Capabilities", "InitializeResponse" and "CapabilitiesEvent".
 ghost use Rattle.std.specs.Prelude.{◌≡◌, ◌≢◌, None, IfOk, OnOk, OnErr, IsTrue};
 ghost use Rattle.serde_json.specs.View.{view, members_view};
-ghost use Rattle.dap_call.specs.Lent.{seen};
+ghost use Rattle.dap_call.specs.Lent.{lent_data};
 ghost use Rattle.dap_call.specs.Capabilities.{is_flag, updated_flag, with_flag};
 
 use crate::command::{Command, Gate};
@@ -29,7 +29,7 @@ pub struct Capabilities {
 }
 
 fn flag(body: Option<&Value>, gate: Gate) -> bool
-    ensures { result ≡ is_flag gate (seen body.entry) }
+    ensures { result ≡ is_flag gate (lent_data body.entry) }
 {
     match body {
         None => false,
@@ -64,11 +64,11 @@ fn add(
 }
 
 impl Capabilities {
-    ghost use Rattle.dap_call.specs.Capabilities.{has, offered_by, updated_by, is_allowed, written};
+    ghost use Rattle.dap_call.specs.Capabilities.{has, offered_by, updated_by, is_allowed, capabilities_data};
 
     /// The flags in the body of a response to `initialize`; without a body all are `false`.
     pub fn read(body: Option<&Value>) -> Capabilities
-        ensures { result ≡ offered_by (seen body.entry) }
+        ensures { result ≡ offered_by (lent_data body.entry) }
     {
         Capabilities {
             breakpoint_locations: flag(body, Gate::BreakpointLocations),
@@ -147,7 +147,7 @@ impl Capabilities {
 
     /// The object of the flags that are set. It takes memory where one is.
     pub fn write(&self, alloc: Global) -> Result<Value, AllocError>
-        ensures written { IfOk result (λ value. view value ≡ written self.now) }
+        ensures written { IfOk result (λ value. view value ≡ capabilities_data self.now) }
         ensures memory { OnErr result (self.now ≢ offered_by None) }
     {
         let mut members = Map::new(alloc);

@@ -6,11 +6,11 @@
 ghost use Rattle.std.specs.Prelude.{◌≡◌, ◌≤◌, length, OnOk};
 ghost use Rattle.serde_json.specs.Data.{Data, Members, null, object, no_members, put};
 ghost use Rattle.dap_json.specs.Inside.{IsNextInside, IsRestInside};
-ghost use Rattle.dap_json.specs.Skim.{IsNext};
+ghost use Rattle.dap_json.specs.ObjectReader.{IsNext};
 ghost use Rattle.dap_call.specs.Gathered.{given_frames, given_holders, AreGivenBy, AreGathered};
 
 use crate::command::Command;
-use dap_json::skim::{Invalid, Range, Skim};
+use dap_json::object_reader::{Invalid, ObjectReader, Range};
 use std::alloc::Global;
 
 /// Which numbers are ids of frames.
@@ -27,7 +27,7 @@ const HOLDERS: Range = Range {
 
 /// The references that a body gives. It keeps its memory from body to body.
 #[derive(Drop)]
-pub struct Given {
+pub struct GatheredReferences {
     frames: Vec<u64>,
     scopes: Vec<u64>,
     variables: Vec<u64>,
@@ -35,11 +35,11 @@ pub struct Given {
     own: Vec<u64>,
 }
 
-impl Given {
-    pub fn new(alloc: Global) -> Given
+impl GatheredReferences {
+    pub fn new(alloc: Global) -> GatheredReferences
         ensures { AreGivenBy result null }
     {
-        Given {
+        GatheredReferences {
             frames: Vec::new(alloc),
             scopes: Vec::new(alloc),
             variables: Vec::new(alloc),
@@ -58,41 +58,45 @@ impl Given {
     }
 
     /// Takes the value of an inner key.
-    fn take_member(&mut self, key: &str, skim: &mut Skim<'_>) -> Result<(), Invalid>
-        ensures { OnOk result ((d : Data) × IsNextInside d skim.old skim.new × ((found : Members) → AreGathered self.old (object found) → AreGathered self.new (object (put key.now d found)))) }
+    fn take_member(
+        &mut self,
+        key: &str,
+        object_reader: &mut ObjectReader<'_>,
+    ) -> Result<(), Invalid>
+        ensures { OnOk result ((d : Data) × IsNextInside d object_reader.old object_reader.new × ((found : Members) → AreGathered self.old (object found) → AreGathered self.new (object (put key.now d found)))) }
     {
         match key {
             "stackFrames" => {
                 self.frames.clear();
-                skim.column("id", FRAMES, &mut self.frames)?;
+                object_reader.column("id", FRAMES, &mut self.frames)?;
             }
             "scopes" => {
                 self.scopes.clear();
-                skim.column("variablesReference", HOLDERS, &mut self.scopes)?;
+                object_reader.column("variablesReference", HOLDERS, &mut self.scopes)?;
             }
             "variables" => {
                 self.variables.clear();
-                skim.column("variablesReference", HOLDERS, &mut self.variables)?;
+                object_reader.column("variablesReference", HOLDERS, &mut self.variables)?;
             }
             "variablesReference" => {
                 self.own.clear();
-                skim.number(HOLDERS, &mut self.own)?;
+                object_reader.number(HOLDERS, &mut self.own)?;
             }
             _ => {
-                let _ = skim.pass_inner()?;
+                let _ = object_reader.pass_inner()?;
             }
         }
         Ok(())
     }
 
     /// Takes the members of the body that was entered, and its end.
-    fn take_members(&mut self, skim: &mut Skim<'_>) -> Result<(), Invalid>
+    fn take_members(&mut self, object_reader: &mut ObjectReader<'_>) -> Result<(), Invalid>
         requires { AreGathered self.old (object no_members) }
-        ensures members { OnOk result ((ms : Members) × IsRestInside skim.old skim.new no_members ms × AreGathered self.new (object ms)) }
-        ensures shorter { OnOk result (length skim.new ≤ length skim.old) }
+        ensures members { OnOk result ((ms : Members) × IsRestInside object_reader.old object_reader.new no_members ms × AreGathered self.new (object ms)) }
+        ensures shorter { OnOk result (length object_reader.new ≤ length object_reader.old) }
     {
-        while let Some(key) = skim.inner_key()? {
-            self.take_member(key, skim)?;
+        while let Some(key) = object_reader.inner_key()? {
+            self.take_member(key, object_reader)?;
         }
         Ok(())
     }
@@ -100,12 +104,12 @@ impl Given {
     /// Passes the body that comes next, and gathers what it gives in place of what was gathered before. It is an error where
     /// the body is no object, where what should be an array of objects is none, where its text is no JSON, and where memory
     /// is refused; what is gathered then is not told.
-    pub fn gather(&mut self, skim: &mut Skim<'_>) -> Result<(), Invalid>
-        ensures { OnOk result ((body : Data) × IsNext body skim.old skim.new × AreGivenBy self.new body) }
+    pub fn gather(&mut self, object_reader: &mut ObjectReader<'_>) -> Result<(), Invalid>
+        ensures { OnOk result ((body : Data) × IsNext body object_reader.old object_reader.new × AreGivenBy self.new body) }
     {
         self.clear();
-        skim.enter()?;
-        self.take_members(skim)?;
+        object_reader.enter()?;
+        self.take_members(object_reader)?;
         Ok(())
     }
 

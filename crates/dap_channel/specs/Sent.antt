@@ -3,8 +3,8 @@ use Rattle.std.specs.Prelude.{◌≡◌, ℕ, List, IsTrue, min}
 use Rattle.dap_channel.specs.Channel.{IoEvent, Ran, bytes_written, reads, is_flushed, HasFlushed, MayGoOn, HasWriteFailed}
 
 -- a count of bytes, which stays at its greatest value
-abbrev pub counted : ℕ → ℕ
-counted n = min n 18446744073709551615
+abbrev pub saturating_count : ℕ → ℕ
+saturating_count n = min n 18446744073709551615
 
 -- calls that wrote these bytes, none of them a read
 pub record Writes {C : Type 0} (goes : C → IoEvent → C → Type 0) (c d : C) (bytes : List ℕ) : Type 0 where

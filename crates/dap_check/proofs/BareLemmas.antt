@@ -6,20 +6,20 @@ use Rattle.std.specs.List.{list_any}
 use Rattle.std.specs.Ordering.{nat_cmp}
 use Rattle.serde_json.specs.Data.{Data, null}
 use Rattle.dap_message.specs.Command.{command_named}
-use Rattle.dap_message.specs.Given.{frame_ids, holders_of}
+use Rattle.dap_message.specs.GivenReferences.{frame_ids, holders_of}
 use Rattle.dap_message.specs.Gathered.{AreGivenBy}
-use Rattle.dap_message.specs.Giving.{or_null, AreGivenIn}
-use Rattle.dap_message.specs.Types.Given.{Given}
+use Rattle.dap_message.specs.ResponseReferences.{or_null, AreGivenIn}
+use Rattle.dap_message.specs.Types.GatheredReferences.{GatheredReferences}
 use Rattle.dap_message.specs.Types.Capabilities.{Capabilities}
 use Rattle.dap_message.specs.Types.Command.{Command}
 use Rattle.dap_message.specs.Types.Command.TheVariants as command
 use Rattle.dap_message.specs.declared.message.Message.{Message}
 use Rattle.dap_message.specs.declared.message.Kind.{Kind}
 use Rattle.dap_message.specs.declared.message.Kind.TheVariants.{Request, Response, Event, Other}
-use Rattle.dap_check.specs.Bare.{is_looked_at, bare_kind, bare_line, IsReadBody, IsReadAs, frames_told, told_for, holders_told, tells_frame, tells_holder}
-use Rattle.dap_check.specs.Kept.{AreCounts, ArePending, ArePhases, AreReferences, reference_after, IsFirst, Begins, AreWaiting, IsOffered, offer_after, IsSeen, IsTold}
+use Rattle.dap_check.specs.PrivateBare.{is_looked_at, bare_kind, bare_line, IsReadBody, IsReadAs, gathered_frames, gathered_holders_for, gathered_holders, gathers_frame, gathers_holder}
+use Rattle.dap_check.specs.PrivateKept.{AreCounts, ArePending, ArePhases, AreReferences, reference_after, IsFirst, Begins, AreWaiting, IsOffered, offer_after, IsSeen, IsVerdictSoFar}
 use Rattle.dap_check.specs.Legal.{all_rules, least_broken, IsFinding}
-use Rattle.dap_check.specs.Lines.{opposite, is_among, is_of, asks, asks_as, asks_for, answers, succeeds}
+use Rattle.dap_check.specs.Lines.{other_side, is_among, is_of, asks, asks_as, asks_for, answers, succeeds}
 use Rattle.dap_check.specs.Rules.{breaks_answer, frames_in, initialize, disconnect, offered_since, frames_of_kind, holders_of_kind, holders_for, contains_number, gives_frame, gives_holder, resumes, naming_frames, naming_holders, is_broken}
 use Rattle.dap_check.specs.Since.{is_open, first_since, last_since, Past}
 use Rattle.dap_check.specs.declared.line.Form.{Form}
@@ -74,7 +74,7 @@ frames_of_null : (body : Option Data) → frame_ids (or_null body) ≡ frames_in
 frames_of_null None = refl
 frames_of_null (Some d) = refl
 
-frames_alike : (given : Given) (kind : Kind) → AreGivenIn given kind → frames_told given (bare_kind kind) ≡ frames_of_kind kind
+frames_alike : (given : GatheredReferences) (kind : Kind) → AreGivenIn given kind → gathered_frames given (bare_kind kind) ≡ frames_of_kind kind
 frames_alike given (Request c arguments) are = refl
 frames_alike given (Response request_seq success c message body) are = ap (λ frames. cond (success && bytes_eq c (codes "stackTrace")) frames []) (are.frames ∙ frames_of_null body)
 frames_alike given (Event event body) are = refl
@@ -87,12 +87,12 @@ holders_of_null command.Evaluate = refl
 holders_of_null command.SetVariable = refl
 holders_of_null _ = refl
 
-told_of : (given : Given) (found : Option Command) (body : Option Data) → AreGivenBy given (or_null body) → told_for found given ≡ holders_for found body
+told_of : (given : GatheredReferences) (found : Option Command) (body : Option Data) → AreGivenBy given (or_null body) → gathered_holders_for found given ≡ holders_for found body
 told_of given None body are = refl
 told_of given (Some x) None are = are.holders x ∙ holders_of_null x
 told_of given (Some x) (Some d) are = are.holders x
 
-holders_alike : (given : Given) (kind : Kind) → AreGivenIn given kind → holders_told given (bare_kind kind) ≡ holders_of_kind kind
+holders_alike : (given : GatheredReferences) (kind : Kind) → AreGivenIn given kind → gathered_holders given (bare_kind kind) ≡ holders_of_kind kind
 holders_alike given (Request c arguments) are = refl
 holders_alike given (Response request_seq success c message body) are = ap (λ holders. cond success holders []) (told_of given (command_named c) body are)
 holders_alike given (Event event body) are = refl
@@ -128,10 +128,10 @@ module _ (number : ℕ) (side : Side) (seq : ℕ) where
   resumes_alike : (kind : Kind) → Alike resumes kind
   resumes_alike kind = elim kind as (λ k. Alike resumes k) [ Request c a ↦ refl | Response m b c r d ↦ refl | Event e d ↦ refl | Other t ↦ refl ]
 
-  frame_alike : (n : ℕ) (given : Given) (kind : Kind) → AreGivenIn given kind → tells_frame n given (bare kind) ≡ gives_frame n (whole kind)
+  frame_alike : (n : ℕ) (given : GatheredReferences) (kind : Kind) → AreGivenIn given kind → gathers_frame n given (bare kind) ≡ gives_frame n (whole kind)
   frame_alike n given kind are = ap (λ frames. is_of Adapter (whole kind) && contains_number n frames) (frames_alike given kind are)
 
-  holder_alike : (n : ℕ) (given : Given) (kind : Kind) → AreGivenIn given kind → tells_holder n given (bare kind) ≡ gives_holder n (whole kind)
+  holder_alike : (n : ℕ) (given : GatheredReferences) (kind : Kind) → AreGivenIn given kind → gathers_holder n given (bare kind) ≡ gives_holder n (whole kind)
   holder_alike n given kind are = ap (λ holders. is_of Adapter (whole kind) && contains_number n holders) (holders_alike given kind are)
 
 -- what is offered after it
@@ -201,8 +201,8 @@ module _ (earlier : List Line) (number : ℕ) (side : Side) (seq : ℕ) (kind : 
 
   waits_alike : (waiting : Waiting) (s : Side) → AreWaiting waiting s (earlier ++ bare_one ∷ []) → AreWaiting waiting s (earlier ++ whole_one ∷ [])
   waits_alike waiting s is = record {
-    any = λ n. sym (open_alike earlier bare_one whole_one (asks_as s n) (answers (opposite s) n) (asks_as_alike number side seq s n kind) (answers_alike number side seq (opposite s) n kind)) ∙ is.any n;
-    each = λ n name. sym (open_alike earlier bare_one whole_one (asks_for s n name) (answers (opposite s) n) (asks_for_alike number side seq s n name kind) (answers_alike number side seq (opposite s) n kind)) ∙ is.each n name;
+    any = λ n. sym (open_alike earlier bare_one whole_one (asks_as s n) (answers (other_side s) n) (asks_as_alike number side seq s n kind) (answers_alike number side seq (other_side s) n kind)) ∙ is.any n;
+    each = λ n name. sym (open_alike earlier bare_one whole_one (asks_for s n name) (answers (other_side s) n) (asks_for_alike number side seq s n name kind) (answers_alike number side seq (other_side s) n kind)) ∙ is.each n name;
   }
 
   begins_alike : (first : First) → Begins first (earlier ++ bare_one ∷ []) → Begins first (earlier ++ whole_one ∷ [])
@@ -221,15 +221,15 @@ module _ (earlier : List Line) (number : ℕ) (side : Side) (seq : ℕ) (kind : 
 
 -- ---- however it was read
 
-pub least_as : (any_seq : Bool) (earlier : List Line) (form : Form) (given : Given) (read real : Line) → IsReadAs form given read real → least_broken any_seq earlier read ≡ least_broken any_seq earlier real
+pub least_as : (any_seq : Bool) (earlier : List Line) (form : Form) (given : GatheredReferences) (read real : Line) → IsReadAs form given read real → least_broken any_seq earlier read ≡ least_broken any_seq earlier real
 least_as any_seq earlier Whole given read real is = ap (least_broken any_seq earlier) is
 least_as any_seq earlier Bare given read real is = ap (least_broken any_seq earlier) is.0 ∙ least_alike earlier real.number real.side real.message.seq real.message.kind is.1 any_seq
 
-number_as : (form : Form) (given : Given) (read real : Line) → IsReadAs form given read real → read.number ≡ real.number
+number_as : (form : Form) (given : GatheredReferences) (read real : Line) → IsReadAs form given read real → read.number ≡ real.number
 number_as Whole given read real is = ap (λ (l : Line). l.number) is
 number_as Bare given read real is = ap (λ (l : Line). l.number) is.0
 
-pub seen_as : (form : Form) (given : Given) (earlier : List Line) (read real : Line) (seen : Seen) → IsReadAs form given read real
+pub seen_as : (form : Form) (given : GatheredReferences) (earlier : List Line) (read real : Line) (seen : Seen) → IsReadAs form given read real
     → AreCounts seen.counts (earlier ++ read ∷ []) → ArePending seen.pending (earlier ++ read ∷ []) → Begins seen.first (earlier ++ read ∷ [])
     → ArePhases seen.phases (earlier ++ read ∷ []) → IsOffered seen.offer (earlier ++ read ∷ []) → AreReferences seen.references (earlier ++ real ∷ []) → IsSeen seen (earlier ++ real ∷ [])
 seen_as Whole given earlier read real seen is counts pending first phases offer references = record {
@@ -272,47 +272,47 @@ module _ (old new : References) (line : Line) (earlier : List Line) (is : AreRef
       → AreReferences new (earlier ++ real ∷ [])
   references_whole real e frames holders = subst (λ x. AreReferences new (earlier ++ x ∷ [])) e (referenced_later old new line earlier frames holders is)
 
-  pub references_bare : (given : Given) (real : Line) → IsReadAs Bare given line real
-      → ((n : ℕ) → sorted.contains nat_cmp new.frames n ≡ reference_after (resumes line) (tells_frame n given line) (sorted.contains nat_cmp old.frames n))
-      → ((n : ℕ) → sorted.contains nat_cmp new.holders n ≡ reference_after (resumes line) (tells_holder n given line) (sorted.contains nat_cmp old.holders n))
+  pub references_bare : (given : GatheredReferences) (real : Line) → IsReadAs Bare given line real
+      → ((n : ℕ) → sorted.contains nat_cmp new.frames n ≡ reference_after (resumes line) (gathers_frame n given line) (sorted.contains nat_cmp old.frames n))
+      → ((n : ℕ) → sorted.contains nat_cmp new.holders n ≡ reference_after (resumes line) (gathers_holder n given line) (sorted.contains nat_cmp old.holders n))
       → AreReferences new (earlier ++ real ∷ [])
   references_bare given real read frames holders = referenced_later old new real earlier (λ n. frames n ∙ frame n) (λ n. holders n ∙ holder n) is
     where
       goes : resumes line ≡ resumes real
       goes = ap resumes read.0 ∙ resumes_alike real.number real.side real.message.seq real.message.kind
 
-      frame : (n : ℕ) → reference_after (resumes line) (tells_frame n given line) (sorted.contains nat_cmp old.frames n) ≡ reference_after (resumes real) (gives_frame n real) (sorted.contains nat_cmp old.frames n)
+      frame : (n : ℕ) → reference_after (resumes line) (gathers_frame n given line) (sorted.contains nat_cmp old.frames n) ≡ reference_after (resumes real) (gives_frame n real) (sorted.contains nat_cmp old.frames n)
       frame n =
-          ap (λ b. reference_after b (tells_frame n given line) (sorted.contains nat_cmp old.frames n)) goes
-          ∙ ap (λ b. reference_after (resumes real) b (sorted.contains nat_cmp old.frames n)) (ap (tells_frame n given) read.0 ∙ frame_alike real.number real.side real.message.seq n given real.message.kind read.2)
+          ap (λ b. reference_after b (gathers_frame n given line) (sorted.contains nat_cmp old.frames n)) goes
+          ∙ ap (λ b. reference_after (resumes real) b (sorted.contains nat_cmp old.frames n)) (ap (gathers_frame n given) read.0 ∙ frame_alike real.number real.side real.message.seq n given real.message.kind read.2)
 
-      holder : (n : ℕ) → reference_after (resumes line) (tells_holder n given line) (sorted.contains nat_cmp old.holders n) ≡ reference_after (resumes real) (gives_holder n real) (sorted.contains nat_cmp old.holders n)
+      holder : (n : ℕ) → reference_after (resumes line) (gathers_holder n given line) (sorted.contains nat_cmp old.holders n) ≡ reference_after (resumes real) (gives_holder n real) (sorted.contains nat_cmp old.holders n)
       holder n =
-          ap (λ b. reference_after b (tells_holder n given line) (sorted.contains nat_cmp old.holders n)) goes
-          ∙ ap (λ b. reference_after (resumes real) b (sorted.contains nat_cmp old.holders n)) (ap (tells_holder n given) read.0 ∙ holder_alike real.number real.side real.message.seq n given real.message.kind read.2)
+          ap (λ b. reference_after b (gathers_holder n given line) (sorted.contains nat_cmp old.holders n)) goes
+          ∙ ap (λ b. reference_after (resumes real) b (sorted.contains nat_cmp old.holders n)) (ap (gathers_holder n given) read.0 ∙ holder_alike real.number real.side real.message.seq n given real.message.kind read.2)
 
 -- ---- what is told
 
-module _ (any_seq : Bool) (lines : List Line) (form : Form) (given : Given) (read real : Line) (told : Checked) (is : IsReadAs form given read real) (e : told ≡ Legal) where
-  pub legal_as : (old new : Seen) → IsTold any_seq old lines told
+module _ (any_seq : Bool) (lines : List Line) (form : Form) (given : GatheredReferences) (read real : Line) (told : Checked) (is : IsReadAs form given read real) (e : told ≡ Legal) where
+  pub legal_as : (old new : Seen) → IsVerdictSoFar any_seq old lines told
       → ((earlier : List Line) → IsSeen old earlier → least_broken any_seq earlier read ≡ None)
       → ((earlier : List Line) → IsSeen old earlier → breaks_answer earlier read ≡ false → IsSeen new (earlier ++ real ∷ []))
-      → IsTold any_seq new (lines ++ real ∷ []) Legal
+      → IsVerdictSoFar any_seq new (lines ++ real ∷ []) Legal
   legal_as old new before free seen =
-      let was = subst (IsTold any_seq old lines) e before in
+      let was = subst (IsVerdictSoFar any_seq old lines) e before in
       let none = free lines was.1 in
       (legal_push any_seq lines real was.0 (sym (least_as any_seq lines form given read real is) ∙ none), seen lines was.1 (answers_well any_seq lines read none))
 
-  pub broken_as : (seen : Seen) (rule : Rule) → IsTold any_seq seen lines told
-      → ((earlier : List Line) → IsSeen seen earlier → least_broken any_seq earlier read ≡ Some rule) → IsTold any_seq seen (lines ++ real ∷ []) (Finding read.number rule)
+  pub broken_as : (seen : Seen) (rule : Rule) → IsVerdictSoFar any_seq seen lines told
+      → ((earlier : List Line) → IsSeen seen earlier → least_broken any_seq earlier read ≡ Some rule) → IsVerdictSoFar any_seq seen (lines ++ real ∷ []) (Finding read.number rule)
   broken_as seen rule before broken =
-      let was = subst (IsTold any_seq seen lines) e before in
+      let was = subst (IsVerdictSoFar any_seq seen lines) e before in
       subst (λ n. IsFinding any_seq (lines ++ real ∷ []) n rule) (sym (number_as form given read real is))
       (finding_push any_seq lines real rule was.0 (sym (least_as any_seq lines form given read real is) ∙ broken lines was.1))
 
 -- ---- what is read
 
-pub line_read : (number : ℕ) (side : Side) (form : Form) (given : Given) (read m : Message) → IsReadBody form given read m
+pub line_read : (number : ℕ) (side : Side) (form : Form) (given : GatheredReferences) (read m : Message) → IsReadBody form given read m
     → IsReadAs form given (record { number = number; side = side; message = read }) (record { number = number; side = side; message = m })
 line_read number side Whole given read m is = ap (λ x. record { number = number; side = side; message = x }) is
 line_read number side Bare given read m is = (ap (λ x. record { number = number; side = side; message = x }) is.0, is.1, is.2)

@@ -7,7 +7,7 @@ use Rattle.std.proofs.lemmas.Bool.Decides.{nat_tests}
 use Rattle.std.proofs.lemmas.List.{take-append-le, take_all}
 use Rattle.dap_message.specs.Laws.{EachBodyIsOne}
 use Rattle.dap_check.specs.Reasons.{reason_of}
-use Rattle.dap_check.specs.Trails.{AreBefore}
+use Rattle.dap_check.specs.PrivateTrails.{AreBefore}
 use Rattle.dap_check.specs.Transcript.{IsLine, AreLines, Refuses, IsTextAt, IsRefusedIn}
 use Rattle.dap_check.specs.declared.checking.CheckFault.{CheckFault}
 use Rattle.dap_check.specs.declared.checking.CheckFault.TheVariants.{BadLine, Body, OutOfMemory}

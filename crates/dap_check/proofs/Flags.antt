@@ -7,14 +7,14 @@ use Rattle.serde_json.specs.Data.{Data}
 use Rattle.serde_json.specs.Find.{get, as_bool}
 use Rattle.dap_message.specs.Field.{tree_at}
 use Rattle.dap_message.specs.Command.{flag_of}
-use Rattle.dap_message.specs.Capabilities.{is_flag, has, capabilities_of, updated_flag, replaced}
+use Rattle.dap_message.specs.Capabilities.{is_flag, has, capabilities_of, updated_flag, flag_after}
 use Rattle.dap_message.specs.Types.Capabilities.{Capabilities}
 use Rattle.dap_message.specs.Types.Gate.{Gate}
 use Rattle.dap_message.specs.Types.Gate.TheVariants.{BreakpointLocations, Cancel, Completions, ConfigurationDone, ExceptionInfo, FunctionBreakpoints, LoadedSources, Modules, Restart, SetVariable, StepBack, Terminate}
 use Rattle.dap_check.specs.Since.{is_open, last_since, Past}
-use Rattle.dap_check.specs.Lines.{body_of, succeeds, tells}
-use Rattle.dap_check.specs.Rules.{initialize, offered, offered_since, offered_after, updated_to}
-use Rattle.dap_check.specs.Kept.{offer_after}
+use Rattle.dap_check.specs.Lines.{body_of, succeeds, is_adapter_event}
+use Rattle.dap_check.specs.Rules.{initialize, offered_capabilities, offered_since, offered_after, updated_to}
+use Rattle.dap_check.specs.PrivateKept.{offer_after}
 use Rattle.dap_check.specs.Places.{named_by, is_on, is_off, switches_on, switches_off}
 use Rattle.dap_check.specs.declared.line.Line.{Line}
 use Rattle.dap_check.proofs.SinceLemmas.{any_push, open_push, last_push}
@@ -52,7 +52,7 @@ so_far_later earlier line = ap (option_map offered_since) (last_push (succeeds i
 
 -- ---- a `capabilities` event
 
-flag_replaced : (found : Option Data) (before : Bool) → replaced found before ≡ unwrap_or (option_map (λ d. unwrap_or (as_bool d) false) found) before
+flag_replaced : (found : Option Data) (before : Bool) → flag_after found before ≡ unwrap_or (option_map (λ d. unwrap_or (as_bool d) false) found) before
 flag_replaced None before = refl
 flag_replaced (Some d) before = refl
 
@@ -110,7 +110,7 @@ switched_later gate (Some c) true on line false is =
     let decided = deciding false gate line in
     record {
       there = refl;
-      flag = flag_told (tells (codes "capabilities" ∷ []) line) gate (option_and_then (tree_at (codes "capabilities")) (body_of line.message.kind)) c ∙ ap (unwrap_or decided) is.flag ∙ switched decided on;
+      flag = flag_told (is_adapter_event (codes "capabilities" ∷ []) line) gate (option_and_then (tree_at (codes "capabilities")) (body_of line.message.kind)) c ∙ ap (unwrap_or decided) is.flag ∙ switched decided on;
     }
 
 module _ (gate : Gate) where
@@ -136,5 +136,5 @@ module _ (gate : Gate) where
   flag_of_offer (Some past) = refl
 
   -- a flag is offered where `initialize` has succeeded and the flag was switched on last
-  pub offered_flag : (earlier : List Line) → has (offered earlier) gate ≡ (list_any (succeeds initialize) earlier && is_open (switches_on gate) (switches_off gate) earlier)
+  pub offered_flag : (earlier : List Line) → has (offered_capabilities earlier) gate ≡ (list_any (succeeds initialize) earlier && is_open (switches_on gate) (switches_off gate) earlier)
   offered_flag earlier = flag_of_offer (last_since (succeeds initialize) earlier) ∙ (switched_from [] earlier (record { there = refl; flag = refl })).flag

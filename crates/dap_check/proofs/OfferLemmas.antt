@@ -1,12 +1,12 @@
 -- What the adapter offers, one line later.
 use Rattle.std.proofs.Common.{◌≡◌, List, [], ◌∷◌, ◌++◌, Bool, true, false, Option, Some, None, refl, sym, ap, ◌∙◌}
-use Rattle.std.specs.Prelude.{option_map, unwrap_or}
+use Rattle.std.specs.Prelude.{option_map}
 use Rattle.std.proofs.lemmas.List.Sums.{fold_push}
 use Rattle.dap_message.specs.Capabilities.{offered_by}
 use Rattle.dap_check.specs.Since.{last_since, Past}
 use Rattle.dap_check.specs.Lines.{succeeds, body_of}
-use Rattle.dap_check.specs.Rules.{offered_since, offered_after, after_line, initialize}
-use Rattle.dap_check.specs.Kept.{IsOffered, offer_after}
+use Rattle.dap_check.specs.Rules.{offered_since, after_line, initialize}
+use Rattle.dap_check.specs.PrivateKept.{IsOffered, offer_after}
 use Rattle.dap_check.specs.declared.line.Line.{Line}
 use Rattle.dap_check.specs.declared.offer.Offer.{Offer}
 use Rattle.dap_check.proofs.SinceLemmas.{last_push, last_later}
@@ -20,7 +20,3 @@ pub offered_later : (old new : Offer) (line : Line) (earlier : List Line) → ne
 offered_later old new line earlier e is = record {
   capabilities = e ∙ ap (offer_after (succeeds initialize line) line) is.capabilities ∙ sym (one_later (succeeds initialize line) line (last_since (succeeds initialize) earlier)) ∙ sym (ap (option_map offered_since) (last_push (succeeds initialize) earlier line));
 }
-
-pub none_or : (last : Option (Past Line)) → unwrap_or (option_map offered_since last) (offered_by None) ≡ offered_after last
-none_or None = refl
-none_or (Some past) = refl

@@ -14,12 +14,12 @@ use Rattle.dap_message.specs.Types.Command.{Command}
 use Rattle.dap_message.specs.Types.Gate.{Gate}
 use Rattle.dap_message.specs.declared.message.Kind.{Kind}
 use Rattle.dap_message.specs.declared.message.Kind.TheVariants.{Request, Response, Event, Other}
-use Rattle.dap_check.specs.Lines.{opposite, is_among, is_request_among, is_request_for, arguments_of, body_of, is_of, asks, asks_as, asks_for, answers, succeeds, tells}
+use Rattle.dap_check.specs.Lines.{other_side, is_among, is_request_among, is_request_for, arguments_of, body_of, is_of, asks, asks_as, asks_for, answers, succeeds, is_adapter_event}
 use Rattle.dap_check.specs.Places.{named_by, switches_on, switches_off}
-use Rattle.dap_check.specs.Reasons.{trail, opening, closing, never, is_open_still, waiting, not_asked, answer_reason, second, why_early, unasked, why_uninitialized, asks_to_initialize, decides, gate_reason, gate_asked, gives, other_kind, unknown, number_reason, kind_named, reference_reason, why_ended, BrokenRulesHaveReasons}
-use Rattle.dap_check.specs.Rules.{is_out_of_place, is_too_early, initialize, disconnect, offered, permits, is_refused, is_frame, is_holder, is_unknown, number_at, naming_frames, naming_holders, resumes}
+use Rattle.dap_check.specs.Reasons.{trail, opened_of, closing_line, no_line, is_open_still, waiting_reason, not_asked_reason, answer_reason, second_request_reason, why_early, no_initialize_reason, why_uninitialized, asks_to_initialize, decides, gate_reason, gate_asked, gives, other_kind, unknown_reason, number_reason, kind_named, reference_reason, why_ended, BrokenRulesHaveReasons}
+use Rattle.dap_check.specs.Rules.{is_out_of_place, is_too_early, initialize, disconnect, offered_capabilities, permits, is_refused, is_frame, is_holder, is_unknown, number_at, naming_frames, naming_holders, resumes}
 use Rattle.dap_check.specs.Since.{is_open, first_since, last_since, Past}
-use Rattle.dap_check.specs.Trails.{closed_after, trail_after}
+use Rattle.dap_check.specs.PrivateTrails.{closed_after, trail_after}
 use Rattle.dap_check.specs.declared.line.Line.{Line}
 use Rattle.dap_check.specs.declared.line.Side.{Side}
 use Rattle.dap_check.specs.declared.line.Side.TheVariants.{Client, Adapter}
@@ -66,13 +66,13 @@ module _ (p q : Line → Bool) where
 
 -- ---- some line
 
-some_or : (b : Bool) (x : Line) (xs : List Line) (last : Option (Past Line)) → is_some (option_map opening (option_or last (cond b (Some (record { line = x; since = xs })) None))) ≡ (b || is_some (option_map opening last))
+some_or : (b : Bool) (x : Line) (xs : List Line) (last : Option (Past Line)) → is_some (option_map opened_of (option_or last (cond b (Some (record { line = x; since = xs })) None))) ≡ (b || is_some (option_map opened_of last))
 some_or true x xs None = refl
 some_or true x xs (Some past) = refl
 some_or false x xs None = refl
 some_or false x xs (Some past) = refl
 
-any_trail : (p : Line → Bool) (xs : List Line) → is_some (option_map opening (last_since p xs)) ≡ list_any p xs
+any_trail : (p : Line → Bool) (xs : List Line) → is_some (option_map opened_of (last_since p xs)) ≡ list_any p xs
 any_trail p [] = refl
 any_trail p (x ∷ xs) = some_or (p x) x xs (last_since p xs) ∙ ap (λ b. p x || b) (any_trail p xs)
 
@@ -90,19 +90,19 @@ some_unless : (b : Bool) (reason : Reason) → is_some (cond b None (Some reason
 some_unless true reason = refl
 some_unless false reason = refl
 
-some_waiting : (seq : ℕ) (opened : Option Opened) (closed : Option ℕ) → is_some (waiting seq opened closed) ≡ (is_some opened && is_none closed)
+some_waiting : (seq : ℕ) (opened : Option Opened) (closed : Option ℕ) → is_some (waiting_reason seq opened closed) ≡ (is_some opened && is_none closed)
 some_waiting seq (Some asked) None = refl
 some_waiting seq (Some asked) (Some answered) = refl
 some_waiting seq None closed = refl
 
 some_answer : (earlier : List Line) (side : Side) (seq : ℕ) (kind : Kind) → is_some (answer_reason earlier side seq kind) ≡ is_out_of_place side seq earlier kind
 some_answer earlier side seq (Request command arguments) =
-    let t = trail (asks_as side seq) (λ n. answers (opposite side) seq) earlier in
-    some_waiting seq t.opened t.closed ∙ open_trail (asks_as side seq) (answers (opposite side) seq) earlier
+    let t = trail (asks_as side seq) (λ n. answers (other_side side) seq) earlier in
+    some_waiting seq t.opened t.closed ∙ open_trail (asks_as side seq) (answers (other_side side) seq) earlier
 some_answer earlier side seq (Response request_seq success command message body) =
-    let t = trail (asks_as (opposite side) request_seq) (λ n. answers (opposite (opposite side)) request_seq) earlier in
-    some_unless (is_open_still (trail (asks_for (opposite side) request_seq command) (λ n. answers (opposite (opposite side)) request_seq) earlier)) (not_asked request_seq t.opened t.closed)
-    ∙ ap not (open_trail (asks_for (opposite side) request_seq command) (answers (opposite (opposite side)) request_seq) earlier)
+    let t = trail (asks_as (other_side side) request_seq) (λ n. answers (other_side (other_side side)) request_seq) earlier in
+    some_unless (is_open_still (trail (asks_for (other_side side) request_seq command) (λ n. answers (other_side (other_side side)) request_seq) earlier)) (not_asked_reason request_seq t.opened t.closed)
+    ∙ ap not (open_trail (asks_for (other_side side) request_seq command) (answers (other_side (other_side side)) request_seq) earlier)
 some_answer earlier side seq (Event event body) = refl
 some_answer earlier side seq (Other tag) = refl
 
@@ -112,7 +112,7 @@ module _ (p : Line → Bool) (closes : ℕ → Line → Bool) where
   -- the one that was found last is the first, or there are two
   abbrev IsFirstOf : Trail → Option (Past Line) → Type 0
   IsFirstOf t None = t.count ≡ 0
-  IsFirstOf t (Some past) = MatchBool (list_any p past.since) (2 ≤ t.count) (t ≡ record { count = 1; opened = Some (opening past); closed = closing closes past })
+  IsFirstOf t (Some past) = MatchBool (list_any p past.since) (2 ≤ t.count) (t ≡ record { count = 1; opened = Some (opened_of past); closed = closing_line closes past })
 
   abbrev later_of : Bool → Line → Trail → Trail
   later_of b y t = cond b (record { count = t.count + 1; opened = Some (record { line = y.number; seq = y.message.seq }); closed = None }) (record { count = t.count; opened = t.opened; closed = closed_after closes y t.opened t.closed })
@@ -121,17 +121,17 @@ module _ (p : Line → Bool) (closes : ℕ → Line → Bool) where
   begins true y t e = ap (λ n. record { count = n + 1; opened = Some (record { line = y.number; seq = y.message.seq }); closed = None }) e
   begins false y t e = e
 
-  goes_on : (any b : Bool) (y : Line) (past : Past Line) (t : Trail) → MatchBool any (2 ≤ t.count) (t ≡ record { count = 1; opened = Some (opening past); closed = closing closes past })
-      → MatchBool (any || b) (2 ≤ (later_of b y t).count) (later_of b y t ≡ record { count = 1; opened = Some (opening past); closed = closing closes (with_later y past) })
+  goes_on : (any b : Bool) (y : Line) (past : Past Line) (t : Trail) → MatchBool any (2 ≤ t.count) (t ≡ record { count = 1; opened = Some (opened_of past); closed = closing_line closes past })
+      → MatchBool (any || b) (2 ≤ (later_of b y t).count) (later_of b y t ≡ record { count = 1; opened = Some (opened_of past); closed = closing_line closes (with_later y past) })
   goes_on true true y past t is = omega arith
   goes_on true false y past t is = is
   goes_on false true y past t is = omega (arith, ap (λ (x : Trail). x.count) is)
-  goes_on false false y past t is = ap (later_of false y) is ∙ ap (λ closed. record { count = 1; opened = Some (opening past); closed = closed }) (sym (closed_push closes y past))
+  goes_on false false y past t is = ap (later_of false y) is ∙ ap (λ closed. record { count = 1; opened = Some (opened_of past); closed = closed }) (sym (closed_push closes y past))
 
   first_step : (t : Trail) (y : Line) (first : Option (Past Line)) → IsFirstOf t first → IsFirstOf (later_of (p y) y t) (first_later p y first)
   first_step t y None is = begins (p y) y t is
   first_step t y (Some past) is =
-      subst (λ b. MatchBool b (2 ≤ (later_of (p y) y t).count) (later_of (p y) y t ≡ record { count = 1; opened = Some (opening past); closed = closing closes (with_later y past) })) (sym (any_push p past.since y))
+      subst (λ b. MatchBool b (2 ≤ (later_of (p y) y t).count) (later_of (p y) y t ≡ record { count = 1; opened = Some (opened_of past); closed = closing_line closes (with_later y past) })) (sym (any_push p past.since y))
       (goes_on (list_any p past.since) (p y) y past t is)
 
   first_pushed : (xs : List Line) (y : Line) → IsFirstOf (trail p closes xs) (first_since p xs) → IsFirstOf (trail p closes (xs ++ y ∷ [])) (first_since p (xs ++ y ∷ []))
@@ -142,7 +142,7 @@ module _ (p : Line → Bool) (closes : ℕ → Line → Bool) where
   is_first : (xs : List Line) → IsFirstOf (trail p closes xs) (first_since p xs)
   is_first xs = from (λ z. IsFirstOf (trail p closes z) (first_since p z)) first_pushed [] xs refl
 
-some_second : (asked : Opened) (closed : Option ℕ) → is_some (second (Some asked) closed) ≡ is_none closed
+some_second : (asked : Opened) (closed : Option ℕ) → is_some (second_request_reason (Some asked) closed) ≡ is_none closed
 some_second asked None = refl
 some_second asked (Some answered) = refl
 
@@ -154,14 +154,14 @@ few : (count : ℕ) (is_initialize : Bool) (opened : Option Opened) (closed : Op
 few count is_initialize opened closed h =
     let a : (count == 0) ≡ false = grind (arith, nat_tests) in
     let b : (count == 1) ≡ false = grind (arith, nat_tests) in
-    ap (λ x. is_some (cond x (cond is_initialize None (Some NotInitialize)) (cond (count == 1) (second opened closed) None))) a
-    ∙ ap (λ x. is_some (cond x (second opened closed) None)) b
+    ap (λ x. is_some (cond x (cond is_initialize None (Some NotInitialize)) (cond (count == 1) (second_request_reason opened closed) None))) a
+    ∙ ap (λ x. is_some (cond x (second_request_reason opened closed) None)) b
 
-early_past : (any : Bool) (past : Past Line) (is_initialize : Bool) (t : Trail) → MatchBool any (2 ≤ t.count) (t ≡ record { count = 1; opened = Some (opening past); closed = closing (answers Adapter) past })
+early_past : (any : Bool) (past : Past Line) (is_initialize : Bool) (t : Trail) → MatchBool any (2 ≤ t.count) (t ≡ record { count = 1; opened = Some (opened_of past); closed = closing_line (answers Adapter) past })
     → is_some (why_early is_initialize t) ≡ (not any && not (list_any (answers Adapter past.line.message.seq) past.since))
 early_past true past is_initialize t is = few t.count is_initialize t.opened t.closed is
 early_past false past is_initialize t is =
-    ap (λ (x : Trail). is_some (why_early is_initialize x)) is ∙ some_second (opening past) (closing (answers Adapter) past) ∙ none_of (first_since (answers Adapter past.line.message.seq) past.since)
+    ap (λ (x : Trail). is_some (why_early is_initialize x)) is ∙ some_second (opened_of past) (closing_line (answers Adapter) past) ∙ none_of (first_since (answers Adapter past.line.message.seq) past.since)
     ∙ ap not (any_first (answers Adapter past.line.message.seq) past.since)
 
 none_asked : (is_initialize : Bool) → is_some (cond is_initialize None (Some NotInitialize)) ≡ not is_initialize
@@ -172,7 +172,7 @@ early : (line : Line) (t : Trail) (first : Option (Past Line)) → IsFirstOf (as
 early line t None is =
     let is_initialize = is_request_for (codes "initialize") line.message.kind in
     let a : (t.count == 0) ≡ true = grind (arith, nat_tests) in
-    ap (λ b. is_some (cond b (cond is_initialize None (Some NotInitialize)) (cond (t.count == 1) (second t.opened t.closed) None))) a ∙ none_asked is_initialize
+    ap (λ b. is_some (cond b (cond is_initialize None (Some NotInitialize)) (cond (t.count == 1) (second_request_reason t.opened t.closed) None))) a ∙ none_asked is_initialize
 early line t (Some past) is = early_past (list_any (asks Client) past.since) past (is_request_for (codes "initialize") line.message.kind) t is
 
 some_if : (b c : Bool) (reason : Option Reason) → is_some reason ≡ c → is_some (cond b reason None) ≡ (b && c)
@@ -209,24 +209,24 @@ refused_by gate (Some o) switches true true e decided = refl
 refused_by gate (Some o) None true false e decided = absurd (let h = decided refl in cc h)
 refused_by gate (Some o) (Some last) true false e decided = refl
 
-some_gate : (earlier : List Line) (gate : Gate) → is_some (gate_reason earlier (Some gate)) ≡ not (has (offered earlier) gate)
+some_gate : (earlier : List Line) (gate : Gate) → is_some (gate_reason earlier (Some gate)) ≡ not (has (offered_capabilities earlier) gate)
 some_gate earlier gate =
-    let successes = trail (succeeds initialize) never earlier in
-    let switches = trail (decides gate) never earlier in
+    let successes = trail (succeeds initialize) no_line earlier in
+    let switches = trail (decides gate) no_line earlier in
     let still = open_trail (switches_on gate) (switches_off gate) earlier in
     refused_by gate successes.opened switches.opened (list_any (succeeds initialize) earlier) (is_open_still (trail (switches_on gate) (λ n. switches_off gate) earlier)) (any_trail (succeeds initialize) earlier)
     (λ any. any_trail (decides gate) earlier ∙ any_weaker (succeeds initialize) (decides gate) (success_decides gate) earlier any)
     ∙ ap (λ b. not (list_any (succeeds initialize) earlier && b)) still ∙ ap not (sym (offered_flag gate earlier))
 
-gate_of_command : (earlier : List Line) (gate : Option Gate) → is_some (gate_reason earlier gate) ≡ not (passes (offered earlier) gate)
+gate_of_command : (earlier : List Line) (gate : Option Gate) → is_some (gate_reason earlier gate) ≡ not (passes (offered_capabilities earlier) gate)
 gate_of_command earlier None = refl
 gate_of_command earlier (Some gate) = some_gate earlier gate
 
-gate_of_name : (earlier : List Line) (command : Option Command) → is_some (gate_reason earlier (option_and_then gate_of command)) ≡ not (permits (offered earlier) command)
+gate_of_name : (earlier : List Line) (command : Option Command) → is_some (gate_reason earlier (option_and_then gate_of command)) ≡ not (permits (offered_capabilities earlier) command)
 gate_of_name earlier None = refl
 gate_of_name earlier (Some command) = gate_of_command earlier (gate_of command)
 
-gate_of_kind : (earlier : List Line) (kind : Kind) → is_some (gate_reason earlier (gate_asked kind)) ≡ is_refused (offered earlier) kind
+gate_of_kind : (earlier : List Line) (kind : Kind) → is_some (gate_reason earlier (gate_asked kind)) ≡ is_refused (offered_capabilities earlier) kind
 gate_of_kind earlier (Request command arguments) = gate_of_name earlier (command_named command)
 gate_of_kind earlier (Response request_seq success command message body) = refl
 gate_of_kind earlier (Event event body) = refl
@@ -234,7 +234,7 @@ gate_of_kind earlier (Other tag) = refl
 
 -- ---- references
 
-some_unknown : (kind : ReferenceKind) (n : ℕ) (opened : Option Opened) (closed : Option ℕ) (others : Option Opened) → is_some (unknown kind n opened closed others) ≡ not (is_some opened && is_none closed)
+some_unknown : (kind : ReferenceKind) (n : ℕ) (opened : Option Opened) (closed : Option ℕ) (others : Option Opened) → is_some (unknown_reason kind n opened closed others) ≡ not (is_some opened && is_none closed)
 some_unknown kind n (Some given) None others = refl
 some_unknown kind n (Some given) (Some resumed) others = refl
 some_unknown kind n None resumed others = refl
@@ -292,7 +292,7 @@ some_ended (Some last) = refl
 
 pub broken_rules_have_reasons : BrokenRulesHaveReasons
 broken_rules_have_reasons Seq earlier line =
-    let messages = trail (is_of line.side) never earlier in
+    let messages = trail (is_of line.side) no_line earlier in
     some_unless (line.message.seq == messages.count + 1) (Numbered (messages.count + 1) (option_map (λ (last : Opened). last.line) messages.opened))
 broken_rules_have_reasons Answer earlier line = some_answer earlier line.side line.message.seq line.message.kind
 broken_rules_have_reasons FirstRequest earlier line =
@@ -300,13 +300,13 @@ broken_rules_have_reasons FirstRequest earlier line =
     some_if (asks Client line) (is_too_early line (first_since (asks Client) earlier)) (why_early (is_request_for (codes "initialize") line.message.kind) requests)
     (early line requests (first_since (asks Client) earlier) (is_first (asks Client) (answers Adapter) earlier))
 broken_rules_have_reasons Initialized earlier line =
-    let successes = trail (succeeds initialize) never earlier in
+    let successes = trail (succeeds initialize) no_line earlier in
     let requests = trail asks_to_initialize (answers Adapter) earlier in
-    some_if (tells (codes "initialized" ∷ []) line) (not (list_any (succeeds initialize) earlier)) (why_uninitialized successes requests)
-    (some_unless (is_some successes.opened) (unasked requests.opened requests.closed) ∙ ap not (any_trail (succeeds initialize) earlier))
-broken_rules_have_reasons GateRule earlier line = some_if (is_of Client line) (is_refused (offered earlier) line.message.kind) (gate_reason earlier (gate_asked line.message.kind)) (gate_of_kind earlier line.message.kind)
+    some_if (is_adapter_event (codes "initialized" ∷ []) line) (not (list_any (succeeds initialize) earlier)) (why_uninitialized successes requests)
+    (some_unless (is_some successes.opened) (no_initialize_reason requests.opened requests.closed) ∙ ap not (any_trail (succeeds initialize) earlier))
+broken_rules_have_reasons GateRule earlier line = some_if (is_of Client line) (is_refused (offered_capabilities earlier) line.message.kind) (gate_reason earlier (gate_asked line.message.kind)) (gate_of_kind earlier line.message.kind)
 broken_rules_have_reasons Reference earlier line =
     some_if (is_of Client line) _ (reference_reason earlier (kind_named line.message.kind) (arguments_of line.message.kind)) (reference_of_kind earlier line.message.kind)
 broken_rules_have_reasons Disconnect earlier line =
-    let successes = trail (succeeds disconnect) never earlier in
+    let successes = trail (succeeds disconnect) no_line earlier in
     some_if (asks Client line || is_of Adapter line) (list_any (succeeds disconnect) earlier) (why_ended successes) (some_ended successes.opened ∙ any_trail (succeeds disconnect) earlier)

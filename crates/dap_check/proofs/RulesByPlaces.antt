@@ -5,7 +5,7 @@ use Rattle.std.specs.List.{list_any}
 use Rattle.dap_message.specs.declared.message.Kind.{Kind}
 use Rattle.dap_message.specs.declared.message.Kind.TheVariants.{Request, Response, Event, Other}
 use Rattle.dap_check.specs.Laws.{SomeAt, OpenAt}
-use Rattle.dap_check.specs.Lines.{opposite, is_request_for, asks, asks_as, asks_for, answers, succeeds}
+use Rattle.dap_check.specs.Lines.{other_side, is_request_for, asks, asks_as, asks_for, answers, succeeds}
 use Rattle.dap_check.specs.Places.{IsOutOfPlace, AnswerIsByPlaces, OneIsUnanswered, IsTooEarly, FirstRequestIsByPlaces, OfferIsByPlaces, switches_on, switches_off, ReferencesAreByPlaces}
 use Rattle.dap_check.specs.Rules.{is_out_of_place, is_too_early, initialize, gives_frame, gives_holder, resumes}
 use Rattle.dap_check.specs.Since.{is_open, first_since, Past}
@@ -38,7 +38,7 @@ not_open p q xs = (
 )
 
 out_of_place : (side : Side) (seq : ℕ) (earlier : List Line) (kind : Kind) → (is_out_of_place side seq earlier kind ≡ true) ↔ IsOutOfPlace side seq earlier kind
-out_of_place side seq earlier (Request command arguments) = open_is_a_place (asks_as side seq) (answers (opposite side) seq) earlier
+out_of_place side seq earlier (Request command arguments) = open_is_a_place (asks_as side seq) (answers (other_side side) seq) earlier
 out_of_place Client seq earlier (Response request_seq success command message body) = not_open (asks_for Adapter request_seq command) (answers Client request_seq) earlier
 out_of_place Adapter seq earlier (Response request_seq success command message body) = not_open (asks_for Client request_seq command) (answers Adapter request_seq) earlier
 out_of_place side seq earlier (Event event body) = (λ e. absurd (cc e), λ h. absurd h)

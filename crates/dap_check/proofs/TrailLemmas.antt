@@ -3,8 +3,8 @@ use Rattle.std.proofs.Common.{◌≡◌, ℕ, ◌+◌, List, [], ◌∷◌, ◌+
 use Rattle.std.specs.Prelude.{count_by, cond, option_map, option_and_then}
 use Rattle.std.proofs.lemmas.List.Sums.{sum_by_push}
 use Rattle.dap_check.specs.Since.{first_since, last_since, Past}
-use Rattle.dap_check.specs.Reasons.{trail, opening, closing}
-use Rattle.dap_check.specs.Trails.{closed_after, trail_after, opens_of, closes_of, trails}
+use Rattle.dap_check.specs.Reasons.{trail, opened_of, closing_line}
+use Rattle.dap_check.specs.PrivateTrails.{closed_after, trail_after, opens_of, closes_of, trails}
 use Rattle.dap_check.specs.declared.line.Line.{Line}
 use Rattle.dap_check.specs.declared.trail.Trail.{Trail}
 use Rattle.dap_check.specs.declared.walking.Search.{Search}
@@ -19,22 +19,22 @@ first_number true line = refl
 first_number false line = refl
 
 closed_step : (closes : ℕ → Line → Bool) (line : Line) (past : Past Line) (found : Option (Past Line))
-    → option_map number_of (first_later (closes past.line.message.seq) line found) ≡ closed_after closes line (Some (opening past)) (option_map number_of found)
+    → option_map number_of (first_later (closes past.line.message.seq) line found) ≡ closed_after closes line (Some (opened_of past)) (option_map number_of found)
 closed_step closes line past None = first_number (closes past.line.message.seq line) line
 closed_step closes line past (Some found) = refl
 
-pub closed_push : (closes : ℕ → Line → Bool) (line : Line) (past : Past Line) → closing closes (with_later line past) ≡ closed_after closes line (Some (opening past)) (closing closes past)
+pub closed_push : (closes : ℕ → Line → Bool) (line : Line) (past : Past Line) → closing_line closes (with_later line past) ≡ closed_after closes line (Some (opened_of past)) (closing_line closes past)
 closed_push closes line past = ap (option_map number_of) (first_push (closes past.line.message.seq) past.since line) ∙ closed_step closes line past (first_since (closes past.line.message.seq) past.since)
 
 abbrev found_of : (ℕ → Line → Bool) → ℕ → Option (Past Line) → Trail
-found_of closes n last = record { count = n; opened = option_map opening last; closed = option_and_then (closing closes) last }
+found_of closes n last = record { count = n; opened = option_map opened_of last; closed = option_and_then (closing_line closes) last }
 
 trail_step : (closes : ℕ → Line → Bool) (line : Line) (b : Bool) (n : ℕ) (last : Option (Past Line))
     → found_of closes (cond b (n + 1) n) (last_later b line last)
-    ≡ cond b (record { count = n + 1; opened = Some (record { line = line.number; seq = line.message.seq }); closed = None }) (record { count = n; opened = option_map opening last; closed = closed_after closes line (option_map opening last) (option_and_then (closing closes) last) })
+    ≡ cond b (record { count = n + 1; opened = Some (record { line = line.number; seq = line.message.seq }); closed = None }) (record { count = n; opened = option_map opened_of last; closed = closed_after closes line (option_map opened_of last) (option_and_then (closing_line closes) last) })
 trail_step closes line true n last = refl
 trail_step closes line false n None = refl
-trail_step closes line false n (Some past) = ap (λ closed. record { count = n; opened = Some (opening past); closed = closed }) (closed_push closes line past)
+trail_step closes line false n (Some past) = ap (λ closed. record { count = n; opened = Some (opened_of past); closed = closed }) (closed_push closes line past)
 
 counted : (b : Bool) (n : ℕ) → n + cond b 1 0 ≡ cond b (n + 1) n
 counted true n = refl

@@ -3,9 +3,8 @@ use Rattle.std.proofs.Common.{◌≡◌, ◌≢◌, ◌⊎◌, inl, inr, ℕ, �
 use Rattle.std.specs.Str.Lines.{lines}
 use Rattle.std.proofs.lemmas.List.{length-append, append_assoc, append-nil, take-append-le, take_all}
 use Rattle.dap_message.specs.Laws.{EachBodyIsOne}
-use Rattle.dap_check.specs.Trails.{trails, AreBefore, AreBelow}
-use Rattle.dap_check.specs.Transcript.{IsLine, AreLines, Refuses, IsTextAt, IsRefusedIn}
-use Rattle.dap_check.specs.declared.checking.CheckFault.{CheckFault}
+use Rattle.dap_check.specs.PrivateTrails.{trails, AreBefore, AreBelow}
+use Rattle.dap_check.specs.Transcript.{IsLine, AreLines, IsTextAt}
 use Rattle.dap_check.specs.declared.line.Line.{Line}
 use Rattle.dap_check.specs.declared.walking.Search.{Search}
 use Rattle.dap_check.specs.declared.walking.Trails.{Trails}
@@ -37,12 +36,6 @@ same_text texts number before text after other e count at = by_places (places be
     by_places (second rest p) = absurd (omega (arith, ap length p, length-append at.before (other ∷ rest), count, at.count))
 
 module _ (bytes rest : List ℕ) (number at : ℕ) (so : Passed bytes rest number at) where
-  -- no text is left
-  pub not_there : length rest ≡ 0 → (text : List ℕ) → IsTextAt (lines bytes) number text → ⊥
-  not_there h text there =
-      let all : lines bytes ≡ so.before = so.split ∙ ap (λ z. so.before ++ z) (no_lines rest h) ∙ append-nil so.before in
-      absurd (omega (arith, so.ahead, so.count, there.count, ap length all, ap length there.split, length-append there.before (text ∷ there.after)))
-
   module _ (text later : List ℕ) (first_line : lines rest ≡ text ∷ lines later) where
     here : lines bytes ≡ so.before ++ text ∷ lines later
     here = so.split ∙ ap (λ z. so.before ++ z) first_line
@@ -108,9 +101,6 @@ module _ (bytes rest : List ℕ) (number at : ℕ) (search : Search) (found : Tr
   module _ (text later : List ℕ) (first_line : lines rest ≡ text ∷ lines later) where
     more : lines bytes ≡ (so.before ++ text ∷ []) ++ lines later
     more = so.split ∙ ap (λ z. so.before ++ z) first_line ∙ sym (append_assoc so.before (text ∷ []) (lines later))
-
-    pub walked_refused : (fault : CheckFault) → 0 < length text → Refuses at text fault → IsRefusedIn (lines bytes) fault
-    walked_refused fault some says = record { before = so.before; text = text; after = lines later; split = so.split ∙ ap (λ z. so.before ++ z) first_line; has_bytes = some; refuses = subst (λ n. Refuses n text fault) so.count says }
 
     module _ (shorter : length later < length rest) (ahead : at < number) where
       pub walked_skipped : length text ≡ 0 → AreBelow (at + 1) found → Walked bytes later number (at + 1) search found

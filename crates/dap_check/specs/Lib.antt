@@ -5,8 +5,8 @@ pub mod Legal
 pub mod Laws
 pub mod Places
 pub mod Transcript
-pub mod Kept
+pub mod PrivateKept
 pub mod Reasons
-pub mod Trails
+pub mod PrivateTrails
 pub mod Sentences
-pub mod Bare
+pub mod PrivateBare

@@ -10,8 +10,8 @@ use Rattle.dap_message.specs.Types.Gate.{Gate}
 use Rattle.dap_message.specs.declared.message.Kind.{Kind}
 use Rattle.dap_message.specs.declared.message.Kind.TheVariants.{Request, Response, Event, Other}
 use Rattle.dap_check.specs.Laws.{SomeAt, OpenAt}
-use Rattle.dap_check.specs.Lines.{opposite, is_request_for, body_of, asks, asks_as, asks_for, answers, succeeds, tells}
-use Rattle.dap_check.specs.Rules.{breaks_answer, breaks_first_request, initialize, offered, gives_frame, gives_holder, is_frame, is_holder, resumes}
+use Rattle.dap_check.specs.Lines.{other_side, is_request_for, body_of, asks, asks_as, asks_for, answers, succeeds, is_adapter_event}
+use Rattle.dap_check.specs.Rules.{breaks_answer, breaks_first_request, initialize, offered_capabilities, gives_frame, gives_holder, is_frame, is_holder, resumes}
 use Rattle.dap_check.specs.declared.line.Line.{Line}
 use Rattle.dap_check.specs.declared.line.Side.{Side}
 use Rattle.dap_check.specs.declared.line.Side.TheVariants.{Client, Adapter}
@@ -21,8 +21,8 @@ use Rattle.dap_check.specs.declared.line.Side.TheVariants.{Client, Adapter}
 -- a request has the number of a request of its side that stands at some place, and no response to it stands since; or no request
 -- of the other side with the number and the command of a response stands at a place since which no response to it stands
 abbrev pub IsOutOfPlace : Side → ℕ → List Line → Kind → Type 0
-IsOutOfPlace side seq earlier (Request command arguments) = OpenAt (asks_as side seq) (answers (opposite side) seq) earlier
-IsOutOfPlace side seq earlier (Response request_seq success command message body) = ¬ OpenAt (asks_for (opposite side) request_seq command) (answers side request_seq) earlier
+IsOutOfPlace side seq earlier (Request command arguments) = OpenAt (asks_as side seq) (answers (other_side side) seq) earlier
+IsOutOfPlace side seq earlier (Response request_seq success command message body) = ¬ OpenAt (asks_for (other_side side) request_seq command) (answers side request_seq) earlier
 IsOutOfPlace side seq earlier (Event event body) = ⊥
 IsOutOfPlace side seq earlier (Other tag) = ⊥
 
@@ -53,7 +53,7 @@ FirstRequestIsByPlaces = (earlier : List Line) (line : Line) → (breaks_first_r
 
 -- what a `capabilities` event names a flag
 abbrev pub named_by : Gate → Line → Option Data
-named_by gate line = if tells (codes "capabilities" ∷ []) line then option_and_then (get (flag_of gate)) (option_and_then (tree_at (codes "capabilities")) (body_of line.message.kind)) else None
+named_by gate line = if is_adapter_event (codes "capabilities" ∷ []) line then option_and_then (get (flag_of gate)) (option_and_then (tree_at (codes "capabilities")) (body_of line.message.kind)) else None
 
 -- whether a line switches a flag on or off: a successful response to `initialize`, or a `capabilities` event that names it
 abbrev pub decided_by : Gate → Line → Option Bool
@@ -76,7 +76,7 @@ switches_off gate line = is_off (decided_by gate line)
 
 -- a flag is offered where `initialize` has succeeded, a line switches it on, and none since switches it off
 abbrev pub OfferIsByPlaces : Type 0
-OfferIsByPlaces = (earlier : List Line) (gate : Gate) → (has (offered earlier) gate ≡ true) ↔ (SomeAt (succeeds initialize) earlier × OpenAt (switches_on gate) (switches_off gate) earlier)
+OfferIsByPlaces = (earlier : List Line) (gate : Gate) → (has (offered_capabilities earlier) gate ≡ true) ↔ (SomeAt (succeeds initialize) earlier × OpenAt (switches_on gate) (switches_off gate) earlier)
 
 -- ---- references
 

@@ -1,8 +1,8 @@
 //! Whether a transcript is legal.
 ghost use Rattle.std.specs.Prelude.{◌≡◌, ◌≢◌, ◌⊎◌, ◌+◌, ◌-◌, ◌^◌, ◌<◌, ◌≤◌, ◌∷◌, ◌++◌, [], List, drop, MatchOption, OnOk, IfOk, IfErr};
 ghost use Rattle.std.specs.Str.Lines.{lines};
-ghost use Rattle.dap_check.specs.Bare.{IsReadAs};
-ghost use Rattle.dap_check.specs.Kept.{IsTold};
+ghost use Rattle.dap_check.specs.PrivateBare.{IsReadAs};
+ghost use Rattle.dap_check.specs.PrivateKept.{IsVerdictSoFar};
 ghost use Rattle.dap_check.specs.Legal.{IsVerdict};
 ghost use Rattle.dap_check.specs.Transcript.{IsLine, AreLines, Refuses, FirstRefused};
 ghost use Rattle.dap_check.specs.declared.checking.CheckFault.{CheckFault};
@@ -15,7 +15,7 @@ use crate::reading::read_bare;
 use crate::rule::Checked;
 use crate::seen::Seen;
 use dap_message::laws::each_body_is_one;
-use dap_message::{BodyRefusal, Given, Scratch};
+use dap_message::{BodyRefusal, GatheredReferences, Scratch};
 use std::alloc::{AllocError, Global};
 use thiserror::Error;
 
@@ -51,10 +51,10 @@ fn take(
     told: Checked,
     line: &Line,
     form: Form,
-    given: &Given,
+    given: &GatheredReferences,
 ) -> Result<Checked, AllocError>
     requires { seen.old.counts.client + seen.old.counts.adapter < 2 ^ 64 - 1 }
-    ensures told { IfOk result (λ after. (lines : List TheLine) (real : TheLine) → IsReadAs form given.now line.now real → IsTold any_seq seen.old lines told → IsTold any_seq seen.new (lines ++ real ∷ []) after) }
+    ensures told { IfOk result (λ after. (lines : List TheLine) (real : TheLine) → IsReadAs form given.now line.now real → IsVerdictSoFar any_seq seen.old lines told → IsVerdictSoFar any_seq seen.new (lines ++ real ∷ []) after) }
     ensures room { OnOk result (seen.new.counts.client + seen.new.counts.adapter ≤ seen.old.counts.client + seen.old.counts.adapter + 1) }
 {
     match told {
@@ -76,7 +76,7 @@ fn take(
 fn take_text(
     alloc: Global,
     scratch: &mut Scratch,
-    given: &mut Given,
+    given: &mut GatheredReferences,
     seen: &mut Seen,
     any_seq: bool,
     told: Checked,
@@ -84,7 +84,7 @@ fn take_text(
     text: &[u8],
 ) -> Result<Checked, CheckFault>
     requires { seen.old.counts.client + seen.old.counts.adapter < 2 ^ 64 - 1 }
-    ensures told { IfOk result (λ after. (line : TheLine) × IsLine number text.now line × ((lines : List TheLine) → IsTold any_seq seen.old lines told → IsTold any_seq seen.new (lines ++ line ∷ []) after)) }
+    ensures told { IfOk result (λ after. (line : TheLine) × IsLine number text.now line × ((lines : List TheLine) → IsVerdictSoFar any_seq seen.old lines told → IsVerdictSoFar any_seq seen.new (lines ++ line ∷ []) after)) }
     ensures room { OnOk result (seen.new.counts.client + seen.new.counts.adapter ≤ seen.old.counts.client + seen.old.counts.adapter + 1) }
     ensures refused { IfErr result (Refuses number text.now) }
 {
@@ -99,7 +99,7 @@ fn pass(alloc: Global, bytes: &[u8], any_seq: bool) -> Result<Checked, CheckFaul
     ensures refused { IfErr result (FirstRefused (lines bytes.now)) }
 {
     let mut scratch = Scratch::new(alloc);
-    let mut given = Given::new(alloc);
+    let mut given = GatheredReferences::new(alloc);
     let mut seen = Seen::new(alloc);
     let mut told = Checked::Legal;
     let mut rest = bytes;

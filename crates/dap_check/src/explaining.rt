@@ -2,11 +2,11 @@
 ghost use Rattle.std.specs.Prelude.{◌≡◌, ◌⊎◌, ◌==◌, ◌-◌, ◌^◌, ◌<◌, ◌∷◌, ◌++◌, List, ℕ, false, IfOk, IfErr, option_map};
 ghost use Rattle.std.specs.List.{list_any};
 ghost use Rattle.std.specs.Str.Lines.{lines};
-ghost use Rattle.dap_message.specs.Lent.{seen};
-ghost use Rattle.dap_check.specs.Lines.{opposite, asks_as, asks_for, answers};
-ghost use Rattle.dap_check.specs.Reasons.{trail, is_open_still, reason_of, why_number, why_waiting, not_asked, why_not_asked, second, why_early, unasked, why_uninitialized, why_refused, gate_asked, not_given, why_unknown, gives, other_kind, key_of, number_reason, kind_named, why_ended};
+ghost use Rattle.dap_message.specs.Lent.{lent_data};
+ghost use Rattle.dap_check.specs.Lines.{other_side, asks_as, asks_for, answers};
+ghost use Rattle.dap_check.specs.Reasons.{trail, is_open_still, reason_of, why_number, why_waiting, not_asked_reason, why_not_asked, second_request_reason, why_early, no_initialize_reason, why_uninitialized, why_refused, gate_asked, not_given_reason, why_unknown, gives, other_kind, key_of, number_reason, kind_named, why_ended};
 ghost use Rattle.dap_check.specs.Rules.{number_at, resumes};
-ghost use Rattle.dap_check.specs.Trails.{AreBefore};
+ghost use Rattle.dap_check.specs.PrivateTrails.{AreBefore};
 ghost use Rattle.dap_check.specs.Transcript.{AreLines, IsRefusedIn};
 ghost use Rattle.dap_check.specs.declared.line.Line.{Line as TheLine};
 
@@ -68,7 +68,7 @@ fn explain_request(seq: u64, requests: &Trail) -> Option<Reason>
 
 /// Why a response answers nothing that waits.
 fn explain_answer(request: u64, requests: &Trail) -> Reason
-    ensures { result ≡ not_asked request requests.now.opened requests.now.closed }
+    ensures { result ≡ not_asked_reason request requests.now.opened requests.now.closed }
 {
     match (requests.opened, requests.closed) {
         (None, _) => Reason::NotAsked { request },
@@ -94,7 +94,7 @@ fn explain_response(request: u64, requests_for: &Trail, requests: &Trail) -> Opt
 }
 
 fn explain_second(requests: &Trail) -> Option<Reason>
-    ensures { result ≡ second requests.now.opened requests.now.closed }
+    ensures { result ≡ second_request_reason requests.now.opened requests.now.closed }
 {
     match (requests.opened, requests.closed) {
         (Some(asked), None) => Some(Reason::FirstWaits { asked: asked.line }),
@@ -120,7 +120,7 @@ fn explain_first(is_initialize: bool, requests: &Trail) -> Option<Reason>
 
 /// Why `initialize` has not succeeded.
 fn explain_initialize(requests: &Trail) -> Reason
-    ensures { result ≡ unasked requests.now.opened requests.now.closed }
+    ensures { result ≡ no_initialize_reason requests.now.opened requests.now.closed }
 {
     match (requests.opened, requests.closed) {
         (None, _) => Reason::NeverAsked,
@@ -158,7 +158,7 @@ fn explain_gate(gate: Gate, successes: &Trail, on: &Trail, switches: &Trail) -> 
 
 /// Why a number that was not given in its kind is none.
 fn explain_not_given(kind: ReferenceKind, number: u64, others: &Trail) -> Reason
-    ensures { result ≡ not_given kind number others.now.opened }
+    ensures { result ≡ not_given_reason kind number others.now.opened }
 {
     match others.opened {
         None => Reason::NeverGiven { kind, number },
@@ -215,7 +215,7 @@ fn number_of_line(alloc: Global, bytes: &[u8], line: &Line) -> Result<Option<Rea
 }
 
 fn answer_of_request(alloc: Global, bytes: &[u8], line: &Line) -> Result<Option<Reason>, CheckFault>
-    ensures reason { IfOk result (λ told. (earlier : List TheLine) → AreBefore bytes.now line.now.number earlier → told ≡ why_waiting line.now.message.seq (trail (asks_as line.now.side line.now.message.seq) (λ n. answers (opposite line.now.side) line.now.message.seq) earlier)) }
+    ensures reason { IfOk result (λ told. (earlier : List TheLine) → AreBefore bytes.now line.now.number earlier → told ≡ why_waiting line.now.message.seq (trail (asks_as line.now.side line.now.message.seq) (λ n. answers (other_side line.now.side) line.now.message.seq) earlier)) }
     ensures refused { IfErr result (IsRefusedIn (lines bytes.now)) }
 {
     let search = Search {
@@ -238,7 +238,7 @@ fn answer_of_response(
     seq: u64,
     command: &str,
 ) -> Result<Option<Reason>, CheckFault>
-    ensures reason { IfOk result (λ told. (earlier : List TheLine) → AreBefore bytes.now number earlier → told ≡ why_not_asked seq (trail (asks_for asker seq command.now) (λ n. answers (opposite asker) seq) earlier) (trail (asks_as asker seq) (λ n. answers (opposite asker) seq) earlier)) }
+    ensures reason { IfOk result (λ told. (earlier : List TheLine) → AreBefore bytes.now number earlier → told ≡ why_not_asked seq (trail (asks_for asker seq command.now) (λ n. answers (other_side asker) seq) earlier) (trail (asks_as asker seq) (λ n. answers (other_side asker) seq) earlier)) }
     ensures refused { IfErr result (IsRefusedIn (lines bytes.now)) }
 {
     let search = Search {
@@ -374,7 +374,7 @@ fn reference_of_arguments(
     kind: ReferenceKind,
     arguments: Option<&Value>,
 ) -> Result<Option<Reason>, CheckFault>
-    ensures reason { IfOk result (λ told. (earlier : List TheLine) → AreBefore bytes.now line earlier → told ≡ number_reason earlier kind (number_at (key_of kind) (seen arguments.entry))) }
+    ensures reason { IfOk result (λ told. (earlier : List TheLine) → AreBefore bytes.now line earlier → told ≡ number_reason earlier kind (number_at (key_of kind) (lent_data arguments.entry))) }
     ensures refused { IfErr result (IsRefusedIn (lines bytes.now)) }
 {
     let Some(object) = arguments else {

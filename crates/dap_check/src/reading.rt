@@ -8,7 +8,7 @@ ghost use Rattle.dap_message.specs.Heading.{IsHeadingOf, IsKindOf};
 ghost use Rattle.dap_message.specs.Meaning.{Msg};
 ghost use Rattle.dap_message.specs.declared.message.Kind.{Kind as TheKind};
 ghost use Rattle.dap_message.specs.declared.message.Message.{Message as TheMessage};
-ghost use Rattle.dap_check.specs.Bare.{bare_kind as bare_kind_of, bare_message, is_looked_at as looked_at, IsReadBody, IsReadAs, IsUnread};
+ghost use Rattle.dap_check.specs.PrivateBare.{bare_kind as bare_kind_of, bare_message, is_looked_at as looked_at, IsReadBody, IsReadAs, IsUnread};
 ghost use Rattle.dap_check.specs.Transcript.{side_of, IsLine, Refuses};
 ghost use Rattle.dap_check.specs.declared.line.Line.{Line as TheLine};
 
@@ -16,8 +16,8 @@ use crate::checking::CheckFault;
 use crate::line::{Form, Line, Side};
 use crate::words;
 use dap_message::{
-    BodyFault, Given, Heading, HeadingKind, Kind, Message, Scratch, Text, read_heading_and_given,
-    read_message, read_message_with,
+    BodyFault, GatheredReferences, Heading, HeadingKind, Kind, Message, Scratch, Text,
+    read_heading_and_references, read_message, read_message_with,
 };
 use std::alloc::{AllocError, Global};
 
@@ -117,13 +117,13 @@ fn bare(alloc: Global, heading: &Heading<'_>) -> Result<Message, AllocError>
 fn read_body(
     alloc: Global,
     scratch: &mut Scratch,
-    given: &mut Given,
+    given: &mut GatheredReferences,
     body: &[u8],
 ) -> Result<(Message, Form), BodyFault>
     ensures message { IfOk result (λ read. (m : TheMessage) × Msg body.now m × IsReadBody read.1 given.new read.0 m) }
     ensures refused { IfErr result (IsUnread body.now) }
 {
-    if let Some(heading) = read_heading_and_given(scratch, given, body) {
+    if let Some(heading) = read_heading_and_references(scratch, given, body) {
         if !is_looked_at(&heading.kind) {
             return Ok((bare(alloc, &heading)?, Form::Bare));
         }
@@ -136,7 +136,7 @@ fn read_body(
 pub(crate) fn read_bare(
     alloc: Global,
     scratch: &mut Scratch,
-    given: &mut Given,
+    given: &mut GatheredReferences,
     number: u64,
     text: &[u8],
 ) -> Result<(Line, Form), CheckFault>

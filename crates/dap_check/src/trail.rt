@@ -1,10 +1,10 @@
 //! What is looked for among the earlier lines, and what is found.
 ghost use Rattle.std.specs.Prelude.{◌≡◌, ◌+◌, ◌-◌, ◌^◌, ◌<◌, ◌≤◌, ◌∷◌, []};
-ghost use Rattle.dap_message.specs.Lent.{seen};
-ghost use Rattle.dap_message.specs.Given.{frame_ids, holders_of};
+ghost use Rattle.dap_message.specs.Lent.{lent_data};
+ghost use Rattle.dap_message.specs.GivenReferences.{frame_ids, holders_of};
 ghost use Rattle.serde_json.specs.View.{view};
 ghost use Rattle.dap_check.specs.Places.{decided_by, named_by};
-ghost use Rattle.dap_check.specs.Trails.{closed_after, trail_after, opens_of, closes_of};
+ghost use Rattle.dap_check.specs.PrivateTrails.{closed_after, trail_after, opens_of, closes_of};
 ghost use Rattle.dap_check.specs.Rules.{contains_number, gives_frame as frame_given, gives_holder as holder_given};
 
 use crate::line::{Line, Side};
@@ -68,7 +68,7 @@ pub(crate) enum Watch<'a> {
 
 /// What a `capabilities` event says of a flag.
 fn named(gate: Gate, line: &Line) -> Option<&Value>
-    ensures { seen result ≡ named_by gate line.now }
+    ensures { lent_data result ≡ named_by gate line.now }
 {
     if !line.tells("capabilities") {
         return None;

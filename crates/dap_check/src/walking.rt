@@ -1,7 +1,7 @@
 //! The lines before a number, read once more.
 ghost use Rattle.std.specs.Prelude.{◌≡◌, ◌+◌, ◌-◌, ◌^◌, ◌<◌, ◌≤◌, List, ℕ, [], ◌∷◌, ◌++◌, IfOk, IfErr, OnOk, IfSome, OnSome, IfNone};
 ghost use Rattle.std.specs.Str.Lines.{lines};
-ghost use Rattle.dap_check.specs.Trails.{trails, AreBefore, AreBelow};
+ghost use Rattle.dap_check.specs.PrivateTrails.{trails, AreBefore, AreBelow};
 ghost use Rattle.dap_check.specs.Transcript.{IsLine, IsTextAt, IsRefusedIn, Refuses};
 ghost use Rattle.dap_check.specs.declared.line.Line.{Line as TheLine};
 

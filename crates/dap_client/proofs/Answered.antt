@@ -7,17 +7,17 @@ use Rattle.dap_frame.specs.Settings.{Settings}
 use Rattle.dap_message.specs.Command.{command_named}
 use Rattle.dap_message.specs.Types.Command.{Command}
 use Rattle.dap_tables.specs.Known.{KnownReferences}
-use Rattle.dap_tables.specs.Outstanding.{Kept, KeptRequests, IsOrderly, without}
+use Rattle.dap_tables.specs.Outstanding.{Kept, KeptRequests, IsOrderlyRequests, without}
 use Rattle.dap_tables.specs.Seq.{Numbers, after_next}
 use Rattle.dap_tables.specs.declared.entry.Entry.{Entry as Waiting}
 use Rattle.dap_client.specs.declared.fault.ClientFault.{ClientFault}
 use Rattle.dap_client.specs.declared.fault.ClientFault.TheVariants as fault
 use Rattle.dap_client.specs.Changes.{change_in}
-use Rattle.dap_client.specs.Keeping.{IsSession, IsMade, IsWhyClosed, IsWhyUnlearned, matched}
-use Rattle.dap_client.specs.Seen.{learned, offered, cause_of, changed, after_response}
+use Rattle.dap_client.specs.Keeping.{IsSession, IsMade, IsWhyClosed, IsWhyUnlearned, match_result}
+use Rattle.dap_client.specs.Seen.{known_after, capabilities_after, cause_of, after_change, after_response}
 use Rattle.dap_client.specs.Session.{Session}
 use Rattle.dap_client.specs.Within.{AreSent}
-use Rattle.dap_client.specs.Taking.{Made, answered, answered_within, takes_answer}
+use Rattle.dap_client.specs.Taking.{Made, made_by_answer, answered_within, takes_answer}
 
 -- ---- the table without a request
 
@@ -30,7 +30,7 @@ sent-fewer used seq [] all = tt
 sent-fewer used seq (k ∷ kept) all = fewer-if (not (k.entry.seq == seq)) used k (without seq kept) all.0 (sent-fewer used seq kept all.1)
 
 pub session-fewer : (limits : Settings) (known : KnownReferences) (table next : KeptRequests) (numbers : Numbers) (seq : ℕ) → IsSession limits known table numbers
-    → next ≡ record table { kept = without seq table.kept } → IsOrderly next → IsSession limits known next numbers
+    → next ≡ record table { kept = without seq table.kept } → IsOrderlyRequests next → IsSession limits known next numbers
 session-fewer limits known table next numbers seq l fewer orderly =
     let kept : next.kept ≡ without seq table.kept = ap (λ (t : KeptRequests). t.kept) fewer in
     record {
@@ -45,15 +45,15 @@ session-fewer limits known table next numbers seq l fewer orderly =
 
 -- ---- a request that waits
 
-matched-if : (b : Bool) (request_seq : ℕ) (given : Result Made ClientFault) → (let told : Result (Unit {0}) ClientFault = (if b then Ok tt else Err (fault.CommandMismatch request_seq)) in told) ≡ Ok tt
+match_result-if : (b : Bool) (request_seq : ℕ) (given : Result Made ClientFault) → (let told : Result (Unit {0}) ClientFault = (if b then Ok tt else Err (fault.CommandMismatch request_seq)) in told) ≡ Ok tt
     → (if b then given else Err (fault.CommandMismatch request_seq)) ≡ given
-matched-if true request_seq given e = refl
-matched-if false request_seq given e = cc
+match_result-if true request_seq given e = refl
+match_result-if false request_seq given e = cc
 
 -- then the response is taken, unless it gives too much
-pub matched-takes : (o : Option Waiting) (request_seq : ℕ) (ok : Bool) (name : List ℕ) (body : Option Data) (s : Session) → matched o request_seq name ≡ Ok tt → takes_answer o request_seq ok name body s ≡ answered_within request_seq ok name body s
-matched-takes None request_seq ok name body s e = cc
-matched-takes (Some r) request_seq ok name body s e = matched-if (bytes_eq name r.command) request_seq (answered_within request_seq ok name body s) e
+pub match_result-takes : (o : Option Waiting) (request_seq : ℕ) (ok : Bool) (name : List ℕ) (body : Option Data) (s : Session) → match_result o request_seq name ≡ Ok tt → takes_answer o request_seq ok name body s ≡ answered_within request_seq ok name body s
+match_result-takes None request_seq ok name body s e = cc
+match_result-takes (Some r) request_seq ok name body s e = match_result-if (bytes_eq name r.command) request_seq (answered_within request_seq ok name body s) e
 
 within-if : (b : Bool) (m : Made) → b ≡ true → (let given : Result Made ClientFault = (if b then Ok m else Err fault.ReferenceLimit) in given) ≡ Ok m
 within-if true m e = refl
@@ -69,47 +69,42 @@ at_most a b h = grind (arith, nat_tests)
 more_than : (a b : ℕ) → b < a → nat_le a b ≡ false
 more_than a b h = grind (arith, nat_tests)
 
-pub within-takes : (request_seq : ℕ) (ok : Bool) (name : List ℕ) (body : Option Data) (s : Session) → length (learned ok (command_named name) body s.seen) ≤ s.limits.references
-    → answered_within request_seq ok name body s ≡ Ok (answered request_seq (after_response request_seq ok (command_named name) body s.seen) s)
+pub within-takes : (request_seq : ℕ) (ok : Bool) (name : List ℕ) (body : Option Data) (s : Session) → length (known_after ok (command_named name) body s.seen) ≤ s.limits.references
+    → answered_within request_seq ok name body s ≡ Ok (made_by_answer request_seq (after_response request_seq ok (command_named name) body s.seen) s)
 within-takes request_seq ok name body s h =
-    within-if (nat_le (length (learned ok (command_named name) body s.seen)) s.limits.references) (answered request_seq (after_response request_seq ok (command_named name) body s.seen) s) (at_most (length (learned ok (command_named name) body s.seen)) s.limits.references h)
+    within-if (nat_le (length (known_after ok (command_named name) body s.seen)) s.limits.references) (made_by_answer request_seq (after_response request_seq ok (command_named name) body s.seen) s) (at_most (length (known_after ok (command_named name) body s.seen)) s.limits.references h)
 
-over-takes : (request_seq : ℕ) (ok : Bool) (name : List ℕ) (body : Option Data) (s : Session) → s.limits.references < length (learned ok (command_named name) body s.seen)
+over-takes : (request_seq : ℕ) (ok : Bool) (name : List ℕ) (body : Option Data) (s : Session) → s.limits.references < length (known_after ok (command_named name) body s.seen)
     → answered_within request_seq ok name body s ≡ Err fault.ReferenceLimit
 over-takes request_seq ok name body s h =
-    over-if (nat_le (length (learned ok (command_named name) body s.seen)) s.limits.references) (answered request_seq (after_response request_seq ok (command_named name) body s.seen) s) (more_than (length (learned ok (command_named name) body s.seen)) s.limits.references h)
+    over-if (nat_le (length (known_after ok (command_named name) body s.seen)) s.limits.references) (made_by_answer request_seq (after_response request_seq ok (command_named name) body s.seen) s) (more_than (length (known_after ok (command_named name) body s.seen)) s.limits.references h)
 
 -- what is not learned closes the client
-pub unlearned-closes : (f : ClientFault) (o : Option Waiting) (request_seq : ℕ) (ok : Bool) (name : List ℕ) (known : Option Command) (body : Option Data) (s : Session) → matched o request_seq name ≡ Ok tt → known ≡ command_named name
-    → IsWhyUnlearned f s.limits.references (length (learned ok known body s.seen)) → IsWhyClosed f (takes_answer o request_seq ok name body s)
+pub unlearned-closes : (f : ClientFault) (o : Option Waiting) (request_seq : ℕ) (ok : Bool) (name : List ℕ) (known : Option Command) (body : Option Data) (s : Session) → match_result o request_seq name ≡ Ok tt → known ≡ command_named name
+    → IsWhyUnlearned f s.limits.references (length (known_after ok known body s.seen)) → IsWhyClosed f (takes_answer o request_seq ok name body s)
 unlearned-closes fault.ReferenceLimit o request_seq ok name known body s m k h =
-    matched-takes o request_seq ok name body s m ∙ over-takes request_seq ok name body s (subst (λ (x : Option Command). s.limits.references < length (learned ok x body s.seen)) k h)
+    match_result-takes o request_seq ok name body s m ∙ over-takes request_seq ok name body s (subst (λ (x : Option Command). s.limits.references < length (known_after ok x body s.seen)) k h)
 unlearned-closes fault.OutOfMemory o request_seq ok name known body s m k h = tt
-unlearned-closes (fault.Frame x) o request_seq ok name known body s m k h = absurd h
-unlearned-closes (fault.Body x y) o request_seq ok name known body s m k h = absurd h
-unlearned-closes (fault.Unmatched x) o request_seq ok name known body s m k h = absurd h
-unlearned-closes (fault.CommandMismatch x) o request_seq ok name known body s m k h = absurd h
-unlearned-closes (fault.RepeatedSeq x) o request_seq ok name known body s m k h = absurd h
-unlearned-closes fault.SeqExhausted o request_seq ok name known body s m k h = absurd h
+unlearned-closes _ o request_seq ok name known body s m k h = absurd h
 
 -- what is learned, without the request that was answered, and with the change that it causes
-pub learned-answers : (o : Option Waiting) (request_seq : ℕ) (ok : Bool) (name : List ℕ) (known : Option Command) (c : Command) (body : Option Data) (s l t n : Session) → matched o request_seq name ≡ Ok tt → known ≡ command_named name → known ≡ Some c
-    → length (learned ok known body s.seen) ≤ s.limits.references
-    → l ≡ record s { seen = record s.seen { known = learned ok known body s.seen } }
+pub known_after-answers : (o : Option Waiting) (request_seq : ℕ) (ok : Bool) (name : List ℕ) (known : Option Command) (c : Command) (body : Option Data) (s l t n : Session) → match_result o request_seq name ≡ Ok tt → known ≡ command_named name → known ≡ Some c
+    → length (known_after ok known body s.seen) ≤ s.limits.references
+    → l ≡ record s { seen = record s.seen { known = known_after ok known body s.seen } }
     → t ≡ record l { outstanding = without request_seq l.outstanding }
-    → n ≡ record t { seen = changed (change_in (cause_of request_seq c ok t.seen) t.seen.phase) (record t.seen { capabilities = offered ok c body t.seen }) }
+    → n ≡ record t { seen = after_change (change_in (cause_of request_seq c ok t.seen) t.seen.phase) (record t.seen { capabilities = capabilities_after ok c body t.seen }) }
     → IsMade (takes_answer o request_seq ok name body s) n []
-learned-answers o request_seq ok name known c body s l t n m k is h e f g =
+known_after-answers o request_seq ok name known c body s l t n m k is h e f g =
     let named : command_named name ≡ Some c = sym k ∙ is in
-    let small : length (learned ok (command_named name) body s.seen) ≤ s.limits.references = subst (λ (x : Option Command). length (learned ok x body s.seen) ≤ s.limits.references) k h in
-    let given = matched-takes o request_seq ok name body s m ∙ within-takes request_seq ok name body s small in
-    let first : l ≡ record s { seen = record s.seen { known = learned ok (Some c) body s.seen } } =
-    e ∙ ap (λ (x : Option Command). record s { seen = record s.seen { known = learned ok x body s.seen } }) is in
+    let small : length (known_after ok (command_named name) body s.seen) ≤ s.limits.references = subst (λ (x : Option Command). length (known_after ok x body s.seen) ≤ s.limits.references) k h in
+    let given = match_result-takes o request_seq ok name body s m ∙ within-takes request_seq ok name body s small in
+    let first : l ≡ record s { seen = record s.seen { known = known_after ok (Some c) body s.seen } } =
+    e ∙ ap (λ (x : Option Command). record s { seen = record s.seen { known = known_after ok x body s.seen } }) is in
     let step : Session → Session = λ l. record l { outstanding = without request_seq l.outstanding } in
-    let last : Session → Session = λ t. record t { seen = changed (change_in (cause_of request_seq c ok t.seen) t.seen.phase) (record t.seen { capabilities = offered ok c body t.seen }) } in
-    let whole : n ≡ (answered request_seq (after_response request_seq ok (Some c) body s.seen) s).after = g ∙ ap last (f ∙ ap step first) in
-    let same : n ≡ (answered request_seq (after_response request_seq ok (command_named name) body s.seen) s).after =
-    whole ∙ ap (λ (x : Option Command). (answered request_seq (after_response request_seq ok x body s.seen) s).after) (sym named) in
+    let last : Session → Session = λ t. record t { seen = after_change (change_in (cause_of request_seq c ok t.seen) t.seen.phase) (record t.seen { capabilities = capabilities_after ok c body t.seen }) } in
+    let whole : n ≡ (made_by_answer request_seq (after_response request_seq ok (Some c) body s.seen) s).after = g ∙ ap last (f ∙ ap step first) in
+    let same : n ≡ (made_by_answer request_seq (after_response request_seq ok (command_named name) body s.seen) s).after =
+    whole ∙ ap (λ (x : Option Command). (made_by_answer request_seq (after_response request_seq ok x body s.seen) s).after) (sym named) in
     subst (λ (x : Result Made ClientFault). IsMade x n []) (sym given) (same, refl)
 
 -- ---- a number more

@@ -10,12 +10,12 @@ use Rattle.dap_client.specs.declared.change.Change.{Change}
 use Rattle.dap_client.specs.declared.phase.Phase.{Phase}
 use Rattle.dap_client.specs.declared.phase.Phase.TheVariants.{Fresh, Initializing, Configuring, Running, Stopped, Resuming, Exited, Ended}
 use Rattle.dap_client.specs.Changes.{Cause, resumed, answered, change_in}
-use Rattle.dap_client.specs.Phases.{is_phase, is_among, in_a_stop}
-use Rattle.dap_client.specs.References.{given_by, given_in}
-use Rattle.dap_client.specs.Seat.{Class, Initialize, Launch, ConfigurationDone, Disconnect, Terminate, Restart, Cancel, Setter, Lookup, Resume, Pause, Inspect, class_of, is_inspect, seat_of, answered_phase, has_stop, is_resuming, given_answered, seat_answered}
-use Rattle.dap_client.specs.Seen.{Seen, changed, told, after_response}
+use Rattle.dap_client.specs.Phases.{is_phase, is_among, phases_in_a_stop}
+use Rattle.dap_client.specs.References.{references_given_by, references_given_in}
+use Rattle.dap_client.specs.ClientAbstraction.{Class, Initialize, Launch, ConfigurationDone, Disconnect, Terminate, Restart, Cancel, Setter, Lookup, Resume, Pause, Inspect, class_of, is_inspect, abstraction_of, answered_phase, has_stop, is_resuming, given_answered, abstraction_after_answer}
+use Rattle.dap_client.specs.Seen.{Seen, after_change, after_body, after_response}
 use Rattle.dap_client.specs.Session.{Session}
-use Rattle.dap_client.specs.Taking.{answered as answered_by}
+use Rattle.dap_client.specs.Taking.{made_by_answer as answered_by}
 
 -- ---- a response comes
 
@@ -71,7 +71,7 @@ quiet-phase Resuming k false false e = refl
 quiet-phase Exited k b ok e = refl
 quiet-phase Ended k b ok e = refl
 
-quiet-moves : (p : Phase) (b ok : Bool) (t : Seen) → t.phase ≡ p → (changed (caused command.Threads p b ok) t).phase ≡ quiet p b ok
+quiet-moves : (p : Phase) (b ok : Bool) (t : Seen) → t.phase ≡ p → (after_change (caused command.Threads p b ok) t).phase ≡ quiet p b ok
 quiet-moves Fresh b ok t e = e
 quiet-moves Initializing b ok t e = e
 quiet-moves Configuring b ok t e = e
@@ -84,7 +84,7 @@ quiet-moves Resuming false false t e = e
 quiet-moves Exited b ok t e = e
 quiet-moves Ended b ok t e = e
 
-initialize-moves : (p : Phase) (b ok : Bool) (t : Seen) → t.phase ≡ p → (changed (caused command.Initialize p b ok) t).phase ≡ answered_phase p b Initialize ok
+initialize-moves : (p : Phase) (b ok : Bool) (t : Seen) → t.phase ≡ p → (after_change (caused command.Initialize p b ok) t).phase ≡ answered_phase p b Initialize ok
 initialize-moves Fresh true true t e = e
 initialize-moves Fresh true false t e = e
 initialize-moves Fresh false true t e = e
@@ -118,7 +118,7 @@ initialize-moves Ended true false t e = e
 initialize-moves Ended false true t e = e
 initialize-moves Ended false false t e = e
 
-launch-moves : (p : Phase) (b ok : Bool) (t : Seen) → t.phase ≡ p → (changed (caused command.Launch p b ok) t).phase ≡ answered_phase p b Launch ok
+launch-moves : (p : Phase) (b ok : Bool) (t : Seen) → t.phase ≡ p → (after_change (caused command.Launch p b ok) t).phase ≡ answered_phase p b Launch ok
 launch-moves Fresh true true t e = e
 launch-moves Fresh true false t e = e
 launch-moves Fresh false true t e = e
@@ -152,7 +152,7 @@ launch-moves Ended true false t e = e
 launch-moves Ended false true t e = e
 launch-moves Ended false false t e = e
 
-each-moves : (c : Command) (p : Phase) (b ok : Bool) (t : Seen) → t.phase ≡ p → (changed (caused c p b ok) t).phase ≡ answered_phase p b (class_of c) ok
+each-moves : (c : Command) (p : Phase) (b ok : Bool) (t : Seen) → t.phase ≡ p → (after_change (caused c p b ok) t).phase ≡ answered_phase p b (class_of c) ok
 each-moves command.Initialize p b ok t e = initialize-moves p b ok t e
 each-moves command.Launch p b ok t e = launch-moves p b ok t e
 each-moves command.Attach p b true t e = launch-moves p b true t e
@@ -185,7 +185,7 @@ each-moves command.SetVariable p b ok t e = quiet-moves p b ok t e ∙ sym (quie
 each-moves command.ExceptionInfo p b ok t e = quiet-moves p b ok t e ∙ sym (quiet-phase p Inspect b ok refl)
 each-moves command.Completions p b ok t e = quiet-moves p b ok t e ∙ sym (quiet-phase p Inspect b ok refl)
 
-quiet-keeps : (p : Phase) (b ok : Bool) (t : Seen) → (changed (caused command.Threads p b ok) t).known ≡ (if (is_resuming p && b) && ok then [] else t.known)
+quiet-keeps : (p : Phase) (b ok : Bool) (t : Seen) → (after_change (caused command.Threads p b ok) t).known ≡ (if (is_resuming p && b) && ok then [] else t.known)
 quiet-keeps Fresh b ok t = refl
 quiet-keeps Initializing b ok t = refl
 quiet-keeps Configuring b ok t = refl
@@ -198,7 +198,7 @@ quiet-keeps Resuming false false t = refl
 quiet-keeps Exited b ok t = refl
 quiet-keeps Ended b ok t = refl
 
-initialize-keeps : (p : Phase) (b ok : Bool) (t : Seen) → (changed (caused command.Initialize p b ok) t).known ≡ (if (is_resuming p && b) && ok then [] else t.known)
+initialize-keeps : (p : Phase) (b ok : Bool) (t : Seen) → (after_change (caused command.Initialize p b ok) t).known ≡ (if (is_resuming p && b) && ok then [] else t.known)
 initialize-keeps Fresh true true t = refl
 initialize-keeps Fresh true false t = refl
 initialize-keeps Fresh false true t = refl
@@ -232,7 +232,7 @@ initialize-keeps Ended true false t = refl
 initialize-keeps Ended false true t = refl
 initialize-keeps Ended false false t = refl
 
-launch-keeps : (p : Phase) (b ok : Bool) (t : Seen) → (changed (caused command.Launch p b ok) t).known ≡ (if (is_resuming p && b) && ok then [] else t.known)
+launch-keeps : (p : Phase) (b ok : Bool) (t : Seen) → (after_change (caused command.Launch p b ok) t).known ≡ (if (is_resuming p && b) && ok then [] else t.known)
 launch-keeps Fresh true true t = refl
 launch-keeps Fresh true false t = refl
 launch-keeps Fresh false true t = refl
@@ -266,79 +266,25 @@ launch-keeps Ended true false t = refl
 launch-keeps Ended false true t = refl
 launch-keeps Ended false false t = refl
 
-each-keeps : (c : Command) (p : Phase) (b ok : Bool) (t : Seen) → (changed (caused c p b ok) t).known ≡ (if (is_resuming p && b) && ok then [] else t.known)
+each-keeps : (c : Command) (p : Phase) (b ok : Bool) (t : Seen) → (after_change (caused c p b ok) t).known ≡ (if (is_resuming p && b) && ok then [] else t.known)
 each-keeps command.Initialize p b ok t = initialize-keeps p b ok t
 each-keeps command.Launch p b ok t = launch-keeps p b ok t
 each-keeps command.Attach p b true t = launch-keeps p b true t
 each-keeps command.Attach p b false t = launch-keeps p b false t
-each-keeps command.ConfigurationDone p b ok t = quiet-keeps p b ok t
-each-keeps command.SetBreakpoints p b ok t = quiet-keeps p b ok t
-each-keeps command.SetFunctionBreakpoints p b ok t = quiet-keeps p b ok t
-each-keeps command.SetExceptionBreakpoints p b ok t = quiet-keeps p b ok t
-each-keeps command.Disconnect p b ok t = quiet-keeps p b ok t
-each-keeps command.Threads p b ok t = quiet-keeps p b ok t
-each-keeps command.Source p b ok t = quiet-keeps p b ok t
-each-keeps command.LoadedSources p b ok t = quiet-keeps p b ok t
-each-keeps command.Modules p b ok t = quiet-keeps p b ok t
-each-keeps command.BreakpointLocations p b ok t = quiet-keeps p b ok t
-each-keeps command.Cancel p b ok t = quiet-keeps p b ok t
-each-keeps command.Terminate p b ok t = quiet-keeps p b ok t
-each-keeps command.Restart p b ok t = quiet-keeps p b ok t
-each-keeps command.Pause p b ok t = quiet-keeps p b ok t
-each-keeps command.Continue p b ok t = quiet-keeps p b ok t
-each-keeps command.Next p b ok t = quiet-keeps p b ok t
-each-keeps command.StepIn p b ok t = quiet-keeps p b ok t
-each-keeps command.StepOut p b ok t = quiet-keeps p b ok t
-each-keeps command.StepBack p b ok t = quiet-keeps p b ok t
-each-keeps command.ReverseContinue p b ok t = quiet-keeps p b ok t
-each-keeps command.StackTrace p b ok t = quiet-keeps p b ok t
-each-keeps command.Scopes p b ok t = quiet-keeps p b ok t
-each-keeps command.Variables p b ok t = quiet-keeps p b ok t
-each-keeps command.Evaluate p b ok t = quiet-keeps p b ok t
-each-keeps command.SetVariable p b ok t = quiet-keeps p b ok t
-each-keeps command.ExceptionInfo p b ok t = quiet-keeps p b ok t
-each-keeps command.Completions p b ok t = quiet-keeps p b ok t
+each-keeps _ p b ok t = quiet-keeps p b ok t
 
 -- only inspections give references
-pub none-given : (c : Command) (body : Data) → is_inspect (class_of c) ≡ false → given_by c body ≡ []
+pub none-given : (c : Command) (body : Data) → is_inspect (class_of c) ≡ false → references_given_by c body ≡ []
 none-given command.Initialize body e = refl
-none-given command.Launch body e = refl
-none-given command.Attach body e = refl
-none-given command.ConfigurationDone body e = refl
-none-given command.SetBreakpoints body e = refl
-none-given command.SetFunctionBreakpoints body e = refl
-none-given command.SetExceptionBreakpoints body e = refl
-none-given command.Disconnect body e = refl
-none-given command.Threads body e = refl
-none-given command.Source body e = refl
-none-given command.LoadedSources body e = refl
-none-given command.Modules body e = refl
-none-given command.BreakpointLocations body e = refl
-none-given command.Cancel body e = refl
-none-given command.Terminate body e = refl
-none-given command.Restart body e = refl
-none-given command.Pause body e = refl
-none-given command.Continue body e = refl
-none-given command.Next body e = refl
-none-given command.StepIn body e = refl
-none-given command.StepOut body e = refl
-none-given command.StepBack body e = refl
-none-given command.ReverseContinue body e = refl
-none-given command.StackTrace body e = cc
-none-given command.Scopes body e = cc
-none-given command.Variables body e = cc
-none-given command.Evaluate body e = cc
-none-given command.SetVariable body e = cc
-none-given command.ExceptionInfo body e = cc
-none-given command.Completions body e = cc
+none-given _ body e = cc
 
-none-in : (c : Command) (body : Option Data) → is_inspect (class_of c) ≡ false → given_in (Some c) body ≡ []
+none-in : (c : Command) (body : Option Data) → is_inspect (class_of c) ≡ false → references_given_in (Some c) body ≡ []
 none-in c None e = refl
 none-in c (Some d) e = none-given c d e
 
 -- what is learned
 taken-in : (p : Phase) (i ok : Bool) (refs known : List (ReferenceKind × ℕ)) → (i ≡ false → refs ≡ [])
-    → with_pairs (if ok && is_among p in_a_stop then refs else []) known ≡ (if has_stop p && (ok && i) then with_pairs refs known else known)
+    → with_pairs (if ok && is_among p phases_in_a_stop then refs else []) known ≡ (if has_stop p && (ok && i) then with_pairs refs known else known)
 taken-in Fresh true true refs known none = refl
 taken-in Fresh true false refs known none = refl
 taken-in Fresh false true refs known none = refl
@@ -372,23 +318,23 @@ taken-in Ended true false refs known none = refl
 taken-in Ended false true refs known none = refl
 taken-in Ended false false refs known none = refl
 
-same-ready : (o : Option Change) (t : Seen) → (changed o t).ready ≡ t.ready
+same-ready : (o : Option Change) (t : Seen) → (after_change o t).ready ≡ t.ready
 same-ready None t = refl
 same-ready (Some c) t = refl
 
-same-resumer : (o : Option Change) (t : Seen) → (changed o t).resumer ≡ t.resumer
+same-resumer : (o : Option Change) (t : Seen) → (after_change o t).resumer ≡ t.resumer
 same-resumer None t = refl
 same-resumer (Some c) t = refl
 
-pub each-answered : (s : Session) (n : ℕ) (ok : Bool) (c : Command) (body : Option Data) → seat_of (answered_by n (after_response n ok (Some c) body s.seen) s).after ≡ seat_answered n (class_of c) ok (given_in (Some c) body) (seat_of s)
+pub each-answered : (s : Session) (n : ℕ) (ok : Bool) (c : Command) (body : Option Data) → abstraction_of (answered_by n (after_response n ok (Some c) body s.seen) s).after ≡ abstraction_after_answer n (class_of c) ok (references_given_in (Some c) body) (abstraction_of s)
 each-answered s n ok c body =
     let p : Phase = s.seen.phase in
     let b : Bool = n == s.seen.resumer in
-    let t : Seen = told ok c body s.seen in
+    let t : Seen = after_body ok c body s.seen in
     let o : Option Change = caused c p b ok in
     let is = by_cause (is_phase Resuming p && b) (resumed ok) (answered c ok) p in
     let phase = each-moves c p b ok t refl in
-    let learned = taken-in p (is_inspect (class_of c)) ok (given_in (Some c) body) s.seen.known (none-in c body) in
-    let known : (changed o t).known ≡ given_answered p b (class_of c) ok (given_in (Some c) body) s.seen.known =
+    let learned = taken-in p (is_inspect (class_of c)) ok (references_given_in (Some c) body) s.seen.known (none-in c body) in
+    let known : (after_change o t).known ≡ given_answered p b (class_of c) ok (references_given_in (Some c) body) s.seen.known =
     each-keeps c p b ok t ∙ ap (λ (xs : List (ReferenceKind × ℕ)). if (is_resuming p && b) && ok then [] else xs) learned in
     rw (is, phase, same-ready o t, same-resumer o t, known) refl

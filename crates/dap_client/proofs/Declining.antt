@@ -3,7 +3,8 @@ use Rattle.std.proofs.Common.{◌≡◌, ℕ, ◌+◌, ◌<◌, ◌≤◌, List,
 use Rattle.std.proofs.lemmas.Bool.Decides.{nat_tests}
 use Rattle.dap_json.specs.Field.{max_seq}
 use Rattle.dap_message.specs.Canon.{canon}
-use Rattle.dap_message.specs.Lengths.{failed, FailuresAreShort}
+use Rattle.dap_message.specs.AdapterMessages.{failure_response}
+use Rattle.dap_message.specs.Lengths.{FailuresAreShort}
 use Rattle.dap_message.specs.Meaning.{Msg}
 use Rattle.dap_message.specs.ReadBack.{AllReadBack}
 use Rattle.dap_message.specs.Refusals.{max_command}
@@ -12,7 +13,7 @@ use Rattle.dap_message.specs.declared.message.Message.{Message}
 use Rattle.dap_tables.specs.Seq.{Numbers, next_number}
 use Rattle.dap_client.specs.Keeping.{AreReadBack}
 use Rattle.dap_client.specs.Session.{Session}
-use Rattle.dap_client.specs.Taking.{Made, declined, takes_request}
+use Rattle.dap_client.specs.Taking.{Made, made_by_refusing, takes_request}
 use Rattle.dap_client.specs.declared.fault.ClientFault.{ClientFault}
 use Rattle.dap_client.specs.declared.fault.ClientFault.TheVariants.{SeqExhausted}
 
@@ -23,16 +24,16 @@ made-back limit false m f e h = absurd (cc e)
 below : (a b : ℕ) → a < b → nat_lt a b ≡ true
 below a b h = grind (arith, nat_tests)
 
-pub declined-back : FailuresAreShort → (seq : ℕ) (command : List ℕ) (s : Session) (number : ℕ) → number ≡ s.used + 1 → s.used < s.limits.seq → s.limits.seq ≤ max_seq → 1024 ≤ s.limits.body → seq ≤ max_seq → length command ≤ max_command
-    → (number ≤ max_seq → seq ≤ max_seq → length command ≤ max_command → Msg (canon (failed number seq command Unsupported)) (failed number seq command Unsupported))
+pub made_by_refusing-back : FailuresAreShort → (seq : ℕ) (command : List ℕ) (s : Session) (number : ℕ) → number ≡ s.used + 1 → s.used < s.limits.seq → s.limits.seq ≤ max_seq → 1024 ≤ s.limits.body → seq ≤ max_seq → length command ≤ max_command
+    → (number ≤ max_seq → seq ≤ max_seq → length command ≤ max_command → Msg (canon (failure_response number seq command Unsupported)) (failure_response number seq command Unsupported))
     → AreReadBack s.limits.body (takes_request seq command s)
-declined-back are_short seq command s number is left greatest room fits short read =
+made_by_refusing-back are_short seq command s number is left greatest room fits short read =
     let last : s.used + 1 ≤ max_seq = omega arith in
     let here : number ≤ max_seq = omega arith in
-    let m : Message = failed (s.used + 1) seq command Unsupported in
-    let back : Msg (canon m) m = subst (λ (n : ℕ). Msg (canon (failed n seq command Unsupported)) (failed n seq command Unsupported)) is (read here fits short) in
+    let m : Message = failure_response (s.used + 1) seq command Unsupported in
+    let back : Msg (canon m) m = subst (λ (n : ℕ). Msg (canon (failure_response n seq command Unsupported)) (failure_response n seq command Unsupported)) is (read here fits short) in
     let long : length (canon m) ≤ 1024 = are_short (s.used + 1) seq command Unsupported last fits short in
-    made-back s.limits.body (nat_lt s.used s.limits.seq) (declined seq command s) SeqExhausted (below s.used s.limits.seq left) (record { fits = omega arith; reads = back }, tt)
+    made-back s.limits.body (nat_lt s.used s.limits.seq) (made_by_refusing seq command s) SeqExhausted (below s.used s.limits.seq left) (record { fits = omega arith; reads = back }, tt)
 
 number-if : (used last x : ℕ) (b : Bool) → nat_lt used last ≡ b → (if b then Some (used + 1) else None) ≡ Some x → (x ≡ used + 1) × (used < last)
 number-if used last x true e f = (cc f, grind (arith, nat_tests, e))

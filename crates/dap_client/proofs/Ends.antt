@@ -11,11 +11,11 @@ use Rattle.dap_message.specs.Meaning.{Msg}
 use Rattle.dap_message.specs.Types.Call.{Call}
 use Rattle.dap_message.specs.declared.message.Message.{Message}
 use Rattle.dap_client.specs.Calls.{refusal_of, Takes}
-use Rattle.dap_client.specs.End.{End}
+use Rattle.dap_client.specs.ClientState.{ClientState}
 use Rattle.dap_message.specs.ReadBack.{AllReadBack}
 use Rattle.dap_client.specs.Keeping.{AreReadBack, IsMade}
 use Rattle.dap_client.specs.Laws.{EachStepGoesOn}
-use Rattle.dap_client.specs.Receives.{HasReceived}
+use Rattle.dap_client.specs.PrivateReceives.{HasReceived}
 use Rattle.dap_client.specs.Sending.{next_message, after_send}
 use Rattle.dap_client.specs.Session.{Session, fresh_session}
 use Rattle.dap_client.specs.StandsFor.{StandsFor, GoesOn}
@@ -31,7 +31,7 @@ none-met None never = refl
 none-met (Some f) never = absurd (never f refl)
 
 -- nothing was used, and nothing came
-pub opened : EachStepGoesOn → EachStepStaysWithin → (r : Reader) (e : End) (limits : Settings) → e.fault ≡ None → e.session ≡ fresh_session limits → e.intake ≡ r.intake → r.intake.bounds ≡ bounds_of limits
+pub opened : EachStepGoesOn → EachStepStaysWithin → (r : Reader) (e : ClientState) (limits : Settings) → e.fault ≡ None → e.session ≡ fresh_session limits → e.intake ≡ r.intake → r.intake.bounds ≡ bounds_of limits
     → ReaderStandsFor r [] [] → StandsFor e [] []
 opened laws within r e limits fault fresh same bounds st = record {
   no_fault = fault;
@@ -42,7 +42,7 @@ opened laws within r e limits fault fresh same bounds st = record {
 }
 
 -- a request more went
-pub went : HistoriesGrow → EachStepGoesOn → EachStepStaysWithin → (old new : End) (c : Call) → refusal_of c old ≡ None → new ≡ record old { session = after_send c old.session }
+pub went : HistoriesGrow → EachStepGoesOn → EachStepStaysWithin → (old new : ClientState) (c : Call) → refusal_of c old ≡ None → new ≡ record old { session = after_send c old.session }
     → GoesOn old new [] (Out (next_message old.session c) [] ∷ [])
 went grow laws within old new c none is s h st =
     let r = st.received in
@@ -62,7 +62,7 @@ on-both (Ok x) f p q = f p q
 on-both (Err e) f p q = tt
 
 -- the frame is still under way
-waits-goes_on : (old new : End) (piece : List ℕ) (n : ℕ) → Gathers old.intake new.intake piece n → new.session ≡ old.session → new.fault ≡ None → GoesOn old new piece []
+waits-goes_on : (old new : ClientState) (piece : List ℕ) (n : ℕ) → Gathers old.intake new.intake piece n → new.session ≡ old.session → new.fault ≡ None → GoesOn old new piece []
 waits-goes_on old new piece n g same fault s h st =
     record {
       no_fault = fault;
@@ -80,7 +80,7 @@ waits-goes_on old new piece n g same fault s h st =
     }
 
 -- a body came whole, was read, given up, and something was made of it
-delivers-goes_on : (grow : HistoriesGrow) (laws : EachStepGoesOn) (within : EachStepStaysWithin) (old new : End) (ready : Intake) (piece : List ℕ) (n : ℕ) (m : Message) (made : Made)
+delivers-goes_on : (grow : HistoriesGrow) (laws : EachStepGoesOn) (within : EachStepStaysWithin) (old new : ClientState) (ready : Intake) (piece : List ℕ) (n : ℕ) (m : Message) (made : Made)
     → Completes old.intake ready piece n → Msg ready.held m
     → IsUnderWay new.intake → new.intake.bounds ≡ old.intake.bounds
     → ((s : List ℕ) (xs : List (List ℕ)) (rest : List ℕ) → StandsForStream ready s xs rest → StandsForStream new.intake s xs rest)
@@ -116,7 +116,7 @@ back-of limit (Ok m) made is h = let same : m ≡ made = cc is in subst (λ (z :
 back-of limit (Err f) made is h = absurd h
 
 -- what became of the reader and of the session, said of the client
-pub received : (grow : HistoriesGrow) (laws : EachStepGoesOn) (within : EachStepStaysWithin) (old new : End) (piece : List ℕ) (got : Got) (delivered : Option Message)
+pub received : (grow : HistoriesGrow) (laws : EachStepGoesOn) (within : EachStepStaysWithin) (old new : ClientState) (piece : List ℕ) (got : Got) (delivered : Option Message)
     → new.intake.bounds ≡ old.intake.bounds → new.session.limits ≡ old.session.limits → new.fault ≡ None
     → HasReceived old.intake new.intake old.session new.session piece got delivered → Takes old piece got delivered new
 received grow laws within old new piece got None bounds limits fault w =

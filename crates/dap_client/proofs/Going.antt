@@ -7,9 +7,9 @@ use Rattle.dap_frame.specs.Settings.{Settings}
 use Rattle.dap_message.specs.Command.{command_named, name_of}
 use Rattle.dap_message.specs.CallTree.{command_of}
 use Rattle.dap_history.specs.Answers.{AnswersOne}
-use Rattle.dap_history.specs.History.{Asked, Answered, Entry, In, Out, Came, Went, left_open, request_at, response_at, ins_of}
+use Rattle.dap_history.specs.History.{Asked, Answered, Entry, In, Out, Came, Went, without_answered, request_at, response_at, ins_of}
 use Rattle.dap_history.specs.HistoryLaws.{HistoriesGrow}
-use Rattle.dap_message.specs.Lengths.{failed}
+use Rattle.dap_message.specs.AdapterMessages.{failure_response}
 use Rattle.dap_message.specs.Types.Call.{Call}
 use Rattle.dap_message.specs.Types.Command.{Command}
 use Rattle.dap_message.specs.Types.Command.TheVariants as command
@@ -17,18 +17,18 @@ use Rattle.dap_message.specs.Types.Failure.TheVariants.{Unsupported}
 use Rattle.dap_message.specs.declared.message.Message.{Message}
 use Rattle.dap_message.specs.declared.message.Kind.{Kind}
 use Rattle.dap_message.specs.declared.message.Kind.TheVariants.{Request, Response, Event, Other}
-use Rattle.dap_tables.specs.Outstanding.{unparked, entry_with, HasDistinctSeqs}
+use Rattle.dap_tables.specs.Outstanding.{kept_unparked, entry_with, HasDistinctSeqs}
 use Rattle.dap_tables.specs.declared.entry.Entry.{Entry as Waiting}
 use Rattle.dap_client.specs.declared.fault.ClientFault.{ClientFault}
 use Rattle.dap_client.specs.declared.fault.ClientFault.TheVariants.{ReferenceLimit, CommandMismatch, SeqExhausted}
 use Rattle.dap_client.specs.Changes.{signal_named}
 use Rattle.dap_client.specs.Laws.{EachStepGoesOn}
-use Rattle.dap_client.specs.Seen.{Seen, learned, after_request, after_response, after_event, after_in}
+use Rattle.dap_client.specs.Seen.{Seen, known_after, after_request, after_response, after_event, after_in}
 use Rattle.dap_client.specs.Sending.{next_message, request_of, after_send}
 use Rattle.dap_client.specs.Session.{Session, fresh_session}
 use Rattle.dap_history.specs.Requests.{asked_of, asks}
 use Rattle.dap_client.specs.Follows.{Follows}
-use Rattle.dap_client.specs.Taking.{Made, silently, entries_of, declined, answered, answered_within, takes_answer, takes_as}
+use Rattle.dap_client.specs.Taking.{Made, made_without_writing, entries_of, made_by_refusing, made_by_answer, answered_within, takes_answer, takes_as}
 use Rattle.dap_client.proofs.Growing.{going, follows, then_in, then_out}
 use Rattle.dap_client.proofs.Waiting.{eqb-self, all_left, asks-append, found, left-without}
 
@@ -50,41 +50,13 @@ opened-follows laws limits = record {
 -- a command's name is its own
 named : (c : Command) → command_named (name_of c) ≡ Some c
 named command.Initialize = refl
-named command.Launch = refl
-named command.Attach = refl
-named command.ConfigurationDone = refl
-named command.Disconnect = refl
-named command.Threads = refl
-named command.Terminate = refl
-named command.Cancel = refl
-named command.SetBreakpoints = refl
-named command.SetFunctionBreakpoints = refl
-named command.SetExceptionBreakpoints = refl
-named command.Continue = refl
-named command.Next = refl
-named command.StepIn = refl
-named command.StepOut = refl
-named command.Pause = refl
-named command.StepBack = refl
-named command.ReverseContinue = refl
-named command.StackTrace = refl
-named command.Scopes = refl
-named command.Variables = refl
-named command.Evaluate = refl
-named command.Source = refl
-named command.LoadedSources = refl
-named command.SetVariable = refl
-named command.Restart = refl
-named command.Modules = refl
-named command.ExceptionInfo = refl
-named command.BreakpointLocations = refl
-named command.Completions = refl
+named _ = refl
 
 send-follows : (laws : HistoriesGrow) (s : Session) (c : Call) (h : List Entry) → Follows s h → Follows (after_send c s) (h ++ Out (next_message s c) [] ∷ [])
 send-follows laws s c h f =
     follows (after_send c s) (h ++ Out (next_message s c) [] ∷ [])
     (then_out laws s (after_send c s) [] (next_message s c) h (going s h f)
-    (asks-append s.outstanding (unparked (request_of (s.used + 1) c) ∷ []))
+    (asks-append s.outstanding (kept_unparked (request_of (s.used + 1) c) ∷ []))
     tt refl
     (ap (λ (o : Option Command). after_request (s.used + 1) o s.seen) (sym (named (command_of c))))
     refl refl)
@@ -95,21 +67,21 @@ abbrev Goes : Session → Message → Made → List Entry → Type 0
 Goes s m made h = Follows s h → Follows made.after (h ++ In m ∷ entries_of made)
 
 -- what answers no request and is none
-silent-goes : (laws : HistoriesGrow) (s : Session) (m : Message) (seen : Seen) (h : List Entry) → response_at Went (In m) ≡ None → request_at Came (In m) ≡ None → seen ≡ after_in m.kind s.seen → Goes s m (silently (record s { seen = seen })) h
+silent-goes : (laws : HistoriesGrow) (s : Session) (m : Message) (seen : Seen) (h : List Entry) → response_at Went (In m) ≡ None → request_at Came (In m) ≡ None → seen ≡ after_in m.kind s.seen → Goes s m (made_without_writing (record s { seen = seen })) h
 silent-goes laws s m seen h no_response no_request is f =
     follows (record s { seen = seen }) (h ++ In m ∷ [])
     (then_in laws s (record s { seen = seen }) [] m h (going s h f)
-    (sym (ap (λ (x : Option Answered). left_open x (asks s.outstanding)) no_response ∙ all_left (asks s.outstanding)))
+    (sym (ap (λ (x : Option Answered). without_answered x (asks s.outstanding)) no_response ∙ all_left (asks s.outstanding)))
     (subst (λ (x : Option Answered). AnswersOne (asks s.outstanding) x) (sym no_response) tt)
     (ap (λ (x : Option Asked). option_to_list x) no_request)
     is refl)
 
 -- a request of the adapter is answered at once
-declined-goes : (laws : HistoriesGrow) (s : Session) (seq : ℕ) (name : List ℕ) (arguments : Option Data) (h : List Entry) → Goes s (record { seq = seq; kind = Request name arguments }) (declined seq name s) h
-declined-goes laws s seq name arguments h f =
+made_by_refusing-goes : (laws : HistoriesGrow) (s : Session) (seq : ℕ) (name : List ℕ) (arguments : Option Data) (h : List Entry) → Goes s (record { seq = seq; kind = Request name arguments }) (made_by_refusing seq name s) h
+made_by_refusing-goes laws s seq name arguments h f =
     let m : Message = record { seq = seq; kind = Request name arguments } in
     let q : Asked = record { seq = seq; command = name; arguments = arguments } in
-    let reply : Message = failed (s.used + 1) seq name Unsupported in
+    let reply : Message = failure_response (s.used + 1) seq name Unsupported in
     let self = eqb-self seq in
     let in_came = then_in laws s s (q ∷ []) m h (going s h f) (sym (all_left (asks s.outstanding))) tt refl refl refl in
     let out_went = then_out laws s (record s { used = s.used + 1 }) (q ∷ []) reply (h ++ In m ∷ []) in_came
@@ -122,19 +94,19 @@ declined-goes laws s seq name arguments h f =
     append_nil_of (x ∷ xs) = ap (λ (ys : List Asked). x ∷ ys) (append_nil_of xs)
 
 request-goes : (b : Bool) (laws : HistoriesGrow) (s : Session) (seq : ℕ) (name : List ℕ) (arguments : Option Data) (made : Made) (h : List Entry)
-    → (if b then Ok (declined seq name s) else Err SeqExhausted) ≡ Ok made → Goes s (record { seq = seq; kind = Request name arguments }) made h
+    → (if b then Ok (made_by_refusing seq name s) else Err SeqExhausted) ≡ Ok made → Goes s (record { seq = seq; kind = Request name arguments }) made h
 request-goes true laws s seq name arguments made h e f =
-    let same : declined seq name s ≡ made = cc in
-    subst (λ (x : Made). Follows x.after (h ++ In (record { seq = seq; kind = Request name arguments }) ∷ entries_of x)) same (declined-goes laws s seq name arguments h f)
+    let same : made_by_refusing seq name s ≡ made = cc in
+    subst (λ (x : Made). Follows x.after (h ++ In (record { seq = seq; kind = Request name arguments }) ∷ entries_of x)) same (made_by_refusing-goes laws s seq name arguments h f)
 request-goes false laws s seq name arguments made h e f = cc
 
 -- a response answers the request of its number, which has its command
 answer-goes : (laws : HistoriesGrow) (s : Session) (seq request_seq : ℕ) (ok : Bool) (name : List ℕ) (text : Option (List ℕ)) (body : Option Data) (r : Waiting) (h : List Entry)
     → HasDistinctSeqs s.outstanding → entry_with request_seq s.outstanding ≡ Some r → bytes_eq name r.command ≡ true
-    → Goes s (record { seq = seq; kind = Response request_seq ok name text body }) (answered request_seq (after_response request_seq ok (command_named name) body s.seen) s) h
+    → Goes s (record { seq = seq; kind = Response request_seq ok name text body }) (made_by_answer request_seq (after_response request_seq ok (command_named name) body s.seen) s) h
 answer-goes laws s seq request_seq ok name text body r h d is same f =
     let m : Message = record { seq = seq; kind = Response request_seq ok name text body } in
-    let next : Session = (answered request_seq (after_response request_seq ok (command_named name) body s.seen) s).after in
+    let next : Session = (made_by_answer request_seq (after_response request_seq ok (command_named name) body s.seen) s).after in
     follows next (h ++ In m ∷ [])
     (then_in laws s next [] m h (going s h f)
     (sym (left-without (record { request_seq = request_seq; command = name }) s.outstanding))
@@ -151,7 +123,7 @@ matching-goes : (b : Bool) (laws : HistoriesGrow) (s : Session) (seq request_seq
     → (if b then answered_within request_seq ok name body s else Err (CommandMismatch request_seq)) ≡ Ok made
     → Goes s (record { seq = seq; kind = Response request_seq ok name text body }) made h
 matching-goes true laws s seq request_seq ok name text body r made h d is same e =
-    within-goes (nat_le (length (learned ok (command_named name) body s.seen)) s.limits.references) laws s _ _ made h
+    within-goes (nat_le (length (known_after ok (command_named name) body s.seen)) s.limits.references) laws s _ _ made h
     (answer-goes laws s seq request_seq ok name text body r h d is same) e
 matching-goes false laws s seq request_seq ok name text body r made h d is same e = cc
 
@@ -162,10 +134,10 @@ response-goes None laws s seq request_seq ok name text body made h d is e = cc
 response-goes (Some r) laws s seq request_seq ok name text body made h d is e =
     matching-goes (bytes_eq name r.command) laws s seq request_seq ok name text body r made h d is refl e
 
-quiet-goes : (laws : HistoriesGrow) (s : Session) (m : Message) (seen : Seen) (made : Made) (h : List Entry) → Goes s m (silently (record s { seen = seen })) h
-    → (let given : Result Made ClientFault = Ok (silently (record s { seen = seen })) in given) ≡ Ok made → Goes s m made h
+quiet-goes : (laws : HistoriesGrow) (s : Session) (m : Message) (seen : Seen) (made : Made) (h : List Entry) → Goes s m (made_without_writing (record s { seen = seen })) h
+    → (let given : Result Made ClientFault = Ok (made_without_writing (record s { seen = seen })) in given) ≡ Ok made → Goes s m made h
 quiet-goes laws s m seen made h goes e f =
-    let same : silently (record s { seen = seen }) ≡ made = cc in
+    let same : made_without_writing (record s { seen = seen }) ≡ made = cc in
     subst (λ (x : Made). Follows x.after (h ++ In m ∷ entries_of x)) same (goes f)
 
 kind-goes : (laws : HistoriesGrow) (s : Session) (seq : ℕ) (kind : Kind) (made : Made) (h : List Entry) → HasDistinctSeqs s.outstanding → takes_as seq kind s ≡ Ok made → Goes s (record { seq = seq; kind = kind }) made h

@@ -3,7 +3,7 @@ use Rattle.std.proofs.Common.{◌≡◌, ℕ, ◌+◌, List, [], ◌∷◌, ◌+
 use Rattle.std.specs.Prelude.{option_to_list}
 use Rattle.std.proofs.lemmas.List.{append-nil}
 use Rattle.dap_history.specs.Answers.{Answers, AnswersOne}
-use Rattle.dap_history.specs.History.{Entry, In, Out, Came, Went, Asked, waiting, left_open, outs_of, AreNumberedAfter, request_at, response_at}
+use Rattle.dap_history.specs.History.{Entry, In, Out, Came, Went, Asked, waiting, without_answered, outs_of, AreNumberedAfter, request_at, response_at}
 use Rattle.dap_history.specs.HistoryLaws.{HistoriesGrow}
 use Rattle.dap_message.specs.declared.message.Message.{Message}
 use Rattle.dap_client.specs.Seen.{Seen, nothing_seen, after_in, after_out, seen_then, seen_after, seen_in}
@@ -43,7 +43,7 @@ AreNumberedAfter-append n (x ∷ xs) ys p q =
 -- ---- a message came
 
 pub then_in : (laws : HistoriesGrow) (s next : Session) (came : List Asked) (m : Message) (h : List Entry) → Going s [] h
-    → asks next.outstanding ≡ left_open (response_at Went (In m)) (asks s.outstanding)
+    → asks next.outstanding ≡ without_answered (response_at Went (In m)) (asks s.outstanding)
     → AnswersOne (asks s.outstanding) (response_at Went (In m))
     → option_to_list (request_at Came (In m)) ≡ came
     → next.seen ≡ after_in m.kind s.seen
@@ -52,7 +52,7 @@ pub then_in : (laws : HistoriesGrow) (s next : Session) (came : List Asked) (m :
 then_in laws s next came m h g left one asked seen used =
     let same : outs_of (h ++ In m ∷ []) ≡ outs_of h = laws.outs_append h (In m ∷ []) ∙ append-nil (outs_of h) in
     record {
-      outstanding = left ∙ (ap (left_open (response_at Went (In m))) g.outstanding ∙ sym (laws.waiting_then Went h (In m) ∙ append-nil (left_open (response_at Went (In m)) (waiting Went h))));
+      outstanding = left ∙ (ap (without_answered (response_at Went (In m))) g.outstanding ∙ sym (laws.waiting_then Went h (In m) ∙ append-nil (without_answered (response_at Went (In m)) (waiting Went h))));
       accepted = laws.answers_then Went h (In m) g.accepted (subst (λ (qs : List Asked). AnswersOne qs (response_at Went (In m))) g.outstanding one);
       incoming = laws.waiting_then Came h (In m) ∙ (ap (λ (qs : List Asked). qs ++ option_to_list (request_at Came (In m))) (all_left (waiting Came h) ∙ g.incoming) ∙ asked);
       written = laws.answers_then Came h (In m) g.written tt;
@@ -66,7 +66,7 @@ then_in laws s next came m h g left one asked seen used =
 pub then_out : (laws : HistoriesGrow) (s next : Session) (came : List Asked) (m : Message) (h : List Entry) → Going s came h
     → asks next.outstanding ≡ asks s.outstanding ++ option_to_list (request_at Went (Out m []))
     → AnswersOne came (response_at Came (Out m []))
-    → left_open (response_at Came (Out m [])) came ≡ []
+    → without_answered (response_at Came (Out m [])) came ≡ []
     → next.seen ≡ after_out m.seq m.kind s.seen
     → m.seq ≡ s.used + 1
     → next.used ≡ s.used + 1
@@ -81,7 +81,7 @@ then_out laws s next came m h g more one none seen number used =
     record {
       outstanding = more ∙ (ap (λ (qs : List Asked). qs ++ option_to_list (request_at Went e)) (g.outstanding ∙ sym (all_left (waiting Went h))) ∙ sym (laws.waiting_then Went h e));
       accepted = laws.answers_then Went h e g.accepted tt;
-      incoming = laws.waiting_then Came h e ∙ (append-nil (left_open (response_at Came e) (waiting Came h)) ∙ (ap (left_open (response_at Came e)) g.incoming ∙ none));
+      incoming = laws.waiting_then Came h e ∙ (append-nil (without_answered (response_at Came e) (waiting Came h)) ∙ (ap (without_answered (response_at Came e)) g.incoming ∙ none));
       written = laws.answers_then Came h e g.written (subst (λ (qs : List Asked). AnswersOne qs (response_at Came e)) (sym g.incoming) one);
       seen = seen ∙ (ap (after_out m.seq m.kind) g.seen ∙ sym (seen_after-append nothing_seen h (e ∷ [])));
       used = omega arith;

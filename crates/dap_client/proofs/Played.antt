@@ -12,7 +12,7 @@ use Rattle.dap_message.specs.declared.message.Kind.TheVariants.{Response, Event}
 use Rattle.dap_client.specs.declared.fault.ClientFault.{ClientFault}
 use Rattle.dap_client.specs.declared.fault.SendFault.{SendFault}
 use Rattle.dap_client.specs.Calls.{refusal_of}
-use Rattle.dap_client.specs.End.{End}
+use Rattle.dap_client.specs.ClientState.{ClientState}
 use Rattle.dap_client.specs.Sending.{next_message, after_send}
 use Rattle.dap_client.specs.Session.{fresh_session}
 use Rattle.dap_client.specs.Taking.{Made, takes}
@@ -21,7 +21,7 @@ use Rattle.dap_client.specs.Taking.{Made, takes}
 
 -- the client, all that it wrote, and why the last call was not sent
 pub record At : Type 0 where
-  pub end : End
+  pub end : ClientState
   pub written : List Message
   pub refused : Option SendFault
 

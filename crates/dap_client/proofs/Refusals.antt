@@ -5,7 +5,7 @@ use Rattle.std.proofs.lemmas.Bool.Decides.{nat_tests}
 use Rattle.dap_message.specs.Types.Call.{Call}
 use Rattle.dap_frame.specs.Settings.{Settings}
 use Rattle.dap_tables.specs.Known.{KnownReferences}
-use Rattle.dap_tables.specs.Outstanding.{Kept, KeptRequests, IsOrderly, unparked, contains_seq}
+use Rattle.dap_tables.specs.Outstanding.{Kept, KeptRequests, IsOrderlyRequests, kept_unparked, contains_seq}
 use Rattle.dap_tables.specs.Seq.{Numbers, after_next}
 use Rattle.dap_tables.specs.declared.entry.Entry.{Entry}
 use Rattle.dap_client.specs.declared.fault.SendFault.{SendFault}
@@ -47,18 +47,6 @@ find-holds : {X : Type 0} (p : X → Bool) (y : X) (xs : List X) → find p xs �
 find-holds p y [] e = cc
 find-holds p y (x ∷ xs) e = find-holds-if (p x) p x y xs refl (find-holds p y xs) e
 
--- want of memory is no refusal of a list
-pub why-late : (f : SendFault) (c : Call) (s : Session) → first_of late_refusals c false s ≡ Some f → IsWhyLate f c s
-why-late fault.OutOfMemory c s e = tt
-why-late fault.Ended c s e = e
-why-late fault.WrongPhase c s e = e
-why-late fault.NotSupported c s e = e
-why-late fault.NotStopped c s e = e
-why-late fault.UnknownReference c s e = e
-why-late fault.TooLarge c s e = e
-why-late fault.Full c s e = e
-why-late fault.SeqExhausted c s e = e
-
 -- an early refusal is why a call was not sent
 pub why-early : (f : SendFault) (c : Call) (closed : Bool) (s : Session) → first_of early_refusals c closed s ≡ Some f → IsWhyNotSent f c closed s
 why-early fault.OutOfMemory c closed s e = absurd (true≢false (sym (find-holds (λ x. holds x c closed s) fault.OutOfMemory early_refusals e)))
@@ -74,18 +62,7 @@ why-early fault.SeqExhausted c closed s e = early-first c closed s fault.SeqExha
 -- and so is a late one, where no early one holds
 pub why-then : (f : SendFault) (c : Call) (closed : Bool) (s : Session) → first_of early_refusals c closed s ≡ None → IsWhyLate f c s → IsWhyNotSent f c closed s
 why-then fault.OutOfMemory c closed s none e = none
-why-then fault.Ended c closed s none e = late-first c closed s none ∙ e
-why-then fault.WrongPhase c closed s none e = late-first c closed s none ∙ e
-why-then fault.NotSupported c closed s none e = late-first c closed s none ∙ e
-why-then fault.NotStopped c closed s none e = late-first c closed s none ∙ e
-why-then fault.UnknownReference c closed s none e = late-first c closed s none ∙ e
-why-then fault.TooLarge c closed s none e = late-first c closed s none ∙ e
-why-then fault.Full c closed s none e = late-first c closed s none ∙ e
-why-then fault.SeqExhausted c closed s none e = late-first c closed s none ∙ e
-
--- none holds at all
-pub none-then : (c : Call) (closed : Bool) (s : Session) → first_of early_refusals c closed s ≡ None → first_of late_refusals c false s ≡ None → first_of refusals_in_order c closed s ≡ None
-none-then c closed s early late = late-first c closed s early ∙ late
+why-then _ c closed s none e = late-first c closed s none ∙ e
 
 -- ---- where none is the first, none holds
 
@@ -168,7 +145,7 @@ next-is-new used seq (k ∷ kept) all h =
     none-or (k.entry.seq == seq) (contains_seq seq kept) (unequal k.entry.seq seq less) (next-is-new used seq kept all.1 h)
 
 -- one more
-pub sent-more : (used : ℕ) (entry : Entry) (kept : List Kept) → entry.seq ≡ used + 1 → AreSent used kept → AreSent (used + 1) (kept ++ unparked entry ∷ [])
+pub sent-more : (used : ℕ) (entry : Entry) (kept : List Kept) → entry.seq ≡ used + 1 → AreSent used kept → AreSent (used + 1) (kept ++ kept_unparked entry ∷ [])
 sent-more used entry [] e all = (omega (arith, e), tt)
 sent-more used entry (k ∷ kept) e all = let small = all.0 in (omega arith, sent-more used entry kept e all.1)
 
@@ -184,7 +161,7 @@ after-given numbers h = after-if (nat_lt numbers.used numbers.last) numbers (ltb
 
 -- a request more, with the next number
 pub session-more : (limits : Settings) (known : KnownReferences) (table next : KeptRequests) (numbers later : Numbers) (entry : Entry) → IsSession limits known table numbers
-    → next ≡ record table { kept = table.kept ++ unparked entry ∷ [] } → IsOrderly next → later ≡ after_next numbers
+    → next ≡ record table { kept = table.kept ++ kept_unparked entry ∷ [] } → IsOrderlyRequests next → later ≡ after_next numbers
     → entry.seq ≡ numbers.used + 1 → numbers.used < limits.seq → IsSession limits known next later
 session-more limits known table next numbers later entry l more orderly moved number left =
     let last = l.last in
@@ -192,8 +169,8 @@ session-more limits known table next numbers later entry l more orderly moved nu
     let given : later ≡ record numbers { used = numbers.used + 1 } = moved ∙ after-given numbers room in
     let now : later.used ≡ numbers.used + 1 = ap (λ (n : Numbers). n.used) given in
     let end : later.last ≡ numbers.last = ap (λ (n : Numbers). n.last) given in
-    let all : AreSent (numbers.used + 1) (table.kept ++ unparked entry ∷ []) = sent-more numbers.used entry table.kept number l.sent in
-    let kept : next.kept ≡ table.kept ++ unparked entry ∷ [] = ap (λ (t : KeptRequests). t.kept) more in
+    let all : AreSent (numbers.used + 1) (table.kept ++ kept_unparked entry ∷ []) = sent-more numbers.used entry table.kept number l.sent in
+    let kept : next.kept ≡ table.kept ++ kept_unparked entry ∷ [] = ap (λ (t : KeptRequests). t.kept) more in
     record {
       known_room = l.known_room;
       room = ap (λ (t : KeptRequests). t.room) more ∙ l.room;

@@ -15,9 +15,9 @@ use Rattle.dap_client.specs.declared.fault.ClientFault.{ClientFault}
 use Rattle.dap_client.specs.declared.fault.ClientFault.TheVariants as fault
 use Rattle.dap_client.specs.Calls.{TakeRefused}
 use Rattle.dap_client.specs.Keeping.{IsWhyClosed}
-use Rattle.dap_client.specs.Seen.{learned, after_response}
+use Rattle.dap_client.specs.Seen.{known_after, after_response}
 use Rattle.dap_client.specs.Session.{Session}
-use Rattle.dap_client.specs.Taking.{Made, takes, takes_as, takes_answer, answered_within, declined, answered}
+use Rattle.dap_client.specs.Taking.{Made, takes, takes_as, takes_answer, answered_within, made_by_refusing, made_by_answer}
 
 -- a fault of the stream, not of a message
 abbrev is_of_stream : ClientFault → Bool
@@ -39,11 +39,11 @@ of-answer : (o : Option Waiting) (request_seq : ℕ) (ok : Bool) (name : List �
 of-answer None request_seq ok name body s f e = let same : fault.Unmatched request_seq ≡ f = cc in subst (λ x. is_of_stream x ≡ false) same refl
 of-answer (Some r) request_seq ok name body s f e =
     let within : OfMessage (answered_within request_seq ok name body s) =
-    of-message-if (nat_le (length (learned ok (command_named name) body s.seen)) s.limits.references) (Ok (answered request_seq (after_response request_seq ok (command_named name) body s.seen) s)) fault.ReferenceLimit refl (of-ok (answered request_seq (after_response request_seq ok (command_named name) body s.seen) s)) in
+    of-message-if (nat_le (length (known_after ok (command_named name) body s.seen)) s.limits.references) (Ok (made_by_answer request_seq (after_response request_seq ok (command_named name) body s.seen) s)) fault.ReferenceLimit refl (of-ok (made_by_answer request_seq (after_response request_seq ok (command_named name) body s.seen) s)) in
     of-message-if (bytes_eq name r.command) (answered_within request_seq ok name body s) (fault.CommandMismatch request_seq) refl within f e
 
 of-kind : (seq : ℕ) (kind : Kind) (s : Session) → OfMessage (takes_as seq kind s)
-of-kind seq (Request command arguments) s f e = of-message-if (nat_lt s.used s.limits.seq) (Ok (declined seq command s)) fault.SeqExhausted refl (of-ok (declined seq command s)) f e
+of-kind seq (Request command arguments) s f e = of-message-if (nat_lt s.used s.limits.seq) (Ok (made_by_refusing seq command s)) fault.SeqExhausted refl (of-ok (made_by_refusing seq command s)) f e
 of-kind seq (Response request_seq ok name message body) s f e = of-answer (entry_with request_seq s.outstanding) request_seq ok name body s f e
 of-kind seq (Event event body) s f e = cc
 of-kind seq (Other tag) s f e = cc
@@ -52,8 +52,4 @@ pub untaken_refused : (old ready : Intake) (s : Session) (piece : List ℕ) (n :
 untaken_refused old ready s piece n m (fault.Frame x) c read why = absurd (true≢false (of-kind m.seq m.kind s (fault.Frame x) why))
 untaken_refused old ready s piece n m (fault.Body x y) c read why = absurd (true≢false (of-kind m.seq m.kind s (fault.Body x y) why))
 untaken_refused old ready s piece n m fault.OutOfMemory c read why = (n, record { ready = ready; completes = c })
-untaken_refused old ready s piece n m (fault.Unmatched x) c read why = record { n = n; whole = record { ready = ready; completes = c }; message = m; read = read; closes = why }
-untaken_refused old ready s piece n m (fault.CommandMismatch x) c read why = record { n = n; whole = record { ready = ready; completes = c }; message = m; read = read; closes = why }
-untaken_refused old ready s piece n m (fault.RepeatedSeq x) c read why = record { n = n; whole = record { ready = ready; completes = c }; message = m; read = read; closes = why }
-untaken_refused old ready s piece n m fault.ReferenceLimit c read why = record { n = n; whole = record { ready = ready; completes = c }; message = m; read = read; closes = why }
-untaken_refused old ready s piece n m fault.SeqExhausted c read why = record { n = n; whole = record { ready = ready; completes = c }; message = m; read = read; closes = why }
+untaken_refused old ready s piece n m _ c read why = record { n = n; whole = record { ready = ready; completes = c }; message = m; read = read; closes = why }

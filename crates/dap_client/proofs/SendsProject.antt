@@ -2,11 +2,11 @@
 use Rattle.std.proofs.Common.{[], ◌≡◌, ◌+◌, ◌∷◌, ◌++◌, Bool, true, false, refl}
 use Rattle.dap_message.specs.Types.Command.{Command}
 use Rattle.dap_message.specs.Types.Command.TheVariants as command
-use Rattle.dap_tables.specs.Outstanding.{unparked}
+use Rattle.dap_tables.specs.Outstanding.{kept_unparked}
 use Rattle.dap_tables.specs.declared.entry.Entry.{Entry}
 use Rattle.dap_client.specs.declared.phase.Phase.{Phase}
 use Rattle.dap_client.specs.declared.phase.Phase.TheVariants.{Fresh, Initializing, Configuring, Running, Stopped, Resuming, Exited, Ended}
-use Rattle.dap_client.specs.Seat.{Initialize, Launch, ConfigurationDone, Disconnect, Terminate, Restart, Cancel, Setter, Lookup, Resume, Pause, Inspect, class_of, seat_of, allows, seat_sent}
+use Rattle.dap_client.specs.ClientAbstraction.{Initialize, Launch, ConfigurationDone, Disconnect, Terminate, Restart, Cancel, Setter, Lookup, Resume, Pause, Inspect, class_of, abstraction_of, allows, abstraction_after_request}
 use Rattle.dap_client.specs.Seen.{after_sent}
 use Rattle.dap_client.specs.Session.{Session}
 use Rattle.dap_client.specs.Table.{is_sent_in}
@@ -253,13 +253,7 @@ each-allowed command.StepIn p ready = resume-allowed p ready
 each-allowed command.StepOut p ready = resume-allowed p ready
 each-allowed command.StepBack p ready = resume-allowed p ready
 each-allowed command.ReverseContinue p ready = resume-allowed p ready
-each-allowed command.StackTrace p ready = inspect-allowed p ready
-each-allowed command.Scopes p ready = inspect-allowed p ready
-each-allowed command.Variables p ready = inspect-allowed p ready
-each-allowed command.Evaluate p ready = inspect-allowed p ready
-each-allowed command.SetVariable p ready = inspect-allowed p ready
-each-allowed command.ExceptionInfo p ready = inspect-allowed p ready
-each-allowed command.Completions p ready = inspect-allowed p ready
+each-allowed _ p ready = inspect-allowed p ready
 
 -- ---- a request is sent
 
@@ -267,130 +261,60 @@ abbrev pub at : Phase → Session → Session
 at p s = record s { seen = record s.seen { phase = p } }
 
 abbrev after : Command → Entry → Session → Session
-after c r s = record s { seen = after_sent (s.used + 1) c s.seen; outstanding = s.outstanding ++ unparked r ∷ []; used = s.used + 1 }
+after c r s = record s { seen = after_sent (s.used + 1) c s.seen; outstanding = s.outstanding ++ kept_unparked r ∷ []; used = s.used + 1 }
 
 abbrev Sent : Command → Phase → Type 0
-Sent c p = (s : Session) (r : Entry) → is_sent_in c p s.seen.ready ≡ true → seat_of (after c r (at p s)) ≡ seat_sent (class_of c) r (seat_of (at p s))
+Sent c p = (s : Session) (r : Entry) → is_sent_in c p s.seen.ready ≡ true → abstraction_of (after c r (at p s)) ≡ abstraction_after_request (class_of c) r (abstraction_of (at p s))
 
 initialize-sent : (p : Phase) → Sent command.Initialize p
 initialize-sent Fresh s r e = refl
-initialize-sent Initializing s r e = refl
-initialize-sent Configuring s r e = refl
-initialize-sent Running s r e = refl
-initialize-sent Stopped s r e = refl
-initialize-sent Resuming s r e = refl
-initialize-sent Exited s r e = refl
-initialize-sent Ended s r e = refl
+initialize-sent _ s r e = refl
 
 launch-sent : (p : Phase) → Sent command.Launch p
 launch-sent Fresh s r e = refl
-launch-sent Initializing s r e = refl
-launch-sent Configuring s r e = refl
-launch-sent Running s r e = refl
-launch-sent Stopped s r e = refl
-launch-sent Resuming s r e = refl
-launch-sent Exited s r e = refl
-launch-sent Ended s r e = refl
+launch-sent _ s r e = refl
 
 configurationdone-sent : (p : Phase) → Sent command.ConfigurationDone p
 configurationdone-sent Fresh s r e = refl
-configurationdone-sent Initializing s r e = refl
-configurationdone-sent Configuring s r e = refl
-configurationdone-sent Running s r e = refl
-configurationdone-sent Stopped s r e = refl
-configurationdone-sent Resuming s r e = refl
-configurationdone-sent Exited s r e = refl
-configurationdone-sent Ended s r e = refl
+configurationdone-sent _ s r e = refl
 
 disconnect-sent : (p : Phase) → Sent command.Disconnect p
 disconnect-sent Fresh s r e = cc
 disconnect-sent Initializing s r e = cc
-disconnect-sent Configuring s r e = refl
-disconnect-sent Running s r e = refl
-disconnect-sent Stopped s r e = refl
-disconnect-sent Resuming s r e = refl
-disconnect-sent Exited s r e = refl
 disconnect-sent Ended s r e = cc
+disconnect-sent _ s r e = refl
 
 terminate-sent : (p : Phase) → Sent command.Terminate p
 terminate-sent Fresh s r e = refl
-terminate-sent Initializing s r e = refl
-terminate-sent Configuring s r e = refl
-terminate-sent Running s r e = refl
-terminate-sent Stopped s r e = refl
-terminate-sent Resuming s r e = refl
-terminate-sent Exited s r e = refl
-terminate-sent Ended s r e = refl
+terminate-sent _ s r e = refl
 
 restart-sent : (p : Phase) → Sent command.Restart p
 restart-sent Fresh s r e = refl
-restart-sent Initializing s r e = refl
-restart-sent Configuring s r e = refl
-restart-sent Running s r e = refl
-restart-sent Stopped s r e = refl
-restart-sent Resuming s r e = refl
-restart-sent Exited s r e = refl
-restart-sent Ended s r e = refl
+restart-sent _ s r e = refl
 
 cancel-sent : (p : Phase) → Sent command.Cancel p
 cancel-sent Fresh s r e = refl
-cancel-sent Initializing s r e = refl
-cancel-sent Configuring s r e = refl
-cancel-sent Running s r e = refl
-cancel-sent Stopped s r e = refl
-cancel-sent Resuming s r e = refl
-cancel-sent Exited s r e = refl
-cancel-sent Ended s r e = refl
+cancel-sent _ s r e = refl
 
 setter-sent : (p : Phase) → Sent command.SetBreakpoints p
 setter-sent Fresh s r e = refl
-setter-sent Initializing s r e = refl
-setter-sent Configuring s r e = refl
-setter-sent Running s r e = refl
-setter-sent Stopped s r e = refl
-setter-sent Resuming s r e = refl
-setter-sent Exited s r e = refl
-setter-sent Ended s r e = refl
+setter-sent _ s r e = refl
 
 lookup-sent : (p : Phase) → Sent command.Threads p
 lookup-sent Fresh s r e = refl
-lookup-sent Initializing s r e = refl
-lookup-sent Configuring s r e = refl
-lookup-sent Running s r e = refl
-lookup-sent Stopped s r e = refl
-lookup-sent Resuming s r e = refl
-lookup-sent Exited s r e = refl
-lookup-sent Ended s r e = refl
+lookup-sent _ s r e = refl
 
 resume-sent : (p : Phase) → Sent command.Continue p
 resume-sent Fresh s r e = refl
-resume-sent Initializing s r e = refl
-resume-sent Configuring s r e = refl
-resume-sent Running s r e = refl
-resume-sent Stopped s r e = refl
-resume-sent Resuming s r e = refl
-resume-sent Exited s r e = refl
-resume-sent Ended s r e = refl
+resume-sent _ s r e = refl
 
 pause-sent : (p : Phase) → Sent command.Pause p
 pause-sent Fresh s r e = refl
-pause-sent Initializing s r e = refl
-pause-sent Configuring s r e = refl
-pause-sent Running s r e = refl
-pause-sent Stopped s r e = refl
-pause-sent Resuming s r e = refl
-pause-sent Exited s r e = refl
-pause-sent Ended s r e = refl
+pause-sent _ s r e = refl
 
 inspect-sent : (p : Phase) → Sent command.StackTrace p
 inspect-sent Fresh s r e = refl
-inspect-sent Initializing s r e = refl
-inspect-sent Configuring s r e = refl
-inspect-sent Running s r e = refl
-inspect-sent Stopped s r e = refl
-inspect-sent Resuming s r e = refl
-inspect-sent Exited s r e = refl
-inspect-sent Ended s r e = refl
+inspect-sent _ s r e = refl
 
 pub each-sent : (c : Command) (p : Phase) → Sent c p
 each-sent command.Initialize p = initialize-sent p
@@ -416,10 +340,4 @@ each-sent command.StepIn p = resume-sent p
 each-sent command.StepOut p = resume-sent p
 each-sent command.StepBack p = resume-sent p
 each-sent command.ReverseContinue p = resume-sent p
-each-sent command.StackTrace p = inspect-sent p
-each-sent command.Scopes p = inspect-sent p
-each-sent command.Variables p = inspect-sent p
-each-sent command.Evaluate p = inspect-sent p
-each-sent command.SetVariable p = inspect-sent p
-each-sent command.ExceptionInfo p = inspect-sent p
-each-sent command.Completions p = inspect-sent p
+each-sent _ p = inspect-sent p

@@ -12,7 +12,7 @@ use Rattle.dap_message.specs.declared.message.Kind.{Kind}
 use Rattle.dap_message.specs.declared.message.Kind.TheVariants.{Request, Response, Event, Other}
 use Rattle.dap_tables.specs.Known.{HasDistinctPairs}
 use Rattle.dap_tables.specs.KnownLaws.{KnownIsASet}
-use Rattle.dap_tables.specs.Outstanding.{Kept, contains_seq, entry_with, unparked, without, HasDistinctSeqs}
+use Rattle.dap_tables.specs.Outstanding.{Kept, contains_seq, entry_with, kept_unparked, without, HasDistinctSeqs}
 use Rattle.dap_tables.specs.declared.entry.Entry.{Entry}
 use Rattle.dap_tables.specs.declared.reference_kind.ReferenceKind.{ReferenceKind}
 use Rattle.dap_client.specs.declared.change.Change.{Change}
@@ -21,10 +21,10 @@ use Rattle.dap_client.specs.declared.fault.ClientFault.TheVariants.{CommandMisma
 use Rattle.dap_client.specs.declared.fault.SendFault.{SendFault}
 use Rattle.dap_client.specs.declared.fault.SendFault.TheVariants as fault
 use Rattle.dap_client.specs.Changes.{sent, signalled, change_in, signal_named}
-use Rattle.dap_client.specs.Seen.{Seen, kept_unless, changed, lesson, learned, cause_of, told, after_response, after_event}
+use Rattle.dap_client.specs.Seen.{Seen, kept_unless, after_change, references_of_success, known_after, cause_of, after_body, after_response, after_event}
 use Rattle.dap_client.specs.Sending.{holds, first_of, late_refusals, refusals_in_order, request_of, after_send}
 use Rattle.dap_client.specs.Session.{Session, fresh_session}
-use Rattle.dap_client.specs.Taking.{Made, silently, declined, answered, answered_within, takes_answer, takes_as}
+use Rattle.dap_client.specs.Taking.{Made, made_without_writing, made_by_refusing, made_by_answer, answered_within, takes_answer, takes_as}
 use Rattle.dap_client.specs.Within.{AreSent, IsWithin, EachStepStaysWithin}
 use Rattle.dap_client.proofs.Answered.{sent-fewer, sent-later}
 use Rattle.dap_client.proofs.Refusals.{none-or, sent-more}
@@ -35,13 +35,13 @@ use Rattle.dap_client.proofs.Waiting.{false-left, false-right}
 apart-from : (a b : ℕ) → a < b → (b == a) ≡ false
 apart-from a b h = grind (arith, nat_tests)
 
-contains-more : (seq : ℕ) (kept : List Kept) (e : Entry) → contains_seq seq kept ≡ false → (e.seq == seq) ≡ false → contains_seq seq (kept ++ unparked e ∷ []) ≡ false
+contains-more : (seq : ℕ) (kept : List Kept) (e : Entry) → contains_seq seq kept ≡ false → (e.seq == seq) ≡ false → contains_seq seq (kept ++ kept_unparked e ∷ []) ≡ false
 contains-more seq [] e h n = none-or (e.seq == seq) false n refl
 contains-more seq (k ∷ kept) e h n =
-    none-or (k.entry.seq == seq) (contains_seq seq (kept ++ unparked e ∷ [])) (false-left (k.entry.seq == seq) (contains_seq seq kept) h)
+    none-or (k.entry.seq == seq) (contains_seq seq (kept ++ kept_unparked e ∷ [])) (false-left (k.entry.seq == seq) (contains_seq seq kept) h)
     (contains-more seq kept e (false-right (k.entry.seq == seq) (contains_seq seq kept) h) n)
 
-distinct-more : (used : ℕ) (kept : List Kept) (e : Entry) → AreSent used kept → used < e.seq → HasDistinctSeqs kept → HasDistinctSeqs (kept ++ unparked e ∷ [])
+distinct-more : (used : ℕ) (kept : List Kept) (e : Entry) → AreSent used kept → used < e.seq → HasDistinctSeqs kept → HasDistinctSeqs (kept ++ kept_unparked e ∷ [])
 distinct-more used [] e all h d = (refl, tt)
 distinct-more used (k ∷ kept) e all h d =
     let small = all.0 in
@@ -86,29 +86,29 @@ apart-unless : (b : Bool) (known : List (ReferenceKind × ℕ)) → HasDistinctP
 apart-unless true known h = tt
 apart-unless false known h = h
 
-known-changed : (o : Option Change) (s : Seen) (most : ℕ) → length s.known ≤ most → length (changed o s).known ≤ most
-known-changed None s most h = h
-known-changed (Some c) s most h = known-unless c.clears s.known most h
+known-after_change : (o : Option Change) (s : Seen) (most : ℕ) → length s.known ≤ most → length (after_change o s).known ≤ most
+known-after_change None s most h = h
+known-after_change (Some c) s most h = known-unless c.clears s.known most h
 
-apart-changed : (o : Option Change) (s : Seen) → HasDistinctPairs s.known → HasDistinctPairs (changed o s).known
-apart-changed None s h = h
-apart-changed (Some c) s h = apart-unless c.clears s.known h
+apart-after_change : (o : Option Change) (s : Seen) → HasDistinctPairs s.known → HasDistinctPairs (after_change o s).known
+apart-after_change None s h = h
+apart-after_change (Some c) s h = apart-unless c.clears s.known h
 
-known-answered : (o : Option Command) (n : ℕ) (ok : Bool) (body : Option Data) (s : Seen) (most : ℕ) → length (learned ok o body s) ≤ most → length s.known ≤ most → length (after_response n ok o body s).known ≤ most
-known-answered None n ok body s most h k = k
-known-answered (Some c) n ok body s most h k = known-changed (change_in (cause_of n c ok s) s.phase) (told ok c body s) most h
+known-made_by_answer : (o : Option Command) (n : ℕ) (ok : Bool) (body : Option Data) (s : Seen) (most : ℕ) → length (known_after ok o body s) ≤ most → length s.known ≤ most → length (after_response n ok o body s).known ≤ most
+known-made_by_answer None n ok body s most h k = k
+known-made_by_answer (Some c) n ok body s most h k = known-after_change (change_in (cause_of n c ok s) s.phase) (after_body ok c body s) most h
 
-apart-answered : KnownIsASet → (o : Option Command) (n : ℕ) (ok : Bool) (body : Option Data) (s : Seen) → HasDistinctPairs s.known → HasDistinctPairs (after_response n ok o body s).known
-apart-answered sets None n ok body s h = h
-apart-answered sets (Some c) n ok body s h = apart-changed (change_in (cause_of n c ok s) s.phase) (told ok c body s) (sets.distinct (lesson ok (Some c) body s.phase) s.known h)
+apart-made_by_answer : KnownIsASet → (o : Option Command) (n : ℕ) (ok : Bool) (body : Option Data) (s : Seen) → HasDistinctPairs s.known → HasDistinctPairs (after_response n ok o body s).known
+apart-made_by_answer sets None n ok body s h = h
+apart-made_by_answer sets (Some c) n ok body s h = apart-after_change (change_in (cause_of n c ok s) s.phase) (after_body ok c body s) (sets.distinct (references_of_success ok (Some c) body s.phase) s.known h)
 
 known-event : (o : Option _) (body : Option Data) (s : Seen) (most : ℕ) → length s.known ≤ most → length (after_event o body s).known ≤ most
 known-event None body s most h = h
-known-event (Some x) body s most h = known-changed (change_in (signalled x) s.phase) _ most h
+known-event (Some x) body s most h = known-after_change (change_in (signalled x) s.phase) _ most h
 
 apart-event : (o : Option _) (body : Option Data) (s : Seen) → HasDistinctPairs s.known → HasDistinctPairs (after_event o body s).known
 apart-event None body s h = h
-apart-event (Some x) body s h = apart-changed (change_in (signalled x) s.phase) _ h
+apart-event (Some x) body s h = apart-after_change (change_in (signalled x) s.phase) _ h
 
 -- ---- send
 
@@ -147,7 +147,7 @@ send-stays s c closed w e =
     let kept = room.kept in
     let used = room.used in
     let r : Entry = request_of (s.used + 1) c in
-    let long = length-append s.outstanding (unparked r ∷ []) in
+    let long = length-append s.outstanding (kept_unparked r ∷ []) in
     let next : s.used < r.seq = omega arith in
     let o : Option Change = change_in (sent _) s.seen.phase in
     record {
@@ -155,8 +155,8 @@ send-stays s c closed w e =
       outstanding = omega arith;
       sent = sent-more s.used r s.outstanding refl w.sent;
       used = omega arith;
-      apart = apart-changed o s.seen w.apart;
-      known = known-changed o s.seen s.limits.references w.known;
+      apart = apart-after_change o s.seen w.apart;
+      known = known-after_change o s.seen s.limits.references w.known;
     }
 
 -- ---- take
@@ -170,9 +170,9 @@ later n = omega arith
 abbrev Stays : Session → Made → Type 0
 Stays s made = IsWithin s → IsWithin made.after
 
-request-stays : (b : Bool) (seq : ℕ) (name : List ℕ) (s : Session) (made : Made) → nat_lt s.used s.limits.seq ≡ b → (if b then Ok (declined seq name s) else Err NoSeq) ≡ Ok made → Stays s made
+request-stays : (b : Bool) (seq : ℕ) (name : List ℕ) (s : Session) (made : Made) → nat_lt s.used s.limits.seq ≡ b → (if b then Ok (made_by_refusing seq name s) else Err NoSeq) ≡ Ok made → Stays s made
 request-stays true seq name s made is e w =
-    let same : declined seq name s ≡ made = cc in
+    let same : made_by_refusing seq name s ≡ made = cc in
     subst (λ (x : Made). IsWithin x.after) same (record {
       distinct = w.distinct;
       outstanding = w.outstanding;
@@ -183,11 +183,11 @@ request-stays true seq name s made is e w =
     })
 request-stays false seq name s made is e w = cc
 
-answered-stays : KnownIsASet → (b : Bool) (n : ℕ) (ok : Bool) (name : List ℕ) (body : Option Data) (s : Session) (made : Made)
-    → nat_le (length (learned ok (command_named name) body s.seen)) s.limits.references ≡ b
-    → (if b then Ok (answered n (after_response n ok (command_named name) body s.seen) s) else Err ReferenceLimit) ≡ Ok made → Stays s made
-answered-stays sets true n ok name body s made is e w =
-    let same : answered n (after_response n ok (command_named name) body s.seen) s ≡ made = cc in
+made_by_answer-stays : KnownIsASet → (b : Bool) (n : ℕ) (ok : Bool) (name : List ℕ) (body : Option Data) (s : Session) (made : Made)
+    → nat_le (length (known_after ok (command_named name) body s.seen)) s.limits.references ≡ b
+    → (if b then Ok (made_by_answer n (after_response n ok (command_named name) body s.seen) s) else Err ReferenceLimit) ≡ Ok made → Stays s made
+made_by_answer-stays sets true n ok name body s made is e w =
+    let same : made_by_answer n (after_response n ok (command_named name) body s.seen) s ≡ made = cc in
     let fewer = length-fewer n s.outstanding in
     let room = w.outstanding in
     subst (λ (x : Made). IsWithin x.after) same (record {
@@ -195,23 +195,23 @@ answered-stays sets true n ok name body s made is e w =
       outstanding = omega arith;
       sent = sent-fewer s.used n s.outstanding w.sent;
       used = w.used;
-      apart = apart-answered sets (command_named name) n ok body s.seen w.apart;
-      known = known-answered (command_named name) n ok body s.seen s.limits.references (leb-true (length (learned ok (command_named name) body s.seen)) s.limits.references is) w.known;
+      apart = apart-made_by_answer sets (command_named name) n ok body s.seen w.apart;
+      known = known-made_by_answer (command_named name) n ok body s.seen s.limits.references (leb-true (length (known_after ok (command_named name) body s.seen)) s.limits.references is) w.known;
     })
-answered-stays sets false n ok name body s made is e w = cc
+made_by_answer-stays sets false n ok name body s made is e w = cc
 
 matching-stays : KnownIsASet → (b : Bool) (n : ℕ) (ok : Bool) (name : List ℕ) (body : Option Data) (s : Session) (made : Made) → (if b then answered_within n ok name body s else Err (CommandMismatch n)) ≡ Ok made → Stays s made
-matching-stays sets true n ok name body s made e = answered-stays sets (nat_le (length (learned ok (command_named name) body s.seen)) s.limits.references) n ok name body s made refl e
+matching-stays sets true n ok name body s made e = made_by_answer-stays sets (nat_le (length (known_after ok (command_named name) body s.seen)) s.limits.references) n ok name body s made refl e
 matching-stays sets false n ok name body s made e = cc
 
 response-stays : KnownIsASet → (o : Option Entry) (n : ℕ) (ok : Bool) (name : List ℕ) (body : Option Data) (s : Session) (made : Made) → takes_answer o n ok name body s ≡ Ok made → Stays s made
 response-stays sets None n ok name body s made e = cc
 response-stays sets (Some r) n ok name body s made e = matching-stays sets (bytes_eq name r.command) n ok name body s made e
 
-quiet-stays : (s : Session) (seen : Seen) (made : Made) → (let given : Result Made ClientFault = Ok (silently (record s { seen = seen })) in given) ≡ Ok made
+quiet-stays : (s : Session) (seen : Seen) (made : Made) → (let given : Result Made ClientFault = Ok (made_without_writing (record s { seen = seen })) in given) ≡ Ok made
     → HasDistinctPairs seen.known → length seen.known ≤ s.limits.references → Stays s made
 quiet-stays s seen made e apart known w =
-    let same : silently (record s { seen = seen }) ≡ made = cc in
+    let same : made_without_writing (record s { seen = seen }) ≡ made = cc in
     subst (λ (x : Made). IsWithin x.after) same (record { distinct = w.distinct; outstanding = w.outstanding; sent = w.sent; used = w.used; apart = apart; known = known })
 
 kind-stays : KnownIsASet → (seq : ℕ) (kind : Kind) (s : Session) (made : Made) → takes_as seq kind s ≡ Ok made → Stays s made
@@ -237,15 +237,15 @@ keeps-answer : (o : Option Entry) (n : ℕ) (ok : Bool) (name : List ℕ) (body 
 keeps-answer None n ok name body s made e = cc
 keeps-answer (Some r) n ok name body s made e =
     keeps-if (bytes_eq name r.command) s (answered_within n ok name body s) (CommandMismatch n)
-    (keeps-if (nat_le (length (learned ok (command_named name) body s.seen)) s.limits.references) s (Ok (answered n (after_response n ok (command_named name) body s.seen) s)) ReferenceLimit
-    (keeps-ok s (answered n (after_response n ok (command_named name) body s.seen) s) refl))
+    (keeps-if (nat_le (length (known_after ok (command_named name) body s.seen)) s.limits.references) s (Ok (made_by_answer n (after_response n ok (command_named name) body s.seen) s)) ReferenceLimit
+    (keeps-ok s (made_by_answer n (after_response n ok (command_named name) body s.seen) s) refl))
     made e
 
 keeps-kind : (seq : ℕ) (kind : Kind) (s : Session) → Keeps s (takes_as seq kind s)
-keeps-kind seq (Request name arguments) s = keeps-if (nat_lt s.used s.limits.seq) s (Ok (declined seq name s)) NoSeq (keeps-ok s (declined seq name s) refl)
+keeps-kind seq (Request name arguments) s = keeps-if (nat_lt s.used s.limits.seq) s (Ok (made_by_refusing seq name s)) NoSeq (keeps-ok s (made_by_refusing seq name s) refl)
 keeps-kind seq (Response n ok name message body) s = keeps-answer (entry_with n s.outstanding) n ok name body s
-keeps-kind seq (Event event body) s = keeps-ok s (silently (record s { seen = after_event (signal_named event) body s.seen })) refl
-keeps-kind seq (Other tag) s = keeps-ok s (silently s) refl
+keeps-kind seq (Event event body) s = keeps-ok s (made_without_writing (record s { seen = after_event (signal_named event) body s.seen })) refl
+keeps-kind seq (Other tag) s = keeps-ok s (made_without_writing s) refl
 
 -- ---- the law
 

@@ -4,7 +4,7 @@ use Rattle.std.specs.Prelude.{◌==◌, ◌||◌, not, cond}
 use Rattle.std.proofs.lemmas.Bool.Decides.{nat_tests}
 use Rattle.std.proofs.lemmas.Bool.{eqb-true}
 use Rattle.std.proofs.lemmas.List.{map-append}
-use Rattle.dap_history.specs.History.{Asked, Answered, left_open}
+use Rattle.dap_history.specs.History.{Asked, Answered, without_answered}
 use Rattle.dap_tables.specs.Outstanding.{Kept, contains_seq, entry_with, without, HasDistinctSeqs}
 use Rattle.dap_tables.specs.declared.entry.Entry.{Entry as Request}
 use Rattle.dap_history.specs.Requests.{asked_of, asks}
@@ -20,7 +20,7 @@ pub false-right : (a b : Bool) → (a || b) ≡ false → b ≡ false
 false-right true b e = absurd (true≢false e)
 false-right false b e = e
 
-pub all_left : (open_requests : List Asked) → left_open None open_requests ≡ open_requests
+pub all_left : (open_requests : List Asked) → without_answered None open_requests ≡ open_requests
 all_left [] = refl
 all_left (q ∷ qs) = ap (λ (xs : List Asked). q ∷ xs) (all_left qs)
 
@@ -61,6 +61,6 @@ without-if : (b : Bool) (k : Kept) (qs : List Asked) (kept : List Kept) → qs �
 without-if true k qs kept e = e
 without-if false k qs kept e = ap (λ (xs : List Asked). asked_of k.entry ∷ xs) e
 
-pub left-without : (a : Answered) (kept : List Kept) → left_open (Some a) (asks kept) ≡ asks (without a.request_seq kept)
+pub left-without : (a : Answered) (kept : List Kept) → without_answered (Some a) (asks kept) ≡ asks (without a.request_seq kept)
 left-without a [] = refl
-left-without a (k ∷ kept) = without-if (k.entry.seq == a.request_seq) k (left_open (Some a) (asks kept)) (without a.request_seq kept) (left-without a kept)
+left-without a (k ∷ kept) = without-if (k.entry.seq == a.request_seq) k (without_answered (Some a) (asks kept)) (without a.request_seq kept) (left-without a kept)

@@ -13,7 +13,7 @@ use Rattle.dap_client.specs.declared.fault.ClientFault.{ClientFault}
 use Rattle.dap_client.specs.declared.fault.ClientFault.TheVariants.{Frame, Body, OutOfMemory}
 use Rattle.dap_client.specs.declared.fault.SendFault.{SendFault}
 use Rattle.dap_client.specs.declared.got.Got.{Got}
-use Rattle.dap_client.specs.End.{End}
+use Rattle.dap_client.specs.ClientState.{ClientState}
 use Rattle.dap_client.specs.Keeping.{IsWhyNotSent}
 use Rattle.dap_client.specs.Sending.{first_of, refusals_in_order}
 use Rattle.dap_client.specs.Session.{Session}
@@ -24,17 +24,17 @@ use Rattle.dap_reader.specs.Reader.{Reader}
 -- ---- send
 
 -- the first refusal that holds of a call
-abbrev pub refusal_of : Call → End → Option SendFault
+abbrev pub refusal_of : Call → ClientState → Option SendFault
 refusal_of c e = first_of refusals_in_order c (is_some e.fault) e.session
 
 -- why a call was not sent
-abbrev pub NotSent : SendFault → Call → End → Type 0
+abbrev pub NotSent : SendFault → Call → ClientState → Type 0
 NotSent f c e = IsWhyNotSent f c (is_some e.fault) e.session
 
 -- ---- take
 
 -- a message came whole, and this was made of it
-pub record Delivers (old : End) (piece : List ℕ) (got : Got) (m : Message) (new : End) : Type 0 where
+pub record Delivers (old : ClientState) (piece : List ℕ) (got : Got) (m : Message) (new : ClientState) : Type 0 where
   pub whole : Whole old.intake piece got.used
   pub read : Msg whole.ready.held m
   pub made : Made
@@ -46,13 +46,13 @@ pub record Delivers (old : End) (piece : List ℕ) (got : Got) (m : Message) (ne
   pub goes_on : GoesOn old new (take got.used piece) (In m ∷ entries_of made)
 
 -- the frame is still under way, and nothing else changed
-pub record Waits (old : End) (piece : List ℕ) (got : Got) (new : End) : Type 0 where
+pub record Waits (old : ClientState) (piece : List ℕ) (got : Got) (new : ClientState) : Type 0 where
   pub gathers : Gathers old.intake new.intake piece got.used
   pub none_written : got.bytes.items ≡ []
   pub session : new.session ≡ old.session
   pub goes_on : GoesOn old new piece []
 
-abbrev pub Takes : End → List ℕ → Got → Option Message → End → Type 0
+abbrev pub Takes : ClientState → List ℕ → Got → Option Message → ClientState → Type 0
 Takes old piece got None new = Waits old piece got new
 Takes old piece got (Some m) new = Delivers old piece got m new
 

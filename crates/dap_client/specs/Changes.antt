@@ -8,7 +8,7 @@ use Rattle.dap_client.specs.declared.phase.Phase.{Phase}
 use Rattle.dap_client.specs.declared.phase.Phase.TheVariants.{Fresh, Initializing, Configuring, Running, Stopped, Resuming, Exited, Ended}
 use Rattle.dap_client.specs.declared.signal.Signal.{Signal}
 use Rattle.dap_client.specs.declared.signal.Signal.TheVariants as signal
-use Rattle.dap_client.specs.Phases.{is_among, with_debuggee, configuring_to_exited, in_a_stop}
+use Rattle.dap_client.specs.Phases.{is_among, with_debuggee, configuring_to_exited, phases_in_a_stop}
 
 -- ---- events that count
 
@@ -37,27 +37,27 @@ pub data Cause : Type 0 where
   signalled : Signal → Cause
 
 -- in each of these phases it changes the phase so
-pub record Row : Type 0 where
+pub record ChangeRow : Type 0 where
   pub from : List Phase
   pub change : Change
 
-abbrev pub leads : List Phase → Phase → Row
+abbrev pub leads : List Phase → Phase → ChangeRow
 leads from to = record { from = from; change = record { to = to; clears = false } }
 
 -- and all references die
-abbrev pub leads_and_clears : List Phase → Phase → Row
+abbrev pub leads_and_clears : List Phase → Phase → ChangeRow
 leads_and_clears from to = record { from = from; change = record { to = to; clears = true } }
 
 -- from Stopped, until it is answered
-abbrev pub resumes : List Row
+abbrev pub resumes : List ChangeRow
 resumes = leads (Stopped ∷ []) Resuming ∷ []
 
-abbrev pub ends_debuggee : List Row
+abbrev pub ends_debuggee : List ChangeRow
 ends_debuggee = leads_and_clears with_debuggee Exited ∷ []
 
 -- ---- the table
 
-abbrev pub changes_sent : Command → List Row
+abbrev pub changes_sent : Command → List ChangeRow
 changes_sent command.Initialize = leads (Fresh ∷ []) Initializing ∷ []
 changes_sent command.Continue = resumes
 changes_sent command.Next = resumes
@@ -70,22 +70,22 @@ changes_sent command.Restart = resumes
 changes_sent command.Disconnect = leads_and_clears configuring_to_exited Ended ∷ []
 changes_sent _ = []
 
-abbrev pub changes_answered : Command → Bool → List Row
+abbrev pub changes_answered : Command → Bool → List ChangeRow
 changes_answered command.Initialize true = leads (Initializing ∷ []) Configuring ∷ []
 changes_answered command.Initialize false = leads (Initializing ∷ []) Fresh ∷ []
 changes_answered command.Launch true = leads (Configuring ∷ []) Running ∷ []
 changes_answered command.Attach true = leads (Configuring ∷ []) Running ∷ []
 changes_answered _ _ = []
 
-abbrev pub changes_signalled : Signal → List Row
+abbrev pub changes_signalled : Signal → List ChangeRow
 changes_signalled signal.Stopped = leads (Configuring ∷ Running ∷ []) Stopped ∷ leads_and_clears (Resuming ∷ []) Stopped ∷ []
-changes_signalled signal.Continued = leads_and_clears in_a_stop Running ∷ []
+changes_signalled signal.Continued = leads_and_clears phases_in_a_stop Running ∷ []
 changes_signalled signal.Exited = ends_debuggee
 changes_signalled signal.Terminated = ends_debuggee
 changes_signalled signal.Initialized = []
 changes_signalled signal.Capabilities = []
 
-abbrev pub changes_of : Cause → List Row
+abbrev pub changes_of : Cause → List ChangeRow
 changes_of (sent c) = changes_sent c
 changes_of (resumed true) = leads_and_clears (Resuming ∷ []) Running ∷ []
 changes_of (resumed false) = leads (Resuming ∷ []) Stopped ∷ []

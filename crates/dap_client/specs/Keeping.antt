@@ -5,7 +5,7 @@ use Rattle.dap_json.specs.Field.{max_seq}
 use Rattle.dap_message.specs.ReadBack.{AllReadBack}
 use Rattle.dap_message.specs.Types.Call.{Call}
 use Rattle.dap_tables.specs.Known.{KnownReferences}
-use Rattle.dap_tables.specs.Outstanding.{KeptRequests, IsOrderly}
+use Rattle.dap_tables.specs.Outstanding.{KeptRequests, IsOrderlyRequests}
 use Rattle.dap_tables.specs.Seq.{Numbers}
 use Rattle.dap_tables.specs.declared.entry.Entry.{Entry as Waiting}
 use Rattle.dap_client.specs.declared.fault.ClientFault.{ClientFault}
@@ -21,7 +21,7 @@ use Rattle.dap_client.specs.Within.{AreSent}
 pub record IsSession (limits : Settings) (known : KnownReferences) (table : KeptRequests) (numbers : Numbers) : Type 0 where
   pub known_room : known.room ≡ limits.references
   pub room : table.room ≡ limits.requests
-  pub orderly : IsOrderly table
+  pub orderly : IsOrderlyRequests table
   pub last : numbers.last ≡ limits.seq
   pub used : numbers.used ≤ numbers.last
   pub greatest : limits.seq ≤ max_seq
@@ -42,9 +42,9 @@ IsWhyNotSent f c closed s = first_of refusals_in_order c closed s ≡ Some f
 -- ---- taking
 
 -- whether a response answers the request that waits, if one does
-abbrev pub matched : Option Waiting → ℕ → List ℕ → Result (Unit {0}) ClientFault
-matched None request_seq command = Err (Unmatched request_seq)
-matched (Some r) request_seq command = if bytes_eq command r.command then Ok tt else Err (CommandMismatch request_seq)
+abbrev pub match_result : Option Waiting → ℕ → List ℕ → Result (Unit {0}) ClientFault
+match_result None request_seq command = Err (Unmatched request_seq)
+match_result (Some r) request_seq command = if bytes_eq command r.command then Ok tt else Err (CommandMismatch request_seq)
 
 -- what was made of a message
 abbrev pub IsMade : Result Made ClientFault → Session → List ℕ → Type 0

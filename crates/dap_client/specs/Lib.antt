@@ -8,10 +8,10 @@ pub mod Sending
 pub mod Taking
 pub mod Follows
 pub mod Within
-pub mod End
+pub mod ClientState
 pub mod StandsFor
 pub mod Laws
-pub mod Seat
+pub mod ClientAbstraction
 pub mod Keeping
-pub mod Receives
+pub mod PrivateReceives
 pub mod Calls

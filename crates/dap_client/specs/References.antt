@@ -3,7 +3,7 @@
 use Rattle.std.specs.Prelude.{ℕ, List, [], ◌∷◌, map, Bool, Option, Some, None}
 use Rattle.std.specs.List.{list_all}
 use Rattle.serde_json.specs.Data.{Data}
-use Rattle.dap_message.specs.Given.{frame_ids, holders_of}
+use Rattle.dap_message.specs.GivenReferences.{frame_ids, holders_of}
 use Rattle.dap_message.specs.Types.Call.{Call}
 use Rattle.dap_message.specs.Types.Call.TheVariants as call
 use Rattle.dap_message.specs.Types.Command.{Command}
@@ -25,26 +25,26 @@ abbrev pub optional_frame : Option ℕ → List (ReferenceKind × ℕ)
 optional_frame None = []
 optional_frame (Some n) = frame n ∷ []
 
-abbrev pub used_by : Call → List (ReferenceKind × ℕ)
-used_by (call.Scopes n) = frame n ∷ []
-used_by (call.Evaluate a) = optional_frame a.frame_id
-used_by (call.Completions a) = optional_frame a.frame_id
-used_by (call.Variables a) = holder a.variables_reference ∷ []
-used_by (call.SetVariable a) = holder a.variables_reference ∷ []
-used_by _ = []
+abbrev pub references_used_by : Call → List (ReferenceKind × ℕ)
+references_used_by (call.Scopes n) = frame n ∷ []
+references_used_by (call.Evaluate a) = optional_frame a.frame_id
+references_used_by (call.Completions a) = optional_frame a.frame_id
+references_used_by (call.Variables a) = holder a.variables_reference ∷ []
+references_used_by (call.SetVariable a) = holder a.variables_reference ∷ []
+references_used_by _ = []
 
 -- all that it uses is known, in its kind
 abbrev pub are_known : Call → List (ReferenceKind × ℕ) → Bool
-are_known c known = list_all (λ p. has_pair p known) (used_by c)
+are_known c known = list_all (λ p. has_pair p known) (references_used_by c)
 
 -- ---- what a response gives
 
-abbrev pub given_by : Command → Data → List (ReferenceKind × ℕ)
-given_by command.StackTrace body = map frame (frame_ids body)
-given_by c body = map holder (holders_of c body)
+abbrev pub references_given_by : Command → Data → List (ReferenceKind × ℕ)
+references_given_by command.StackTrace body = map frame (frame_ids body)
+references_given_by c body = map holder (holders_of c body)
 
 -- the body of a success to a command that is known
-abbrev pub given_in : Option Command → Option Data → List (ReferenceKind × ℕ)
-given_in None body = []
-given_in (Some c) None = []
-given_in (Some c) (Some body) = given_by c body
+abbrev pub references_given_in : Option Command → Option Data → List (ReferenceKind × ℕ)
+references_given_in None body = []
+references_given_in (Some c) None = []
+references_given_in (Some c) (Some body) = references_given_by c body

@@ -5,7 +5,7 @@ use Rattle.serde_json.specs.Data.{Data}
 use Rattle.dap_json.specs.Field.{tree_at}
 use Rattle.dap_message.specs.Capabilities.{offered_by, updated_by}
 use Rattle.dap_message.specs.Command.{command_named}
-use Rattle.dap_history.specs.History.{Entry, In, Out, Drop}
+use Rattle.dap_history.specs.History.{Entry, In, Out, ReferencesEnd}
 use Rattle.dap_message.specs.Types.Capabilities.{Capabilities}
 use Rattle.dap_message.specs.Types.Command.{Command}
 use Rattle.dap_message.specs.Types.Command.TheVariants as command
@@ -15,12 +15,12 @@ use Rattle.dap_tables.specs.declared.reference_kind.ReferenceKind.{ReferenceKind
 use Rattle.dap_tables.specs.Known.{with_pairs}
 use Rattle.dap_client.specs.declared.phase.Phase.{Phase}
 use Rattle.dap_client.specs.declared.phase.Phase.TheVariants.{Fresh, Initializing, Resuming}
-use Rattle.dap_client.specs.Phases.{is_phase, is_among, in_a_stop}
+use Rattle.dap_client.specs.Phases.{is_phase, is_among, phases_in_a_stop}
 use Rattle.dap_client.specs.declared.change.Change.{Change}
 use Rattle.dap_client.specs.declared.signal.Signal.{Signal}
 use Rattle.dap_client.specs.declared.signal.Signal.TheVariants as signal
 use Rattle.dap_client.specs.Changes.{signal_named, Cause, sent, resumed, answered, signalled, change_in}
-use Rattle.dap_client.specs.References.{given_in}
+use Rattle.dap_client.specs.References.{references_given_in}
 
 pub record Seen : Type 0 where
   pub phase : Phase
@@ -43,9 +43,9 @@ kept_unless true known = []
 kept_unless false known = known
 
 -- without a row nothing changes
-abbrev pub changed : Option Change → Seen → Seen
-changed None s = s
-changed (Some c) s = record s { phase = c.to; known = kept_unless c.clears s.known }
+abbrev pub after_change : Option Change → Seen → Seen
+after_change None s = s
+after_change (Some c) s = record s { phase = c.to; known = kept_unless c.clears s.known }
 
 -- whose number it is, where the phase becomes Resuming
 abbrev pub resumer_by : Option Change → ℕ → ℕ → ℕ
@@ -55,7 +55,7 @@ resumer_by (Some c) seq before = if is_phase Resuming c.to then seq else before
 -- ---- a request was sent
 
 abbrev pub after_sent : ℕ → Command → Seen → Seen
-after_sent seq c s = record (changed (change_in (sent c) s.phase) s) { resumer = resumer_by (change_in (sent c) s.phase) seq s.resumer }
+after_sent seq c s = record (after_change (change_in (sent c) s.phase) s) { resumer = resumer_by (change_in (sent c) s.phase) seq s.resumer }
 
 abbrev pub after_request : ℕ → Option Command → Seen → Seen
 after_request seq None s = s
@@ -68,27 +68,27 @@ abbrev pub cause_of : ℕ → Command → Bool → Seen → Cause
 cause_of request_seq c ok s = if is_phase Resuming s.phase && (request_seq == s.resumer) then resumed ok else answered c ok
 
 -- a success gives references in a stop, and in no other phase
-abbrev pub lesson : Bool → Option Command → Option Data → Phase → List (ReferenceKind × ℕ)
-lesson ok c body phase = if ok && is_among phase in_a_stop then given_in c body else []
+abbrev pub references_of_success : Bool → Option Command → Option Data → Phase → List (ReferenceKind × ℕ)
+references_of_success ok c body phase = if ok && is_among phase phases_in_a_stop then references_given_in c body else []
 
 -- the references known then, each once
-abbrev pub learned : Bool → Option Command → Option Data → Seen → List (ReferenceKind × ℕ)
-learned ok c body s = with_pairs (lesson ok c body s.phase) s.known
+abbrev pub known_after : Bool → Option Command → Option Data → Seen → List (ReferenceKind × ℕ)
+known_after ok c body s = with_pairs (references_of_success ok c body s.phase) s.known
 
 abbrev pub is_initialize : Command → Bool
 is_initialize command.Initialize = true
 is_initialize _ = false
 
 -- the success of `initialize` says what the adapter offers
-abbrev pub offered : Bool → Command → Option Data → Seen → Capabilities
-offered ok c body s = if is_phase Initializing s.phase && (ok && is_initialize c) then offered_by body else s.capabilities
+abbrev pub capabilities_after : Bool → Command → Option Data → Seen → Capabilities
+capabilities_after ok c body s = if is_phase Initializing s.phase && (ok && is_initialize c) then offered_by body else s.capabilities
 
 -- it says something new, and then the phase changes
-abbrev pub told : Bool → Command → Option Data → Seen → Seen
-told ok c body s = record s { capabilities = offered ok c body s; known = learned ok (Some c) body s }
+abbrev pub after_body : Bool → Command → Option Data → Seen → Seen
+after_body ok c body s = record s { capabilities = capabilities_after ok c body s; known = known_after ok (Some c) body s }
 
 abbrev pub after_answer : ℕ → Bool → Command → Option Data → Seen → Seen
-after_answer request_seq ok c body s = changed (change_in (cause_of request_seq c ok s) s.phase) (told ok c body s)
+after_answer request_seq ok c body s = after_change (change_in (cause_of request_seq c ok s) s.phase) (after_body ok c body s)
 
 abbrev pub after_response : ℕ → Bool → Option Command → Option Data → Seen → Seen
 after_response request_seq ok None body s = s
@@ -105,12 +105,12 @@ abbrev pub updated_from : Option Data → Capabilities → Capabilities
 updated_from None c = c
 updated_from (Some d) c = updated_by d c
 
-abbrev pub updated : Signal → Option Data → Capabilities → Capabilities
-updated signal.Capabilities body c = updated_from (option_and_then (tree_at (codes "capabilities")) body) c
-updated _ body c = c
+abbrev pub capabilities_after_event : Signal → Option Data → Capabilities → Capabilities
+capabilities_after_event signal.Capabilities body c = updated_from (option_and_then (tree_at (codes "capabilities")) body) c
+capabilities_after_event _ body c = c
 
 abbrev pub after_signal : Signal → Option Data → Seen → Seen
-after_signal x body s = changed (change_in (signalled x) s.phase) (record s { ready = is_ready_after x s.ready; capabilities = updated x body s.capabilities })
+after_signal x body s = after_change (change_in (signalled x) s.phase) (record s { ready = is_ready_after x s.ready; capabilities = capabilities_after_event x body s.capabilities })
 
 -- other events change nothing
 abbrev pub after_event : Option Signal → Option Data → Seen → Seen
@@ -134,7 +134,7 @@ after_out seq (Other tag) s = s
 abbrev pub seen_then : Entry → Seen → Seen
 seen_then (In m) s = after_in m.kind s
 seen_then (Out m names) s = after_out m.seq m.kind s
-seen_then Drop s = s
+seen_then ReferencesEnd s = s
 
 abbrev pub seen_after : Seen → List Entry → Seen
 seen_after s [] = s

@@ -9,7 +9,7 @@ use Rattle.dap_message.specs.Command.{name_of}
 use Rattle.dap_message.specs.Types.Call.{Call}
 use Rattle.dap_message.specs.declared.message.Message.{Message}
 use Rattle.dap_message.specs.declared.message.Kind.TheVariants.{Request}
-use Rattle.dap_tables.specs.Outstanding.{unparked}
+use Rattle.dap_tables.specs.Outstanding.{kept_unparked}
 use Rattle.dap_tables.specs.declared.entry.Entry.{Entry}
 use Rattle.dap_client.specs.declared.fault.SendFault.{SendFault}
 use Rattle.dap_client.specs.declared.fault.SendFault.TheVariants as fault
@@ -67,4 +67,4 @@ first_of faults c closed s = find (λ f. holds f c closed s) faults
 -- ---- the session afterwards
 
 abbrev pub after_send : Call → Session → Session
-after_send c s = record s { seen = after_sent (s.used + 1) (command_of c) s.seen; outstanding = s.outstanding ++ unparked (request_of (s.used + 1) c) ∷ []; used = s.used + 1 }
+after_send c s = record s { seen = after_sent (s.used + 1) (command_of c) s.seen; outstanding = s.outstanding ++ kept_unparked (request_of (s.used + 1) c) ∷ []; used = s.used + 1 }

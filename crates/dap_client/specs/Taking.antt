@@ -7,7 +7,7 @@ use Rattle.dap_frame.specs.Written.{frame_of}
 use Rattle.dap_message.specs.Canon.{canon}
 use Rattle.dap_message.specs.Command.{command_named}
 use Rattle.dap_history.specs.History.{Entry, Out}
-use Rattle.dap_message.specs.Lengths.{failed}
+use Rattle.dap_message.specs.AdapterMessages.{failure_response}
 use Rattle.dap_message.specs.Types.Failure.TheVariants.{Unsupported}
 use Rattle.dap_message.specs.declared.message.Message.{Message}
 use Rattle.dap_message.specs.declared.message.Kind.{Kind}
@@ -17,7 +17,7 @@ use Rattle.dap_tables.specs.declared.entry.Entry.{Entry as Waiting}
 use Rattle.dap_client.specs.declared.fault.ClientFault.{ClientFault}
 use Rattle.dap_client.specs.declared.fault.ClientFault.TheVariants.{Unmatched, CommandMismatch, ReferenceLimit, SeqExhausted}
 use Rattle.dap_client.specs.Changes.{signal_named}
-use Rattle.dap_client.specs.Seen.{Seen, learned, after_response, after_event}
+use Rattle.dap_client.specs.Seen.{Seen, known_after, after_response, after_event}
 use Rattle.dap_client.specs.Session.{Session}
 
 -- what is written, and the session afterwards
@@ -26,8 +26,8 @@ pub record Made : Type 0 where
   pub after : Session
 
 -- nothing is written
-abbrev pub silently : Session → Made
-silently s = record { written = []; after = s }
+abbrev pub made_without_writing : Session → Made
+made_without_writing s = record { written = []; after = s }
 
 -- as it stands in a history
 abbrev pub entries_of : Made → List Entry
@@ -40,23 +40,23 @@ bytes_of m = flat_map (λ written. frame_of (canon written)) m.written
 -- ---- a request of the adapter
 
 -- answered at once
-abbrev pub declined : ℕ → List ℕ → Session → Made
-declined seq command s = record { written = failed (s.used + 1) seq command Unsupported ∷ []; after = record s { used = s.used + 1 } }
+abbrev pub made_by_refusing : ℕ → List ℕ → Session → Made
+made_by_refusing seq command s = record { written = failure_response (s.used + 1) seq command Unsupported ∷ []; after = record s { used = s.used + 1 } }
 
 abbrev pub takes_request : ℕ → List ℕ → Session → Result Made ClientFault
-takes_request seq command s = if nat_lt s.used s.limits.seq then Ok (declined seq command s) else Err SeqExhausted
+takes_request seq command s = if nat_lt s.used s.limits.seq then Ok (made_by_refusing seq command s) else Err SeqExhausted
 
 -- ---- a response
 
 -- its request is answered
-abbrev pub answered : ℕ → Seen → Session → Made
-answered request_seq seen s = silently (record s { seen = seen; outstanding = without request_seq s.outstanding })
+abbrev pub made_by_answer : ℕ → Seen → Session → Made
+made_by_answer request_seq seen s = made_without_writing (record s { seen = seen; outstanding = without request_seq s.outstanding })
 
 -- unless more references would be known than there may be
 abbrev pub answered_within : ℕ → Bool → List ℕ → Option Data → Session → Result Made ClientFault
 answered_within request_seq ok command body s =
-    if nat_le (length (learned ok (command_named command) body s.seen)) s.limits.references
-    then Ok (answered request_seq (after_response request_seq ok (command_named command) body s.seen) s)
+    if nat_le (length (known_after ok (command_named command) body s.seen)) s.limits.references
+    then Ok (made_by_answer request_seq (after_response request_seq ok (command_named command) body s.seen) s)
     else Err ReferenceLimit
 
 -- of the request that waits, if one does
@@ -69,8 +69,8 @@ takes_answer (Some r) request_seq ok command body s = if bytes_eq command r.comm
 abbrev pub takes_as : ℕ → Kind → Session → Result Made ClientFault
 takes_as seq (Request command arguments) s = takes_request seq command s
 takes_as seq (Response request_seq ok command message body) s = takes_answer (entry_with request_seq s.outstanding) request_seq ok command body s
-takes_as seq (Event event body) s = Ok (silently (record s { seen = after_event (signal_named event) body s.seen }))
-takes_as seq (Other tag) s = Ok (silently s)
+takes_as seq (Event event body) s = Ok (made_without_writing (record s { seen = after_event (signal_named event) body s.seen }))
+takes_as seq (Other tag) s = Ok (made_without_writing s)
 
 -- what a delivered message comes to, or why it closes the client
 abbrev pub takes : Message → Session → Result Made ClientFault

@@ -4,7 +4,7 @@ ghost use Rattle.dap_history.specs.History.{Entry, Out, Went, waiting};
 ghost use Rattle.dap_message.specs.PlainCall.{is_plain_call};
 ghost use Rattle.dap_message.specs.ReadBack.{ReadsBack};
 ghost use Rattle.dap_client.specs.Calls.{refusal_of, NotSent, Takes, TakeRefused};
-ghost use Rattle.dap_client.specs.Receives.{HasReceived, IsBy};
+ghost use Rattle.dap_client.specs.PrivateReceives.{HasReceived, IsBy};
 ghost use Rattle.dap_reader.specs.declared.fault.ReadFault.{ReadFault};
 ghost use Rattle.dap_client.specs.Seen.{phase_in, ready_in, capabilities_in, references_in};
 ghost use Rattle.dap_client.specs.Sending.{next_message, sent_bytes, after_send};
@@ -35,10 +35,10 @@ pub struct Client {
 impl Model for Client {
     ghost use Rattle.std.specs.Coded.{codes};
     ghost use Rattle.dap_json.specs.Stored.{coded_data};
-    ghost use Rattle.dap_client.specs.End.{End};
+    ghost use Rattle.dap_client.specs.ClientState.{ClientState};
     ghost use Rattle.dap_client.specs.Calls.{IsClient};
 
-    ghost Value = { End };
+    ghost Value = { ClientState };
 
     ghost coded = { Prim.hlevel (codes, coded_data) };
 

@@ -1,6 +1,6 @@
 //! Laws of the definitions, each on a function with nothing to run.
 ghost use Rattle.dap_client.specs.Laws.{EachNameIsShort, EachStepGoesOn};
-ghost use Rattle.dap_client.specs.Seat.{EachStepProjects};
+ghost use Rattle.dap_client.specs.ClientAbstraction.{EachStepProjects};
 ghost use Rattle.dap_client.specs.Within.{EachStepStaysWithin};
 
 use dap_history::laws::histories_grow;
@@ -24,7 +24,7 @@ pub fn each_step_stays_within()
     known_is_a_set();
 }
 
-/// Each step is one of the smaller client, `Seat`, which sees classes of commands in place of commands, and of the state
+/// Each step is one of the smaller client, `ClientAbstraction`, which sees classes of commands in place of commands, and of the state
 /// the phase, `ready`, the numbers, the outstanding requests and the references alone; a message closes both or neither, and
 /// of a call that is not refused no refusal holds. A law over both ends goes by that.
 pub fn each_step_projects()

@@ -2,8 +2,8 @@
 ghost use Rattle.std.specs.Prelude.{◌≡◌, ◌+◌, ◌≤◌, ◌<◌, [], ◌∷◌, ◌++◌, length, IfOk, false};
 ghost use Rattle.std.specs.Option.{option_copied};
 ghost use Rattle.dap_json.specs.Field.{max_seq};
-ghost use Rattle.dap_tables.specs.Outstanding.{contains_seq, entry_with, unparked, without, IsOrderly};
-ghost use Rattle.dap_client.specs.Seen.{changed};
+ghost use Rattle.dap_tables.specs.Outstanding.{contains_seq, entry_with, kept_unparked, without, IsOrderlyRequests};
+ghost use Rattle.dap_client.specs.Seen.{after_change};
 ghost use Rattle.dap_client.specs.Session.{fresh_session};
 
 use crate::change::Change;
@@ -121,7 +121,7 @@ impl Session {
 
     /// Makes a change of the phase, if there is one.
     pub(crate) fn change(&mut self, change: Option<Change>)
-        ensures { self.new ≡ record self.old { seen = changed change self.old.seen } }
+        ensures { self.new ≡ record self.old { seen = after_change change self.old.seen } }
     {
         if let Some(change) = change {
             self.phase = change.to;
@@ -136,7 +136,7 @@ impl Session {
         requires number { entry.seq ≡ self.old.used + 1 }
         requires left { self.old.used < self.old.limits.seq }
         requires room { length self.old.outstanding < self.old.limits.requests }
-        ensures { self.new ≡ record self.old { outstanding = self.old.outstanding ++ unparked entry ∷ []; used = self.old.used + 1 } }
+        ensures { self.new ≡ record self.old { outstanding = self.old.outstanding ++ kept_unparked entry ∷ []; used = self.old.used + 1 } }
     {
         put_in(&mut self.outstanding, entry);
         let _ = self.numbers.next();
@@ -154,8 +154,8 @@ impl Session {
 fn put_in(outstanding: &mut Outstanding, request: Entry)
     requires new { contains_seq request.seq outstanding.old.kept ≡ false }
     requires room { length outstanding.old.kept < outstanding.old.room }
-    ensures kept { outstanding.new ≡ record outstanding.old { kept = outstanding.old.kept ++ unparked request ∷ [] } }
-    ensures orderly { IsOrderly outstanding.new }
+    ensures kept { outstanding.new ≡ record outstanding.old { kept = outstanding.old.kept ++ kept_unparked request ∷ [] } }
+    ensures orderly { IsOrderlyRequests outstanding.new }
 {
     match outstanding.put(request) {
         Ok(()) => {}

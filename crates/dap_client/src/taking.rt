@@ -4,23 +4,23 @@ ghost use Rattle.dap_json.specs.Field.{max_seq, tree_at};
 ghost use Rattle.dap_frame.specs.Written.{frame_of};
 ghost use Rattle.dap_message.specs.Canon.{canon};
 ghost use Rattle.dap_message.specs.InRange.{IsInRange};
-ghost use Rattle.dap_message.specs.Lengths.{failed};
+ghost use Rattle.dap_message.specs.AdapterMessages.{failure_response};
 ghost use Rattle.dap_message.specs.Meaning.{Msg};
 ghost use Rattle.dap_message.specs.Refusals.{max_command};
 ghost use Rattle.dap_message.specs.Types.Failure.{Failure};
 ghost use Rattle.dap_tables.specs.Outstanding.{entry_with};
 ghost use Rattle.dap_client.specs.Changes.{change_in, signal_named};
-ghost use Rattle.dap_client.specs.Keeping.{matched, AreReadBack, IsMade, IsWhyClosed, IsWhyUnlearned};
+ghost use Rattle.dap_client.specs.Keeping.{match_result, AreReadBack, IsMade, IsWhyClosed, IsWhyUnlearned};
 ghost use Rattle.dap_client.specs.declared.phase.Phase.TheVariants.{Initializing};
 ghost use Rattle.dap_message.specs.Capabilities.{offered_by};
-ghost use Rattle.dap_client.specs.Phases.{is_phase, is_among, in_a_stop};
-ghost use Rattle.dap_client.specs.Seen.{is_initialize, lesson, learned, offered, cause_of, changed, told, after_answer, after_signal, after_event, updated_from, is_ready_after};
+ghost use Rattle.dap_client.specs.Phases.{is_phase, is_among, phases_in_a_stop};
+ghost use Rattle.dap_client.specs.Seen.{is_initialize, references_of_success, known_after, capabilities_after, cause_of, after_change, after_body, after_answer, after_signal, after_event, updated_from, is_ready_after};
 ghost use Rattle.dap_client.specs.Taking.{takes, takes_answer, takes_request};
 
 use crate::changes;
 use crate::fault::ClientFault;
-use crate::giving::given_in;
 use crate::phase::Phase;
+use crate::response_references::references_given_in;
 use crate::session::Session;
 use crate::signal::Signal;
 use dap_frame::write_frame;
@@ -31,7 +31,7 @@ use std::alloc::{AllocError, Global};
 
 /// Whether references are known in a phase.
 fn is_in_a_stop(phase: Phase) -> bool
-    ensures { result ≡ is_among phase in_a_stop }
+    ensures { result ≡ is_among phase phases_in_a_stop }
 {
     match phase {
         Phase::Stopped => true,
@@ -48,10 +48,10 @@ fn lesson(
     body: &Option<Tree>,
     phase: Phase,
 ) -> Result<Vec<(ReferenceKind, u32)>, AllocError>
-    ensures { IfOk result (λ pairs. pairs.items ≡ lesson success command body.now phase) }
+    ensures { IfOk result (λ pairs. pairs.items ≡ references_of_success success command body.now phase) }
 {
     if success && is_in_a_stop(phase) {
-        given_in(alloc, command, body)
+        references_given_in(alloc, command, body)
     } else {
         Ok(Vec::new(alloc))
     }
@@ -87,7 +87,7 @@ fn offered(
 impl Session {
     /// Whether a response answers the request that waits, if one does.
     fn matches(&self, request_seq: u64, command: &Text) -> Result<(), ClientFault>
-        ensures { result ≡ matched (entry_with request_seq self.now.outstanding) request_seq command.now }
+        ensures { result ≡ match_result (entry_with request_seq self.now.outstanding) request_seq command.now }
     {
         match self.waiting(request_seq) {
             None => Err(ClientFault::Unmatched { request_seq }),
@@ -109,9 +109,9 @@ impl Session {
         command: Option<Command>,
         body: &Option<Tree>,
     ) -> Result<(), ClientFault>
-        ensures ok { OnOk result (self.new ≡ record self.old { seen = record self.old.seen { known = learned success command body.now self.old.seen } }) }
-        ensures within { OnOk result (length (learned success command body.now self.old.seen) ≤ self.old.limits.references) }
-        ensures refused { IfErr result (λ fault. IsWhyUnlearned fault self.old.limits.references (length (learned success command body.now self.old.seen))) }
+        ensures ok { OnOk result (self.new ≡ record self.old { seen = record self.old.seen { known = known_after success command body.now self.old.seen } }) }
+        ensures within { OnOk result (length (known_after success command body.now self.old.seen) ≤ self.old.limits.references) }
+        ensures refused { IfErr result (λ fault. IsWhyUnlearned fault self.old.limits.references (length (known_after success command body.now self.old.seen))) }
         ensures err { OnErr result (self.new ≡ self.old) }
     {
         let pairs = lesson(alloc, success, command, body, self.phase)?;
@@ -130,7 +130,7 @@ impl Session {
         command: Command,
         body: &Option<Tree>,
     )
-        ensures { self.new ≡ record self.old { seen = changed (change_in (cause_of request_seq command success self.old.seen) self.old.seen.phase) (record self.old.seen { capabilities = offered success command body.now self.old.seen }) } }
+        ensures { self.new ≡ record self.old { seen = after_change (change_in (cause_of request_seq command success self.old.seen) self.old.seen.phase) (record self.old.seen { capabilities = capabilities_after success command body.now self.old.seen }) } }
     {
         let resumes = self.phase == Phase::Resuming && request_seq == self.resumer;
         let change = if resumes {
@@ -240,8 +240,8 @@ impl Session {
 
 /// The answer to a request of the adapter, as it is written.
 fn declined(alloc: Global, number: u64, seq: u64, command: &Text) -> Result<Vec<u8>, AllocError>
-    ensures bytes { IfOk result (λ bytes. bytes.items ≡ frame_of (canon (failed number seq command.now Failure.Unsupported))) }
-    ensures reads_back { OnOk result (number ≤ max_seq → seq ≤ max_seq → length command.now ≤ max_command → Msg (canon (failed number seq command.now Failure.Unsupported)) (failed number seq command.now Failure.Unsupported)) }
+    ensures bytes { IfOk result (λ bytes. bytes.items ≡ frame_of (canon (failure_response number seq command.now Failure.Unsupported))) }
+    ensures reads_back { OnOk result (number ≤ max_seq → seq ≤ max_seq → length command.now ≤ max_command → Msg (canon (failure_response number seq command.now Failure.Unsupported)) (failure_response number seq command.now Failure.Unsupported)) }
 {
     let text = write_failure(alloc, number, seq, command.as_str(), Failure::Unsupported)?;
     let mut bytes = Vec::new(alloc);

@@ -7,7 +7,7 @@ use Rattle.serde_json.specs.Find.{get, get_member, as_array}
 use Rattle.serde_json.specs.View.{view, items_view}
 use Rattle.serde_json.specs.declared.value.Value.{Value}
 use Rattle.dap_json.specs.Steps.{◌>>=◌}
-use Rattle.dap_debuggee.specs.Reading.{Read, Holders, Says, listed, variable_of, variables_of, each_variable, variables_within, variable_row}
+use Rattle.dap_debuggee.specs.Reading.{Read, Holders, Says, read_variables, variable_of, variables_of, each_variable, variables_within, variable_row}
 use Rattle.dap_debuggee.specs.RecordingKey.{name_of}
 use Rattle.dap_debuggee.specs.declared.answers.Variable.{Variable}
 use Rattle.dap_debuggee.specs.declared.reading.RecordingFault.{RecordingFault}
@@ -15,13 +15,13 @@ use Rattle.dap_debuggee.specs.declared.reading.RecordingFault.TheVariants as fau
 use Rattle.dap_debuggee.specs.declared.reading.RecordingKey.{RecordingKey}
 use Rattle.dap_debuggee.specs.declared.reading.RecordingKey.TheVariants as key
 
-by_order : (o : Ordering) (rest : Read (List Variable × Holders)) (found : Option Data) (d : Data) (holders : Holders) → rest ≡ listed found holders
-    → match_ordering o rest (variables_of d holders) rest ≡ listed (match_ordering o found (Some d) found) holders
+by_order : (o : Ordering) (rest : Read (List Variable × Holders)) (found : Option Data) (d : Data) (holders : Holders) → rest ≡ read_variables found holders
+    → match_ordering o rest (variables_of d holders) rest ≡ read_variables (match_ordering o found (Some d) found) holders
 by_order Less rest found d holders e = e
 by_order Equal rest found d holders e = refl
 by_order Greater rest found d holders e = e
 
-pub within_is_listed : (ms : Members) (holders : Holders) → variables_within ms holders ≡ listed (get_member (name_of key.Variables) ms) holders
+pub within_is_listed : (ms : Members) (holders : Holders) → variables_within ms holders ≡ read_variables (get_member (name_of key.Variables) ms) holders
 within_is_listed no_members holders = refl
 within_is_listed (member k d ms) holders = by_order (slice_cmp nat_cmp (name_of key.Variables) k) (variables_within ms holders) (get_member (name_of key.Variables) ms) d holders (within_is_listed ms holders)
 

@@ -10,7 +10,7 @@ use Rattle.std.specs.Ordering.{nat_cmp, match_ordering}
 use Rattle.std.specs.Cmp.Lexicographic.{slice_cmp}
 use Rattle.serde_json.specs.Data.{Data, array, object, Items, no_items, item, Members, no_members, member}
 use Rattle.serde_json.specs.Find.{as_str, as_bool, as_array}
-use Rattle.dap_debuggee.specs.Reading.{Read, required, optional_or, element, value_at, some_items, line_of, source_place, lines_at, new_id, thread_place, Holders, holder_of, with_holder, variable_of, variables_of, each_variable, variables_within, listed, Numbered, each, scope_of, scopes_of, frame_of, thread_of, moment_of, moments_of}
+use Rattle.dap_debuggee.specs.Reading.{Read, required_at, optional_or, element, value_at, some_items, line_of, source_place, lines_at, new_id, thread_place, Holders, holder_of, with_holder, variable_of, variables_of, each_variable, variables_within, read_variables, Numbered, each, scope_of, scopes_of, frame_of, thread_of, moment_of, moments_of}
 use Rattle.dap_debuggee.specs.Recording.{holders_of_scopes, holders_of_variables}
 use Rattle.dap_debuggee.specs.RecordingKey.{name_of}
 use Rattle.dap_debuggee.specs.declared.answers.Frame.{Frame}
@@ -116,8 +116,8 @@ by_order Greater one rest r P e of_one of_rest = of_rest e
 mutual
   variable_numbers : (n : ℕ) (d : Data) (holders : Holders) (r : Variable × Holders) → variable_of d holders ≡ Ok r → NumbersOne n r.0.holder holders r.1
   variable_numbers n (object ms) holders r e =
-      with_ok (required as_str key.Name (object ms)) _ r e (λ name named e1.
-      with_ok (required as_str key.Value (object ms)) _ r e1 (λ value valued e2.
+      with_ok (required_at as_str key.Name (object ms)) _ r e (λ name named e1.
+      with_ok (required_at as_str key.Value (object ms)) _ r e1 (λ value valued e2.
       with_ok (variables_within ms holders) _ r e2 (λ inner is e3.
       subst (λ (x : Variable × Holders). NumbersOne n x.0.holder holders x.1) (ok_same (record { name = name; value = value; holder = holder_of inner.0 inner.1 }, with_holder inner.0 inner.1) r e3)
       (numbered_if_some n inner.0 holders inner.1 (within_numbers n ms holders inner is)))))
@@ -139,7 +139,7 @@ mutual
   within_numbers n no_members holders r e = subst (Numbers n [] holders) (ok_same ([], holders) r e) refl
   within_numbers n (member k d ms) holders r e = by_order (slice_cmp nat_cmp (name_of key.Variables) k) (variables_of d holders) (variables_within ms holders) r (Numbers n [] holders r) e (λ is. variables_numbers n d holders r is) (λ is. within_numbers n ms holders r is)
 
-listed_numbers : (n : ℕ) (o : Option Data) (holders : Holders) (r : List Variable × Holders) → listed o holders ≡ Ok r → Numbers n [] holders r
+listed_numbers : (n : ℕ) (o : Option Data) (holders : Holders) (r : List Variable × Holders) → read_variables o holders ≡ Ok r → Numbers n [] holders r
 listed_numbers n None holders r e = subst (Numbers n [] holders) (ok_same ([], holders) r e) refl
 listed_numbers n (Some d) holders r e = variables_numbers n d holders r e
 
@@ -152,8 +152,8 @@ NumbersScopes n before r = in_scopes n r.0 + in_holders n r.1 + below n (length 
 scope_numbers : (n : ℕ) (d : Data) (holders : Holders) (r : Scope × Holders) → scope_of d holders ≡ Ok r → NumbersOne n (Some r.0.holder) holders r.1
 unfolding scope_of
 scope_numbers n d holders r e =
-    with_ok (required as_str key.Name d) _ r (then_ok (element key.Scopes d) _ r e) (λ name named e1.
-    with_ok (listed (value_at key.Variables d) holders) _ r e1 (λ inner is e2.
+    with_ok (required_at as_str key.Name d) _ r (then_ok (element key.Scopes d) _ r e) (λ name named e1.
+    with_ok (read_variables (value_at key.Variables d) holders) _ r e1 (λ inner is e2.
     subst (λ (x : Scope × Holders). NumbersOne n (Some x.0.holder) holders x.1) (ok_same (record { name = name; holder = length inner.1 }, inner.1 ++ inner.0 ∷ []) r e2)
     (numbered n inner.0 holders inner.1 (listed_numbers n (value_at key.Variables d) holders inner is))))
 
@@ -175,9 +175,9 @@ NumbersAll n s = in_frames n s.scopes + in_holders n s.variables ≡ below n (le
 frame_numbers : (n : ℕ) (sources : List RecordedSource) (d : Data) (s : Numbered) (r : Frame × Numbered) → frame_of sources d s ≡ Ok r → NumbersAll n s → NumbersAll n r.1
 unfolding frame_of
 frame_numbers n sources d s r e p =
-    with_ok (required as_str key.Name d) _ r (then_ok (element key.Frames d) _ r e) (λ name named e1.
-    with_ok (required (source_place sources) key.Source d) _ r e1 (λ source placed e2.
-    with_ok (required (line_of (lines_at sources source)) key.Line d) _ r e2 (λ line lined e3.
+    with_ok (required_at as_str key.Name d) _ r (then_ok (element key.Frames d) _ r e) (λ name named e1.
+    with_ok (required_at (source_place sources) key.Source d) _ r e1 (λ source placed e2.
+    with_ok (required_at (line_of (lines_at sources source)) key.Line d) _ r e2 (λ line lined e3.
     with_ok (scopes_of d s.variables) _ r e3 (λ scopes scoped e4.
     let frame : Frame = record { object = length s.scopes; name = name; source = source; line = line } in
     let after : Numbered = record { scopes = s.scopes ++ scopes.0 ∷ []; variables = scopes.1 } in
@@ -186,8 +186,8 @@ frame_numbers n sources d s r e p =
 thread_numbers : (n : ℕ) (sources : List RecordedSource) (earlier : List RecordedThread) (d : Data) (s : Numbered) (r : RecordedThread × Numbered) → thread_of sources earlier d s ≡ Ok r → NumbersAll n s → NumbersAll n r.1
 unfolding thread_of
 thread_numbers n sources earlier d s r e p =
-    with_ok (required (new_id earlier) key.Id d) _ r (then_ok (element key.Threads d) _ r e) (λ id new e1.
-    with_ok (required as_str key.Name d) _ r e1 (λ name named e2.
+    with_ok (required_at (new_id earlier) key.Id d) _ r (then_ok (element key.Threads d) _ r e) (λ id new e1.
+    with_ok (required_at as_str key.Name d) _ r e1 (λ name named e2.
     with_ok (some_items key.Frames d) _ r e2 (λ given some e3.
     with_ok (each (λ earlier. frame_of sources) given [] s) _ r e3 (λ frames read e4.
     subst (λ (x : RecordedThread × Numbered). NumbersAll n x.1) (ok_same (record { id = id; name = name; frames = frames.0 }, frames.1) r e4)
@@ -196,9 +196,9 @@ thread_numbers n sources earlier d s r e p =
 moment_numbers : (n : ℕ) (sources : List RecordedSource) (d : Data) (s : Numbered) (r : Moment × Numbered) → moment_of sources d s ≡ Ok r → NumbersAll n s → NumbersAll n r.1
 unfolding moment_of
 moment_numbers n sources d s r e p =
-    with_ok (required as_array key.Threads d) _ r (then_ok (element key.Moments d) _ r e) (λ given array e1.
+    with_ok (required_at as_array key.Threads d) _ r (then_ok (element key.Moments d) _ r e) (λ given array e1.
     with_ok (each (thread_of sources) given [] s) _ r e1 (λ threads read e2.
-    with_ok (required (thread_place threads.0) key.Thread d) _ r e2 (λ thread placed e3.
+    with_ok (required_at (thread_place threads.0) key.Thread d) _ r e2 (λ thread placed e3.
     with_ok (optional_or as_str [] key.Output d) _ r e3 (λ output written e4.
     with_ok (optional_or as_bool false key.Waits d) _ r e4 (λ waits held e5.
     subst (λ (x : Moment × Numbered). NumbersAll n x.1) (ok_same (record { threads = threads.0; thread = thread; output = output; waits = waits; frames = record { from = length s.scopes; to = length threads.1.scopes }; holders = record { from = length s.variables; to = length threads.1.variables } }, threads.1) r e5)

@@ -3,7 +3,7 @@ use Rattle.std.proofs.Common.{◌≡◌, ℕ, suc, ℤ, Bool, true, false, cond,
 use Rattle.std.specs.BTreeSet.{BTreeSet, Updates}
 use Rattle.std.specs.Ordering.{int_cmp, int_eq}
 use Rattle.dap_debuggee.specs.Reading.{place_of}
-use Rattle.dap_debuggee.specs.ReadThreads.{HasIds}
+use Rattle.dap_debuggee.specs.PrivateReadThreads.{HasIds}
 use Rattle.dap_debuggee.specs.declared.recording.RecordedThread.{RecordedThread}
 
 here_or_after : (b : Bool) (o : Option ℕ) → is_some (if b then Some 0 else option_map (λ n. suc n) o) ≡ cond b true (is_some o)

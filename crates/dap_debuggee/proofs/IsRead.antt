@@ -13,7 +13,7 @@ use Rattle.serde_json.specs.Find.{as_number, as_u64, as_i64, as_str, as_bool, as
 use Rattle.dap_json.specs.Field.{if_passes}
 use Rattle.dap_call.specs.Argument.{is_int, int_of, number_of}
 use Rattle.dap_debuggee.specs.Laws.{is_frame}
-use Rattle.dap_debuggee.specs.Reading.{Read, or_bad, required, optional, optional_or, element, value_at, some_items, few_items, exit_of, line_of, source_place, lines_at, place_of, new_id, thread_place, Numbered, each, each_source, scopes_of, frame_of, thread_of, moment_of, moments_of, source_of, recording_of}
+use Rattle.dap_debuggee.specs.Reading.{Read, or_bad, required_at, optional_at, optional_or, element, value_at, some_items, few_items, exit_of, line_of, source_place, lines_at, place_of, new_id, thread_place, Numbered, each, each_source, scopes_of, frame_of, thread_of, moment_of, moments_of, source_of, recording_of}
 use Rattle.dap_debuggee.specs.Recording.{IsRecording, line_count, is_thread, is_moment, is_rising, are_distinct}
 use Rattle.dap_debuggee.specs.declared.answers.Frame.{Frame}
 use Rattle.dap_debuggee.specs.declared.reading.RecordingKey.{RecordingKey}
@@ -36,7 +36,7 @@ and_then_is : {A : Type 0} (shape : Data → Option A) (o : Option Data) (x : A)
 and_then_is shape None x e = absurd (cc e)
 and_then_is shape (Some v) x e = (v, e)
 
-required_is : {A : Type 0} (shape : Data → Option A) (k : RecordingKey) (d : Data) (x : A) → required shape k d ≡ Ok x → (v : Data) × (shape v ≡ Some x)
+required_is : {A : Type 0} (shape : Data → Option A) (k : RecordingKey) (d : Data) (x : A) → required_at shape k d ≡ Ok x → (v : Data) × (shape v ≡ Some x)
 required_is shape k d x e = and_then_is shape (value_at k d) x (bad_is k (option_and_then shape (value_at k d)) x e)
 
 passes_by : {A : Type 0} (b : Bool) (test : A → Bool) (y x : A) → test y ≡ b → (if b then Some y else None) ≡ Some x → (Some y ≡ Some x) × (test x ≡ true)
@@ -53,13 +53,13 @@ if_ok false k y x e = absurd (cc e)
 
 some_count : (k : RecordingKey) (d : Data) (ds : Items) → some_items k d ≡ Ok ds → 1 ≤ items_len ds
 some_count k d ds e =
-    let b = bind_ok (required as_array k d) (λ es. if nat_le 1 (items_len es) then Ok es else Err k) ds e in
+    let b = bind_ok (required_at as_array k d) (λ es. if nat_le 1 (items_len es) then Ok es else Err k) ds e in
     let p = if_ok (nat_le 1 (items_len b.0)) k b.0 ds b.2 in
     subst (λ es. 1 ≤ items_len es) p.1 (leb-true 1 (items_len b.0) p.0)
 
 few_count : (k : RecordingKey) (d : Data) (ds : Items) → few_items k d ≡ Ok ds → items_len ds ≤ 65536
 few_count k d ds e =
-    let b = bind_ok (required as_array k d) (λ es. if nat_le (items_len es) 65536 then Ok es else Err k) ds e in
+    let b = bind_ok (required_at as_array k d) (λ es. if nat_le (items_len es) 65536 then Ok es else Err k) ds e in
     let p = if_ok (nat_le (items_len b.0) 65536) k b.0 ds b.2 in
     subst (λ es. items_len es ≤ 65536) p.1 (leb-true (items_len b.0) 65536 p.0)
 
@@ -125,14 +125,14 @@ frame_added sources before found s t frame numbered more fits p =
       numbers = subst (λ n. Rises n (before ++ numbers_of (found ++ frame ∷ []))) (sym more) (subst (Rises (suc (length s.scopes))) list (rises_more (length s.scopes) (before ++ numbers_of found) p.numbers));
     }
 
-line_fits : (lines : ℕ) (d : Data) (line : ℕ) → required (line_of lines) key.Line d ≡ Ok line → (nat_le 1 line ≡ true) × (nat_le line 2147483647 ≡ true)
+line_fits : (lines : ℕ) (d : Data) (line : ℕ) → required_at (line_of lines) key.Line d ≡ Ok line → (nat_le 1 line ≡ true) × (nat_le line 2147483647 ≡ true)
 line_fits lines d line e =
     let v = required_is (line_of lines) key.Line d line e in
     let p = passes_is (λ n. nat_le 1 n && nat_le n lines) (number_of v.0) line v.1 in
     let q = passes_is (λ n. nat_le n 2147483647) (option_and_then as_u64 (as_number v.0)) line p.0 in
     ((and_parts (nat_le 1 line) (nat_le line lines) p.1).0, q.1)
 
-source_fits : (sources : List RecordedSource) (d : Data) (source : ℕ) → required (source_place sources) key.Source d ≡ Ok source → nat_lt source (length sources) ≡ true
+source_fits : (sources : List RecordedSource) (d : Data) (source : ℕ) → required_at (source_place sources) key.Source d ≡ Ok source → nat_lt source (length sources) ≡ true
 source_fits sources d source e =
     let v = required_is (source_place sources) key.Source d source e in
     (passes_is (λ n. nat_lt n (length sources)) (number_of v.0) source v.1).1
@@ -141,9 +141,9 @@ frame_holds : (sources : List RecordedSource) (before : List ℕ) (found : List 
     → FramesHold (length sources) before (found, s) → FramesHold (length sources) before (found ++ next.0 ∷ [], next.1)
 unfolding frame_of
 frame_holds sources before found s d next e p =
-    with_ok (required as_str key.Name d) _ next (then_ok (element key.Frames d) _ next e) (λ name named e1.
-    with_ok (required (source_place sources) key.Source d) _ next e1 (λ source placed e2.
-    with_ok (required (line_of (lines_at sources source)) key.Line d) _ next e2 (λ line lined e3.
+    with_ok (required_at as_str key.Name d) _ next (then_ok (element key.Frames d) _ next e) (λ name named e1.
+    with_ok (required_at (source_place sources) key.Source d) _ next e1 (λ source placed e2.
+    with_ok (required_at (line_of (lines_at sources source)) key.Line d) _ next e2 (λ line lined e3.
     with_ok (scopes_of d s.variables) _ next e3 (λ scopes scoped e4.
     let frame : Frame = record { object = length s.scopes; name = name; source = source; line = line } in
     let after : Numbered = record { scopes = s.scopes ++ scopes.0 ∷ []; variables = scopes.1 } in
@@ -178,7 +178,7 @@ distinct_more (first ∷ found) thread e none =
     and_from (list_all (λ other. not (int_eq first.id other.id)) (found ++ thread ∷ [])) (are_distinct (found ++ thread ∷ []))
     (all_more (λ other. not (int_eq first.id other.id)) found thread p.0 (ap not q.0)) (distinct_more found thread p.1 q.1)
 
-new_id_is : (found : List RecordedThread) (d : Data) (id : ℤ) → required (new_id found) key.Id d ≡ Ok id → (is_int id ≡ true) × (is_some (place_of id found) ≡ false)
+new_id_is : (found : List RecordedThread) (d : Data) (id : ℤ) → required_at (new_id found) key.Id d ≡ Ok id → (is_int id ≡ true) × (is_some (place_of id found) ≡ false)
 new_id_is found d id e =
     let v = required_is (new_id found) key.Id d id e in
     let p = passes_is (λ z. not (is_some (place_of z found))) (int_of v.0) id v.1 in
@@ -201,8 +201,8 @@ thread_holds : (sources : List RecordedSource) (found : List RecordedThread) (s 
     → ThreadsHold (length sources) (found, s) → ThreadsHold (length sources) (found ++ next.0 ∷ [], next.1)
 unfolding thread_of
 thread_holds sources found s d next e p =
-    with_ok (required (new_id found) key.Id d) _ next (then_ok (element key.Threads d) _ next e) (λ id new e1.
-    with_ok (required as_str key.Name d) _ next e1 (λ name named e2.
+    with_ok (required_at (new_id found) key.Id d) _ next (then_ok (element key.Threads d) _ next e) (λ id new e1.
+    with_ok (required_at as_str key.Name d) _ next e1 (λ name named e2.
     with_ok (some_items key.Frames d) _ next e2 (λ given some e3.
     with_ok (each (λ earlier. frame_of sources) given [] s) _ next e3 (λ frames read e4.
     let is_new = new_id_is found d id new in
@@ -224,7 +224,7 @@ place_within : (id : ℤ) (threads : List RecordedThread) (k : ℕ) → place_of
 place_within id [] k e = absurd (cc e)
 place_within id (thread ∷ threads) k e = place_by (int_eq thread.id id) (place_of id threads) k (length threads) e (λ j is. place_within id threads j is)
 
-thread_within : (threads : List RecordedThread) (d : Data) (k : ℕ) → required (thread_place threads) key.Thread d ≡ Ok k → k < length threads
+thread_within : (threads : List RecordedThread) (d : Data) (k : ℕ) → required_at (thread_place threads) key.Thread d ≡ Ok k → k < length threads
 thread_within threads d k e =
     let v = required_is (thread_place threads) key.Thread d k e in
     within_by (int_of v.0) v.1
@@ -236,9 +236,9 @@ thread_within threads d k e =
 moment_holds : (sources : List RecordedSource) (d : Data) (s : Numbered) (next : Moment × Numbered) → moment_of sources d s ≡ Ok next → is_moment (length sources) next.0 ≡ true
 unfolding moment_of
 moment_holds sources d s next e =
-    with_ok (required as_array key.Threads d) _ next (then_ok (element key.Moments d) _ next e) (λ given array e1.
+    with_ok (required_at as_array key.Threads d) _ next (then_ok (element key.Moments d) _ next e) (λ given array e1.
     with_ok (each (thread_of sources) given [] s) _ next e1 (λ threads read e2.
-    with_ok (required (thread_place threads.0) key.Thread d) _ next e2 (λ thread placed e3.
+    with_ok (required_at (thread_place threads.0) key.Thread d) _ next e2 (λ thread placed e3.
     with_ok (optional_or as_str [] key.Output d) _ next e3 (λ output written e4.
     with_ok (optional_or as_bool false key.Waits d) _ next e4 (λ waits held e5.
     let first : ThreadsHold (length sources) ([], s) = record { threads = refl; distinct = refl; numbers = record { rises = refl; below = refl } } in
@@ -256,9 +256,9 @@ is_counted source = nat_eq source.lines (line_count source.text)
 source_holds : (d : Data) (source : RecordedSource) → source_of d ≡ Ok source → is_counted source ≡ true
 unfolding source_of
 source_holds d source e =
-    with_ok (required as_str key.Name d) _ source (then_ok (element key.Sources d) _ source e) (λ name named e1.
-    with_ok (optional as_str key.Path d) _ source e1 (λ path at e2.
-    with_ok (required as_str key.Text d) _ source e2 (λ text is e3.
+    with_ok (required_at as_str key.Name d) _ source (then_ok (element key.Sources d) _ source e) (λ name named e1.
+    with_ok (optional_at as_str key.Path d) _ source e1 (λ path at e2.
+    with_ok (required_at as_str key.Text d) _ source e2 (λ text is e3.
     subst (λ x. is_counted x ≡ true) (ok_same (record { name = name; path = path; text = text; lines = line_count text }) source e3) (eq-eqb (line_count text) (line_count text) refl))))
 
 sources_hold : (ds : Items) (found all : List RecordedSource) → each_source ds found ≡ Ok all → list_all is_counted found ≡ true → (list_all is_counted all ≡ true) × (length all ≡ length found + items_len ds)
@@ -279,7 +279,7 @@ MomentsHold sources r = list_all (is_moment sources) r.0 ≡ true
 pub is_read : (d : Data) (r : Recording) → recording_of d ≡ Ok r → IsRecording r
 unfolding recording_of moments_of
 is_read d r e =
-    with_ok (required exit_of key.Exit d) _ r e (λ exit exited e1.
+    with_ok (required_at exit_of key.Exit d) _ r e (λ exit exited e1.
     with_ok (few_items key.Sources d) _ r e1 (λ texts few e2.
     with_ok (each_source texts []) _ r e2 (λ sources told e3.
     with_ok (some_items key.Moments d) _ r e3 (λ given some e4.

@@ -2,7 +2,7 @@
 use Rattle.std.proofs.Common.{◌≡◌, List, ℕ, [], ◌∷◌, codes, replicate, true, false, Some, pos, negsuc, refl, arith}
 use Rattle.dap_call.specs.declared.call.SourceKey.{SourceKey}
 use Rattle.dap_call.specs.declared.call.SourceKey.TheVariants.{Path, Reference}
-use Rattle.dap_debuggee.specs.Shown.{Reply, to_start, to_resume, to_pause, to_poll, to_set_breakpoints, to_end, done, refused, happened, category_name, remembered}
+use Rattle.dap_debuggee.specs.Shown.{Reply, to_start, to_resume, to_pause, to_poll, to_set_breakpoints, to_end, done, refused, happened, category_name, asked_of_act}
 use Rattle.dap_debuggee.specs.Laws.{may_answer, state_after, lines_after, keeps_answers, keeps_frames, is_code, is_short, is_frame}
 use Rattle.dap_call.specs.SameSource.{is_source}
 use Rattle.dap_debuggee.specs.Recording.{line_count, is_rising, are_distinct, is_moment, depth, top, id_at, objects, holders_of, HasOwnNumbers}
@@ -71,7 +71,7 @@ all_answers_stay = (refl, refl, refl, refl, refl, refl)
 frames_stay : (keeps_frames to_poll wrote ≡ true) × (keeps_frames to_poll (happened Nothing) ≡ true) × (keeps_frames to_pause done ≡ true) × (keeps_frames to_poll stopped ≡ false) × (keeps_frames to_poll continued ≡ false) × (keeps_frames to_poll exited ≡ false) × (keeps_frames (to_resume Next (pos 1)) done ≡ false) × (keeps_frames to_end done ≡ false)
 frames_stay = (refl, refl, refl, refl, refl, refl, refl, refl)
 
-memory_of_acts : (remembered (to_resume Next (pos 7)) ≡ remembers.Resume Next (pos 7)) × (remembered (to_set_breakpoints (Reference 1) (2 ∷ [])) ≡ remembers.SetBreakpoints) × (remembered to_end ≡ remembers.End)
+memory_of_acts : (asked_of_act (to_resume Next (pos 7)) ≡ remembers.Resume Next (pos 7)) × (asked_of_act (to_set_breakpoints (Reference 1) (2 ∷ [])) ≡ remembers.SetBreakpoints) × (asked_of_act to_end ≡ remembers.End)
 memory_of_acts = (refl, refl, refl)
 
 -- ---- ranges

@@ -1,7 +1,7 @@
 -- The most lines of each path, with one source more.
 use Rattle.std.proofs.Common.{◌≡◌, ℕ, Bool, true, false, cond, if◌then◌else◌, max, List, Option, Some, option_map, unwrap_or, bytes_eq, refl, sym, ap, ◌∙◌, arith}
 use Rattle.std.proofs.lemmas.Slice.Eq.{bytes_eq-Decides}
-use Rattle.dap_debuggee.specs.Held.{path_lines_of}
+use Rattle.dap_debuggee.specs.PrivateHeld.{path_lines_of}
 use Rattle.dap_debuggee.specs.declared.recording.RecordedSource.{RecordedSource}
 
 one_answer : (b c : Bool) → (b ≡ true → c ≡ true) → (c ≡ true → b ≡ true) → b ≡ c

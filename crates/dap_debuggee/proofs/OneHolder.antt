@@ -5,8 +5,8 @@ use Rattle.std.specs.List.{slice_get, flat_map, sum_by, count_by}
 use Rattle.std.specs.Option.{option_to_list}
 use Rattle.dap_debuggee.specs.declared.answers.Scope.{Scope}
 use Rattle.dap_debuggee.specs.declared.answers.Variable.{Variable}
-use Rattle.dap_debuggee.specs.Told.{NamesOneHolder}
-use Rattle.dap_debuggee.specs.Played.{Played, shown_of, moment_shown, is_in, within}
+use Rattle.dap_debuggee.specs.ShownNumbers.{NamesOneHolder}
+use Rattle.dap_debuggee.specs.Played.{Played, shown_of, moment_shown, is_in, if_within}
 use Rattle.dap_debuggee.specs.declared.recording.Moment.{Moment}
 use Rattle.dap_debuggee.specs.declared.recording.Span.{Span}
 use Rattle.dap_debuggee.specs.Recording.{IsRecording, holders_of_scopes, holders_of_variables}
@@ -99,7 +99,7 @@ in_recording_by true found x e = e
 in_recording_by false found x e = absurd (cc e)
 
 -- what is shown by a number stands in the recording by it
-in_recording : {A : Type 0} (span : Moment → Span) (m : Option Moment) (n : ℕ) (found : Option A) (x : A) → within span m n found ≡ Some x → found ≡ Some x
+in_recording : {A : Type 0} (span : Moment → Span) (m : Option Moment) (n : ℕ) (found : Option A) (x : A) → if_within span m n found ≡ Some x → found ≡ Some x
 in_recording span None n found x e = absurd (cc e)
 in_recording span (Some m) n found x e = in_recording_by (is_in (span m) n) found x e
 

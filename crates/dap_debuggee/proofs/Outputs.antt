@@ -4,26 +4,17 @@ use Rattle.dap_debuggee.proofs.Ranges.{some_same}
 use Rattle.std.specs.List.{slice_get}
 use Rattle.std.specs.Str.{IsCharBoundary}
 use Rattle.std.proofs.lemmas.List.{drop-drop, get_or-drop}
-use Rattle.dap_debuggee.specs.Held.{without, output_left, output_in, IsReady}
+use Rattle.dap_debuggee.specs.PrivateHeld.{without_first, output_left, output_in, IsReady}
 use Rattle.dap_debuggee.specs.Moves.{is_forward}
-use Rattle.dap_debuggee.specs.Played.{FollowsPlayed, Run, asked, polled, ran, arrived, with_run, Played, running, resumed, move_from, output_of, written_on, first_piece, piece_length}
+use Rattle.dap_debuggee.specs.Played.{Played, run_from, after_resume, move_from, output_of, output_on_move, first_piece, piece_length}
 use Rattle.dap_debuggee.specs.declared.answers.How.{How}
-use Rattle.dap_debuggee.specs.Shown.{to_poll, happened}
-use Rattle.dap_debuggee.specs.declared.answers.State.TheVariants.{Running}
-use Rattle.dap_debuggee.specs.declared.answers.Category.TheVariants.{Stdout}
-use Rattle.dap_debuggee.specs.declared.answers.Happening.{Happening}
-use Rattle.dap_debuggee.specs.declared.answers.Happening.TheVariants as happening
 use Rattle.dap_debuggee.specs.declared.moves.Move.{Move}
 use Rattle.dap_debuggee.specs.declared.recording.Moment.{Moment}
 use Rattle.dap_debuggee.specs.declared.recorded.Going.{Going}
 
-pub without_none : (texts : List (List ℕ)) → without 0 texts ≡ texts
+pub without_none : (texts : List (List ℕ)) → without_first 0 texts ≡ texts
 without_none [] = refl
 without_none (text ∷ texts) = refl
-
-take_none : (n : ℕ) → take {A = Moment} n [] ≡ []
-take_none zero = refl
-take_none (suc n) = refl
 
 -- from a moment that is there
 pub take_here : (n k : ℕ) (ms : List Moment) (m : Moment) → slice_get ms k ≡ Some m → take (suc n) (drop k ms) ≡ m ∷ take n (drop (suc k) ms)
@@ -31,28 +22,19 @@ take_here n k [] m e = absurd (cc e)
 take_here n zero (x ∷ xs) m e = ap (λ y. y ∷ take n xs) (some_same x m e)
 take_here n (suc k) (x ∷ xs) m e = take_here n k xs m e
 
-pub take_nothing : (n k : ℕ) (ms : List Moment) → slice_get ms k ≡ None → take n (drop k ms) ≡ []
-take_nothing n zero [] e = take_none n
-take_nothing n (suc k) [] e = take_none n
-take_nothing n zero (x ∷ xs) e = absurd (cc e)
-take_nothing n (suc k) (x ∷ xs) e = take_nothing n k xs e
-
 -- what is left begins with the rest of the moment's output
 pub left_here : (moments : List Moment) (g : Going) (m : Moment) → g.moment ≤ g.last → slice_get moments g.moment ≡ Some m
     → output_left moments g ≡ drop g.told m.output ∷ map (λ m. m.output) (take (g.last - g.moment) (drop (suc g.moment) moments))
 left_here moments g m within is =
     let count : suc g.last - g.moment ≡ suc (g.last - g.moment) = omega (arith, within) in
-    ap (λ n. without g.told (map (λ m. m.output) (take n (drop g.moment moments)))) count
-    ∙ ap (λ ms. without g.told (map (λ (m : Moment). m.output) ms)) (take_here (g.last - g.moment) g.moment moments m is)
+    ap (λ n. without_first g.told (map (λ m. m.output) (take n (drop g.moment moments)))) count
+    ∙ ap (λ ms. without_first g.told (map (λ (m : Moment). m.output) ms)) (take_here (g.last - g.moment) g.moment moments m is)
 
 -- nothing is left after the last moment, and after the end of the moments
 pub left_after : (moments : List Moment) (g : Going) → g.last < g.moment → output_left moments g ≡ []
 left_after moments g past =
     let count : suc g.last - g.moment ≡ 0 = omega (arith, past) in
-    ap (λ n. without g.told (map (λ m. m.output) (take n (drop g.moment moments)))) count
-
-pub left_beyond : (moments : List Moment) (g : Going) → slice_get moments g.moment ≡ None → output_left moments g ≡ []
-left_beyond moments g is = ap (λ ms. without g.told (map (λ (m : Moment). m.output) ms)) (take_nothing (suc g.last - g.moment) g.moment moments is)
+    ap (λ n. without_first g.told (map (λ m. m.output) (take n (drop g.moment moments)))) count
 
 drop_past : (n : ℕ) (text : List ℕ) → length text ≤ n → drop n text ≡ []
 drop_past zero [] past = refl
@@ -111,15 +93,15 @@ by_way true moments at to last move is =
 by_way false moments at to last move is = left_after moments (record { moment = at + 1; told = 0; last = last; to = move; paused = false }) (omega (arith, is))
 
 pub fresh_output : (how : How) (moments : List Moment) (at to last : ℕ) (move : Move) → last ≡ (if is_forward how then to else at)
-    → output_left moments (record { moment = at + 1; told = 0; last = last; to = move; paused = false }) ≡ written_on how moments at to
+    → output_left moments (record { moment = at + 1; told = 0; last = last; to = move; paused = false }) ≡ output_on_move how moments at to
 fresh_output how moments at to last move is = by_way (is_forward how) moments at to last move is
 
 -- what goes on from the moment that is shown
 pub goes : (v : Played) (how : How) (move : Move) (last : ℕ) → move ≡ move_from how v → last ≡ (if is_forward how then move.to else v.at)
-    → running v.at (output_left v.recording.moments (record { moment = v.at + 1; told = 0; last = last; to = move; paused = false })) move v ≡ resumed how v
+    → run_from v.at (output_left v.recording.moments (record { moment = v.at + 1; told = 0; last = last; to = move; paused = false })) move v ≡ after_resume how v
 goes v how move last is far =
-    ap (λ output. running v.at output move v) (fresh_output how v.recording.moments v.at move.to last move far)
-    ∙ ap (λ (m : Move). running v.at (written_on how v.recording.moments v.at m.to) m v) is
+    ap (λ output. run_from v.at output move v) (fresh_output how v.recording.moments v.at move.to last move far)
+    ∙ ap (λ (m : Move). run_from v.at (output_on_move how v.recording.moments v.at m.to) m v) is
 
 -- ---- a poll
 
@@ -127,19 +109,3 @@ pub ready_none : (moments : List Moment) (g : Going) → IsReady moments g → f
 ready_none moments g (inl none) no_piece = none
 ready_none moments g (inr (within, m, at, told)) no_piece =
     let never = sym (told_piece moments g m (piece_length (drop g.told m.output)) within at told refl) ∙ no_piece in absurd (cc never)
-
-pub poll_tells : (v w : Played) (run : Run) (piece : List ℕ) (rest : List (List ℕ)) → v.state ≡ Running → v.run ≡ Some run → first_piece run.output ≡ Some (piece, rest)
-    → w ≡ asked to_poll (happened (happening.Output Stdout piece)) (with_run (record { output = rest; move = run.move; paused = run.paused }) v)
-    → FollowsPlayed v to_poll (happened (happening.Output Stdout piece)) w
-poll_tells v w run piece rest runs going is after =
-    let given : polled v.state v.run v ≡ (happening.Output Stdout piece, with_run (record { output = rest; move = run.move; paused = run.paused }) v) =
-    ap (λ s. polled s v.run v) runs ∙ ap (λ r. polled Running r v) going ∙ ap (λ p. ran run p v) is in
-    record { reply = sym (ap (λ p. happened p.0) given); view = after ∙ sym (ap (λ p. asked to_poll (happened (happening.Output Stdout piece)) p.1) given) }
-
-pub poll_ends : (v w : Played) (run : Run) (h : Happening) → v.state ≡ Running → v.run ≡ Some run → first_piece run.output ≡ None
-    → h ≡ (arrived run v).0 → w ≡ asked to_poll (happened h) (arrived run v).1
-    → FollowsPlayed v to_poll (happened h) w
-poll_ends v w run h runs going is what after =
-    let given : polled v.state v.run v ≡ arrived run v =
-    ap (λ s. polled s v.run v) runs ∙ ap (λ r. polled Running r v) going ∙ ap (λ p. ran run p v) is in
-    record { reply = ap happened what ∙ sym (ap (λ p. happened p.0) given); view = after ∙ sym (ap (λ p. asked to_poll (happened h) p.1) given) }

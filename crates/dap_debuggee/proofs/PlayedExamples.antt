@@ -6,8 +6,8 @@ use Rattle.dap_debuggee.proofs.ReadingExamples.{three_moments_is_recording}
 use Rattle.dap_debuggee.proofs.ThreeMoments.{three_moments}
 use Rattle.dap_debuggee.proofs.Told.{told_can_be_asked}
 use Rattle.dap_debuggee.specs.Shown.{Act, to_start, to_resume, to_pause, to_poll, to_set_breakpoints, to_end, Reply, done, refused, happened}
-use Rattle.dap_debuggee.specs.Played.{Played, unplayed, act_on, asked, shown_of, piece_length, first_piece, output_of}
-use Rattle.dap_debuggee.specs.Told.{ToldCanBeAsked}
+use Rattle.dap_debuggee.specs.Played.{Played, fresh_played, act_on, with_ask, shown_of, piece_length, first_piece, output_of}
+use Rattle.dap_debuggee.specs.ShownNumbers.{ShownCanBeAsked}
 use Rattle.dap_debuggee.specs.declared.answers.State.TheVariants.{NotStarted, Running, Stopped, Gone}
 use Rattle.dap_debuggee.specs.declared.answers.How.{How}
 use Rattle.dap_debuggee.specs.declared.answers.How.TheVariants.{StepIn, Next, StepOut, Continue, StepBack, ReverseContinue}
@@ -23,7 +23,7 @@ use Rattle.dap_debuggee.specs.declared.recording.RecordedSource.{RecordedSource}
 -- ---- histories
 
 abbrev after : Act → Played → Played
-after a v = asked a (act_on a v).0 (act_on a v).1
+after a v = with_ask a (act_on a v).0 (act_on a v).1
 
 abbrev replies : Played → List Act → List Reply
 replies v [] = []
@@ -34,7 +34,7 @@ view_after v [] = v
 view_after v (a ∷ acts) = view_after (after a v) acts
 
 abbrev fresh : Played
-fresh = unplayed three_moments
+fresh = fresh_played three_moments
 
 abbrev go : How → Act
 go how = to_resume how (pos 1)
@@ -136,7 +136,7 @@ main_frame = record { object = 0; name = codes "main"; source = 0; line = 1 }
 abbrev locals : Scope
 locals = record { name = codes "Locals"; holder = 1 }
 
-told : ToldCanBeAsked (shown_of at_first)
+told : ShownCanBeAsked (shown_of at_first)
 told = told_can_be_asked at_first three_moments_is_recording
 
 -- the frame has scopes, its scope has variables, and so have a variable and a value of it
@@ -170,7 +170,7 @@ outputs = (refl, refl, refl, refl)
 -- ---- more than one
 
 abbrev with_moments : List Moment → Played
-with_moments moments = unplayed (record { exit = pos 3; sources = three_moments.sources; moments = moments; scopes = []; variables = [] })
+with_moments moments = fresh_played (record { exit = pos 3; sources = three_moments.sources; moments = moments; scopes = []; variables = [] })
 
 abbrev writing : Bool → List ℕ → Moment
 writing waits output = record { threads = record { id = pos 1; name = codes "main"; frames = record { object = 0; name = codes "main"; source = 0; line = 1 } ∷ [] } ∷ []; thread = 0; output = output; waits = waits; frames = record { from = 0; to = 0 }; holders = record { from = 0; to = 0 } }
@@ -187,7 +187,7 @@ pause_between_pieces : replies (view_after (with_moments (writing false [] ∷ w
 pause_between_pieces = refl
 
 abbrev with_scopes : List Scope → List (List Variable) → Played
-with_scopes scopes variables = unplayed (record { exit = pos 0; sources = []; moments = three_moments.moments; scopes = scopes ∷ []; variables = variables })
+with_scopes scopes variables = fresh_played (record { exit = pos 0; sources = []; moments = three_moments.moments; scopes = scopes ∷ []; variables = variables })
 
 abbrev valued : List ℕ → List ℕ → Variable
 valued name value = record { name = name; value = value; holder = None }
@@ -203,7 +203,7 @@ abbrev named : ℕ → RecordedSource
 named lines = record { name = codes "a.c"; path = Some (codes "/a.c"); text = replicate lines 10; lines = lines }
 
 abbrev one_path : Played
-one_path = unplayed (record { exit = pos 0; sources = named 3 ∷ named 5 ∷ []; moments = three_moments.moments; scopes = []; variables = [] })
+one_path = fresh_played (record { exit = pos 0; sources = named 3 ∷ named 5 ∷ []; moments = three_moments.moments; scopes = []; variables = [] })
 
 -- two sources of one path: by the path both count, by a number one
 path_of_two : ((shown_of one_path).verify (Path (codes "/a.c")) (3 ∷ 5 ∷ 6 ∷ []) ≡ Some (true ∷ true ∷ false ∷ [])) × ((shown_of one_path).verify (Reference 1) (3 ∷ 5 ∷ []) ≡ Some (true ∷ false ∷ [])) × ((shown_of one_path).verify (Reference 2) (3 ∷ 5 ∷ []) ≡ Some (true ∷ true ∷ []))

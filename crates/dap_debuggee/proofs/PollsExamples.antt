@@ -1,8 +1,8 @@
 -- Worked examples of the pieces of a run's output and of its polls, each shown by computation.
 use Rattle.std.proofs.Common.{◌≡◌, [], ◌∷◌, codes, replicate, Bool, true, false, Some, pos, refl}
 use Rattle.dap_debuggee.proofs.ThreeMoments.{three_moments}
-use Rattle.dap_debuggee.specs.Played.{Played, Run, unplayed}
-use Rattle.dap_debuggee.specs.Polls.{joined, first_pieces, pieces, polls, nothings, told}
+use Rattle.dap_debuggee.specs.Played.{Played, Run, fresh_played}
+use Rattle.dap_debuggee.specs.Polls.{joined_text, first_pieces, pieces, polls, nothings, output_happenings}
 use Rattle.dap_debuggee.specs.declared.answers.State.TheVariants.{Running}
 use Rattle.dap_debuggee.specs.declared.answers.Category.TheVariants.{Stdout}
 use Rattle.dap_debuggee.specs.declared.answers.Happening.TheVariants.{Nothing, Output, Stopped, Exited}
@@ -10,7 +10,7 @@ use Rattle.dap_debuggee.specs.declared.moves.Reason.TheVariants.{Step, Pause}
 
 -- ---- pieces
 
-joined_texts : (joined (codes "ab" ∷ [] ∷ codes "c" ∷ []) ≡ codes "abc") × (joined [] ≡ [])
+joined_texts : (joined_text (codes "ab" ∷ [] ∷ codes "c" ∷ []) ≡ codes "abc") × (joined_text [] ≡ [])
 joined_texts = (refl, refl)
 
 -- each text by itself, and an empty one gives none
@@ -30,9 +30,9 @@ abbrev run : Bool → Bool → Run
 run held paused = record { output = codes "x" ∷ codes "y" ∷ []; move = record { to = 2; held = held; reason = Pause }; paused = paused }
 
 abbrev going : Run → Played
-going r = record { recording = three_moments; state = Running; at = 0; run = Some r; set = []; acts = 0; last = (unplayed three_moments).last }
+going r = record { recording = three_moments; state = Running; at = 0; run = Some r; set = []; acts = 0; last = (fresh_played three_moments).last }
 
-happenings : told (codes "x" ∷ codes "y" ∷ []) ≡ Output Stdout (codes "x") ∷ Output Stdout (codes "y") ∷ []
+happenings : output_happenings (codes "x" ∷ codes "y" ∷ []) ≡ Output Stdout (codes "x") ∷ Output Stdout (codes "y") ∷ []
 happenings = refl
 
 no_polls : polls 0 (going (run false false)) ≡ []

@@ -7,7 +7,7 @@ use Rattle.std.specs.Ordering.{nat_cmp}
 use Rattle.std.specs.Cmp.Lexicographic.{slice_cmp}
 use Rattle.serde_json.specs.Data.{Data, array, object, Items, no_items, item, Members, no_members, member}
 use Rattle.serde_json.specs.Find.{as_str, as_bool, as_array}
-use Rattle.dap_debuggee.specs.Reading.{required, optional_or, element, value_at, some_items, line_of, source_place, lines_at, new_id, thread_place, Holders, holder_of, with_holder, variable_of, variables_of, each_variable, variables_within, listed, Numbered, each, scope_of, scopes_of, frame_of, thread_of, moment_of, moments_of}
+use Rattle.dap_debuggee.specs.Reading.{required_at, optional_or, element, value_at, some_items, line_of, source_place, lines_at, new_id, thread_place, Holders, holder_of, with_holder, variable_of, variables_of, each_variable, variables_within, read_variables, Numbered, each, scope_of, scopes_of, frame_of, thread_of, moment_of, moments_of}
 use Rattle.dap_debuggee.specs.Recording.{IsWithin, HasOwnNumbers}
 use Rattle.dap_debuggee.specs.RecordingKey.{name_of}
 use Rattle.dap_debuggee.specs.declared.answers.Frame.{Frame}
@@ -169,8 +169,8 @@ found_holder base before (x ∷ xs) after p =
 mutual
   variable_found : (base : Holders) (d : Data) (holders : Holders) (r : Variable × Holders) → variable_of d holders ≡ Ok r → Added base holders → FoundOne base holders r.0.holder r.1
   variable_found base (object ms) holders r e a =
-      with_ok (required as_str key.Name (object ms)) _ r e (λ name named e1.
-      with_ok (required as_str key.Value (object ms)) _ r e1 (λ value valued e2.
+      with_ok (required_at as_str key.Name (object ms)) _ r e (λ name named e1.
+      with_ok (required_at as_str key.Value (object ms)) _ r e1 (λ value valued e2.
       with_ok (variables_within ms holders) _ r e2 (λ inner is e3.
       subst (λ (x : Variable × Holders). FoundOne base holders x.0.holder x.1) (ok_same (record { name = name; value = value; holder = holder_of inner.0 inner.1 }, with_holder inner.0 inner.1) r e3)
       (found_holder base holders inner.0 inner.1 (within_found base ms holders inner is a)))))
@@ -197,7 +197,7 @@ mutual
   within_found base no_members holders r e a = subst (Found base holders) (ok_same ([], holders) r e) (found_none base holders a)
   within_found base (member k d ms) holders r e a = by_order (slice_cmp nat_cmp (name_of key.Variables) k) (variables_of d holders) (variables_within ms holders) r (Found base holders r) e (λ is. variables_found base d holders r is a) (λ is. within_found base ms holders r is a)
 
-listed_found : (base : Holders) (o : Option Data) (holders : Holders) (r : List Variable × Holders) → listed o holders ≡ Ok r → Added base holders → Found base holders r
+listed_found : (base : Holders) (o : Option Data) (holders : Holders) (r : List Variable × Holders) → read_variables o holders ≡ Ok r → Added base holders → Found base holders r
 listed_found base None holders r e a = subst (Found base holders) (ok_same ([], holders) r e) (found_none base holders a)
 listed_found base (Some d) holders r e a = variables_found base d holders r e a
 
@@ -215,8 +215,8 @@ record ScopesRead (base before : Holders) (r : List Scope × Holders) : Type 0 w
 scope_read : (base before : Holders) (found : List Scope) (holders : Holders) (d : Data) (next : Scope × Holders) → scope_of d holders ≡ Ok next → ScopesRead base before (found, holders) → ScopesRead base before (found ++ next.0 ∷ [], next.1)
 unfolding scope_of
 scope_read base before found holders d next e p =
-    with_ok (required as_str key.Name d) _ next (then_ok (element key.Scopes d) _ next e) (λ name named e1.
-    with_ok (listed (value_at key.Variables d) holders) _ next e1 (λ inner is e2.
+    with_ok (required_at as_str key.Name d) _ next (then_ok (element key.Scopes d) _ next e) (λ name named e1.
+    with_ok (read_variables (value_at key.Variables d) holders) _ next e1 (λ inner is e2.
     let one = listed_found base (value_at key.Variables d) holders inner is p.read.added in
     let count = length-append inner.1 (inner.0 ∷ []) in
     let more : length holders ≤ length (inner.1 ++ inner.0 ∷ []) = omega (arith, count, one.longer) in
@@ -279,9 +279,9 @@ frame_added base before found s frame scopes numbered read p =
 frame_read : (base before : Numbered) (sources : List RecordedSource) (found : List Frame) (s : Numbered) (d : Data) (next : Frame × Numbered) → frame_of sources d s ≡ Ok next → FramesRead base before (found, s) → FramesRead base before (found ++ next.0 ∷ [], next.1)
 unfolding frame_of
 frame_read base before sources found s d next e p =
-    with_ok (required as_str key.Name d) _ next (then_ok (element key.Frames d) _ next e) (λ name named e1.
-    with_ok (required (source_place sources) key.Source d) _ next e1 (λ source placed e2.
-    with_ok (required (line_of (lines_at sources source)) key.Line d) _ next e2 (λ line lined e3.
+    with_ok (required_at as_str key.Name d) _ next (then_ok (element key.Frames d) _ next e) (λ name named e1.
+    with_ok (required_at (source_place sources) key.Source d) _ next e1 (λ source placed e2.
+    with_ok (required_at (line_of (lines_at sources source)) key.Line d) _ next e2 (λ line lined e3.
     with_ok (scopes_of d s.variables) _ next e3 (λ scopes scoped e4.
     let frame : Frame = record { object = length s.scopes; name = name; source = source; line = line } in
     let after : Numbered = record { scopes = s.scopes ++ scopes.0 ∷ []; variables = scopes.1 } in
@@ -295,8 +295,8 @@ record ThreadsRead (base : Numbered) (r : List RecordedThread × Numbered) : Typ
 thread_read : (base : Numbered) (sources : List RecordedSource) (found : List RecordedThread) (s : Numbered) (d : Data) (next : RecordedThread × Numbered) → thread_of sources found d s ≡ Ok next → ThreadsRead base (found, s) → ThreadsRead base (found ++ next.0 ∷ [], next.1)
 unfolding thread_of
 thread_read base sources found s d next e p =
-    with_ok (required (new_id found) key.Id d) _ next (then_ok (element key.Threads d) _ next e) (λ id new e1.
-    with_ok (required as_str key.Name d) _ next e1 (λ name named e2.
+    with_ok (required_at (new_id found) key.Id d) _ next (then_ok (element key.Threads d) _ next e) (λ id new e1.
+    with_ok (required_at as_str key.Name d) _ next e1 (λ name named e2.
     with_ok (some_items key.Frames d) _ next e2 (λ given some e3.
     with_ok (each (λ earlier. frame_of sources) given [] s) _ next e3 (λ frames read e4.
     let first : FramesRead base s ([], s) = record { since = p.since; frames = at_none (λ i f. Between (length base.scopes) (length s.scopes) f.object); longer = omega arith } in
@@ -337,9 +337,9 @@ MomentsRead r = AtEach (λ i m. HasOwnNumbers r.1.scopes r.1.variables m) r.0
 moment_read : (sources : List RecordedSource) (found : List Moment) (s : Numbered) (d : Data) (next : Moment × Numbered) → moment_of sources d s ≡ Ok next → MomentsRead (found, s) → MomentsRead (found ++ next.0 ∷ [], next.1)
 unfolding moment_of
 moment_read sources found s d next e p =
-    with_ok (required as_array key.Threads d) _ next (then_ok (element key.Moments d) _ next e) (λ given array e1.
+    with_ok (required_at as_array key.Threads d) _ next (then_ok (element key.Moments d) _ next e) (λ given array e1.
     with_ok (each (thread_of sources) given [] s) _ next e1 (λ threads read e2.
-    with_ok (required (thread_place threads.0) key.Thread d) _ next e2 (λ thread placed e3.
+    with_ok (required_at (thread_place threads.0) key.Thread d) _ next e2 (λ thread placed e3.
     with_ok (optional_or as_str [] key.Output d) _ next e3 (λ output written e4.
     with_ok (optional_or as_bool false key.Waits d) _ next e4 (λ waits held e5.
     let first : ThreadsRead s ([], s) = record { since = since_itself s; threads = at_none (λ t th. OfFrames (length s.scopes) (length s.scopes) th.frames) } in

@@ -6,9 +6,9 @@ use Rattle.std.proofs.lemmas.List.Folds.{find_at}
 use Rattle.std.specs.List.{slice_get, find, position_or_len}
 use Rattle.std.specs.Option.{IsSome}
 use Rattle.std.specs.Ordering.{int_eq}
-use Rattle.dap_debuggee.specs.Played.{Played, shown_of, moment_shown, threads_at, thread_shown, source_shown, is_there, is_in, within, scopes_shown, variable_named, first_of, value_in, evaluation}
+use Rattle.dap_debuggee.specs.Played.{Played, shown_of, moment_shown, threads_at, thread_shown, source_shown, is_there, is_in, if_within, scopes_shown, variable_named, first_of, value_in, evaluation}
 use Rattle.dap_debuggee.specs.Recording.{IsRecording, IsWithin, HasOwnNumbers}
-use Rattle.dap_debuggee.specs.Told.{ToldCanBeAsked}
+use Rattle.dap_debuggee.specs.ShownNumbers.{ShownCanBeAsked}
 use Rattle.dap_debuggee.specs.declared.answers.Thread.{Thread}
 use Rattle.dap_debuggee.specs.declared.answers.Source.{Source}
 use Rattle.dap_debuggee.specs.declared.recording.RecordedThread.{RecordedThread}
@@ -58,12 +58,12 @@ some_by true o e p = p
 some_by false o e p = e
 
 -- what the moment that is shown has at a number
-shown_is : {A : Type 0} (span : Moment → Span) (o : Option Moment) (n : ℕ) (found : Option A) (x : A) → within span o n found ≡ Some x → (m : Moment) × (o ≡ Some m) × IsWithin (span m) n × (found ≡ Some x)
+shown_is : {A : Type 0} (span : Moment → Span) (o : Option Moment) (n : ℕ) (found : Option A) (x : A) → if_within span o n found ≡ Some x → (m : Moment) × (o ≡ Some m) × IsWithin (span m) n × (found ≡ Some x)
 shown_is span None n found x e = absurd (cc e)
 shown_is span (Some m) n found x e = let p = if_is (is_in (span m) n) found x e in (m, refl, is_in_within (span m) n p.0, p.1)
 
-is_shown : {A : Type 0} (span : Moment → Span) (o : Option Moment) (m : Moment) (n : ℕ) (found : Option A) → o ≡ Some m → IsWithin (span m) n → IsSome found → IsSome (within span o n found)
-is_shown span o m n found is p here = subst (λ x. IsSome (within span x n found)) (sym is) (some_by (is_in (span m) n) found (within_is_in (span m) n p) here)
+is_shown : {A : Type 0} (span : Moment → Span) (o : Option Moment) (m : Moment) (n : ℕ) (found : Option A) → o ≡ Some m → IsWithin (span m) n → IsSome found → IsSome (if_within span o n found)
+is_shown span o m n found is p here = subst (λ x. IsSome (if_within span x n found)) (sym is) (some_by (is_in (span m) n) found (within_is_in (span m) n p) here)
 
 shown_own : (v : Played) → IsRecording v.recording → (m : Moment) → moment_shown v ≡ Some m → HasOwnNumbers v.recording.scopes v.recording.variables m
 shown_own v good m is = good.spans v.at m (if_is (is_there v.state) (slice_get v.recording.moments v.at) m is).1
@@ -171,7 +171,7 @@ source_asked [] i source e = absurd (cc e)
 source_asked (s ∷ sources) zero source e = refl
 source_asked (s ∷ sources) (suc i) source e = source_asked sources i source e
 
-pub told_can_be_asked : (v : Played) → IsRecording v.recording → ToldCanBeAsked (shown_of v)
+pub told_can_be_asked : (v : Played) → IsRecording v.recording → ShownCanBeAsked (shown_of v)
 told_can_be_asked v good = record {
   threads = thread_asked (threads_at v);
   sources = source_asked v.recording.sources;

@@ -4,7 +4,7 @@ use Rattle.std.proofs.lemmas.Bool.Decides.{nat_tests}
 use Rattle.std.specs.List.{list_any, slice_get}
 use Rattle.dap_call.specs.declared.call.SourceKey.{SourceKey}
 use Rattle.dap_call.specs.declared.call.SourceKey.TheVariants.{Path, Reference}
-use Rattle.dap_debuggee.specs.Held.{is_of_path, path_lines_of, most_lines, lines_of_key}
+use Rattle.dap_debuggee.specs.PrivateHeld.{is_of_path, path_lines_of, most_lines, lines_of_key}
 use Rattle.dap_debuggee.specs.Played.{path_has_line, source_has_line, has_source_line}
 use Rattle.dap_debuggee.specs.declared.recording.RecordedSource.{RecordedSource}
 

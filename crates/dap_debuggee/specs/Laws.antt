@@ -5,7 +5,7 @@ use Rattle.std.specs.List.{list_all, slice_get}
 use Rattle.dap_call.specs.SameSource.{is_source}
 use Rattle.dap_call.specs.Argument.{is_int}
 use Rattle.dap_call.specs.declared.call.SourceKey.{SourceKey}
-use Rattle.dap_debuggee.specs.Shown.{Shown, Act, Reply, remembered}
+use Rattle.dap_debuggee.specs.Shown.{Shown, Act, Reply, asked_of_act}
 use Rattle.dap_debuggee.specs.Shown.{to_start, to_resume, to_pause, to_poll, to_set_breakpoints, to_end, done, refused, happened}
 use Rattle.dap_debuggee.specs.declared.answers.State.{State}
 use Rattle.dap_debuggee.specs.declared.answers.State.TheVariants.{NotStarted, Running, Stopped, Gone}
@@ -24,10 +24,10 @@ Replies (Err Refused) After = After refused
 Replies (Err OutOfMemory) After = Unit {0}
 
 -- a query was answered or refused
-abbrev pub Tells : {A B : Type 0} → Result A DebuggeeFault → (A → B) → Option B → Type 0
-Tells (Ok x) of answer = answer ≡ Some (of x)
-Tells (Err Refused) of answer = answer ≡ None
-Tells (Err OutOfMemory) of answer = Unit {0}
+abbrev pub AnswersQuery : {A B : Type 0} → Result A DebuggeeFault → (A → B) → Option B → Type 0
+AnswersQuery (Ok x) of answer = answer ≡ Some (of x)
+AnswersQuery (Err Refused) of answer = answer ≡ None
+AnswersQuery (Err OutOfMemory) of answer = Unit {0}
 
 -- ---- states
 
@@ -130,7 +130,7 @@ Counts {View} shown follows = (v w : View) (a : Act) (r : Reply) → follows v a
 
 -- each act is remembered, with its answer
 abbrev pub Remembers : {View : Type 0} → (View → Shown) → Follows View → Type 0
-Remembers {View} shown follows = (v w : View) (a : Act) (r : Reply) → follows v a r w → (shown w).last ≡ Some (record { asked = remembered a; reply = r })
+Remembers {View} shown follows = (v w : View) (a : Act) (r : Reply) → follows v a r w → (shown w).last ≡ Some (record { asked = asked_of_act a; reply = r })
 
 abbrev pub Answers : {View : Type 0} → (View → Shown) → Follows View → Type 0
 Answers {View} shown follows = (v w : View) (a : Act) (r : Reply) → follows v a r w → IsTrue (may_answer (shown v).state a r)

@@ -3,11 +3,11 @@ pub mod Laws
 pub mod Recording
 pub mod RecordingKey
 pub mod Reading
-pub mod ReadThreads
+pub mod PrivateReadThreads
 pub mod Moves
 pub mod Played
-pub mod Held
+pub mod PrivateHeld
 pub mod PlayedLaws
 pub mod Stubborn
 pub mod Polls
-pub mod Told
+pub mod ShownNumbers

@@ -86,16 +86,16 @@ reason_of sources moments lines ReverseContinue i = unwrap_or (option_map (λ k.
 reason_of sources moments lines how i = Step
 
 -- the least waiting moment after i, where it comes before `to`
-abbrev pub waiting_within : ℕ → ℕ → List Moment → Option ℕ
-waiting_within i to moments = if nat_lt (least_after (λ m. m.waits) i moments) to then Some (least_after (λ m. m.waits) i moments) else None
+abbrev pub waiting_moment_within : ℕ → ℕ → List Moment → Option ℕ
+waiting_moment_within i to moments = if nat_lt (least_after (λ m. m.waits) i moments) to then Some (least_after (λ m. m.waits) i moments) else None
 
 -- a forward move is held at the first waiting moment that it would pass
-abbrev pub held_at : Option ℕ → ℕ → Reason → Move
-held_at None to reason = record { to = to; held = false; reason = reason }
-held_at (Some waiting) to reason = record { to = waiting; held = true; reason = Pause }
+abbrev pub move_held_at : Option ℕ → ℕ → Reason → Move
+move_held_at None to reason = record { to = to; held = false; reason = reason }
+move_held_at (Some waiting) to reason = record { to = waiting; held = true; reason = Pause }
 
 abbrev pub move_to : List Moment → How → ℕ → ℕ → Reason → Move
-move_to moments how i to reason = held_at (if is_forward how then waiting_within i to moments else None) to reason
+move_to moments how i to reason = move_held_at (if is_forward how then waiting_moment_within i to moments else None) to reason
 
 abbrev pub depth_at : ℕ → List Moment → ℕ
 depth_at i moments = unwrap_or (option_map depth (slice_get moments i)) 0

@@ -5,7 +5,7 @@ use Rattle.std.specs.List.{list_any, slice_get, find}
 use Rattle.std.specs.Ordering.{int_eq}
 use Rattle.dap_call.specs.declared.call.SourceKey.{SourceKey}
 use Rattle.dap_call.specs.declared.call.SourceKey.TheVariants.{Path, Reference}
-use Rattle.dap_debuggee.specs.Shown.{Shown, Act, to_start, to_resume, to_pause, to_poll, to_set_breakpoints, to_end, Reply, done, refused, happened, remembered, Last}
+use Rattle.dap_debuggee.specs.Shown.{Shown, Act, to_start, to_resume, to_pause, to_poll, to_set_breakpoints, to_end, Reply, done, refused, happened, asked_of_act, Last}
 use Rattle.dap_debuggee.specs.Recording.{id_at}
 use Rattle.dap_debuggee.specs.Moves.{move_of, is_forward, reason_text}
 use Rattle.dap_debuggee.specs.declared.answers.State.{State}
@@ -81,119 +81,71 @@ output_of moments from to = map (λ m. m.output) (take (suc to - from) (drop fro
 
 -- ---- acts
 
-abbrev pub asked : Act → Reply → Played → Played
-asked a r v = record {
-  recording = v.recording;
-  state = v.state;
-  at = v.at;
-  run = v.run;
-  set = v.set;
-  acts = (v.acts + 1) % 2 ^ 64;
-  last = Some (record { asked = remembered a; reply = r });
-}
+abbrev pub with_ask : Act → Reply → Played → Played
+with_ask a r v = record v { acts = (v.acts + 1) % 2 ^ 64; last = Some (record { asked = asked_of_act a; reply = r }) }
 
-abbrev pub running : ℕ → List (List ℕ) → Move → Played → Played
-running at output move v = record {
-  recording = v.recording;
-  state = Running;
-  at = at;
-  run = Some (record { output = output; move = move; paused = false });
-  set = v.set;
-  acts = v.acts;
-  last = v.last;
-}
+abbrev pub run_from : ℕ → List (List ℕ) → Move → Played → Played
+run_from at output move v = record v { state = Running; at = at; run = Some (record { output = output; move = move; paused = false }) }
 
-abbrev pub resting : State → ℕ → Played → Played
-resting state at v = record {
-  recording = v.recording;
-  state = state;
-  at = at;
-  run = None;
-  set = v.set;
-  acts = v.acts;
-  last = v.last;
-}
+abbrev pub at_rest : State → ℕ → Played → Played
+at_rest state at v = record v { state = state; at = at; run = None }
 
 abbrev pub with_run : Run → Played → Played
-with_run run v = record {
-  recording = v.recording;
-  state = v.state;
-  at = v.at;
-  run = Some run;
-  set = v.set;
-  acts = v.acts;
-  last = v.last;
-}
+with_run run v = record v { run = Some run }
 
 -- a pause is remembered by the run
-abbrev pub pausing : Option Run → Played → Played
-pausing run v = record {
-  recording = v.recording;
-  state = v.state;
-  at = v.at;
-  run = option_map (λ (r : Run). record { output = r.output; move = r.move; paused = true }) run;
-  set = v.set;
-  acts = v.acts;
-  last = v.last;
-}
+abbrev pub with_pause : Option Run → Played → Played
+with_pause run v = record v { run = option_map (λ (r : Run). record { output = r.output; move = r.move; paused = true }) run }
 
 abbrev pub with_lines : List (OfSource ℕ) → Played → Played
-with_lines set v = record {
-  recording = v.recording;
-  state = v.state;
-  at = v.at;
-  run = v.run;
-  set = set;
-  acts = v.acts;
-  last = v.last;
-}
+with_lines set v = record v { set = set }
 
 -- to the first moment
-abbrev pub started : Played → Played
-started v = running 0 (output_of v.recording.moments 0 0) (record { to = 0; held = false; reason = Entry }) v
+abbrev pub after_start : Played → Played
+after_start v = run_from 0 (output_of v.recording.moments 0 0) (record { to = 0; held = false; reason = Entry }) v
 
 -- what a move writes: forward the output of each moment that it comes by, backward nothing
-abbrev pub written_on : How → List Moment → ℕ → ℕ → List (List ℕ)
-written_on how moments i to = if is_forward how then output_of moments (suc i) to else []
+abbrev pub output_on_move : How → List Moment → ℕ → ℕ → List (List ℕ)
+output_on_move how moments i to = if is_forward how then output_of moments (suc i) to else []
 
 abbrev pub move_from : How → Played → Move
 move_from how v = move_of v.recording.sources v.recording.moments (lines_in v.set) how v.at
 
-abbrev pub resumed : How → Played → Played
-resumed how v = running v.at (written_on how v.recording.moments v.at (move_from how v).to) (move_from how v) v
+abbrev pub after_resume : How → Played → Played
+after_resume how v = run_from v.at (output_on_move how v.recording.moments v.at (move_from how v).to) (move_from how v) v
 
 -- the end of a run, once all is written: held, stopped or gone
-abbrev pub arrived : Run → Played → Happening × Played
-arrived run v =
+abbrev pub end_of_run : Run → Played → Happening × Played
+end_of_run run v =
     if run.move.held && not run.paused then (happening.Nothing, with_run (record { output = []; move = run.move; paused = run.paused }) v)
     else (if nat_lt run.move.to (length v.recording.moments)
-    then (happening.Stopped (reason_text run.move.reason) (unwrap_or (option_map id_at (slice_get v.recording.moments run.move.to)) (pos 0)), resting Stopped run.move.to v)
-    else (happening.Exited v.recording.exit, resting Gone v.at v))
+    then (happening.Stopped (reason_text run.move.reason) (unwrap_or (option_map id_at (slice_get v.recording.moments run.move.to)) (pos 0)), at_rest Stopped run.move.to v)
+    else (happening.Exited v.recording.exit, at_rest Gone v.at v))
 
 -- a piece of output, while there is one
-abbrev pub ran : Run → Option (List ℕ × List (List ℕ)) → Played → Happening × Played
-ran run None v = arrived run v
-ran run (Some (piece, rest)) v = (happening.Output Stdout piece, with_run (record { output = rest; move = run.move; paused = run.paused }) v)
+abbrev pub step_of_run : Run → Option (List ℕ × List (List ℕ)) → Played → Happening × Played
+step_of_run run None v = end_of_run run v
+step_of_run run (Some (piece, rest)) v = (happening.Output Stdout piece, with_run (record { output = rest; move = run.move; paused = run.paused }) v)
 
-abbrev pub polled : State → Option Run → Played → Happening × Played
-polled Running (Some run) v = ran run (first_piece run.output) v
-polled _ _ v = (happening.Nothing, v)
+abbrev pub poll_result : State → Option Run → Played → Happening × Played
+poll_result Running (Some run) v = step_of_run run (first_piece run.output) v
+poll_result _ _ v = (happening.Nothing, v)
 
 -- the lines of one source replaced; where there are none, it has no entry
-abbrev pub replaced : SourceKey → List ℕ → List (OfSource ℕ) → List (OfSource ℕ)
-replaced key lines set = with_set key lines (of_others key set)
+abbrev pub with_source_lines : SourceKey → List ℕ → List (OfSource ℕ) → List (OfSource ℕ)
+with_source_lines key lines set = with_set key lines (of_others key set)
 
 -- the answer to an act and the view after it, before the act is counted
 abbrev pub start_in : State → Played → Reply × Played
-start_in NotStarted v = (done, started v)
+start_in NotStarted v = (done, after_start v)
 start_in _ v = (refused, v)
 
 abbrev pub resume_in : State → How → Played → Reply × Played
-resume_in Stopped how v = (done, resumed how v)
+resume_in Stopped how v = (done, after_resume how v)
 resume_in _ how v = (refused, v)
 
 abbrev pub pause_in : State → Option Run → Played → Reply × Played
-pause_in Running run v = (done, pausing run v)
+pause_in Running run v = (done, with_pause run v)
 pause_in _ _ v = (refused, v)
 
 abbrev pub poll_in : Happening × Played → Reply × Played
@@ -203,14 +155,14 @@ abbrev pub act_on : Act → Played → Reply × Played
 act_on to_start v = start_in v.state v
 act_on (to_resume how thread) v = resume_in v.state how v
 act_on to_pause v = pause_in v.state v.run v
-act_on to_poll v = poll_in (polled v.state v.run v)
-act_on (to_set_breakpoints source lines) v = (done, with_lines (replaced source lines v.set) v)
-act_on to_end v = (done, resting Gone v.at v)
+act_on to_poll v = poll_in (poll_result v.state v.run v)
+act_on (to_set_breakpoints source lines) v = (done, with_lines (with_source_lines source lines v.set) v)
+act_on to_end v = (done, at_rest Gone v.at v)
 
 -- the view that an act with an answer leaves
 pub record FollowsPlayed (v : Played) (a : Act) (r : Reply) (w : Played) : Type 0 where
   pub reply : r ≡ (act_on a v).0
-  pub view : w ≡ asked a r (act_on a v).1
+  pub view : w ≡ with_ask a r (act_on a v).1
 
 -- ---- queries
 
@@ -231,15 +183,15 @@ abbrev pub is_in : Span → ℕ → Bool
 is_in span n = nat_le span.from n && nat_lt n span.to
 
 -- what was found by a number, where it is one of the moment's
-abbrev pub within : {A : Type 0} → (Moment → Span) → Option Moment → ℕ → Option A → Option A
-within span None n found = None
-within span (Some m) n found = if is_in (span m) n then found else None
+abbrev pub if_within : {A : Type 0} → (Moment → Span) → Option Moment → ℕ → Option A → Option A
+if_within span None n found = None
+if_within span (Some m) n found = if is_in (span m) n then found else None
 
 abbrev pub scopes_shown : Played → ℕ → Option (List Scope)
-scopes_shown v frame = within (λ m. m.frames) (moment_shown v) frame (slice_get v.recording.scopes frame)
+scopes_shown v frame = if_within (λ m. m.frames) (moment_shown v) frame (slice_get v.recording.scopes frame)
 
 abbrev pub children_shown : Played → ℕ → Option (List Variable)
-children_shown v holder = within (λ m. m.holders) (moment_shown v) holder (slice_get v.recording.variables holder)
+children_shown v holder = if_within (λ m. m.holders) (moment_shown v) holder (slice_get v.recording.variables holder)
 
 abbrev pub thread_shown : RecordedThread → Thread
 thread_shown thread = record { id = thread.id; name = thread.name }
@@ -263,9 +215,9 @@ value_in variables name (scope ∷ scopes) = first_of (variable_named name (unwr
 abbrev pub evaluation : Variable → Evaluation
 evaluation variable = record { value = variable.value; holder = variable.holder }
 
-abbrev pub evaluated : Played → Option ℕ → List ℕ → Option Evaluation
-evaluated v None name = None
-evaluated v (Some frame) name = option_map evaluation (option_and_then (value_in v.recording.variables name) (scopes_shown v frame))
+abbrev pub evaluation_in : Played → Option ℕ → List ℕ → Option Evaluation
+evaluation_in v None name = None
+evaluation_in v (Some frame) name = option_map evaluation (option_and_then (value_in v.recording.variables name) (scopes_shown v frame))
 
 abbrev pub source_shown : RecordedSource → Source
 source_shown source = record { name = source.name; path = source.path }
@@ -293,7 +245,7 @@ shown_of v = record {
   frames = frames_of v;
   scopes = scopes_shown v;
   children = children_shown v;
-  evaluate = evaluated v;
+  evaluate = evaluation_in v;
   sources = map source_shown v.recording.sources;
   content = λ index. option_map (λ source. source.text) (slice_get v.recording.sources index);
   verify = λ source lines. Some (map (has_source_line v.recording.sources source) lines);
@@ -302,8 +254,8 @@ shown_of v = record {
 -- ---- as it begins
 
 -- a recording that is not started
-abbrev pub unplayed : Recording → Played
-unplayed r = record {
+abbrev pub fresh_played : Recording → Played
+fresh_played r = record {
   recording = r;
   state = NotStarted;
   at = 0;

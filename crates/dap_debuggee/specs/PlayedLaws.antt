@@ -4,7 +4,7 @@ use Rattle.std.specs.List.{slice_get}
 use Rattle.dap_call.specs.declared.call.SourceKey.{SourceKey}
 use Rattle.dap_debuggee.specs.Shown.{Act, to_start, to_resume, to_pause, to_poll, to_set_breakpoints, to_end, Reply, done, refused, happened}
 use Rattle.dap_debuggee.specs.Laws.{may_answer, state_after, keeps_answers, keeps_frames, lines_after, Counts, Remembers, Answers, Moves, SetsLines, KeepsAnswers, KeepsFrames, KeepsSources, SameFrames, SameSources, NoThreads, VerifiesEach}
-use Rattle.dap_debuggee.specs.Played.{Played, Run, act_on, asked, started, resumed, start_in, resume_in, pause_in, polled, ran, arrived, with_run, pausing, with_lines, resting, replaced, lines_in, first_piece, shown_of, has_source_line, source_shown, FollowsPlayed}
+use Rattle.dap_debuggee.specs.Played.{Played, Run, act_on, with_ask, after_start, after_resume, start_in, resume_in, pause_in, poll_result, step_of_run, end_of_run, with_run, with_pause, with_lines, at_rest, with_source_lines, lines_in, first_piece, shown_of, has_source_line, source_shown, FollowsPlayed}
 use Rattle.dap_debuggee.specs.declared.answers.State.{State}
 use Rattle.dap_debuggee.specs.declared.answers.State.TheVariants.{NotStarted, Running, Stopped, Gone}
 use Rattle.dap_debuggee.specs.declared.answers.How.{How}
@@ -16,19 +16,19 @@ use Rattle.dap_tables.specs.SourceMapLaws.{set-of-put}
 -- ---- an act, a row for each answer
 
 data Row (v : Played) : Act → Reply → Played → Type 0 where
-  starts : v.state ≡ NotStarted → Row v to_start done (started v)
+  starts : v.state ≡ NotStarted → Row v to_start done (after_start v)
   does_not_start : Row v to_start refused v
-  resumes : (how : How) (thread : ℤ) → v.state ≡ Stopped → Row v (to_resume how thread) done (resumed how v)
+  resumes : (how : How) (thread : ℤ) → v.state ≡ Stopped → Row v (to_resume how thread) done (after_resume how v)
   does_not_resume : (how : How) (thread : ℤ) → Row v (to_resume how thread) refused v
-  pauses : (run : Option Run) → v.state ≡ Running → Row v to_pause done (pausing run v)
+  pauses : (run : Option Run) → v.state ≡ Running → Row v to_pause done (with_pause run v)
   does_not_pause : Row v to_pause refused v
   gives_nothing : Row v to_poll (happened happening.Nothing) v
   holds : (run : Run) → Row v to_poll (happened happening.Nothing) (with_run run v)
   tells : (piece : List ℕ) (run : Run) → v.state ≡ Running → Row v to_poll (happened (happening.Output Stdout piece)) (with_run run v)
-  stops : (reason : List ℕ) (thread : ℤ) (at : ℕ) → v.state ≡ Running → Row v to_poll (happened (happening.Stopped reason thread)) (resting Stopped at v)
-  exits : (code : ℤ) → v.state ≡ Running → Row v to_poll (happened (happening.Exited code)) (resting Gone v.at v)
-  sets : (source : SourceKey) (lines : List ℕ) → Row v (to_set_breakpoints source lines) done (with_lines (replaced source lines v.set) v)
-  ends : Row v to_end done (resting Gone v.at v)
+  stops : (reason : List ℕ) (thread : ℤ) (at : ℕ) → v.state ≡ Running → Row v to_poll (happened (happening.Stopped reason thread)) (at_rest Stopped at v)
+  exits : (code : ℤ) → v.state ≡ Running → Row v to_poll (happened (happening.Exited code)) (at_rest Gone v.at v)
+  sets : (source : SourceKey) (lines : List ℕ) → Row v (to_set_breakpoints source lines) done (with_lines (with_source_lines source lines v.set) v)
+  ends : Row v to_end done (at_rest Gone v.at v)
 
 start_row : (v : Played) (s : State) → v.state ≡ s → Row v to_start (start_in s v).0 (start_in s v).1
 start_row v NotStarted is = starts is
@@ -55,14 +55,14 @@ either : (v : Played) (b : Bool) (p q : Happening × Played) → IsPoll v p → 
 either v true p q x y = x
 either v false p q x y = y
 
-arrived_row : (v : Played) (run : Run) → v.state ≡ Running → IsPoll v (arrived run v)
+arrived_row : (v : Played) (run : Run) → v.state ≡ Running → IsPoll v (end_of_run run v)
 arrived_row v run is = either v (run.move.held && not run.paused) _ _ (holds (record { output = []; move = run.move; paused = run.paused })) (either v (nat_lt run.move.to (length v.recording.moments)) _ _ (stops _ _ run.move.to is) (exits v.recording.exit is))
 
-ran_row : (v : Played) (run : Run) (piece : Option (List ℕ × List (List ℕ))) → v.state ≡ Running → IsPoll v (ran run piece v)
+ran_row : (v : Played) (run : Run) (piece : Option (List ℕ × List (List ℕ))) → v.state ≡ Running → IsPoll v (step_of_run run piece v)
 ran_row v run None is = arrived_row v run is
 ran_row v run (Some (piece, rest)) is = tells piece (record { output = rest; move = run.move; paused = run.paused }) is
 
-poll_row : (v : Played) (s : State) (run : Option Run) → v.state ≡ s → IsPoll v (polled s run v)
+poll_row : (v : Played) (s : State) (run : Option Run) → v.state ≡ s → IsPoll v (poll_result s run v)
 poll_row v NotStarted run is = gives_nothing
 poll_row v Running None is = gives_nothing
 poll_row v Running (Some run) is = ran_row v run (first_piece run.output) is
@@ -315,7 +315,7 @@ pub moves-played : Moves shown_of FollowsPlayed
 moves-played v w a r f = ap (λ (p : Played). p.state) f.view ∙ state_row v _ a r (row v w a r f)
 
 -- an act that is counted shows the same
-asked_same : (v u : Played) (a : Act) (r : Reply) → SameFrames (shown_of v) (shown_of u) → SameFrames (shown_of v) (shown_of (asked a r u))
+asked_same : (v u : Played) (a : Act) (r : Reply) → SameFrames (shown_of v) (shown_of u) → SameFrames (shown_of v) (shown_of (with_ask a r u))
 asked_same v u a r same = record { frames = same.frames; scopes = same.scopes; children = same.children }
 
 pub keeps_frames-played : KeepsFrames shown_of FollowsPlayed

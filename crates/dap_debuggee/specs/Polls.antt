@@ -3,7 +3,7 @@
 use Rattle.std.specs.Prelude.{◌≡◌, ℕ, zero, suc, ◌+◌, true, false, ◌&&◌, nat_le, List, [], ◌∷◌, ◌++◌, length, map, Option, Some, None, IsTrue}
 use Rattle.std.specs.List.{list_all, flat_map}
 use Rattle.dap_debuggee.specs.Shown.{to_poll, happened}
-use Rattle.dap_debuggee.specs.Played.{Played, Run, asked, polled, arrived, first_piece}
+use Rattle.dap_debuggee.specs.Played.{Played, Run, with_ask, poll_result, end_of_run, first_piece}
 use Rattle.dap_debuggee.specs.declared.answers.State.TheVariants.{Running}
 use Rattle.dap_debuggee.specs.declared.answers.Category.TheVariants.{Stdout}
 use Rattle.dap_debuggee.specs.declared.answers.Happening.{Happening}
@@ -11,8 +11,8 @@ use Rattle.dap_debuggee.specs.declared.answers.Happening.TheVariants.{Nothing, O
 
 -- ---- pieces
 
-abbrev pub joined : List (List ℕ) → List ℕ
-joined texts = flat_map (λ text. text) texts
+abbrev pub joined_text : List (List ℕ) → List ℕ
+joined_text texts = flat_map (λ text. text) texts
 
 abbrev pub and_then : (List (List ℕ) → List (List ℕ)) → Option (List ℕ × List (List ℕ)) → List (List ℕ)
 and_then others None = []
@@ -25,35 +25,35 @@ first_pieces (suc n) texts = and_then (first_pieces n) (first_piece texts)
 
 -- all pieces: no more than there are bytes
 abbrev pub pieces : List (List ℕ) → List (List ℕ)
-pieces texts = first_pieces (length (joined texts)) texts
+pieces texts = first_pieces (length (joined_text texts)) texts
 
 -- ---- polls
 
 abbrev pub happening_then : (Played → List Happening) → Happening × Played → List Happening
-happening_then later p = p.0 ∷ later (asked to_poll (happened p.0) p.1)
+happening_then later p = p.0 ∷ later (with_ask to_poll (happened p.0) p.1)
 
 -- what n polls give
 abbrev pub polls : ℕ → Played → List Happening
 polls zero v = []
-polls (suc n) v = happening_then (polls n) (polled v.state v.run v)
+polls (suc n) v = happening_then (polls n) (poll_result v.state v.run v)
 
 abbrev pub nothings : ℕ → List Happening
 nothings zero = []
 nothings (suc n) = Nothing ∷ nothings n
 
-abbrev pub told : List (List ℕ) → List Happening
-told texts = map (λ text. Output Stdout text) (pieces texts)
+abbrev pub output_happenings : List (List ℕ) → List Happening
+output_happenings texts = map (λ text. Output Stdout text) (pieces texts)
 
 -- ---- laws
 
 -- Pieces are the whole output: none is empty, and none has more than 128 bytes.
 abbrev pub PiecesAreTheOutput : Type 0
-PiecesAreTheOutput = (texts : List (List ℕ)) → (joined (pieces texts) ≡ joined texts) × IsTrue (list_all (λ piece. nat_le 1 (length piece) && nat_le (length piece) 128) (pieces texts))
+PiecesAreTheOutput = (texts : List (List ℕ)) → (joined_text (pieces texts) ≡ joined_text texts) × IsTrue (list_all (λ piece. nat_le 1 (length piece) && nat_le (length piece) 128) (pieces texts))
 
 -- While it runs, polls give the pieces of its output in order, and then how the run ends.
-abbrev pub PollsTellThePieces : Type 0
-PollsTellThePieces = (v : Played) (run : Run) → v.state ≡ Running → v.run ≡ Some run → polls (length (pieces run.output) + 1) v ≡ told run.output ++ (arrived run v).0 ∷ []
+abbrev pub PollsGiveThePieces : Type 0
+PollsGiveThePieces = (v : Played) (run : Run) → v.state ≡ Running → v.run ≡ Some run → polls (length (pieces run.output) + 1) v ≡ output_happenings run.output ++ (end_of_run run v).0 ∷ []
 
 -- A run that is held gives nothing after them, poll after poll, until it is asked to pause.
 abbrev pub HeldGivesNothing : Type 0
-HeldGivesNothing = (v : Played) (run : Run) (n : ℕ) → v.state ≡ Running → v.run ≡ Some run → run.move.held ≡ true → run.paused ≡ false → polls (length (pieces run.output) + n) v ≡ told run.output ++ nothings n
+HeldGivesNothing = (v : Played) (run : Run) (n : ℕ) → v.state ≡ Running → v.run ≡ Some run → run.move.held ≡ true → run.paused ≡ false → polls (length (pieces run.output) + n) v ≡ output_happenings run.output ++ nothings n

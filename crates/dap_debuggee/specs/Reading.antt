@@ -15,7 +15,7 @@ use Rattle.dap_json.specs.Steps.{◌>>=◌, ◌>>◌, Returns}
 use Rattle.dap_json.specs.Field.{if_passes, is_object}
 use Rattle.dap_call.specs.Argument.{int_of, number_of}
 use Rattle.dap_debuggee.specs.Laws.{is_code}
-use Rattle.dap_debuggee.specs.Played.{Played, unplayed}
+use Rattle.dap_debuggee.specs.Played.{Played, fresh_played}
 use Rattle.dap_debuggee.specs.Recording.{line_count}
 use Rattle.dap_debuggee.specs.RecordingKey.{name_of}
 use Rattle.dap_debuggee.specs.declared.answers.Frame.{Frame}
@@ -74,20 +74,20 @@ or_bad k None = Err k
 or_bad k (Some x) = Ok x
 
 -- the value at a key, which has to be there in this shape
-abbrev pub required : {A : Type 0} → (Data → Option A) → RecordingKey → Data → Read A
-required shape k d = or_bad k (option_and_then shape (value_at k d))
+abbrev pub required_at : {A : Type 0} → (Data → Option A) → RecordingKey → Data → Read A
+required_at shape k d = or_bad k (option_and_then shape (value_at k d))
 
 abbrev pub in_shape : {A : Type 0} → (Data → Option A) → RecordingKey → Option Data → Read (Option A)
 in_shape shape k None = Ok None
 in_shape shape k (Some d) = or_bad k (option_map Some (shape d))
 
 -- the value at a key, which may be absent, but has this shape where it is there
-abbrev pub optional : {A : Type 0} → (Data → Option A) → RecordingKey → Data → Read (Option A)
-optional shape k d = in_shape shape k (value_at k d)
+abbrev pub optional_at : {A : Type 0} → (Data → Option A) → RecordingKey → Data → Read (Option A)
+optional_at shape k d = in_shape shape k (value_at k d)
 
 abbrev pub optional_or : {A : Type 0} → (Data → Option A) → A → RecordingKey → Data → Read A
 optional_or shape default k d = do
-  found ← optional shape k d
+  found ← optional_at shape k d
   Ok (unwrap_or found default)
 
 -- an element of the array at a key is an object
@@ -97,13 +97,13 @@ element k d = if is_object d then Ok tt else Err k
 -- an array of one element or more
 abbrev pub some_items : RecordingKey → Data → Read Items
 some_items k d = do
-  ds ← required as_array k d
+  ds ← required_at as_array k d
   if nat_le 1 (items_len ds) then Ok ds else Err k
 
 -- an array of at most 65536 elements
 abbrev pub few_items : RecordingKey → Data → Read Items
 few_items k d = do
-  ds ← required as_array k d
+  ds ← required_at as_array k d
   if nat_le (items_len ds) 65536 then Ok ds else Err k
 
 -- ---- shapes
@@ -154,8 +154,8 @@ with_holder (v ∷ vs) holders = holders ++ (v ∷ vs) ∷ []
 abbrev mutual
   pub variable_of : Data → Holders → Read (Variable × Holders)
   variable_of (object ms) holders = do
-    name ← required as_str key.Name (object ms)
-    value ← required as_str key.Value (object ms)
+    name ← required_at as_str key.Name (object ms)
+    value ← required_at as_str key.Value (object ms)
     inner ← variables_within ms holders
     Ok (record { name = name; value = value; holder = holder_of inner.0 inner.1 }, with_holder inner.0 inner.1)
   variable_of d holders = Err key.Variables
@@ -175,17 +175,17 @@ abbrev mutual
   variables_within no_members holders = Ok ([], holders)
   variables_within (member k d ms) holders = match_ordering (slice_cmp nat_cmp (name_of key.Variables) k) (variables_within ms holders) (variables_of d holders) (variables_within ms holders)
 
-abbrev pub listed : Option Data → Holders → Read (List Variable × Holders)
-listed None holders = Ok ([], holders)
-listed (Some d) holders = variables_of d holders
+abbrev pub read_variables : Option Data → Holders → Read (List Variable × Holders)
+read_variables None holders = Ok ([], holders)
+read_variables (Some d) holders = variables_of d holders
 
 -- the same, by the keys of one variable
 abbrev pub variable_row : Data → Holders → Read (Variable × Holders)
 variable_row d holders = do
   element key.Variables d
-  name ← required as_str key.Name d
-  value ← required as_str key.Value d
-  inner ← listed (value_at key.Variables d) holders
+  name ← required_at as_str key.Name d
+  value ← required_at as_str key.Value d
+  inner ← read_variables (value_at key.Variables d) holders
   Ok (record { name = name; value = value; holder = holder_of inner.0 inner.1 }, with_holder inner.0 inner.1)
 
 -- ---- scopes, frames and threads
@@ -206,8 +206,8 @@ each one (item d ds) found s = do
 unfoldable pub scope_of : Data → Holders → Read (Scope × Holders)
 scope_of d holders = do
   element key.Scopes d
-  name ← required as_str key.Name d
-  inner ← listed (value_at key.Variables d) holders
+  name ← required_at as_str key.Name d
+  inner ← read_variables (value_at key.Variables d) holders
   Ok (record { name = name; holder = length inner.1 }, inner.1 ++ inner.0 ∷ [])
 
 unfoldable pub scopes_of : Data → Holders → Read (List Scope × Holders)
@@ -219,17 +219,17 @@ scopes_of d holders = do
 unfoldable pub frame_of : List RecordedSource → Data → Numbered → Read (Frame × Numbered)
 frame_of sources d numbered = do
   element key.Frames d
-  name ← required as_str key.Name d
-  source ← required (source_place sources) key.Source d
-  line ← required (line_of (lines_at sources source)) key.Line d
+  name ← required_at as_str key.Name d
+  source ← required_at (source_place sources) key.Source d
+  line ← required_at (line_of (lines_at sources source)) key.Line d
   scopes ← scopes_of d numbered.variables
   Ok (record { object = length numbered.scopes; name = name; source = source; line = line }, record { scopes = numbered.scopes ++ scopes.0 ∷ []; variables = scopes.1 })
 
 unfoldable pub thread_of : List RecordedSource → List RecordedThread → Data → Numbered → Read (RecordedThread × Numbered)
 thread_of sources earlier d numbered = do
   element key.Threads d
-  id ← required (new_id earlier) key.Id d
-  name ← required as_str key.Name d
+  id ← required_at (new_id earlier) key.Id d
+  name ← required_at as_str key.Name d
   given ← some_items key.Frames d
   frames ← each (λ earlier. frame_of sources) given [] numbered
   Ok (record { id = id; name = name; frames = frames.0 }, frames.1)
@@ -239,9 +239,9 @@ thread_of sources earlier d numbered = do
 unfoldable pub moment_of : List RecordedSource → Data → Numbered → Read (Moment × Numbered)
 moment_of sources d numbered = do
   element key.Moments d
-  given ← required as_array key.Threads d
+  given ← required_at as_array key.Threads d
   threads ← each (thread_of sources) given [] numbered
-  thread ← required (thread_place threads.0) key.Thread d
+  thread ← required_at (thread_place threads.0) key.Thread d
   output ← optional_or as_str [] key.Output d
   waits ← optional_or as_bool false key.Waits d
   Ok (record { threads = threads.0; thread = thread; output = output; waits = waits; frames = record { from = length numbered.scopes; to = length threads.1.scopes }; holders = record { from = length numbered.variables; to = length threads.1.variables } }, threads.1)
@@ -252,9 +252,9 @@ moments_of sources ds numbered = each (λ earlier. moment_of sources) ds [] numb
 unfoldable pub source_of : Data → Read RecordedSource
 source_of d = do
   element key.Sources d
-  name ← required as_str key.Name d
-  path ← optional as_str key.Path d
-  text ← required as_str key.Text d
+  name ← required_at as_str key.Name d
+  path ← optional_at as_str key.Path d
+  text ← required_at as_str key.Text d
   Ok (record { name = name; path = path; text = text; lines = line_count text })
 
 abbrev pub each_source : Items → List RecordedSource → Read (List RecordedSource)
@@ -265,7 +265,7 @@ each_source (item d ds) found = do
 
 unfoldable pub recording_of : Data → Read Recording
 recording_of d = do
-  exit ← required exit_of key.Exit d
+  exit ← required_at exit_of key.Exit d
   texts ← few_items key.Sources d
   sources ← each_source texts []
   given ← some_items key.Moments d
@@ -283,7 +283,7 @@ verdict_of (Some d) = if is_object d then or_fault (recording_of d) else Err Not
 
 -- What was read is the verdict, not started, unless memory ran out.
 abbrev pub Reads : Result Played RecordingFault → Result Recording RecordingFault → Type 0
-Reads (Ok played) verdict = (verdict ≡ Ok played.recording) × (played ≡ unplayed played.recording)
+Reads (Ok played) verdict = (verdict ≡ Ok played.recording) × (played ≡ fresh_played played.recording)
 Reads (Err NotJson) verdict = verdict ≡ Err NotJson
 Reads (Err NotObject) verdict = verdict ≡ Err NotObject
 Reads (Err (BadKey k)) verdict = verdict ≡ Err (BadKey k)

@@ -36,13 +36,13 @@ pub data Reply : Type 0 where
   happened : Happening → Reply
 
 -- an act as it is remembered: with its how and its thread
-abbrev pub remembered : Act → Asked
-remembered to_start = Start
-remembered (to_resume how thread) = Resume how thread
-remembered to_pause = Pause
-remembered to_poll = Poll
-remembered (to_set_breakpoints source lines) = SetBreakpoints
-remembered to_end = End
+abbrev pub asked_of_act : Act → Asked
+asked_of_act to_start = Start
+asked_of_act (to_resume how thread) = Resume how thread
+asked_of_act to_pause = Pause
+asked_of_act to_poll = Poll
+asked_of_act (to_set_breakpoints source lines) = SetBreakpoints
+asked_of_act to_end = End
 
 -- the last act, with its answer
 pub record Last : Type 0 where

@@ -1,9 +1,9 @@
 -- A debuggee of the tests: a recording that refuses its first start, though it could start.
 -- It shows that the laws hold of more than one debuggee.
 use Rattle.std.proofs.Common.{◌≡◌, ◌⊎◌, inl, inr, Bool, true, false, not, ◌||◌, IsTrue, Some, refl, sym, ap, subst, ◌∙◌}
-use Rattle.dap_debuggee.specs.Shown.{Shown, Act, to_start, Reply, refused, remembered}
+use Rattle.dap_debuggee.specs.Shown.{Shown, Act, to_start, Reply, refused, asked_of_act}
 use Rattle.dap_debuggee.specs.Laws.{may_answer, state_after, lines_after, Counts, Remembers, Answers, Moves, SetsLines, KeepsAnswers, KeepsFrames, KeepsSources, SameAnswers, NoThreads, VerifiesEach}
-use Rattle.dap_debuggee.specs.Played.{Played, asked, lines_in, shown_of, FollowsPlayed}
+use Rattle.dap_debuggee.specs.Played.{Played, with_ask, lines_in, shown_of, FollowsPlayed}
 use Rattle.dap_debuggee.specs.PlayedLaws.{refused_start, same_start, counts-played, remembers-played, answers-played, moves-played, sets_lines-played, keeps_answers-played, keeps_frames-played, keeps_sources-played, no_threads-played, verifies_each-played}
 
 pub record StubbornView : Type 0 where
@@ -24,7 +24,7 @@ pub record Refuses (v : StubbornView) (a : Act) (r : Reply) (w : StubbornView) :
   pub once : w.refuses ≡ false
   pub act : a ≡ to_start
   pub reply : r ≡ refused
-  pub inner : w.inner ≡ asked to_start refused v.inner
+  pub inner : w.inner ≡ with_ask to_start refused v.inner
 
 -- all else is the recording's
 pub record Plays (v : StubbornView) (a : Act) (r : Reply) (w : StubbornView) : Type 0 where
@@ -40,7 +40,7 @@ counts-stubborn v w a r (inl f) = ap (λ (p : Played). p.acts) f.inner
 counts-stubborn v w a r (inr f) = counts-played v.inner w.inner a r f.inner
 
 pub remembers-stubborn : Remembers shown_stubborn FollowsStubborn
-remembers-stubborn v w a r (inl f) = ap (λ (p : Played). p.last) f.inner ∙ ap (λ q. Some (record { asked = remembered q; reply = refused })) (sym f.act) ∙ ap (λ q. Some (record { asked = remembered a; reply = q })) (sym f.reply)
+remembers-stubborn v w a r (inl f) = ap (λ (p : Played). p.last) f.inner ∙ ap (λ q. Some (record { asked = asked_of_act q; reply = refused })) (sym f.act) ∙ ap (λ q. Some (record { asked = asked_of_act a; reply = q })) (sym f.reply)
 remembers-stubborn v w a r (inr f) = remembers-played v.inner w.inner a r f.inner
 
 pub answers-stubborn : Answers shown_stubborn FollowsStubborn
@@ -55,7 +55,7 @@ pub sets_lines-stubborn : SetsLines shown_stubborn FollowsStubborn
 sets_lines-stubborn v w a r (inl f) key = ap (λ (p : Played). lines_in p.set key) f.inner ∙ ap (λ q. lines_after q (lines_in v.inner.set) key) (sym f.act)
 sets_lines-stubborn v w a r (inr f) key = sets_lines-played v.inner w.inner a r f.inner key
 
-same : (v : Played) (w : Played) → w ≡ asked to_start refused v → SameAnswers (shown_of v) (shown_of w)
+same : (v : Played) (w : Played) → w ≡ with_ask to_start refused v → SameAnswers (shown_of v) (shown_of w)
 same v w is = subst (λ p. SameAnswers (shown_of v) (shown_of p)) (sym is) (record {
   threads = refl;
   frames = record { frames = λ t. refl; scopes = λ n. refl; children = λ n. refl };

@@ -8,8 +8,8 @@ impl Recorded {
     ghost use Rattle.std.specs.Prelude.{◌≡◌, ◌<◌, length, None, OnOk, OnErr, IsErrOf};
     ghost use Rattle.dap_debuggee.specs.Shown.{to_start, to_resume, to_pause, to_set_breakpoints, to_end, done};
     ghost use Rattle.dap_debuggee.specs.Laws.{Replies};
-    ghost use Rattle.dap_debuggee.specs.Played.{FollowsPlayed, resting, replaced, with_lines};
-    ghost use Rattle.dap_debuggee.specs.Held.{HasRun};
+    ghost use Rattle.dap_debuggee.specs.Played.{FollowsPlayed, at_rest, with_source_lines, with_lines};
+    ghost use Rattle.dap_debuggee.specs.PrivateHeld.{HasRun};
 
     pub(crate) fn to_start(&mut self) -> Result<(), DebuggeeFault>
         ensures follows { Replies result (λ reply. FollowsPlayed self.old to_start reply self.new) }
@@ -71,7 +71,7 @@ impl Recorded {
     pub(crate) fn rest(&mut self, state: State, at: usize)
         requires within { at < length self.old.recording.moments }
         requires over { HasRun state None }
-        ensures { self.new ≡ resting state at self.old }
+        ensures { self.new ≡ at_rest state at self.old }
     {
         self.state = state;
         self.at = at;
@@ -92,7 +92,7 @@ impl Recorded {
         source: &SourceKey,
         lines: &[u32],
     ) -> Result<(), AllocError>
-        ensures set { OnOk result (self.new ≡ with_lines (replaced source.now lines.now self.old.set) self.old) }
+        ensures set { OnOk result (self.new ≡ with_lines (with_source_lines source.now lines.now self.old.set) self.old) }
         ensures memory { OnErr result (self.new ≡ self.old) }
         ensures some { OnErr result (0 < length lines.now) }
     {

@@ -18,7 +18,7 @@ use std::alloc::{AllocError, Global};
 pub trait Debuggee {
     ghost use Rattle.std.specs.Prelude.{◌≡◌, IfOk, OnOk, IsTrue};
     ghost use Rattle.dap_debuggee.specs.Shown.{Shown, Act, Reply, to_start, to_resume, to_pause, to_poll, to_set_breakpoints, to_end, done, happened};
-    ghost use Rattle.dap_debuggee.specs.Laws.{Replies, Tells, Counts, Remembers, Answers, Moves, SetsLines, KeepsAnswers, KeepsFrames, KeepsSources, is_short, NoThreads, ThreadsInRange, FramesInRange, NamesOneFrame, SourcesInRange, VerifiesEach};
+    ghost use Rattle.dap_debuggee.specs.Laws.{Replies, AnswersQuery, Counts, Remembers, Answers, Moves, SetsLines, KeepsAnswers, KeepsFrames, KeepsSources, is_short, NoThreads, ThreadsInRange, FramesInRange, NamesOneFrame, SourcesInRange, VerifiesEach};
 
     /// What a view shows.
     ghost shown: { Self → Shown };
@@ -63,17 +63,17 @@ pub trait Debuggee {
 
     /// The frames of a thread, the newest first. `Refused` where there is no such thread.
     fn frames(&self, alloc: Global, thread: i64) -> Result<Vec<Frame>, DebuggeeFault>
-        ensures frames { Tells result (λ frames. frames.items) ((shown self.now).frames thread) }
+        ensures frames { AnswersQuery result (λ frames. frames.items) ((shown self.now).frames thread) }
         ensures in_range { FramesInRange (shown self.now) }
         ensures one_name { NamesOneFrame (shown self.now) };
 
     /// The scopes of a frame, by its object number. `Refused` where there is no such frame.
     fn scopes(&self, alloc: Global, frame: u64) -> Result<Vec<Scope>, DebuggeeFault>
-        ensures { Tells result (λ scopes. scopes.items) ((shown self.now).scopes frame) };
+        ensures { AnswersQuery result (λ scopes. scopes.items) ((shown self.now).scopes frame) };
 
     /// The variables of a holder, by its object number. `Refused` where there is no such holder.
     fn children(&self, alloc: Global, holder: u64) -> Result<Vec<Variable>, DebuggeeFault>
-        ensures { Tells result (λ children. children.items) ((shown self.now).children holder) };
+        ensures { AnswersQuery result (λ children. children.items) ((shown self.now).children holder) };
 
     /// The value of a text, in a frame by its object number or in none. `Refused` where it has none.
     fn evaluate(
@@ -82,7 +82,7 @@ pub trait Debuggee {
         frame: Option<u64>,
         text: &str,
     ) -> Result<Evaluation, DebuggeeFault>
-        ensures { Tells result (λ value. value) ((shown self.now).evaluate frame text.now) };
+        ensures { AnswersQuery result (λ value. value) ((shown self.now).evaluate frame text.now) };
 
     /// The sources, in order.
     fn sources(&self, alloc: Global) -> Result<Vec<Source>, AllocError>
@@ -91,7 +91,7 @@ pub trait Debuggee {
 
     /// The text of a source, by its index from 0. `Refused` where there is none to tell.
     fn content(&self, alloc: Global, index: u32) -> Result<Text, DebuggeeFault>
-        ensures { Tells result (λ text. text) ((shown self.now).content index) };
+        ensures { AnswersQuery result (λ text. text) ((shown self.now).content index) };
 
     /// Of each line, counted from 1, whether a breakpoint can stand there. `Refused` where it cannot be told.
     fn verify(
@@ -100,7 +100,7 @@ pub trait Debuggee {
         source: &SourceKey,
         lines: &[u32],
     ) -> Result<Vec<bool>, DebuggeeFault>
-        ensures { Tells result (λ answers. answers.items) ((shown self.now).verify source.now lines.now) };
+        ensures { AnswersQuery result (λ answers. answers.items) ((shown self.now).verify source.now lines.now) };
 
     /// Each act is counted, modulo 18446744073709551616.
     ghost counts: { Counts shown follows };

@@ -1,5 +1,5 @@
 //! Laws of the definitions, each on a function with nothing to run.
-ghost use Rattle.dap_debuggee.specs.Polls.{PiecesAreTheOutput, PollsTellThePieces, HeldGivesNothing};
+ghost use Rattle.dap_debuggee.specs.Polls.{PiecesAreTheOutput, PollsGiveThePieces, HeldGivesNothing};
 
 /// The pieces of a run's output are the whole output; none is empty, and none has more than 128 bytes.
 pub fn pieces_are_the_output()
@@ -8,7 +8,7 @@ pub fn pieces_are_the_output()
 
 /// Polls of a recorded debuggee that runs give the pieces of its output in order, and then how the run ends.
 pub fn polls_tell_the_pieces()
-    ensures { PollsTellThePieces }
+    ensures { PollsGiveThePieces }
 {}
 
 /// A recorded debuggee that is held, and was not asked to pause, gives nothing after its output, poll after poll.

@@ -103,7 +103,7 @@ pub(crate) struct Plan<'r> {
 }
 
 impl Plan<'_> {
-    ghost use Rattle.dap_debuggee.specs.Moves.{passes as passes_test, least_after as least_place_after, greatest_before as greatest_place_before, target as target_of, reason_of, depth_at, waiting_within, move_of};
+    ghost use Rattle.dap_debuggee.specs.Moves.{passes as passes_test, least_after as least_place_after, greatest_before as greatest_place_before, target as target_of, reason_of, depth_at, waiting_moment_within, move_of};
     ghost use Rattle.dap_debuggee.specs.Played.{lines_in};
 
     fn passes(&self, wanted: Wanted, moment: &Moment) -> bool
@@ -152,7 +152,7 @@ impl Plan<'_> {
     fn waiting_before(&self, i: usize, to: usize) -> Option<usize>
         requires after { i < length self.now.moments.now }
         requires within { to ≤ length self.now.moments.now }
-        ensures { result ≡ waiting_within i to self.now.moments.now }
+        ensures { result ≡ waiting_moment_within i to self.now.moments.now }
     {
         let mut k = i + 1;
         while k < to {

@@ -1,7 +1,7 @@
 //! How many lines there are under a path.
 ghost use Rattle.std.specs.Prelude.{◌≡◌, ℕ, List as Items, max, unwrap_or, IfOk, OnOk};
 ghost use Rattle.std.specs.BTreeMap.{get_by_text};
-ghost use Rattle.dap_debuggee.specs.Held.{path_lines_of, most_lines, HasMost};
+ghost use Rattle.dap_debuggee.specs.PrivateHeld.{path_lines_of, most_lines, HasMost};
 
 use crate::recording::RecordedSource;
 use std::alloc::{AllocError, Global};

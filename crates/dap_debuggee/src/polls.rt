@@ -3,7 +3,7 @@
 ghost use Rattle.std.specs.Prelude.{◌≡◌};
 
 use crate::answers::{Category, Happening, State};
-use crate::recorded::{Given, Going, LastAsked, Recorded};
+use crate::recorded::{Going, LastAsked, LastPoll, Recorded};
 use crate::{moves, run};
 use dap_json::Text;
 use std::alloc::{AllocError, Global};
@@ -12,34 +12,34 @@ impl Recorded {
     ghost use Rattle.std.specs.Prelude.{◌≡◌, [], Some, IfOk, IsTrue, OnErr};
     ghost use Rattle.dap_debuggee.specs.Shown.{to_poll, happened};
     ghost use Rattle.dap_debuggee.specs.Laws.{is_short};
-    ghost use Rattle.dap_debuggee.specs.Held.{output_left, run_of, rest_of, IsToldWhole};
-    ghost use Rattle.dap_debuggee.specs.Played.{FollowsPlayed, asked, arrived};
+    ghost use Rattle.dap_debuggee.specs.PrivateHeld.{output_left, run_of, rest_of, IsOutputWhole};
+    ghost use Rattle.dap_debuggee.specs.Played.{FollowsPlayed, with_ask, end_of_run};
 
     /// How a run ends whose output is all told: it is held, or stops, or exits.
     fn arrive(&mut self, alloc: Global, going: Going) -> Result<Happening, AllocError>
-        requires whole { IsToldWhole self.old.recording.moments (Some going) }
+        requires whole { IsOutputWhole self.old.recording.moments (Some going) }
         requires told { output_left self.old.recording.moments going ≡ [] }
-        ensures happened { IfOk result (λ h. h ≡ (arrived (rest_of going) self.old).0) }
-        ensures view { IfOk result (λ h. self.new ≡ asked to_poll (happened h) (arrived (rest_of going) self.old).1) }
+        ensures happened { IfOk result (λ h. h ≡ (end_of_run (rest_of going) self.old).0) }
+        ensures view { IfOk result (λ h. self.new ≡ with_ask to_poll (happened h) (end_of_run (rest_of going) self.old).1) }
         ensures in_range { IfOk result (λ h. IsTrue (is_short h)) }
         ensures kept { OnErr result (self.new ≡ self.old) }
     {
         let to = going.to;
         if to.held && !going.paused {
             self.going = Some(going);
-            self.note(LastAsked::Polled(Given::Nothing));
+            self.note(LastAsked::Polled(LastPoll::Nothing));
             return Ok(Happening::Nothing);
         }
         let Some(moment) = self.recording.moments.as_slice().get(to.to) else {
             let code = self.recording.exit;
             self.rest(State::Gone, self.at);
-            self.note(LastAsked::Polled(Given::Exited));
+            self.note(LastAsked::Polled(LastPoll::Exited));
             return Ok(Happening::Exited { code });
         };
         let thread = moves::id_at(moment);
         let reason = Text::copied(alloc, to.reason.text())?;
         self.rest(State::Stopped, to.to);
-        self.note(LastAsked::Polled(Given::Stopped {
+        self.note(LastAsked::Polled(LastPoll::Stopped {
             reason: to.reason,
             moment: to.to,
         }));
@@ -55,7 +55,7 @@ impl Recorded {
         match (self.state, self.going) {
             (State::Running, Some(going)) => self.tell(alloc, going),
             _ => {
-                self.note(LastAsked::Polled(Given::Nothing));
+                self.note(LastAsked::Polled(LastPoll::Nothing));
                 Ok(Happening::Nothing)
             }
         }
@@ -63,7 +63,7 @@ impl Recorded {
 
     /// The next piece of output of a run, or how it ends.
     fn tell(&mut self, alloc: Global, going: Going) -> Result<Happening, AllocError>
-        requires whole { IsToldWhole self.old.recording.moments (Some going) }
+        requires whole { IsOutputWhole self.old.recording.moments (Some going) }
         requires runs { self.old.state ≡ State.Running }
         requires going { self.old.run ≡ run_of self.old.recording.moments (Some going) }
         ensures follows { IfOk result (λ h. FollowsPlayed self.old to_poll (happened h) self.new) }
@@ -77,7 +77,7 @@ impl Recorded {
         };
         let text = Text::copied(alloc, piece)?;
         self.going = Some(after);
-        self.note(LastAsked::Polled(Given::Output {
+        self.note(LastAsked::Polled(LastPoll::Output {
             moment: going.moment,
             from: going.told,
             to: after.told,

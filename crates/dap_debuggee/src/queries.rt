@@ -1,6 +1,6 @@
 //! What a recorded debuggee tells of the moment that it shows.
 ghost use Rattle.std.specs.Prelude.{◌≡◌, ◌&&◌, nat_le, IfOk, map, option_map};
-ghost use Rattle.dap_debuggee.specs.Held.{held_by, thread_with};
+ghost use Rattle.dap_debuggee.specs.PrivateHeld.{variables_held_by, thread_with};
 ghost use Rattle.dap_debuggee.specs.Played.{is_in as is_in_span, variable_named, value_in as value_within, source_shown, thread_shown};
 
 use crate::answers::{DebuggeeFault, Evaluation, Frame, Scope, Source, State, Thread, Variable};
@@ -115,7 +115,7 @@ fn value_in_scope<'r>(
     name: &str,
     scope: &Scope,
 ) -> Option<&'r Variable>
-    ensures { option_map (λ v. v.now) result ≡ variable_named name.now (held_by variables.now scope.now.holder) }
+    ensures { option_map (λ v. v.now) result ≡ variable_named name.now (variables_held_by variables.now scope.now.holder) }
 {
     named(variables.get(scope.holder as usize)?.as_slice(), name)
 }
@@ -155,8 +155,8 @@ fn is_in(span: Span, number: u64) -> bool
 impl Recorded {
     ghost use Rattle.std.specs.Prelude.{◌≡◌, IfOk, map, option_map, IsErrOf};
     ghost use Rattle.std.specs.Option.{IsSome};
-    ghost use Rattle.dap_debuggee.specs.Laws.{Tells};
-    ghost use Rattle.dap_debuggee.specs.Held.{lines_of_key};
+    ghost use Rattle.dap_debuggee.specs.Laws.{AnswersQuery};
+    ghost use Rattle.dap_debuggee.specs.PrivateHeld.{lines_of_key};
     ghost use Rattle.dap_debuggee.specs.Played.{moment_shown, threads_at, scopes_shown, children_shown, thread_shown, shown_of};
 
     /// The moment that is shown; none before the start and once gone.
@@ -216,7 +216,7 @@ impl Recorded {
     }
 
     pub(crate) fn frames_of(&self, alloc: Global, id: i64) -> Result<Vec<Frame>, DebuggeeFault>
-        ensures told { Tells result (λ frames. frames.items) ((shown_of self.now).frames id) }
+        ensures told { AnswersQuery result (λ frames. frames.items) ((shown_of self.now).frames id) }
         ensures memory { IsErrOf result DebuggeeFault.OutOfMemory → IsSome ((shown_of self.now).frames id) }
     {
         match thread_of(self.here(), id) {
@@ -226,7 +226,7 @@ impl Recorded {
     }
 
     pub(crate) fn scopes_of(&self, alloc: Global, frame: u64) -> Result<Vec<Scope>, DebuggeeFault>
-        ensures told { Tells result (λ scopes. scopes.items) ((shown_of self.now).scopes frame) }
+        ensures told { AnswersQuery result (λ scopes. scopes.items) ((shown_of self.now).scopes frame) }
         ensures memory { IsErrOf result DebuggeeFault.OutOfMemory → IsSome ((shown_of self.now).scopes frame) }
     {
         match self.scopes_at(frame) {
@@ -240,7 +240,7 @@ impl Recorded {
         alloc: Global,
         holder: u64,
     ) -> Result<Vec<Variable>, DebuggeeFault>
-        ensures told { Tells result (λ children. children.items) ((shown_of self.now).children holder) }
+        ensures told { AnswersQuery result (λ children. children.items) ((shown_of self.now).children holder) }
         ensures memory { IsErrOf result DebuggeeFault.OutOfMemory → IsSome ((shown_of self.now).children holder) }
     {
         match self.children_at(holder) {
@@ -250,7 +250,7 @@ impl Recorded {
     }
 
     pub(crate) fn text_of(&self, index: u32) -> Result<Text, DebuggeeFault>
-        ensures told { Tells result (λ text. text) ((shown_of self.now).content index) }
+        ensures told { AnswersQuery result (λ text. text) ((shown_of self.now).content index) }
         ensures memory { IsErrOf result DebuggeeFault.OutOfMemory → IsSome ((shown_of self.now).content index) }
     {
         match self.recording.sources.as_slice().get(index as usize) {
@@ -264,7 +264,7 @@ impl Recorded {
         frame: Option<u64>,
         name: &str,
     ) -> Result<Evaluation, DebuggeeFault>
-        ensures told { Tells result (λ value. value) ((shown_of self.now).evaluate frame name.now) }
+        ensures told { AnswersQuery result (λ value. value) ((shown_of self.now).evaluate frame name.now) }
         ensures memory { IsErrOf result DebuggeeFault.OutOfMemory → IsSome ((shown_of self.now).evaluate frame name.now) }
     {
         let Some(frame) = frame else {
@@ -305,7 +305,7 @@ impl Recorded {
         source: &SourceKey,
         lines: &[u32],
     ) -> Result<Vec<bool>, DebuggeeFault>
-        ensures { Tells result (λ answers. answers.items) ((shown_of self.now).verify source.now lines.now) }
+        ensures { AnswersQuery result (λ answers. answers.items) ((shown_of self.now).verify source.now lines.now) }
     {
         let most = self.lines_of(source);
         Ok(verified(alloc, most, lines)?)

@@ -17,7 +17,7 @@ pub(crate) struct ReadThreads {
 impl Model for ReadThreads {
     ghost use Rattle.std.specs.Prelude.{List as Items};
     ghost use Rattle.dap_debuggee.specs.declared.recording.RecordedThread.{RecordedThread as Thread};
-    ghost use Rattle.dap_debuggee.specs.ReadThreads.{HasIds};
+    ghost use Rattle.dap_debuggee.specs.PrivateReadThreads.{HasIds};
 
     ghost Value = { Items Thread };
 

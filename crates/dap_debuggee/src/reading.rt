@@ -4,7 +4,7 @@ ghost use Rattle.serde_json.specs.View.{view};
 ghost use Rattle.serde_json.specs.Find.{as_str, as_bool, as_array};
 ghost use Rattle.serde_json.specs.Data.{no_items};
 ghost use Rattle.dap_call.specs.Argument.{int_of, number_of};
-ghost use Rattle.dap_debuggee.specs.Reading.{Gives, GivesItems, element as element_of, exit_of, some_items as some_items_of, few_items as few_items_of, required, optional, optional_or};
+ghost use Rattle.dap_debuggee.specs.Reading.{Gives, GivesItems, element as element_of, exit_of, some_items as some_items_of, few_items as few_items_of, required_at, optional_at, optional_or};
 
 use dap_json::Text;
 use serde_json::Value;
@@ -112,7 +112,7 @@ pub(crate) fn element(value: &Value, key: RecordingKey) -> Result<(), RecordingF
 }
 
 pub(crate) fn text(alloc: Global, value: &Value, key: RecordingKey) -> Result<Text, RecordingFault>
-    ensures { Gives result (required as_str key (view value.now)) }
+    ensures { Gives result (required_at as_str key (view value.now)) }
 {
     let text = value
         .get(key.name())
@@ -126,7 +126,7 @@ pub(crate) fn optional_text(
     value: &Value,
     key: RecordingKey,
 ) -> Result<Option<Text>, RecordingFault>
-    ensures { Gives result (optional as_str key (view value.now)) }
+    ensures { Gives result (optional_at as_str key (view value.now)) }
 {
     match value.get(key.name()) {
         None => Ok(None),
@@ -194,13 +194,13 @@ fn status(value: &Value) -> Option<i32>
 }
 
 pub(crate) fn exit(value: &Value, key: RecordingKey) -> Result<i32, RecordingFault>
-    ensures { Gives result (required exit_of key (view value.now)) }
+    ensures { Gives result (required_at exit_of key (view value.now)) }
 {
     value.get(key.name()).and_then(status).ok_or(bad(key))
 }
 
 pub(crate) fn items(value: &Value, key: RecordingKey) -> Result<&[Value], RecordingFault>
-    ensures { GivesItems result (required as_array key (view value.now)) }
+    ensures { GivesItems result (required_at as_array key (view value.now)) }
 {
     let Some(found) = value.get(key.name()) else {
         return Err(bad(key));

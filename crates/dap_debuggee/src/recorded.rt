@@ -1,6 +1,6 @@
 //! A debuggee that plays a recorded run.
 ghost use Rattle.std.specs.Prelude.{◌≡◌, ◌<◌, ◌≤◌, length};
-ghost use Rattle.dap_debuggee.specs.Held.{last_of};
+ghost use Rattle.dap_debuggee.specs.PrivateHeld.{last_of};
 ghost use Rattle.std.specs.Prelude.{if◌then◌else◌};
 ghost use Rattle.dap_debuggee.specs.Moves.{is_forward};
 ghost use Rattle.dap_debuggee.specs.Recording.{IsRecording};
@@ -34,7 +34,7 @@ pub(crate) struct Going {
 
 /// What a poll gave last.
 #[derive(Clone, Copy, Debug)]
-pub(crate) enum Given {
+pub(crate) enum LastPoll {
     Nothing,
     /// Bytes of a moment's output.
     Output {
@@ -55,7 +55,7 @@ pub(crate) enum LastAsked {
     Never,
     Done(Asked),
     Refused(Asked),
-    Polled(Given),
+    Polled(LastPoll),
 }
 
 /// A recorded debuggee.
@@ -77,7 +77,7 @@ pub struct Recorded {
 impl Model for Recorded {
     ghost use Rattle.std.specs.Prelude.{◌<◌, length};
     ghost use Rattle.dap_debuggee.specs.Played.{Played};
-    ghost use Rattle.dap_debuggee.specs.Held.{run_of, last_of, IsToldWhole, HasMost, HasRun};
+    ghost use Rattle.dap_debuggee.specs.PrivateHeld.{run_of, last_of, IsOutputWhole, HasMost, HasRun};
     ghost use Rattle.dap_debuggee.specs.Recording.{IsRecording};
 
     ghost Value = { Played };
@@ -92,23 +92,23 @@ impl Model for Recorded {
       last = last_of r.recording r.last;
     } };
 
-    ghost invariant = { λ r. IsRecording r.recording × (r.at < length r.recording.moments) × IsToldWhole r.recording.moments r.going × HasMost r.paths.most r.recording.sources × HasRun r.state r.going };
+    ghost invariant = { λ r. IsRecording r.recording × (r.at < length r.recording.moments) × IsOutputWhole r.recording.moments r.going × HasMost r.paths.most r.recording.sources × HasRun r.state r.going };
 }
 
 impl Recorded {
     ghost use Rattle.std.specs.Prelude.{IfOk};
     ghost use Rattle.std.specs.Option.{IsSome};
-    ghost use Rattle.dap_debuggee.specs.Played.{unplayed, started, resumed};
+    ghost use Rattle.dap_debuggee.specs.Played.{fresh_played, after_start, after_resume};
     ghost use Rattle.dap_debuggee.specs.Recording.{IsRecording};
-    ghost use Rattle.dap_debuggee.specs.Held.{noted};
+    ghost use Rattle.dap_debuggee.specs.PrivateHeld.{after_act};
     ghost use Rattle.dap_debuggee.specs.Played.{shown_of};
-    ghost use Rattle.dap_debuggee.specs.Told.{ToldCanBeAsked, NamesOneHolder};
+    ghost use Rattle.dap_debuggee.specs.ShownNumbers.{ShownCanBeAsked, NamesOneHolder};
     ghost use Rattle.dap_tables.specs.SourceMap.{count, HasNoEmptyList};
 
     /// A recording that is not started.
     pub(crate) fn of_recording(alloc: Global, recording: Recording) -> Result<Recorded, AllocError>
         requires { IsRecording recording }
-        ensures { IfOk result (λ r. r ≡ unplayed recording) }
+        ensures { IfOk result (λ r. r ≡ fresh_played recording) }
     {
         let paths = paths::of_sources(alloc, recording.sources.as_slice())?;
         Ok(Recorded {
@@ -125,7 +125,7 @@ impl Recorded {
 
     /// Counts and remembers an act.
     pub(crate) fn note(&mut self, last: LastAsked)
-        ensures { self.new ≡ noted (last_of self.old.recording last) self.old }
+        ensures { self.new ≡ after_act (last_of self.old.recording last) self.old }
     {
         self.acts = self.acts.wrapping_add(1);
         self.last = last;
@@ -142,7 +142,7 @@ impl Recorded {
     /// What is told can be asked for what it holds: each thread, source, frame, scope, variable and value. There is
     /// nothing to run.
     pub fn told_can_be_asked(&self)
-        ensures { ToldCanBeAsked (shown_of self.now) }
+        ensures { ShownCanBeAsked (shown_of self.now) }
     {
         self.is_recording();
     }
@@ -185,7 +185,7 @@ impl Recorded {
 
     /// Goes on from the moment that is shown.
     pub(crate) fn go(&mut self, how: How)
-        ensures { self.new ≡ resumed how self.old }
+        ensures { self.new ≡ after_resume how self.old }
     {
         let to = self.plan().movement(how, self.at);
         let last = last_told(how, self.at, to.to);
@@ -201,7 +201,7 @@ impl Recorded {
 
     /// Goes to the first moment.
     pub(crate) fn begin(&mut self)
-        ensures { self.new ≡ started self.old }
+        ensures { self.new ≡ after_start self.old }
     {
         self.going = Some(Going {
             moment: 0,
@@ -230,7 +230,7 @@ impl Debuggee for Recorded {
     ghost use Rattle.std.specs.Prelude.{◌≡◌, ◌<◌, length, IfOk, IsTrue, IsErrOf, OnOk, OnErr};
     ghost use Rattle.std.specs.Option.{IsSome};
     ghost use Rattle.dap_debuggee.specs.Shown.{to_start, to_resume, to_pause, to_poll, to_set_breakpoints, done, happened};
-    ghost use Rattle.dap_debuggee.specs.Laws.{Replies, Tells, is_short, FramesInRange, NamesOneFrame};
+    ghost use Rattle.dap_debuggee.specs.Laws.{Replies, AnswersQuery, is_short, FramesInRange, NamesOneFrame};
     ghost use Rattle.dap_debuggee.specs.Played.{shown_of, FollowsPlayed};
     ghost use Rattle.dap_debuggee.specs.PlayedLaws.{counts-played, remembers-played, answers-played, moves-played, sets_lines-played, keeps_answers-played, keeps_frames-played, keeps_sources-played, no_threads-played, verifies_each-played};
 
@@ -291,7 +291,7 @@ impl Debuggee for Recorded {
     }
 
     fn frames(&self, alloc: Global, thread: i64) -> Result<Vec<Frame>, DebuggeeFault>
-        ensures frames { Tells result (λ frames. frames.items) ((shown_of self.now).frames thread) }
+        ensures frames { AnswersQuery result (λ frames. frames.items) ((shown_of self.now).frames thread) }
         ensures in_range { FramesInRange (shown_of self.now) }
         ensures one_name { NamesOneFrame (shown_of self.now) }
         ensures memory { IsErrOf result DebuggeeFault.OutOfMemory → IsSome ((shown_of self.now).frames thread) }
@@ -301,14 +301,14 @@ impl Debuggee for Recorded {
     }
 
     fn scopes(&self, alloc: Global, frame: u64) -> Result<Vec<Scope>, DebuggeeFault>
-        ensures told { Tells result (λ scopes. scopes.items) ((shown_of self.now).scopes frame) }
+        ensures told { AnswersQuery result (λ scopes. scopes.items) ((shown_of self.now).scopes frame) }
         ensures memory { IsErrOf result DebuggeeFault.OutOfMemory → IsSome ((shown_of self.now).scopes frame) }
     {
         self.scopes_of(alloc, frame)
     }
 
     fn children(&self, alloc: Global, holder: u64) -> Result<Vec<Variable>, DebuggeeFault>
-        ensures told { Tells result (λ children. children.items) ((shown_of self.now).children holder) }
+        ensures told { AnswersQuery result (λ children. children.items) ((shown_of self.now).children holder) }
         ensures memory { IsErrOf result DebuggeeFault.OutOfMemory → IsSome ((shown_of self.now).children holder) }
     {
         self.children_of(alloc, holder)
@@ -320,7 +320,7 @@ impl Debuggee for Recorded {
         frame: Option<u64>,
         text: &str,
     ) -> Result<Evaluation, DebuggeeFault>
-        ensures told { Tells result (λ value. value) ((shown_of self.now).evaluate frame text.now) }
+        ensures told { AnswersQuery result (λ value. value) ((shown_of self.now).evaluate frame text.now) }
         ensures memory { IsErrOf result DebuggeeFault.OutOfMemory → IsSome ((shown_of self.now).evaluate frame text.now) }
     {
         self.value_of(frame, text)
@@ -332,7 +332,7 @@ impl Debuggee for Recorded {
     }
 
     fn content(&self, _alloc: Global, index: u32) -> Result<Text, DebuggeeFault>
-        ensures told { Tells result (λ text. text) ((shown_of self.now).content index) }
+        ensures told { AnswersQuery result (λ text. text) ((shown_of self.now).content index) }
         ensures memory { IsErrOf result DebuggeeFault.OutOfMemory → IsSome ((shown_of self.now).content index) }
     {
         self.text_of(index)

@@ -3,7 +3,7 @@ ghost use Rattle.std.specs.Prelude.{◌≡◌, [], IfOk};
 ghost use Rattle.serde_json.specs.View.{view, items_view};
 ghost use Rattle.dap_debuggee.specs.Recording.{line_count as line_count_of};
 ghost use Rattle.dap_debuggee.specs.declared.reading.RecordingKey.TheVariants as key;
-ghost use Rattle.dap_debuggee.specs.Reading.{Numbered, GivesListWith, GivesList, Gives, GivesWith, value_at, required, listed, variable_row, variables_of, holder_of, with_holder, each, each_source, scope_of, scopes_of, frame_of, thread_of, moment_of, moments_of, source_of, recording_of, source_place as source_place_of, line_of, lines_at, place_of, new_id as new_id_of, thread_place as thread_place_of};
+ghost use Rattle.dap_debuggee.specs.Reading.{Numbered, GivesListWith, GivesList, Gives, GivesWith, value_at, required_at, read_variables, variable_row, variables_of, holder_of, with_holder, each, each_source, scope_of, scopes_of, frame_of, thread_of, moment_of, moments_of, source_of, recording_of, source_place as source_place_of, line_of, lines_at, place_of, new_id as new_id_of, thread_place as thread_place_of};
 
 use crate::answers::{Frame, Scope, Variable};
 use crate::read_threads::ReadThreads;
@@ -61,7 +61,7 @@ fn children(
     value: &Value,
     holders: &mut Vec<List<Variable>>,
 ) -> Result<Vec<Variable>, RecordingFault>
-    ensures { GivesListWith result holders.new.items (listed (value_at key.Variables (view value.now)) holders.old.items) }
+    ensures { GivesListWith result holders.new.items (read_variables (value_at key.Variables (view value.now)) holders.old.items) }
 {
     match value.get(RecordingKey::Variables.name()) {
         None => Ok(Vec::new(alloc)),
@@ -149,7 +149,7 @@ impl Model for Numbers {
 
 /// The place of one of the sources.
 fn source_place(sources: &[RecordedSource], value: &Value) -> Result<u32, RecordingFault>
-    ensures { Gives result (required (source_place_of sources.now) key.Source (view value.now)) }
+    ensures { Gives result (required_at (source_place_of sources.now) key.Source (view value.now)) }
 {
     match value
         .get(RecordingKey::Source.name())
@@ -162,7 +162,7 @@ fn source_place(sources: &[RecordedSource], value: &Value) -> Result<u32, Record
 
 /// A line of a text that has so many.
 fn line(lines: u64, value: &Value) -> Result<u32, RecordingFault>
-    ensures { Gives result (required (line_of lines) key.Line (view value.now)) }
+    ensures { Gives result (required_at (line_of lines) key.Line (view value.now)) }
 {
     match value
         .get(RecordingKey::Line.name())
@@ -236,7 +236,7 @@ fn place(id: i64, threads: &[RecordedThread]) -> Option<usize>
 
 /// An id that no earlier thread has.
 fn new_id(earlier: &ReadThreads, value: &Value) -> Result<i64, RecordingFault>
-    ensures { Gives result (required (new_id_of earlier.now) key.Id (view value.now)) }
+    ensures { Gives result (required_at (new_id_of earlier.now) key.Id (view value.now)) }
 {
     match value.get(RecordingKey::Id.name()).and_then(reading::int) {
         Some(id) if !earlier.has(id) => Ok(id),
@@ -245,7 +245,7 @@ fn new_id(earlier: &ReadThreads, value: &Value) -> Result<i64, RecordingFault>
 }
 
 fn thread_place(threads: &[RecordedThread], value: &Value) -> Result<usize, RecordingFault>
-    ensures { Gives result (required (thread_place_of threads.now) key.Thread (view value.now)) }
+    ensures { Gives result (required_at (thread_place_of threads.now) key.Thread (view value.now)) }
 {
     match value
         .get(RecordingKey::Thread.name())

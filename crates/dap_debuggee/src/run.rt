@@ -1,7 +1,7 @@
 //! A run of a recording that is under way: what it writes, and how it ends.
 ghost use Rattle.std.specs.Prelude.{◌≡◌, ◌⊎◌, ◌≤◌, ◌-◌, length, take, drop, IfSome, Some, None};
 ghost use Rattle.std.specs.Str.{IsCharBoundary};
-ghost use Rattle.dap_debuggee.specs.Held.{output_left, output_in, IsToldWhole, IsReady};
+ghost use Rattle.dap_debuggee.specs.PrivateHeld.{output_left, output_in, IsOutputWhole, IsReady};
 ghost use Rattle.dap_debuggee.specs.Played.{first_piece, piece_length};
 
 use crate::recorded::Going;
@@ -21,8 +21,8 @@ fn piece(text: &str) -> usize
 
 /// The run past the moments whose output is used up.
 pub(crate) fn skipped(moments: &[Moment], going: Going) -> Going
-    requires { IsToldWhole moments.now (Some going) }
-    ensures whole { IsToldWhole moments.now (Some result) }
+    requires { IsOutputWhole moments.now (Some going) }
+    ensures whole { IsOutputWhole moments.now (Some result) }
     ensures same { first_piece (output_left moments.now result) ≡ first_piece (output_left moments.now going) }
     ensures kept { (result.to ≡ going.to) × (result.paused ≡ going.paused) }
     ensures ready { IsReady moments.now result }
@@ -53,11 +53,11 @@ fn rest(text: &str, told: usize) -> &str
 
 /// The next piece of output, and the run after it.
 pub(crate) fn next_piece(moments: &[Moment], going: Going) -> Option<(&str, Going)>
-    requires whole { IsToldWhole moments.now (Some going) }
+    requires whole { IsOutputWhole moments.now (Some going) }
     requires ready { IsReady moments.now going }
     ensures piece { IfSome result (λ r. first_piece (output_left moments.now going) ≡ Some (r.0.now, output_left moments.now r.1)) }
     ensures none { result ≡ None → first_piece (output_left moments.now going) ≡ None }
-    ensures whole { IfSome result (λ r. IsToldWhole moments.now (Some r.1)) }
+    ensures whole { IfSome result (λ r. IsOutputWhole moments.now (Some r.1)) }
     ensures kept { IfSome result (λ r. (r.1.to ≡ going.to) × (r.1.paused ≡ going.paused)) }
     ensures text { IfSome result (λ r. r.0.now ≡ take (r.1.told - going.told) (drop going.told (output_in moments.now going.moment))) }
     ensures short { IfSome result (λ r. length r.0.now ≤ 128) }

@@ -13,23 +13,22 @@ use Rattle.dap_message.specs.ReadBack.{ReadsBack, AllReadBack}
 use Rattle.dap_message.specs.Refusals.{Bad}
 use Rattle.dap_message.specs.declared.fault.BodyRefusal.{BodyRefusal}
 use Rattle.dap_message.specs.declared.message.Message.{Message}
-use Rattle.dap_debuggee.specs.Shown.{Shown}
-use Rattle.dap_session.specs.Carried.{Goes, CarriedOut}
-use Rattle.dap_session.specs.Plan.{Plan, numbered, bytes_of, entries_of}
-use Rattle.dap_session.specs.Seat.{Seat}
+use Rattle.dap_session.specs.Carried.{CarriedOut}
+use Rattle.dap_session.specs.Plan.{Plan, numbered_messages, bytes_of, entries_of}
+use Rattle.dap_session.specs.SessionState.{SessionState}
 use Rattle.dap_session.specs.Writing.{Writes}
 use Rattle.dap_session.specs.Session.{Session}
 use Rattle.dap_session.specs.Taking.{takes}
 use Rattle.dap_session.specs.declared.fault.AdapterFault.{AdapterFault}
 use Rattle.dap_session.specs.declared.fault.AdapterFault.TheVariants as adapter_fault
 use Rattle.dap_adapter.specs.Calls.{Step, Takes as AdapterTakes, Delivers as AdapterDelivers, ClosedBy as AdapterClosedBy, TakeRefused as AdapterTakeRefused}
-use Rattle.dap_adapter.specs.End.{End as AdapterEnd}
+use Rattle.dap_adapter.specs.AdapterState.{AdapterState}
 use Rattle.dap_adapter.specs.Run.{to_take}
 use Rattle.dap_adapter.specs.declared.taken.Taken.{Taken}
 use Rattle.dap_check.specs.declared.line.Side.{Side}
 use Rattle.dap_check.specs.declared.line.Side.TheVariants.{Client, Adapter}
 use Rattle.dap_client.specs.Calls.{Takes as ClientTakes, Delivers as ClientDelivers, ClosedBy as ClientClosedBy, TakeRefused as ClientTakeRefused}
-use Rattle.dap_client.specs.End.{End as ClientEnd}
+use Rattle.dap_client.specs.ClientState.{ClientState}
 use Rattle.dap_client.specs.Session.{Session as ClientSession}
 use Rattle.dap_client.specs.Taking.{takes as client_takes, entries_of as client_entries}
 use Rattle.dap_client.specs.declared.fault.ClientFault.{ClientFault}
@@ -37,10 +36,10 @@ use Rattle.dap_client.specs.declared.fault.ClientFault.TheVariants as client_fau
 use Rattle.dap_client.specs.declared.got.Got.{Got}
 use Rattle.dap_world.specs.Agreement.{AllArrive, EachScheduleAgrees}
 use Rattle.dap_world.specs.World.{World, Said, said_by, client_said, adapter_said, ComesUp, ComesDown, by_coming_up, by_coming_down, goes}
-use Rattle.dap_drive.specs.Faults.{FrameLaws, fault_of_client, fault_of_adapter}
-use Rattle.dap_drive.specs.Frames.{AreFrames, AreFramesOf}
-use Rattle.dap_drive.specs.Held.{IsClientAt, IsAdapterAt, HasDelivered, StopsDelivering}
-use Rattle.dap_drive.specs.Lines.{IsBetween, WritesLines, IsUnwritten, lines_of}
+use Rattle.dap_drive.specs.PrivateFaults.{FrameLaws, fault_of_client, fault_of_adapter}
+use Rattle.dap_drive.specs.PrivateFrames.{AreFrames, AreFramesOf}
+use Rattle.dap_drive.specs.PrivateHeld.{Driving, BothEnds, IsClientAt, IsAdapterAt, HasDelivered, StopsDelivering}
+use Rattle.dap_drive.specs.PrivateLines.{IsBetween, WritesLines, IsUnwritten, lines_of}
 use Rattle.dap_drive.specs.Orders.{Delivers, one_up, one_down, LacksNumbers, HasTooManyReferences}
 use Rattle.dap_drive.specs.Transcript.{text_of}
 use Rattle.dap_drive.specs.declared.fault.DriveFault.{DriveFault}
@@ -109,16 +108,16 @@ module _ (laws : FrameLaws) (limits : Settings) where
 
   -- ---- what came to an end is whole frames
 
-  client_bounds : (e : ClientEnd) (s : ClientSession) → IsClientAt limits e s → e.intake.bounds ≡ bounds_of limits
+  client_bounds : (e : ClientState) (s : ClientSession) → IsClientAt limits e s → e.intake.bounds ≡ bounds_of limits
   client_bounds e s c = c.stands.bounds ∙ (ap (λ (x : ClientSession). bounds_of x.limits) c.session_is ∙ ap bounds_of c.limits_are)
 
-  client_stream : (e : ClientEnd) (s : ClientSession) (c : IsClientAt limits e s) → StandsForStream e.intake c.came c.stands.received.bodies []
+  client_stream : (e : ClientState) (s : ClientSession) (c : IsClientAt limits e s) → StandsForStream e.intake c.came c.stands.received.bodies []
   client_stream e s c = subst (λ (z : List ℕ). StandsForStream e.intake c.came c.stands.received.bodies z) c.between c.stands.received.stream
 
-  adapter_bounds : {D : Type 0} (e : AdapterEnd D) (p : Seat D) → IsAdapterAt limits e p → e.intake.bounds ≡ bounds_of limits
+  adapter_bounds : {D : Type 0} (e : AdapterState D) (p : SessionState D) → IsAdapterAt limits e p → e.intake.bounds ≡ bounds_of limits
   adapter_bounds e p a = a.stands.bounds ∙ (ap (λ (x : Session). bounds_of x.limits) a.session_is ∙ ap bounds_of a.limits_are)
 
-  adapter_stream : {D : Type 0} (e : AdapterEnd D) (p : Seat D) (a : IsAdapterAt limits e p) → StandsForStream e.intake a.came a.stands.received.bodies []
+  adapter_stream : {D : Type 0} (e : AdapterState D) (p : SessionState D) (a : IsAdapterAt limits e p) → StandsForStream e.intake a.came a.stands.received.bodies []
   adapter_stream e p a = subst (λ (z : List ℕ). StandsForStream e.intake a.came a.stands.received.bodies z) a.between a.stands.received.stream
 
   -- ---- the first message under way is the one that comes whole
@@ -142,36 +141,36 @@ module _ (laws : FrameLaws) (limits : Settings) where
         good = λ cause bad. not_both (canon x) x cause (laws.one_message (canon x)) back.reads (subst (λ (z : List ℕ). Bad z cause) held.0 bad);
       }
 
-module _ {D : Type 0} (laws : FrameLaws) (shown : D → Shown) (follows : Goes D) (agrees : EachScheduleAgrees shown follows) (limits : Settings) (debuggee : D) (start : World D) where
-  abbrev At : ClientEnd → AdapterEnd D → Intake → List ℕ → List ℕ → List ℕ → Type 0
-  At client adapter reader transcript up down = HasDelivered shown follows limits debuggee start client adapter reader transcript up down
+module _ {D : Type 0} (laws : FrameLaws) (drive : Driving D) (agrees : EachScheduleAgrees drive.shown drive.follows) (start : World D) where
+  abbrev At : BothEnds D → List ℕ → List ℕ → Type 0
+  At ends up down = HasDelivered drive start ends up down
 
-  arrives : (client : ClientEnd) (adapter : AdapterEnd D) (reader : Intake) (transcript up down : List ℕ) (h : At client adapter reader transcript up down) → AllArrive limits h.world
-  arrives client adapter reader transcript up down h = (agrees limits debuggee h.world h.at.in_range h.at.schedule).arrives
+  arrives : (ends : BothEnds D) (up down : List ℕ) (h : At ends up down) → AllArrive drive.limits h.world
+  arrives ends up down h = (agrees drive.limits drive.debuggee h.world h.at.in_range h.at.schedule).arrives
 
   -- ---- the client takes a message
 
-  first_down : (client : ClientEnd) (adapter : AdapterEnd D) (reader : Intake) (transcript up rest : List ℕ) (h : At client adapter reader transcript up rest) → (x : Message) (xs : List Message) → h.world.down ≡ x ∷ xs → (n : ℕ) (w : Whole client.intake rest n) → IsFirst laws limits x xs w.ready.held rest n
-  first_down client adapter reader transcript up rest h x xs first n w =
+  first_down : (ends : BothEnds D) (up rest : List ℕ) (h : At ends up rest) → (x : Message) (xs : List Message) → h.world.down ≡ x ∷ xs → (n : ℕ) (w : Whole ends.client.intake rest n) → IsFirst laws drive.limits x xs w.ready.held rest n
+  first_down ends up rest h x xs first n w =
       let c = h.at.client_at in
-      let read : AllReadBack limits.body (x ∷ xs) = subst (λ (z : List Message). AllReadBack limits.body z) first (arrives client adapter reader transcript up rest h).down in
-      first_whole laws limits client.intake c.came c.stands.received.bodies x xs rest n (client_bounds laws limits client h.world.client c) (client_stream laws limits client h.world.client c) (subst (λ (z : List Message). AreFramesOf limits z rest) first h.down_is) read.0 w
+      let read : AllReadBack drive.limits.body (x ∷ xs) = subst (λ (z : List Message). AllReadBack drive.limits.body z) first (arrives ends up rest h).down in
+      first_whole laws drive.limits ends.client.intake c.came c.stands.received.bodies x xs rest n (client_bounds laws drive.limits ends.client h.world.client c) (client_stream laws drive.limits ends.client h.world.client c) (subst (λ (z : List Message). AreFramesOf drive.limits z rest) first h.down_is) read.0 w
 
-  down_delivered : (client next : ClientEnd) (adapter : AdapterEnd D) (reader : Intake) (transcript up rest : List ℕ) (h : At client adapter reader transcript up rest) → (x : Message) (xs : List Message) → h.world.down ≡ x ∷ xs
-      → (got : Got) (m : Message) → ClientDelivers client rest got m next → next.session.limits ≡ client.session.limits
-      → (later : Intake) (longer_transcript : List ℕ) → WritesLines limits later Client got.bytes.items transcript longer_transcript
-      → At next adapter later longer_transcript (up ++ got.bytes.items) (drop got.used rest)
-  down_delivered client next adapter reader transcript up rest h x xs first got m d keeps later longer_transcript w =
-      let b = bounds_of limits in
+  down_delivered : (ends : BothEnds D) (next : ClientState) (up rest : List ℕ) (h : At ends up rest) → (x : Message) (xs : List Message) → h.world.down ≡ x ∷ xs
+      → (got : Got) (m : Message) → ClientDelivers ends.client rest got m next → next.session.limits ≡ ends.client.session.limits
+      → (later : Intake) (longer_transcript : List ℕ) → WritesLines drive.limits later Client got.bytes.items ends.transcript longer_transcript
+      → At (record ends { client = next; reader = later; transcript = longer_transcript }) (up ++ got.bytes.items) (drop got.used rest)
+  down_delivered ends next up rest h x xs first got m d keeps later longer_transcript w =
+      let b = bounds_of drive.limits in
       let c = h.at.client_at in
-      let is_first = first_down client adapter reader transcript up rest h x xs first got.used d.whole in
+      let is_first = first_down ends up rest h x xs first got.used d.whole in
       let same : m ≡ x = is_first.only m d.read in
       let stands = d.goes_on c.came c.history c.stands in
-      let client_limits : client.session.limits ≡ limits = ap (λ (z : ClientSession). z.limits) c.session_is ∙ c.limits_are in
-      let same_limits : next.session.limits ≡ limits = keeps ∙ client_limits in
+      let client_limits : ends.client.session.limits ≡ drive.limits = ap (λ (z : ClientSession). z.limits) c.session_is ∙ c.limits_are in
+      let same_limits : next.session.limits ≡ drive.limits = keeps ∙ client_limits in
       let new_bounds : next.intake.bounds ≡ b = stands.bounds ∙ ap bounds_of same_limits in
-      let back : AllReadBack limits.body d.made.written = subst (λ (z : Settings). AllReadBack z.body d.made.written) client_limits d.reads_back in
-      let lines = written laws limits Client d.made.written got.bytes.items transcript longer_transcript later h.at.in_range back d.bytes_are w in
+      let back : AllReadBack drive.limits.body d.made.written = subst (λ (z : Settings). AllReadBack z.body d.made.written) client_limits d.reads_back in
+      let lines = written laws drive.limits Client d.made.written got.bytes.items ends.transcript longer_transcript later h.at.in_range back d.bytes_are w in
       let world : World D = client_said d.made.after d.made.written (record h.world { down = xs }) in
       let step : ComesDown h.world world =
       record {
@@ -195,79 +194,79 @@ module _ {D : Type 0} (laws : FrameLaws) (shown : D → Shown) (follows : Goes D
             came = c.came ++ take got.used rest;
             history = c.history ++ (In m ∷ client_entries d.made);
             stands = stands;
-            between = between_again laws.one_split b client.intake d.whole.ready next.intake c.came c.stands.received.bodies rest got.used stands.received.bodies stands.received.rest (client_bounds laws limits client h.world.client c) (client_stream laws limits client h.world.client c) d.whole.completes new_bounds stands.received.stream;
+            between = between_again laws.one_split b ends.client.intake d.whole.ready next.intake c.came c.stands.received.bodies rest got.used stands.received.bodies stands.received.rest (client_bounds laws drive.limits ends.client h.world.client c) (client_stream laws drive.limits ends.client h.world.client c) d.whole.completes new_bounds stands.received.stream;
           };
           adapter_at = h.at.adapter_at;
           reader_at = w.between;
-          transcript_is = longer laws limits Client d.made.written h.world.said transcript longer_transcript h.at.transcript_is lines.lines;
+          transcript_is = longer laws drive.limits Client d.made.written h.world.said ends.transcript longer_transcript h.at.transcript_is lines.lines;
         };
-        up_is = more_frames limits h.world.up d.made.written up got.bytes.items h.up_is lines.frames;
+        up_is = more_frames drive.limits h.world.up d.made.written up got.bytes.items h.up_is lines.frames;
         down_is = is_first.left;
       }
 
-  pub took_down : (client next : ClientEnd) (adapter : AdapterEnd D) (reader : Intake) (transcript up rest : List ℕ) → At client adapter reader transcript up rest
-      → 0 < length rest → (got : Got) (delivered : Option Message) → ClientTakes client rest got delivered next → next.session.limits ≡ client.session.limits
-      → (later : Intake) (longer_transcript : List ℕ) → (IsBetween limits reader → WritesLines limits later Client got.bytes.items transcript longer_transcript)
-      → At next adapter later longer_transcript (up ++ got.bytes.items) (drop got.used rest)
-  took_down client next adapter reader transcript up rest h some got None t keeps later longer_transcript w =
+  pub took_down : (ends : BothEnds D) (next : ClientState) (up rest : List ℕ) → At ends up rest
+      → 0 < length rest → (got : Got) (delivered : Option Message) → ClientTakes ends.client rest got delivered next → next.session.limits ≡ ends.client.session.limits
+      → (later : Intake) (longer_transcript : List ℕ) → (IsBetween drive.limits ends.reader → WritesLines drive.limits later Client got.bytes.items ends.transcript longer_transcript)
+      → At (record ends { client = next; reader = later; transcript = longer_transcript }) (up ++ got.bytes.items) (drop got.used rest)
+  took_down ends next up rest h some got None t keeps later longer_transcript w =
       let c = h.at.client_at in
-      let m = some_message limits h.world.down rest h.down_is some in
-      absurd (not_waiting laws.one_split (bounds_of limits) client.intake next.intake c.came c.stands.received.bodies rest got.used (canon m.0) (map canon m.1) (client_bounds laws limits client h.world.client c) (client_stream laws limits client h.world.client c) t.gathers (subst (λ (z : List Message). AreFramesOf limits z rest) m.2 h.down_is))
-  took_down client next adapter reader transcript up rest h some got (Some m) t keeps later longer_transcript w =
-      let first = some_message limits h.world.down rest h.down_is some in
-      down_delivered client next adapter reader transcript up rest h first.0 first.1 first.2 got m t keeps later longer_transcript (w h.at.reader_at)
+      let m = some_message drive.limits h.world.down rest h.down_is some in
+      absurd (not_waiting laws.one_split (bounds_of drive.limits) ends.client.intake next.intake c.came c.stands.received.bodies rest got.used (canon m.0) (map canon m.1) (client_bounds laws drive.limits ends.client h.world.client c) (client_stream laws drive.limits ends.client h.world.client c) t.gathers (subst (λ (z : List Message). AreFramesOf drive.limits z rest) m.2 h.down_is))
+  took_down ends next up rest h some got (Some m) t keeps later longer_transcript w =
+      let first = some_message drive.limits h.world.down rest h.down_is some in
+      down_delivered ends next up rest h first.0 first.1 first.2 got m t keeps later longer_transcript (w h.at.reader_at)
 
   -- the same of the bytes as the code has them
-  pub heard : (client next : ClientEnd) (adapter : AdapterEnd D) (reader : Intake) (transcript up rest : List ℕ) → At client adapter reader transcript up rest
-      → 0 < length rest → (got : Got) (delivered : Option Message) → ClientTakes client rest got delivered next → next.session.limits ≡ client.session.limits
-      → (later : Intake) (longer_transcript bytes more : List ℕ) (n : ℕ) → n ≡ got.used → bytes ≡ got.bytes.items → more ≡ up ++ bytes → (IsBetween limits reader → WritesLines limits later Client bytes transcript longer_transcript)
-      → At next adapter later longer_transcript more (drop n rest)
-  heard client next adapter reader transcript up rest h some got delivered t keeps later longer_transcript bytes more n used is sum w =
+  pub heard : (ends : BothEnds D) (next : ClientState) (up rest : List ℕ) → At ends up rest
+      → 0 < length rest → (got : Got) (delivered : Option Message) → ClientTakes ends.client rest got delivered next → next.session.limits ≡ ends.client.session.limits
+      → (later : Intake) (longer_transcript bytes more : List ℕ) (n : ℕ) → n ≡ got.used → bytes ≡ got.bytes.items → more ≡ up ++ bytes → (IsBetween drive.limits ends.reader → WritesLines drive.limits later Client bytes ends.transcript longer_transcript)
+      → At (record ends { client = next; reader = later; transcript = longer_transcript }) more (drop n rest)
+  heard ends next up rest h some got delivered t keeps later longer_transcript bytes more n used is sum w =
       let all : more ≡ up ++ got.bytes.items = sum ∙ ap (λ (z : List ℕ). up ++ z) is in
-      subst (λ (z : List ℕ). At next adapter later longer_transcript z (drop n rest)) (sym all)
-      (subst (λ (z : ℕ). At next adapter later longer_transcript (up ++ got.bytes.items) (drop z rest)) (sym used)
-      (took_down client next adapter reader transcript up rest h some got delivered t keeps later longer_transcript (λ b. subst (λ (z : List ℕ). WritesLines limits later Client z transcript longer_transcript) is (w b))))
+      subst (λ (z : List ℕ). At (record ends { client = next; reader = later; transcript = longer_transcript }) z (drop n rest)) (sym all)
+      (subst (λ (z : ℕ). At (record ends { client = next; reader = later; transcript = longer_transcript }) (up ++ got.bytes.items) (drop z rest)) (sym used)
+      (took_down ends next up rest h some got delivered t keeps later longer_transcript (λ b. subst (λ (z : List ℕ). WritesLines drive.limits later Client z ends.transcript longer_transcript) is (w b))))
 
   -- what the client wrote is framed
-  pub heard_framed : (client next : ClientEnd) (adapter : AdapterEnd D) (reader : Intake) (transcript up rest : List ℕ) → At client adapter reader transcript up rest → (got : Got) (delivered : Option Message) → ClientTakes client rest got delivered next
-      → (bytes : List ℕ) → bytes ≡ got.bytes.items → IsUnwritten unwritten.Frames reader bytes → ⊥
-  heard_framed client next adapter reader transcript up rest h got None t bytes is refuses = not_unwritten laws limits [] bytes reader h.at.in_range tt (is ∙ t.none_written) h.at.reader_at refuses
-  heard_framed client next adapter reader transcript up rest h got (Some m) t bytes is refuses =
+  pub heard_framed : (ends : BothEnds D) (next : ClientState) (up rest : List ℕ) → At ends up rest → (got : Got) (delivered : Option Message) → ClientTakes ends.client rest got delivered next
+      → (bytes : List ℕ) → bytes ≡ got.bytes.items → IsUnwritten unwritten.Frames ends.reader bytes → ⊥
+  heard_framed ends next up rest h got None t bytes is refuses = not_unwritten laws drive.limits [] bytes ends.reader h.at.in_range tt (is ∙ t.none_written) h.at.reader_at refuses
+  heard_framed ends next up rest h got (Some m) t bytes is refuses =
       let c = h.at.client_at in
-      let client_limits : client.session.limits ≡ limits = ap (λ (z : ClientSession). z.limits) c.session_is ∙ c.limits_are in
-      not_unwritten laws limits t.made.written bytes reader h.at.in_range (subst (λ (z : Settings). AllReadBack z.body t.made.written) client_limits t.reads_back) (is ∙ t.bytes_are) h.at.reader_at refuses
+      let client_limits : ends.client.session.limits ≡ drive.limits = ap (λ (z : ClientSession). z.limits) c.session_is ∙ c.limits_are in
+      not_unwritten laws drive.limits t.made.written bytes ends.reader h.at.in_range (subst (λ (z : Settings). AllReadBack z.body t.made.written) client_limits t.reads_back) (is ∙ t.bytes_are) h.at.reader_at refuses
 
   -- ---- why the client does not
 
-  client_closed : (client : ClientEnd) (adapter : AdapterEnd D) (reader : Intake) (transcript up rest : List ℕ) (h : At client adapter reader transcript up rest) → 0 < length rest → (f : ClientFault) → ClientClosedBy client.intake client.session rest f
-      → (now : World D) × Delivers follows start now × HasTooManyReferences now
-  client_closed client adapter reader transcript up rest h some f t =
-      let first = some_message limits h.world.down rest h.down_is some in
-      let is_first = first_down client adapter reader transcript up rest h first.0 first.1 first.2 t.n t.whole in
+  client_closed : (ends : BothEnds D) (up rest : List ℕ) (h : At ends up rest) → 0 < length rest → (f : ClientFault) → ClientClosedBy ends.client.intake ends.client.session rest f
+      → (now : World D) × Delivers drive.follows start now × HasTooManyReferences now
+  client_closed ends up rest h some f t =
+      let first = some_message drive.limits h.world.down rest h.down_is some in
+      let is_first = first_down ends up rest h first.0 first.1 first.2 t.n t.whole in
       let closes : client_takes first.0 h.world.client ≡ Err f = subst (λ (z : Message). client_takes z h.world.client ≡ Err f) (is_first.only t.message t.read) (subst (λ (z : ClientSession). client_takes t.message z ≡ Err f) h.at.client_at.session_is t.closes) in
-      let limit : f ≡ client_fault.ReferenceLimit = (agrees limits debuggee h.world h.at.in_range h.at.schedule).fault.down first.0 first.1 f first.2 closes in
+      let limit : f ≡ client_fault.ReferenceLimit = (agrees drive.limits drive.debuggee h.world h.at.in_range h.at.schedule).fault.down first.0 first.1 f first.2 closes in
       (h.world, h.delivers, (first.0, first.1, first.2, subst (λ (z : ClientFault). client_takes first.0 h.world.client ≡ Err z) limit closes))
 
-  pub client_stops : (client : ClientEnd) (adapter : AdapterEnd D) (reader : Intake) (transcript up rest : List ℕ) (h : At client adapter reader transcript up rest) → 0 < length rest → (f : ClientFault) → ClientTakeRefused client.intake client.session rest f → StopsDelivering shown follows (fault_of_client f) start
-  client_stops client adapter reader transcript up rest h some (client_fault.Frame fault) t =
+  pub client_stops : (ends : BothEnds D) (up rest : List ℕ) (h : At ends up rest) → 0 < length rest → (f : ClientFault) → ClientTakeRefused ends.client.intake ends.client.session rest f → StopsDelivering drive (fault_of_client f) start
+  client_stops ends up rest h some (client_fault.Frame fault) t =
       let c = h.at.client_at in
-      absurd (not_closed laws.one_split (bounds_of limits) laws.moves client.intake t.closed c.came c.stands.received.bodies rest fault (map canon h.world.down) (header limits h.at.in_range) (client_bounds laws limits client h.world.client c) (client_stream laws limits client h.world.client c) t.closes h.down_is)
-  client_stops client adapter reader transcript up rest h some (client_fault.Body cause offset) t =
-      let first = some_message limits h.world.down rest h.down_is some in
-      let is_first = first_down client adapter reader transcript up rest h first.0 first.1 first.2 t.n t.whole in
+      absurd (not_closed laws.one_split (bounds_of drive.limits) laws.moves ends.client.intake t.closed c.came c.stands.received.bodies rest fault (map canon h.world.down) (header drive.limits h.at.in_range) (client_bounds laws drive.limits ends.client h.world.client c) (client_stream laws drive.limits ends.client h.world.client c) t.closes h.down_is)
+  client_stops ends up rest h some (client_fault.Body cause offset) t =
+      let first = some_message drive.limits h.world.down rest h.down_is some in
+      let is_first = first_down ends up rest h first.0 first.1 first.2 t.n t.whole in
       absurd (is_first.good cause t.bad)
-  client_stops client adapter reader transcript up rest h some (client_fault.Unmatched q) t = client_closed client adapter reader transcript up rest h some (client_fault.Unmatched q) t
-  client_stops client adapter reader transcript up rest h some (client_fault.CommandMismatch q) t = client_closed client adapter reader transcript up rest h some (client_fault.CommandMismatch q) t
-  client_stops client adapter reader transcript up rest h some (client_fault.RepeatedSeq q) t = client_closed client adapter reader transcript up rest h some (client_fault.RepeatedSeq q) t
-  client_stops client adapter reader transcript up rest h some client_fault.ReferenceLimit t = client_closed client adapter reader transcript up rest h some client_fault.ReferenceLimit t
-  client_stops client adapter reader transcript up rest h some client_fault.SeqExhausted t = client_closed client adapter reader transcript up rest h some client_fault.SeqExhausted t
-  client_stops client adapter reader transcript up rest h some client_fault.OutOfMemory t = tt
+  client_stops ends up rest h some (client_fault.Unmatched q) t = client_closed ends up rest h some (client_fault.Unmatched q) t
+  client_stops ends up rest h some (client_fault.CommandMismatch q) t = client_closed ends up rest h some (client_fault.CommandMismatch q) t
+  client_stops ends up rest h some (client_fault.RepeatedSeq q) t = client_closed ends up rest h some (client_fault.RepeatedSeq q) t
+  client_stops ends up rest h some client_fault.ReferenceLimit t = client_closed ends up rest h some client_fault.ReferenceLimit t
+  client_stops ends up rest h some client_fault.SeqExhausted t = client_closed ends up rest h some client_fault.SeqExhausted t
+  client_stops ends up rest h some client_fault.OutOfMemory t = tt
 
   -- ---- the adapter goes on
 
   -- by a step, after which whole frames came still
-  pub adapter_steps : (old new : AdapterEnd D) (p : Seat D) (a : IsAdapterAt limits old p) (plan : Plan) (used : List ℕ) (came : List Entry) (bytes : List ℕ) (s : Step follows plan old new used came bytes) → new.session.limits ≡ old.session.limits
-      → (s.goes_on a.came a.history a.stands).received.rest ≡ [] → IsAdapterAt limits new (record { session = s.made.after; debuggee = new.debuggee })
+  pub adapter_steps : (old new : AdapterState D) (p : SessionState D) (a : IsAdapterAt drive.limits old p) (plan : Plan) (used : List ℕ) (came : List Entry) (bytes : List ℕ) (s : Step drive.follows plan old new used came bytes) → new.session.limits ≡ old.session.limits
+      → (s.goes_on a.came a.history a.stands).received.rest ≡ [] → IsAdapterAt drive.limits new (record { session = s.made.after; debuggee = new.debuggee })
   adapter_steps old new p a plan used came bytes s keeps between = record {
     session_is = s.session;
     debuggee_is = refl;
@@ -278,57 +277,57 @@ module _ {D : Type 0} (laws : FrameLaws) (shown : D → Shown) (follows : Goes D
     between = between;
   }
 
-  pub step_writes : (old new : AdapterEnd D) (p : Seat D) (a : IsAdapterAt limits old p) (plan : Plan) (used : List ℕ) (came : List Entry) (bytes : List ℕ) (s : Step follows plan old new used came bytes)
-      → Writes follows plan p (numbered p.session.used s.made.drafts) (record { session = s.made.after; debuggee = new.debuggee })
-  step_writes old new p a plan used came bytes s = record { made = s.made; carried = subst (λ (z : D). CarriedOut follows plan z s.made new.debuggee) a.debuggee_is s.carried; session = refl; outs_are = refl }
+  pub step_writes : (old new : AdapterState D) (p : SessionState D) (a : IsAdapterAt drive.limits old p) (plan : Plan) (used : List ℕ) (came : List Entry) (bytes : List ℕ) (s : Step drive.follows plan old new used came bytes)
+      → Writes drive.follows plan p (numbered_messages p.session.used s.made.drafts) (record { session = s.made.after; debuggee = new.debuggee })
+  step_writes old new p a plan used came bytes s = record { made = s.made; carried = subst (λ (z : D). CarriedOut drive.follows plan z s.made new.debuggee) a.debuggee_is s.carried; session = refl; outs_are = refl }
 
   -- what it writes is read back
-  pub step_back : (old new : AdapterEnd D) (p : Seat D) (a : IsAdapterAt limits old p) (plan : Plan) (used : List ℕ) (came : List Entry) (bytes : List ℕ) (s : Step follows plan old new used came bytes) → AllReadBack p.session.limits.body (numbered p.session.used s.made.drafts)
-  step_back old new p a plan used came bytes s = subst (λ (z : Session). AllReadBack z.limits.body (numbered z.used s.made.drafts)) a.session_is (s.reads_back a.came a.history a.stands)
+  pub step_back : (old new : AdapterState D) (p : SessionState D) (a : IsAdapterAt drive.limits old p) (plan : Plan) (used : List ℕ) (came : List Entry) (bytes : List ℕ) (s : Step drive.follows plan old new used came bytes) → AllReadBack p.session.limits.body (numbered_messages p.session.used s.made.drafts)
+  step_back old new p a plan used came bytes s = subst (λ (z : Session). AllReadBack z.limits.body (numbered_messages z.used s.made.drafts)) a.session_is (s.reads_back a.came a.history a.stands)
 
-  pub step_within : (old new : AdapterEnd D) (p : Seat D) (a : IsAdapterAt limits old p) (plan : Plan) (used : List ℕ) (came : List Entry) (bytes : List ℕ) (s : Step follows plan old new used came bytes) → AllReadBack limits.body (numbered p.session.used s.made.drafts)
-  step_within old new p a plan used came bytes s = subst (λ (z : Settings). AllReadBack z.body (numbered p.session.used s.made.drafts)) a.limits_are (step_back old new p a plan used came bytes s)
+  pub step_within : (old new : AdapterState D) (p : SessionState D) (a : IsAdapterAt drive.limits old p) (plan : Plan) (used : List ℕ) (came : List Entry) (bytes : List ℕ) (s : Step drive.follows plan old new used came bytes) → AllReadBack drive.limits.body (numbered_messages p.session.used s.made.drafts)
+  step_within old new p a plan used came bytes s = subst (λ (z : Settings). AllReadBack z.body (numbered_messages p.session.used s.made.drafts)) a.limits_are (step_back old new p a plan used came bytes s)
 
-  pub step_bytes : (old new : AdapterEnd D) (p : Seat D) (a : IsAdapterAt limits old p) (plan : Plan) (used : List ℕ) (came : List Entry) (bytes : List ℕ) (s : Step follows plan old new used came bytes) → bytes ≡ bytes_of (numbered p.session.used s.made.drafts)
-  step_bytes old new p a plan used came bytes s = s.bytes_are ∙ ap (λ (z : Session). bytes_of (numbered z.used s.made.drafts)) a.session_is
+  pub step_bytes : (old new : AdapterState D) (p : SessionState D) (a : IsAdapterAt drive.limits old p) (plan : Plan) (used : List ℕ) (came : List Entry) (bytes : List ℕ) (s : Step drive.follows plan old new used came bytes) → bytes ≡ bytes_of (numbered_messages p.session.used s.made.drafts)
+  step_bytes old new p a plan used came bytes s = s.bytes_are ∙ ap (λ (z : Session). bytes_of (numbered_messages z.used s.made.drafts)) a.session_is
 
   -- where no bytes came
-  pub still_between : (old new : AdapterEnd D) (p : Seat D) (a : IsAdapterAt limits old p) (plan : Plan) (came : List Entry) (bytes : List ℕ) (s : Step follows plan old new [] came bytes) → new.session.limits ≡ old.session.limits
+  pub still_between : (old new : AdapterState D) (p : SessionState D) (a : IsAdapterAt drive.limits old p) (plan : Plan) (came : List Entry) (bytes : List ℕ) (s : Step drive.follows plan old new [] came bytes) → new.session.limits ≡ old.session.limits
       → (s.goes_on a.came a.history a.stands).received.rest ≡ []
   still_between old new p a plan came bytes s keeps =
       let stands = s.goes_on a.came a.history a.stands in
-      let same_limits : new.session.limits ≡ limits = keeps ∙ (ap (λ (z : Session). z.limits) a.session_is ∙ a.limits_are) in
-      between_still laws.one_split (bounds_of limits) old.intake new.intake a.came (a.came ++ []) a.stands.received.bodies stands.received.bodies stands.received.rest (adapter_bounds laws limits old p a) (adapter_stream laws limits old p a) (stands.bounds ∙ ap bounds_of same_limits) stands.received.stream (append-nil a.came)
+      let same_limits : new.session.limits ≡ drive.limits = keeps ∙ (ap (λ (z : Session). z.limits) a.session_is ∙ a.limits_are) in
+      between_still laws.one_split (bounds_of drive.limits) old.intake new.intake a.came (a.came ++ []) a.stands.received.bodies stands.received.bodies stands.received.rest (adapter_bounds laws drive.limits old p a) (adapter_stream laws drive.limits old p a) (stands.bounds ∙ ap bounds_of same_limits) stands.received.stream (append-nil a.came)
 
   -- ---- the adapter takes a message
 
-  first_up : (client : ClientEnd) (adapter : AdapterEnd D) (reader : Intake) (transcript rest down : List ℕ) (h : At client adapter reader transcript rest down) → (x : Message) (xs : List Message) → h.world.up ≡ x ∷ xs → (n : ℕ) (w : Whole adapter.intake rest n) → IsFirst laws limits x xs w.ready.held rest n
-  first_up client adapter reader transcript rest down h x xs first n w =
+  first_up : (ends : BothEnds D) (rest down : List ℕ) (h : At ends rest down) → (x : Message) (xs : List Message) → h.world.up ≡ x ∷ xs → (n : ℕ) (w : Whole ends.adapter.intake rest n) → IsFirst laws drive.limits x xs w.ready.held rest n
+  first_up ends rest down h x xs first n w =
       let a = h.at.adapter_at in
-      let read : AllReadBack limits.body (x ∷ xs) = subst (λ (z : List Message). AllReadBack limits.body z) first (arrives client adapter reader transcript rest down h).up in
-      first_whole laws limits adapter.intake a.came a.stands.received.bodies x xs rest n (adapter_bounds laws limits adapter h.world.adapter a) (adapter_stream laws limits adapter h.world.adapter a) (subst (λ (z : List Message). AreFramesOf limits z rest) first h.up_is) read.0 w
+      let read : AllReadBack drive.limits.body (x ∷ xs) = subst (λ (z : List Message). AllReadBack drive.limits.body z) first (arrives ends rest down h).up in
+      first_whole laws drive.limits ends.adapter.intake a.came a.stands.received.bodies x xs rest n (adapter_bounds laws drive.limits ends.adapter h.world.adapter a) (adapter_stream laws drive.limits ends.adapter h.world.adapter a) (subst (λ (z : List Message). AreFramesOf drive.limits z rest) first h.up_is) read.0 w
 
-  up_delivered : (client : ClientEnd) (adapter next : AdapterEnd D) (reader : Intake) (transcript rest down : List ℕ) (h : At client adapter reader transcript rest down) → (x : Message) (xs : List Message) → h.world.up ≡ x ∷ xs
-      → (taken : Taken) (m : Message) → AdapterDelivers follows adapter rest taken m next → next.session.limits ≡ adapter.session.limits
-      → (later : Intake) (longer_transcript : List ℕ) → WritesLines limits later Adapter taken.bytes.items transcript longer_transcript
-      → At client next later longer_transcript (drop taken.used rest) (down ++ taken.bytes.items)
-  up_delivered client adapter next reader transcript rest down h x xs first taken m d keeps later longer_transcript w =
-      let b = bounds_of limits in
+  up_delivered : (ends : BothEnds D) (next : AdapterState D) (rest down : List ℕ) (h : At ends rest down) → (x : Message) (xs : List Message) → h.world.up ≡ x ∷ xs
+      → (taken : Taken) (m : Message) → AdapterDelivers drive.follows ends.adapter rest taken m next → next.session.limits ≡ ends.adapter.session.limits
+      → (later : Intake) (longer_transcript : List ℕ) → WritesLines drive.limits later Adapter taken.bytes.items ends.transcript longer_transcript
+      → At (record ends { adapter = next; reader = later; transcript = longer_transcript }) (drop taken.used rest) (down ++ taken.bytes.items)
+  up_delivered ends next rest down h x xs first taken m d keeps later longer_transcript w =
+      let b = bounds_of drive.limits in
       let a = h.at.adapter_at in
       let p = h.world.adapter in
       let used = take taken.used rest in
       let came : List Entry = In m ∷ [] in
-      let is_first = first_up client adapter reader transcript rest down h x xs first taken.used d.whole in
+      let is_first = first_up ends rest down h x xs first taken.used d.whole in
       let same : m ≡ x = is_first.only m d.read in
       let s = d.step in
       let stands = s.goes_on a.came a.history a.stands in
-      let same_limits : next.session.limits ≡ limits = keeps ∙ (ap (λ (z : Session). z.limits) a.session_is ∙ a.limits_are) in
+      let same_limits : next.session.limits ≡ drive.limits = keeps ∙ (ap (λ (z : Session). z.limits) a.session_is ∙ a.limits_are) in
       let new_bounds : next.intake.bounds ≡ b = stands.bounds ∙ ap bounds_of same_limits in
-      let seat : Seat D = record { session = s.made.after; debuggee = next.debuggee } in
-      let outs = numbered p.session.used s.made.drafts in
-      let lines = written laws limits Adapter outs taken.bytes.items transcript longer_transcript later h.at.in_range (step_within adapter next p a d.plan used came taken.bytes.items s) (step_bytes adapter next p a d.plan used came taken.bytes.items s) w in
+      let seat : SessionState D = record { session = s.made.after; debuggee = next.debuggee } in
+      let outs = numbered_messages p.session.used s.made.drafts in
+      let lines = written laws drive.limits Adapter outs taken.bytes.items ends.transcript longer_transcript later h.at.in_range (step_within ends.adapter next p a d.plan used came taken.bytes.items s) (step_bytes ends.adapter next p a d.plan used came taken.bytes.items s) w in
       let world : World D = adapter_said seat outs (record h.world { up = xs }) in
-      let step : ComesUp follows h.world world =
+      let step : ComesUp drive.follows h.world world =
       record {
         message = x;
         later = xs;
@@ -337,8 +336,8 @@ module _ {D : Type 0} (laws : FrameLaws) (shown : D → Shown) (follows : Goes D
         taken = subst (λ (z : Message). takes z p.session ≡ Ok d.plan) same (subst (λ (z : Session). takes m z ≡ Ok d.plan) a.session_is d.is);
         outs = outs;
         seat = seat;
-        writes = step_writes adapter next p a d.plan used came taken.bytes.items s;
-        reads_back = step_back adapter next p a d.plan used came taken.bytes.items s;
+        writes = step_writes ends.adapter next p a d.plan used came taken.bytes.items s;
+        reads_back = step_back ends.adapter next p a d.plan used came taken.bytes.items s;
         is = refl;
       } in
       record {
@@ -348,71 +347,71 @@ module _ {D : Type 0} (laws : FrameLaws) (shown : D → Shown) (follows : Goes D
           in_range = h.at.in_range;
           schedule = goes h.world world h.at.schedule (by_coming_up step);
           client_at = h.at.client_at;
-          adapter_at = adapter_steps adapter next p a d.plan used came taken.bytes.items s keeps
-              (between_again laws.one_split b adapter.intake d.whole.ready next.intake a.came a.stands.received.bodies rest taken.used stands.received.bodies stands.received.rest (adapter_bounds laws limits adapter p a) (adapter_stream laws limits adapter p a) d.whole.completes new_bounds stands.received.stream);
+          adapter_at = adapter_steps ends.adapter next p a d.plan used came taken.bytes.items s keeps
+              (between_again laws.one_split b ends.adapter.intake d.whole.ready next.intake a.came a.stands.received.bodies rest taken.used stands.received.bodies stands.received.rest (adapter_bounds laws drive.limits ends.adapter p a) (adapter_stream laws drive.limits ends.adapter p a) d.whole.completes new_bounds stands.received.stream);
           reader_at = w.between;
-          transcript_is = longer laws limits Adapter outs h.world.said transcript longer_transcript h.at.transcript_is lines.lines;
+          transcript_is = longer laws drive.limits Adapter outs h.world.said ends.transcript longer_transcript h.at.transcript_is lines.lines;
         };
         up_is = is_first.left;
-        down_is = more_frames limits h.world.down outs down taken.bytes.items h.down_is lines.frames;
+        down_is = more_frames drive.limits h.world.down outs down taken.bytes.items h.down_is lines.frames;
       }
 
-  pub took_up : (client : ClientEnd) (adapter next : AdapterEnd D) (reader : Intake) (transcript rest down : List ℕ) → At client adapter reader transcript rest down
-      → 0 < length rest → (taken : Taken) (delivered : Option Message) → AdapterTakes follows adapter rest taken delivered next → next.session.limits ≡ adapter.session.limits
-      → (later : Intake) (longer_transcript : List ℕ) → (IsBetween limits reader → WritesLines limits later Adapter taken.bytes.items transcript longer_transcript)
-      → At client next later longer_transcript (drop taken.used rest) (down ++ taken.bytes.items)
-  took_up client adapter next reader transcript rest down h some taken None t keeps later longer_transcript w =
+  pub took_up : (ends : BothEnds D) (next : AdapterState D) (rest down : List ℕ) → At ends rest down
+      → 0 < length rest → (taken : Taken) (delivered : Option Message) → AdapterTakes drive.follows ends.adapter rest taken delivered next → next.session.limits ≡ ends.adapter.session.limits
+      → (later : Intake) (longer_transcript : List ℕ) → (IsBetween drive.limits ends.reader → WritesLines drive.limits later Adapter taken.bytes.items ends.transcript longer_transcript)
+      → At (record ends { adapter = next; reader = later; transcript = longer_transcript }) (drop taken.used rest) (down ++ taken.bytes.items)
+  took_up ends next rest down h some taken None t keeps later longer_transcript w =
       let a = h.at.adapter_at in
-      let m = some_message limits h.world.up rest h.up_is some in
-      absurd (not_waiting laws.one_split (bounds_of limits) adapter.intake next.intake a.came a.stands.received.bodies rest taken.used (canon m.0) (map canon m.1) (adapter_bounds laws limits adapter h.world.adapter a) (adapter_stream laws limits adapter h.world.adapter a) t.gathers (subst (λ (z : List Message). AreFramesOf limits z rest) m.2 h.up_is))
-  took_up client adapter next reader transcript rest down h some taken (Some m) t keeps later longer_transcript w =
-      let first = some_message limits h.world.up rest h.up_is some in
-      up_delivered client adapter next reader transcript rest down h first.0 first.1 first.2 taken m t keeps later longer_transcript (w h.at.reader_at)
+      let m = some_message drive.limits h.world.up rest h.up_is some in
+      absurd (not_waiting laws.one_split (bounds_of drive.limits) ends.adapter.intake next.intake a.came a.stands.received.bodies rest taken.used (canon m.0) (map canon m.1) (adapter_bounds laws drive.limits ends.adapter h.world.adapter a) (adapter_stream laws drive.limits ends.adapter h.world.adapter a) t.gathers (subst (λ (z : List Message). AreFramesOf drive.limits z rest) m.2 h.up_is))
+  took_up ends next rest down h some taken (Some m) t keeps later longer_transcript w =
+      let first = some_message drive.limits h.world.up rest h.up_is some in
+      up_delivered ends next rest down h first.0 first.1 first.2 taken m t keeps later longer_transcript (w h.at.reader_at)
 
-  pub served : (client : ClientEnd) (adapter next : AdapterEnd D) (reader : Intake) (transcript rest down : List ℕ) → At client adapter reader transcript rest down
-      → 0 < length rest → (taken : Taken) (delivered : Option Message) → AdapterTakes follows adapter rest taken delivered next → next.session.limits ≡ adapter.session.limits
-      → (later : Intake) (longer_transcript bytes more : List ℕ) (n : ℕ) → n ≡ taken.used → bytes ≡ taken.bytes.items → more ≡ down ++ bytes → (IsBetween limits reader → WritesLines limits later Adapter bytes transcript longer_transcript)
-      → At client next later longer_transcript (drop n rest) more
-  served client adapter next reader transcript rest down h some taken delivered t keeps later longer_transcript bytes more n used is sum w =
+  pub served : (ends : BothEnds D) (next : AdapterState D) (rest down : List ℕ) → At ends rest down
+      → 0 < length rest → (taken : Taken) (delivered : Option Message) → AdapterTakes drive.follows ends.adapter rest taken delivered next → next.session.limits ≡ ends.adapter.session.limits
+      → (later : Intake) (longer_transcript bytes more : List ℕ) (n : ℕ) → n ≡ taken.used → bytes ≡ taken.bytes.items → more ≡ down ++ bytes → (IsBetween drive.limits ends.reader → WritesLines drive.limits later Adapter bytes ends.transcript longer_transcript)
+      → At (record ends { adapter = next; reader = later; transcript = longer_transcript }) (drop n rest) more
+  served ends next rest down h some taken delivered t keeps later longer_transcript bytes more n used is sum w =
       let all : more ≡ down ++ taken.bytes.items = sum ∙ ap (λ (z : List ℕ). down ++ z) is in
-      subst (λ (z : List ℕ). At client next later longer_transcript (drop n rest) z) (sym all)
-      (subst (λ (z : ℕ). At client next later longer_transcript (drop z rest) (down ++ taken.bytes.items)) (sym used)
-      (took_up client adapter next reader transcript rest down h some taken delivered t keeps later longer_transcript (λ b. subst (λ (z : List ℕ). WritesLines limits later Adapter z transcript longer_transcript) is (w b))))
+      subst (λ (z : List ℕ). At (record ends { adapter = next; reader = later; transcript = longer_transcript }) (drop n rest) z) (sym all)
+      (subst (λ (z : ℕ). At (record ends { adapter = next; reader = later; transcript = longer_transcript }) (drop z rest) (down ++ taken.bytes.items)) (sym used)
+      (took_up ends next rest down h some taken delivered t keeps later longer_transcript (λ b. subst (λ (z : List ℕ). WritesLines drive.limits later Adapter z ends.transcript longer_transcript) is (w b))))
 
   -- what a step of the adapter wrote is framed
-  pub step_framed : (client : ClientEnd) (adapter next : AdapterEnd D) (reader : Intake) (transcript up down : List ℕ) (h : At client adapter reader transcript up down) (plan : Plan) (used : List ℕ) (came : List Entry) (bytes : List ℕ) → Step follows plan adapter next used came bytes
-      → (given : List ℕ) → given ≡ bytes → IsUnwritten unwritten.Frames reader given → ⊥
-  step_framed client adapter next reader transcript up down h plan used came bytes s given is refuses =
+  pub step_framed : (ends : BothEnds D) (next : AdapterState D) (up down : List ℕ) (h : At ends up down) (plan : Plan) (used : List ℕ) (came : List Entry) (bytes : List ℕ) → Step drive.follows plan ends.adapter next used came bytes
+      → (given : List ℕ) → given ≡ bytes → IsUnwritten unwritten.Frames ends.reader given → ⊥
+  step_framed ends next up down h plan used came bytes s given is refuses =
       let a = h.at.adapter_at in
       let p = h.world.adapter in
-      not_unwritten laws limits (numbered p.session.used s.made.drafts) given reader h.at.in_range (step_within adapter next p a plan used came bytes s) (is ∙ step_bytes adapter next p a plan used came bytes s) h.at.reader_at refuses
+      not_unwritten laws drive.limits (numbered_messages p.session.used s.made.drafts) given ends.reader h.at.in_range (step_within ends.adapter next p a plan used came bytes s) (is ∙ step_bytes ends.adapter next p a plan used came bytes s) h.at.reader_at refuses
 
-  pub served_framed : (client : ClientEnd) (adapter next : AdapterEnd D) (reader : Intake) (transcript rest down : List ℕ) → At client adapter reader transcript rest down → (taken : Taken) (delivered : Option Message) → AdapterTakes follows adapter rest taken delivered next
-      → (bytes : List ℕ) → bytes ≡ taken.bytes.items → IsUnwritten unwritten.Frames reader bytes → ⊥
-  served_framed client adapter next reader transcript rest down h taken None t bytes is refuses = not_unwritten laws limits [] bytes reader h.at.in_range tt (is ∙ t.none_written) h.at.reader_at refuses
-  served_framed client adapter next reader transcript rest down h taken (Some m) t bytes is refuses = step_framed client adapter next reader transcript rest down h t.plan (take taken.used rest) (In m ∷ []) taken.bytes.items t.step bytes is refuses
+  pub served_framed : (ends : BothEnds D) (next : AdapterState D) (rest down : List ℕ) → At ends rest down → (taken : Taken) (delivered : Option Message) → AdapterTakes drive.follows ends.adapter rest taken delivered next
+      → (bytes : List ℕ) → bytes ≡ taken.bytes.items → IsUnwritten unwritten.Frames ends.reader bytes → ⊥
+  served_framed ends next rest down h taken None t bytes is refuses = not_unwritten laws drive.limits [] bytes ends.reader h.at.in_range tt (is ∙ t.none_written) h.at.reader_at refuses
+  served_framed ends next rest down h taken (Some m) t bytes is refuses = step_framed ends next rest down h t.plan (take taken.used rest) (In m ∷ []) taken.bytes.items t.step bytes is refuses
 
   -- ---- why the adapter does not
 
-  adapter_closed : (client : ClientEnd) (adapter : AdapterEnd D) (reader : Intake) (transcript rest down : List ℕ) (h : At client adapter reader transcript rest down) → 0 < length rest → (f : AdapterFault) → AdapterClosedBy adapter.intake adapter.session rest f
-      → (now : World D) × Delivers follows start now × LacksNumbers shown follows to_take now
-  adapter_closed client adapter reader transcript rest down h some f t =
-      let first = some_message limits h.world.up rest h.up_is some in
-      let is_first = first_up client adapter reader transcript rest down h first.0 first.1 first.2 t.n t.whole in
+  adapter_closed : (ends : BothEnds D) (rest down : List ℕ) (h : At ends rest down) → 0 < length rest → (f : AdapterFault) → AdapterClosedBy ends.adapter.intake ends.adapter.session rest f
+      → (now : World D) × Delivers drive.follows start now × LacksNumbers drive.shown drive.follows to_take now
+  adapter_closed ends rest down h some f t =
+      let first = some_message drive.limits h.world.up rest h.up_is some in
+      let is_first = first_up ends rest down h first.0 first.1 first.2 t.n t.whole in
       let closes : takes first.0 h.world.adapter.session ≡ Err f = subst (λ (z : Message). takes z h.world.adapter.session ≡ Err f) (is_first.only t.message t.read) (subst (λ (z : Session). takes t.message z ≡ Err f) h.at.adapter_at.session_is t.closes) in
-      let lacks : f ≡ adapter_fault.SeqExhausted = (agrees limits debuggee h.world h.at.in_range h.at.schedule).fault.up first.0 first.1 f first.2 closes in
+      let lacks : f ≡ adapter_fault.SeqExhausted = (agrees drive.limits drive.debuggee h.world h.at.in_range h.at.schedule).fault.up first.0 first.1 f first.2 closes in
       (h.world, h.delivers, (first.0, first.1, first.2, subst (λ (z : AdapterFault). takes first.0 h.world.adapter.session ≡ Err z) lacks closes))
 
-  pub adapter_stops : (client : ClientEnd) (adapter : AdapterEnd D) (reader : Intake) (transcript rest down : List ℕ) (h : At client adapter reader transcript rest down) → 0 < length rest → (f : AdapterFault) → AdapterTakeRefused adapter.intake adapter.session rest f → StopsDelivering shown follows (fault_of_adapter f) start
-  adapter_stops client adapter reader transcript rest down h some (adapter_fault.Frame fault) t =
+  pub adapter_stops : (ends : BothEnds D) (rest down : List ℕ) (h : At ends rest down) → 0 < length rest → (f : AdapterFault) → AdapterTakeRefused ends.adapter.intake ends.adapter.session rest f → StopsDelivering drive (fault_of_adapter f) start
+  adapter_stops ends rest down h some (adapter_fault.Frame fault) t =
       let a = h.at.adapter_at in
-      absurd (not_closed laws.one_split (bounds_of limits) laws.moves adapter.intake t.closed a.came a.stands.received.bodies rest fault (map canon h.world.up) (header limits h.at.in_range) (adapter_bounds laws limits adapter h.world.adapter a) (adapter_stream laws limits adapter h.world.adapter a) t.closes h.up_is)
-  adapter_stops client adapter reader transcript rest down h some (adapter_fault.Body cause offset) t =
-      let first = some_message limits h.world.up rest h.up_is some in
-      let is_first = first_up client adapter reader transcript rest down h first.0 first.1 first.2 t.n t.whole in
+      absurd (not_closed laws.one_split (bounds_of drive.limits) laws.moves ends.adapter.intake t.closed a.came a.stands.received.bodies rest fault (map canon h.world.up) (header drive.limits h.at.in_range) (adapter_bounds laws drive.limits ends.adapter h.world.adapter a) (adapter_stream laws drive.limits ends.adapter h.world.adapter a) t.closes h.up_is)
+  adapter_stops ends rest down h some (adapter_fault.Body cause offset) t =
+      let first = some_message drive.limits h.world.up rest h.up_is some in
+      let is_first = first_up ends rest down h first.0 first.1 first.2 t.n t.whole in
       absurd (is_first.good cause t.bad)
-  adapter_stops client adapter reader transcript rest down h some (adapter_fault.RepeatedSeq q) t = adapter_closed client adapter reader transcript rest down h some (adapter_fault.RepeatedSeq q) t
-  adapter_stops client adapter reader transcript rest down h some (adapter_fault.Unmatched q) t = adapter_closed client adapter reader transcript rest down h some (adapter_fault.Unmatched q) t
-  adapter_stops client adapter reader transcript rest down h some adapter_fault.Ended t = adapter_closed client adapter reader transcript rest down h some adapter_fault.Ended t
-  adapter_stops client adapter reader transcript rest down h some adapter_fault.SeqExhausted t = adapter_closed client adapter reader transcript rest down h some adapter_fault.SeqExhausted t
-  adapter_stops client adapter reader transcript rest down h some adapter_fault.OutOfMemory t = tt
+  adapter_stops ends rest down h some (adapter_fault.RepeatedSeq q) t = adapter_closed ends rest down h some (adapter_fault.RepeatedSeq q) t
+  adapter_stops ends rest down h some (adapter_fault.Unmatched q) t = adapter_closed ends rest down h some (adapter_fault.Unmatched q) t
+  adapter_stops ends rest down h some adapter_fault.Ended t = adapter_closed ends rest down h some adapter_fault.Ended t
+  adapter_stops ends rest down h some adapter_fault.SeqExhausted t = adapter_closed ends rest down h some adapter_fault.SeqExhausted t
+  adapter_stops ends rest down h some adapter_fault.OutOfMemory t = tt

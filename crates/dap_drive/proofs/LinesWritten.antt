@@ -9,7 +9,7 @@ use Rattle.dap_check.specs.declared.line.Side.{Side}
 use Rattle.dap_message.specs.Canon.{canon}
 use Rattle.dap_message.specs.declared.message.Message.{Message}
 use Rattle.dap_world.specs.World.{Said, said_by}
-use Rattle.dap_drive.specs.Lines.{IsBetween, WritesLine, WritesLines, IsUnwritten, lines_of}
+use Rattle.dap_drive.specs.PrivateLines.{IsBetween, WritesLine, WritesLines, IsUnwritten, lines_of}
 use Rattle.dap_drive.specs.Transcript.{mark_of, line_of, text_of}
 use Rattle.dap_drive.specs.declared.writing.Unwritten.{Unwritten}
 use Rattle.dap_drive.specs.declared.writing.Unwritten.TheVariants as unwritten
@@ -28,10 +28,6 @@ text_append (x ∷ xs) ys = ap (λ (z : List ℕ). line_of x.side (canon x.messa
 pub text_of_messages : (side : Side) (ms : List Message) → lines_of side (map canon ms) ≡ text_of (said_by side ms)
 text_of_messages side [] = refl
 text_of_messages side (m ∷ ms) = ap (λ (z : List ℕ). line_of side (canon m) ++ z) (text_of_messages side ms)
-
--- of no bytes
-pub none_written : (limits : Settings) (i : Intake) (side : Side) (before : List ℕ) → IsBetween limits i → WritesLines limits i side [] before before
-none_written limits i side before b = record { bodies = []; frames = refl; lines = sym (append-nil before); between = b }
 
 -- one line more
 pub line_written : (laws : EachStreamHasOneSplit) (limits : Settings) (i j : Intake) (side : Side) (bytes rest before now after : List ℕ) (at n : ℕ) → rest ≡ drop at bytes

@@ -8,7 +8,7 @@ use Rattle.dap_message.specs.Call.{thread_of}
 use Rattle.dap_message.specs.Types.Call.TheVariants as call
 use Rattle.dap_check.specs.declared.line.Side.TheVariants.{Client, Adapter}
 use Rattle.dap_drive.specs.Script.{order_of, text_before, text_after}
-use Rattle.dap_drive.specs.Lines.{lines_of}
+use Rattle.dap_drive.specs.PrivateLines.{lines_of}
 use Rattle.dap_drive.specs.Transcript.{text_of}
 use Rattle.dap_drive.specs.declared.script.LineFault.TheVariants.{Script, Call}
 use Rattle.dap_drive.specs.declared.script.Order.TheVariants.{Send, Turn, Poll, Run}

@@ -16,14 +16,14 @@ use Rattle.dap_tables.specs.Outstanding.{entry_with}
 use Rattle.dap_tables.specs.declared.entry.Entry.{Entry}
 use Rattle.dap_client.specs.Calls.{Takes}
 use Rattle.dap_client.specs.Changes.{signal_named}
-use Rattle.dap_client.specs.End.{End as ClientEnd}
+use Rattle.dap_client.specs.ClientState.{ClientState}
 use Rattle.dap_client.specs.declared.got.Got.{Got}
-use Rattle.dap_client.specs.Seen.{learned, after_response, after_event}
+use Rattle.dap_client.specs.Seen.{known_after, after_response, after_event}
 use Rattle.dap_client.specs.Session.{Session}
-use Rattle.dap_client.specs.Taking.{Made, takes, takes_as, takes_answer, answered_within, answered, declined, silently, bytes_of}
+use Rattle.dap_client.specs.Taking.{Made, takes, takes_as, takes_answer, answered_within, made_by_answer, made_by_refusing, made_without_writing, bytes_of}
 use Rattle.dap_client.specs.declared.fault.ClientFault.{ClientFault}
 use Rattle.dap_client.specs.declared.fault.ClientFault.TheVariants.{ReferenceLimit, CommandMismatch, SeqExhausted}
-use Rattle.dap_drive.specs.Held.{Spends}
+use Rattle.dap_drive.specs.PrivateHeld.{Spends}
 
 -- nothing is written
 silent : (s : Session) (made : Made) → made.written ≡ [] → made.after.limits ≡ s.limits → made.after.used ≡ s.used → Spends s made.after 0 (length (bytes_of made))
@@ -36,21 +36,21 @@ told_spends s made other none limits used given is_other is =
     let after : other ≡ made = cc (is_other, is) in
     subst (λ (z : Made). Spends s z.after 0 (length (bytes_of z))) after (silent s other none limits used)
 
-request_spends : (seq : ℕ) (command : List ℕ) (s : Session) (made : Made) (b : Bool) → nat_lt s.used s.limits.seq ≡ b → (if b then Ok (declined seq command s) else Err SeqExhausted) ≡ Ok made → Spends s made.after 0 (length (bytes_of made))
+request_spends : (seq : ℕ) (command : List ℕ) (s : Session) (made : Made) (b : Bool) → nat_lt s.used s.limits.seq ≡ b → (if b then Ok (made_by_refusing seq command s) else Err SeqExhausted) ≡ Ok made → Spends s made.after 0 (length (bytes_of made))
 request_spends seq command s made true e is =
     let below = ltb-true s.used s.limits.seq e in
-    let after : declined seq command s ≡ made = cc is in
+    let after : made_by_refusing seq command s ≡ made = cc is in
     subst (λ (z : Made). Spends s z.after 0 (length (bytes_of z))) after (record { limits = refl; more = omega (arith); some = λ h. omega (arith); within = λ h. omega (arith, below) })
 request_spends seq command s made false e is = absurd (cc is)
 
-within_spends : (request_seq : ℕ) (ok : Bool) (command : List ℕ) (body : Option Data) (s : Session) (made : Made) (b : Bool) → (if b then Ok (answered request_seq (after_response request_seq ok (command_named command) body s.seen) s) else Err ReferenceLimit) ≡ Ok made → Spends s made.after 0 (length (bytes_of made))
+within_spends : (request_seq : ℕ) (ok : Bool) (command : List ℕ) (body : Option Data) (s : Session) (made : Made) (b : Bool) → (if b then Ok (made_by_answer request_seq (after_response request_seq ok (command_named command) body s.seen) s) else Err ReferenceLimit) ≡ Ok made → Spends s made.after 0 (length (bytes_of made))
 within_spends request_seq ok command body s made true is =
-    let after : answered request_seq (after_response request_seq ok (command_named command) body s.seen) s ≡ made = cc is in
-    subst (λ (z : Made). Spends s z.after 0 (length (bytes_of z))) after (silent s (answered request_seq (after_response request_seq ok (command_named command) body s.seen) s) refl refl refl)
+    let after : made_by_answer request_seq (after_response request_seq ok (command_named command) body s.seen) s ≡ made = cc is in
+    subst (λ (z : Made). Spends s z.after 0 (length (bytes_of z))) after (silent s (made_by_answer request_seq (after_response request_seq ok (command_named command) body s.seen) s) refl refl refl)
 within_spends request_seq ok command body s made false is = absurd (cc is)
 
 match_spends : (request_seq : ℕ) (ok : Bool) (command : List ℕ) (body : Option Data) (s : Session) (made : Made) (b : Bool) → (if b then answered_within request_seq ok command body s else Err (CommandMismatch request_seq)) ≡ Ok made → Spends s made.after 0 (length (bytes_of made))
-match_spends request_seq ok command body s made true is = within_spends request_seq ok command body s made (nat_le (length (learned ok (command_named command) body s.seen)) s.limits.references) is
+match_spends request_seq ok command body s made true is = within_spends request_seq ok command body s made (nat_le (length (known_after ok (command_named command) body s.seen)) s.limits.references) is
 match_spends request_seq ok command body s made false is = absurd (cc is)
 
 answer_spends : (found : Option Entry) (request_seq : ℕ) (ok : Bool) (command : List ℕ) (body : Option Data) (s : Session) (made : Made) → takes_answer found request_seq ok command body s ≡ Ok made → Spends s made.after 0 (length (bytes_of made))
@@ -60,8 +60,8 @@ answer_spends (Some r) request_seq ok command body s made is = match_spends requ
 kind_spends : (seq : ℕ) (kind : Kind) (s : Session) (made : Made) → takes_as seq kind s ≡ Ok made → Spends s made.after 0 (length (bytes_of made))
 kind_spends seq (Request command arguments) s made is = request_spends seq command s made (nat_lt s.used s.limits.seq) refl is
 kind_spends seq (Response request_seq ok command message body) s made is = answer_spends (entry_with request_seq s.outstanding) request_seq ok command body s made is
-kind_spends seq (Event event body) s made is = told_spends s made (silently (record s { seen = after_event (signal_named event) body s.seen })) refl refl refl (takes_as seq (Event event body) s) refl is
-kind_spends seq (Other tag) s made is = told_spends s made (silently s) refl refl refl (takes_as seq (Other tag) s) refl is
+kind_spends seq (Event event body) s made is = told_spends s made (made_without_writing (record s { seen = after_event (signal_named event) body s.seen })) refl refl refl (takes_as seq (Event event body) s) refl is
+kind_spends seq (Other tag) s made is = told_spends s made (made_without_writing s) refl refl refl (takes_as seq (Other tag) s) refl is
 
 pub takes_spends : (m : Message) (s : Session) (made : Made) → takes m s ≡ Ok made → Spends s made.after 0 (length (bytes_of made))
 takes_spends m s made is = kind_spends m.seq m.kind s made is
@@ -77,7 +77,7 @@ written_spends old new bytes before after n s count is = record {
 }
 
 -- a call of a client
-pub call_spends : (client next : ClientEnd) (rest before after : List ℕ) (got : Got) (delivered : Option Message) → Takes client rest got delivered next → after ≡ before ++ got.bytes.items → Spends client.session next.session (length before) (length after)
+pub call_spends : (client next : ClientState) (rest before after : List ℕ) (got : Got) (delivered : Option Message) → Takes client rest got delivered next → after ≡ before ++ got.bytes.items → Spends client.session next.session (length before) (length after)
 call_spends client next rest before after got None t is =
     written_spends client.session next.session got.bytes.items before after 0 (record { limits = ap (λ (z : Session). z.limits) t.session; more = omega (arith, ap (λ (z : Session). z.used) t.session); some = λ h. absurd (omega (arith, h)); within = λ h. absurd (omega (arith, h, ap (λ (z : Session). z.used) t.session)) }) (ap length t.none_written) is
 call_spends client next rest before after got (Some m) t is =

@@ -3,7 +3,7 @@ use Rattle.std.specs.Prelude.{◌≡◌, ◌+◌, ◌<◌, ℕ, List, ◌∷◌,
 use Rattle.dap_frame.specs.Settings.{Settings}
 use Rattle.dap_message.specs.Types.Call.{Call as TheCall}
 use Rattle.dap_json.specs.Read.{json_of}
-use Rattle.dap_debuggee.specs.Played.{shown_of, FollowsPlayed, unplayed}
+use Rattle.dap_debuggee.specs.Played.{shown_of, FollowsPlayed, fresh_played}
 use Rattle.dap_debuggee.specs.Reading.{verdict_of}
 use Rattle.dap_debuggee.specs.Shown.{Shown}
 use Rattle.dap_debuggee.specs.declared.reading.RecordingFault.{RecordingFault}
@@ -76,10 +76,10 @@ Stops shown follows limits debuggee texts fault = StopsAt shown follows limits d
 -- ---- over a recording
 
 abbrev pub DrivesRecording : Settings → List ℕ → List (List ℕ) → List ℕ → Type 0
-DrivesRecording limits bytes texts transcript = (r : TheRecording) × (verdict_of (json_of bytes) ≡ Ok r) × Drives shown_of FollowsPlayed limits (unplayed r) texts transcript
+DrivesRecording limits bytes texts transcript = (r : TheRecording) × (verdict_of (json_of bytes) ≡ Ok r) × Drives shown_of FollowsPlayed limits (fresh_played r) texts transcript
 
 -- the bytes are no recording, or they are one over which the script stops
 abbrev pub StopsOver : Settings → List ℕ → List (List ℕ) → DriveFault → Type 0
 StopsOver limits bytes texts Recording = (f : RecordingFault) × (verdict_of (json_of bytes) ≡ Err f)
 StopsOver limits bytes texts OutOfMemory = Unit {0}
-StopsOver limits bytes texts fault = (r : TheRecording) × (verdict_of (json_of bytes) ≡ Ok r) × Stops shown_of FollowsPlayed limits (unplayed r) texts fault
+StopsOver limits bytes texts fault = (r : TheRecording) × (verdict_of (json_of bytes) ≡ Ok r) × Stops shown_of FollowsPlayed limits (fresh_played r) texts fault

@@ -1,8 +1,8 @@
 pub mod Script
 pub mod Transcript
-pub mod Frames
+pub mod PrivateFrames
 pub mod Orders
 pub mod Driven
-pub mod Lines
-pub mod Held
-pub mod Faults
+pub mod PrivateLines
+pub mod PrivateHeld
+pub mod PrivateFaults

@@ -42,12 +42,12 @@ text_before text = before_place (position is_space text) text
 abbrev pub text_after : List ℕ → Option (List ℕ)
 text_after text = after_place (position is_space text) text
 
-abbrev pub known : Option Command → Read Command
-known None = Err Script
-known (Some c) = Ok c
+abbrev pub known_command : Option Command → Read Command
+known_command None = Err Script
+known_command (Some c) = Ok c
 
 abbrev pub command_in : List ℕ → Read Command
-command_in name = if is_utf8 name then known (command_named name) else Err Script
+command_in name = if is_utf8 name then known_command (command_named name) else Err Script
 
 -- null counts as absent
 abbrev pub arguments_of : Option Data → Read (Option Data)

@@ -5,7 +5,7 @@ ghost use Rattle.dap_debuggee.specs.declared.answers.State.{State};
 ghost use Rattle.dap_frame.specs.Intake.{IsUnderWay};
 ghost use Rattle.dap_frame.specs.Settings.{Settings};
 ghost use Rattle.dap_drive.specs.Driven.{Drives, Stops, SaysOf, DrivesRecording, StopsOver};
-ghost use Rattle.dap_drive.specs.Held.{IsQuiet, HasDone, DoesLine, HasRun};
+ghost use Rattle.dap_drive.specs.PrivateHeld.{driven_by, both_of, IsQuiet, HasDone, DoesLine, HasRun};
 ghost use Rattle.dap_world.specs.World.{World};
 
 use crate::ends::Drive;
@@ -28,10 +28,10 @@ fn do_order<D: Debuggee + Drop>(
     requires reading { IsUnderWay drive.old.reader }
     ensures reading { OnOk result (IsUnderWay drive.new.reader) }
     ensures done { OnOk result ((limits : Settings) (debuggee : D) (start : World D)
-        → IsQuiet D.shown D.follows limits debuggee drive.old.client drive.old.adapter drive.old.reader drive.old.transcript.items start
-        → HasDone D.shown D.follows limits debuggee (DoesLine D.shown D.follows text.now) start drive.new.client drive.new.adapter drive.new.reader drive.new.transcript.items) }
+        → IsQuiet (driven_by D.shown D.follows limits debuggee) (both_of drive.old) start
+        → HasDone (driven_by D.shown D.follows limits debuggee) (DoesLine D.shown D.follows text.now) start (both_of drive.new)) }
     ensures stops { IfErr result (λ fault. (limits : Settings) (debuggee : D) (start : World D)
-        → IsQuiet D.shown D.follows limits debuggee drive.old.client drive.old.adapter drive.old.reader drive.old.transcript.items start
+        → IsQuiet (driven_by D.shown D.follows limits debuggee) (both_of drive.old) start
         → SaysOf D.shown D.follows fault number text.now start) }
 {
     match read_order(alloc, text) {
@@ -67,11 +67,11 @@ fn do_line<D: Debuggee + Drop>(
     requires reading { IsUnderWay drive.old.reader }
     ensures reading { OnOk result (IsUnderWay drive.new.reader) }
     ensures ran { OnOk result ((limits : Settings) (debuggee : D) (texts : List (List ℕ))
-        → HasRun D.shown D.follows limits debuggee texts drive.old.client drive.old.adapter drive.old.reader drive.old.transcript.items
-        → HasRun D.shown D.follows limits debuggee (texts ++ text.now ∷ []) drive.new.client drive.new.adapter drive.new.reader drive.new.transcript.items) }
+        → HasRun (driven_by D.shown D.follows limits debuggee) texts (both_of drive.old)
+        → HasRun (driven_by D.shown D.follows limits debuggee) (texts ++ text.now ∷ []) (both_of drive.new)) }
     ensures bytes { IfErr result (λ fault. 0 < length text.now) }
     ensures stops { IfErr result (λ fault. (limits : Settings) (debuggee : D) (start : World D)
-        → IsQuiet D.shown D.follows limits debuggee drive.old.client drive.old.adapter drive.old.reader drive.old.transcript.items start
+        → IsQuiet (driven_by D.shown D.follows limits debuggee) (both_of drive.old) start
         → SaysOf D.shown D.follows fault number text.now start) }
 {
     if text.is_empty() {

@@ -5,8 +5,8 @@ ghost use Rattle.dap_frame.specs.Intake.{IsUnderWay};
 ghost use Rattle.dap_frame.specs.Settings.{AreInRange, Settings};
 ghost use Rattle.dap_message.specs.PlainCall.{is_plain_call};
 ghost use Rattle.dap_session.specs.Table.{is_phase};
-ghost use Rattle.dap_drive.specs.Held.{Spends, left_to_do};
-ghost use Rattle.dap_drive.specs.Faults.{FrameLaws, fault_of_adapter, fault_of_client};
+ghost use Rattle.dap_drive.specs.PrivateHeld.{Spends, left_to_do};
+ghost use Rattle.dap_drive.specs.PrivateFaults.{FrameLaws, fault_of_adapter, fault_of_client};
 ghost use Rattle.dap_drive.specs.declared.fault.DriveFault.{DriveFault};
 ghost use Rattle.dap_drive.specs.declared.script.Order.{Order};
 ghost use Rattle.dap_drive.specs.declared.writing.Unwritten.{Unwritten};
@@ -123,14 +123,14 @@ pub(crate) struct Drive<D: Debuggee + Drop> {
 impl<D: Debuggee + Drop> Drive<D> {
     ghost use Rattle.dap_world.specs.World.{World, fresh_world};
     ghost use Rattle.dap_drive.specs.Orders.{DoesSend, RunsTo};
-    ghost use Rattle.dap_drive.specs.Held.{HasDelivered, HasSettled, IsQuiet, HasDone, HasTurned, HasPolled, StopsDelivering, StopsOrder, StopsSend, StopsTurn, StopsPoll};
+    ghost use Rattle.dap_drive.specs.PrivateHeld.{driven_by, both_of, HasDelivered, HasSettled, IsQuiet, HasDone, HasTurned, HasPolled, StopsDelivering, StopsOrder, StopsSend};
     ghost use Rattle.dap_adapter.specs.Run.{to_take, to_turn, to_poll};
 
     /// Two fresh ends. The debuggee is not started.
     pub(crate) fn open(alloc: Global, limits: Limits, debuggee: D) -> Result<Drive<D>, AllocError>
         requires { (D.shown debuggee).state ≡ State.NotStarted }
         ensures reading { IfOk result (λ d. IsUnderWay d.reader) }
-        ensures fresh { IfOk result (λ d. IsQuiet D.shown D.follows limits debuggee d.client d.adapter d.reader d.transcript.items (fresh_world limits debuggee)) }
+        ensures fresh { IfOk result (λ d. IsQuiet (driven_by D.shown D.follows limits debuggee) (both_of d) (fresh_world limits debuggee)) }
     {
         // Laws for the proof: both ends agree, and bytes are frames in one way only.
         each_schedule_agrees::<D>();
@@ -167,13 +167,13 @@ impl<D: Debuggee + Drop> Drive<D> {
         ensures progress { IfOk result (λ n. 0 < length rest.now → 0 < n) }
         ensures within { IfOk result (λ n. n ≤ length rest.now) }
         ensures delivered { IfOk result (λ n. 0 < length rest.now → (limits : Settings) (debuggee : D) (start : World D)
-            → HasDelivered D.shown D.follows limits debuggee start self.old.client self.old.adapter self.old.reader self.old.transcript.items up.old.items rest.now
-            → HasDelivered D.shown D.follows limits debuggee start self.new.client self.new.adapter self.new.reader self.new.transcript.items up.new.items (drop n rest.now)) }
+            → HasDelivered (driven_by D.shown D.follows limits debuggee) start (both_of self.old) up.old.items rest.now
+            → HasDelivered (driven_by D.shown D.follows limits debuggee) start (both_of self.new) up.new.items (drop n rest.now)) }
         ensures spends { OnOk result (Spends self.old.client.session self.new.client.session (length up.old.items) (length up.new.items)) }
         ensures adapter { self.new.adapter ≡ self.old.adapter }
         ensures stops { IfErr result (λ fault. (limits : Settings) (debuggee : D) (start : World D)
-            → HasDelivered D.shown D.follows limits debuggee start self.old.client self.old.adapter self.old.reader self.old.transcript.items up.old.items rest.now
-            → 0 < length rest.now → StopsDelivering D.shown D.follows fault start) }
+            → HasDelivered (driven_by D.shown D.follows limits debuggee) start (both_of self.old) up.old.items rest.now
+            → 0 < length rest.now → StopsDelivering (driven_by D.shown D.follows limits debuggee) fault start) }
     {
         // Laws for the proof: both ends agree, and bytes are frames in one way only.
         each_schedule_agrees::<D>();
@@ -196,13 +196,13 @@ impl<D: Debuggee + Drop> Drive<D> {
         requires reading { IsUnderWay self.old.reader }
         ensures reading { OnOk result (IsUnderWay self.new.reader) }
         ensures delivered { IfOk result (λ up. (limits : Settings) (debuggee : D) (start : World D)
-            → HasDelivered D.shown D.follows limits debuggee start self.old.client self.old.adapter self.old.reader self.old.transcript.items [] down.now
-            → HasDelivered D.shown D.follows limits debuggee start self.new.client self.new.adapter self.new.reader self.new.transcript.items up.items []) }
+            → HasDelivered (driven_by D.shown D.follows limits debuggee) start (both_of self.old) [] down.now
+            → HasDelivered (driven_by D.shown D.follows limits debuggee) start (both_of self.new) up.items []) }
         ensures spends { IfOk result (λ up. Spends self.old.client.session self.new.client.session 0 (length up.items)) }
         ensures adapter { OnOk result (self.new.adapter ≡ self.old.adapter) }
         ensures stops { IfErr result (λ fault. (limits : Settings) (debuggee : D) (start : World D)
-            → HasDelivered D.shown D.follows limits debuggee start self.old.client self.old.adapter self.old.reader self.old.transcript.items [] down.now
-            → StopsDelivering D.shown D.follows fault start) }
+            → HasDelivered (driven_by D.shown D.follows limits debuggee) start (both_of self.old) [] down.now
+            → StopsDelivering (driven_by D.shown D.follows limits debuggee) fault start) }
     {
         let mut up = Vec::new(alloc);
         let mut at = 0;
@@ -226,13 +226,13 @@ impl<D: Debuggee + Drop> Drive<D> {
         ensures progress { IfOk result (λ n. 0 < length rest.now → 0 < n) }
         ensures within { IfOk result (λ n. n ≤ length rest.now) }
         ensures delivered { IfOk result (λ n. 0 < length rest.now → (limits : Settings) (debuggee : D) (start : World D)
-            → HasDelivered D.shown D.follows limits debuggee start self.old.client self.old.adapter self.old.reader self.old.transcript.items rest.now down.old.items
-            → HasDelivered D.shown D.follows limits debuggee start self.new.client self.new.adapter self.new.reader self.new.transcript.items (drop n rest.now) down.new.items) }
+            → HasDelivered (driven_by D.shown D.follows limits debuggee) start (both_of self.old) rest.now down.old.items
+            → HasDelivered (driven_by D.shown D.follows limits debuggee) start (both_of self.new) (drop n rest.now) down.new.items) }
         ensures client { self.new.client ≡ self.old.client }
         ensures limits { OnOk result (self.new.adapter.session.limits ≡ self.old.adapter.session.limits) }
         ensures stops { IfErr result (λ fault. (limits : Settings) (debuggee : D) (start : World D)
-            → HasDelivered D.shown D.follows limits debuggee start self.old.client self.old.adapter self.old.reader self.old.transcript.items rest.now down.old.items
-            → 0 < length rest.now → StopsDelivering D.shown D.follows fault start) }
+            → HasDelivered (driven_by D.shown D.follows limits debuggee) start (both_of self.old) rest.now down.old.items
+            → 0 < length rest.now → StopsDelivering (driven_by D.shown D.follows limits debuggee) fault start) }
     {
         // Laws for the proof: both ends agree, and bytes are frames in one way only.
         each_schedule_agrees::<D>();
@@ -260,13 +260,13 @@ impl<D: Debuggee + Drop> Drive<D> {
         requires reading { IsUnderWay self.old.reader }
         ensures reading { OnOk result (IsUnderWay self.new.reader) }
         ensures delivered { IfOk result (λ down. (limits : Settings) (debuggee : D) (start : World D)
-            → HasDelivered D.shown D.follows limits debuggee start self.old.client self.old.adapter self.old.reader self.old.transcript.items up.now []
-            → HasDelivered D.shown D.follows limits debuggee start self.new.client self.new.adapter self.new.reader self.new.transcript.items [] down.items) }
+            → HasDelivered (driven_by D.shown D.follows limits debuggee) start (both_of self.old) up.now []
+            → HasDelivered (driven_by D.shown D.follows limits debuggee) start (both_of self.new) [] down.items) }
         ensures client { OnOk result (self.new.client ≡ self.old.client) }
         ensures limits { OnOk result (self.new.adapter.session.limits ≡ self.old.adapter.session.limits) }
         ensures stops { IfErr result (λ fault. (limits : Settings) (debuggee : D) (start : World D)
-            → HasDelivered D.shown D.follows limits debuggee start self.old.client self.old.adapter self.old.reader self.old.transcript.items up.now []
-            → StopsDelivering D.shown D.follows fault start) }
+            → HasDelivered (driven_by D.shown D.follows limits debuggee) start (both_of self.old) up.now []
+            → StopsDelivering (driven_by D.shown D.follows limits debuggee) fault start) }
     {
         let mut down = Vec::new(alloc);
         let mut at = 0;
@@ -282,12 +282,12 @@ impl<D: Debuggee + Drop> Drive<D> {
         requires reading { IsUnderWay self.old.reader }
         ensures reading { OnOk result (IsUnderWay self.new.reader) }
         ensures settled { OnOk result ((limits : Settings) (debuggee : D) (start : World D)
-            → HasDelivered D.shown D.follows limits debuggee start self.old.client self.old.adapter self.old.reader self.old.transcript.items [] first.items
-            → HasSettled D.shown D.follows limits debuggee start self.new.client self.new.adapter self.new.reader self.new.transcript.items) }
+            → HasDelivered (driven_by D.shown D.follows limits debuggee) start (both_of self.old) [] first.items
+            → HasSettled (driven_by D.shown D.follows limits debuggee) start (both_of self.new)) }
         ensures less { OnOk result (left_to_do self.new.client self.new.adapter ≤ left_to_do self.old.client self.old.adapter) }
         ensures stops { IfErr result (λ fault. (limits : Settings) (debuggee : D) (start : World D)
-            → HasDelivered D.shown D.follows limits debuggee start self.old.client self.old.adapter self.old.reader self.old.transcript.items [] first.items
-            → StopsDelivering D.shown D.follows fault start) }
+            → HasDelivered (driven_by D.shown D.follows limits debuggee) start (both_of self.old) [] first.items
+            → StopsDelivering (driven_by D.shown D.follows limits debuggee) fault start) }
     {
         // Laws for the proof: both ends agree, and bytes are frames in one way only.
         each_schedule_agrees::<D>();
@@ -310,11 +310,11 @@ impl<D: Debuggee + Drop> Drive<D> {
         requires plain { IsTrue (is_plain_call call.now) }
         ensures reading { OnOk result (IsUnderWay self.new.reader) }
         ensures sent { OnOk result ((limits : Settings) (debuggee : D) (start : World D)
-            → IsQuiet D.shown D.follows limits debuggee self.old.client self.old.adapter self.old.reader self.old.transcript.items start
-            → HasDone D.shown D.follows limits debuggee (DoesSend D.follows call.now) start self.new.client self.new.adapter self.new.reader self.new.transcript.items) }
+            → IsQuiet (driven_by D.shown D.follows limits debuggee) (both_of self.old) start
+            → HasDone (driven_by D.shown D.follows limits debuggee) (DoesSend D.follows call.now) start (both_of self.new)) }
         ensures stops { IfErr result (λ fault. (limits : Settings) (debuggee : D) (start : World D)
-            → IsQuiet D.shown D.follows limits debuggee self.old.client self.old.adapter self.old.reader self.old.transcript.items start
-            → StopsSend D.shown D.follows fault line call.now self.old.client start) }
+            → IsQuiet (driven_by D.shown D.follows limits debuggee) (both_of self.old) start
+            → StopsSend (driven_by D.shown D.follows limits debuggee) line call.now fault start) }
     {
         // Laws for the proof: both ends agree, and bytes are frames in one way only.
         each_schedule_agrees::<D>();
@@ -343,12 +343,12 @@ impl<D: Debuggee + Drop> Drive<D> {
         requires reading { IsUnderWay self.old.reader }
         ensures reading { OnOk result (IsUnderWay self.new.reader) }
         ensures turned { IfOk result (λ more. (limits : Settings) (debuggee : D) (start : World D)
-            → IsQuiet D.shown D.follows limits debuggee self.old.client self.old.adapter self.old.reader self.old.transcript.items start
-            → HasDone D.shown D.follows limits debuggee (HasTurned D.shown D.follows more) start self.new.client self.new.adapter self.new.reader self.new.transcript.items) }
+            → IsQuiet (driven_by D.shown D.follows limits debuggee) (both_of self.old) start
+            → HasDone (driven_by D.shown D.follows limits debuggee) (HasTurned D.shown D.follows more) start (both_of self.new)) }
         ensures less { IfOk result (λ more. more ≡ true → left_to_do self.new.client self.new.adapter < left_to_do self.old.client self.old.adapter) }
         ensures stops { IfErr result (λ fault. (limits : Settings) (debuggee : D) (start : World D)
-            → IsQuiet D.shown D.follows limits debuggee self.old.client self.old.adapter self.old.reader self.old.transcript.items start
-            → StopsTurn D.shown D.follows fault start) }
+            → IsQuiet (driven_by D.shown D.follows limits debuggee) (both_of self.old) start
+            → StopsOrder (driven_by D.shown D.follows limits debuggee) Order.Turn fault start) }
     {
         // Laws for the proof: both ends agree, and bytes are frames in one way only.
         each_schedule_agrees::<D>();
@@ -376,11 +376,11 @@ impl<D: Debuggee + Drop> Drive<D> {
         requires reading { IsUnderWay self.old.reader }
         ensures reading { OnOk result (IsUnderWay self.new.reader) }
         ensures polled { IfOk result (λ last. (limits : Settings) (debuggee : D) (start : World D)
-            → IsQuiet D.shown D.follows limits debuggee self.old.client self.old.adapter self.old.reader self.old.transcript.items start
-            → HasDone D.shown D.follows limits debuggee (HasPolled D.follows last) start self.new.client self.new.adapter self.new.reader self.new.transcript.items) }
+            → IsQuiet (driven_by D.shown D.follows limits debuggee) (both_of self.old) start
+            → HasDone (driven_by D.shown D.follows limits debuggee) (HasPolled D.follows last) start (both_of self.new)) }
         ensures stops { IfErr result (λ fault. (limits : Settings) (debuggee : D) (start : World D)
-            → IsQuiet D.shown D.follows limits debuggee self.old.client self.old.adapter self.old.reader self.old.transcript.items start
-            → StopsPoll D.shown D.follows fault start) }
+            → IsQuiet (driven_by D.shown D.follows limits debuggee) (both_of self.old) start
+            → StopsOrder (driven_by D.shown D.follows limits debuggee) Order.Poll fault start) }
     {
         // Laws for the proof: both ends agree, and bytes are frames in one way only.
         each_schedule_agrees::<D>();
@@ -408,11 +408,11 @@ impl<D: Debuggee + Drop> Drive<D> {
         requires reading { IsUnderWay self.old.reader }
         ensures reading { OnOk result (IsUnderWay self.new.reader) }
         ensures ran { OnOk result ((limits : Settings) (debuggee : D) (start : World D)
-            → IsQuiet D.shown D.follows limits debuggee self.old.client self.old.adapter self.old.reader self.old.transcript.items start
-            → HasDone D.shown D.follows limits debuggee (λ old new. RunsTo D.shown D.follows old to_take new) start self.new.client self.new.adapter self.new.reader self.new.transcript.items) }
+            → IsQuiet (driven_by D.shown D.follows limits debuggee) (both_of self.old) start
+            → HasDone (driven_by D.shown D.follows limits debuggee) (λ old new. RunsTo D.shown D.follows old to_take new) start (both_of self.new)) }
         ensures stops { IfErr result (λ fault. (limits : Settings) (debuggee : D) (start : World D)
-            → IsQuiet D.shown D.follows limits debuggee self.old.client self.old.adapter self.old.reader self.old.transcript.items start
-            → StopsOrder D.shown D.follows Order.Run fault start) }
+            → IsQuiet (driven_by D.shown D.follows limits debuggee) (both_of self.old) start
+            → StopsOrder (driven_by D.shown D.follows limits debuggee) Order.Run fault start) }
     {
         self.turns(alloc)?;
         self.polls(alloc)?;
@@ -423,11 +423,11 @@ impl<D: Debuggee + Drop> Drive<D> {
         requires reading { IsUnderWay self.old.reader }
         ensures reading { OnOk result (IsUnderWay self.new.reader) }
         ensures ran { OnOk result ((limits : Settings) (debuggee : D) (start : World D)
-            → IsQuiet D.shown D.follows limits debuggee self.old.client self.old.adapter self.old.reader self.old.transcript.items start
-            → HasDone D.shown D.follows limits debuggee (λ old new. RunsTo D.shown D.follows old (to_poll 0) new) start self.new.client self.new.adapter self.new.reader self.new.transcript.items) }
+            → IsQuiet (driven_by D.shown D.follows limits debuggee) (both_of self.old) start
+            → HasDone (driven_by D.shown D.follows limits debuggee) (λ old new. RunsTo D.shown D.follows old (to_poll 0) new) start (both_of self.new)) }
         ensures stops { IfErr result (λ fault. (limits : Settings) (debuggee : D) (start : World D)
-            → IsQuiet D.shown D.follows limits debuggee self.old.client self.old.adapter self.old.reader self.old.transcript.items start
-            → StopsOrder D.shown D.follows Order.Run fault start) }
+            → IsQuiet (driven_by D.shown D.follows limits debuggee) (both_of self.old) start
+            → StopsOrder (driven_by D.shown D.follows limits debuggee) Order.Run fault start) }
     {
         // Laws for the proof: both ends agree, and bytes are frames in one way only.
         each_schedule_agrees::<D>();
@@ -444,11 +444,11 @@ impl<D: Debuggee + Drop> Drive<D> {
         requires reading { IsUnderWay self.old.reader }
         ensures reading { OnOk result (IsUnderWay self.new.reader) }
         ensures ran { OnOk result ((limits : Settings) (debuggee : D) (start : World D)
-            → HasDone D.shown D.follows limits debuggee (λ old new. RunsTo D.shown D.follows old (to_poll 0) new) start self.old.client self.old.adapter self.old.reader self.old.transcript.items
-            → HasDone D.shown D.follows limits debuggee (λ old new. RunsTo D.shown D.follows old to_take new) start self.new.client self.new.adapter self.new.reader self.new.transcript.items) }
+            → HasDone (driven_by D.shown D.follows limits debuggee) (λ old new. RunsTo D.shown D.follows old (to_poll 0) new) start (both_of self.old)
+            → HasDone (driven_by D.shown D.follows limits debuggee) (λ old new. RunsTo D.shown D.follows old to_take new) start (both_of self.new)) }
         ensures stops { IfErr result (λ fault. (limits : Settings) (debuggee : D) (start : World D)
-            → HasDone D.shown D.follows limits debuggee (λ old new. RunsTo D.shown D.follows old (to_poll 0) new) start self.old.client self.old.adapter self.old.reader self.old.transcript.items
-            → StopsOrder D.shown D.follows Order.Run fault start) }
+            → HasDone (driven_by D.shown D.follows limits debuggee) (λ old new. RunsTo D.shown D.follows old (to_poll 0) new) start (both_of self.old)
+            → StopsOrder (driven_by D.shown D.follows limits debuggee) Order.Run fault start) }
     {
         // Laws for the proof: both ends agree, and bytes are frames in one way only.
         each_schedule_agrees::<D>();

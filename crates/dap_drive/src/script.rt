@@ -1,7 +1,7 @@
 //! What a line of a script asks for.
 ghost use Rattle.std.specs.Prelude.{◌≡◌, ◌==◌, position, option_map, IfOk, IsTrue};
 ghost use Rattle.serde_json.specs.View.{view};
-ghost use Rattle.dap_message.specs.Lent.{seen};
+ghost use Rattle.dap_message.specs.Lent.{lent_data};
 ghost use Rattle.dap_message.specs.PlainCall.{is_plain_call};
 ghost use Rattle.dap_drive.specs.Script.{Gives, GivesArguments, IsPlainOrder, text_before, text_after, command_in, arguments_in, call_in, send_in, order_of};
 
@@ -81,7 +81,7 @@ fn read_arguments(alloc: Global, text: Option<&[u8]>) -> Result<Option<Value>, L
 
 /// The call that a command and its arguments are, if it can be written.
 fn plain_call(alloc: Global, command: Command, arguments: Option<&Value>) -> Result<Call, LineFault>
-    ensures gives { Gives result (call_in command (seen arguments.entry)) }
+    ensures gives { Gives result (call_in command (lent_data arguments.entry)) }
     ensures plain { IfOk result (λ call. IsTrue (is_plain_call call)) }
 {
     match read_call(alloc, command, arguments) {

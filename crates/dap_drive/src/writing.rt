@@ -4,7 +4,7 @@
 ghost use Rattle.std.specs.Prelude.{◌≡◌, ◌++◌, ◌<◌, ◌≤◌, length, take, IfOk, IfErr, OnOk};
 ghost use Rattle.dap_frame.specs.Intake.{IsReady, IsUnderWay};
 ghost use Rattle.dap_frame.specs.Settings.{Settings};
-ghost use Rattle.dap_drive.specs.Lines.{IsBetween, IsUnwritten, WritesLine, WritesLines};
+ghost use Rattle.dap_drive.specs.PrivateLines.{IsBetween, IsUnwritten, WritesLine, WritesLines};
 ghost use Rattle.dap_drive.specs.Transcript.{mark_of};
 
 use dap_check::Side;

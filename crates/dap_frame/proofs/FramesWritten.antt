@@ -11,7 +11,7 @@ use Rattle.std.proofs.lemmas.Bool.Decides.{nat_tests}
 use Rattle.std.proofs.lemmas.List.{length-append, append_assoc, append-nil, take_all}
 use Rattle.std.proofs.lemmas.List.Sums.{prefix_len_is, suffix_len_is}
 use Rattle.dap_frame.specs.declared.limits.Bounds.{Bounds}
-use Rattle.dap_frame.specs.Header.{Field, IsField, Block, block, crlf, trimmed, is_blank, is_value_byte}
+use Rattle.dap_frame.specs.Header.{Field, IsField, Block, block, crlf, trim, is_blank, is_value_byte}
 use Rattle.dap_frame.specs.Stream.{Frame, FramesThen, Split}
 use Rattle.dap_frame.specs.Written.{frame_of}
 use Rattle.dap_frame.proofs.Streams.{no_frame_nil}
@@ -55,7 +55,7 @@ module _ (n : ℕ) (small : n < 2 ^ 64) where
       suffix_len_is is_blank (decimal n) (length (decimal n)) 0 (omega arith) (λ k l m. absurd (omega arith)) (λ l. not_blank _ (digit_at (decimal n) (length (decimal n) - 1) all (omega arith))) in
       omega (arith, e)
 
-  trimmed_again : trimmed (32 ∷ decimal n) ≡ decimal n
+  trimmed_again : trim (32 ∷ decimal n) ≡ decimal n
   trimmed_again = rw (no_blank_before, no_blank_after) (take_all (length (decimal n) - 0) (decimal n) (omega arith))
 
   field : IsField (length_field n)

@@ -10,9 +10,9 @@ use Rattle.std.proofs.lemmas.List.{append_assoc, take_all, take-append-drop}
 use Rattle.std.proofs.lemmas.List.Folds.{list_all_at}
 use Rattle.std.proofs.lemmas.List.Sums.{prefix_len_is, suffix_len_is}
 use Rattle.std.proofs.lemmas.Slice.Eq.{bytes_eq-Decides}
-use Rattle.dap_frame.specs.Given.{usual_block}
-use Rattle.dap_frame.specs.Header.{crlf, is_blank, is_value_byte, trimmed}
-use Rattle.dap_frame.specs.Verdict.{lines, judged, judged_lines, announced}
+use Rattle.dap_frame.specs.PrivateGivenLength.{usual_block}
+use Rattle.dap_frame.specs.Header.{crlf, is_blank, is_value_byte, trim}
+use Rattle.dap_frame.specs.Verdict.{lines, length_of_block, length_of_lines, announced_length}
 use Rattle.dap_frame.proofs.Blocks.{body_of}
 
 -- a block of this form, taken apart
@@ -62,7 +62,7 @@ module _ (digits : List ℕ) (some : 0 < length digits) (all : list_all is_ascii
       suffix_len_is is_blank digits (length digits) 0 (omega arith) (λ k l m. absurd (omega arith)) (λ l. digit_no_blank (get_or digits (length digits - 1) 0) (each_at is_ascii_digit digits all (length digits - 1) (omega arith))) in
       omega (arith, e)
 
-  trimmed_again : trimmed (32 ∷ digits) ≡ digits
+  trimmed_again : trim (32 ∷ digits) ≡ digits
   trimmed_again = rw (no_blank_before, no_blank_after) (take_all (length digits - 0) digits (omega arith))
 
   value : list_all is_value_byte digits ≡ true
@@ -77,8 +77,8 @@ module _ (digits : List ℕ) (some : 0 < length digits) (all : list_all is_ascii
   lines_are : lines (take (length (usual_block digits) - 2) (usual_block digits)) ≡ field ∷ []
   lines_are = ap lines (body_of (usual_block digits) field spelled) ∙ one_line field value
 
-  judged_field : (most : ℕ) → judged_lines most (field ∷ []) ≡ announced most (digits ∷ [])
+  judged_field : (most : ℕ) → length_of_lines most (field ∷ []) ≡ announced_length most (digits ∷ [])
   judged_field most = rw (value, trimmed_again) refl
 
-  pub usual_judged : (most : ℕ) → announced most (digits ∷ []) ≡ judged most (usual_block digits)
-  usual_judged most = sym (ap (judged_lines most) lines_are ∙ judged_field most)
+  pub usual_judged : (most : ℕ) → announced_length most (digits ∷ []) ≡ length_of_block most (usual_block digits)
+  usual_judged most = sym (ap (length_of_lines most) lines_are ∙ judged_field most)

@@ -4,7 +4,7 @@ use Rattle.dap_frame.specs.declared.limits.Bounds.{Bounds}
 use Rattle.dap_frame.specs.declared.stage.Stage.{Stage}
 use Rattle.dap_frame.specs.declared.stage.Stage.TheVariants.{Header, Body, Ready, Closed, GivenUp}
 use Rattle.dap_frame.specs.Stream.{Split}
-use Rattle.dap_frame.specs.Verdict.{block_end, judged, verdict, Refused as Refuses}
+use Rattle.dap_frame.specs.Verdict.{block_end, length_of_block, verdict, Refused as Refuses}
 
 abbrev pub IsGathering : Stage → Type 0
 IsGathering Header = Unit {0}
@@ -28,7 +28,7 @@ IsOpen limit bytes = (block_end bytes ≡ None) × (length bytes < limit)
 pub record Announces (bounds : Bounds) (b : List ℕ) (n : ℕ) : Type 0 where
   pub ends : block_end b ≡ Some (length b)
   pub fits : length b ≤ bounds.header
-  pub judged_so : judged bounds.body b ≡ Ok n
+  pub judged_so : length_of_block bounds.body b ≡ Ok n
 
 -- what is held at a stage of the rest after whole frames
 abbrev pub Shows : Bounds → Stage → List ℕ → List ℕ → Type 0

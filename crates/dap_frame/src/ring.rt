@@ -2,7 +2,7 @@
 
 ghost use Rattle.std.specs.Prelude.{◌≡◌};
 ghost use Rattle.std.specs.Borrow.{sem};
-ghost use Rattle.dap_frame.specs.RingLends.{StaysItems};
+ghost use Rattle.dap_frame.specs.PrivateRingLends.{StaysItems};
 
 use circular_buffer::HeapCircularBuffer;
 use std::alloc::Allocator;

@@ -12,7 +12,7 @@ use Rattle.dap_tables.specs.declared.target.Target.{Target}
 pub data Entry : Type 0 where
   In : (message : Message) → Entry
   Out : (message : Message) → (names : List Target) → Entry
-  Drop : Entry
+  ReferencesEnd : Entry
 
 -- which way a request went: it came here, or it went from here
 pub data Way : Type 0 where
@@ -48,19 +48,19 @@ response_as (Other tag) = None
 abbrev pub request_at : Way → Entry → Option Asked
 request_at Came (In m) = request_as m.seq m.kind
 request_at Came (Out m names) = None
-request_at Came Drop = None
+request_at Came ReferencesEnd = None
 request_at Went (In m) = None
 request_at Went (Out m names) = request_as m.seq m.kind
-request_at Went Drop = None
+request_at Went ReferencesEnd = None
 
 -- the response that an entry is, to requests that go this way
 abbrev pub response_at : Way → Entry → Option Answered
 response_at Came (In m) = None
 response_at Came (Out m names) = response_as m.kind
-response_at Came Drop = None
+response_at Came ReferencesEnd = None
 response_at Went (In m) = response_as m.kind
 response_at Went (Out m names) = None
-response_at Went Drop = None
+response_at Went ReferencesEnd = None
 
 -- ---- what waits
 
@@ -73,18 +73,18 @@ abbrev pub is_answered_in : Way → ℕ → List Entry → Bool
 is_answered_in way seq h = list_any (λ e. has_request_seq seq (response_at way e)) h
 
 -- a request, where no later entry answers it
-abbrev pub unanswered : Way → Option Asked → List Entry → List Asked
-unanswered way None later = []
-unanswered way (Some q) later = if is_answered_in way q.seq later then [] else q ∷ []
+abbrev pub if_unanswered : Way → Option Asked → List Entry → List Asked
+if_unanswered way None later = []
+if_unanswered way (Some q) later = if is_answered_in way q.seq later then [] else q ∷ []
 
 -- the requests of a way that no later entry answers, in order
 abbrev pub waiting : Way → List Entry → List Asked
 waiting way [] = []
-waiting way (e ∷ later) = unanswered way (request_at way e) later ++ waiting way later
+waiting way (e ∷ later) = if_unanswered way (request_at way e) later ++ waiting way later
 
 -- the requests that a response leaves open
-abbrev pub left_open : Option Answered → List Asked → List Asked
-left_open response open_requests = filter (λ q. not (has_request_seq q.seq response)) open_requests
+abbrev pub without_answered : Option Answered → List Asked → List Asked
+without_answered response open_requests = filter (λ q. not (has_request_seq q.seq response)) open_requests
 
 -- ---- messages alone
 
@@ -93,14 +93,14 @@ abbrev pub ins_of : List Entry → List Message
 ins_of [] = []
 ins_of (In m ∷ h) = m ∷ ins_of h
 ins_of (Out m names ∷ h) = ins_of h
-ins_of (Drop ∷ h) = ins_of h
+ins_of (ReferencesEnd ∷ h) = ins_of h
 
 -- the messages that went
 abbrev pub outs_of : List Entry → List Message
 outs_of [] = []
 outs_of (In m ∷ h) = outs_of h
 outs_of (Out m names ∷ h) = m ∷ outs_of h
-outs_of (Drop ∷ h) = outs_of h
+outs_of (ReferencesEnd ∷ h) = outs_of h
 
 -- messages with the numbers after this one, each one more than the one before it
 abbrev pub AreNumberedAfter : ℕ → List Message → Type 0

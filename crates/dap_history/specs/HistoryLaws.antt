@@ -1,6 +1,6 @@
 -- What more entries do to a history.
 use Rattle.std.specs.Prelude.{◌≡◌, ℕ, List, [], ◌∷◌, ◌++◌, option_to_list}
-use Rattle.dap_history.specs.History.{Entry, Way, waiting, left_open, request_at, response_at, ins_of, outs_of}
+use Rattle.dap_history.specs.History.{Entry, Way, waiting, without_answered, request_at, response_at, ins_of, outs_of}
 use Rattle.dap_history.specs.Answers.{Answers, AnswersOne}
 use Rattle.dap_history.specs.Received.{AreRead}
 use Rattle.dap_message.specs.Meaning.{Msg}
@@ -8,7 +8,7 @@ use Rattle.dap_message.specs.declared.message.Message.{Message}
 
 pub record HistoriesGrow : Type 0 where
   -- a response ends the waiting of what it answers, and a request begins to wait
-  pub waiting_then : (way : Way) (h : List Entry) (e : Entry) → waiting way (h ++ e ∷ []) ≡ left_open (response_at way e) (waiting way h) ++ option_to_list (request_at way e)
+  pub waiting_then : (way : Way) (h : List Entry) (e : Entry) → waiting way (h ++ e ∷ []) ≡ without_answered (response_at way e) (waiting way h) ++ option_to_list (request_at way e)
   pub answers_none : (way : Way) → Answers way []
   -- each response still answers one request, where the last entry does
   pub answers_then : (way : Way) (h : List Entry) (e : Entry) → Answers way h → AnswersOne (waiting way h) (response_at way e) → Answers way (h ++ e ∷ [])

@@ -8,17 +8,17 @@ use Rattle.serde_json.specs.Data.{Data, null, boolean, number, float, string, ar
 use Rattle.serde_json.specs.Written.{compact_text}
 use Rattle.serde_json.proofs.OnLiterals.{serde_json_on_literals}
 use Rattle.dap_json.specs.Field.{whole_at, text_at, bool_at, tree_at}
-use Rattle.dap_json.specs.Put.{put_if, whole}
+use Rattle.dap_json.specs.Put.{put_if, whole_number}
 use Rattle.dap_json.specs.Read.{json_of}
 use Rattle.dap_json.specs.Writable.{is_writable, is_plain_tree}
 
 -- ---- from bytes
 
-reads_an_object : json_of (codes " {\"b\":1,\"a\":\"x\"} ") ≡ Some (object (member (codes "a") (string (codes "x")) (member (codes "b") (whole 1) no_members)))
+reads_an_object : json_of (codes " {\"b\":1,\"a\":\"x\"} ") ≡ Some (object (member (codes "a") (string (codes "x")) (member (codes "b") (whole_number 1) no_members)))
 unfolding json_of is_utf8 chars serde_json_on_literals
 reads_an_object = refl
 
-last_of_equal_keys : json_of (codes "{\"a\":1,\"a\":2}") ≡ Some (object (member (codes "a") (whole 2) no_members))
+last_of_equal_keys : json_of (codes "{\"a\":1,\"a\":2}") ≡ Some (object (member (codes "a") (whole_number 2) no_members))
 unfolding json_of is_utf8 chars serde_json_on_literals
 last_of_equal_keys = refl
 
@@ -39,7 +39,7 @@ half_an_object = refl
 -- ---- members
 
 abbrev numbers : Data
-numbers = object (put (codes "great") (whole 9007199254740992) (put (codes "seq") (whole 9007199254740991) (put (codes "none") null no_members)))
+numbers = object (put (codes "great") (whole_number 9007199254740992) (put (codes "seq") (whole_number 9007199254740991) (put (codes "none") null no_members)))
 
 greatest_seq : whole_at (codes "seq") numbers ≡ Some 9007199254740991
 greatest_seq = refl
@@ -64,7 +64,7 @@ keys_in_byte_order = refl
 nothing_is_put : put_if (codes "a") None no_members ≡ no_members
 nothing_is_put = refl
 
-as_text : compact_text (object (member (codes "a") (array (item null (item (whole 7) no_items))) (member (codes "b") (string (codes "x\"y")) no_members))) ≡ codes "{\"a\":[null,7],\"b\":\"x\\\"y\"}"
+as_text : compact_text (object (member (codes "a") (array (item null (item (whole_number 7) no_items))) (member (codes "b") (string (codes "x\"y")) no_members))) ≡ codes "{\"a\":[null,7],\"b\":\"x\\\"y\"}"
 unfolding escape_byte digits
 as_text = refl
 

@@ -3,7 +3,7 @@ use Rattle.std.proofs.Common.{◌≡◌, ℕ, suc, ◌-◌, ◌&&◌, ◌||◌, 
 use Rattle.std.proofs.lemmas.Bool.Decides.{nat_tests}
 use Rattle.serde_json.specs.Data.{array, object, Items, no_items, item, Members, no_members, member, depth, items_depth, members_depth}
 use Rattle.serde_json.specs.Written.{has_float, items_have_float, members_have_float}
-use Rattle.dap_json.specs.Walk.{items_writable, members_writable}
+use Rattle.dap_json.specs.PrivateWalk.{items_writable, members_writable}
 use Rattle.dap_json.specs.Writable.{is_writable}
 
 le_zero : (n : ℕ) → true ≡ nat_le 0 n

@@ -25,8 +25,8 @@ abbrev pub IsAfterInnerKey : List ℕ → List Token → List Token → Type 0
 IsAfterInnerKey key before after = (d : Data) (next : List Token) → IsNextInside d after next → (rest : List Token) (found all : Members) → IsRestInside next rest (put key d found) all → IsRestInside before rest found all
 
 -- a number of `least` to `most`
-abbrev pub within : ℕ → ℕ → Option ℕ → Option ℕ
-within least most number = if_passes (λ n. nat_le least n && nat_le n most) number
+abbrev pub if_within : ℕ → ℕ → Option ℕ → Option ℕ
+if_within least most number = if_passes (λ n. nat_le least n && nat_le n most) number
 
 -- the whole number that a value is
 abbrev pub whole_of : Data → Option ℕ
@@ -35,4 +35,4 @@ whole_of d = if_passes (λ n. nat_le n max_seq) (option_and_then as_u64 (as_numb
 -- those that items have at a key
 abbrev pub numbers_in : List ℕ → ℕ → ℕ → Items → List ℕ
 numbers_in key least most no_items = []
-numbers_in key least most (item d ds) = cons_option (within least most (whole_at key d)) (numbers_in key least most ds)
+numbers_in key least most (item d ds) = cons_option (if_within least most (whole_at key d)) (numbers_in key least most ds)

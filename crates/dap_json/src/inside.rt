@@ -8,12 +8,12 @@ ghost use Rattle.json.specs.Token.{Token as SpecToken};
 ghost use Rattle.json.specs.Json.{value as grammar_value, items as grammar_items, members as grammar_members};
 ghost use Rattle.serde_json.specs.Data.{Data, Items, Members, array as array_data, object as object_data, no_members};
 ghost use Rattle.serde_json.specs.Read.{of_json, of_items, of_members, converted};
-ghost use Rattle.dap_json.specs.Inside.{IsRestInside, IsNextInside, IsAfterInnerKey, within, whole_of, numbers_in};
+ghost use Rattle.dap_json.specs.Inside.{IsRestInside, IsNextInside, IsAfterInnerKey, if_within, whole_of, numbers_in};
 ghost use Rattle.dap_json.specs.Field.{whole_at};
-ghost use Rattle.dap_json.specs.Skim.{Skims, IsNext};
+ghost use Rattle.dap_json.specs.ObjectReader.{Describes, IsNext};
 
 use crate::field::MAX_SEQ;
-use crate::skim::{MAX_DEPTH, Skim, Skimmed, value};
+use crate::object_reader::{MAX_DEPTH, MemberValue, ObjectReader, value};
 use json::{Invalid, Reader, Token};
 
 /// Which whole numbers are wanted.
@@ -25,11 +25,11 @@ pub struct Range {
 
 /// The whole number that a value is, of 0 to 9007199254740991.
 #[inline(always)]
-fn whole(value: Skimmed<'_>) -> Option<u64>
-    ensures { (d : Data) → Skims value.entry d → result ≡ whole_of d }
+fn whole(value: MemberValue<'_>) -> Option<u64>
+    ensures { (d : Data) → Describes value.entry d → result ≡ whole_of d }
 {
     match value {
-        Skimmed::Whole(n) if n <= MAX_SEQ => Some(n),
+        MemberValue::Whole(n) if n <= MAX_SEQ => Some(n),
         _ => None,
     }
 }
@@ -37,7 +37,7 @@ fn whole(value: Skimmed<'_>) -> Option<u64>
 /// Adds a number, if there is one in the range.
 #[inline(always)]
 fn keep(found: &mut Vec<u64>, range: Range, number: Option<u64>) -> Result<(), Invalid>
-    ensures { OnOk result (found.new.items ≡ found.old.items ++ cons_option (within range.least range.most number) []) }
+    ensures { OnOk result (found.new.items ≡ found.old.items ++ cons_option (if_within range.least range.most number) []) }
 {
     let Some(n) = number else {
         return Ok(());
@@ -96,7 +96,7 @@ fn rows(
     Ok(())
 }
 
-impl<'a> Skim<'a> {
+impl<'a> ObjectReader<'a> {
     /// Enters the object that is the value of the key that came last. `inner_key` gives its members then. It is an error
     /// where the value is no object.
     pub fn enter(&mut self) -> Result<(), Invalid>
@@ -125,8 +125,8 @@ impl<'a> Skim<'a> {
 
     /// Passes the value of the inner key that came last.
     #[inline(always)]
-    pub fn pass_inner(&mut self) -> Result<Skimmed<'a>, Invalid>
-        ensures { IfOk result (λ s. (d : Data) × Skims s d × IsNextInside d self.old self.new) }
+    pub fn pass_inner(&mut self) -> Result<MemberValue<'a>, Invalid>
+        ensures { IfOk result (λ s. (d : Data) × Describes s d × IsNextInside d self.old self.new) }
     {
         value(&mut self.reader, MAX_DEPTH - 2)
     }
@@ -134,7 +134,7 @@ impl<'a> Skim<'a> {
     /// Passes the value of the inner key that came last, and adds it if it is a whole number in the range. It is also an
     /// error where memory is refused.
     pub fn number(&mut self, range: Range, found: &mut Vec<u64>) -> Result<(), Invalid>
-        ensures { OnOk result ((d : Data) × IsNextInside d self.old self.new × (found.new.items ≡ found.old.items ++ cons_option (within range.least range.most (whole_of d)) [])) }
+        ensures { OnOk result ((d : Data) × IsNextInside d self.old self.new × (found.new.items ≡ found.old.items ++ cons_option (if_within range.least range.most (whole_of d)) [])) }
     {
         let passed = self.pass_inner()?;
         keep(found, range, whole(passed))

@@ -9,7 +9,7 @@ ghost use Rattle.serde_json.specs.Read.{of_json, of_items, of_members, converted
 ghost use Rattle.serde_json.specs.View.{view, number_view, items_view, members_view};
 
 use crate::digits;
-use crate::skim::has_minus;
+use crate::object_reader::has_minus;
 use fast_float::Numeral;
 use json::{Invalid, Reader, Token};
 use serde_json::{Map, Number, Value};

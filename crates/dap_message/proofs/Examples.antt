@@ -6,14 +6,15 @@ use Rattle.json.specs.Print.{escape_byte}
 use Rattle.serde_json.specs.Data.{null, boolean, object, no_members, member, put}
 use Rattle.serde_json.proofs.OnLiterals.{serde_json_on_literals}
 use Rattle.dap_json.specs.Field.{max_seq}
-use Rattle.dap_json.specs.Put.{whole}
+use Rattle.dap_json.specs.Put.{whole_number}
 use Rattle.dap_json.specs.Read.{json_of}
 use Rattle.dap_call.specs.Capabilities.{capabilities_of}
 use Rattle.dap_call.specs.declared.capabilities.Capabilities.{Capabilities}
 use Rattle.dap_call.specs.declared.key.Key.TheVariants.{SupportsRunInTerminalRequest}
 use Rattle.dap_body.specs.declared.failure.Failure.TheVariants.{NotInitialized, Unsupported, BadArguments, Cancelled}
 use Rattle.dap_message.specs.Canon.{tree_of, canon, request_members, response_members, event_members}
-use Rattle.dap_message.specs.Lengths.{failed, succeeded, happened, none, offers, all_go_on, body_of, initialized, output, stopped, continued, exited, event_name, event_body, is_exit_code, IsWithin}
+use Rattle.dap_message.specs.AdapterMessages.{failure_response, success_response, event_message, none, offers, all_go_on, body_of, initialized, output, stopped, continued, exited, event_name, event_body}
+use Rattle.dap_message.specs.Lengths.{is_exit_code, IsWithin}
 use Rattle.dap_message.specs.Meaning.{Msg}
 use Rattle.dap_json.specs.Writable.{is_plain_tree}
 use Rattle.dap_body.specs.Failure.{failure_body}
@@ -91,7 +92,7 @@ response_read = record {
 }
 
 event_read : Msg (codes "{\"seq\":2,\"type\":\"event\",\"event\":\"stopped\",\"body\":{\"threadId\":1}}")
-    (record { seq = 2; kind = Event (codes "stopped") (Some (object (member (codes "threadId") (whole 1) no_members))) })
+    (record { seq = 2; kind = Event (codes "stopped") (Some (object (member (codes "threadId") (whole_number 1) no_members))) })
 unfolding json_of is_utf8 chars serde_json_on_literals
 event_read = record {
   value = _;
@@ -136,44 +137,44 @@ a_type_is_no_tag = refl
 
 -- ---- what an adapter writes of a fixed shape
 
-a_cancelled_request : canon (failed 3 2 (codes "threads") Cancelled) ≡ codes "{\"body\":{\"error\":{\"format\":\"The request was cancelled.\",\"id\":1012}},\"command\":\"threads\",\"message\":\"cancelled\",\"request_seq\":2,\"seq\":3,\"success\":false,\"type\":\"response\"}"
+a_cancelled_request : canon (failure_response 3 2 (codes "threads") Cancelled) ≡ codes "{\"body\":{\"error\":{\"format\":\"The request was cancelled.\",\"id\":1012}},\"command\":\"threads\",\"message\":\"cancelled\",\"request_seq\":2,\"seq\":3,\"success\":false,\"type\":\"response\"}"
 unfolding canon tree_of response_members escape_byte digits
 a_cancelled_request = refl
 
-bytes_of_failures : (length (canon (failed 1 1 (codes "threads") NotInitialized)) ≡ 178) × (length (canon (failed 1 1 (codes "threads") Unsupported)) ≡ 173)
+bytes_of_failures : (length (canon (failure_response 1 1 (codes "threads") NotInitialized)) ≡ 178) × (length (canon (failure_response 1 1 (codes "threads") Unsupported)) ≡ 173)
 unfolding canon tree_of response_members escape_byte digits
 bytes_of_failures = (refl, refl)
 
 -- a command of 64 bytes that JSON has to escape, and the longest key
-longest_failure : length (canon (failed max_seq max_seq (replicate 64 1) (BadArguments SupportsRunInTerminalRequest))) ≡ 618
+longest_failure : length (canon (failure_response max_seq max_seq (replicate 64 1) (BadArguments SupportsRunInTerminalRequest))) ≡ 618
 unfolding canon tree_of response_members escape_byte digits
 longest_failure = refl
 
-nothing_to_say : canon (succeeded 4 3 (codes "cancel") (body_of none)) ≡ codes "{\"command\":\"cancel\",\"request_seq\":3,\"seq\":4,\"success\":true,\"type\":\"response\"}"
+nothing_to_say : canon (success_response 4 3 (codes "cancel") (body_of none)) ≡ codes "{\"command\":\"cancel\",\"request_seq\":3,\"seq\":4,\"success\":true,\"type\":\"response\"}"
 unfolding canon tree_of response_members escape_byte digits
 nothing_to_say = refl
 
-all_threads_go_on : canon (succeeded 7 4 (codes "continue") (body_of all_go_on)) ≡ codes "{\"body\":{\"allThreadsContinued\":true},\"command\":\"continue\",\"request_seq\":4,\"seq\":7,\"success\":true,\"type\":\"response\"}"
+all_threads_go_on : canon (success_response 7 4 (codes "continue") (body_of all_go_on)) ≡ codes "{\"body\":{\"allThreadsContinued\":true},\"command\":\"continue\",\"request_seq\":4,\"seq\":7,\"success\":true,\"type\":\"response\"}"
 unfolding canon tree_of response_members escape_byte digits
 all_threads_go_on = refl
 
 abbrev every_flag : Capabilities
 every_flag = capabilities_of (λ gate. true)
 
-longest_response : length (canon (succeeded max_seq max_seq (replicate 64 1) (body_of (offers every_flag)))) ≡ 889
+longest_response : length (canon (success_response max_seq max_seq (replicate 64 1) (body_of (offers every_flag)))) ≡ 889
 unfolding canon tree_of response_members escape_byte digits
 longest_response = refl
 
-without_a_body : canon (happened 2 (event_name initialized) (event_body initialized)) ≡ codes "{\"event\":\"initialized\",\"seq\":2,\"type\":\"event\"}"
+without_a_body : canon (event_message 2 (event_name initialized) (event_body initialized)) ≡ codes "{\"event\":\"initialized\",\"seq\":2,\"type\":\"event\"}"
 unfolding canon tree_of event_members escape_byte digits
 without_a_body = refl
 
-a_stop : canon (happened 10 (event_name (stopped (codes "pause") (pos 1))) (event_body (stopped (codes "pause") (pos 1)))) ≡ codes "{\"body\":{\"allThreadsStopped\":true,\"reason\":\"pause\",\"threadId\":1},\"event\":\"stopped\",\"seq\":10,\"type\":\"event\"}"
+a_stop : canon (event_message 10 (event_name (stopped (codes "pause") (pos 1))) (event_body (stopped (codes "pause") (pos 1)))) ≡ codes "{\"body\":{\"allThreadsStopped\":true,\"reason\":\"pause\",\"threadId\":1},\"event\":\"stopped\",\"seq\":10,\"type\":\"event\"}"
 unfolding canon tree_of event_members escape_byte digits
 a_stop = refl
 
 -- texts at their limits, that JSON has to escape
-longest_output : length (canon (happened max_seq (event_name (output (replicate 7 1) (replicate 128 1))) (event_body (output (replicate 7 1) (replicate 128 1))))) ≡ 901
+longest_output : length (canon (event_message max_seq (event_name (output (replicate 7 1) (replicate 128 1))) (event_body (output (replicate 7 1) (replicate 128 1))))) ≡ 901
 unfolding canon tree_of event_members escape_byte digits
 longest_output = refl
 
@@ -188,17 +189,17 @@ thread_past_the_greatest h = true≢false (sym h)
 
 -- ---- bodies that can stand in a plain message
 
-failure_is_plain : (IsPlain (failure_body Cancelled)) × (is_plain (failed 3 2 (codes "threads") Cancelled) ≡ true)
+failure_is_plain : (IsPlain (failure_body Cancelled)) × (is_plain (failure_response 3 2 (codes "threads") Cancelled) ≡ true)
 failure_is_plain = (refl, refl)
 
 -- the body is plain, the command too long
-long_command_is_not_plain : is_plain (failed 3 2 (replicate 65 97) Cancelled) ≡ false
+long_command_is_not_plain : is_plain (failure_response 3 2 (replicate 65 97) Cancelled) ≡ false
 long_command_is_not_plain = refl
 
-capabilities_are_plain : is_plain (succeeded 1 1 (codes "initialize") (body_of (offers every_flag))) ≡ true
+capabilities_are_plain : is_plain (success_response 1 1 (codes "initialize") (body_of (offers every_flag))) ≡ true
 capabilities_are_plain = refl
 
-event_is_plain : is_plain (happened 5 (event_name (exited (negsuc 0))) (event_body (exited (negsuc 0)))) ≡ true
+event_is_plain : is_plain (event_message 5 (event_name (exited (negsuc 0))) (event_body (exited (negsuc 0)))) ≡ true
 event_is_plain = refl
 
 null_is_no_body : is_plain_tree (Some null) ≡ false

@@ -5,23 +5,23 @@ use Rattle.serde_json.specs.Data.{Data, string, Members, put}
 use Rattle.serde_json.specs.Find.{get_member}
 use Rattle.serde_json.proofs.Views.{get_member-put, get_member-put_other}
 use Rattle.dap_json.specs.Field.{unless_null}
-use Rattle.dap_json.specs.Skim.{Skims}
-use Rattle.dap_json.specs.declared.skim.Skimmed.{Skimmed}
-use Rattle.dap_message.specs.Heading.{after_note, Tells}
+use Rattle.dap_json.specs.ObjectReader.{Describes}
+use Rattle.dap_json.specs.declared.object_reader.MemberValue.{MemberValue}
+use Rattle.dap_message.specs.Heading.{after_note, Notes}
 
-module _ (wanted key : List ℕ) (value : Skimmed) (old : Option Skimmed) (d : Data) (found : Members) (is : Skims value d) (tells : Tells old (get_member wanted found)) where
-  told_at : (b : Bool) → bytes_eq key wanted ≡ b → Tells (if◌then◌else◌ b (Some value) old) (get_member wanted (put key d found))
+module _ (wanted key : List ℕ) (value : MemberValue) (old : Option MemberValue) (d : Data) (found : Members) (is : Describes value d) (tells : Notes old (get_member wanted found)) where
+  told_at : (b : Bool) → bytes_eq key wanted ≡ b → Notes (if◌then◌else◌ b (Some value) old) (get_member wanted (put key d found))
   told_at true e =
       let same : key ≡ wanted = (bytes_eq-Decides key wanted).0 e in
-      subst (Tells (Some value)) (sym (ap (λ k. get_member wanted (put k d found)) same ∙ get_member-put wanted d found)) is
+      subst (Notes (Some value)) (sym (ap (λ k. get_member wanted (put k d found)) same ∙ get_member-put wanted d found)) is
   told_at false e =
       let other : wanted ≡ key → ⊥ = λ same. true≢false (sym ((bytes_eq-Decides key wanted).1 (sym same)) ∙ e) in
-      subst (Tells old) (sym (get_member-put_other wanted key d found other)) tells
+      subst (Notes old) (sym (get_member-put_other wanted key d found other)) tells
 
   -- a note tells of the members with one more
-  pub told : Tells (after_note wanted key value old) (get_member wanted (put key d found))
+  pub told : Notes (after_note wanted key value old) (get_member wanted (put key d found))
   told = told_at (bytes_eq key wanted) refl
 
-pub worded : (value : Skimmed) (text : List ℕ) (found : Option Data) → ((d : Data) → Skims value d → d ≡ string text) → Tells (Some value) found → (t : Option (List ℕ)) × (unless_null found ≡ option_map string t)
+pub worded : (value : MemberValue) (text : List ℕ) (found : Option Data) → ((d : Data) → Describes value d → d ≡ string text) → Notes (Some value) found → (t : Option (List ℕ)) × (unless_null found ≡ option_map string t)
 worded value text None is tells = absurd tells
 worded value text (Some d) is tells = (Some text, ap (λ v. unless_null (Some v)) (is d tells))

@@ -10,7 +10,7 @@ use Rattle.serde_json.specs.Find.{of_integer}
 use Rattle.serde_json.specs.Written.{number_text}
 use Rattle.dap_json.specs.Field.{max_seq}
 use Rattle.dap_call.specs.Argument.{is_int}
-use Rattle.dap_call.specs.Capabilities.{written, with_flag}
+use Rattle.dap_call.specs.Capabilities.{capabilities_data, with_flag}
 use Rattle.dap_call.specs.Command.{flag_of}
 use Rattle.dap_call.specs.declared.capabilities.Capabilities.{Capabilities}
 use Rattle.dap_call.specs.declared.command.Gate.{Gate}
@@ -21,7 +21,8 @@ use Rattle.dap_body.specs.Failure.{row_of, bad_argument_format, failure_body}
 use Rattle.dap_body.specs.declared.failure.Failure.{Failure}
 use Rattle.dap_body.specs.declared.failure.Failure.TheVariants.{NotInitialized, BadArguments}
 use Rattle.dap_message.specs.Canon.{canon, tree_of, members_of, response_members, event_members}
-use Rattle.dap_message.specs.Lengths.{failed, succeeded, happened, FixedBody, none, offers, all_go_on, body_of, AdapterEvent, initialized, output, stopped, continued, exited, terminated, event_name, event_body, is_exit_code, IsWithin, FailuresAreShort, FixedResponsesAreShort, EventsAreShort}
+use Rattle.dap_message.specs.AdapterMessages.{failure_response, success_response, event_message, FixedBody, none, offers, all_go_on, body_of, AdapterEvent, initialized, output, stopped, continued, exited, terminated, event_name, event_body}
+use Rattle.dap_message.specs.Lengths.{is_exit_code, IsWithin, FailuresAreShort, FixedResponsesAreShort, EventsAreShort}
 use Rattle.dap_message.specs.Refusals.{max_command}
 use Rattle.dap_message.specs.declared.message.Message.{Message}
 use Rattle.dap_message.proofs.Sizes.{quoted_le, size, members_size, length-compact_text, put_size}
@@ -94,7 +95,7 @@ name_size f = omega arith
 
 pub failures_are_short : FailuresAreShort
 failures_are_short seq r c f s q h =
-    omega (arith, length-canon (failed seq r c f), response_size seq r false c (Some (row_of f).name) (Some (failure_body f)) s q h, name_size f, failure_size f)
+    omega (arith, length-canon (failure_response seq r c f), response_size seq r false c (Some (row_of f).name) (Some (failure_body f)) s q h, name_size f, failure_size f)
 
 -- ---- responses
 
@@ -102,7 +103,7 @@ flag_size : (g : Gate) (on : Bool) (ms : Members) → members_size false (with_f
 flag_size g true ms = omega (arith, put_size false (flag_of g) (boolean true) ms)
 flag_size g false ms = omega arith
 
-capabilities_size : (c : Capabilities) → size (written c) ≤ 400
+capabilities_size : (c : Capabilities) → size (capabilities_data c) ≤ 400
 unfolding escape_byte
 capabilities_size c =
     let m1 = with_flag gate.BreakpointLocations c.breakpoint_locations no_members in
@@ -137,7 +138,7 @@ fixed_size (offers c) = omega (arith, capabilities_size c)
 fixed_size all_go_on = omega arith
 
 pub fixed_responses_are_short : FixedResponsesAreShort
-fixed_responses_are_short seq r c b s q h = omega (arith, length-canon (succeeded seq r c (body_of b)), response_size seq r true c None (body_of b) s q h, fixed_size b)
+fixed_responses_are_short seq r c b s q h = omega (arith, length-canon (success_response seq r c (body_of b)), response_size seq r true c None (body_of b) s q h, fixed_size b)
 
 -- ---- events
 
@@ -151,4 +152,4 @@ event_body_size (exited code) h = omega (arith, code_size code h)
 event_body_size terminated h = omega arith
 
 pub events_are_short : EventsAreShort
-events_are_short seq e s h = omega (arith, length-canon (happened seq (event_name e) (event_body e)), event_size seq (event_name e) (event_body e) s, event_body_size e h)
+events_are_short seq e s h = omega (arith, length-canon (event_message seq (event_name e) (event_body e)), event_size seq (event_name e) (event_body e) s, event_body_size e h)

@@ -3,7 +3,7 @@ pub mod MeaningLemmas
 pub mod RefusalLemmas
 pub mod Told
 pub mod HeadingLemmas
-pub mod GivingLemmas
+pub mod ResponseReferencesLemmas
 pub mod SoundTree
 pub mod Examples
 pub mod SoundReading
@@ -14,4 +14,4 @@ pub mod Ranges
 pub mod AnswerTexts
 mod ReadsBack
 mod OneLine
-pub mod StraightLemmas
+pub mod OnePassLemmas

@@ -5,14 +5,14 @@ use Rattle.serde_json.specs.Data.{Data, boolean, number, object, Members, no_mem
 use Rattle.serde_json.specs.Find.{of_integer}
 use Rattle.serde_json.specs.View.{items_of}
 use Rattle.serde_json.specs.Written.{has_float, items_have_float, members_have_float}
-use Rattle.dap_json.specs.Put.{whole}
-use Rattle.dap_call.specs.Capabilities.{with_flag, written}
+use Rattle.dap_json.specs.Put.{whole_number}
+use Rattle.dap_call.specs.Capabilities.{with_flag, capabilities_data}
 use Rattle.dap_call.specs.Command.{flag_of}
 use Rattle.dap_call.specs.declared.capabilities.Capabilities.{Capabilities}
 use Rattle.dap_call.specs.declared.command.Gate.{Gate}
 use Rattle.dap_call.specs.declared.command.Gate.TheVariants as gate
 use Rattle.dap_body.specs.EventBody.{stopped_body, continued_body, exited_body}
-use Rattle.dap_body.specs.ResponseBody.{breakpoint, thread, source, stack_frame, scope, variable, list_of, only, stack_trace_body}
+use Rattle.dap_body.specs.ResponseBody.{breakpoint, thread, source, stack_frame, scope, variable, list_of, only_member, stack_trace_body}
 use Rattle.dap_message.specs.PlainBodies.{IsPlain, ResponseBodiesArePlain, FailureBodiesArePlain, EventBodiesArePlain}
 use Rattle.dap_body.specs.declared.response.Source.{Source}
 use Rattle.dap_body.specs.declared.response.StackFrame.{StackFrame}
@@ -34,7 +34,7 @@ plain : (ms : Members) → members_have_float ms ≡ false → members_depth ms 
 plain ms f s = rw (f, le-leb (suc (members_depth ms)) 120 (omega arith))
 
 -- an object of one list
-plain_list : {A : Type 0} (key : List ℕ) (each : A → Data) → ((x : A) → has_float (each x) ≡ false) → ((x : A) → depth (each x) ≤ 2) → (xs : List A) → IsPlain (only key (list_of each xs))
+plain_list : {A : Type 0} (key : List ℕ) (each : A → Data) → ((x : A) → has_float (each x) ≡ false) → ((x : A) → depth (each x) ≤ 2) → (xs : List A) → IsPlain (only_member key (list_of each xs))
 plain_list key each f s xs = plain (member key (list_of each xs) no_members) (rw (no_floats each f xs)) (omega (arith, shallow each s xs))
 
 -- ---- their elements
@@ -76,7 +76,7 @@ flag_depth : (g : Gate) (on : Bool) (ms : Members) → members_depth ms ≤ 3 �
 flag_depth g true ms h = put_depth (flag_of g) (boolean true) ms (omega arith) h
 flag_depth g false ms h = h
 
-capabilities_plain : (c : Capabilities) → IsPlain (written c)
+capabilities_plain : (c : Capabilities) → IsPlain (capabilities_data c)
 capabilities_plain c =
     let m1 = with_flag gate.BreakpointLocations c.breakpoint_locations no_members in
     let m2 = with_flag gate.Cancel c.cancel m1 in
@@ -120,7 +120,7 @@ capabilities_plain c =
 
 frames_plain : (frames : List StackFrame) (total : ℕ) → IsPlain (stack_trace_body frames total)
 frames_plain frames total =
-    let ms = member (codes "stackFrames") (list_of stack_frame frames) (member (codes "totalFrames") (whole total) no_members) in
+    let ms = member (codes "stackFrames") (list_of stack_frame frames) (member (codes "totalFrames") (whole_number total) no_members) in
     plain ms (rw (no_floats stack_frame frame_float frames)) (omega (arith, shallow stack_frame frame_depth frames))
 
 stopped_plain : (reason : List ℕ) (thread : ℤ) → IsPlain (stopped_body reason thread)

@@ -6,7 +6,7 @@ use Rattle.serde_json.specs.Data.{Data}
 use Rattle.serde_json.specs.Find.{get, as_number, as_u64}
 use Rattle.dap_json.specs.Field.{max_seq, if_passes, whole_at}
 use Rattle.dap_message.specs.InRange.{IsKindInRange, ReadIsInRange}
-use Rattle.dap_message.specs.Meaning.{SaysKind}
+use Rattle.dap_message.specs.Meaning.{MeansKind}
 use Rattle.dap_message.specs.declared.message.Kind.{Kind}
 use Rattle.dap_message.specs.declared.message.Kind.TheVariants.{Request, Response, Event, Other}
 
@@ -21,7 +21,7 @@ passed (Some x) n e = passed-if (nat_le x max_seq) x n refl e
 whole-in_range : (key : List ℕ) (d : Data) (n : ℕ) → whole_at key d ≡ Some n → n ≤ max_seq
 whole-in_range key d n e = passed (option_and_then as_u64 (option_and_then as_number (get key d))) n e
 
-kind-in_range : (d : Data) (k : Kind) → SaysKind d k → IsKindInRange k
+kind-in_range : (d : Data) (k : Kind) → MeansKind d k → IsKindInRange k
 kind-in_range d (Request command arguments) s = s.2
 kind-in_range d (Response request_seq success command message body) s = (whole-in_range (codes "request_seq") d request_seq s.3, s.2)
 kind-in_range d (Event event body) s = tt

@@ -13,7 +13,7 @@ use Rattle.dap_body.specs.declared.failure.Failure.{Failure}
 use Rattle.dap_body.specs.declared.failure.Failure.TheVariants.{NotInitialized, AlreadyInitialized, UnknownCommand, Unsupported, BadArguments, WrongPhase, NotStopped, UnknownThread, StaleReference, UnknownSource, Debuggee, TooManyBreakpoints, TooManyReferences, ReferencesExhausted, TooLarge, Busy, Cancelled}
 use Rattle.dap_message.specs.Canon.{canon}
 use Rattle.dap_message.specs.Laws.{WrittenIsReadAgain}
-use Rattle.dap_message.specs.Lengths.{failed, succeeded, happened}
+use Rattle.dap_message.specs.AdapterMessages.{failure_response, success_response, event_message}
 use Rattle.dap_message.specs.Meaning.{Msg}
 use Rattle.dap_message.specs.Refusals.{max_command}
 use Rattle.dap_message.specs.SoundMessage.{IsSoundTree}
@@ -57,8 +57,8 @@ name-text Cancelled = IsUtf8-are_ascii (codes "cancelled") refl
 
 module _ (again : WrittenIsReadAgain) where
   pub happened-back : (seq : ℕ) (event : List ℕ) (body : Option Data) → IsTrue (is_plain_tree body) → IsUtf8 event → IsSoundTree body → seq ≤ max_seq
-      → Msg (canon (happened seq event body)) (happened seq event body)
-  happened-back seq event body p u s q = again (happened seq event body) (rw (within seq max_seq q) p) (record { texts = u; tree = s })
+      → Msg (canon (event_message seq event body)) (event_message seq event body)
+  happened-back seq event body p u s q = again (event_message seq event body) (rw (within seq max_seq q) p) (record { texts = u; tree = s })
 
   pub asked-back : (seq : ℕ) (command : List ℕ) (arguments : Option Data) → IsTrue (is_plain_tree arguments) → IsUtf8 command → IsSoundTree arguments → seq ≤ max_seq → length command ≤ max_command
       → Msg (canon (record { seq = seq; kind = Request command arguments })) (record { seq = seq; kind = Request command arguments })
@@ -66,11 +66,11 @@ module _ (again : WrittenIsReadAgain) where
       again (record { seq = seq; kind = Request command arguments }) (rw (within seq max_seq q, within (length command) max_command l) p) (record { texts = u; tree = s })
 
   pub succeeded-back : (seq request_seq : ℕ) (command : List ℕ) (body : Option Data) → IsTrue (is_plain_tree body) → IsUtf8 command → IsSoundTree body
-      → seq ≤ max_seq → request_seq ≤ max_seq → length command ≤ max_command → Msg (canon (succeeded seq request_seq command body)) (succeeded seq request_seq command body)
+      → seq ≤ max_seq → request_seq ≤ max_seq → length command ≤ max_command → Msg (canon (success_response seq request_seq command body)) (success_response seq request_seq command body)
   succeeded-back seq r command body p u s q a l =
-      again (succeeded seq r command body) (rw (within seq max_seq q, within r max_seq a, within (length command) max_command l) p) (record { texts = (u, tt); tree = s })
+      again (success_response seq r command body) (rw (within seq max_seq q, within r max_seq a, within (length command) max_command l) p) (record { texts = (u, tt); tree = s })
 
   pub failed-back : (seq request_seq : ℕ) (command : List ℕ) (failure : Failure) → IsUtf8 command → IsUtf8 (row_of failure).name → IsSoundTree (Some (failure_body failure))
-      → seq ≤ max_seq → request_seq ≤ max_seq → length command ≤ max_command → Msg (canon (failed seq request_seq command failure)) (failed seq request_seq command failure)
+      → seq ≤ max_seq → request_seq ≤ max_seq → length command ≤ max_command → Msg (canon (failure_response seq request_seq command failure)) (failure_response seq request_seq command failure)
   failed-back seq r command failure u n s q a l =
-      again (failed seq r command failure) (rw (within seq max_seq q, within r max_seq a, within (length command) max_command l) (failure_bodies_are_plain failure)) (record { texts = (u, n); tree = s })
+      again (failure_response seq r command failure) (rw (within seq max_seq q, within r max_seq a, within (length command) max_command l) (failure_bodies_are_plain failure)) (record { texts = (u, n); tree = s })

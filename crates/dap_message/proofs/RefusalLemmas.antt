@@ -6,7 +6,7 @@ use Rattle.serde_json.specs.Find.{get}
 use Rattle.dap_json.specs.Field.{is_object, whole_at, text_at, bool_at}
 use Rattle.dap_message.specs.Gives.{Verdict}
 use Rattle.dap_message.specs.Refusals.{command_at, refusal_of}
-use Rattle.dap_message.specs.Verdict.{envelope_of, kind_in, kind_of, request_of, response_of, event_of, verdict_of}
+use Rattle.dap_message.specs.PrivateVerdict.{envelope_of, kind_in, kind_of, request_of, response_of, event_of, verdict_of}
 use Rattle.dap_message.specs.declared.fault.BodyRefusal.{BodyRefusal}
 
 abbrev pub refusal_in : {A : Type 0} → Verdict A → Option BodyRefusal

@@ -8,7 +8,7 @@ use Rattle.dap_json.specs.Field.{is_null, unless_null, text_at, tree_at}
 use Rattle.dap_json.specs.Read.{IsReadSound}
 use Rattle.dap_json.specs.Sound.{IsSound, HasSound}
 use Rattle.dap_message.specs.Laws.{ReadIsSound}
-use Rattle.dap_message.specs.Meaning.{SaysKind}
+use Rattle.dap_message.specs.Meaning.{MeansKind}
 use Rattle.dap_message.specs.SoundMessage.{IsSoundText, IsSoundTree, HasSoundTexts, HasSoundTree}
 use Rattle.dap_message.specs.declared.message.Kind.{Kind}
 use Rattle.dap_message.specs.declared.message.Kind.TheVariants.{Request, Response, Event, Other}
@@ -57,13 +57,13 @@ of_string : (o : Option (List ℕ)) → IsSoundTree (option_map string o) → Is
 of_string None s = tt
 of_string (Some t) s = s
 
-texts : (d : Data) (k : Kind) → IsSound d → SaysKind d k → HasSoundTexts k
+texts : (d : Data) (k : Kind) → IsSound d → MeansKind d k → HasSoundTexts k
 texts d (Request c a) s says = text_sound (codes "command") d (Some c) s says.1
 texts d (Response r b c m o) s says = (text_sound (codes "command") d (Some c) s says.1, of_string m (tree_sound (codes "message") d (option_map string m) s says.5))
 texts d (Event v b) s says = text_sound (codes "event") d (Some v) s says.1
 texts d (Other t) s says = text_sound (codes "type") d (Some t) s says.0
 
-tree : (d : Data) (k : Kind) → IsSound d → SaysKind d k → HasSoundTree k
+tree : (d : Data) (k : Kind) → IsSound d → MeansKind d k → HasSoundTree k
 tree d (Request c a) s says = tree_sound (codes "arguments") d a s says.3
 tree d (Response r b c m o) s says = tree_sound (codes "body") d o s says.6
 tree d (Event v b) s says = tree_sound (codes "body") d b s says.2

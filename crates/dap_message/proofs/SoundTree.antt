@@ -4,7 +4,7 @@ use Rattle.std.proofs.lemmas.Bool.{leb-true, and_parts}
 use Rattle.json.proofs.Printed.Utf8.{IsUtf8-are_ascii}
 use Rattle.serde_json.specs.Data.{Data, boolean, string, object, Members, no_members, put}
 use Rattle.dap_json.specs.Field.{max_seq}
-use Rattle.dap_json.specs.Put.{put_if, whole}
+use Rattle.dap_json.specs.Put.{put_if, whole_number}
 use Rattle.dap_json.specs.Read.{IsReadAgain}
 use Rattle.dap_json.specs.Sound.{IsSound, PutIsSound}
 use Rattle.dap_message.specs.Canon.{tree_of, canon, common_members, members_of, request_members, response_members, event_members}
@@ -16,7 +16,7 @@ use Rattle.dap_message.specs.SoundMessage.{IsSoundText, IsSoundTree, HasSoundTex
 use Rattle.dap_message.specs.declared.message.Message.{Message}
 use Rattle.dap_message.specs.declared.message.Kind.{Kind}
 use Rattle.dap_message.specs.declared.message.Kind.TheVariants.{Request, Response, Event, Other}
-use Rattle.dap_message.proofs.MeaningLemmas.{Says-envelope_of}
+use Rattle.dap_message.proofs.MeaningLemmas.{MeansMessage-envelope_of}
 use Rattle.dap_message.proofs.RoundTrip.{all_three, envelope_of-tree_of, has_float-tree_of, depth-tree_of}
 
 in_64_bits : (n : ℕ) → nat_le n max_seq ≡ true → n < 2 ^ 64
@@ -31,11 +31,11 @@ module _ (put_sound : PutIsSound) where
   put_if_text key None ms u s h = h
   put_if_text key (Some t) ms u s h = put_sound key (string t) ms u s h
 
-  first_sound : (seq : ℕ) → nat_le seq max_seq ≡ true → IsSound (object (put (codes "seq") (whole seq) no_members))
+  first_sound : (seq : ℕ) → nat_le seq max_seq ≡ true → IsSound (object (put (codes "seq") (whole_number seq) no_members))
   first_sound seq e = let small : seq < 2 ^ 64 = in_64_bits seq e in (IsUtf8-are_ascii (codes "seq") refl, tt, small, tt)
 
   common_sound : (seq : ℕ) (tag : List ℕ) → nat_le seq max_seq ≡ true → IsUtf8 tag → IsSound (object (common_members seq tag))
-  common_sound seq tag e u = put_sound (codes "type") (string tag) (put (codes "seq") (whole seq) no_members) (IsUtf8-are_ascii (codes "type") refl) u (first_sound seq e)
+  common_sound seq tag e u = put_sound (codes "type") (string tag) (put (codes "seq") (whole_number seq) no_members) (IsUtf8-are_ascii (codes "type") refl) u (first_sound seq e)
 
   request_sound : (seq : ℕ) (c : List ℕ) (a : Option Data) → nat_le seq max_seq ≡ true → IsUtf8 c → IsSoundTree a → IsSound (object (request_members seq c a))
   unfolding request_members
@@ -56,13 +56,13 @@ module _ (put_sound : PutIsSound) where
   unfolding response_members
   response_sound seq r ok c m b e q u t s =
       let first = common_members seq (codes "response") in
-      let second = put (codes "request_seq") (whole r) first in
+      let second = put (codes "request_seq") (whole_number r) first in
       let third = put (codes "success") (boolean ok) second in
       let fourth = put (codes "command") (string c) third in
       let fifth = put_if (codes "message") (option_map string m) fourth in
       let small : r < 2 ^ 64 = in_64_bits r q in
       let one = common_sound seq (codes "response") e (IsUtf8-are_ascii (codes "response") refl) in
-      let two = put_sound (codes "request_seq") (whole r) first (IsUtf8-are_ascii (codes "request_seq") refl) small one in
+      let two = put_sound (codes "request_seq") (whole_number r) first (IsUtf8-are_ascii (codes "request_seq") refl) small one in
       let three = put_sound (codes "success") (boolean ok) second (IsUtf8-are_ascii (codes "success") refl) tt two in
       let four = put_sound (codes "command") (string c) third (IsUtf8-are_ascii (codes "command") refl) u three in
       let five = put_if_text (codes "message") m fourth (IsUtf8-are_ascii (codes "message") refl) t four in
@@ -85,5 +85,5 @@ module _ (put_sound : PutIsSound) where
       record {
         value = tree_of m;
         is_json = again (tree_of m) (IsSound-tree_of m p s) (has_float-tree_of m p) (omega (arith, shallow));
-        says = Says-envelope_of (tree_of m) m (envelope_of-tree_of m p);
+        says = MeansMessage-envelope_of (tree_of m) m (envelope_of-tree_of m p);
       }

@@ -5,21 +5,21 @@ use Rattle.dap_json.specs.Read.{json_of}
 use Rattle.dap_message.specs.Gives.{Verdict, Gives}
 use Rattle.dap_message.specs.Refusals.{Bad, first_refusal}
 use Rattle.dap_message.specs.Meaning.{Msg}
-use Rattle.dap_message.specs.Verdict.{verdict_of}
+use Rattle.dap_message.specs.PrivateVerdict.{verdict_of}
 use Rattle.dap_message.specs.Laws.{IsOneMessage, IsOneRefusal, EachBodyIsOne}
 use Rattle.dap_message.specs.declared.fault.BodyFault.{BodyFault}
 use Rattle.dap_message.specs.declared.fault.BodyFault.TheVariants.{Refused, OutOfMemory}
 use Rattle.dap_message.specs.declared.fault.BodyRefusal.{BodyRefusal}
 use Rattle.dap_message.specs.declared.message.Message.{Message}
-use Rattle.dap_message.proofs.MeaningLemmas.{envelope_of-Says, Says-envelope_of}
+use Rattle.dap_message.proofs.MeaningLemmas.{envelope_of-MeansMessage, MeansMessage-envelope_of}
 use Rattle.dap_message.proofs.RefusalLemmas.{refusal_in, refusal_of-verdict_of}
 
 pub verdict_of-Msg : (x : List ℕ) (m : Message) → Msg x m → verdict_of (json_of x) ≡ Ok m
-verdict_of-Msg x m is = rw is.is_json (envelope_of-Says is.value m is.says)
+verdict_of-Msg x m is = rw is.is_json (envelope_of-MeansMessage is.value m is.says)
 
 said : (x : List ℕ) (found : Option Data) (m : Message) → json_of x ≡ found → verdict_of found ≡ Ok m → Msg x m
 said x None m e v = absurd (cc v)
-said x (Some d) m e v = record { value = d; is_json = e; says = Says-envelope_of d m v }
+said x (Some d) m e v = record { value = d; is_json = e; says = MeansMessage-envelope_of d m v }
 
 pub Msg-verdict_of : (x : List ℕ) (m : Message) → verdict_of (json_of x) ≡ Ok m → Msg x m
 Msg-verdict_of x m v = said x (json_of x) m refl v

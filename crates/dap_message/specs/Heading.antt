@@ -3,8 +3,8 @@ use Rattle.std.specs.Prelude.{◌≡◌, ℕ, List, codes, nat_le, bytes_eq, if�
 use Rattle.serde_json.specs.Data.{Data, Members}
 use Rattle.serde_json.specs.Find.{get_member, as_number, as_u64}
 use Rattle.dap_json.specs.Field.{max_seq, if_passes}
-use Rattle.dap_json.specs.Skim.{Skims}
-use Rattle.dap_json.specs.declared.skim.Skimmed.{Skimmed}
+use Rattle.dap_json.specs.ObjectReader.{Describes}
+use Rattle.dap_json.specs.declared.object_reader.MemberValue.{MemberValue}
 use Rattle.dap_message.specs.declared.message.Message.{Message}
 use Rattle.dap_message.specs.declared.message.Kind.{Kind}
 use Rattle.dap_message.specs.declared.message.Kind.TheVariants.{Request, Response, Event, Other}
@@ -39,24 +39,24 @@ pub record IsHeadingOf (heading : Heading) (m : Message) : Type 0 where
 -- ---- words for private functions
 
 -- what is noted at the wanted key after a member
-abbrev pub after_note : List ℕ → List ℕ → Skimmed → Option Skimmed → Option Skimmed
+abbrev pub after_note : List ℕ → List ℕ → MemberValue → Option MemberValue → Option MemberValue
 after_note wanted key value old = if bytes_eq key wanted then Some value else old
 
 -- what was noted tells of what stands there
-abbrev pub Tells : Option Skimmed → Option Data → Type 0
-Tells None None = Unit {0}
-Tells None (Some d) = ⊥
-Tells (Some value) None = ⊥
-Tells (Some value) (Some d) = Skims value d
+abbrev pub Notes : Option MemberValue → Option Data → Type 0
+Notes None None = Unit {0}
+Notes None (Some d) = ⊥
+Notes (Some value) None = ⊥
+Notes (Some value) (Some d) = Describes value d
 
-pub record TellsAll (noted : Noted) (ms : Members) : Type 0 where
-  pub seq : Tells noted.seq (get_member (codes "seq") ms)
-  pub tag : Tells noted.tag (get_member (codes "type") ms)
-  pub command : Tells noted.command (get_member (codes "command") ms)
-  pub request_seq : Tells noted.request_seq (get_member (codes "request_seq") ms)
-  pub success : Tells noted.success (get_member (codes "success") ms)
-  pub message : Tells noted.message (get_member (codes "message") ms)
-  pub event : Tells noted.event (get_member (codes "event") ms)
+pub record NotesAll (noted : Noted) (ms : Members) : Type 0 where
+  pub seq : Notes noted.seq (get_member (codes "seq") ms)
+  pub tag : Notes noted.tag (get_member (codes "type") ms)
+  pub command : Notes noted.command (get_member (codes "command") ms)
+  pub request_seq : Notes noted.request_seq (get_member (codes "request_seq") ms)
+  pub success : Notes noted.success (get_member (codes "success") ms)
+  pub message : Notes noted.message (get_member (codes "message") ms)
+  pub event : Notes noted.event (get_member (codes "event") ms)
 
 abbrev pub whole_in : Option Data → Option ℕ
 whole_in found = if_passes (λ n. nat_le n max_seq) (option_and_then as_u64 (option_and_then as_number found))

@@ -3,7 +3,7 @@
 use Rattle.std.specs.Prelude.{ℕ, ℤ, List, IsTrue, Some}
 use Rattle.serde_json.specs.Data.{Data}
 use Rattle.dap_json.specs.Writable.{is_plain_tree}
-use Rattle.dap_call.specs.Capabilities.{written}
+use Rattle.dap_call.specs.Capabilities.{capabilities_data}
 use Rattle.dap_call.specs.declared.capabilities.Capabilities.{Capabilities}
 use Rattle.dap_body.specs.EventBody.{output_body, stopped_body, continued_body, exited_body}
 use Rattle.dap_body.specs.Failure.{failure_body}
@@ -20,7 +20,7 @@ abbrev pub IsPlain : Data → Type 0
 IsPlain d = IsTrue (is_plain_tree (Some d))
 
 pub record ResponseBodiesArePlain : Type 0 where
-  pub initialize : (capabilities : Capabilities) → IsPlain (written capabilities)
+  pub initialize : (capabilities : Capabilities) → IsPlain (capabilities_data capabilities)
   pub set_breakpoints : (breakpoints : List Breakpoint) → IsPlain (set_breakpoints_body breakpoints)
   pub threads : (threads : List Thread) → IsPlain (threads_body threads)
   pub continue : IsPlain continue_body

@@ -13,7 +13,7 @@ pub use Rattle.dap_call.specs.declared.call.Variables
 pub use Rattle.dap_call.specs.declared.capabilities.Capabilities
 pub use Rattle.dap_call.specs.declared.command.Command
 pub use Rattle.dap_call.specs.declared.command.Gate
-pub use Rattle.dap_call.specs.declared.gathering.Given
+pub use Rattle.dap_call.specs.declared.gathering.GatheredReferences
 pub use Rattle.dap_call.specs.declared.key.Key
 pub use Rattle.dap_body.specs.declared.body.Body
 pub use Rattle.dap_body.specs.declared.failure.Failure

@@ -9,9 +9,9 @@ ghost use Rattle.dap_json.specs.Sound.{IsSound};
 ghost use Rattle.dap_json.specs.Writable.{is_plain_tree};
 ghost use Rattle.dap_body.specs.Body.{data_in};
 ghost use Rattle.dap_body.specs.Failure.{failure_body};
-ghost use Rattle.dap_message.specs.Answering.{with_body, with_arguments, response_end};
+ghost use Rattle.dap_message.specs.PrivateAnswering.{with_body, with_arguments, response_end};
 ghost use Rattle.dap_message.specs.Canon.{canon, request_members, event_members, response_members};
-ghost use Rattle.dap_message.specs.Lengths.{failed, succeeded, happened};
+ghost use Rattle.dap_message.specs.AdapterMessages.{failure_response, success_response, event_message};
 ghost use Rattle.dap_message.specs.Meaning.{Msg};
 ghost use Rattle.dap_message.specs.Refusals.{max_command};
 ghost use Rattle.dap_message.specs.SoundMessage.{IsSoundTree};
@@ -201,8 +201,8 @@ pub fn write_failure(
     command: &str,
     failure: Failure,
 ) -> Result<Vec<u8>, AllocError>
-    ensures canon { IfOk result (λ text. text.items ≡ canon (failed seq request_seq command.now failure)) }
-    ensures reads_back { IfOk result (λ text. seq ≤ max_seq → request_seq ≤ max_seq → length command.now ≤ max_command → Msg text.items (failed seq request_seq command.now failure)) }
+    ensures canon { IfOk result (λ text. text.items ≡ canon (failure_response seq request_seq command.now failure)) }
+    ensures reads_back { IfOk result (λ text. seq ≤ max_seq → request_seq ≤ max_seq → length command.now ≤ max_command → Msg text.items (failure_response seq request_seq command.now failure)) }
 {
     // A law for the proof: what is written is read again.
     written_is_read_again();
@@ -223,8 +223,8 @@ pub fn write_success(
     body: &Option<Tree>,
 ) -> Result<Vec<u8>, AllocError>
     requires { IsTrue (is_plain_tree body.now) }
-    ensures canon { IfOk result (λ text. text.items ≡ canon (succeeded seq request_seq command.now body.now)) }
-    ensures reads_back { IfOk result (λ text. seq ≤ max_seq → request_seq ≤ max_seq → length command.now ≤ max_command → Msg text.items (succeeded seq request_seq command.now body.now)) }
+    ensures canon { IfOk result (λ text. text.items ≡ canon (success_response seq request_seq command.now body.now)) }
+    ensures reads_back { IfOk result (λ text. seq ≤ max_seq → request_seq ≤ max_seq → length command.now ≤ max_command → Msg text.items (success_response seq request_seq command.now body.now)) }
 {
     // A law for the proof: what is written is read again.
     written_is_read_again();
@@ -240,8 +240,8 @@ pub fn write_answer(
     command: &str,
     body: &Option<Body>,
 ) -> Result<Vec<u8>, AllocError>
-    ensures canon { IfOk result (λ text. text.items ≡ canon (succeeded seq request_seq command.now (data_in body.now))) }
-    ensures reads_back { IfOk result (λ text. seq ≤ max_seq → request_seq ≤ max_seq → length command.now ≤ max_command → Msg text.items (succeeded seq request_seq command.now (data_in body.now))) }
+    ensures canon { IfOk result (λ text. text.items ≡ canon (success_response seq request_seq command.now (data_in body.now))) }
+    ensures reads_back { IfOk result (λ text. seq ≤ max_seq → request_seq ≤ max_seq → length command.now ≤ max_command → Msg text.items (success_response seq request_seq command.now (data_in body.now))) }
 {
     // A law for the proof: what is written is read again.
     written_is_read_again();
@@ -257,8 +257,8 @@ pub fn write_event(
     body: &Option<Tree>,
 ) -> Result<Vec<u8>, AllocError>
     requires { IsTrue (is_plain_tree body.now) }
-    ensures canon { IfOk result (λ text. text.items ≡ canon (happened seq event.now body.now)) }
-    ensures reads_back { IfOk result (λ text. seq ≤ max_seq → Msg text.items (happened seq event.now body.now)) }
+    ensures canon { IfOk result (λ text. text.items ≡ canon (event_message seq event.now body.now)) }
+    ensures reads_back { IfOk result (λ text. seq ≤ max_seq → Msg text.items (event_message seq event.now body.now)) }
 {
     // A law for the proof: what is written is read again.
     written_is_read_again();

@@ -6,16 +6,16 @@ ghost use Rattle.std.specs.Prelude.{◌≡◌, ◌≤◌, ℕ, List, codes, Opti
 ghost use Rattle.serde_json.specs.Data.{Data, Members, object, no_members, put, string as string_data};
 ghost use Rattle.serde_json.specs.Find.{as_str, as_bool};
 ghost use Rattle.dap_json.specs.Field.{unless_null, text_at};
-ghost use Rattle.dap_json.specs.Skim.{Skims, IsRestOf};
-ghost use Rattle.dap_message.specs.Heading.{after_note, Tells, TellsAll, whole_in, IsHeadingOf, IsKindOf};
-ghost use Rattle.dap_message.specs.Meaning.{Msg, SaysKind};
+ghost use Rattle.dap_json.specs.ObjectReader.{Describes, IsRestOf};
+ghost use Rattle.dap_message.specs.Heading.{after_note, Notes, NotesAll, whole_in, IsHeadingOf, IsKindOf};
+ghost use Rattle.dap_message.specs.Meaning.{Msg, MeansKind};
 ghost use Rattle.dap_message.specs.Refusals.{max_command};
 ghost use Rattle.dap_message.specs.declared.message.Message.{Message};
 ghost use Rattle.dap_message.specs.declared.message.Kind.{Kind};
 
 use crate::message::{Kind, MAX_COMMAND, Message};
 use dap_json::field::MAX_SEQ;
-use dap_json::skim::{Invalid, Scratch, Skim, Skimmed};
+use dap_json::object_reader::{Invalid, MemberValue, ObjectReader, Scratch};
 
 /// A message without its trees and its reason. The names are lent.
 #[derive(Clone, Copy, Debug, PartialEq, Eq, Drop)]
@@ -83,18 +83,18 @@ impl Message {
 /// The values at the keys that make a heading, where they came.
 #[derive(Drop)]
 pub(crate) struct Noted<'a> {
-    pub(crate) seq: Option<Skimmed<'a>>,
-    pub(crate) tag: Option<Skimmed<'a>>,
-    pub(crate) command: Option<Skimmed<'a>>,
-    pub(crate) request_seq: Option<Skimmed<'a>>,
-    pub(crate) success: Option<Skimmed<'a>>,
-    pub(crate) message: Option<Skimmed<'a>>,
-    pub(crate) event: Option<Skimmed<'a>>,
+    pub(crate) seq: Option<MemberValue<'a>>,
+    pub(crate) tag: Option<MemberValue<'a>>,
+    pub(crate) command: Option<MemberValue<'a>>,
+    pub(crate) request_seq: Option<MemberValue<'a>>,
+    pub(crate) success: Option<MemberValue<'a>>,
+    pub(crate) message: Option<MemberValue<'a>>,
+    pub(crate) event: Option<MemberValue<'a>>,
 }
 
 /// Nothing came yet.
 pub(crate) fn none_noted<'a>() -> Noted<'a>
-    ensures { TellsAll result no_members }
+    ensures { NotesAll result no_members }
 {
     let nothing = None;
     Noted {
@@ -110,7 +110,7 @@ pub(crate) fn none_noted<'a>() -> Noted<'a>
 
 /// Notes a value at the key that is wanted.
 #[inline(always)]
-fn note<'a>(noted: &mut Option<Skimmed<'a>>, wanted: &str, key: &str, value: Skimmed<'a>)
+fn note<'a>(noted: &mut Option<MemberValue<'a>>, wanted: &str, key: &str, value: MemberValue<'a>)
     ensures { noted.new ≡ after_note wanted.now key.now value.entry noted.old }
 {
     if key == wanted {
@@ -119,8 +119,8 @@ fn note<'a>(noted: &mut Option<Skimmed<'a>>, wanted: &str, key: &str, value: Ski
 }
 
 /// Notes a member.
-pub(crate) fn note_member<'a>(noted: &mut Noted<'a>, key: &str, value: Skimmed<'a>)
-    ensures { (d : Data) (found : Members) → Skims value.entry d → TellsAll noted.old found → TellsAll noted.new (put key.now d found) }
+pub(crate) fn note_member<'a>(noted: &mut Noted<'a>, key: &str, value: MemberValue<'a>)
+    ensures { (d : Data) (found : Members) → Describes value.entry d → NotesAll noted.old found → NotesAll noted.new (put key.now d found) }
 {
     note(&mut noted.seq, "seq", key, value);
     note(&mut noted.tag, "type", key, value);
@@ -132,59 +132,59 @@ pub(crate) fn note_member<'a>(noted: &mut Noted<'a>, key: &str, value: Skimmed<'
 }
 
 /// Notes the members of an object, all of them to come.
-fn note_members<'a>(skim: &mut Skim<'a>) -> Result<Noted<'a>, Invalid>
-    ensures { IfOk result (λ noted. (ms : Members) × IsRestOf skim.old no_members ms × TellsAll noted ms) }
+fn note_members<'a>(object_reader: &mut ObjectReader<'a>) -> Result<Noted<'a>, Invalid>
+    ensures { IfOk result (λ noted. (ms : Members) × IsRestOf object_reader.old no_members ms × NotesAll noted ms) }
 {
     let mut noted = none_noted();
-    while let Some((key, value)) = skim.next()? {
+    while let Some((key, value)) = object_reader.next()? {
         note_member(&mut noted, key, value);
     }
     Ok(noted)
 }
 
-pub(crate) fn whole(noted: &Option<Skimmed<'_>>) -> Option<u64>
-    ensures { (found : Option Data) → Tells noted.now found → result ≡ whole_in found }
+pub(crate) fn whole(noted: &Option<MemberValue<'_>>) -> Option<u64>
+    ensures { (found : Option Data) → Notes noted.now found → result ≡ whole_in found }
 {
     match noted {
-        Some(Skimmed::Whole(n)) if *n <= MAX_SEQ => Some(*n),
+        Some(MemberValue::Whole(n)) if *n <= MAX_SEQ => Some(*n),
         _ => None,
     }
 }
 
-pub(crate) fn text<'a>(noted: &Option<Skimmed<'a>>) -> Option<&'a str>
-    ensures { (found : Option Data) → Tells noted.now found → option_map (λ s. s.now) result ≡ option_and_then as_str found }
+pub(crate) fn text<'a>(noted: &Option<MemberValue<'a>>) -> Option<&'a str>
+    ensures { (found : Option Data) → Notes noted.now found → option_map (λ s. s.now) result ≡ option_and_then as_str found }
 {
     match noted {
-        Some(Skimmed::Text(text)) => Some(*text),
+        Some(MemberValue::Text(text)) => Some(*text),
         _ => None,
     }
 }
 
-pub(crate) fn boolean(noted: &Option<Skimmed<'_>>) -> Option<bool>
-    ensures { (found : Option Data) → Tells noted.now found → result ≡ option_and_then as_bool found }
+pub(crate) fn boolean(noted: &Option<MemberValue<'_>>) -> Option<bool>
+    ensures { (found : Option Data) → Notes noted.now found → result ≡ option_and_then as_bool found }
 {
     match noted {
-        Some(Skimmed::Boolean(b)) => Some(*b),
+        Some(MemberValue::Boolean(b)) => Some(*b),
         _ => None,
     }
 }
 
 /// Whether a text stands there, or nothing or `null`.
-fn is_text_or_absent(noted: &Option<Skimmed<'_>>) -> bool
-    ensures { IsTrue result → (found : Option Data) → Tells noted.now found → (text : Option (List ℕ)) × (unless_null found ≡ option_map string_data text) }
+fn is_text_or_absent(noted: &Option<MemberValue<'_>>) -> bool
+    ensures { IsTrue result → (found : Option Data) → Notes noted.now found → (text : Option (List ℕ)) × (unless_null found ≡ option_map string_data text) }
 {
     let Some(value) = noted else {
         return true;
     };
     match value {
-        Skimmed::Null => true,
-        Skimmed::Text(_) => true,
+        MemberValue::Null => true,
+        MemberValue::Text(_) => true,
         _ => false,
     }
 }
 
 pub(crate) fn command<'a>(noted: &Noted<'a>) -> Option<&'a str>
-    ensures { IfSome result (λ name. (found : Option Data) → Tells noted.now.command found → (option_and_then as_str found ≡ Some name.now) × (length name.now ≤ max_command)) }
+    ensures { IfSome result (λ name. (found : Option Data) → Notes noted.now.command found → (option_and_then as_str found ≡ Some name.now) × (length name.now ≤ max_command)) }
 {
     let name = text(&noted.command)?;
     if name.len() > MAX_COMMAND {
@@ -194,14 +194,14 @@ pub(crate) fn command<'a>(noted: &Noted<'a>) -> Option<&'a str>
 }
 
 fn request<'a>(noted: &Noted<'a>) -> Option<HeadingKind<'a>>
-    ensures { IfSome result (λ kind. (ms : Members) → TellsAll noted.now ms → text_at (codes "type") (object ms) ≡ Some (codes "request") → (k : Kind) × SaysKind (object ms) k × IsKindOf kind k) }
+    ensures { IfSome result (λ kind. (ms : Members) → NotesAll noted.now ms → text_at (codes "type") (object ms) ≡ Some (codes "request") → (k : Kind) × MeansKind (object ms) k × IsKindOf kind k) }
 {
     let command = command(noted)?;
     Some(HeadingKind::Request { command })
 }
 
 fn response<'a>(noted: &Noted<'a>) -> Option<HeadingKind<'a>>
-    ensures { IfSome result (λ kind. (ms : Members) → TellsAll noted.now ms → text_at (codes "type") (object ms) ≡ Some (codes "response") → (k : Kind) × SaysKind (object ms) k × IsKindOf kind k) }
+    ensures { IfSome result (λ kind. (ms : Members) → NotesAll noted.now ms → text_at (codes "type") (object ms) ≡ Some (codes "response") → (k : Kind) × MeansKind (object ms) k × IsKindOf kind k) }
 {
     let command = command(noted)?;
     let request_seq = whole(&noted.request_seq)?;
@@ -217,14 +217,14 @@ fn response<'a>(noted: &Noted<'a>) -> Option<HeadingKind<'a>>
 }
 
 fn event<'a>(noted: &Noted<'a>) -> Option<HeadingKind<'a>>
-    ensures { IfSome result (λ kind. (ms : Members) → TellsAll noted.now ms → text_at (codes "type") (object ms) ≡ Some (codes "event") → (k : Kind) × SaysKind (object ms) k × IsKindOf kind k) }
+    ensures { IfSome result (λ kind. (ms : Members) → NotesAll noted.now ms → text_at (codes "type") (object ms) ≡ Some (codes "event") → (k : Kind) × MeansKind (object ms) k × IsKindOf kind k) }
 {
     let event = text(&noted.event)?;
     Some(HeadingKind::Event { event })
 }
 
 pub(crate) fn kind<'a>(noted: &Noted<'a>) -> Option<HeadingKind<'a>>
-    ensures { IfSome result (λ kind. (ms : Members) → TellsAll noted.now ms → (k : Kind) × SaysKind (object ms) k × IsKindOf kind k) }
+    ensures { IfSome result (λ kind. (ms : Members) → NotesAll noted.now ms → (k : Kind) × MeansKind (object ms) k × IsKindOf kind k) }
 {
     match text(&noted.tag)? {
         "request" => request(noted),
@@ -241,10 +241,10 @@ pub(crate) fn kind<'a>(noted: &Noted<'a>) -> Option<HeadingKind<'a>>
 pub fn read_heading<'a>(scratch: &'a mut Scratch, body: &'a [u8]) -> Option<Heading<'a>>
     ensures { IfSome result (λ heading. (m : Message) × Msg body.now m × IsHeadingOf heading m) }
 {
-    let Ok(mut skim) = Skim::open(body, scratch) else {
+    let Ok(mut object_reader) = ObjectReader::open(body, scratch) else {
         return None;
     };
-    let Ok(noted) = note_members(&mut skim) else {
+    let Ok(noted) = note_members(&mut object_reader) else {
         return None;
     };
     let seq = whole(&noted.seq)?;

@@ -7,12 +7,12 @@
 
 mod answering;
 mod fault;
-mod giving;
 mod heading;
 pub mod laws;
 mod message;
+mod one_pass;
 mod reading;
-mod straight;
+mod response_references;
 mod writing;
 
 pub use answering::{write_answer, write_event, write_failure, write_request, write_success};
@@ -24,14 +24,15 @@ pub use dap_body::{
 };
 pub use dap_call::{
     BreakpointLocations, Call, CallFault, Capabilities, Command, Completions, Evaluate,
-    FramesGiven, Gate, Given, HoldersGiven, Initialize, Key, MAX_ARGUMENTS, Modules, SetVariable,
-    SourceKey, StackTrace, Variables, frames_given, holders_given, read_call, write_call,
+    FramesGiven, Gate, GatheredReferences, HoldersGiven, Initialize, Key, MAX_ARGUMENTS, Modules,
+    SetVariable, SourceKey, StackTrace, Variables, frames_given, holders_given, read_call,
+    write_call,
 };
-pub use dap_json::skim::Scratch;
+pub use dap_json::object_reader::Scratch;
 pub use dap_json::{List, Text, Tree};
 pub use fault::{BodyFault, BodyRefusal};
-pub use giving::read_heading_and_given;
 pub use heading::{Heading, HeadingKind, read_heading};
 pub use message::{Kind, MAX_COMMAND, Message};
 pub use reading::{read_message, read_message_with};
+pub use response_references::read_heading_and_references;
 pub use writing::write_message;

@@ -1,6 +1,6 @@
 -- A reader of messages: the bytes that it used, the messages that its whole frames are, and why it reads no more.
 -- Overview, "Base Protocol".
-use Rattle.std.specs.Prelude.{◌≡◌, ℕ, List, [], Option, Some, None}
+use Rattle.std.specs.Prelude.{◌≡◌, ℕ, List, [], ◌++◌, Option, Some, None, option_to_list}
 use Rattle.dap_frame.specs.Feeds.{Gathers}
 use Rattle.dap_frame.specs.Intake.{Intake, IsUnderWay, StandsFor as StandsForStream}
 use Rattle.dap_history.specs.Pieces.{Whole, FrameClosed, BodyRefused, NeedsMemory}
@@ -56,3 +56,9 @@ pub record StandsFor (r : Reader) (s : List ℕ) (ms : List Message) : Type 0 wh
   pub rest : List ℕ
   pub stream : StandsForStream r.intake s bodies rest
   pub read : AreRead bodies ms
+
+-- the first bytes of a piece were used, and the message that became whole by them is the next of the stream
+pub record Advances (old new : Reader) (piece rest : List ℕ) (m : Option Message) : Type 0 where
+  pub used : List ℕ
+  pub piece_is : piece ≡ used ++ rest
+  pub stands : (s : List ℕ) (ms : List Message) → StandsFor old s ms → StandsFor new (s ++ used) (ms ++ option_to_list m)

@@ -1,5 +1,5 @@
 //! A reader of messages.
-ghost use Rattle.std.specs.Prelude.{◌≡◌, ◌≢◌, ℕ, List, ◌++◌, ◌<◌, ◌≤◌, [], length, max, take, option_to_list, IfOk, IfErr, OnOk, OnErr, IfSome, Some, None, Err};
+ghost use Rattle.std.specs.Prelude.{◌≡◌, ◌≢◌, ℕ, List, ◌++◌, ◌<◌, ◌≤◌, [], length, max, take, option_to_list, IfOk, IfErr, OnOk, OnErr, IfSome, IfNone, Some, None, Err};
 ghost use Rattle.dap_frame.specs.Ends.{EndsWith};
 ghost use Rattle.dap_frame.specs.Intake.{IsReady, IsUnderWay, StandsFor as StandsForStream};
 ghost use Rattle.dap_frame.specs.Settings.{bounds_of};
@@ -7,7 +7,7 @@ ghost use Rattle.dap_frame.specs.declared.frames.End.{End};
 ghost use Rattle.dap_message.specs.Meaning.{Msg};
 ghost use Rattle.dap_message.specs.declared.message.Message.{Message};
 ghost use Rattle.dap_reader.specs.declared.fault.ReadFault.{ReadFault};
-ghost use Rattle.dap_reader.specs.Reader.{Gives, IsRefused, IsUnread, StandsFor};
+ghost use Rattle.dap_reader.specs.Reader.{Advances, Gives, IsRefused, IsUnread, StandsFor};
 
 use crate::fault::ReadFault;
 use dap_frame::{End, Frames, Limits};
@@ -92,6 +92,42 @@ impl MessageReader {
                 Err(fault)
             }
         }
+    }
+
+    /// The next message of a piece: the bytes up to the end of its frame are used, and the piece is what is left behind them.
+    /// `None` once all of the piece is used. So each message of a piece is read by
+    /// `while let Some(message) = reader.next_in(alloc, &mut piece)?`.
+    ///
+    /// # Errors
+    /// Those of `next`, of the piece as it is; then it stays so.
+    pub fn next_in(
+        &mut self,
+        alloc: Global,
+        piece: &mut &[u8],
+    ) -> Result<Option<Message>, ReadFault>
+        ensures advances { IfOk result (λ message. Advances self.old self.new piece.old.now piece.new.now message) }
+        ensures shorter { IfOk result (λ message. IfSome message (λ m. length piece.new.now < length piece.old.now)) }
+        ensures used { IfOk result (λ message. IfNone message (piece.new.now ≡ [])) }
+        ensures bounds { self.new.intake.bounds ≡ self.old.intake.bounds }
+        ensures open { OnOk result (self.new.fault ≡ None) }
+
+        // Why it is refused; then nothing is held.
+        ensures refused { IfErr result (λ fault. self.old.fault ≡ None → IsRefused self.old.intake piece.old.now fault) }
+        ensures piece { OnErr result (piece.new.now ≡ piece.old.now) }
+        ensures held { OnErr result (self.new.intake.held ≡ []) }
+        ensures latches { IfErr result (λ fault. self.new.fault ≡ Some fault) }
+        ensures latched { IfSome self.old.fault (λ fault. (result ≡ Err fault) × (self.new ≡ self.old)) }
+    {
+        if let Some(fault) = self.fault {
+            return Err(fault);
+        }
+        if piece.is_empty() {
+            return Ok(None);
+        }
+        let Next { used, message } = self.next(alloc, piece)?;
+        let (_, rest) = piece.split_at(used);
+        *piece = rest;
+        Ok(message)
     }
 
     /// Gives up what is held, for good: each later `next` answers `Closed`, or the fault that came before.

@@ -7,9 +7,9 @@ use Rattle.dap_tables.specs.Outstanding.{Kept, contains_seq, entry_with, is_park
 use Rattle.dap_tables.specs.declared.entry.Entry.{Entry}
 use Rattle.dap_session.specs.Handling.{answer_each}
 use Rattle.dap_session.specs.Plan.{failure, plain_success, reply}
-use Rattle.dap_session.specs.Seat.{NamesNone, NamesOne}
+use Rattle.dap_session.specs.SessionState.{NamesNone, NamesOne}
 use Rattle.dap_session.specs.Session.{Session}
-use Rattle.dap_session.specs.Taking.{cancelled}
+use Rattle.dap_session.specs.Taking.{after_cancel}
 use Rattle.dap_session.proofs.Kept.{false-left, false-right, all-without}
 use Rattle.dap_session.proofs.SeveralAnswers.{none-parked}
 
@@ -91,9 +91,9 @@ finds id [] r d p e = absurd (cc)
 finds id (k ∷ kept) r d p e = finds-if (k.entry.seq == id) id k kept r (entry_with id kept) refl d.0 (finds id kept r d.1) p e
 
 -- what is answered then
-pub cancelled-one : (id : ℕ) (r named : Entry) (s : Session) → Finds id s.kept named → (cancelled (Some id) r s).drafts ≡ reply named (failure Cancelled) ∷ reply r plain_success ∷ []
-cancelled-one id r named s f =
+pub after_cancel-one : (id : ℕ) (r named : Entry) (s : Session) → Finds id s.kept named → (after_cancel (Some id) r s).drafts ≡ reply named (failure Cancelled) ∷ reply r plain_success ∷ []
+after_cancel-one id r named s f =
     ap (λ (ks : List Kept). answer_each (failure Cancelled) ks ++ reply r plain_success ∷ []) f.names.named ∙ ap (λ (x : Entry). reply x (failure Cancelled) ∷ reply r plain_success ∷ []) f.entry
 
-pub count-one : (id : ℕ) (r : Entry) (s : Session) → NamesOne id s.kept → length (cancelled (Some id) r s).drafts ≡ 2
+pub count-one : (id : ℕ) (r : Entry) (s : Session) → NamesOne id s.kept → length (after_cancel (Some id) r s).drafts ≡ 2
 count-one id r s n = ap (λ (ks : List Kept). length (answer_each (failure Cancelled) ks ++ reply r plain_success ∷ [])) n.named

@@ -1,29 +1,11 @@
 -- A request that is handled waits for no turn any more: fewer are left to handle.
-use Rattle.std.proofs.Common.{◌≡◌, ℕ, ◌+◌, ◌<◌, ◌≤◌, List, [], ◌∷◌, Bool, true, false, cond, length, sym, arith, Option, Some, None, Ok, Err, true≢false}
+use Rattle.std.proofs.Common.{◌≡◌, ℕ, ◌+◌, ◌<◌, ◌≤◌, List, [], ◌∷◌, ◌++◌, Bool, true, false, cond, length, refl, sym, ◌∙◌, subst, arith, true≢false}
 use Rattle.std.specs.Prelude.{◌==◌, ◌&&◌, ◌||◌, not, if◌then◌else◌}
-use Rattle.dap_tables.specs.Outstanding.{Kept, contains_seq, is_parked, without, with_mark, marked, unparked_ones}
-use Rattle.dap_tables.specs.declared.entry.Entry.{Entry as Request}
-use Rattle.dap_debuggee.specs.Shown.{Shown, Reply, done, refused, happened}
-use Rattle.dap_debuggee.specs.declared.answers.How.{How}
-use Rattle.dap_message.specs.Types.Call.{Call}
-use Rattle.dap_message.specs.Types.Failure.{Failure}
-use Rattle.dap_message.specs.Types.Failure.TheVariants.{Debuggee, TooManyBreakpoints, TooLarge}
-use Rattle.dap_message.specs.Types.SourceKey.{SourceKey}
-use Rattle.dap_message.specs.Types.Call.TheVariants as call
-use Rattle.dap_message.specs.ResponseBody.{set_breakpoints_body}
-use Rattle.serde_json.specs.Data.{Data}
-use Rattle.dap_session.specs.declared.effect.Effect.{Effect}
-use Rattle.dap_session.specs.declared.effect.Effect.TheVariants as effect
-use Rattle.dap_session.specs.Bodies.{Telling, telling}
-use Rattle.dap_session.specs.Handling.{plan_for, resumed, told, fits, answers_to, lines_asked, breakpoints_set, breakpoints_verified}
-use Rattle.dap_session.specs.Laws.{CanMake}
-use Rattle.dap_session.specs.Carried.{Goes}
-use Rattle.dap_session.specs.Plan.{Made, Plan, at_once, answered, failure}
-use Rattle.dap_session.specs.Seat.{Seat, Carries}
-use Rattle.dap_session.specs.Setting.{Suits}
-use Rattle.dap_session.specs.Breakpoints.{are_too_many}
+use Rattle.std.specs.List.{list_any}
+use Rattle.std.proofs.lemmas.List.Folds.{list_any-append}
+use Rattle.dap_tables.specs.Outstanding.{Kept, contains_seq, is_parked, without, with_mark, kept_with_mark, unparked_ones, HasDistinctSeqs}
 use Rattle.dap_session.specs.Session.{Session, to_handle}
-use Rattle.dap_session.proofs.Limited.{can-make}
+use Rattle.dap_session.proofs.Kept.{IsKept, IsApart, apart, contains-append, eqb-self, false-left, false-right, both-false}
 
 -- ---- one request more at the front
 
@@ -58,30 +40,30 @@ fewer-at : (same : Bool) (k : Kept) (xs ys : List Kept) (has parked : Bool) → 
 fewer-at true k xs ys has parked c u most less = first-unparked k.parked k (unparked_ones ys) (to_handle xs) parked u most
 fewer-at false k xs ys has parked c u most less = both-less (not k.parked) k k (unparked_ones xs) (unparked_ones ys) (less c u)
 
-pub fewer-without : (seq : ℕ) (kept : List Kept) → contains_seq seq kept ≡ true → is_parked seq kept ≡ false → to_handle (without seq kept) < to_handle kept
+fewer-without : (seq : ℕ) (kept : List Kept) → contains_seq seq kept ≡ true → is_parked seq kept ≡ false → to_handle (without seq kept) < to_handle kept
 fewer-without seq [] c u = absurd (true≢false (sym c))
 fewer-without seq (k ∷ kept) c u =
     fewer-at (k.entry.seq == seq) k (without seq kept) kept (contains_seq seq kept) (is_parked seq kept) c u (without-at-most seq kept) (fewer-without seq kept)
 
 -- ---- parked
 
-marked-at : (same : Bool) (k : Kept) (xs ys : List Kept) → to_handle xs ≤ to_handle ys → to_handle ((if same then marked true k else k) ∷ xs) ≤ to_handle (k ∷ ys)
-marked-at true k xs ys h = at-most (not k.parked) k (unparked_ones ys) (to_handle xs) h
-marked-at false k xs ys h = both-at-most (not k.parked) k k (unparked_ones xs) (unparked_ones ys) h
+kept_with_mark-at : (same : Bool) (k : Kept) (xs ys : List Kept) → to_handle xs ≤ to_handle ys → to_handle ((if same then kept_with_mark true k else k) ∷ xs) ≤ to_handle (k ∷ ys)
+kept_with_mark-at true k xs ys h = at-most (not k.parked) k (unparked_ones ys) (to_handle xs) h
+kept_with_mark-at false k xs ys h = both-at-most (not k.parked) k k (unparked_ones xs) (unparked_ones ys) h
 
-marked-at-most : (seq : ℕ) (kept : List Kept) → to_handle (with_mark seq true kept) ≤ to_handle kept
-marked-at-most seq [] = omega arith
-marked-at-most seq (k ∷ kept) = marked-at (k.entry.seq == seq) k (with_mark seq true kept) kept (marked-at-most seq kept)
+kept_with_mark-at-most : (seq : ℕ) (kept : List Kept) → to_handle (with_mark seq true kept) ≤ to_handle kept
+kept_with_mark-at-most seq [] = omega arith
+kept_with_mark-at-most seq (k ∷ kept) = kept_with_mark-at (k.entry.seq == seq) k (with_mark seq true kept) kept (kept_with_mark-at-most seq kept)
 
 parks-at : (same : Bool) (k : Kept) (xs ys : List Kept) (has parked : Bool) → (same || has) ≡ true → ((same && k.parked) || parked) ≡ false → to_handle xs ≤ to_handle ys → (has ≡ true → parked ≡ false → to_handle xs < to_handle ys)
-    → to_handle ((if same then marked true k else k) ∷ xs) < to_handle (k ∷ ys)
+    → to_handle ((if same then kept_with_mark true k else k) ∷ xs) < to_handle (k ∷ ys)
 parks-at true k xs ys has parked c u most less = first-unparked k.parked k (unparked_ones ys) (to_handle xs) parked u most
 parks-at false k xs ys has parked c u most less = both-less (not k.parked) k k (unparked_ones xs) (unparked_ones ys) (less c u)
 
-fewer-marked : (seq : ℕ) (kept : List Kept) → contains_seq seq kept ≡ true → is_parked seq kept ≡ false → to_handle (with_mark seq true kept) < to_handle kept
-fewer-marked seq [] c u = absurd (true≢false (sym c))
-fewer-marked seq (k ∷ kept) c u =
-    parks-at (k.entry.seq == seq) k (with_mark seq true kept) kept (contains_seq seq kept) (is_parked seq kept) c u (marked-at-most seq kept) (fewer-marked seq kept)
+fewer-kept_with_mark : (seq : ℕ) (kept : List Kept) → contains_seq seq kept ≡ true → is_parked seq kept ≡ false → to_handle (with_mark seq true kept) < to_handle kept
+fewer-kept_with_mark seq [] c u = absurd (true≢false (sym c))
+fewer-kept_with_mark seq (k ∷ kept) c u =
+    parks-at (k.entry.seq == seq) k (with_mark seq true kept) kept (contains_seq seq kept) (is_parked seq kept) c u (kept_with_mark-at-most seq kept) (fewer-kept_with_mark seq kept)
 
 -- ---- none, and without the parked ones
 
@@ -96,79 +78,53 @@ unparked-at-most (k ∷ kept) = let h = kept-at (not k.parked) k (unparked_ones 
 parked-fewer : (seq : ℕ) (kept : List Kept) → contains_seq seq kept ≡ true → is_parked seq kept ≡ false → to_handle (unparked_ones (without seq kept)) < to_handle kept
 parked-fewer seq kept c u = let h = fewer-without seq kept c u in let m = unparked-at-most (unparked_ones (without seq kept)) in omega arith
 
--- ---- what a plan leaves
+-- ---- the request that is handled
 
-abbrev IsFewer : Session → Made → Type 0
-IsFewer s made = to_handle made.after.kept < to_handle s.kept
+-- it is kept, and not parked
+pub record IsHandled (s : Session) (k : Kept) : Type 0 where
+  pub kept : IsKept s.kept k
+  pub unparked : k.parked ≡ false
 
-some-wait : (seq : ℕ) (kept : List Kept) → contains_seq seq kept ≡ true → is_parked seq kept ≡ false → 0 < to_handle kept
-some-wait seq kept c u = let h = fewer-without seq kept c u in omega arith
+-- what is not kept is not parked
+none-parked : (seq : ℕ) (kept : List Kept) → contains_seq seq kept ≡ false → is_parked seq kept ≡ false
+none-parked seq [] h = refl
+none-parked seq (k ∷ kept) h = rw (false-left (k.entry.seq == seq) (contains_seq seq kept) h) (none-parked seq kept (false-right (k.entry.seq == seq) (contains_seq seq kept) h))
 
-resumed-fewer : (h : How) (s : Session) (r : Request) (last : Reply) → to_handle (without r.seq s.kept) < to_handle s.kept → IsFewer s (resumed h s r last)
-resumed-fewer h s r done w = w
-resumed-fewer h s r refused w = w
-resumed-fewer h s r (happened x) w = w
+any-right : (a b : Bool) → b ≡ true → (a || b) ≡ true
+any-right true b h = refl
+any-right false b h = h
 
-fits-fewer : (b : Bool) (s : Session) (m n : Made) → IsFewer s m → IsFewer s n → IsFewer s (if b then m else n)
-fits-fewer true s m n x y = x
-fits-fewer false s m n x y = y
+middle-contained : (before : List Kept) (k : Kept) (after : List Kept) → contains_seq k.entry.seq (before ++ k ∷ after) ≡ true
+middle-contained before k after =
+    contains-append k.entry.seq before (k ∷ after) ∙ any-right (contains_seq k.entry.seq before) (contains_seq k.entry.seq (k ∷ after)) (rw (eqb-self k.entry.seq) refl)
 
-told-fewer : (s : Session) (r : Request) (t : Telling) → to_handle (without r.seq s.kept) < to_handle s.kept → IsFewer s (told s r t)
-told-fewer s r (Err f) w = w
-told-fewer s r (Ok t) w = fits-fewer (fits s r t.body) s _ _ w w
+middle-unparked : (before : List Kept) (k : Kept) (after : List Kept) → IsApart before k after → k.parked ≡ false → is_parked k.entry.seq (before ++ k ∷ after) ≡ false
+middle-unparked before k after a h =
+    list_any-append (λ (x : Kept). (x.entry.seq == k.entry.seq) && x.parked) before (k ∷ after)
+    ∙ both-false (is_parked k.entry.seq before) (is_parked k.entry.seq (k ∷ after)) (none-parked k.entry.seq before a.not_before) (rw (h, eqb-self k.entry.seq) (none-parked k.entry.seq after a.not_after))
 
--- ---- breakpoints
+pub is-contained : (s : Session) (k : Kept) → IsHandled s k → contains_seq k.entry.seq s.kept ≡ true
+is-contained s k i = rw i.kept.split (middle-contained i.kept.before k i.kept.after)
 
-abbrev PlanFewer : Session → Plan → Type 0
-PlanFewer s plan = (made : Made) → CanMake plan made → IsFewer s made
+pub is-unparked : (s : Session) (k : Kept) → HasDistinctSeqs s.kept → IsHandled s k → is_parked k.entry.seq s.kept ≡ false
+is-unparked s k d i =
+    let all = subst (λ (xs : List Kept). HasDistinctSeqs xs) i.kept.split d in
+    rw i.kept.split (middle-unparked i.kept.before k i.kept.after (apart i.kept.before k i.kept.after all) i.unparked)
 
-either-fewer : (b : Bool) (s : Session) (p q : Plan) → PlanFewer s p → PlanFewer s q → PlanFewer s (if b then p else q)
-either-fewer true s p q x y = x
-either-fewer false s p q x y = y
+-- ---- what is left to handle once it is
 
-refusal-fewer : (s : Session) (r : Request) (f : Failure) → to_handle (without r.seq s.kept) < to_handle s.kept → PlanFewer s (at_once (answered r (failure f) s))
-refusal-fewer s r f w made m = rw m w
+-- where it is kept no more
+pub fewer-handled : (s : Session) (k : Kept) → HasDistinctSeqs s.kept → IsHandled s k → to_handle (without k.entry.seq s.kept) < to_handle s.kept
+fewer-handled s k d i = fewer-without k.entry.seq s.kept (is-contained s k i) (is-unparked s k d i)
 
-set-fewer : (s : Session) (r : Request) (key : SourceKey) (lines : List ℕ) (body : Option Data) → to_handle (without r.seq s.kept) < to_handle s.kept → PlanFewer s (breakpoints_set s r key lines body)
-set-fewer s r key lines body w made m = rw m.1 w
+-- where it is parked
+pub fewer-park : (s : Session) (k : Kept) → HasDistinctSeqs s.kept → IsHandled s k → to_handle (with_mark k.entry.seq true s.kept) < to_handle s.kept
+fewer-park s k d i = fewer-kept_with_mark k.entry.seq s.kept (is-contained s k i) (is-unparked s k d i)
 
-verified-fewer : (s : Session) (r : Request) (key : SourceKey) (lines : List ℕ) (verified : Option (List Bool)) → to_handle (without r.seq s.kept) < to_handle s.kept → PlanFewer s (breakpoints_verified s r key lines verified)
-verified-fewer s r key lines None w = refusal-fewer s r Debuggee w
-verified-fewer s r key lines (Some verified) w =
-    let body = Some (set_breakpoints_body (answers_to s.breakpoints.next_id lines verified)) in
-    either-fewer (are_too_many s.limits key lines s.breakpoints) s _ _ (refusal-fewer s r TooManyBreakpoints w)
-    (either-fewer (fits s r body) s _ _ (set-fewer s r key (lines_asked s.options lines) body w) (refusal-fewer s r TooLarge w))
+-- where those that are parked are kept no more either
+pub fewer-unparked : (s : Session) (k : Kept) → HasDistinctSeqs s.kept → IsHandled s k → to_handle (unparked_ones (without k.entry.seq s.kept)) < to_handle s.kept
+fewer-unparked s k d i = parked-fewer k.entry.seq s.kept (is-contained s k i) (is-unparked s k d i)
 
--- ---- each effect
-
-once : (s : Session) (m made : Made) → made ≡ m → IsFewer s m → IsFewer s made
-once s m made e h = rw e h
-
-pub plan-fewer : (e : Effect) (view : Shown) (s : Session) (r : Request) (asked : Call) (made : Made) → Suits e asked → contains_seq r.seq s.kept ≡ true → is_parked r.seq s.kept ≡ false
-    → CanMake (plan_for e view s r asked) made → to_handle made.after.kept < to_handle s.kept
-unfolding plan_for
-plan-fewer effect.Begin view s r asked made n c u m = once s _ made m (fewer-without r.seq s.kept c u)
-plan-fewer effect.Park view s r asked made n c u m = once s _ made m (fewer-marked r.seq s.kept c u)
-plan-fewer effect.Start view s r asked made n c u m = once s _ made m.1 (fewer-without r.seq s.kept c u)
-plan-fewer effect.Configure view s r asked made n c u m = once s _ made m (fewer-without r.seq s.kept c u)
-plan-fewer effect.StartParked view s r asked made n c u m = once s _ made m.1 (parked-fewer r.seq s.kept c u)
-plan-fewer effect.Leave view s r asked made n c u m = once s _ made m (some-wait r.seq s.kept c u)
-plan-fewer effect.EndAndLeave view s r asked made n c u m = once s _ made m.1 (some-wait r.seq s.kept c u)
-plan-fewer effect.Finish view s r asked made n c u m = once s _ made m.1 (fewer-without r.seq s.kept c u)
-plan-fewer effect.SetBreakpoints view s r (call.SetBreakpoints key lines) made n c u m =
-    verified-fewer s r key lines (view.verify key (lines_asked s.options lines)) (fewer-without r.seq s.kept c u) made m
-plan-fewer effect.SetBreakpoints view s r _ made n c u m = absurd n
-plan-fewer (effect.Resume h) view s r asked made n c u m = once s _ made m.1 (resumed-fewer h s r m.0 (fewer-without r.seq s.kept c u))
-plan-fewer effect.Pause view s r asked made n c u m = once s _ made m.1 (fewer-without r.seq s.kept c u)
-plan-fewer effect.Tell view s r asked made n c u m = once s _ made m (told-fewer s r (telling view s asked) (fewer-without r.seq s.kept c u))
-
--- ---- a plan that was carried out
-
-pub carried-fewer : {D : Type 0} (follows : Goes D) (e : Effect) (view : Shown) (r : Request) (asked : Call) (old new : Seat D) (bytes : List ℕ) → contains_seq r.seq old.session.kept ≡ true → is_parked r.seq old.session.kept ≡ false
-    → Suits e asked → Carries follows (plan_for e view old.session r asked) old new bytes → to_handle new.session.kept < to_handle old.session.kept
-carried-fewer follows e view r asked old new bytes c u n t =
-    rw t.by.session (plan-fewer e view old.session r asked t.made n c u (can-make follows (plan_for e view old.session r asked) _ _ t.made t.carried))
-
-pub refused-fewer : {D : Type 0} (follows : Goes D) (f : Failure) (r : Request) (old new : Seat D) (bytes : List ℕ) → contains_seq r.seq old.session.kept ≡ true → is_parked r.seq old.session.kept ≡ false
-    → Carries follows (at_once (answered r (failure f) old.session)) old new bytes → to_handle new.session.kept < to_handle old.session.kept
-refused-fewer follows f r old new bytes c u t = rw (t.by.session, t.carried.0) (fewer-without r.seq old.session.kept c u)
+-- where none is kept
+pub fewer-none : (s : Session) (k : Kept) → HasDistinctSeqs s.kept → IsHandled s k → 0 < to_handle s.kept
+fewer-none s k d i = let h = fewer-handled s k d i in omega arith

@@ -5,16 +5,16 @@ use Rattle.serde_json.specs.Data.{Data}
 use Rattle.dap_frame.specs.Settings.{Settings}
 use Rattle.dap_message.specs.Types.Failure.{Failure}
 use Rattle.dap_message.specs.Types.Failure.TheVariants.{TooManyReferences, ReferencesExhausted}
-use Rattle.dap_tables.specs.References.{LiveReferences, ReferenceTable, IsRefusedForRoom, IsRefusedForNumber, interned, numbered_at, place_of, taken_back}
+use Rattle.dap_tables.specs.References.{LiveReferences, ReferenceTable, HasNoRoomForTarget, IsRefusedForNumber, intern_result, numbered_at, place_of, back_to}
 use Rattle.dap_tables.specs.declared.ref_fault.RefFault.{RefFault}
 use Rattle.dap_tables.specs.declared.ref_fault.RefFault.TheVariants as fault
 use Rattle.dap_tables.specs.declared.target.Target.{Target}
-use Rattle.dap_session.specs.Bodies.{Telling, tells_only, tells_with}
-use Rattle.dap_session.specs.References.{intern, intern_each, number_of, named, onto_first}
-use Rattle.dap_session.specs.Seat.{Seat}
+use Rattle.dap_session.specs.Bodies.{QueryResult, result_without_references, result_with_references}
+use Rattle.dap_session.specs.References.{intern, intern_each, number_of, targets_named, onto_first}
+use Rattle.dap_session.specs.SessionState.{SessionState}
 use Rattle.dap_session.specs.Session.{Session}
-use Rattle.dap_session.specs.Telling.{Grows, OnlyGives, Tells}
-use Rattle.dap_session.proofs.ReferencesLemmas.{grows-not, grows-twice, interned-grows, no-lt, is-lt}
+use Rattle.dap_session.specs.QueryResults.{Grows, OnlyGives, AnswersWith}
+use Rattle.dap_session.proofs.Interned.{grows-not, grows-twice, interned-grows, no-lt, is-lt}
 
 -- ---- one number: what the table answers, in the words of failures
 
@@ -32,14 +32,14 @@ again-at (Some p) room greatest t refs given h =
 again-at None room greatest t refs given h = again-next (nat_lt (length refs.live) room) (nat_lt (refs.base + length refs.live) greatest) room greatest t refs given h
 
 pub number-given : (limits : Settings) (room greatest : ℕ) (t : Target) (refs : LiveReferences) (given : ℕ × LiveReferences) → room ≡ limits.references → greatest ≡ limits.reference
-    → interned fault.Full fault.Exhausted room greatest t refs ≡ Ok given → intern limits t refs ≡ Ok given
+    → intern_result fault.Full fault.Exhausted room greatest t refs ≡ Ok given → intern limits t refs ≡ Ok given
 number-given limits room greatest t refs given r g h = rw (← r, ← g) (again-at (place_of t refs.live) room greatest t refs given h)
 
 not-live : (o : Option ℕ) → is_some o ≡ false → o ≡ None
 not-live None h = refl
 not-live (Some p) h = absurd (true≢false h)
 
-pub number-full : (limits : Settings) (t : Target) (table : ReferenceTable) → table.room ≡ limits.references → IsRefusedForRoom t table → intern limits t table.references ≡ Err TooManyReferences
+pub number-full : (limits : Settings) (t : Target) (table : ReferenceTable) → table.room ≡ limits.references → HasNoRoomForTarget t table → intern limits t table.references ≡ Err TooManyReferences
 number-full limits t table r h =
     let new = not-live (place_of t table.references.live) h.new in
     let full : nat_lt (length table.references.live) limits.references ≡ false = no-lt (length table.references.live) limits.references (let e = h.full in omega arith) in
@@ -54,13 +54,13 @@ number-exhausted limits t table r g h =
 
 -- ---- nothing else happens
 
-pub gives-none : {D : Type 0} (v : Seat D) → OnlyGives v v
+pub gives-none : {D : Type 0} (v : SessionState D) → OnlyGives v v
 gives-none v = record { debuggee = refl; session = refl; grows = grows-not v.session.references }
 
-pub gives-one : {D : Type 0} (old new : Seat D) (t : Target) (n : ℕ) → new.debuggee ≡ old.debuggee → new.session ≡ record old.session { references = new.session.references } → intern old.session.limits t old.session.references ≡ Ok (n, new.session.references) → OnlyGives old new
+pub gives-one : {D : Type 0} (old new : SessionState D) (t : Target) (n : ℕ) → new.debuggee ≡ old.debuggee → new.session ≡ record old.session { references = new.session.references } → intern old.session.limits t old.session.references ≡ Ok (n, new.session.references) → OnlyGives old new
 gives-one old new t n d s h = record { debuggee = d; session = s; grows = interned-grows old.session.limits t old.session.references (n, new.session.references) h }
 
-pub gives-twice : {D : Type 0} (old mid new : Seat D) → OnlyGives old mid → OnlyGives mid new → OnlyGives old new
+pub gives-twice : {D : Type 0} (old mid new : SessionState D) → OnlyGives old mid → OnlyGives mid new → OnlyGives old new
 gives-twice old mid new g h =
     record {
       debuggee = h.debuggee ∙ g.debuggee;
@@ -105,19 +105,19 @@ take-front (x ∷ xs) ys = ap (λ (zs : List Target). x ∷ zs) (take-front xs y
 pub grown-length : (old new : LiveReferences) → Grows old new → length old.live ≤ length new.live
 grown-length old new g = let all = length-append old.live g.more in let same = ap (λ (xs : List Target). length xs) g.live in omega arith
 
-pub grown-back : (old new : LiveReferences) → Grows old new → taken_back (length old.live) new ≡ old
+pub grown-back : (old new : LiveReferences) → Grows old new → back_to (length old.live) new ≡ old
 grown-back old new g = rw (g.base, g.live, take-front old.live g.more) refl
 
-pub back : {D : Type 0} (old mid new : Seat D) → OnlyGives old mid → new ≡ record mid { session = record mid.session { references = taken_back (length old.session.references.live) mid.session.references } } → new ≡ old
+pub back : {D : Type 0} (old mid new : SessionState D) → OnlyGives old mid → new ≡ record mid { session = record mid.session { references = back_to (length old.session.references.live) mid.session.references } } → new ≡ old
 back old mid new g h = h ∙ rw (g.session, g.debuggee, grown-back old.session.references mid.session.references g.grows) refl
 
 -- ---- what is told
 
-pub told-as : (told : Telling) (s : Session) (body : Option Data) → told ≡ tells_only s body → Tells told body s.references
+pub told-as : (told : QueryResult) (s : Session) (body : Option Data) → told ≡ result_without_references s body → AnswersWith told body s.references
 told-as told s body h = record { names = []; is = h }
 
-pub told-with : (s : Session) (objects : List (Option Target)) (body : List ℕ → Data) (ns : List ℕ) (refs : LiveReferences) → intern_each s.limits objects s.references ≡ Ok (ns, refs) → Tells (tells_with s objects body) (Some (body ns)) refs
-told-with s objects body ns refs h = record { names = named objects; is = rw h refl }
+pub told-with : (s : Session) (objects : List (Option Target)) (body : List ℕ → Data) (ns : List ℕ) (refs : LiveReferences) → intern_each s.limits objects s.references ≡ Ok (ns, refs) → AnswersWith (result_with_references s objects body) (Some (body ns)) refs
+told-with s objects body ns refs h = record { names = targets_named objects; is = rw h refl }
 
-pub fails-with : (s : Session) (objects : List (Option Target)) (body : List ℕ → Data) (f : Failure) → intern_each s.limits objects s.references ≡ Err f → tells_with s objects body ≡ Err f
+pub fails-with : (s : Session) (objects : List (Option Target)) (body : List ℕ → Data) (f : Failure) → intern_each s.limits objects s.references ≡ Err f → result_with_references s objects body ≡ Err f
 fails-with s objects body f h = rw h refl

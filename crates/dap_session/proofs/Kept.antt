@@ -5,13 +5,14 @@ use Rattle.std.proofs.lemmas.Bool.Decides.{nat_tests}
 use Rattle.std.proofs.lemmas.List.{map-append}
 use Rattle.std.proofs.lemmas.List.Elements.{filter-append}
 use Rattle.std.proofs.lemmas.List.Folds.{list_any-append}
-use Rattle.dap_history.specs.History.{Asked, left_open, has_request_seq}
+use Rattle.dap_history.specs.History.{Asked, without_answered, has_request_seq}
 use Rattle.dap_tables.specs.Outstanding.{Kept, contains_seq, without, HasDistinctSeqs}
 use Rattle.dap_tables.specs.declared.entry.Entry.{Entry as Request}
 use Rattle.dap_session.specs.Answering.{answered_by, with_seq, AnswersEach, open_after}
 use Rattle.dap_session.specs.Handling.{answer_each}
-use Rattle.dap_session.specs.Plan.{Answer, Draft, reply, tell}
+use Rattle.dap_session.specs.Plan.{Answer, Draft, reply, emit}
 use Rattle.dap_history.specs.Requests.{asked_of, asks}
+use Rattle.dap_message.specs.AdapterMessages.{AdapterEvent}
 
 same-seq : (a b : ℕ) → (a == b) ≡ false → (b == a) ≡ false
 same-seq a b h = grind (arith, nat_tests)
@@ -44,7 +45,7 @@ none-with seq [] h = refl
 none-with seq (k ∷ kept) h =
     rw (false-left (k.entry.seq == seq) (contains_seq seq kept) h) (none-with seq kept (false-right (k.entry.seq == seq) (contains_seq seq kept) h))
 
-pub all-left : (r : Request) (answer : Answer) (kept : List Kept) → contains_seq r.seq kept ≡ false → left_open (answered_by (reply r answer)) (asks kept) ≡ asks kept
+pub all-left : (r : Request) (answer : Answer) (kept : List Kept) → contains_seq r.seq kept ≡ false → without_answered (answered_by (reply r answer)) (asks kept) ≡ asks kept
 all-left r answer [] h = refl
 all-left r answer (k ∷ kept) h =
     rw (false-left (k.entry.seq == r.seq) (contains_seq r.seq kept) h) (ap (λ (xs : List Asked). asked_of k.entry ∷ xs) (all-left r answer kept (false-right (k.entry.seq == r.seq) (contains_seq r.seq kept) h)))
@@ -82,9 +83,9 @@ with-middle before k after a =
     ∙ (filter-append (λ (q : Asked). q.seq == k.entry.seq) (asks before) (asks (k ∷ after))
     ∙ rw (none-with k.entry.seq before a.not_before, eqb-self k.entry.seq) (ap (λ (xs : List Asked). asked_of k.entry ∷ xs) (none-with k.entry.seq after a.not_after)))
 
-left-middle : (answer : Answer) (before : List Kept) (k : Kept) (after : List Kept) → IsApart before k after → left_open (answered_by (reply k.entry answer)) (asks (before ++ k ∷ after)) ≡ asks (before ++ after)
+left-middle : (answer : Answer) (before : List Kept) (k : Kept) (after : List Kept) → IsApart before k after → without_answered (answered_by (reply k.entry answer)) (asks (before ++ k ∷ after)) ≡ asks (before ++ after)
 left-middle answer before k after a =
-    ap (left_open (answered_by (reply k.entry answer))) (asks-append before (k ∷ after))
+    ap (without_answered (answered_by (reply k.entry answer))) (asks-append before (k ∷ after))
     ∙ (filter-append (λ (q : Asked). not (has_request_seq q.seq (answered_by (reply k.entry answer)))) (asks before) (asks (k ∷ after))
     ∙ (rw (all-left k.entry answer before a.not_before, eqb-self k.entry.seq) (ap (λ (xs : List Asked). asks before ++ xs) (all-left k.entry answer after a.not_after))
     ∙ sym (asks-append before after)))
@@ -105,12 +106,12 @@ walked-none open_requests = record { each = tt; left_is = refl }
 
 each-append : (ds es : List Draft) (open_requests : List Asked) → AnswersEach ds open_requests → AnswersEach es (open_after ds open_requests) → AnswersEach (ds ++ es) open_requests
 each-append [] es open_requests e f = f
-each-append (reply r answer ∷ ds) es open_requests e f = (e.0, each-append ds es (left_open (answered_by (reply r answer)) open_requests) e.1 f)
-each-append (tell event ∷ ds) es open_requests e f = each-append ds es (left_open None open_requests) e f
+each-append (reply r answer ∷ ds) es open_requests e f = (e.0, each-append ds es (without_answered (answered_by (reply r answer)) open_requests) e.1 f)
+each-append (emit event ∷ ds) es open_requests e f = each-append ds es (without_answered None open_requests) e f
 
 after-append : (ds es : List Draft) (open_requests : List Asked) → open_after (ds ++ es) open_requests ≡ open_after es (open_after ds open_requests)
 after-append [] es open_requests = refl
-after-append (d ∷ ds) es open_requests = after-append ds es (left_open (answered_by d) open_requests)
+after-append (d ∷ ds) es open_requests = after-append ds es (without_answered (answered_by d) open_requests)
 
 pub walked-append : (ds es : List Draft) (open_requests mid left : List Asked) → Walked ds open_requests mid → Walked es mid left → Walked (ds ++ es) open_requests left
 walked-append ds es open_requests mid left w v =
@@ -119,12 +120,13 @@ walked-append ds es open_requests mid left w v =
       left_is = after-append ds es open_requests ∙ (ap (open_after es) w.left_is ∙ v.left_is);
     }
 
-all-open : (open_requests : List Asked) → left_open None open_requests ≡ open_requests
+pub all-open : (open_requests : List Asked) → without_answered None open_requests ≡ open_requests
 all-open [] = refl
 all-open (q ∷ qs) = ap (λ (xs : List Asked). q ∷ xs) (all-open qs)
 
-pub walked-tell : (ds : List Draft) (open_requests : List Asked) → ds ≡ [] → Walked ds open_requests open_requests
-walked-tell ds open_requests e = subst (λ (xs : List Draft). Walked xs open_requests open_requests) (sym e) (walked-none open_requests)
+-- an event answers none
+pub walked-event : (event : AdapterEvent) (qs : List Asked) → Walked (emit event ∷ []) qs qs
+walked-event event qs = record { each = tt; left_is = all-open qs }
 
 pub walked-one : (answer : Answer) (before : List Kept) (k : Kept) (after : List Kept) → HasDistinctSeqs (before ++ k ∷ after) → Walked (reply k.entry answer ∷ []) (asks (before ++ k ∷ after)) (asks (before ++ after))
 walked-one answer before k after d =
@@ -168,6 +170,15 @@ kept-here false x o ks k e ih = let more = ih e in record { before = x ∷ more.
 pub kept-found : (p : Kept → Bool) (ks : List Kept) (k : Kept) → find p ks ≡ Some k → IsKept ks k
 kept-found p [] k e = cc
 kept-found p (x ∷ ks) k e = kept-here (p x) x (find p ks) ks k e (kept-found p ks k)
+
+passes-here : (b : Bool) (p : Kept → Bool) (x : Kept) (o : Option Kept) (k : Kept) → p x ≡ b → (if b then Some x else o) ≡ Some k → (o ≡ Some k → p k ≡ true) → p k ≡ true
+passes-here true p x o k h e ih = let same : x ≡ k = cc in subst (λ (y : Kept). p y ≡ true) same h
+passes-here false p x o k h e ih = ih e
+
+-- and it passes the test
+pub found-passes : (p : Kept → Bool) (ks : List Kept) (k : Kept) → find p ks ≡ Some k → p k ≡ true
+found-passes p [] k e = cc
+found-passes p (x ∷ ks) k e = passes-here (p x) p x (find p ks) k refl e (found-passes p ks k)
 
 pub distinct-without : (kept : List Kept) (k : Kept) → HasDistinctSeqs kept → IsKept kept k → HasDistinctSeqs (without k.entry.seq kept)
 distinct-without kept k d i =

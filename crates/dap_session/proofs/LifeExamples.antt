@@ -8,15 +8,15 @@ use Rattle.dap_json.specs.Read.{json_of}
 use Rattle.dap_frame.specs.Settings.{usual_settings, settings}
 use Rattle.dap_message.specs.Call.{initialize_of, thread_of, stack_trace_of, cancel_of}
 use Rattle.dap_message.specs.Canon.{canon, tree_of, response_members, event_members}
-use Rattle.dap_message.specs.Lengths.{succeeded, failed}
+use Rattle.dap_message.specs.AdapterMessages.{success_response, failure_response}
 use Rattle.dap_message.specs.Types.Failure.TheVariants.{NotInitialized, AlreadyInitialized, UnknownCommand, Unsupported, BadArguments, WrongPhase, Debuggee, Cancelled}
 use Rattle.dap_message.specs.Types.Key.TheVariants.{ThreadId, RequestId}
 use Rattle.dap_message.specs.declared.message.Kind.TheVariants.{Response, Event}
 use Rattle.dap_session.specs.declared.fault.AdapterFault.TheVariants.{RepeatedSeq, SeqExhausted, Unmatched, Ended}
 use Rattle.dap_session.specs.declared.phase.Phase.TheVariants.{Configured, Running, Stopped, Exited, Ended as EndedPhase}
-use Rattle.dap_session.specs.Bodies.{telling}
+use Rattle.dap_session.specs.Bodies.{query_result}
 use Rattle.dap_session.specs.Handling.{plan_for}
-use Rattle.dap_session.specs.Polling.{saw}
+use Rattle.dap_session.specs.Polling.{after_happening}
 use Rattle.dap_session.specs.Session.{to_handle}
 use Rattle.dap_session.proofs.Played.{At, Calls, comes, turn, poll, run, fresh_at, request, request_with, texts_of, initialized, written_after}
 
@@ -58,7 +58,7 @@ abbrev after_full : List Calls → ℕ × ℕ
 after_full more = let s = (run (full ++ more) two_kept).session in (length s.kept, to_handle s.kept)
 
 parked_waits_for_no_turn : (after_full [] ≡ (2, 1)) × (after_full (turn ∷ []) ≡ (1, 0))
-unfolding canon tree_of response_members event_members escape_byte digits plan_for telling initialize_of json_of is_utf8 chars serde_json_on_literals
+unfolding canon tree_of response_members event_members escape_byte digits plan_for query_result initialize_of json_of is_utf8 chars serde_json_on_literals
 parked_waits_for_no_turn = (refl, refl)
 
 -- configurationDone is answered first, then the parked launch
@@ -66,11 +66,11 @@ parked_is_answered_last : texts_of (written_after 3 (run (full ++ turn ∷ reque
     ≡ codes "{\"body\":{\"threads\":[]},\"command\":\"threads\",\"request_seq\":3,\"seq\":4,\"success\":true,\"type\":\"response\"}"
     ∷ codes "{\"command\":\"configurationDone\",\"request_seq\":5,\"seq\":5,\"success\":true,\"type\":\"response\"}"
     ∷ codes "{\"command\":\"launch\",\"request_seq\":2,\"seq\":6,\"success\":true,\"type\":\"response\"}" ∷ []
-unfolding canon tree_of response_members event_members escape_byte digits plan_for telling initialize_of json_of is_utf8 chars serde_json_on_literals
+unfolding canon tree_of response_members event_members escape_byte digits plan_for query_result initialize_of json_of is_utf8 chars serde_json_on_literals
 parked_is_answered_last = refl
 
 none_is_kept_then : (run (full ++ turn ∷ request 5 (codes "configurationDone") ∷ turn ∷ []) two_kept).session.kept ≡ []
-unfolding canon tree_of response_members event_members escape_byte digits plan_for telling initialize_of json_of is_utf8 chars serde_json_on_literals
+unfolding canon tree_of response_members event_members escape_byte digits plan_for query_result initialize_of json_of is_utf8 chars serde_json_on_literals
 none_is_kept_then = refl
 
 -- ---- cancel
@@ -87,12 +87,12 @@ cancelled_is_not_kept = refl
 
 -- of the parked launch, of a request that is not kept, of none
 cancel_alone : written_after 2 (run (initialized ++ request 2 (codes "launch") ∷ turn ∷ request_with 3 (codes "cancel") (codes "{\"requestId\":2}") ∷ request_with 4 (codes "cancel") (codes "{\"requestId\":9}") ∷ request 5 (codes "cancel") ∷ []) at_first)
-    ≡ succeeded 3 3 (codes "cancel") None ∷ succeeded 4 4 (codes "cancel") None ∷ succeeded 5 5 (codes "cancel") None ∷ []
+    ≡ success_response 3 3 (codes "cancel") None ∷ success_response 4 4 (codes "cancel") None ∷ success_response 5 5 (codes "cancel") None ∷ []
 unfolding plan_for cancel_of initialize_of json_of is_utf8 chars serde_json_on_literals
 cancel_alone = refl
 
-cancel_refused : (written_after 2 (run (initialized ++ request_with 2 (codes "cancel") (codes "{\"requestId\":\"x\"}") ∷ []) at_first) ≡ failed 3 2 (codes "cancel") (BadArguments RequestId) ∷ [])
-    × ((run (request_with 1 (codes "cancel") (codes "{\"requestId\":\"x\"}") ∷ []) at_first).written ≡ failed 1 1 (codes "cancel") NotInitialized ∷ [])
+cancel_refused : (written_after 2 (run (initialized ++ request_with 2 (codes "cancel") (codes "{\"requestId\":\"x\"}") ∷ []) at_first) ≡ failure_response 3 2 (codes "cancel") (BadArguments RequestId) ∷ [])
+    × ((run (request_with 1 (codes "cancel") (codes "{\"requestId\":\"x\"}") ∷ []) at_first).written ≡ failure_response 1 1 (codes "cancel") NotInitialized ∷ [])
 unfolding plan_for cancel_of initialize_of json_of is_utf8 chars serde_json_on_literals
 cancel_refused = (refl, refl)
 
@@ -102,7 +102,7 @@ abbrev farewell : List Calls
 farewell = initialized ++ request 2 (codes "launch") ∷ turn ∷ request 3 (codes "disconnect") ∷ request 4 (codes "threads") ∷ request 5 (codes "loadedSources") ∷ turn ∷ []
 
 disconnect_answers_all : written_after 2 (run farewell at_first)
-    ≡ failed 3 2 (codes "launch") Cancelled ∷ failed 4 4 (codes "threads") Cancelled ∷ failed 5 5 (codes "loadedSources") Cancelled ∷ succeeded 6 3 (codes "disconnect") None ∷ []
+    ≡ failure_response 3 2 (codes "launch") Cancelled ∷ failure_response 4 4 (codes "threads") Cancelled ∷ failure_response 5 5 (codes "loadedSources") Cancelled ∷ success_response 6 3 (codes "disconnect") None ∷ []
 unfolding plan_for initialize_of json_of is_utf8 chars serde_json_on_literals
 disconnect_answers_all = refl
 
@@ -133,19 +133,19 @@ a_run : texts_of (written_after 2 (run whole_run at_first))
     ∷ codes "{\"body\":{\"allThreadsContinued\":true},\"command\":\"continue\",\"request_seq\":7,\"seq\":11,\"success\":true,\"type\":\"response\"}"
     ∷ codes "{\"body\":{\"exitCode\":0},\"event\":\"exited\",\"seq\":12,\"type\":\"event\"}"
     ∷ codes "{\"event\":\"terminated\",\"seq\":13,\"type\":\"event\"}" ∷ []
-unfolding canon tree_of response_members event_members escape_byte digits plan_for saw initialize_of thread_of stack_trace_of json_of is_utf8 chars serde_json_on_literals
+unfolding canon tree_of response_members event_members escape_byte digits plan_for after_happening initialize_of thread_of stack_trace_of json_of is_utf8 chars serde_json_on_literals
 a_run = refl
 
 terminate : texts_of (written_after 6 (run (stopped_at_first ++ request 4 (codes "terminate") ∷ turn ∷ request 5 (codes "threads") ∷ turn ∷ []) at_first))
     ≡ codes "{\"command\":\"terminate\",\"request_seq\":4,\"seq\":7,\"success\":true,\"type\":\"response\"}"
     ∷ codes "{\"event\":\"terminated\",\"seq\":8,\"type\":\"event\"}"
     ∷ codes "{\"body\":{\"threads\":[]},\"command\":\"threads\",\"request_seq\":5,\"seq\":9,\"success\":true,\"type\":\"response\"}" ∷ []
-unfolding canon tree_of response_members event_members escape_byte digits plan_for telling saw initialize_of json_of is_utf8 chars serde_json_on_literals
+unfolding canon tree_of response_members event_members escape_byte digits plan_for query_result after_happening initialize_of json_of is_utf8 chars serde_json_on_literals
 terminate = refl
 
 phases_of_a_run : ((run stopped_at_first at_first).session.phase ≡ Stopped) × ((run whole_run at_first).session.phase ≡ Exited)
     × ((run (stopped_at_first ++ request 4 (codes "terminate") ∷ turn ∷ []) at_first).session.phase ≡ Exited)
-unfolding plan_for saw initialize_of thread_of stack_trace_of json_of is_utf8 chars serde_json_on_literals
+unfolding plan_for after_happening initialize_of thread_of stack_trace_of json_of is_utf8 chars serde_json_on_literals
 phases_of_a_run = (refl, refl, refl)
 
 -- ---- three own numbers
@@ -156,7 +156,7 @@ three_numbers = fresh_at (settings 8192 4194304 64 65536 4096 3 2147483647) fals
 no_number_left : ((run (initialized ++ request 2 (codes "threads") ∷ turn ∷ request 3 (codes "loadedSources") ∷ turn ∷ []) three_numbers).fault ≡ Some SeqExhausted)
     × (length (run (initialized ++ request 2 (codes "threads") ∷ turn ∷ request 3 (codes "loadedSources") ∷ turn ∷ []) three_numbers).session.kept ≡ 1)
     × (length (run (initialized ++ request 2 (codes "threads") ∷ turn ∷ request 3 (codes "loadedSources") ∷ turn ∷ []) three_numbers).written ≡ 3)
-unfolding canon tree_of response_members event_members escape_byte digits plan_for telling initialize_of json_of is_utf8 chars serde_json_on_literals
+unfolding canon tree_of response_members event_members escape_byte digits plan_for query_result initialize_of json_of is_utf8 chars serde_json_on_literals
 no_number_left = (refl, refl, refl)
 
 -- initialize takes two
@@ -167,7 +167,7 @@ one_number = refl
 -- ---- failures
 
 failures_in_order : written_after 2 (run (initialized ++ request 2 (codes "initialize") ∷ turn ∷ request 3 (codes "foo") ∷ turn ∷ request 4 (codes "restart") ∷ turn ∷ request_with 5 (codes "next") (codes "{}") ∷ turn ∷ request_with 6 (codes "next") (codes "{\"threadId\":1}") ∷ turn ∷ []) at_first)
-    ≡ failed 3 2 (codes "initialize") AlreadyInitialized ∷ failed 4 3 (codes "foo") UnknownCommand ∷ failed 5 4 (codes "restart") Unsupported ∷ failed 6 5 (codes "next") (BadArguments ThreadId) ∷ failed 7 6 (codes "next") WrongPhase ∷ []
+    ≡ failure_response 3 2 (codes "initialize") AlreadyInitialized ∷ failure_response 4 3 (codes "foo") UnknownCommand ∷ failure_response 5 4 (codes "restart") Unsupported ∷ failure_response 6 5 (codes "next") (BadArguments ThreadId) ∷ failure_response 7 6 (codes "next") WrongPhase ∷ []
 unfolding plan_for initialize_of thread_of json_of is_utf8 chars serde_json_on_literals
 failures_in_order = refl
 
@@ -175,9 +175,9 @@ failures_in_order = refl
 abbrev refused_once : List Calls
 refused_once = initialized ++ request 2 (codes "configurationDone") ∷ turn ∷ request 3 (codes "launch") ∷ turn ∷ []
 
-a_second_start : (written_after 2 (run refused_once (fresh_at usual_settings true)) ≡ succeeded 3 2 (codes "configurationDone") None ∷ failed 4 3 (codes "launch") Debuggee ∷ [])
+a_second_start : (written_after 2 (run refused_once (fresh_at usual_settings true)) ≡ success_response 3 2 (codes "configurationDone") None ∷ failure_response 4 3 (codes "launch") Debuggee ∷ [])
     × ((run refused_once (fresh_at usual_settings true)).session.phase ≡ Configured)
-    × (written_after 4 (run (refused_once ++ request 4 (codes "launch") ∷ turn ∷ []) (fresh_at usual_settings true)) ≡ succeeded 5 4 (codes "launch") None ∷ [])
+    × (written_after 4 (run (refused_once ++ request 4 (codes "launch") ∷ turn ∷ []) (fresh_at usual_settings true)) ≡ success_response 5 4 (codes "launch") None ∷ [])
     × ((run (refused_once ++ request 4 (codes "launch") ∷ turn ∷ []) (fresh_at usual_settings true)).session.phase ≡ Running)
 unfolding plan_for initialize_of json_of is_utf8 chars serde_json_on_literals
 a_second_start = (refl, refl, refl, refl)

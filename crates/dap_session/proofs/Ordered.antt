@@ -2,7 +2,7 @@
 use Rattle.std.proofs.Common.{◌≡◌, ◌&&◌, not, Bool, true, false, cond, [], ◌∷◌, Option, Some, None, Ok, Err, refl, ap}
 use Rattle.std.specs.Prelude.{find}
 use Rattle.dap_message.specs.Argument.{Read}
-use Rattle.dap_message.specs.Failure.{in_order}
+use Rattle.dap_message.specs.Failure.{failures_in_order}
 use Rattle.dap_message.specs.Types.Call.{Call}
 use Rattle.dap_message.specs.Types.Command.{Command}
 use Rattle.dap_message.specs.Types.Failure.{Failure}
@@ -11,17 +11,17 @@ use Rattle.dap_message.specs.Types.Key.{Key}
 use Rattle.dap_tables.specs.declared.entry.Entry.{Entry}
 use Rattle.dap_debuggee.specs.Shown.{Shown}
 use Rattle.dap_session.specs.declared.phase.Phase.TheVariants.{Fresh}
-use Rattle.dap_session.specs.Failures.{command_of, call_in, is_early, is_initialize, waits_for_stop, lacks_thread, thread_named, lacks_reference, reference_named, lacks_source, source_named, when, first, name_refused, key_refused, phase_refused, read_refused, known_refused}
+use Rattle.dap_session.specs.Failures.{command_of, call_in, is_early, is_initialize, waits_for_stop, lacks_thread, thread_named, lacks_reference, reference_named, lacks_source, source_named, when, first_failure, name_refused, key_refused, phase_refused, read_refused, known_refused}
 use Rattle.dap_session.specs.OrderLaws.{fails, RefusalsComeInOrder}
 use Rattle.dap_session.specs.Session.{Session}
 use Rattle.dap_session.specs.Table.{is_phase, is_served, is_never_served}
 
-unknown : (b : Bool) → first (first (when b NotInitialized ∷ None ∷ Some UnknownCommand ∷ None ∷ []) ∷ None ∷ []) ≡ cond b (Some NotInitialized) (Some UnknownCommand)
+unknown : (b : Bool) → first_failure (first_failure (when b NotInitialized ∷ None ∷ Some UnknownCommand ∷ None ∷ []) ∷ None ∷ []) ≡ cond b (Some NotInitialized) (Some UnknownCommand)
 unknown true = refl
 unknown false = refl
 
 badly : (b c d : Bool) (bad key : Key) (later : Option Failure) → bad ≡ key
-    → first (first (when b NotInitialized ∷ when c AlreadyInitialized ∷ None ∷ when d Unsupported ∷ []) ∷ first (Some (BadArguments bad) ∷ later ∷ None ∷ []) ∷ [])
+    → first_failure (first_failure (when b NotInitialized ∷ when c AlreadyInitialized ∷ None ∷ when d Unsupported ∷ []) ∷ first_failure (Some (BadArguments bad) ∷ later ∷ None ∷ []) ∷ [])
     ≡ cond b (Some NotInitialized) (cond c (Some AlreadyInitialized) (cond d (Some Unsupported) (Some (BadArguments key))))
 badly true c d bad key later is = refl
 badly false true d bad key later is = refl
@@ -29,7 +29,7 @@ badly false false true bad key later is = refl
 badly false false false bad key later is = ap (λ k. Some (BadArguments k)) is
 
 well : (b c d e f g h i : Bool)
-    → first (first (when b NotInitialized ∷ when c AlreadyInitialized ∷ None ∷ when d Unsupported ∷ []) ∷ first (None ∷ first (when e WrongPhase ∷ when f NotStopped ∷ []) ∷ first (when g UnknownThread ∷ when h StaleReference ∷ when i UnknownSource ∷ []) ∷ []) ∷ [])
+    → first_failure (first_failure (when b NotInitialized ∷ when c AlreadyInitialized ∷ None ∷ when d Unsupported ∷ []) ∷ first_failure (None ∷ first_failure (when e WrongPhase ∷ when f NotStopped ∷ []) ∷ first_failure (when g UnknownThread ∷ when h StaleReference ∷ when i UnknownSource ∷ []) ∷ []) ∷ [])
     ≡ cond b (Some NotInitialized) (cond c (Some AlreadyInitialized) (cond d (Some Unsupported) (cond e (Some WrongPhase) (cond f (Some NotStopped) (cond g (Some UnknownThread) (cond h (Some StaleReference) (cond i (Some UnknownSource) None)))))))
 well true c d e f g h i = refl
 well false true d e f g h i = refl
@@ -42,7 +42,7 @@ well false false false false false false false true = refl
 well false false false false false false false false = refl
 
 by-read : (view : Shown) (s : Session) (key : Key) (c : Command) (read : Read Call) → ((bad : Key) → read ≡ Err bad → bad ≡ key)
-    → first (name_refused s.phase (Some c) ∷ first (key_refused read ∷ phase_refused s.phase c ∷ read_refused view s.references read ∷ []) ∷ []) ≡ find (fails view s (Some c) (λ _. read)) (in_order key)
+    → first_failure (name_refused s.phase (Some c) ∷ first_failure (key_refused read ∷ phase_refused s.phase c ∷ read_refused view s.references read ∷ []) ∷ []) ≡ find (fails view s (Some c) (λ _. read)) (failures_in_order key)
 by-read view s key c (Err bad) same = badly (is_phase Fresh s.phase && not (is_early c)) (is_initialize c && not (is_phase Fresh s.phase)) (is_never_served c) bad key (phase_refused s.phase c) (same bad refl)
 by-read view s key c (Ok asked) same =
     well (is_phase Fresh s.phase && not (is_early c)) (is_initialize c && not (is_phase Fresh s.phase)) (is_never_served c)
@@ -50,7 +50,7 @@ by-read view s key c (Ok asked) same =
     (lacks_thread view (thread_named asked)) (lacks_reference s.references (reference_named asked)) (lacks_source view (source_named asked))
 
 by-command : (view : Shown) (s : Session) (r : Entry) (key : Key) (o : Option Command) → ((c : Command) (bad : Key) → o ≡ Some c → call_in r c ≡ Err bad → bad ≡ key)
-    → first (name_refused s.phase o ∷ known_refused view s r o ∷ []) ≡ find (fails view s o (call_in r)) (in_order key)
+    → first_failure (name_refused s.phase o ∷ known_refused view s r o ∷ []) ≡ find (fails view s o (call_in r)) (failures_in_order key)
 by-command view s r key None same = unknown (is_phase Fresh s.phase && true)
 by-command view s r key (Some c) same = by-read view s key c (call_in r c) (λ bad is. same c bad refl is)
 

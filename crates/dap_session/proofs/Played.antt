@@ -6,12 +6,12 @@ use Rattle.dap_message.specs.Canon.{canon}
 use Rattle.dap_message.specs.declared.message.Message.{Message}
 use Rattle.dap_message.specs.declared.message.Kind.TheVariants.{Request}
 use Rattle.dap_debuggee.specs.Shown.{Shown, Act, to_start, Reply, refused}
-use Rattle.dap_debuggee.specs.Played.{Played, unplayed, act_on, asked, shown_of}
+use Rattle.dap_debuggee.specs.Played.{Played, fresh_played, act_on, with_ask, shown_of}
 use Rattle.dap_debuggee.specs.declared.recording.Recording.{Recording}
 use Rattle.dap_session.specs.declared.fault.AdapterFault.{AdapterFault}
 use Rattle.dap_session.specs.declared.fault.AdapterFault.TheVariants.{SeqExhausted}
 use Rattle.dap_session.specs.Handling.{turns}
-use Rattle.dap_session.specs.Plan.{Made, Plan, at_once, asking, numbered}
+use Rattle.dap_session.specs.Plan.{Made, Plan, at_once, asking, numbered_messages}
 use Rattle.dap_session.specs.Polling.{polls}
 use Rattle.dap_session.specs.Session.{Session, fresh_session}
 use Rattle.dap_session.specs.Taking.{takes}
@@ -45,10 +45,10 @@ abbrev pub view_of : Stubborn → Shown
 view_of v = shown_of v.inner
 
 abbrev pub plays : Act → Stubborn → Reply × Stubborn
-plays a v = ((act_on a v.inner).0, record { refuses = v.refuses; inner = asked a (act_on a v.inner).0 (act_on a v.inner).1 })
+plays a v = ((act_on a v.inner).0, record { refuses = v.refuses; inner = with_ask a (act_on a v.inner).0 (act_on a v.inner).1 })
 
 abbrev pub replies_in : Bool → Act → Stubborn → Reply × Stubborn
-replies_in true to_start v = (refused, record { refuses = false; inner = asked to_start refused v.inner })
+replies_in true to_start v = (refused, record { refuses = false; inner = with_ask to_start refused v.inner })
 replies_in true a v = plays a v
 replies_in false a v = plays a v
 
@@ -70,7 +70,7 @@ pub data Calls : Type 0 where
   poll : Calls
 
 abbrev pub written_by : Made → Stubborn → At → At
-written_by m v at = record { session = m.after; view = v; written = at.written ++ numbered at.session.used m.drafts; fault = None }
+written_by m v at = record { session = m.after; view = v; written = at.written ++ numbered_messages at.session.used m.drafts; fault = None }
 
 -- unless there are more messages than own numbers left
 abbrev pub within : Made → Stubborn → At → At
@@ -109,7 +109,7 @@ run (c ∷ cs) at = run cs (unless_closed at.fault (called c at) at)
 -- ---- what is asked of a run
 
 abbrev pub fresh_at : Settings → Bool → At
-fresh_at limits refuses = record { session = fresh_session limits; view = record { refuses = refuses; inner = unplayed recording_a }; written = []; fault = None }
+fresh_at limits refuses = record { session = fresh_session limits; view = record { refuses = refuses; inner = fresh_played recording_a }; written = []; fault = None }
 
 abbrev pub request : ℕ → List ℕ → Calls
 request seq command = comes (record { seq = seq; kind = Request command None })

@@ -1,12 +1,12 @@
 -- A poll where there is no debuggee to ask.
 use Rattle.std.proofs.Common.{◌≡◌, ℕ, List, [], false, refl, sym, subst}
 use Rattle.dap_session.specs.Carried.{Goes}
-use Rattle.dap_session.specs.Plan.{Plan, at_once, nothing}
+use Rattle.dap_session.specs.Plan.{Plan, at_once, no_change}
 use Rattle.dap_session.specs.Polling.{polls, has_debuggee}
-use Rattle.dap_session.specs.Seat.{Seat, Carries}
+use Rattle.dap_session.specs.SessionState.{SessionState, Carries}
 
 -- where there is no debuggee to ask
-pub polls-none : {D : Type 0} (follows : Goes D) (old : Seat D) (bytes : List ℕ) → has_debuggee old.session.phase ≡ false → bytes ≡ [] → Carries follows (polls old.session) old old bytes
+pub polls-none : {D : Type 0} (follows : Goes D) (old : SessionState D) (bytes : List ℕ) → has_debuggee old.session.phase ≡ false → bytes ≡ [] → Carries follows (polls old.session) old old bytes
 polls-none follows old bytes h b =
-    let e : polls old.session ≡ at_once (nothing old.session) = rw h refl in
-    subst (λ (p : Plan). Carries follows p old old bytes) (sym e) (record { made = nothing old.session; carried = (refl, refl); by = record { session = refl; bytes_are = b; reads_back = λ _. tt } })
+    let e : polls old.session ≡ at_once (no_change old.session) = rw h refl in
+    subst (λ (p : Plan). Carries follows p old old bytes) (sym e) (record { made = no_change old.session; carried = (refl, refl); by = record { session = refl; bytes_are = b; reads_back = λ _. tt } })

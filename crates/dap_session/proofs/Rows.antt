@@ -1,100 +1,51 @@
--- Each row of the table goes well.
-use Rattle.std.proofs.Common.{◌≡◌, ℕ, ◌+◌, List, [], ◌∷◌, ◌++◌, Bool, true, false, Option, Some, None, Result, Ok, Err, length, refl, sym, ap, ◌∙◌, subst, arith, length-append, filter}
-use Rattle.std.specs.Prelude.{◌==◌, not, if◌then◌else◌, nat_lt, is_some}
+-- Each row of the table, and what its parts are shown by: a new effect is one row more of `plan_for-row`, by its outcome.
+use Rattle.std.proofs.Common.{◌≡◌, ℕ, ◌+◌, ◌<◌, ◌≤◌, List, [], ◌∷◌, ◌++◌, Bool, true, false, Option, Some, None, Result, Ok, Err, length, refl, sym, ap, ◌∙◌, subst, arith, length-append, filter, map}
+use Rattle.std.specs.Prelude.{◌==◌, not, if◌then◌else◌, nat_lt}
 use Rattle.std.proofs.lemmas.List.Elements.{filter-append}
-use Rattle.std.proofs.lemmas.List.{append-nil}
+use Rattle.std.proofs.lemmas.List.{append-nil, length-map}
 use Rattle.serde_json.specs.Data.{Data}
-use Rattle.dap_history.specs.History.{Asked, left_open}
-use Rattle.dap_tables.specs.declared.target.Target.{Target}
-use Rattle.dap_message.specs.Types.Call.{Call}
-use Rattle.dap_message.specs.Types.Failure.{Failure}
-use Rattle.dap_message.specs.Types.Failure.TheVariants.{Cancelled, TooLarge, Debuggee, TooManyReferences, ReferencesExhausted}
-use Rattle.dap_message.specs.Lengths.{AdapterEvent, initialized, terminated}
-use Rattle.dap_tables.specs.Outstanding.{Kept, contains_seq, without, with_mark, marked, HasDistinctSeqs}
-use Rattle.dap_tables.specs.declared.entry.Entry.{Entry as Request}
-use Rattle.dap_debuggee.specs.Shown.{Reply, done, refused, happened}
-use Rattle.dap_debuggee.specs.declared.answers.How.{How}
-use Rattle.dap_session.specs.Answering.{GoesWell}
-use Rattle.dap_session.specs.Bodies.{Told, Telling}
-use Rattle.dap_session.specs.Handling.{begun, parked, started, configured, started_parked, left, finished, resumed, told, fits, by_reply, answer_each, resume_body}
-use Rattle.dap_session.specs.Plan.{Answer, success, failure, plain_success, Draft, reply, tell, names_in, outs, Made, nothing, answered, entries_of}
 use Rattle.dap_frame.specs.Settings.{Settings}
-use Rattle.dap_session.specs.References.{references_after, intern, intern_each, named, and_then, onto_first, with_targets}
-use Rattle.dap_tables.specs.References.{LiveReferences, cleared, numbered_at, place_of}
-use Rattle.dap_session.specs.Session.{Session}
+use Rattle.dap_history.specs.History.{Asked}
 use Rattle.dap_history.specs.Requests.{asked_of, asks}
-use Rattle.dap_tables.specs.Outstanding.{parked_ones, unparked_ones}
-use Rattle.dap_session.proofs.Kept.{Walked, walked-none, walked-append, walked-each, walked-kept, walked-one, rejected, IsKept, distinct-without, apart, eqb-self, false-left, false-right}
+use Rattle.dap_message.specs.AdapterMessages.{AdapterEvent, initialized, terminated}
+use Rattle.dap_message.specs.ResponseBody.{set_breakpoints_body}
+use Rattle.dap_message.specs.Types.Call.{Call}
+use Rattle.dap_message.specs.Types.Call.TheVariants as call
+use Rattle.dap_message.specs.Types.Failure.{Failure}
+use Rattle.dap_message.specs.Types.Failure.TheVariants.{Cancelled, TooLarge, Debuggee, TooManyBreakpoints}
+use Rattle.dap_message.specs.Types.SourceKey.{SourceKey}
+use Rattle.dap_tables.specs.Breakpoints.{SetBreakpoints, count_with, breakpoints_with, max_id}
+use Rattle.dap_tables.specs.Outstanding.{Kept, contains_seq, without, with_mark, kept_with_mark, parked_ones, unparked_ones, HasDistinctSeqs}
+use Rattle.dap_tables.specs.References.{LiveReferences}
+use Rattle.dap_tables.proofs.SetLemmas.{count-breakpoints_with}
+use Rattle.dap_debuggee.specs.Shown.{Shown, Reply, done, refused, happened}
+use Rattle.dap_debuggee.specs.declared.answers.How.{How}
+use Rattle.dap_session.specs.declared.effect.Effect.{Effect}
+use Rattle.dap_session.specs.declared.effect.Effect.TheVariants as effect
+use Rattle.dap_session.specs.declared.options.Options.{Options}
+use Rattle.dap_session.specs.Bodies.{QueryAnswer, QueryResult, query_result}
+use Rattle.dap_session.specs.Breakpoints.{are_too_many}
+use Rattle.dap_session.specs.Handling.{after_initialize, after_park, after_launch, after_configuration_done, after_parked_launch, after_disconnect, after_terminate, after_resume, resume_body, after_query, fits, by_reply, answer_each, answers_to, lines_asked, breakpoints_set, breakpoints_answered, breakpoints_verified, plan_for}
+use Rattle.dap_session.specs.Plan.{Answer, success, failure, plain_success, Draft, reply, emit, names_in, Made, Plan, at_once, asking, after_answering}
+use Rattle.dap_session.specs.Session.{Session, to_handle}
+use Rattle.dap_session.specs.PrivateSetting.{Suits}
+use Rattle.dap_session.proofs.Fewer.{IsHandled, fewer-handled, fewer-park, fewer-unparked, fewer-none}
+use Rattle.dap_session.proofs.Interned.{le-not}
+use Rattle.dap_session.proofs.Kept.{Walked, walked-none, walked-event, walked-append, walked-each, walked-kept, walked-one, rejected, IsKept, distinct-without, apart, eqb-self, false-left, false-right}
+use Rattle.dap_session.proofs.Moves.{StandFew, moves-grown, moves-set, is-plain}
+use Rattle.dap_session.proofs.Outcomes.{IsOutcome, replied, plain-reply, plain-outcome, after_answering-outcome, each-names-none, append-names-none, is_refused, AreClean, each-clean, append-clean, IsRow, once-row, failed-row, asking-row, either-row}
+use Rattle.dap_session.proofs.QueryResults.{TellsWell, query_result-well}
 
 -- ---- forms
-
--- the drafts walk the kept requests, and nothing came
-pub walked-well : (s : Session) (m : Made) → m.after.limits ≡ s.limits → Walked m.drafts (asks s.kept) (asks m.after.kept) → m.after.used ≡ s.used + length m.drafts → m.after.references ≡ references_after s.references (entries_of s.used m) → GoesWell s [] m
-walked-well s m l w u r =
-    let same : asks s.kept ++ [] ≡ asks s.kept = append-nil (asks s.kept) in
-    let moved : Walked m.drafts (asks s.kept ++ []) (asks m.after.kept) = subst (λ (qs : List Asked). Walked m.drafts qs (asks m.after.kept)) (sym same) w in
-    record { each = moved.each; kept = sym moved.left_is; used = u; references = r; limits = l }
-
-all-open : (qs : List Asked) → left_open None qs ≡ qs
-all-open [] = refl
-all-open (q ∷ qs) = ap (λ (xs : List Asked). q ∷ xs) (all-open qs)
-
-pub walked-told : (event : AdapterEvent) (qs : List Asked) → Walked (tell event ∷ []) qs qs
-walked-told event qs = record { each = tt; left_is = all-open qs }
-
--- answers without references
-pub references-each : (refs : LiveReferences) (used : ℕ) (answer : Answer) (ks : List Kept) → names_in answer ≡ [] → references_after refs (outs used (answer_each answer ks)) ≡ refs
-references-each refs used answer [] e = refl
-references-each refs used answer (k ∷ ks) e = rw e (references-each refs (used + 1) answer ks e)
-
-pub references-more : (refs : LiveReferences) (used : ℕ) (ds es : List Draft) → references_after refs (outs used (ds ++ es)) ≡ references_after (references_after refs (outs used ds)) (outs (used + length ds) es)
-references-more refs used [] es = let e : used + 0 ≡ used = omega arith in rw e refl
-references-more refs used (d ∷ ds) es = let e : used + length (d ∷ ds) ≡ (used + 1) + length ds = omega arith in rw (references-more (references_after refs (outs used (d ∷ []))) (used + 1) ds es, e) refl
 
 pub length-each : (answer : Answer) (ks : List Kept) → length (answer_each answer ks) ≡ length ks
 length-each answer [] = refl
 length-each answer (k ∷ ks) = let ih = length-each answer ks in omega arith
 
--- ---- the rows
-
-pub nothing-well : (s : Session) → GoesWell s [] (nothing s)
-nothing-well s = walked-well s (nothing s) refl (walked-none (asks s.kept)) (omega arith) refl
-
--- one request is answered, without references
-pub answered-well : (s : Session) (k : Kept) (answer : Answer) → names_in answer ≡ [] → HasDistinctSeqs s.kept → IsKept s.kept k → GoesWell s [] (answered k.entry answer s)
-answered-well s k answer e d i = walked-well s (answered k.entry answer s) refl (walked-kept answer s.kept k d i) refl (rw e refl)
-
 -- with an event after it
-replied-and-told : (kept : List Kept) (k : Kept) (answer : Answer) (event : AdapterEvent) → HasDistinctSeqs kept → IsKept kept k → Walked (reply k.entry answer ∷ tell event ∷ []) (asks kept) (asks (without k.entry.seq kept))
-replied-and-told kept k answer event d i =
-    walked-append (reply k.entry answer ∷ []) (tell event ∷ []) (asks kept) (asks (without k.entry.seq kept)) (asks (without k.entry.seq kept)) (walked-kept answer kept k d i) (walked-told event (asks (without k.entry.seq kept)))
-
-pub begun-well : (s : Session) (k : Kept) (asked : Call) → HasDistinctSeqs s.kept → IsKept s.kept k → GoesWell s [] (begun s k.entry asked)
-begun-well s k asked d i = walked-well s (begun s k.entry asked) refl (replied-and-told s.kept k (success (Some _) []) initialized d i) refl refl
-
-asked-marked : (b : Bool) (mark : Bool) (k : Kept) → asked_of (if b then marked mark k else k).entry ≡ asked_of k.entry
-asked-marked true mark k = refl
-asked-marked false mark k = refl
-
-asks-marked : (seq : ℕ) (mark : Bool) (kept : List Kept) → asks (with_mark seq mark kept) ≡ asks kept
-asks-marked seq mark [] = refl
-asks-marked seq mark (k ∷ kept) = rw (asked-marked (k.entry.seq == seq) mark k) (ap (λ (xs : List Asked). asked_of k.entry ∷ xs) (asks-marked seq mark kept))
-
-pub parked-well : (s : Session) (r : Request) → GoesWell s [] (parked s r)
-parked-well s r =
-    walked-well s (parked s r) refl (subst (λ (qs : List Asked). Walked [] (asks s.kept) qs) (sym (asks-marked r.seq true s.kept)) (walked-none (asks s.kept))) (omega arith) refl
-
-pub names-by_reply : (body : Option Data) (last : Reply) → names_in (by_reply body last) ≡ []
-names-by_reply body done = refl
-names-by_reply body refused = refl
-names-by_reply body (happened h) = refl
-
-pub started-well : (s : Session) (k : Kept) (last : Reply) → HasDistinctSeqs s.kept → IsKept s.kept k → GoesWell s [] (started s k.entry last)
-started-well s k last d i =
-    walked-well s (started s k.entry last) refl (walked-kept (by_reply None last) s.kept k d i) refl (rw (names-by_reply None last) refl)
-
-pub configured-well : (s : Session) (k : Kept) → HasDistinctSeqs s.kept → IsKept s.kept k → GoesWell s [] (configured s k.entry)
-configured-well s k d i = walked-well s (configured s k.entry) refl (walked-kept plain_success s.kept k d i) refl refl
+replied-and-after_query : (kept : List Kept) (k : Kept) (answer : Answer) (event : AdapterEvent) → HasDistinctSeqs kept → IsKept kept k → Walked (reply k.entry answer ∷ emit event ∷ []) (asks kept) (asks (without k.entry.seq kept))
+replied-and-after_query kept k answer event d i =
+    walked-append (reply k.entry answer ∷ []) (emit event ∷ []) (asks kept) (asks (without k.entry.seq kept)) (asks (without k.entry.seq kept)) (walked-kept answer kept k d i) (walked-event event (asks (without k.entry.seq kept)))
 
 -- the same answer to all that pass a test
 walked-all : (p : Kept → Bool) (answer : Answer) (ks : List Kept) → HasDistinctSeqs ks → Walked (answer_each answer (filter p ks)) (asks ks) (asks (rejected p ks))
@@ -103,18 +54,63 @@ walked-all p answer ks d =
     let here = subst (λ (xs : List Kept). Walked (answer_each answer (filter p ks)) (asks xs) (asks (rejected p ks ++ []))) (append-nil ks) told in
     subst (λ (xs : List Kept). Walked (answer_each answer (filter p ks)) (asks ks) (asks xs)) (append-nil (rejected p ks)) here
 
-pub started_parked-well : (s : Session) (k : Kept) (last : Reply) → HasDistinctSeqs s.kept → IsKept s.kept k → GoesWell s [] (started_parked s k.entry last)
-started_parked-well s k last d i =
-    let others = without k.entry.seq s.kept in
-    let first = walked-kept plain_success s.kept k d i in
-    let rest = walked-all (λ (x : Kept). x.parked) (by_reply None last) others (distinct-without s.kept k d i) in
-    let count = length-each (by_reply None last) (parked_ones others) in
-    walked-well s (started_parked s k.entry last) refl
-    (walked-append (reply k.entry plain_success ∷ []) (answer_each (by_reply None last) (parked_ones others)) (asks s.kept) (asks others) (asks (unparked_ones others)) first rest)
-    (omega arith)
-    (sym (references-each s.references (s.used + 1) (by_reply None last) (parked_ones others) (names-by_reply None last)))
+-- ---- initialize
 
--- ---- disconnect
+after_initialize-outcome : (s : Session) (k : Kept) (asked : Call) → IsHandled s k → IsOutcome s 2 (after_initialize s k.entry asked)
+after_initialize-outcome s k asked i =
+    plain-outcome s 2 (after_initialize s k.entry asked) (is-plain s _ refl refl refl) (refl, (refl, tt)) refl refl (λ (d : HasDistinctSeqs s.kept). replied-and-after_query s.kept k (success (Some _) []) initialized d i.kept) (λ (d : HasDistinctSeqs s.kept). fewer-handled s k d i)
+
+-- ---- launch, attach and configurationDone
+
+asked-kept_with_mark : (b : Bool) (mark : Bool) (k : Kept) → asked_of (if b then kept_with_mark mark k else k).entry ≡ asked_of k.entry
+asked-kept_with_mark true mark k = refl
+asked-kept_with_mark false mark k = refl
+
+asks-kept_with_mark : (seq : ℕ) (mark : Bool) (kept : List Kept) → asks (with_mark seq mark kept) ≡ asks kept
+asks-kept_with_mark seq mark [] = refl
+asks-kept_with_mark seq mark (k ∷ kept) = rw (asked-kept_with_mark (k.entry.seq == seq) mark k) (ap (λ (xs : List Asked). asked_of k.entry ∷ xs) (asks-kept_with_mark seq mark kept))
+
+after_park-outcome : (s : Session) (k : Kept) → IsHandled s k → IsOutcome s 0 (after_park s k.entry)
+after_park-outcome s k i =
+    plain-outcome s 0 (after_park s k.entry) (is-plain s _ refl refl refl) tt (omega arith) refl
+    (λ (d : HasDistinctSeqs s.kept). subst (λ (qs : List Asked). Walked [] (asks s.kept) qs) (sym (asks-kept_with_mark k.entry.seq true s.kept)) (walked-none (asks s.kept)))
+    (λ (d : HasDistinctSeqs s.kept). fewer-park s k d i)
+
+pub names-by_reply : (body : Option Data) (last : Reply) → names_in (by_reply body last) ≡ []
+names-by_reply body done = refl
+names-by_reply body refused = refl
+names-by_reply body (happened h) = refl
+
+reply-clean : (body : Option Data) (last : Reply) → is_refused (by_reply body last) ≡ false
+reply-clean body done = refl
+reply-clean body refused = refl
+reply-clean body (happened h) = refl
+
+one-clean : (k : Kept) (answer : Answer) → is_refused answer ≡ false → AreClean (reply k.entry answer ∷ [])
+one-clean k answer h = rw h refl
+
+after_launch-outcome : (s : Session) (k : Kept) → IsHandled s k → (last : Reply) → IsOutcome s 1 (after_launch s k.entry last)
+after_launch-outcome s k i last = plain-reply s k (by_reply None last) (after_launch s k.entry last) i (names-by_reply None last) refl refl refl (is-plain s _ refl refl refl)
+
+after_configuration_done-outcome : (s : Session) (k : Kept) → IsHandled s k → IsOutcome s 1 (after_configuration_done s k.entry)
+after_configuration_done-outcome s k i = plain-reply s k plain_success (after_configuration_done s k.entry) i refl refl refl refl (is-plain s _ refl refl refl)
+
+after_parked_launch-walked : (s : Session) (k : Kept) (last : Reply) → IsHandled s k → HasDistinctSeqs s.kept → Walked (after_parked_launch s k.entry last).drafts (asks s.kept) (asks (unparked_ones (without k.entry.seq s.kept)))
+after_parked_launch-walked s k last i d =
+    let others = without k.entry.seq s.kept in
+    let first = walked-kept plain_success s.kept k d i.kept in
+    let rest = walked-all (λ (x : Kept). x.parked) (by_reply None last) others (distinct-without s.kept k d i.kept) in
+    walked-append (reply k.entry plain_success ∷ []) (answer_each (by_reply None last) (parked_ones others)) (asks s.kept) (asks others) (asks (unparked_ones others)) first rest
+
+after_parked_launch-outcome : (s : Session) (k : Kept) → IsHandled s k → (last : Reply) → IsOutcome s (length (parked_ones (without k.entry.seq s.kept)) + 1) (after_parked_launch s k.entry last)
+after_parked_launch-outcome s k i last =
+    let others = parked_ones (without k.entry.seq s.kept) in
+    let count = length-each (by_reply None last) others in
+    plain-outcome s (length others + 1) (after_parked_launch s k.entry last) (is-plain s _ refl refl refl) (refl, each-names-none (by_reply None last) others (names-by_reply None last)) (omega arith) (omega arith)
+    (λ (d : HasDistinctSeqs s.kept). after_parked_launch-walked s k last i d)
+    (λ (d : HasDistinctSeqs s.kept). fewer-unparked s k d i)
+
+-- ---- disconnect and terminate
 
 kept-twice : (b : Bool) → not (not b) ≡ b
 kept-twice true = refl
@@ -133,72 +129,107 @@ only-middle before k after d =
 only-itself : (kept : List Kept) (k : Kept) → HasDistinctSeqs kept → IsKept kept k → rejected (λ x. not (x.entry.seq == k.entry.seq)) kept ≡ k ∷ []
 only-itself kept k d i = rw i.split (only-middle i.before k i.after (subst (λ (xs : List Kept). HasDistinctSeqs xs) i.split d))
 
-pub left-well : (s : Session) (k : Kept) → HasDistinctSeqs s.kept → IsKept s.kept k → GoesWell s [] (left s k.entry)
-left-well s k d i =
+after_disconnect-walked : (s : Session) (k : Kept) → IsHandled s k → HasDistinctSeqs s.kept → Walked (after_disconnect s k.entry).drafts (asks s.kept) []
+after_disconnect-walked s k i d =
     let others = without k.entry.seq s.kept in
     let first = walked-all (λ (x : Kept). not (x.entry.seq == k.entry.seq)) (failure Cancelled) s.kept d in
-    let mid : Walked (answer_each (failure Cancelled) others) (asks s.kept) (asks (k ∷ [])) = subst (λ (xs : List Kept). Walked (answer_each (failure Cancelled) others) (asks s.kept) (asks xs)) (only-itself s.kept k d i) first in
+    let mid : Walked (answer_each (failure Cancelled) others) (asks s.kept) (asks (k ∷ [])) = subst (λ (xs : List Kept). Walked (answer_each (failure Cancelled) others) (asks s.kept) (asks xs)) (only-itself s.kept k d i.kept) first in
     let last : Walked (reply k.entry plain_success ∷ []) (asks (k ∷ [])) [] = walked-one plain_success [] k [] (refl, tt) in
+    walked-append (answer_each (failure Cancelled) others) (reply k.entry plain_success ∷ []) (asks s.kept) (asks (k ∷ [])) [] mid last
+
+after_disconnect-outcome : (s : Session) (k : Kept) → IsHandled s k → IsOutcome s (length (without k.entry.seq s.kept) + 1) (after_disconnect s k.entry)
+after_disconnect-outcome s k i =
+    let others = without k.entry.seq s.kept in
     let count = length-each (failure Cancelled) others in
     let all = length-append (answer_each (failure Cancelled) others) (reply k.entry plain_success ∷ []) in
-    walked-well s (left s k.entry) refl
-    (walked-append (answer_each (failure Cancelled) others) (reply k.entry plain_success ∷ []) (asks s.kept) (asks (k ∷ [])) [] mid last)
-    (omega arith)
-    (sym (references-more (cleared s.references) s.used (answer_each (failure Cancelled) others) (reply k.entry plain_success ∷ [])
-    ∙ ap (λ (refs : LiveReferences). references_after refs (outs (s.used + length (answer_each (failure Cancelled) others)) (reply k.entry plain_success ∷ []))) (references-each (cleared s.references) s.used (failure Cancelled) others refl)))
+    plain-outcome s (length others + 1) (after_disconnect s k.entry) (is-plain s _ refl refl refl) (append-names-none (answer_each (failure Cancelled) others) (reply k.entry plain_success ∷ []) (each-names-none (failure Cancelled) others refl) (refl, tt)) (omega arith) (omega arith)
+    (λ (d : HasDistinctSeqs s.kept). after_disconnect-walked s k i d)
+    (λ (d : HasDistinctSeqs s.kept). fewer-none s k d i)
 
-pub finished-well : (s : Session) (k : Kept) → HasDistinctSeqs s.kept → IsKept s.kept k → GoesWell s [] (finished s k.entry)
-finished-well s k d i = walked-well s (finished s k.entry) refl (replied-and-told s.kept k plain_success terminated d i) refl refl
+after_disconnect-clean : (s : Session) (k : Kept) → AreClean (after_disconnect s k.entry).drafts
+after_disconnect-clean s k = append-clean (answer_each (failure Cancelled) (without k.entry.seq s.kept)) (reply k.entry plain_success ∷ []) (each-clean (failure Cancelled) (without k.entry.seq s.kept) refl) refl
 
-pub resumed-well : (h : How) (s : Session) (k : Kept) (last : Reply) → HasDistinctSeqs s.kept → IsKept s.kept k → GoesWell s [] (resumed h s k.entry last)
-resumed-well h s k done d i = walked-well s (resumed h s k.entry done) refl (walked-kept (success (resume_body h) []) s.kept k d i) refl refl
-resumed-well h s k refused d i = answered-well s k (failure Debuggee) refl d i
-resumed-well h s k (happened x) d i = answered-well s k (failure Debuggee) refl d i
+after_terminate-outcome : (s : Session) (k : Kept) → IsHandled s k → IsOutcome s 2 (after_terminate s k.entry)
+after_terminate-outcome s k i =
+    plain-outcome s 2 (after_terminate s k.entry) (is-plain s _ refl refl refl) (refl, (refl, tt)) refl refl (λ (d : HasDistinctSeqs s.kept). replied-and-after_query s.kept k plain_success terminated d i.kept) (λ (d : HasDistinctSeqs s.kept). fewer-handled s k d i)
+
+-- ---- the six ways to go on
+
+after_resume-outcome : (h : How) (s : Session) (k : Kept) → IsHandled s k → (last : Reply) → IsOutcome s 1 (after_resume h s k.entry last)
+after_resume-outcome h s k i done = plain-reply s k (success (resume_body h) []) (after_resume h s k.entry done) i refl refl refl refl (is-plain s _ refl refl refl)
+after_resume-outcome h s k i refused = after_answering-outcome s k (failure Debuggee) i refl
+after_resume-outcome h s k i (happened x) = after_answering-outcome s k (failure Debuggee) i refl
+
+after_resume-clean : (h : How) (s : Session) (k : Kept) (last : Reply) → AreClean (after_resume h s k.entry last).drafts
+after_resume-clean h s k done = refl
+after_resume-clean h s k refused = refl
+after_resume-clean h s k (happened x) = refl
+
+-- ---- breakpoints
+
+length-asked-if : (b : Bool) (lines : List ℕ) → length (if b then lines else map (λ n. n + 1) lines) ≡ length lines
+length-asked-if true lines = refl
+length-asked-if false lines = length-map lines (λ (n : ℕ). n + 1)
+
+length-asked : (options : Options) (lines : List ℕ) → length (lines_asked options lines) ≡ length lines
+length-asked options lines = length-asked-if options.lines_start_at_1 lines
+
+few-breakpoints_with : (limits : Settings) (key : SourceKey) (lines asked : List ℕ) (b : SetBreakpoints) → length asked ≡ length lines → are_too_many limits key lines b ≡ false → StandFew limits (breakpoints_with key asked b)
+few-breakpoints_with limits key lines asked b same h =
+    let stand = count_with key lines b in
+    let most = le-not limits.breakpoints stand (false-left (nat_lt limits.breakpoints stand) (nat_lt (max_id + 1) (b.next_id + length lines)) h) in
+    let ids = le-not (max_id + 1) (b.next_id + length lines) (false-right (nat_lt limits.breakpoints stand) (nat_lt (max_id + 1) (b.next_id + length lines)) h) in
+    let all = count-breakpoints_with key asked b in
+    record { breakpoints = omega arith; ids = omega arith }
+
+set-outcome : (s : Session) (k : Kept) (key : SourceKey) (lines : List ℕ) (body : Option Data) → IsHandled s k → StandFew s.limits (breakpoints_with key lines s.breakpoints)
+    → IsOutcome s 1 (record { drafts = reply k.entry (success body []) ∷ []; drops = false; after = record s { kept = without k.entry.seq s.kept; breakpoints = breakpoints_with key lines s.breakpoints; used = s.used + 1 } })
+set-outcome s k key lines body i few = replied s k (success body []) _ i (moves-set s _ refl refl (λ (x : StandFew s.limits s.breakpoints). few) refl) refl refl refl refl
+
+set-row : (s : Session) (k : Kept) (key : SourceKey) (lines : List ℕ) (body : Option Data) → IsHandled s k → StandFew s.limits (breakpoints_with key lines s.breakpoints) → IsRow s (breakpoints_set s k.entry key lines body)
+set-row s k key lines body i few = asking-row s 1 _ _ (λ (last : Reply). set-outcome s k key lines body i few) (λ (last : Reply). refl)
+
+verified-row : (s : Session) (k : Kept) (key : SourceKey) (lines : List ℕ) (verified : Option (List Bool)) → IsHandled s k → IsRow s (breakpoints_verified s k.entry key lines verified)
+verified-row s k key lines None i = failed-row s k Debuggee i
+verified-row s k key lines (Some verified) i =
+    let asked = lines_asked s.options lines in
+    let body : Option Data = Some (set_breakpoints_body (answers_to s.breakpoints.next_id lines verified)) in
+    either-row (are_too_many s.limits key lines s.breakpoints) s _ (breakpoints_answered s k.entry key asked body) (λ (h : are_too_many s.limits key lines s.breakpoints ≡ true). failed-row s k TooManyBreakpoints i)
+    (λ (h : are_too_many s.limits key lines s.breakpoints ≡ false).
+    either-row (fits s k.entry body) s (breakpoints_set s k.entry key asked body) _ (λ (f : fits s k.entry body ≡ true). set-row s k key asked body i (few-breakpoints_with s.limits key lines asked s.breakpoints (length-asked s.options lines) h))
+    (λ (f : fits s k.entry body ≡ false). failed-row s k TooLarge i))
 
 -- ---- what is told
 
--- what is told gives just the references that it names
-pub record TellsWell (s : Session) (t : Told) : Type 0 where
-  pub references : t.references ≡ record s.references { live = with_targets t.names s.references.live }
+after_query-once : (s : Session) (k : Kept) (t : QueryAnswer) → TellsWell s t → IsHandled s k
+    → IsOutcome s 1 (record { drafts = reply k.entry (success t.body t.names) ∷ []; drops = false; after = record s { kept = without k.entry.seq s.kept; references = t.references; used = s.used + 1 } })
+after_query-once s k t w i = replied s k (success t.body t.names) _ i (moves-grown s _ refl w.grows w.few refl refl) w.references refl refl refl
 
-told-well-if : (b : Bool) (s : Session) (k : Kept) (t : Told) → TellsWell s t → HasDistinctSeqs s.kept → IsKept s.kept k
-    → GoesWell s [] (if b then record { drafts = reply k.entry (success t.body t.names) ∷ []; drops = false; after = record s { kept = without k.entry.seq s.kept; references = t.references; used = s.used + 1 } } else answered k.entry (failure TooLarge) s)
-told-well-if true s k t w d i =
-    walked-well s (record { drafts = reply k.entry (success t.body t.names) ∷ []; drops = false; after = record s { kept = without k.entry.seq s.kept; references = t.references; used = s.used + 1 } }) refl
-    (walked-kept (success t.body t.names) s.kept k d i) refl w.references
-told-well-if false s k t w d i = answered-well s k (failure TooLarge) refl d i
+after_query-if : (b : Bool) (s : Session) (k : Kept) (t : QueryAnswer) → TellsWell s t → IsHandled s k
+    → IsRow s (at_once (if b then record { drafts = reply k.entry (success t.body t.names) ∷ []; drops = false; after = record s { kept = without k.entry.seq s.kept; references = t.references; used = s.used + 1 } } else after_answering k.entry (failure TooLarge) s))
+after_query-if true s k t w i = once-row s 1 _ (after_query-once s k t w i) refl
+after_query-if false s k t w i = failed-row s k TooLarge i
 
-pub told-well : (s : Session) (k : Kept) (telling_is : Telling) → ((t : Told) → telling_is ≡ Ok t → TellsWell s t) → HasDistinctSeqs s.kept → IsKept s.kept k → GoesWell s [] (told s k.entry telling_is)
-told-well s k (Err f) w d i = answered-well s k (failure f) refl d i
-told-well s k (Ok t) w d i = told-well-if (fits s k.entry t.body) s k t (w t refl) d i
+after_query-row : (s : Session) (k : Kept) (given : QueryResult) → ((t : QueryAnswer) → given ≡ Ok t → TellsWell s t) → IsHandled s k → IsRow s (at_once (after_query s k.entry given))
+after_query-row s k (Err f) w i = failed-row s k f i
+after_query-row s k (Ok t) w i = after_query-if (fits s k.entry t.body) s k t (w t refl) i
 
-interned-next : (a b : Bool) (n : ℕ) (refs : LiveReferences) (t : Target) (r : ℕ × LiveReferences)
-    → (let given : Result (ℕ × LiveReferences) Failure = (if a then (if b then Ok (n, record refs { live = refs.live ++ t ∷ [] }) else Err ReferencesExhausted) else Err TooManyReferences) in given) ≡ Ok r
-    → r.1 ≡ record refs { live = refs.live ++ t ∷ [] }
-interned-next true true n refs t r e = let same : (n, record refs { live = refs.live ++ t ∷ [] }) ≡ r = cc in sym (ap (λ (x : ℕ × LiveReferences). x.1) same)
-interned-next true false n refs t r e = cc
-interned-next false b n refs t r e = cc
+-- ---- the effects of the table
 
-interned-one : (o : Option ℕ) (limits : Settings) (t : Target) (refs : LiveReferences) (r : ℕ × LiveReferences) → numbered_at o TooManyReferences ReferencesExhausted limits.references limits.reference t refs ≡ Ok r → r.1 ≡ record refs { live = if is_some o then refs.live else refs.live ++ t ∷ [] }
-interned-one (Some p) limits t refs r e = let same : (refs.base + 1 + p, refs) ≡ r = cc in sym (ap (λ (x : ℕ × LiveReferences). x.1) same)
-interned-one None limits t refs r e = interned-next (nat_lt (length refs.live) limits.references) (nat_lt (refs.base + length refs.live) limits.reference) (refs.base + 1 + length refs.live) refs t r e
-
-onto-ok : (n : ℕ) (given : Result (List ℕ × LiveReferences) Failure) (r : List ℕ × LiveReferences) → onto_first n given ≡ Ok r → (q : List ℕ × LiveReferences) × (given ≡ Ok q) × (q.1 ≡ r.1)
-onto-ok n (Ok q) r e = let same : (n ∷ q.0, q.1) ≡ r = cc in (q, refl, ap (λ (x : List ℕ × LiveReferences). x.1) same)
-onto-ok n (Err f) r e = cc
-
-interned-then : (limits : Settings) (ts : List (Option Target)) (given : Result (ℕ × LiveReferences) Failure) (r : List ℕ × LiveReferences) → and_then given (λ x. onto_first x.0 (intern_each limits ts x.1)) ≡ Ok r
-    → (one : ℕ × LiveReferences) × (q : List ℕ × LiveReferences) × (given ≡ Ok one) × (intern_each limits ts one.1 ≡ Ok q) × (q.1 ≡ r.1)
-interned-then limits ts (Ok one) r e = let rest = onto-ok one.0 (intern_each limits ts one.1) r e in (one, rest.0, refl, rest.1, rest.2)
-interned-then limits ts (Err f) r e = cc
-
-pub interned-are : (limits : Settings) (ts : List (Option Target)) (refs : LiveReferences) (r : List ℕ × LiveReferences) → intern_each limits ts refs ≡ Ok r → r.1 ≡ record refs { live = with_targets (named ts) refs.live }
-interned-are limits [] refs r e = let same : ([], refs) ≡ r = cc in sym (ap (λ (x : List ℕ × LiveReferences). x.1) same)
-interned-are limits (None ∷ ts) refs r e =
-    let rest = onto-ok 0 (intern_each limits ts refs) r e in
-    sym rest.2 ∙ interned-are limits ts refs rest.0 rest.1
-interned-are limits (Some t ∷ ts) refs r e =
-    let both = interned-then limits ts (intern limits t refs) r e in
-    let first = interned-one (place_of t refs.live) limits t refs both.0 both.2 in
-    let rest = interned-are limits ts both.0.1 both.1 both.3 in
-    sym both.4 ∙ (rest ∙ rw first refl)
+pub plan_for-row : (e : Effect) (view : Shown) (s : Session) (k : Kept) (asked : Call) → IsHandled s k → Suits e asked → IsRow s (plan_for e view s k.entry asked)
+unfolding plan_for
+plan_for-row effect.Initialize view s k asked i n = once-row s 2 _ (after_initialize-outcome s k asked i) refl
+plan_for-row effect.Park view s k asked i n = once-row s 0 _ (after_park-outcome s k i) refl
+plan_for-row effect.Start view s k asked i n = asking-row s 1 _ (after_launch s k.entry) (after_launch-outcome s k i) (λ (last : Reply). one-clean k (by_reply None last) (reply-clean None last))
+plan_for-row effect.ConfigurationDone view s k asked i n = once-row s 1 _ (after_configuration_done-outcome s k i) refl
+plan_for-row effect.StartParked view s k asked i n =
+    asking-row s (length (parked_ones (without k.entry.seq s.kept)) + 1) _ (after_parked_launch s k.entry) (after_parked_launch-outcome s k i) (λ (last : Reply). each-clean (by_reply None last) (parked_ones (without k.entry.seq s.kept)) (reply-clean None last))
+plan_for-row effect.Disconnect view s k asked i n = once-row s (length (without k.entry.seq s.kept) + 1) _ (after_disconnect-outcome s k i) (after_disconnect-clean s k)
+plan_for-row effect.EndAndDisconnect view s k asked i n = asking-row s (length (without k.entry.seq s.kept) + 1) _ (λ last. after_disconnect s k.entry) (λ (last : Reply). after_disconnect-outcome s k i) (λ (last : Reply). after_disconnect-clean s k)
+plan_for-row effect.Terminate view s k asked i n = asking-row s 2 _ (λ last. after_terminate s k.entry) (λ (last : Reply). after_terminate-outcome s k i) (λ (last : Reply). refl)
+plan_for-row effect.SetBreakpoints view s k (call.SetBreakpoints key lines) i n = verified-row s k key lines (view.verify key (lines_asked s.options lines)) i
+plan_for-row effect.SetBreakpoints view s k _ i n = absurd n
+plan_for-row (effect.Resume h) view s k asked i n = asking-row s 1 _ (after_resume h s k.entry) (after_resume-outcome h s k i) (after_resume-clean h s k)
+plan_for-row effect.Pause view s k asked i n =
+    asking-row s 1 _ (λ last. after_answering k.entry (by_reply None last) s) (λ (last : Reply). after_answering-outcome s k (by_reply None last) i (names-by_reply None last)) (λ (last : Reply). one-clean k (by_reply None last) (reply-clean None last))
+plan_for-row effect.Query view s k asked i n = after_query-row s k (query_result view s asked) (query_result-well view s asked) i

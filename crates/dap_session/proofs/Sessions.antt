@@ -1,15 +1,15 @@
--- What holds of every desk stays.
+-- What holds of every session stays.
 use Rattle.std.proofs.Common.{◌≡◌, ℕ, ◌≤◌, [], ◌∷◌, ◌++◌, true}
 use Rattle.dap_frame.specs.Settings.{Settings}
-use Rattle.dap_tables.specs.Outstanding.{KeptRequests, IsOrderly, unparked, unparked_ones, without, with_mark}
+use Rattle.dap_tables.specs.Outstanding.{KeptRequests, IsOrderlyRequests, kept_unparked, unparked_ones, without, with_mark}
 use Rattle.dap_tables.specs.References.{ReferenceTable}
 use Rattle.dap_tables.specs.Breakpoints.{BreakpointTable}
 use Rattle.dap_tables.specs.Seq.{Numbers}
 use Rattle.dap_tables.specs.declared.entry.Entry.{Entry}
-use Rattle.dap_session.specs.Seat.{IsSession}
+use Rattle.dap_session.specs.SessionState.{IsSession}
 
 -- a request less
-pub session-without : (refs : ReferenceTable) (points : BreakpointTable) (limits : Settings) (old new : KeptRequests) (numbers later : Numbers) (seq : ℕ) → IsSession limits old refs points numbers → new ≡ record old { kept = without seq old.kept } → IsOrderly new → later.last ≡ limits.seq → later.used ≤ later.last → IsSession limits new refs points later
+pub session-without : (refs : ReferenceTable) (points : BreakpointTable) (limits : Settings) (old new : KeptRequests) (numbers later : Numbers) (seq : ℕ) → IsSession limits old refs points numbers → new ≡ record old { kept = without seq old.kept } → IsOrderlyRequests new → later.last ≡ limits.seq → later.used ≤ later.last → IsSession limits new refs points later
 session-without refs points limits old new numbers later seq d e o l u =
     record {
       room = rw e d.room;
@@ -20,7 +20,7 @@ session-without refs points limits old new numbers later seq d e o l u =
     }
 
 -- a request parked
-pub session-marked : (refs : ReferenceTable) (points : BreakpointTable) (limits : Settings) (old new : KeptRequests) (numbers : Numbers) (seq : ℕ) → IsSession limits old refs points numbers → new ≡ record old { kept = with_mark seq true old.kept } → IsOrderly new → IsSession limits new refs points numbers
+pub session-marked : (refs : ReferenceTable) (points : BreakpointTable) (limits : Settings) (old new : KeptRequests) (numbers : Numbers) (seq : ℕ) → IsSession limits old refs points numbers → new ≡ record old { kept = with_mark seq true old.kept } → IsOrderlyRequests new → IsSession limits new refs points numbers
 session-marked refs points limits old new numbers seq d e o =
     record {
       room = rw e d.room;
@@ -31,7 +31,7 @@ session-marked refs points limits old new numbers seq d e o =
     }
 
 -- a request more
-pub session-pushed : (refs : ReferenceTable) (points : BreakpointTable) (limits : Settings) (old new : KeptRequests) (numbers : Numbers) (r : Entry) → IsSession limits old refs points numbers → new ≡ record old { kept = old.kept ++ unparked r ∷ [] } → IsOrderly new → IsSession limits new refs points numbers
+pub session-pushed : (refs : ReferenceTable) (points : BreakpointTable) (limits : Settings) (old new : KeptRequests) (numbers : Numbers) (r : Entry) → IsSession limits old refs points numbers → new ≡ record old { kept = old.kept ++ kept_unparked r ∷ [] } → IsOrderlyRequests new → IsSession limits new refs points numbers
 session-pushed refs points limits old new numbers r d e o =
     record {
       room = rw e d.room;
@@ -46,7 +46,7 @@ pub session-spent : (refs : ReferenceTable) (points : BreakpointTable) (limits :
 session-spent refs points limits table numbers later d l u = record { room = d.room; orderly = d.orderly; others = d.others; last = l; used = u }
 
 -- a request less, and those that were parked
-pub session-settled : (refs : ReferenceTable) (points : BreakpointTable) (limits : Settings) (old mid new : KeptRequests) (numbers later : Numbers) (seq : ℕ) → IsSession limits old refs points numbers → mid ≡ record old { kept = without seq old.kept } → IsOrderly mid → new ≡ record mid { kept = unparked_ones mid.kept } → IsOrderly new → later.last ≡ limits.seq → later.used ≤ later.last → IsSession limits new refs points later
+pub session-settled : (refs : ReferenceTable) (points : BreakpointTable) (limits : Settings) (old mid new : KeptRequests) (numbers later : Numbers) (seq : ℕ) → IsSession limits old refs points numbers → mid ≡ record old { kept = without seq old.kept } → IsOrderlyRequests mid → new ≡ record mid { kept = unparked_ones mid.kept } → IsOrderlyRequests new → later.last ≡ limits.seq → later.used ≤ later.last → IsSession limits new refs points later
 session-settled refs points limits old mid new numbers later seq d e m f o l u =
     let one = session-without refs points limits old mid numbers later seq d e m l u in
     record {

@@ -1,5 +1,5 @@
 -- Breakpoints that are set: that they were asked for in range, and what the plan takes.
-use Rattle.std.proofs.Common.{◌≡◌, ℕ, ◌<◌, ◌≤◌, List, [], ◌∷◌, Bool, true, false, cond, Option, Some, None, Result, Ok, Err, IfOk, OnOk, refl, sym, subst, arith, true≢false}
+use Rattle.std.proofs.Common.{◌≡◌, ◌⊎◌, inl, inr, ℕ, ◌<◌, ◌≤◌, List, [], ◌∷◌, Bool, true, false, cond, Option, Some, None, Result, Ok, Err, IfOk, OnOk, refl, sym, subst, arith, true≢false}
 use Rattle.std.specs.Prelude.{◌&&◌, nat_le, option_and_then, option_map, unwrap_or, if◌then◌else◌}
 use Rattle.std.specs.List.{list_all, find}
 use Rattle.std.proofs.lemmas.List.Elements.{All-cons}
@@ -8,7 +8,7 @@ use Rattle.serde_json.specs.Data.{Data, Items, no_items, item}
 use Rattle.serde_json.specs.Find.{as_u64, as_number, as_array}
 use Rattle.dap_json.specs.Field.{if_passes}
 use Rattle.dap_json.specs.Steps.{◌>>=◌}
-use Rattle.dap_message.specs.Argument.{number_of, value_at, in_shape, or_bad, optional, required, must_be_there, max_number}
+use Rattle.dap_message.specs.Argument.{number_of, value_at, in_shape, or_bad, optional_at, required_at, must_be_there, max_number}
 use Rattle.dap_message.specs.Call.{call_of, each, line_in, lines_of, breakpoint_lines_of, source_key_of, given_lines, set_breakpoints_of}
 use Rattle.dap_message.specs.Types.Call.{Call}
 use Rattle.dap_message.specs.Types.Call.TheVariants as call
@@ -19,19 +19,19 @@ use Rattle.dap_message.specs.Types.Key.TheVariants as key
 use Rattle.dap_message.specs.Types.SourceKey.{SourceKey}
 use Rattle.dap_tables.specs.declared.entry.Entry.{Entry}
 use Rattle.dap_debuggee.specs.Shown.{Shown, to_set_breakpoints, done}
-use Rattle.dap_tables.specs.Breakpoints.{replaced}
+use Rattle.dap_tables.specs.Breakpoints.{breakpoints_with}
 use Rattle.dap_tables.specs.Outstanding.{without}
 use Rattle.dap_session.specs.Carried.{Goes}
-use Rattle.dap_session.specs.Seat.{Seat, Carries}
-use Rattle.dap_session.specs.declared.sheet.Sheet.{Sheet}
+use Rattle.dap_session.specs.SessionState.{SessionState, Carries}
+use Rattle.dap_session.specs.declared.outbox.Outbox.{Outbox}
 use Rattle.dap_session.specs.declared.effect.Effect.{Effect}
 use Rattle.dap_session.specs.declared.effect.Effect.TheVariants as effect
 use Rattle.dap_session.specs.declared.phase.Phase.{Phase}
 use Rattle.dap_session.specs.Breakpoints.{are_too_many}
 use Rattle.dap_session.specs.Handling.{breakpoints_plan, breakpoints_verified, fits, lines_asked}
-use Rattle.dap_session.specs.Plan.{Plan, due}
+use Rattle.dap_session.specs.Plan.{Plan, messages_due}
 use Rattle.dap_session.specs.Session.{Session}
-use Rattle.dap_session.specs.Setting.{AreLines, SetsLines, Suits, IsToSet}
+use Rattle.dap_session.specs.PrivateSetting.{AreLines, SetsLines, Suits, IsToSet}
 use Rattle.dap_session.specs.Table.{Row, rows_of, effect_in, is_among}
 
 -- ---- lines that were read are in range
@@ -82,9 +82,9 @@ shape-some : (k : Key) (o : Option (List ℕ)) (found : Option (List ℕ)) → (
 shape-some k None found s h = cc
 shape-some k (Some ns) found s h = let same : Some ns ≡ found = cc in subst (λ (x : Option (List ℕ)). AreSome x) same (s ns refl)
 
-optional-some : (shape : Data → Option (List ℕ)) (k : Key) (o : Option Data) (found : Option (List ℕ)) → ((d : Data) (ns : List ℕ) → shape d ≡ Some ns → AreLines ns) → in_shape shape k o ≡ Ok found → AreSome found
-optional-some shape k None found s h = let same : None ≡ found = cc in subst (λ (x : Option (List ℕ)). AreSome x) same tt
-optional-some shape k (Some d) found s h = shape-some k (shape d) found (s d) h
+optional_at-some : (shape : Data → Option (List ℕ)) (k : Key) (o : Option Data) (found : Option (List ℕ)) → ((d : Data) (ns : List ℕ) → shape d ≡ Some ns → AreLines ns) → in_shape shape k o ≡ Ok found → AreSome found
+optional_at-some shape k None found s h = let same : None ≡ found = cc in subst (λ (x : Option (List ℕ)). AreSome x) same tt
+optional_at-some shape k (Some d) found s h = shape-some k (shape d) found (s d) h
 
 or-none : (o : Option (List ℕ)) (ns : List ℕ) → AreSome o → AreLines ns → AreLines (unwrap_or o ns)
 or-none None ns a b = b
@@ -98,13 +98,13 @@ pub reads-lines : (given : Option Data) (asked : Call) → set_breakpoints_of gi
 unfolding set_breakpoints_of given_lines
 reads-lines given asked h =
     let arguments = bound (must_be_there given) _ asked h in
-    let source = bound (required source_key_of key.Source arguments.0) _ asked arguments.2 in
+    let source = bound (required_at source_key_of key.Source arguments.0) _ asked arguments.2 in
     let both = bound (given_lines arguments.0) _ asked source.2 in
-    let breakpoints = bound (optional breakpoint_lines_of key.Breakpoints arguments.0) _ both.0 both.1 in
-    let lines = bound (optional lines_of key.Lines arguments.0) _ both.0 breakpoints.2 in
+    let breakpoints = bound (optional_at breakpoint_lines_of key.Breakpoints arguments.0) _ both.0 both.1 in
+    let lines = bound (optional_at lines_of key.Lines arguments.0) _ both.0 breakpoints.2 in
     let same : call.SetBreakpoints source.0 (unwrap_or breakpoints.0 (unwrap_or lines.0 [])) ≡ asked = (let e = lines.2 in let f = both.2 in cc) in
-    let first = optional-some breakpoint_lines_of key.Breakpoints (value_at key.Breakpoints arguments.0) breakpoints.0 (λ d ns. then-each line_in line-small (as_array d) ns) breakpoints.1 in
-    let second = optional-some lines_of key.Lines (value_at key.Lines arguments.0) lines.0 (λ d ns. then-each number_of number-small (as_array d) ns) lines.1 in
+    let first = optional_at-some breakpoint_lines_of key.Breakpoints (value_at key.Breakpoints arguments.0) breakpoints.0 (λ d ns. then-each line_in line-small (as_array d) ns) breakpoints.1 in
+    let second = optional_at-some lines_of key.Lines (value_at key.Lines arguments.0) lines.0 (λ d ns. then-each number_of number-small (as_array d) ns) lines.1 in
     subst (λ (x : Call). SetsLines x) same (or-none breakpoints.0 (unwrap_or lines.0 []) first (or-none lines.0 [] second no-lines))
 
 -- ---- a call is one that has the effect of its command
@@ -135,58 +135,38 @@ found-none phase (r ∷ rows) e a h =
     let both = all-if (sets_none r.effect) (list_all (λ x. sets_none x.effect) rows) a in
     found-if (is_among phase r.phases) r (find (λ x. is_among phase x.phases) rows) e h both.0 (found-none phase rows e both.1)
 
+-- the rows of each other command set none
+sets-alone : (c : Command) → (list_all (λ r. sets_none r.effect) (rows_of c) ≡ true) ⊎ (c ≡ command.SetBreakpoints)
+sets-alone command.SetBreakpoints = inr refl
+sets-alone _ = inl refl
+
+suits-if : (c : Command) (phase : Phase) (given : Option Data) (e : Effect) (asked : Call) → (list_all (λ r. sets_none r.effect) (rows_of c) ≡ true) ⊎ (c ≡ command.SetBreakpoints) → effect_in c phase ≡ Some e → call_of c given ≡ Ok asked → Suits e asked
+suits-if c phase given e asked (inl none) h r = none-suits e asked (found-none phase (rows_of c) e none h)
+suits-if c phase given e asked (inr same) h r = lines-suit e asked (reads-lines given asked (subst (λ (x : Command). call_of x given ≡ Ok asked) same r))
+
 pub call-suits : (c : Command) (phase : Phase) (given : Option Data) (e : Effect) (asked : Call) → effect_in c phase ≡ Some e → call_of c given ≡ Ok asked → Suits e asked
-call-suits command.SetBreakpoints phase given e asked h r = lines-suit e asked (reads-lines given asked r)
-call-suits command.Initialize phase given e asked h r = none-suits e asked (found-none phase (rows_of command.Initialize) e refl h)
-call-suits command.Launch phase given e asked h r = none-suits e asked (found-none phase (rows_of command.Launch) e refl h)
-call-suits command.Attach phase given e asked h r = none-suits e asked (found-none phase (rows_of command.Attach) e refl h)
-call-suits command.ConfigurationDone phase given e asked h r = none-suits e asked (found-none phase (rows_of command.ConfigurationDone) e refl h)
-call-suits command.Disconnect phase given e asked h r = none-suits e asked (found-none phase (rows_of command.Disconnect) e refl h)
-call-suits command.Threads phase given e asked h r = none-suits e asked (found-none phase (rows_of command.Threads) e refl h)
-call-suits command.Terminate phase given e asked h r = none-suits e asked (found-none phase (rows_of command.Terminate) e refl h)
-call-suits command.Cancel phase given e asked h r = none-suits e asked (found-none phase (rows_of command.Cancel) e refl h)
-call-suits command.SetFunctionBreakpoints phase given e asked h r = none-suits e asked (found-none phase (rows_of command.SetFunctionBreakpoints) e refl h)
-call-suits command.SetExceptionBreakpoints phase given e asked h r = none-suits e asked (found-none phase (rows_of command.SetExceptionBreakpoints) e refl h)
-call-suits command.Continue phase given e asked h r = none-suits e asked (found-none phase (rows_of command.Continue) e refl h)
-call-suits command.Next phase given e asked h r = none-suits e asked (found-none phase (rows_of command.Next) e refl h)
-call-suits command.StepIn phase given e asked h r = none-suits e asked (found-none phase (rows_of command.StepIn) e refl h)
-call-suits command.StepOut phase given e asked h r = none-suits e asked (found-none phase (rows_of command.StepOut) e refl h)
-call-suits command.Pause phase given e asked h r = none-suits e asked (found-none phase (rows_of command.Pause) e refl h)
-call-suits command.StepBack phase given e asked h r = none-suits e asked (found-none phase (rows_of command.StepBack) e refl h)
-call-suits command.ReverseContinue phase given e asked h r = none-suits e asked (found-none phase (rows_of command.ReverseContinue) e refl h)
-call-suits command.StackTrace phase given e asked h r = none-suits e asked (found-none phase (rows_of command.StackTrace) e refl h)
-call-suits command.Scopes phase given e asked h r = none-suits e asked (found-none phase (rows_of command.Scopes) e refl h)
-call-suits command.Variables phase given e asked h r = none-suits e asked (found-none phase (rows_of command.Variables) e refl h)
-call-suits command.Evaluate phase given e asked h r = none-suits e asked (found-none phase (rows_of command.Evaluate) e refl h)
-call-suits command.Source phase given e asked h r = none-suits e asked (found-none phase (rows_of command.Source) e refl h)
-call-suits command.LoadedSources phase given e asked h r = none-suits e asked (found-none phase (rows_of command.LoadedSources) e refl h)
-call-suits command.SetVariable phase given e asked h r = none-suits e asked (found-none phase (rows_of command.SetVariable) e refl h)
-call-suits command.Restart phase given e asked h r = none-suits e asked (found-none phase (rows_of command.Restart) e refl h)
-call-suits command.Modules phase given e asked h r = none-suits e asked (found-none phase (rows_of command.Modules) e refl h)
-call-suits command.ExceptionInfo phase given e asked h r = none-suits e asked (found-none phase (rows_of command.ExceptionInfo) e refl h)
-call-suits command.BreakpointLocations phase given e asked h r = none-suits e asked (found-none phase (rows_of command.BreakpointLocations) e refl h)
-call-suits command.Completions phase given e asked h r = none-suits e asked (found-none phase (rows_of command.Completions) e refl h)
+call-suits c phase given e asked h r = suits-if c phase given e asked (sets-alone c) h r
 
 -- ---- one message is due
 
-either-one : (b : Bool) (p q : Plan) → due p ≡ 1 → due q ≡ 1 → due (if b then p else q) ≡ 1
+either-one : (b : Bool) (p q : Plan) → messages_due p ≡ 1 → messages_due q ≡ 1 → messages_due (if b then p else q) ≡ 1
 either-one true p q x y = x
 either-one false p q x y = y
 
-verified-one : (s : Session) (r : Entry) (key : SourceKey) (lines : List ℕ) (verified : Option (List Bool)) → due (breakpoints_verified s r key lines verified) ≡ 1
+verified-one : (s : Session) (r : Entry) (key : SourceKey) (lines : List ℕ) (verified : Option (List Bool)) → messages_due (breakpoints_verified s r key lines verified) ≡ 1
 verified-one s r key lines None = refl
 verified-one s r key lines (Some verified) = either-one (are_too_many s.limits key lines s.breakpoints) _ _ refl (either-one (fits s r _) _ _ refl refl)
 
-pub one-due : (view : Shown) (s : Session) (r : Entry) (asked : Call) → SetsLines asked → due (breakpoints_plan view s r asked) ≡ 1
-one-due view s r (call.SetBreakpoints key lines) h = verified-one s r key lines (view.verify key (lines_asked s.options lines))
-one-due view s r _ h = absurd h
+pub one-messages_due : (view : Shown) (s : Session) (r : Entry) (asked : Call) → SetsLines asked → messages_due (breakpoints_plan view s r asked) ≡ 1
+one-messages_due view s r (call.SetBreakpoints key lines) h = verified-one s r key lines (view.verify key (lines_asked s.options lines))
+one-messages_due view s r _ h = absurd h
 
 -- ---- lines that are set
 
-pub set-carries : {D : Type 0} (follows : Goes D) (plan : Plan) (old new : Seat D) (r : Entry) (key : SourceKey) (lines : List ℕ) (sheet : Sheet) (bytes : List ℕ) → IsToSet plan old.session r key lines sheet
+pub set-carries : {D : Type 0} (follows : Goes D) (plan : Plan) (old new : SessionState D) (r : Entry) (key : SourceKey) (lines : List ℕ) (outbox : Outbox) (bytes : List ℕ) → IsToSet plan old.session r key lines outbox
     → follows old.debuggee (to_set_breakpoints key lines) done new.debuggee
-    → new.session ≡ record old.session { kept = without r.seq old.session.kept; breakpoints = replaced key lines old.session.breakpoints; used = sheet.numbers.used } → bytes ≡ sheet.bytes.items → Carries follows plan old new bytes
-set-carries follows plan old new r key lines sheet bytes t f s b =
+    → new.session ≡ record old.session { kept = without r.seq old.session.kept; breakpoints = breakpoints_with key lines old.session.breakpoints; used = outbox.numbers.used } → bytes ≡ outbox.bytes.items → Carries follows plan old new bytes
+set-carries follows plan old new r key lines outbox bytes t f s b =
     rw t.is
     (record {
       made = _;

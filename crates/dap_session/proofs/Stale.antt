@@ -11,7 +11,7 @@ use Rattle.dap_tables.specs.declared.reference_kind.ReferenceKind.{ReferenceKind
 use Rattle.dap_tables.specs.References.{LiveReferences, target_of, is_of_kind}
 use Rattle.dap_debuggee.specs.Shown.{Shown}
 use Rattle.dap_session.specs.declared.phase.Phase.TheVariants.{Stopped}
-use Rattle.dap_session.specs.Failures.{call_in, reference_named, lacks_reference, when, or_else, first, name_refused, key_refused, phase_refused, call_refused, read_refused, known_refused, refusal, waits_for_stop}
+use Rattle.dap_session.specs.Failures.{call_in, reference_named, lacks_reference, when, or_else, first_failure, name_refused, key_refused, phase_refused, call_refused, read_refused, known_refused, refusal, waits_for_stop}
 use Rattle.dap_session.specs.Handling.{plan_unless}
 use Rattle.dap_session.specs.ReferenceLaws.{ReferencesAreApart}
 use Rattle.dap_session.specs.Session.{Session}
@@ -21,39 +21,11 @@ use Rattle.dap_session.specs.Table.{is_served}
 -- its name is no reason
 no-name : (c : Command) → is_served c Stopped ≡ true → name_refused Stopped (Some c) ≡ None
 no-name command.Initialize h = absurd (true≢false (sym h))
-no-name command.Launch h = absurd (true≢false (sym h))
-no-name command.Attach h = absurd (true≢false (sym h))
-no-name command.ConfigurationDone h = absurd (true≢false (sym h))
-no-name command.Disconnect h = refl
-no-name command.Threads h = refl
-no-name command.Terminate h = refl
-no-name command.Cancel h = absurd (true≢false (sym h))
-no-name command.SetBreakpoints h = refl
-no-name command.SetFunctionBreakpoints h = absurd (true≢false (sym h))
-no-name command.SetExceptionBreakpoints h = refl
-no-name command.Continue h = refl
-no-name command.Next h = refl
-no-name command.StepIn h = refl
-no-name command.StepOut h = refl
-no-name command.Pause h = refl
-no-name command.StepBack h = refl
-no-name command.ReverseContinue h = refl
-no-name command.StackTrace h = refl
-no-name command.Scopes h = refl
-no-name command.Variables h = refl
-no-name command.Evaluate h = refl
-no-name command.Source h = refl
-no-name command.LoadedSources h = refl
-no-name command.SetVariable h = absurd (true≢false (sym h))
-no-name command.Restart h = absurd (true≢false (sym h))
-no-name command.Modules h = absurd (true≢false (sym h))
-no-name command.ExceptionInfo h = absurd (true≢false (sym h))
-no-name command.BreakpointLocations h = absurd (true≢false (sym h))
-no-name command.Completions h = absurd (true≢false (sym h))
+no-name _ h = cc
 
 -- nor is the phase
 no-phase : (c : Command) → is_served c Stopped ≡ true → phase_refused Stopped c ≡ None
-no-phase c h = ap (λ b. first (when (not b && not (waits_for_stop Stopped c)) WrongPhase ∷ when (not b) NotStopped ∷ [])) h
+no-phase c h = ap (λ b. first_failure (when (not b && not (waits_for_stop Stopped c)) WrongPhase ∷ when (not b) NotStopped ∷ [])) h
 
 lacks : (refs : LiveReferences) (o : Option (ReferenceKind × ℕ)) (kind : ReferenceKind) (n : ℕ) → o ≡ Some (kind, n) → is_of_kind kind (target_of refs n) ≡ false → lacks_reference refs o ≡ true
 lacks refs o kind n is none = ap (lacks_reference refs) is ∙ ap not none
@@ -71,12 +43,12 @@ by-call view refs _ kind n is none = cc
 
 refused : (view : Shown) (s : Session) (r : Entry) (kind : ReferenceKind) (n : ℕ) → AsksFor s r kind n → is_of_kind kind (target_of s.references n) ≡ false → refusal view s r ≡ Some StaleReference
 refused view s r kind n asks none =
-    ap (λ o. first (name_refused s.phase o ∷ known_refused view s r o ∷ [])) asks.known
-    ∙ ap (λ phase. first (name_refused phase (Some asks.command) ∷ first (key_refused (call_in r asks.command) ∷ phase_refused phase asks.command ∷ read_refused view s.references (call_in r asks.command) ∷ []) ∷ [])) asks.stopped
-    ∙ ap (λ read. first (name_refused Stopped (Some asks.command) ∷ first (key_refused read ∷ phase_refused Stopped asks.command ∷ read_refused view s.references read ∷ []) ∷ [])) asks.good
-    ∙ ap (λ o. first (o ∷ first (None ∷ phase_refused Stopped asks.command ∷ call_refused view s.references asks.asked ∷ []) ∷ [])) (no-name asks.command asks.served)
-    ∙ ap (λ o. first (None ∷ first (None ∷ o ∷ call_refused view s.references asks.asked ∷ []) ∷ [])) (no-phase asks.command asks.served)
-    ∙ ap (λ o. first (None ∷ first (None ∷ None ∷ o ∷ []) ∷ [])) (by-call view s.references asks.asked kind n asks.named none)
+    ap (λ o. first_failure (name_refused s.phase o ∷ known_refused view s r o ∷ [])) asks.known
+    ∙ ap (λ phase. first_failure (name_refused phase (Some asks.command) ∷ first_failure (key_refused (call_in r asks.command) ∷ phase_refused phase asks.command ∷ read_refused view s.references (call_in r asks.command) ∷ []) ∷ [])) asks.stopped
+    ∙ ap (λ read. first_failure (name_refused Stopped (Some asks.command) ∷ first_failure (key_refused read ∷ phase_refused Stopped asks.command ∷ read_refused view s.references read ∷ []) ∷ [])) asks.good
+    ∙ ap (λ o. first_failure (o ∷ first_failure (None ∷ phase_refused Stopped asks.command ∷ call_refused view s.references asks.asked ∷ []) ∷ [])) (no-name asks.command asks.served)
+    ∙ ap (λ o. first_failure (None ∷ first_failure (None ∷ o ∷ call_refused view s.references asks.asked ∷ []) ∷ [])) (no-phase asks.command asks.served)
+    ∙ ap (λ o. first_failure (None ∷ first_failure (None ∷ None ∷ o ∷ []) ∷ [])) (by-call view s.references asks.asked kind n asks.named none)
 
 stale : (view : Shown) (s : Session) (r : Entry) (kind : ReferenceKind) (n : ℕ) → AsksFor s r kind n → is_of_kind kind (target_of s.references n) ≡ false → IsStale view s r
 stale view s r kind n asks none = ap (λ o. plan_unless o view s r) (refused view s r kind n asks none)

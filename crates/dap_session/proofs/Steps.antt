@@ -3,22 +3,19 @@ use Rattle.std.proofs.Common.{◌≡◌, ℕ, ◌+◌, List, [], ◌∷◌, ◌+
 use Rattle.std.specs.Prelude.{option_to_list}
 use Rattle.std.proofs.lemmas.List.{append-nil}
 use Rattle.dap_history.specs.Answers.{Answers, AnswersOne}
-use Rattle.dap_history.specs.History.{Entry, In, Out, Drop, Came, Asked, Answered, waiting, left_open, ins_of, outs_of, AreNumberedAfter, response_at, response_as, request_as, Went}
+use Rattle.dap_history.specs.History.{Entry, In, Out, ReferencesEnd, Came, Asked, Answered, waiting, without_answered, ins_of, outs_of, AreNumberedAfter, response_at, response_as, request_as, Went}
 use Rattle.dap_history.specs.HistoryLaws.{HistoriesGrow}
 use Rattle.dap_message.specs.declared.message.Message.{Message}
 use Rattle.dap_session.specs.Answering.{answered_by, AnswersEach, open_after, GoesWell}
-use Rattle.dap_session.specs.Plan.{success, failure, Draft, reply, tell, message_of, names_of, numbered, outs, Made, entries_of, dropping}
+use Rattle.dap_session.specs.Plan.{success, failure, Draft, reply, emit, message_of, names_of, numbered_messages, outs, Made, entries_of, references_end_if}
 use Rattle.dap_session.specs.References.{references_then, references_after, references_of}
 use Rattle.dap_tables.specs.References.{LiveReferences, no_references}
 use Rattle.dap_session.specs.Session.{Session}
 use Rattle.dap_history.specs.Requests.{asked_of, asks}
 use Rattle.dap_session.specs.Follows.{Follows}
+use Rattle.dap_session.proofs.Kept.{all-open}
 
 -- ---- lists
-
-all_left : (open_requests : List Asked) → left_open None open_requests ≡ open_requests
-all_left [] = refl
-all_left (q ∷ qs) = ap (λ (xs : List Asked). q ∷ xs) (all_left qs)
 
 pub references_after-append : (refs : LiveReferences) (h k : List Entry) → references_after refs (h ++ k) ≡ references_after (references_after refs h) k
 references_after-append refs [] k = refl
@@ -28,22 +25,22 @@ pub ins_of-outs : (used : ℕ) (ds : List Draft) → ins_of (outs used ds) ≡ [
 ins_of-outs used [] = refl
 ins_of-outs used (d ∷ ds) = ins_of-outs (used + 1) ds
 
-outs_of-outs : (used : ℕ) (ds : List Draft) → outs_of (outs used ds) ≡ numbered used ds
+outs_of-outs : (used : ℕ) (ds : List Draft) → outs_of (outs used ds) ≡ numbered_messages used ds
 outs_of-outs used [] = refl
 outs_of-outs used (d ∷ ds) = ap (λ (ms : List Message). message_of (used + 1) d ∷ ms) (outs_of-outs (used + 1) ds)
 
-length-numbered : (used : ℕ) (ds : List Draft) → length (numbered used ds) ≡ length ds
-length-numbered used [] = refl
-length-numbered used (d ∷ ds) = let ih = length-numbered (used + 1) ds in omega arith
+length-numbered_messages : (used : ℕ) (ds : List Draft) → length (numbered_messages used ds) ≡ length ds
+length-numbered_messages used [] = refl
+length-numbered_messages used (d ∷ ds) = let ih = length-numbered_messages (used + 1) ds in omega arith
 
 seq-of-message : (n : ℕ) (d : Draft) → (message_of n d).seq ≡ n
 seq-of-message n (reply r (success body names)) = refl
 seq-of-message n (reply r (failure f)) = refl
-seq-of-message n (tell event) = refl
+seq-of-message n (emit event) = refl
 
-numbered-are : (used : ℕ) (ds : List Draft) → AreNumberedAfter used (numbered used ds)
-numbered-are used [] = tt
-numbered-are used (d ∷ ds) = (seq-of-message (used + 1) d, numbered-are (used + 1) ds)
+numbered_messages-are : (used : ℕ) (ds : List Draft) → AreNumberedAfter used (numbered_messages used ds)
+numbered_messages-are used [] = tt
+numbered_messages-are used (d ∷ ds) = (seq-of-message (used + 1) d, numbered_messages-are (used + 1) ds)
 
 AreNumberedAfter-append : (n : ℕ) (xs ys : List Message) → AreNumberedAfter n xs → AreNumberedAfter (n + length xs) ys → AreNumberedAfter n (xs ++ ys)
 AreNumberedAfter-append n [] ys p q = let e : n + 0 ≡ n = omega arith in subst (λ k. AreNumberedAfter k ys) e q
@@ -54,7 +51,7 @@ AreNumberedAfter-append n (x ∷ xs) ys p q =
 response-of-message : (n : ℕ) (d : Draft) → response_as (message_of n d).kind ≡ answered_by d
 response-of-message n (reply r (success body names)) = refl
 response-of-message n (reply r (failure f)) = refl
-response-of-message n (tell event) = refl
+response-of-message n (emit event) = refl
 
 -- ---- drafts that are handed out
 
@@ -62,49 +59,49 @@ pub record After (h k : List Entry) (left : List Asked) : Type 0 where
   pub waits : waiting Came k ≡ left
   pub answers : Answers Came k
 
-one-answered : (d : Draft) (ds : List Draft) (open_requests : List Asked) → AnswersEach (d ∷ ds) open_requests → AnswersOne open_requests (answered_by d) × AnswersEach ds (left_open (answered_by d) open_requests)
+one-answered : (d : Draft) (ds : List Draft) (open_requests : List Asked) → AnswersEach (d ∷ ds) open_requests → AnswersOne open_requests (answered_by d) × AnswersEach ds (without_answered (answered_by d) open_requests)
 one-answered (reply r answer) ds open_requests each = ((asked_of r, each.0, refl), each.1)
-one-answered (tell event) ds open_requests each = (tt, each)
+one-answered (emit event) ds open_requests each = (tt, each)
 
 pub after-outs : (laws : HistoriesGrow) (used : ℕ) (ds : List Draft) (h : List Entry) (open_requests : List Asked) → waiting Came h ≡ open_requests → Answers Came h → AnswersEach ds open_requests → After h (h ++ outs used ds) (open_after ds open_requests)
 after-outs laws used [] h open_requests w all each = rw (append-nil h) (record { waits = w; answers = all })
 after-outs laws used (d ∷ ds) h open_requests w all each =
     let e : Entry = Out (message_of (used + 1) d) (names_of d) in
     let is : response_at Came e ≡ answered_by d = response-of-message (used + 1) d in
-    let now : waiting Came (h ++ e ∷ []) ≡ left_open (answered_by d) open_requests =
-    laws.waiting_then Came h e ∙ (append-nil (left_open (response_at Came e) (waiting Came h)) ∙ (ap (λ (x : Option Answered). left_open x (waiting Came h)) is ∙ ap (left_open (answered_by d)) w)) in
+    let now : waiting Came (h ++ e ∷ []) ≡ without_answered (answered_by d) open_requests =
+    laws.waiting_then Came h e ∙ (append-nil (without_answered (response_at Came e) (waiting Came h)) ∙ (ap (λ (x : Option Answered). without_answered x (waiting Came h)) is ∙ ap (without_answered (answered_by d)) w)) in
     let both = one-answered d ds open_requests each in
     let one : AnswersOne (waiting Came h) (response_at Came e) = rw (w, is) both.0 in
     let so_far : Answers Came (h ++ e ∷ []) = laws.answers_then Came h e all one in
-    let ih = after-outs laws (used + 1) ds (h ++ e ∷ []) (left_open (answered_by d) open_requests) now so_far both.1 in
+    let ih = after-outs laws (used + 1) ds (h ++ e ∷ []) (without_answered (answered_by d) open_requests) now so_far both.1 in
     let whole : (h ++ e ∷ []) ++ outs (used + 1) ds ≡ h ++ (e ∷ outs (used + 1) ds) = append_assoc h (e ∷ []) (outs (used + 1) ds) in
     let moved : After h ((h ++ e ∷ []) ++ outs (used + 1) ds) (open_after (d ∷ ds) open_requests) = record { waits = ih.waits; answers = ih.answers } in
     subst (λ (k : List Entry). After h k (open_after (d ∷ ds) open_requests)) whole moved
 
 -- the end of the references says nothing of requests
-after-drop : (laws : HistoriesGrow) (drops : Bool) (h : List Entry) (open_requests : List Asked) → waiting Came h ≡ open_requests → Answers Came h → After h (h ++ dropping drops) open_requests
+after-drop : (laws : HistoriesGrow) (drops : Bool) (h : List Entry) (open_requests : List Asked) → waiting Came h ≡ open_requests → Answers Came h → After h (h ++ references_end_if drops) open_requests
 after-drop laws false h open_requests w all = rw (append-nil h) (record { waits = w; answers = all })
 after-drop laws true h open_requests w all =
     record {
-      waits = laws.waiting_then Came h Drop ∙ (append-nil (left_open None (waiting Came h)) ∙ (all_left (waiting Came h) ∙ w));
-      answers = laws.answers_then Came h Drop all tt;
+      waits = laws.waiting_then Came h ReferencesEnd ∙ (append-nil (without_answered None (waiting Came h)) ∙ (all-open (waiting Came h) ∙ w));
+      answers = laws.answers_then Came h ReferencesEnd all tt;
     }
 
-outs_of-dropping : (drops : Bool) → outs_of (dropping drops) ≡ []
-outs_of-dropping true = refl
-outs_of-dropping false = refl
+outs_of-references_end_if : (drops : Bool) → outs_of (references_end_if drops) ≡ []
+outs_of-references_end_if true = refl
+outs_of-references_end_if false = refl
 
-outs_of-entries : (laws : HistoriesGrow) (used : ℕ) (m : Made) → outs_of (entries_of used m) ≡ numbered used m.drafts
+outs_of-entries : (laws : HistoriesGrow) (used : ℕ) (m : Made) → outs_of (entries_of used m) ≡ numbered_messages used m.drafts
 outs_of-entries laws used m =
-    laws.outs_append (dropping m.drops) (outs used m.drafts) ∙ (ap (λ (ms : List Message). ms ++ outs_of (outs used m.drafts)) (outs_of-dropping m.drops) ∙ outs_of-outs used m.drafts)
+    laws.outs_append (references_end_if m.drops) (outs used m.drafts) ∙ (ap (λ (ms : List Message). ms ++ outs_of (outs used m.drafts)) (outs_of-references_end_if m.drops) ∙ outs_of-outs used m.drafts)
 
-ins_of-dropping : (drops : Bool) → ins_of (dropping drops) ≡ []
-ins_of-dropping true = refl
-ins_of-dropping false = refl
+ins_of-references_end_if : (drops : Bool) → ins_of (references_end_if drops) ≡ []
+ins_of-references_end_if true = refl
+ins_of-references_end_if false = refl
 
 pub ins_of-entries : (laws : HistoriesGrow) (used : ℕ) (m : Made) → ins_of (entries_of used m) ≡ []
 ins_of-entries laws used m =
-    laws.ins_append (dropping m.drops) (outs used m.drafts) ∙ (ap (λ (ms : List Message). ms ++ ins_of (outs used m.drafts)) (ins_of-dropping m.drops) ∙ ins_of-outs used m.drafts)
+    laws.ins_append (references_end_if m.drops) (outs used m.drafts) ∙ (ap (λ (ms : List Message). ms ++ ins_of (outs used m.drafts)) (ins_of-references_end_if m.drops) ∙ ins_of-outs used m.drafts)
 
 -- ---- responses that came: what is made is none
 
@@ -115,13 +112,13 @@ went-outs laws used (d ∷ ds) h all =
     let rest = went-outs laws (used + 1) ds (h ++ e ∷ []) (laws.answers_then Went h e all tt) in
     subst (λ (k : List Entry). Answers Went k) (append_assoc h (e ∷ []) (outs (used + 1) ds)) rest
 
-went-drop : (laws : HistoriesGrow) (drops : Bool) (h : List Entry) → Answers Went h → Answers Went (h ++ dropping drops)
-went-drop laws true h all = laws.answers_then Went h Drop all tt
+went-drop : (laws : HistoriesGrow) (drops : Bool) (h : List Entry) → Answers Went h → Answers Went (h ++ references_end_if drops)
+went-drop laws true h all = laws.answers_then Went h ReferencesEnd all tt
 went-drop laws false h all = rw (append-nil h) all
 
 went-entries : (laws : HistoriesGrow) (used : ℕ) (m : Made) (h : List Entry) → Answers Went h → Answers Went (h ++ entries_of used m)
 went-entries laws used m h all =
-    subst (λ (k : List Entry). Answers Went k) (append_assoc h (dropping m.drops) (outs used m.drafts)) (went-outs laws used m.drafts (h ++ dropping m.drops) (went-drop laws m.drops h all))
+    subst (λ (k : List Entry). Answers Went k) (append_assoc h (references_end_if m.drops) (outs used m.drafts)) (went-outs laws used m.drafts (h ++ references_end_if m.drops) (went-drop laws m.drops h all))
 
 -- a message that is no response
 went-in : (laws : HistoriesGrow) (h : List Entry) (x : Message) → response_as x.kind ≡ None → Answers Went h → Answers Went (h ++ In x ∷ [])
@@ -137,10 +134,10 @@ pub record Counted (s : Session) (h : List Entry) : Type 0 where
 
 counted-then : (laws : HistoriesGrow) (s : Session) (came : List Asked) (m : Made) (h : List Entry) → GoesWell s came m → Counted s h → Counted m.after (h ++ entries_of s.used m)
 counted-then laws s came m h well c =
-    let all_outs : outs_of (h ++ entries_of s.used m) ≡ outs_of h ++ numbered s.used m.drafts =
+    let all_outs : outs_of (h ++ entries_of s.used m) ≡ outs_of h ++ numbered_messages s.used m.drafts =
     laws.outs_append h (entries_of s.used m) ∙ ap (λ (ms : List Message). outs_of h ++ ms) (outs_of-entries laws s.used m) in
-    let more = length-append (outs_of h) (numbered s.used m.drafts) in
-    let many = length-numbered s.used m.drafts in
+    let more = length-append (outs_of h) (numbered_messages s.used m.drafts) in
+    let many = length-numbered_messages s.used m.drafts in
     let whole = ap length all_outs in
     let was = c.used in
     let now = well.used in
@@ -148,16 +145,16 @@ counted-then laws s came m h well c =
     record {
       references = well.references ∙ (ap (λ (refs : LiveReferences). references_after refs (entries_of s.used m)) c.references ∙ sym (references_after-append no_references h (entries_of s.used m)));
       used = omega arith;
-      numbered_so = rw all_outs (AreNumberedAfter-append 0 (outs_of h) (numbered s.used m.drafts) c.numbered_so (rw from (numbered-are s.used m.drafts)));
+      numbered_so = rw all_outs (AreNumberedAfter-append 0 (outs_of h) (numbered_messages s.used m.drafts) c.numbered_so (rw from (numbered_messages-are s.used m.drafts)));
     }
 
 -- a step over a history h that the requests `came` have just joined
 pub goes_on : (laws : HistoriesGrow) (s : Session) (came : List Asked) (m : Made) (h : List Entry) → GoesWell s came m → waiting Came h ≡ asks s.kept ++ came → Answers Came h → Answers Went h → Counted s h → Follows m.after (h ++ entries_of s.used m)
 goes_on laws s came m h well w all went c =
     let dropped = after-drop laws m.drops h (asks s.kept ++ came) w all in
-    let done = after-outs laws s.used m.drafts (h ++ dropping m.drops) (asks s.kept ++ came) dropped.waits dropped.answers well.each in
-    let whole : (h ++ dropping m.drops) ++ outs s.used m.drafts ≡ h ++ entries_of s.used m = append_assoc h (dropping m.drops) (outs s.used m.drafts) in
-    let moved = subst (λ (k : List Entry). After (h ++ dropping m.drops) k (open_after m.drafts (asks s.kept ++ came))) whole done in
+    let done = after-outs laws s.used m.drafts (h ++ references_end_if m.drops) (asks s.kept ++ came) dropped.waits dropped.answers well.each in
+    let whole : (h ++ references_end_if m.drops) ++ outs s.used m.drafts ≡ h ++ entries_of s.used m = append_assoc h (references_end_if m.drops) (outs s.used m.drafts) in
+    let moved = subst (λ (k : List Entry). After (h ++ references_end_if m.drops) k (open_after m.drafts (asks s.kept ++ came))) whole done in
     let count = counted-then laws s came m h well c in
     record {
       kept = well.kept ∙ sym moved.waits;
@@ -177,7 +174,7 @@ goes_on-alone laws s m h well f =
 pub goes_on-delivered : (laws : HistoriesGrow) (s : Session) (x : Message) (m : Made) (h : List Entry) → GoesWell s (option_to_list (request_as x.seq x.kind)) m → response_as x.kind ≡ None → Follows s h → Follows m.after (h ++ In x ∷ entries_of s.used m)
 goes_on-delivered laws s x m h well e f =
     let w : waiting Came (h ++ In x ∷ []) ≡ asks s.kept ++ option_to_list (request_as x.seq x.kind) =
-    laws.waiting_then Came h (In x) ∙ ap (λ (qs : List Asked). qs ++ option_to_list (request_as x.seq x.kind)) (all_left (waiting Came h) ∙ sym f.kept) in
+    laws.waiting_then Came h (In x) ∙ ap (λ (qs : List Asked). qs ++ option_to_list (request_as x.seq x.kind)) (all-open (waiting Came h) ∙ sym f.kept) in
     let all : Answers Came (h ++ In x ∷ []) = laws.answers_then Came h (In x) f.answers tt in
     let same : outs_of (h ++ In x ∷ []) ≡ outs_of h = laws.outs_append h (In x ∷ []) ∙ append-nil (outs_of h) in
     let refs : references_of (h ++ In x ∷ []) ≡ references_of h = references_after-append no_references h (In x ∷ []) in

@@ -6,8 +6,8 @@ use Rattle.dap_tables.specs.Outstanding.{Kept}
 use Rattle.dap_debuggee.specs.Shown.{Shown, to_start, to_resume, to_pause, to_poll, to_set_breakpoints, to_end}
 use Rattle.dap_session.specs.declared.fault.AdapterFault.TheVariants.{SeqExhausted}
 use Rattle.dap_session.specs.Handling.{plan, some_plan, turn_of}
-use Rattle.dap_session.specs.Plan.{Plan, at_once, asking, due, affordable}
-use Rattle.dap_session.specs.Seat.{IsUnasked}
+use Rattle.dap_session.specs.Plan.{Plan, at_once, asking, messages_due, plan_within_numbers}
+use Rattle.dap_session.specs.SessionState.{IsUnasked}
 use Rattle.dap_session.specs.Session.{Session}
 
 same-after : {D : Type 0} (b : Bool) (plan : Plan) (v : D) → IsUnasked (some_plan (if b then Ok plan else Err SeqExhausted)) v v
@@ -21,13 +21,13 @@ same-after true (asking (to_set_breakpoints key lines) makes) v = tt
 same-after true (asking to_end makes) v = refl
 
 -- it is as it was
-pub same : {D : Type 0} (s : Session) (plan : Plan) (v w : D) → w ≡ v → IsUnasked (some_plan (affordable s plan)) v w
-same s plan v w e = rw e (same-after (nat_le (s.used + due plan) s.limits.seq) plan v)
+pub same : {D : Type 0} (s : Session) (plan : Plan) (v w : D) → w ≡ v → IsUnasked (some_plan (plan_within_numbers s plan)) v w
+same s plan v w e = rw e (same-after (nat_le (s.used + messages_due plan) s.limits.seq) plan v)
 
 -- it may have been asked, where there is room for the answer
-pub asked : {D : Type 0} (s : Session) (plan : Plan) (v w : D) → s.used + due plan ≤ s.limits.seq → IsUnasked (Ok (Some plan)) v w → IsUnasked (some_plan (affordable s plan)) v w
+pub asked : {D : Type 0} (s : Session) (plan : Plan) (v w : D) → s.used + messages_due plan ≤ s.limits.seq → IsUnasked (Ok (Some plan)) v w → IsUnasked (some_plan (plan_within_numbers s plan)) v w
 asked s plan v w room h =
-    let fits : nat_le (s.used + due plan) s.limits.seq ≡ true = grind (arith, nat_tests) in
+    let fits : nat_le (s.used + messages_due plan) s.limits.seq ≡ true = grind (arith, nat_tests) in
     rw fits h
 
 -- a request waits

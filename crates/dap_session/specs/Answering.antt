@@ -1,14 +1,21 @@
 -- Words of the law on steps: which requests drafts answer, and what they leave open.
-use Rattle.std.specs.Prelude.{◌≡◌, ℕ, ◌+◌, List, [], ◌∷◌, ◌++◌, length, filter, ◌==◌, Option, Some, None}
-use Rattle.dap_history.specs.History.{Asked, Answered, left_open}
-use Rattle.dap_session.specs.Plan.{Draft, reply, tell, Made, entries_of}
-use Rattle.dap_session.specs.References.{references_after}
-use Rattle.dap_session.specs.Session.{Session}
+use Rattle.std.specs.Prelude.{◌≡◌, ℕ, ◌+◌, ◌<◌, List, [], ◌∷◌, ◌++◌, length, filter, ◌==◌, Option, Some, None, Ok, option_to_list}
+use Rattle.dap_history.specs.History.{Asked, Answered, without_answered, request_as}
 use Rattle.dap_history.specs.Requests.{asked_of, asks}
+use Rattle.dap_message.specs.declared.message.Message.{Message}
+use Rattle.dap_tables.specs.Outstanding.{HasDistinctSeqs}
+use Rattle.dap_debuggee.specs.Shown.{Shown}
+use Rattle.dap_session.specs.Handling.{turns}
+use Rattle.dap_session.specs.Laws.{CanMake}
+use Rattle.dap_session.specs.Plan.{Draft, reply, emit, Made, Plan, entries_of}
+use Rattle.dap_session.specs.Polling.{polls}
+use Rattle.dap_session.specs.References.{references_after}
+use Rattle.dap_session.specs.Session.{Session, to_handle}
+use Rattle.dap_session.specs.Taking.{takes}
 
 abbrev pub answered_by : Draft → Option Answered
 answered_by (reply r answer) = Some (record { request_seq = r.seq; command = r.command })
-answered_by (tell event) = None
+answered_by (emit event) = None
 
 -- the requests of that number
 abbrev pub with_seq : ℕ → List Asked → List Asked
@@ -17,13 +24,13 @@ with_seq seq open_requests = filter (λ q. q.seq == seq) open_requests
 -- one after the other, each response answers just one of the requests that are open then
 abbrev pub AnswersEach : List Draft → List Asked → Type 0
 AnswersEach [] open_requests = Unit {0}
-AnswersEach (reply r answer ∷ ds) open_requests = (with_seq r.seq open_requests ≡ asked_of r ∷ []) × AnswersEach ds (left_open (answered_by (reply r answer)) open_requests)
-AnswersEach (tell event ∷ ds) open_requests = AnswersEach ds (left_open None open_requests)
+AnswersEach (reply r answer ∷ ds) open_requests = (with_seq r.seq open_requests ≡ asked_of r ∷ []) × AnswersEach ds (without_answered (answered_by (reply r answer)) open_requests)
+AnswersEach (emit event ∷ ds) open_requests = AnswersEach ds (without_answered None open_requests)
 
 -- and those that stay open
 abbrev pub open_after : List Draft → List Asked → List Asked
 open_after [] open_requests = open_requests
-open_after (d ∷ ds) open_requests = open_after ds (left_open (answered_by d) open_requests)
+open_after (d ∷ ds) open_requests = open_after ds (without_answered (answered_by d) open_requests)
 
 -- what is made of a session, where these requests came just before
 pub record GoesWell (s : Session) (came : List Asked) (m : Made) : Type 0 where
@@ -32,3 +39,13 @@ pub record GoesWell (s : Session) (came : List Asked) (m : Made) : Type 0 where
   pub used : m.after.used ≡ s.used + length m.drafts
   pub references : m.after.references ≡ references_after s.references (entries_of s.used m)
   pub limits : m.after.limits ≡ s.limits
+
+-- ---- the law
+
+-- so goes each message that is delivered, each request that is handled and each poll, whatever the debuggee replies
+pub record EachStepGoesWell : Type 0 where
+  pub take : (s : Session) (m : Message) (plan : Plan) (made : Made) → HasDistinctSeqs s.kept → takes m s ≡ Ok plan → CanMake plan made → GoesWell s (option_to_list (request_as m.seq m.kind)) made
+  pub turn : (view : Shown) (s : Session) (plan : Plan) (made : Made) → HasDistinctSeqs s.kept → turns view s ≡ Ok (Some plan) → CanMake plan made → GoesWell s [] made
+  pub poll : (s : Session) (made : Made) → CanMake (polls s) made → GoesWell s [] made
+  -- fewer requests are left to handle after a turn
+  pub fewer : (view : Shown) (s : Session) (plan : Plan) (made : Made) → HasDistinctSeqs s.kept → turns view s ≡ Ok (Some plan) → CanMake plan made → to_handle made.after.kept < to_handle s.kept

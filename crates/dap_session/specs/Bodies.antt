@@ -22,31 +22,31 @@ use Rattle.dap_debuggee.specs.declared.answers.Variable.{Variable}
 use Rattle.dap_debuggee.specs.declared.answers.Evaluation.{Evaluation}
 use Rattle.dap_debuggee.specs.declared.answers.Source.{Source}
 use Rattle.dap_session.specs.declared.options.Options.{Options}
-use Rattle.dap_session.specs.References.{intern_each, named, and_then}
+use Rattle.dap_session.specs.References.{intern_each, targets_named, and_then}
 use Rattle.dap_tables.specs.References.{LiveReferences, frame_of, holder_of, target_of}
 use Rattle.dap_session.specs.Session.{Session}
 
 -- what is told: the body, what its references name, and the references that are live then
-pub record Told : Type 0 where
+pub record QueryAnswer : Type 0 where
   pub body : Option Data
   pub names : List Target
   pub references : LiveReferences
 
-abbrev pub Telling : Type 0
-Telling = Result Told Failure
+abbrev pub QueryResult : Type 0
+QueryResult = Result QueryAnswer Failure
 
 -- a body without references
-abbrev pub tells_only : Session → Option Data → Telling
-tells_only s body = Ok (record { body = body; names = []; references = s.references })
+abbrev pub result_without_references : Session → Option Data → QueryResult
+result_without_references s body = Ok (record { body = body; names = []; references = s.references })
 
 -- what the debuggee refuses to tell
-abbrev pub asked_for : {A : Type 0} → Option A → (A → Telling) → Telling
-asked_for None tell = Err Debuggee
-asked_for (Some x) tell = tell x
+abbrev pub unless_refused : {A : Type 0} → Option A → (A → QueryResult) → QueryResult
+unless_refused None tell = Err Debuggee
+unless_refused (Some x) tell = tell x
 
 -- a body with a number for each of these objects
-abbrev pub tells_with : Session → List (Option Target) → (List ℕ → Data) → Telling
-tells_with s objects body = and_then (intern_each s.limits objects s.references) (λ given. Ok (record { body = Some (body given.0); names = named objects; references = given.1 }))
+abbrev pub result_with_references : Session → List (Option Target) → (List ℕ → Data) → QueryResult
+result_with_references s objects body = and_then (intern_each s.limits objects s.references) (λ given. Ok (record { body = Some (body given.0); names = targets_named objects; references = given.1 }))
 
 -- ---- lines, columns and parts of lists
 
@@ -63,38 +63,38 @@ window start count xs = if nat_lt 0 count then take count (drop start xs) else d
 
 -- ---- what bodies are made of
 
-abbrev pub thread_told : Thread → ThreadBody
-thread_told t = record { id = t.id; name = t.name }
+abbrev pub protocol_thread : Thread → ThreadBody
+protocol_thread t = record { id = t.id; name = t.name }
 
 abbrev pub numbered_source : ℕ → Source → SourceBody
 numbered_source number source = record { name = source.name; path = source.path; source_reference = number }
 
 -- each with its number, from 1
-abbrev pub sources_told : List Source → List SourceBody
-sources_told sources = map (λ p. numbered_source p.0 p.1) (zip (range_with_len 1 (length sources)) sources)
+abbrev pub protocol_sources : List Source → List SourceBody
+protocol_sources sources = map (λ p. numbered_source p.0 p.1) (zip (range_with_len 1 (length sources)) sources)
 
 -- the source at this index
-abbrev pub source_told : ℕ → Source → SourceBody
-source_told index source = numbered_source (index + 1) source
+abbrev pub protocol_source : ℕ → Source → SourceBody
+protocol_source index source = numbered_source (index + 1) source
 
 -- at an index past the sources, which no frame has
 abbrev pub no_source : SourceBody
 no_source = record { name = []; path = None; source_reference = 0 }
 
 abbrev pub source_of_frame : List Source → ℕ → SourceBody
-source_of_frame sources index = unwrap_or (option_map (source_told index) (slice_get sources index)) no_source
+source_of_frame sources index = unwrap_or (option_map (protocol_source index) (slice_get sources index)) no_source
 
 abbrev pub frame_with : Options → ℕ → Frame → SourceBody → StackFrame
 frame_with options id f source = record { id = id; name = f.name; source = source; line = line_shown options f.line; column = column_shown options }
 
-abbrev pub frame_told : Options → List Source → ℕ → Frame → StackFrame
-frame_told options sources id f = frame_with options id f (source_of_frame sources f.source)
+abbrev pub protocol_frame : Options → List Source → ℕ → Frame → StackFrame
+protocol_frame options sources id f = frame_with options id f (source_of_frame sources f.source)
 
-abbrev pub scope_told : ℕ → Scope → ScopeBody
-scope_told number scope = record { name = scope.name; variables_reference = number }
+abbrev pub protocol_scope : ℕ → Scope → ScopeBody
+protocol_scope number scope = record { name = scope.name; variables_reference = number }
 
-abbrev pub variable_told : ℕ → Variable → VariableBody
-variable_told number variable = record { name = variable.name; value = variable.value; variables_reference = number }
+abbrev pub protocol_variable : ℕ → Variable → VariableBody
+protocol_variable number variable = record { name = variable.name; value = variable.value; variables_reference = number }
 
 -- each with its number
 abbrev pub with_numbers : {A B : Type 0} → (ℕ → A → B) → List ℕ → List A → List B
@@ -106,18 +106,18 @@ number_in (n ∷ ns) = n
 
 -- ---- the answers
 
-abbrev pub frames_told : Shown → Session → ℕ → List Frame → Telling
-frames_told view s total shown_frames =
-    tells_with s (map (λ (f : Frame). Some (frame_of f.object)) shown_frames) (λ ids. stack_trace_body (with_numbers (frame_told s.options view.sources) ids shown_frames) total)
+abbrev pub stack_trace_result : Shown → Session → ℕ → List Frame → QueryResult
+stack_trace_result view s total shown_frames =
+    result_with_references s (map (λ (f : Frame). Some (frame_of f.object)) shown_frames) (λ ids. stack_trace_body (with_numbers (protocol_frame s.options view.sources) ids shown_frames) total)
 
-abbrev pub scopes_told : Session → List Scope → Telling
-scopes_told s scopes = tells_with s (map (λ (x : Scope). Some (holder_of x.holder)) scopes) (λ numbers. scopes_body (with_numbers scope_told numbers scopes))
+abbrev pub scopes_result : Session → List Scope → QueryResult
+scopes_result s scopes = result_with_references s (map (λ (x : Scope). Some (holder_of x.holder)) scopes) (λ numbers. scopes_body (with_numbers protocol_scope numbers scopes))
 
-abbrev pub variables_told : Session → List Variable → Telling
-variables_told s variables = tells_with s (map (λ (x : Variable). option_map holder_of x.holder) variables) (λ numbers. variables_body (with_numbers variable_told numbers variables))
+abbrev pub variables_result : Session → List Variable → QueryResult
+variables_result s variables = result_with_references s (map (λ (x : Variable). option_map holder_of x.holder) variables) (λ numbers. variables_body (with_numbers protocol_variable numbers variables))
 
-abbrev pub value_told : Session → Evaluation → Telling
-value_told s value = tells_with s (option_map holder_of value.holder ∷ []) (λ numbers. evaluate_body value.value (number_in numbers))
+abbrev pub evaluate_result : Session → Evaluation → QueryResult
+evaluate_result s value = result_with_references s (option_map holder_of value.holder ∷ []) (λ numbers. evaluate_body value.value (number_in numbers))
 
 -- the object of a live number
 abbrev pub object_of : LiveReferences → ℕ → Option ℕ
@@ -128,15 +128,15 @@ abbrev pub page : Options → ℕ → ℕ → List Variable → List Variable
 page options start count variables = if options.supports_variable_paging then window start count variables else variables
 
 -- what a call is told; one that tells nothing succeeds without a body
-unfoldable pub telling : Shown → Session → Call → Telling
-telling view s call.Threads = tells_only s (Some (threads_body (map thread_told view.threads)))
-telling view s (call.StackTrace asked) =
-    asked_for (view.frames asked.thread_id) (λ frames. frames_told view s (length frames) (window asked.start_frame asked.levels frames))
-telling view s (call.Scopes number) = asked_for (option_and_then view.scopes (object_of s.references number)) (scopes_told s)
-telling view s (call.Variables asked) =
-    asked_for (option_and_then view.children (object_of s.references asked.variables_reference)) (λ variables. variables_told s (page s.options asked.start asked.count variables))
-telling view s (call.Evaluate asked) =
-    asked_for (view.evaluate (option_and_then (object_of s.references) asked.frame_id) asked.expression) (value_told s)
-telling view s (call.Source number) = asked_for (view.content (number - 1)) (λ text. tells_only s (Some (source_body text)))
-telling view s call.LoadedSources = tells_only s (Some (loaded_sources_body (sources_told view.sources)))
-telling view s _ = tells_only s None
+unfoldable pub query_result : Shown → Session → Call → QueryResult
+query_result view s call.Threads = result_without_references s (Some (threads_body (map protocol_thread view.threads)))
+query_result view s (call.StackTrace asked) =
+    unless_refused (view.frames asked.thread_id) (λ frames. stack_trace_result view s (length frames) (window asked.start_frame asked.levels frames))
+query_result view s (call.Scopes number) = unless_refused (option_and_then view.scopes (object_of s.references number)) (scopes_result s)
+query_result view s (call.Variables asked) =
+    unless_refused (option_and_then view.children (object_of s.references asked.variables_reference)) (λ variables. variables_result s (page s.options asked.start asked.count variables))
+query_result view s (call.Evaluate asked) =
+    unless_refused (view.evaluate (option_and_then (object_of s.references) asked.frame_id) asked.expression) (evaluate_result s)
+query_result view s (call.Source number) = unless_refused (view.content (number - 1)) (λ text. result_without_references s (Some (source_body text)))
+query_result view s call.LoadedSources = result_without_references s (Some (loaded_sources_body (protocol_sources view.sources)))
+query_result view s _ = result_without_references s None

@@ -101,13 +101,13 @@ or_else (Some f) later = Some f
 or_else None later = later
 
 -- the first that holds
-abbrev pub first : List (Option Failure) → Option Failure
-first [] = None
-first (f ∷ later) = or_else f (first later)
+abbrev pub first_failure : List (Option Failure) → Option Failure
+first_failure [] = None
+first_failure (f ∷ later) = or_else f (first_failure later)
 
 -- of a command's name alone
 abbrev pub name_refused : Phase → Option Command → Option Failure
-name_refused phase c = first (
+name_refused phase c = first_failure (
     when (is_phase Fresh phase && not (of_known is_early c)) NotInitialized
     ∷ when (of_known is_initialize c && not (is_phase Fresh phase)) AlreadyInitialized
     ∷ when (is_none c) UnknownCommand
@@ -121,14 +121,14 @@ key_refused (Ok asked) = None
 
 -- of the phase
 abbrev pub phase_refused : Phase → Command → Option Failure
-phase_refused phase c = first (
+phase_refused phase c = first_failure (
     when (not (is_served c phase) && not (waits_for_stop phase c)) WrongPhase
     ∷ when (not (is_served c phase)) NotStopped
     ∷ [])
 
 -- of what the arguments name
 abbrev pub call_refused : Shown → LiveReferences → Call → Option Failure
-call_refused view refs asked = first (
+call_refused view refs asked = first_failure (
     when (lacks_thread view (thread_named asked)) UnknownThread
     ∷ when (lacks_reference refs (reference_named asked)) StaleReference
     ∷ when (lacks_source view (source_named asked)) UnknownSource
@@ -141,8 +141,8 @@ read_refused view refs (Ok asked) = call_refused view refs asked
 -- what the arguments are is looked at only where the command is known
 abbrev pub known_refused : Shown → Session → Entry → Option Command → Option Failure
 known_refused view s r None = None
-known_refused view s r (Some c) = first (key_refused (call_in r c) ∷ phase_refused s.phase c ∷ read_refused view s.references (call_in r c) ∷ [])
+known_refused view s r (Some c) = first_failure (key_refused (call_in r c) ∷ phase_refused s.phase c ∷ read_refused view s.references (call_in r c) ∷ [])
 
 -- why a request is refused before anything is asked
 abbrev pub refusal : Shown → Session → Entry → Option Failure
-refusal view s r = first (name_refused s.phase (command_of r) ∷ known_refused view s r (command_of r) ∷ [])
+refusal view s r = first_failure (name_refused s.phase (command_of r) ∷ known_refused view s r (command_of r) ∷ [])

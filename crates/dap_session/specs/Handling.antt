@@ -5,8 +5,8 @@ use Rattle.std.specs.List.{zip, range_with_len}
 use Rattle.serde_json.specs.Data.{Data}
 use Rattle.dap_message.specs.Argument.{Read}
 use Rattle.dap_message.specs.Canon.{canon}
-use Rattle.dap_message.specs.Capabilities.{written}
-use Rattle.dap_message.specs.Lengths.{initialized, terminated, succeeded}
+use Rattle.dap_message.specs.Capabilities.{capabilities_data}
+use Rattle.dap_message.specs.AdapterMessages.{initialized, terminated, success_response}
 use Rattle.dap_message.specs.ResponseBody.{continue_body, set_breakpoints_body}
 use Rattle.dap_message.specs.Types.Breakpoint.{Breakpoint as BreakpointBody}
 use Rattle.dap_message.specs.Types.Call.{Call}
@@ -27,12 +27,12 @@ use Rattle.dap_session.specs.declared.effect.Effect.{Effect}
 use Rattle.dap_session.specs.declared.effect.Effect.TheVariants as effect
 use Rattle.dap_session.specs.declared.options.Options.{Options}
 use Rattle.dap_session.specs.declared.fault.AdapterFault.{AdapterFault}
-use Rattle.dap_session.specs.Bodies.{Telling, telling}
+use Rattle.dap_session.specs.Bodies.{QueryResult, query_result}
 use Rattle.dap_session.specs.Breakpoints.{are_too_many}
-use Rattle.dap_tables.specs.Breakpoints.{replaced}
+use Rattle.dap_tables.specs.Breakpoints.{breakpoints_with}
 use Rattle.dap_session.specs.Failures.{command_of, call_in, refusal, thread_named}
-use Rattle.dap_session.specs.Plan.{Answer, success, failure, plain_success, Draft, reply, tell, Made, Plan, at_once, asking, nothing, answered, affordable}
-use Rattle.dap_tables.specs.References.{cleared}
+use Rattle.dap_session.specs.Plan.{Answer, success, failure, plain_success, Draft, reply, emit, Made, Plan, at_once, asking, no_change, after_answering, plan_within_numbers}
+use Rattle.dap_tables.specs.References.{without_references}
 use Rattle.dap_session.specs.Session.{Session, usual_options, oldest}
 use Rattle.dap_tables.specs.Outstanding.{parked_ones, unparked_ones}
 use Rattle.dap_session.specs.Table.{effect_in}
@@ -40,8 +40,8 @@ use Rattle.dap_session.specs.Table.{effect_in}
 -- ---- initialize
 
 -- what this adapter offers
-abbrev pub offered : Capabilities
-offered = record {
+abbrev pub adapter_capabilities : Capabilities
+adapter_capabilities = record {
   breakpoint_locations = false;
   cancel = true;
   completions = false;
@@ -60,9 +60,9 @@ abbrev pub options_of : Call → Options
 options_of (call.Initialize asked) = record { lines_start_at_1 = asked.lines_start_at_1; columns_start_at_1 = asked.columns_start_at_1; supports_variable_paging = asked.supports_variable_paging }
 options_of _ = usual_options
 
-abbrev pub begun : Session → Entry → Call → Made
-begun s r asked = record {
-  drafts = reply r (success (Some (written offered)) []) ∷ tell initialized ∷ [];
+abbrev pub after_initialize : Session → Entry → Call → Made
+after_initialize s r asked = record {
+  drafts = reply r (success (Some (capabilities_data adapter_capabilities)) []) ∷ emit initialized ∷ [];
   drops = false;
   after = record s { phase = Ready; options = options_of asked; kept = without r.seq s.kept; used = s.used + 2 };
 }
@@ -78,25 +78,25 @@ abbrev pub start_phase : Reply → Phase
 start_phase done = Running
 start_phase _ = Configured
 
-abbrev pub parked : Session → Entry → Made
-parked s r = record { drafts = []; drops = false; after = record s { phase = Parked; kept = with_mark r.seq true s.kept } }
+abbrev pub after_park : Session → Entry → Made
+after_park s r = record { drafts = []; drops = false; after = record s { phase = Parked; kept = with_mark r.seq true s.kept } }
 
-abbrev pub started : Session → Entry → Reply → Made
-started s r last = record {
+abbrev pub after_launch : Session → Entry → Reply → Made
+after_launch s r last = record {
   drafts = reply r (by_reply None last) ∷ [];
   drops = false;
   after = record s { phase = start_phase last; kept = without r.seq s.kept; used = s.used + 1 };
 }
 
-abbrev pub configured : Session → Entry → Made
-configured s r = record { drafts = reply r plain_success ∷ []; drops = false; after = record s { phase = Configured; kept = without r.seq s.kept; used = s.used + 1 } }
+abbrev pub after_configuration_done : Session → Entry → Made
+after_configuration_done s r = record { drafts = reply r plain_success ∷ []; drops = false; after = record s { phase = Configured; kept = without r.seq s.kept; used = s.used + 1 } }
 
 abbrev pub answer_each : Answer → List Kept → List Draft
 answer_each answer kept = map (λ k. reply k.entry answer) kept
 
 -- the request is answered, then what was parked
-abbrev pub started_parked : Session → Entry → Reply → Made
-started_parked s r last = record {
+abbrev pub after_parked_launch : Session → Entry → Reply → Made
+after_parked_launch s r last = record {
   drafts = reply r plain_success ∷ answer_each (by_reply None last) (parked_ones (without r.seq s.kept));
   drops = false;
   after = record s { phase = start_phase last; kept = unparked_ones (without r.seq s.kept); used = s.used + (1 + length (parked_ones (without r.seq s.kept))) };
@@ -105,18 +105,18 @@ started_parked s r last = record {
 -- ---- disconnect and terminate
 
 -- every other request is cancelled, in order of arrival, then this one answered
-abbrev pub left : Session → Entry → Made
-left s r = record {
+abbrev pub after_disconnect : Session → Entry → Made
+after_disconnect s r = record {
   drafts = answer_each (failure Cancelled) (without r.seq s.kept) ++ reply r plain_success ∷ [];
   drops = true;
-  after = record s { phase = Ended; kept = []; references = cleared s.references; used = s.used + (length (without r.seq s.kept) + 1) };
+  after = record s { phase = Ended; kept = []; references = without_references s.references; used = s.used + (length (without r.seq s.kept) + 1) };
 }
 
-abbrev pub finished : Session → Entry → Made
-finished s r = record {
-  drafts = reply r plain_success ∷ tell terminated ∷ [];
+abbrev pub after_terminate : Session → Entry → Made
+after_terminate s r = record {
+  drafts = reply r plain_success ∷ emit terminated ∷ [];
   drops = true;
-  after = record s { phase = Exited; kept = without r.seq s.kept; references = cleared s.references; used = s.used + 2 };
+  after = record s { phase = Exited; kept = without r.seq s.kept; references = without_references s.references; used = s.used + 2 };
 }
 
 -- ---- the six ways to go on
@@ -125,27 +125,27 @@ abbrev pub resume_body : How → Option Data
 resume_body how.Continue = Some continue_body
 resume_body _ = None
 
-abbrev pub resumed : How → Session → Entry → Reply → Made
-resumed h s r done = record {
+abbrev pub after_resume : How → Session → Entry → Reply → Made
+after_resume h s r done = record {
   drafts = reply r (success (resume_body h) []) ∷ [];
   drops = true;
-  after = record s { phase = Running; kept = without r.seq s.kept; references = cleared s.references; used = s.used + 1 };
+  after = record s { phase = Running; kept = without r.seq s.kept; references = without_references s.references; used = s.used + 1 };
 }
-resumed h s r _ = answered r (failure Debuggee) s
+after_resume h s r _ = after_answering r (failure Debuggee) s
 
 -- ---- what has to fit a message
 
 -- the response has at most as many bytes as a body may have
 abbrev pub fits : Session → Entry → Option Data → Bool
-fits s r body = nat_le (length (canon (succeeded (s.used + 1) r.seq r.command body))) s.limits.body
+fits s r body = nat_le (length (canon (success_response (s.used + 1) r.seq r.command body))) s.limits.body
 
 -- nothing is given where it would be too large
-abbrev pub told : Session → Entry → Telling → Made
-told s r (Err f) = answered r (failure f) s
-told s r (Ok t) =
+abbrev pub after_query : Session → Entry → QueryResult → Made
+after_query s r (Err f) = after_answering r (failure f) s
+after_query s r (Ok t) =
     if fits s r t.body
     then record { drafts = reply r (success t.body t.names) ∷ []; drops = false; after = record s { kept = without r.seq s.kept; references = t.references; used = s.used + 1 } }
-    else answered r (failure TooLarge) s
+    else after_answering r (failure TooLarge) s
 
 -- ---- breakpoints
 
@@ -162,23 +162,23 @@ breakpoints_set s r key lines body = asking (to_set_breakpoints key lines)
     (λ last. record {
       drafts = reply r (success body []) ∷ [];
       drops = false;
-      after = record s { kept = without r.seq s.kept; breakpoints = replaced key lines s.breakpoints; used = s.used + 1 };
+      after = record s { kept = without r.seq s.kept; breakpoints = breakpoints_with key lines s.breakpoints; used = s.used + 1 };
     })
 
 -- the answer is measured before anything changes
 abbrev pub breakpoints_answered : Session → Entry → SourceKey → List ℕ → Option Data → Plan
-breakpoints_answered s r key lines body = if fits s r body then breakpoints_set s r key lines body else at_once (answered r (failure TooLarge) s)
+breakpoints_answered s r key lines body = if fits s r body then breakpoints_set s r key lines body else at_once (after_answering r (failure TooLarge) s)
 
 abbrev pub breakpoints_verified : Session → Entry → SourceKey → List ℕ → Option (List Bool) → Plan
-breakpoints_verified s r key lines None = at_once (answered r (failure Debuggee) s)
+breakpoints_verified s r key lines None = at_once (after_answering r (failure Debuggee) s)
 breakpoints_verified s r key lines (Some verified) =
     if are_too_many s.limits key lines s.breakpoints
-    then at_once (answered r (failure TooManyBreakpoints) s)
+    then at_once (after_answering r (failure TooManyBreakpoints) s)
     else breakpoints_answered s r key (lines_asked s.options lines) (Some (set_breakpoints_body (answers_to s.breakpoints.next_id lines verified)))
 
 abbrev pub breakpoints_plan : Shown → Session → Entry → Call → Plan
 breakpoints_plan view s r (call.SetBreakpoints key lines) = breakpoints_verified s r key lines (view.verify key (lines_asked s.options lines))
-breakpoints_plan view s r _ = at_once (nothing s)
+breakpoints_plan view s r _ = at_once (no_change s)
 
 -- ---- the effects of the table
 
@@ -187,32 +187,32 @@ abbrev pub thread_of : Call → ℤ
 thread_of asked = unwrap_or (thread_named asked) (pos 0)
 
 unfoldable pub plan_for : Effect → Shown → Session → Entry → Call → Plan
-plan_for effect.Begin view s r asked = at_once (begun s r asked)
-plan_for effect.Park view s r asked = at_once (parked s r)
-plan_for effect.Start view s r asked = asking to_start (started s r)
-plan_for effect.Configure view s r asked = at_once (configured s r)
-plan_for effect.StartParked view s r asked = asking to_start (started_parked s r)
-plan_for effect.Leave view s r asked = at_once (left s r)
-plan_for effect.EndAndLeave view s r asked = asking to_end (λ last. left s r)
-plan_for effect.Finish view s r asked = asking to_end (λ last. finished s r)
+plan_for effect.Initialize view s r asked = at_once (after_initialize s r asked)
+plan_for effect.Park view s r asked = at_once (after_park s r)
+plan_for effect.Start view s r asked = asking to_start (after_launch s r)
+plan_for effect.ConfigurationDone view s r asked = at_once (after_configuration_done s r)
+plan_for effect.StartParked view s r asked = asking to_start (after_parked_launch s r)
+plan_for effect.Disconnect view s r asked = at_once (after_disconnect s r)
+plan_for effect.EndAndDisconnect view s r asked = asking to_end (λ last. after_disconnect s r)
+plan_for effect.Terminate view s r asked = asking to_end (λ last. after_terminate s r)
 plan_for effect.SetBreakpoints view s r asked = breakpoints_plan view s r asked
-plan_for (effect.Resume h) view s r asked = asking (to_resume h (thread_of asked)) (resumed h s r)
-plan_for effect.Pause view s r asked = asking to_pause (λ last. answered r (by_reply None last) s)
-plan_for effect.Tell view s r asked = at_once (told s r (telling view s asked))
+plan_for (effect.Resume h) view s r asked = asking (to_resume h (thread_of asked)) (after_resume h s r)
+plan_for effect.Pause view s r asked = asking to_pause (λ last. after_answering r (by_reply None last) s)
+plan_for effect.Query view s r asked = at_once (after_query s r (query_result view s asked))
 
 -- ---- a request, and a turn
 
 abbrev pub plan_of_call : Shown → Session → Entry → Option Effect → Read Call → Plan
 plan_of_call view s r (Some e) (Ok asked) = plan_for e view s r asked
-plan_of_call view s r _ _ = at_once (nothing s)
+plan_of_call view s r _ _ = at_once (no_change s)
 
 abbrev pub plan_of_command : Shown → Session → Entry → Option Command → Plan
-plan_of_command view s r None = at_once (nothing s)
+plan_of_command view s r None = at_once (no_change s)
 plan_of_command view s r (Some c) = plan_of_call view s r (effect_in c s.phase) (call_in r c)
 
 -- the first failure that holds, or what the table says
 abbrev pub plan_unless : Option Failure → Shown → Session → Entry → Plan
-plan_unless (Some f) view s r = at_once (answered r (failure f) s)
+plan_unless (Some f) view s r = at_once (after_answering r (failure f) s)
 plan_unless None view s r = plan_of_command view s r (command_of r)
 
 -- how a request is handled
@@ -227,7 +227,7 @@ some_plan (Err fault) = Err fault
 
 abbrev pub turn_of : Shown → Session → Option Kept → Result (Option Plan) AdapterFault
 turn_of view s None = Ok None
-turn_of view s (Some k) = some_plan (affordable s (plan view s k.entry))
+turn_of view s (Some k) = some_plan (plan_within_numbers s (plan view s k.entry))
 
 -- the oldest request that is not parked is handled
 abbrev pub turns : Shown → Session → Result (Option Plan) AdapterFault

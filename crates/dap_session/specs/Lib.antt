@@ -15,11 +15,11 @@ pub mod Laws
 pub mod Within
 pub mod ReferenceLaws
 pub mod Answering
-pub mod Sheet
-pub mod Seat
-pub mod Several
-pub mod Telling
-pub mod Setting
+pub mod PrivateOutbox
+pub mod SessionState
+pub mod PrivateSeveral
+pub mod QueryResults
+pub mod PrivateSetting
 pub mod RefusalLaws
 pub mod StaleLaws
 pub mod OrderLaws

@@ -2,7 +2,7 @@
 -- That order is this profile's choice.
 use Rattle.std.specs.Prelude.{◌≡◌, ◌&&◌, not, Bool, true, false, Option, Some, is_none, find, Ok, Err}
 use Rattle.dap_message.specs.Argument.{Read}
-use Rattle.dap_message.specs.Failure.{in_order}
+use Rattle.dap_message.specs.Failure.{failures_in_order}
 use Rattle.dap_message.specs.Types.Call.{Call}
 use Rattle.dap_message.specs.Types.Command.{Command}
 use Rattle.dap_message.specs.Types.Failure.{Failure}
@@ -41,4 +41,4 @@ fails view s c reads _ = false
 -- a request is refused with the first failure of that order whose test holds, where `key` is the first bad one, if there is one
 abbrev pub RefusalsComeInOrder : Type 0
 RefusalsComeInOrder = (view : Shown) (s : Session) (r : Entry) (key : Key) → ((c : Command) (bad : Key) → command_of r ≡ Some c → call_in r c ≡ Err bad → bad ≡ key)
-    → refusal view s r ≡ find (fails view s (command_of r) (call_in r)) (in_order key)
+    → refusal view s r ≡ find (fails view s (command_of r) (call_in r)) (failures_in_order key)

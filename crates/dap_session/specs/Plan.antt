@@ -5,9 +5,9 @@ use Rattle.std.specs.List.{flat_map}
 use Rattle.serde_json.specs.Data.{Data}
 use Rattle.dap_frame.specs.Written.{frame_of}
 use Rattle.dap_message.specs.Canon.{canon}
-use Rattle.dap_history.specs.History.{Entry, Out, Drop}
+use Rattle.dap_history.specs.History.{Entry, Out, ReferencesEnd}
 use Rattle.dap_tables.specs.declared.target.Target.{Target}
-use Rattle.dap_message.specs.Lengths.{AdapterEvent, event_name, event_body, succeeded, failed, happened}
+use Rattle.dap_message.specs.AdapterMessages.{AdapterEvent, event_name, event_body, success_response, failure_response, event_message}
 use Rattle.dap_message.specs.Types.Failure.{Failure}
 use Rattle.dap_message.specs.declared.message.Message.{Message}
 use Rattle.dap_tables.specs.Outstanding.{without}
@@ -25,7 +25,7 @@ pub data Answer : Type 0 where
 -- what is to be written, before it has its number
 pub data Draft : Type 0 where
   reply : Request → Answer → Draft
-  tell : AdapterEvent → Draft
+  emit : AdapterEvent → Draft
 
 -- without a body
 abbrev pub plain_success : Answer
@@ -34,12 +34,12 @@ plain_success = success None []
 -- ---- messages
 
 abbrev pub answer_message : ℕ → Request → Answer → Message
-answer_message seq r (success body names) = succeeded seq r.seq r.command body
-answer_message seq r (failure f) = failed seq r.seq r.command f
+answer_message seq r (success body names) = success_response seq r.seq r.command body
+answer_message seq r (failure f) = failure_response seq r.seq r.command f
 
 abbrev pub message_of : ℕ → Draft → Message
 message_of seq (reply r answer) = answer_message seq r answer
-message_of seq (tell event) = happened seq (event_name event) (event_body event)
+message_of seq (emit event) = event_message seq (event_name event) (event_body event)
 
 abbrev pub names_in : Answer → List Target
 names_in (success body names) = names
@@ -47,12 +47,12 @@ names_in (failure f) = []
 
 abbrev pub names_of : Draft → List Target
 names_of (reply r answer) = names_in answer
-names_of (tell event) = []
+names_of (emit event) = []
 
 -- drafts with the own numbers after the last one used
-abbrev pub numbered : ℕ → List Draft → List Message
-numbered used [] = []
-numbered used (d ∷ ds) = message_of (used + 1) d ∷ numbered (used + 1) ds
+abbrev pub numbered_messages : ℕ → List Draft → List Message
+numbered_messages used [] = []
+numbered_messages used (d ∷ ds) = message_of (used + 1) d ∷ numbered_messages (used + 1) ds
 
 -- as they stand in a history
 abbrev pub outs : ℕ → List Draft → List Entry
@@ -77,26 +77,26 @@ pub data Plan : Type 0 where
   asking : Act → (Reply → Made) → Plan
 
 -- nothing is written and nothing changes
-abbrev pub nothing : Session → Made
-nothing s = record { drafts = []; drops = false; after = s }
+abbrev pub no_change : Session → Made
+no_change s = record { drafts = []; drops = false; after = s }
 
 -- one request is answered, and kept no more
-abbrev pub answered : Request → Answer → Session → Made
-answered r answer s = record { drafts = reply r answer ∷ []; drops = false; after = record s { kept = without r.seq s.kept; used = s.used + 1 } }
+abbrev pub after_answering : Request → Answer → Session → Made
+after_answering r answer s = record { drafts = reply r answer ∷ []; drops = false; after = record s { kept = without r.seq s.kept; used = s.used + 1 } }
 
 -- how many messages it takes, whatever the debuggee replies
-abbrev pub due : Plan → ℕ
-due (at_once m) = length m.drafts
-due (asking act makes) = length (makes done).drafts
+abbrev pub messages_due : Plan → ℕ
+messages_due (at_once m) = length m.drafts
+messages_due (asking act makes) = length (makes done).drafts
 
 -- unless it takes more messages than own numbers are left
-abbrev pub affordable : Session → Plan → Result Plan AdapterFault
-affordable s plan = if nat_le (s.used + due plan) s.limits.seq then Ok plan else Err SeqExhausted
+abbrev pub plan_within_numbers : Session → Plan → Result Plan AdapterFault
+plan_within_numbers s plan = if nat_le (s.used + messages_due plan) s.limits.seq then Ok plan else Err SeqExhausted
 
-abbrev pub dropping : Bool → List Entry
-dropping true = Drop ∷ []
-dropping false = []
+abbrev pub references_end_if : Bool → List Entry
+references_end_if true = ReferencesEnd ∷ []
+references_end_if false = []
 
 -- its entries in the history: the end of the references, then what is written
 abbrev pub entries_of : ℕ → Made → List Entry
-entries_of used m = dropping m.drops ++ outs used m.drafts
+entries_of used m = references_end_if m.drops ++ outs used m.drafts

@@ -2,15 +2,15 @@
 -- Overview, "Lifetime of Objects References".
 use Rattle.std.specs.Prelude.{ℕ, List, [], ◌∷◌, ◌++◌, Option, Some, None, Result, Ok, Err, is_some, if◌then◌else◌}
 use Rattle.dap_frame.specs.Settings.{Settings}
-use Rattle.dap_history.specs.History.{Entry, In, Out, Drop}
+use Rattle.dap_history.specs.History.{Entry, In, Out, ReferencesEnd}
 use Rattle.dap_message.specs.Types.Failure.{Failure}
 use Rattle.dap_message.specs.Types.Failure.TheVariants.{TooManyReferences, ReferencesExhausted}
-use Rattle.dap_tables.specs.References.{LiveReferences, no_references, place_of, interned, cleared}
+use Rattle.dap_tables.specs.References.{LiveReferences, no_references, place_of, intern_result, without_references}
 use Rattle.dap_tables.specs.declared.target.Target.{Target}
 
 -- a live target keeps its number; a new one has the next, unless there are too many or none is left
 abbrev pub intern : Settings → Target → LiveReferences → Result (ℕ × LiveReferences) Failure
-intern limits target refs = interned TooManyReferences ReferencesExhausted limits.references limits.reference target refs
+intern limits target refs = intern_result TooManyReferences ReferencesExhausted limits.references limits.reference target refs
 
 abbrev pub and_then : {A B : Type 0} → Result A Failure → (A → Result B Failure) → Result B Failure
 and_then (Ok a) f = f a
@@ -31,10 +31,10 @@ intern_each limits [] refs = Ok ([], refs)
 intern_each limits (t ∷ ts) refs = and_then (number_of limits t refs) (λ r. onto_first r.0 (intern_each limits ts r.1))
 
 -- those that are there
-abbrev pub named : List (Option Target) → List Target
-named [] = []
-named (None ∷ ts) = named ts
-named (Some t ∷ ts) = t ∷ named ts
+abbrev pub targets_named : List (Option Target) → List Target
+targets_named [] = []
+targets_named (None ∷ ts) = targets_named ts
+targets_named (Some t ∷ ts) = t ∷ targets_named ts
 
 -- ---- the references of a history
 
@@ -49,7 +49,7 @@ with_targets (t ∷ ts) live = with_targets ts (with_target t live)
 abbrev pub references_then : Entry → LiveReferences → LiveReferences
 references_then (In m) refs = refs
 references_then (Out m names) refs = record refs { live = with_targets names refs.live }
-references_then Drop refs = cleared refs
+references_then ReferencesEnd refs = without_references refs
 
 abbrev pub references_after : LiveReferences → List Entry → LiveReferences
 references_after refs [] = refs

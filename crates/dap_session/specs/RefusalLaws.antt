@@ -7,7 +7,7 @@ use Rattle.dap_tables.specs.declared.entry.Entry.{Entry}
 use Rattle.dap_debuggee.specs.Shown.{Shown}
 use Rattle.dap_session.specs.Handling.{turns}
 use Rattle.dap_session.specs.Laws.{CanMake}
-use Rattle.dap_session.specs.Plan.{Draft, reply, failure, Made, Plan, at_once, answered}
+use Rattle.dap_session.specs.Plan.{Draft, reply, failure, Made, Plan, at_once, after_answering}
 use Rattle.dap_session.specs.Session.{Session}
 
 abbrev pub is_for_room : Failure → Bool
@@ -20,4 +20,4 @@ is_for_room _ = false
 -- where a turn writes such a failure, the debuggee is asked nothing, and nothing is done but that the request is answered
 abbrev pub RefusalsChangeNothing : Type 0
 RefusalsChangeNothing = (view : Shown) (s : Session) (plan : Plan) (made : Made) (before after : List Draft) (r : Entry) (f : Failure) → turns view s ≡ Ok (Some plan) → CanMake plan made
-    → made.drafts ≡ before ++ reply r (failure f) ∷ after → is_for_room f ≡ true → plan ≡ at_once (answered r (failure f) s)
+    → made.drafts ≡ before ++ reply r (failure f) ∷ after → is_for_room f ≡ true → plan ≡ at_once (after_answering r (failure f) s)

@@ -2,10 +2,8 @@
 use Rattle.std.specs.Prelude.{ℕ, ◌==◌, ◌&&◌, not, List, [], length, filter, find, true, false, Option}
 use Rattle.dap_frame.specs.Settings.{Settings}
 use Rattle.dap_tables.specs.Outstanding.{Kept, unparked_ones}
-use Rattle.dap_debuggee.specs.declared.answers.State.{State}
-use Rattle.dap_debuggee.specs.declared.answers.State.TheVariants as state
 use Rattle.dap_session.specs.declared.phase.Phase.{Phase}
-use Rattle.dap_session.specs.declared.phase.Phase.TheVariants.{Fresh, Running, Stopped, Exited, Ended}
+use Rattle.dap_session.specs.declared.phase.Phase.TheVariants.{Fresh}
 use Rattle.dap_session.specs.declared.options.Options.{Options}
 use Rattle.dap_tables.specs.References.{LiveReferences, no_references}
 use Rattle.dap_tables.specs.Breakpoints.{SetBreakpoints, no_breakpoints}
@@ -53,13 +51,3 @@ oldest kept = find (λ k. not k.parked) kept
 -- how many wait to be handled: those that are not parked
 abbrev pub to_handle : List Kept → ℕ
 to_handle kept = length (unparked_ones kept)
-
--- ---- phases and the debuggee
-
--- where the debuggee stands, until the session has ended
-abbrev pub state_in : Phase → State
-state_in Running = state.Running
-state_in Stopped = state.Stopped
-state_in Exited = state.Gone
-state_in Ended = state.Gone
-state_in _ = state.NotStarted

@@ -12,7 +12,7 @@ use Rattle.dap_debuggee.specs.Shown.{Shown}
 use Rattle.dap_session.specs.declared.phase.Phase.TheVariants.{Stopped}
 use Rattle.dap_session.specs.Failures.{command_of, call_in, reference_named}
 use Rattle.dap_session.specs.Handling.{plan}
-use Rattle.dap_session.specs.Plan.{Made, failure, at_once, answered}
+use Rattle.dap_session.specs.Plan.{Made, failure, at_once, after_answering}
 use Rattle.dap_session.specs.ReferenceLaws.{IsStep, Runs}
 use Rattle.dap_session.specs.Session.{Session}
 use Rattle.dap_session.specs.Table.{is_served}
@@ -29,7 +29,7 @@ pub record AsksFor (s : Session) (r : Entry) (kind : ReferenceKind) (n : ℕ) : 
 
 -- it is answered `staleReference`, and nothing else is done
 abbrev pub IsStale : Shown → Session → Entry → Type 0
-IsStale view s r = plan view s r ≡ at_once (answered r (failure StaleReference) s)
+IsStale view s r = plan view s r ≡ at_once (after_answering r (failure StaleReference) s)
 
 pub record DeadNumbersAreStale : Type 0 where
   -- a number that names nothing of its kind

@@ -8,7 +8,7 @@ use Rattle.dap_debuggee.specs.declared.answers.How.TheVariants as how
 use Rattle.dap_session.specs.declared.phase.Phase.{Phase}
 use Rattle.dap_session.specs.declared.phase.Phase.TheVariants.{Fresh, Ready, Configured, Parked, Running, Stopped, Exited, Ended}
 use Rattle.dap_session.specs.declared.effect.Effect.{Effect}
-use Rattle.dap_session.specs.declared.effect.Effect.TheVariants.{Begin, Park, Start, Configure, StartParked, Leave, EndAndLeave, Finish, SetBreakpoints, Resume, Pause, Tell}
+use Rattle.dap_session.specs.declared.effect.Effect.TheVariants.{Initialize, Park, Start, ConfigurationDone, StartParked, Disconnect, EndAndDisconnect, Terminate, SetBreakpoints, Resume, Pause, Query}
 
 -- in each of these phases a command does this
 pub record Row : Type 0 where
@@ -37,28 +37,28 @@ without_debuggee = Fresh ∷ Ready ∷ Configured ∷ Parked ∷ Exited ∷ []
 
 -- The rows of a command; a command without rows is never served.
 abbrev pub rows_of : Command → List Row
-rows_of command.Initialize = row (Fresh ∷ []) Begin ∷ []
+rows_of command.Initialize = row (Fresh ∷ []) Initialize ∷ []
 rows_of command.Launch = row (Ready ∷ []) Park ∷ row (Configured ∷ []) Start ∷ []
 rows_of command.Attach = row (Ready ∷ []) Park ∷ row (Configured ∷ []) Start ∷ []
-rows_of command.ConfigurationDone = row (Ready ∷ []) Configure ∷ row (Parked ∷ []) StartParked ∷ []
-rows_of command.Disconnect = row with_debuggee EndAndLeave ∷ row without_debuggee Leave ∷ []
-rows_of command.Terminate = row with_debuggee Finish ∷ []
+rows_of command.ConfigurationDone = row (Ready ∷ []) ConfigurationDone ∷ row (Parked ∷ []) StartParked ∷ []
+rows_of command.Disconnect = row with_debuggee EndAndDisconnect ∷ row without_debuggee Disconnect ∷ []
+rows_of command.Terminate = row with_debuggee Terminate ∷ []
 rows_of command.SetBreakpoints = row ready_to_stopped SetBreakpoints ∷ []
-rows_of command.SetExceptionBreakpoints = row ready_to_stopped Tell ∷ []
-rows_of command.Threads = row ready_to_exited Tell ∷ []
-rows_of command.Source = row ready_to_exited Tell ∷ []
-rows_of command.LoadedSources = row ready_to_exited Tell ∷ []
+rows_of command.SetExceptionBreakpoints = row ready_to_stopped Query ∷ []
+rows_of command.Threads = row ready_to_exited Query ∷ []
+rows_of command.Source = row ready_to_exited Query ∷ []
+rows_of command.LoadedSources = row ready_to_exited Query ∷ []
 rows_of command.Continue = row (Stopped ∷ []) (Resume how.Continue) ∷ []
 rows_of command.Next = row (Stopped ∷ []) (Resume how.Next) ∷ []
 rows_of command.StepIn = row (Stopped ∷ []) (Resume how.StepIn) ∷ []
 rows_of command.StepOut = row (Stopped ∷ []) (Resume how.StepOut) ∷ []
 rows_of command.StepBack = row (Stopped ∷ []) (Resume how.StepBack) ∷ []
 rows_of command.ReverseContinue = row (Stopped ∷ []) (Resume how.ReverseContinue) ∷ []
-rows_of command.Pause = row (Running ∷ []) Pause ∷ row (Stopped ∷ []) Tell ∷ []
-rows_of command.StackTrace = row (Stopped ∷ []) Tell ∷ []
-rows_of command.Scopes = row (Stopped ∷ []) Tell ∷ []
-rows_of command.Variables = row (Stopped ∷ []) Tell ∷ []
-rows_of command.Evaluate = row (Stopped ∷ []) Tell ∷ []
+rows_of command.Pause = row (Running ∷ []) Pause ∷ row (Stopped ∷ []) Query ∷ []
+rows_of command.StackTrace = row (Stopped ∷ []) Query ∷ []
+rows_of command.Scopes = row (Stopped ∷ []) Query ∷ []
+rows_of command.Variables = row (Stopped ∷ []) Query ∷ []
+rows_of command.Evaluate = row (Stopped ∷ []) Query ∷ []
 rows_of _ = []
 
 -- ---- reading the table

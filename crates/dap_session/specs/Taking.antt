@@ -11,21 +11,21 @@ use Rattle.dap_message.specs.Types.Failure.TheVariants.{NotInitialized, BadArgum
 use Rattle.dap_message.specs.declared.message.Message.{Message}
 use Rattle.dap_message.specs.declared.message.Kind.{Kind}
 use Rattle.dap_message.specs.declared.message.Kind.TheVariants.{Request, Response, Event, Other}
-use Rattle.dap_tables.specs.Outstanding.{Kept, unparked, contains_seq}
+use Rattle.dap_tables.specs.Outstanding.{Kept, kept_unparked, contains_seq}
 use Rattle.dap_tables.specs.declared.entry.Entry.{Entry}
 use Rattle.dap_session.specs.declared.phase.Phase.TheVariants.{Fresh, Ended}
 use Rattle.dap_session.specs.declared.fault.AdapterFault.{AdapterFault}
 use Rattle.dap_session.specs.declared.fault.AdapterFault.TheVariants.{RepeatedSeq, Unmatched, Ended as EndedFault}
 use Rattle.dap_session.specs.Failures.{command_of, of_known}
 use Rattle.dap_session.specs.Handling.{answer_each}
-use Rattle.dap_session.specs.Plan.{Answer, failure, plain_success, reply, Made, Plan, at_once, nothing, affordable}
+use Rattle.dap_session.specs.Plan.{Answer, failure, plain_success, reply, Made, Plan, at_once, no_change, plan_within_numbers}
 use Rattle.dap_session.specs.Session.{Session, cancelled_by, not_cancelled_by}
 use Rattle.dap_session.specs.Table.{is_phase}
 
 -- ---- a request that is answered when it is taken, and never kept
 
-abbrev pub answered_at_once : Entry → Answer → Session → Made
-answered_at_once r answer s = record { drafts = reply r answer ∷ []; drops = false; after = record s { used = s.used + 1 } }
+abbrev pub after_answering_at_once : Entry → Answer → Session → Made
+after_answering_at_once r answer s = record { drafts = reply r answer ∷ []; drops = false; after = record s { used = s.used + 1 } }
 
 -- ---- cancel
 
@@ -49,39 +49,39 @@ unnamed_by None kept = kept
 unnamed_by (Some seq) kept = not_cancelled_by seq kept
 
 -- what it names is answered, then itself
-abbrev pub cancelled : Option ℕ → Entry → Session → Made
-cancelled id r s = record {
+abbrev pub after_cancel : Option ℕ → Entry → Session → Made
+after_cancel id r s = record {
   drafts = answer_each (failure Cancelled) (named_by id s.kept) ++ reply r plain_success ∷ [];
   drops = false;
   after = record s { kept = unnamed_by id s.kept; used = s.used + (length (named_by id s.kept) + 1) };
 }
 
-abbrev pub cancelled_as : Read Call → Entry → Session → Made
-cancelled_as (Err key) r s = answered_at_once r (failure (BadArguments key)) s
-cancelled_as (Ok asked) r s = cancelled (id_in asked) r s
+abbrev pub after_cancel_call : Read Call → Entry → Session → Made
+after_cancel_call (Err key) r s = after_answering_at_once r (failure (BadArguments key)) s
+after_cancel_call (Ok asked) r s = after_cancel (id_in asked) r s
 
-abbrev pub cancels : Entry → Session → Made
-cancels r s =
-    if is_phase Fresh s.phase then answered_at_once r (failure NotInitialized) s
-    else cancelled_as (call_of command.Cancel r.arguments) r s
+abbrev pub after_cancel_request : Entry → Session → Made
+after_cancel_request r s =
+    if is_phase Fresh s.phase then after_answering_at_once r (failure NotInitialized) s
+    else after_cancel_call (call_of command.Cancel r.arguments) r s
 
 -- ---- requests
 
 -- kept to be handled, or answered that there is no room
-abbrev pub keeps : Entry → Session → Made
-keeps r s =
+abbrev pub after_keeping : Entry → Session → Made
+after_keeping r s =
     if nat_lt (length s.kept) s.limits.requests
-    then record { drafts = []; drops = false; after = record s { kept = s.kept ++ unparked r ∷ [] } }
-    else answered_at_once r (failure Busy) s
+    then record { drafts = []; drops = false; after = record s { kept = s.kept ++ kept_unparked r ∷ [] } }
+    else after_answering_at_once r (failure Busy) s
 
-abbrev pub taken_in : Entry → Session → Made
-taken_in r s = if of_known is_cancel (command_of r) then cancels r s else keeps r s
+abbrev pub after_taking : Entry → Session → Made
+after_taking r s = if of_known is_cancel (command_of r) then after_cancel_request r s else after_keeping r s
 
 abbrev pub takes_request : Entry → Session → Result Plan AdapterFault
 takes_request r s =
     if is_phase Ended s.phase then Err EndedFault
     else (if contains_seq r.seq s.kept then Err (RepeatedSeq r.seq)
-    else affordable s (at_once (taken_in r s)))
+    else plan_within_numbers s (at_once (after_taking r s)))
 
 -- ---- messages
 
@@ -93,8 +93,8 @@ is_request _ = false
 abbrev pub takes_as : ℕ → Kind → Session → Result Plan AdapterFault
 takes_as seq (Request command arguments) s = takes_request (record { seq = seq; command = command; arguments = arguments }) s
 takes_as seq (Response request_seq success command message body) s = Err (Unmatched request_seq)
-takes_as seq (Event event body) s = Ok (at_once (nothing s))
-takes_as seq (Other tag) s = Ok (at_once (nothing s))
+takes_as seq (Event event body) s = Ok (at_once (no_change s))
+takes_as seq (Other tag) s = Ok (at_once (no_change s))
 
 -- what a delivered message comes to, or why it closes the adapter
 abbrev pub takes : Message → Session → Result Plan AdapterFault

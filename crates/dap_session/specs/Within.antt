@@ -8,7 +8,7 @@ use Rattle.dap_tables.specs.SourceMap.{count}
 use Rattle.dap_tables.specs.Breakpoints.{max_id}
 use Rattle.dap_session.specs.Handling.{turns}
 use Rattle.dap_session.specs.Laws.{CanMake}
-use Rattle.dap_session.specs.Plan.{Made, Plan, due}
+use Rattle.dap_session.specs.Plan.{Made, Plan, messages_due}
 use Rattle.dap_session.specs.Polling.{polls}
 use Rattle.dap_session.specs.Session.{Session, fresh_session}
 use Rattle.dap_session.specs.Taking.{takes}
@@ -40,4 +40,4 @@ pub record EachStepStaysWithin : Type 0 where
   pub turn_keeps_limits : (view : Shown) (s : Session) (plan : Plan) (made : Made) → turns view s ≡ Ok (Some plan) → CanMake plan made → made.after.limits ≡ s.limits
   pub poll_keeps_limits : (s : Session) (made : Made) → CanMake (polls s) made → made.after.limits ≡ s.limits
   -- a turn takes as many messages as was said before the debuggee was asked
-  pub due_is_exact : (view : Shown) (s : Session) (plan : Plan) (made : Made) → IsWithin s → turns view s ≡ Ok (Some plan) → CanMake plan made → length made.drafts ≡ due plan
+  pub due_is_exact : (view : Shown) (s : Session) (plan : Plan) (made : Made) → IsWithin s → turns view s ≡ Ok (Some plan) → CanMake plan made → length made.drafts ≡ messages_due plan

@@ -5,7 +5,7 @@ ghost use Rattle.dap_debuggee.specs.declared.answers.Frame.{Frame as FrameWord};
 ghost use Rattle.dap_debuggee.specs.declared.answers.Scope.{Scope as ScopeWord};
 ghost use Rattle.dap_debuggee.specs.declared.answers.Variable.{Variable as VariableWord};
 ghost use Rattle.dap_tables.specs.References.{frame_of, holder_of};
-ghost use Rattle.dap_session.specs.Bodies.{thread_told, numbered_source, sources_told, source_of_frame, line_shown, column_shown, frame_with, frame_told, scope_told, variable_told, with_numbers, window};
+ghost use Rattle.dap_session.specs.Bodies.{protocol_thread, numbered_source, protocol_sources, source_of_frame, line_shown, column_shown, frame_with, protocol_frame, protocol_scope, protocol_variable, with_numbers, window};
 
 use crate::options::Options;
 use dap_debuggee::{Frame, Scope, Source, Thread, Variable};
@@ -119,22 +119,22 @@ pub(crate) fn variables_named(
 
 // ---- lists of bodies
 
-fn thread_told(thread: Thread) -> dap_message::Thread
-    ensures { result ≡ thread_told thread }
+fn protocol_thread(thread: Thread) -> dap_message::Thread
+    ensures { result ≡ protocol_thread thread }
 {
     let Thread { id, name } = thread;
     dap_message::Thread { id, name }
 }
 
-pub(crate) fn threads_told(
+pub(crate) fn protocol_threads(
     alloc: Global,
     threads: Vec<Thread>,
 ) -> Result<Vec<dap_message::Thread>, AllocError>
-    ensures { IfOk result (λ told. told.items ≡ map thread_told threads.items) }
+    ensures { IfOk result (λ told. told.items ≡ map protocol_thread threads.items) }
 {
     threads
         .into_iter()
-        .map(|told| thread_told(told))
+        .map(|told| protocol_thread(told))
         .collect(alloc)
 }
 
@@ -150,12 +150,12 @@ fn numbered_source(number: u32, source: Source) -> dap_message::Source
 }
 
 /// Sources with their numbers, from 1.
-pub(crate) fn sources_told(
+pub(crate) fn protocol_sources(
     alloc: Global,
     sources: Vec<Source>,
 ) -> Result<Vec<dap_message::Source>, AllocError>
     requires { length sources.items ≤ 65536 }
-    ensures { IfOk result (λ told. told.items ≡ sources_told sources.items) }
+    ensures { IfOk result (λ told. told.items ≡ protocol_sources sources.items) }
 {
     let past = sources.len() as u32 + 1;
     (1..past)
@@ -259,7 +259,7 @@ fn frames_with(
 }
 
 /// Frames with their numbers and their sources.
-pub(crate) fn frames_told(
+pub(crate) fn protocol_frames(
     alloc: Global,
     options: Options,
     sources: &[Source],
@@ -267,14 +267,14 @@ pub(crate) fn frames_told(
     frames: Vec<Frame>,
 ) -> Result<Vec<StackFrame>, AllocError>
     requires { length sources.now ≤ 65536 }
-    ensures { IfOk result (λ told. told.items ≡ with_numbers (frame_told options sources.now) ids.items frames.items) }
+    ensures { IfOk result (λ told. told.items ≡ with_numbers (protocol_frame options sources.now) ids.items frames.items) }
 {
     let sources = sources_of_frames(alloc, sources, &frames)?;
     frames_with(alloc, options, ids, frames, sources)
 }
 
-fn scope_told(number: u32, scope: Scope) -> dap_message::Scope
-    ensures { result ≡ scope_told number scope }
+fn protocol_scope(number: u32, scope: Scope) -> dap_message::Scope
+    ensures { result ≡ protocol_scope number scope }
 {
     let Scope { name, holder: _ } = scope;
     dap_message::Scope {
@@ -284,22 +284,22 @@ fn scope_told(number: u32, scope: Scope) -> dap_message::Scope
 }
 
 /// Scopes with their numbers.
-pub(crate) fn scopes_told(
+pub(crate) fn protocol_scopes(
     alloc: Global,
     numbers: Vec<u32>,
     scopes: Vec<Scope>,
 ) -> Result<Vec<dap_message::Scope>, AllocError>
-    ensures { IfOk result (λ told. told.items ≡ with_numbers scope_told numbers.items scopes.items) }
+    ensures { IfOk result (λ told. told.items ≡ with_numbers protocol_scope numbers.items scopes.items) }
 {
     numbers
         .into_iter()
         .zip(scopes)
-        .map(|(number, scope)| scope_told(number, scope))
+        .map(|(number, scope)| protocol_scope(number, scope))
         .collect(alloc)
 }
 
-fn variable_told(number: u32, variable: Variable) -> dap_message::Variable
-    ensures { result ≡ variable_told number variable }
+fn protocol_variable(number: u32, variable: Variable) -> dap_message::Variable
+    ensures { result ≡ protocol_variable number variable }
 {
     let Variable {
         name,
@@ -314,16 +314,16 @@ fn variable_told(number: u32, variable: Variable) -> dap_message::Variable
 }
 
 /// Variables with their numbers.
-pub(crate) fn variables_told(
+pub(crate) fn protocol_variables(
     alloc: Global,
     numbers: Vec<u32>,
     variables: Vec<Variable>,
 ) -> Result<Vec<dap_message::Variable>, AllocError>
-    ensures { IfOk result (λ told. told.items ≡ with_numbers variable_told numbers.items variables.items) }
+    ensures { IfOk result (λ told. told.items ≡ with_numbers protocol_variable numbers.items variables.items) }
 {
     numbers
         .into_iter()
         .zip(variables)
-        .map(|(number, variable)| variable_told(number, variable))
+        .map(|(number, variable)| protocol_variable(number, variable))
         .collect(alloc)
 }

@@ -8,8 +8,8 @@ ghost use Rattle.dap_message.specs.Argument.{Gives};
 ghost use Rattle.dap_message.specs.Call.{takes_memory};
 ghost use Rattle.dap_message.specs.Types.CallFault.{CallFault};
 ghost use Rattle.dap_tables.specs.References.{is_of_kind};
-ghost use Rattle.dap_session.specs.Seat.{decided};
-ghost use Rattle.dap_session.specs.Setting.{IsSuitable};
+ghost use Rattle.dap_session.specs.SessionState.{plan_of_decision};
+ghost use Rattle.dap_session.specs.PrivateSetting.{IsSuitable};
 ghost use Rattle.dap_session.specs.Handling.{plan, thread_of};
 ghost use Rattle.dap_session.specs.Table.{is_never_served, effect_in};
 
@@ -169,7 +169,7 @@ impl<D: Debuggee + Drop> Session<D> {
     /// What is to be done with a request.
     pub(crate) fn decide(&self, alloc: Global, request: &Entry) -> Result<Decision, AllocError>
         ensures suits { IfOk result (λ d. IsSuitable d) }
-        ensures plan { IfOk result (λ d. plan (D.shown self.now.debuggee) self.now.session request.now ≡ decided d (D.shown self.now.debuggee) self.now.session request.now) }
+        ensures plan { IfOk result (λ d. plan (D.shown self.now.debuggee) self.now.session request.now ≡ plan_of_decision d (D.shown self.now.debuggee) self.now.session request.now) }
     {
         let named = by_name(self.phase, Command::of_name(request.command.as_str()));
         let command = match named {

@@ -1,18 +1,19 @@
 //! What requests do in the phases that serve them, an effect of the table each.
 ghost use Rattle.std.specs.Prelude.{◌≡◌, ◌+◌, ◌≤◌, ◌<◌, [], ◌∷◌, IfOk, OnErr, IsTrue, None, Some, true};
-ghost use Rattle.dap_message.specs.Lengths.{body_of, IsWithin};
+ghost use Rattle.dap_message.specs.AdapterMessages.{body_of};
+ghost use Rattle.dap_message.specs.Lengths.{IsWithin};
 ghost use Rattle.dap_message.specs.Types.Call.{Call};
 ghost use Rattle.dap_tables.specs.Outstanding.{contains_seq};
 ghost use Rattle.dap_debuggee.specs.Shown.{to_start, to_resume, to_pause, to_end};
-ghost use Rattle.dap_session.specs.Seat.{MadeBy, Carries, reply_of};
-ghost use Rattle.dap_session.specs.Handling.{begun, parked, started, configured, finished, resumed, by_reply, options_of, start_phase, offered, resume_body as resume_body_word};
-ghost use Rattle.dap_session.specs.Plan.{reply, tell, answered, asking};
-ghost use Rattle.dap_session.specs.Sheet.{Holds, answer_of, event_of, shape_of};
+ghost use Rattle.dap_session.specs.SessionState.{MadeBy, Carries, reply_of};
+ghost use Rattle.dap_session.specs.Handling.{after_initialize, after_park, after_launch, after_configuration_done, after_terminate, after_resume, by_reply, options_of, start_phase, adapter_capabilities, resume_body as resume_body_word};
+ghost use Rattle.dap_session.specs.Plan.{reply, emit, after_answering, asking};
+ghost use Rattle.dap_session.specs.PrivateOutbox.{Holds, answer_of, event_of, shape_of};
 
 use crate::options::Options;
+use crate::outbox::{Answer, Event, Fixed, Outbox};
 use crate::phase::Phase;
 use crate::session::Session;
-use crate::sheet::{Answer, Event, Fixed, Sheet};
 use dap_debuggee::{Debuggee, How};
 use dap_message::{Call, Capabilities, Failure};
 use dap_tables::Entry;
@@ -20,7 +21,7 @@ use std::alloc::{AllocError, Global};
 
 /// What this adapter offers.
 fn capabilities() -> Capabilities
-    ensures { result ≡ offered }
+    ensures { result ≡ adapter_capabilities }
 {
     Capabilities {
         breakpoint_locations: false,
@@ -87,49 +88,49 @@ fn resume_body(how: How) -> Option<Fixed>
 }
 
 impl<D: Debuggee + Drop> Session<D> {
-    /// A sheet with nothing on it.
-    pub(crate) fn fresh_sheet(&self, alloc: Global) -> Sheet
+    /// An outbox with nothing in it.
+    pub(crate) fn fresh_outbox(&self, alloc: Global) -> Outbox
         ensures last { result.numbers.last ≡ self.now.session.limits.seq }
         ensures holds { Holds result self.now.session.limits.body self.now.session.used [] }
     {
         // For the proof: these limits are in their ranges.
         let _ = self.limits.body();
         let _ = self.limits.seq();
-        Sheet::open(alloc, self.numbers())
+        Outbox::open(alloc, self.numbers())
     }
 
-    /// A sheet with one response.
+    /// An outbox with one response.
     pub(crate) fn one(
         &self,
         alloc: Global,
         request: &Entry,
         answer: Answer,
-    ) -> Result<Sheet, AllocError>
+    ) -> Result<Outbox, AllocError>
         requires { self.now.session.used + 1 ≤ self.now.session.limits.seq }
-        ensures last { IfOk result (λ sheet. sheet.numbers.last ≡ self.now.session.limits.seq) }
-        ensures holds { IfOk result (λ sheet. Holds sheet self.now.session.limits.body self.now.session.used (reply request.now (answer_of answer) ∷ [])) }
+        ensures last { IfOk result (λ outbox. outbox.numbers.last ≡ self.now.session.limits.seq) }
+        ensures holds { IfOk result (λ outbox. Holds outbox self.now.session.limits.body self.now.session.used (reply request.now (answer_of answer) ∷ [])) }
     {
-        let mut sheet = self.fresh_sheet(alloc);
-        sheet.reply(alloc, request, answer)?;
-        Ok(sheet)
+        let mut outbox = self.fresh_outbox(alloc);
+        outbox.reply(alloc, request, answer)?;
+        Ok(outbox)
     }
 
-    /// A sheet with one response and an event.
+    /// An outbox with one response and an event.
     fn two(
         &self,
         alloc: Global,
         request: &Entry,
         answer: Answer,
         event: Event,
-    ) -> Result<Sheet, AllocError>
+    ) -> Result<Outbox, AllocError>
         requires room { self.now.session.used + 2 ≤ self.now.session.limits.seq }
         requires short { IsWithin (event_of event) }
-        ensures last { IfOk result (λ sheet. sheet.numbers.last ≡ self.now.session.limits.seq) }
-        ensures holds { IfOk result (λ sheet. Holds sheet self.now.session.limits.body self.now.session.used (reply request.now (answer_of answer) ∷ tell (event_of event) ∷ [])) }
+        ensures last { IfOk result (λ outbox. outbox.numbers.last ≡ self.now.session.limits.seq) }
+        ensures holds { IfOk result (λ outbox. Holds outbox self.now.session.limits.body self.now.session.used (reply request.now (answer_of answer) ∷ emit (event_of event) ∷ [])) }
     {
-        let mut sheet = self.one(alloc, request, answer)?;
-        sheet.tell(alloc, event)?;
-        Ok(sheet)
+        let mut outbox = self.one(alloc, request, answer)?;
+        outbox.emit(alloc, event)?;
+        Ok(outbox)
     }
 
     /// Answers one request.
@@ -140,42 +141,42 @@ impl<D: Debuggee + Drop> Session<D> {
         answer: Answer,
     ) -> Result<Vec<u8>, AllocError>
         requires { self.old.session.used + 1 ≤ self.old.session.limits.seq }
-        ensures made { IfOk result (λ bytes. MadeBy (answered request.now (answer_of answer) self.old.session) self.old.session self.new.session bytes.items) }
+        ensures made { IfOk result (λ bytes. MadeBy (after_answering request.now (answer_of answer) self.old.session) self.old.session self.new.session bytes.items) }
         ensures debuggee { self.new.debuggee ≡ self.old.debuggee }
         ensures err { OnErr result (self.new.session ≡ self.old.session) }
     {
-        let sheet = self.one(alloc, request, answer)?;
-        Ok(self.settle(request.seq, sheet))
+        let outbox = self.one(alloc, request, answer)?;
+        Ok(self.commit(request.seq, outbox))
     }
 
     /// Tells what is offered, and that the session is initialized.
-    pub(crate) fn begin(
+    pub(crate) fn initialize(
         &mut self,
         alloc: Global,
         request: &Entry,
         call: &Call,
     ) -> Result<Vec<u8>, AllocError>
         requires room { self.old.session.used + 2 ≤ self.old.session.limits.seq }
-        ensures made { IfOk result (λ bytes. MadeBy (begun self.old.session request.now call.now) self.old.session self.new.session bytes.items) }
+        ensures made { IfOk result (λ bytes. MadeBy (after_initialize self.old.session request.now call.now) self.old.session self.new.session bytes.items) }
         ensures debuggee { self.new.debuggee ≡ self.old.debuggee }
         ensures err { OnErr result (self.new.session ≡ self.old.session) }
     {
         let body = Some(Fixed::Offers(capabilities()));
-        let sheet = self.two(alloc, request, Answer::Success(body), Event::Initialized)?;
-        let bytes = self.settle(request.seq, sheet);
+        let outbox = self.two(alloc, request, Answer::Success(body), Event::Initialized)?;
+        let bytes = self.commit(request.seq, outbox);
         self.set_options(options_of(call));
         self.set_phase(Phase::Ready);
         Ok(bytes)
     }
 
     /// Ends the configuration.
-    pub(crate) fn configure(
+    pub(crate) fn configuration_done(
         &mut self,
         alloc: Global,
         request: &Entry,
     ) -> Result<Vec<u8>, AllocError>
         requires room { self.old.session.used + 1 ≤ self.old.session.limits.seq }
-        ensures made { IfOk result (λ bytes. MadeBy (configured self.old.session request.now) self.old.session self.new.session bytes.items) }
+        ensures made { IfOk result (λ bytes. MadeBy (after_configuration_done self.old.session request.now) self.old.session self.new.session bytes.items) }
         ensures debuggee { self.new.debuggee ≡ self.old.debuggee }
         ensures err { OnErr result (self.new.session ≡ self.old.session) }
     {
@@ -187,7 +188,7 @@ impl<D: Debuggee + Drop> Session<D> {
     /// Parks the request.
     pub(crate) fn park_request(&mut self, alloc: Global, request: &Entry) -> Vec<u8>
         requires { IsTrue (contains_seq request.now.seq self.old.session.kept) }
-        ensures made { MadeBy (parked self.old.session request.now) self.old.session self.new.session result.items }
+        ensures made { MadeBy (after_park self.old.session request.now) self.old.session self.new.session result.items }
         ensures debuggee { self.new.debuggee ≡ self.old.debuggee }
     {
         self.park(request.seq);
@@ -198,7 +199,7 @@ impl<D: Debuggee + Drop> Session<D> {
     /// Starts the debuggee.
     pub(crate) fn start(&mut self, alloc: Global, request: &Entry) -> Result<Vec<u8>, AllocError>
         requires room { self.old.session.used + 1 ≤ self.old.session.limits.seq }
-        ensures carries { IfOk result (λ bytes. Carries D.follows (asking to_start (started self.old.session request.now)) self.old self.new bytes.items) }
+        ensures carries { IfOk result (λ bytes. Carries D.follows (asking to_start (after_launch self.old.session request.now)) self.old self.new bytes.items) }
         ensures err { OnErr result (self.new.session ≡ self.old.session) }
     {
         let ok = self.ask_start(alloc)?;
@@ -208,14 +209,18 @@ impl<D: Debuggee + Drop> Session<D> {
     }
 
     /// Ends the debuggee.
-    pub(crate) fn finish(&mut self, alloc: Global, request: &Entry) -> Result<Vec<u8>, AllocError>
+    pub(crate) fn terminate(
+        &mut self,
+        alloc: Global,
+        request: &Entry,
+    ) -> Result<Vec<u8>, AllocError>
         requires room { self.old.session.used + 2 ≤ self.old.session.limits.seq }
-        ensures carries { IfOk result (λ bytes. Carries D.follows (asking to_end (λ last. finished self.old.session request.now)) self.old self.new bytes.items) }
+        ensures carries { IfOk result (λ bytes. Carries D.follows (asking to_end (λ last. after_terminate self.old.session request.now)) self.old self.new bytes.items) }
         ensures err { OnErr result (self.new ≡ self.old) }
     {
-        let sheet = self.two(alloc, request, Answer::Success(None), Event::Terminated)?;
+        let outbox = self.two(alloc, request, Answer::Success(None), Event::Terminated)?;
         self.end();
-        let bytes = self.settle(request.seq, sheet);
+        let bytes = self.commit(request.seq, outbox);
         self.clear_references();
         self.set_phase(Phase::Exited);
         Ok(bytes)
@@ -230,7 +235,7 @@ impl<D: Debuggee + Drop> Session<D> {
         thread: i64,
     ) -> Result<Vec<u8>, AllocError>
         requires room { self.old.session.used + 1 ≤ self.old.session.limits.seq }
-        ensures carries { IfOk result (λ bytes. Carries D.follows (asking (to_resume how thread) (resumed how self.old.session request.now)) self.old self.new bytes.items) }
+        ensures carries { IfOk result (λ bytes. Carries D.follows (asking (to_resume how thread) (after_resume how self.old.session request.now)) self.old self.new bytes.items) }
         ensures err { OnErr result (self.new.session ≡ self.old.session) }
     {
         let body = resume_body(how);
@@ -246,7 +251,7 @@ impl<D: Debuggee + Drop> Session<D> {
     /// Asks the debuggee to stop.
     pub(crate) fn pause(&mut self, alloc: Global, request: &Entry) -> Result<Vec<u8>, AllocError>
         requires room { self.old.session.used + 1 ≤ self.old.session.limits.seq }
-        ensures carries { IfOk result (λ bytes. Carries D.follows (asking to_pause (λ last. answered request.now (by_reply None last) self.old.session)) self.old self.new bytes.items) }
+        ensures carries { IfOk result (λ bytes. Carries D.follows (asking to_pause (λ last. after_answering request.now (by_reply None last) self.old.session)) self.old self.new bytes.items) }
         ensures err { OnErr result (self.new.session ≡ self.old.session) }
     {
         let ok = self.ask_pause(alloc)?;

@@ -1,18 +1,18 @@
 //! How a request is handled.
 ghost use Rattle.std.specs.Prelude.{◌≡◌, ◌+◌, ◌≤◌, ◌<◌, IfOk, IfErr, OnOk, OnErr, IsTrue, IfSome, IfNone, None, option_map, false};
 ghost use Rattle.dap_tables.specs.Outstanding.{contains_seq, is_parked, HasDistinctSeqs};
-ghost use Rattle.dap_session.specs.Seat.{Carries, IsRefusedFor, decided, IsIdle, HasTurned, NotTurned};
+ghost use Rattle.dap_session.specs.SessionState.{Carries, IsRefusedFor, plan_of_decision, IsIdle, HasTurned, NotTurned};
 ghost use Rattle.dap_session.specs.Session.{oldest, to_handle};
 ghost use Rattle.dap_session.specs.Handling.{plan, plan_for};
-ghost use Rattle.dap_session.specs.Plan.{due};
-ghost use Rattle.dap_session.specs.Setting.{Suits};
+ghost use Rattle.dap_session.specs.Plan.{messages_due};
+ghost use Rattle.dap_session.specs.PrivateSetting.{Suits};
 
 use crate::deciding::thread_of;
 use crate::decision::Decision;
 use crate::effect::Effect;
 use crate::fault::AdapterFault;
+use crate::outbox::Answer;
 use crate::session::Session;
-use crate::sheet::Answer;
 use dap_debuggee::Debuggee;
 use dap_message::{Call, Failure};
 use dap_tables::Entry;
@@ -53,14 +53,14 @@ impl<D: Debuggee + Drop> Session<D> {
         requires unparked { is_parked request.now.seq self.old.session.kept ≡ false }
         requires suits { Suits effect call.now }
         ensures carries { IfOk result (λ bytes. Carries D.follows (plan_for effect (D.shown self.old.debuggee) self.old.session request.now call.now) self.old self.new bytes.items) }
-        ensures within { OnOk result (self.old.session.used + due (plan_for effect (D.shown self.old.debuggee) self.old.session request.now call.now) ≤ self.old.session.limits.seq) }
+        ensures within { OnOk result (self.old.session.used + messages_due (plan_for effect (D.shown self.old.debuggee) self.old.session request.now call.now) ≤ self.old.session.limits.seq) }
         ensures refused { IfErr result (λ fault. IsRefusedFor fault (plan_for effect (D.shown self.old.debuggee) self.old.session request.now call.now) self.old self.new) }
         ensures err { OnErr result (self.new.session ≡ self.old.session) }
     {
         match effect {
-            Effect::Begin => {
+            Effect::Initialize => {
                 self.room(2)?;
-                Ok(self.begin(alloc, request, call)?)
+                Ok(self.initialize(alloc, request, call)?)
             }
             Effect::Park => {
                 self.room(0)?;
@@ -70,13 +70,13 @@ impl<D: Debuggee + Drop> Session<D> {
                 self.room(1)?;
                 Ok(self.start(alloc, request)?)
             }
-            Effect::Configure => {
+            Effect::ConfigurationDone => {
                 self.room(1)?;
-                Ok(self.configure(alloc, request)?)
+                Ok(self.configuration_done(alloc, request)?)
             }
-            Effect::Finish => {
+            Effect::Terminate => {
                 self.room(2)?;
-                Ok(self.finish(alloc, request)?)
+                Ok(self.terminate(alloc, request)?)
             }
             Effect::Resume(how) => {
                 self.room(1)?;
@@ -86,13 +86,13 @@ impl<D: Debuggee + Drop> Session<D> {
                 self.room(1)?;
                 Ok(self.pause(alloc, request)?)
             }
-            Effect::Tell => {
+            Effect::Query => {
                 self.room(1)?;
-                Ok(self.tell(alloc, request, call)?)
+                Ok(self.query(alloc, request, call)?)
             }
             Effect::StartParked => self.start_parked(alloc, request),
-            Effect::Leave => self.leave(alloc, request),
-            Effect::EndAndLeave => self.end_and_leave(alloc, request),
+            Effect::Disconnect => self.disconnect(alloc, request),
+            Effect::EndAndDisconnect => self.end_and_disconnect(alloc, request),
             Effect::SetBreakpoints => self.set_breakpoints(alloc, request, call),
         }
     }
@@ -102,10 +102,9 @@ impl<D: Debuggee + Drop> Session<D> {
         requires kept { IsTrue (contains_seq request.now.seq self.old.session.kept) }
         requires unparked { is_parked request.now.seq self.old.session.kept ≡ false }
         ensures carries { IfOk result (λ bytes. Carries D.follows (plan (D.shown self.old.debuggee) self.old.session request.now) self.old self.new bytes.items) }
-        ensures within { OnOk result (self.old.session.used + due (plan (D.shown self.old.debuggee) self.old.session request.now) ≤ self.old.session.limits.seq) }
+        ensures within { OnOk result (self.old.session.used + messages_due (plan (D.shown self.old.debuggee) self.old.session request.now) ≤ self.old.session.limits.seq) }
         ensures refused { IfErr result (λ fault. IsRefusedFor fault (plan (D.shown self.old.debuggee) self.old.session request.now) self.old self.new) }
         ensures err { OnErr result (self.new.session ≡ self.old.session) }
-        ensures fewer { OnOk result (to_handle self.new.session.kept < to_handle self.old.session.kept) }
     {
         match self.decide(alloc, request)? {
             Decision::Refuses(failure) => self.refuse(alloc, request, failure),
@@ -117,10 +116,9 @@ impl<D: Debuggee + Drop> Session<D> {
         requires kept { IsTrue (contains_seq request.seq self.old.session.kept) }
         requires unparked { is_parked request.seq self.old.session.kept ≡ false }
         ensures carries { IfOk result (λ bytes. Carries D.follows (plan (D.shown self.old.debuggee) self.old.session request) self.old self.new bytes.items) }
-        ensures within { OnOk result (self.old.session.used + due (plan (D.shown self.old.debuggee) self.old.session request) ≤ self.old.session.limits.seq) }
+        ensures within { OnOk result (self.old.session.used + messages_due (plan (D.shown self.old.debuggee) self.old.session request) ≤ self.old.session.limits.seq) }
         ensures refused { IfErr result (λ fault. IsRefusedFor fault (plan (D.shown self.old.debuggee) self.old.session request) self.old self.new) }
         ensures err { OnErr result (self.new.session ≡ self.old.session) }
-        ensures fewer { OnOk result (to_handle self.new.session.kept < to_handle self.old.session.kept) }
     {
         self.handle(alloc, &request)
     }
@@ -132,9 +130,9 @@ impl<D: Debuggee + Drop> Session<D> {
         request: &Entry,
         failure: Failure,
     ) -> Result<Vec<u8>, AdapterFault>
-        ensures carries { IfOk result (λ bytes. Carries D.follows (decided (Decision.Refuses failure) (D.shown self.old.debuggee) self.old.session request.now) self.old self.new bytes.items) }
+        ensures carries { IfOk result (λ bytes. Carries D.follows (plan_of_decision (Decision.Refuses failure) (D.shown self.old.debuggee) self.old.session request.now) self.old self.new bytes.items) }
         ensures within { OnOk result (self.old.session.used + 1 ≤ self.old.session.limits.seq) }
-        ensures refused { IfErr result (λ fault. IsRefusedFor fault (decided (Decision.Refuses failure) (D.shown self.old.debuggee) self.old.session request.now) self.old self.new) }
+        ensures refused { IfErr result (λ fault. IsRefusedFor fault (plan_of_decision (Decision.Refuses failure) (D.shown self.old.debuggee) self.old.session request.now) self.old self.new) }
         ensures err { OnErr result (self.new.session ≡ self.old.session) }
     {
         self.room(1)?;

@@ -1,4 +1,5 @@
 //! Laws of the definitions, each on a function with nothing to run.
+ghost use Rattle.dap_session.specs.Answering.{EachStepGoesWell};
 ghost use Rattle.dap_session.specs.Laws.{EachStepGoesOn};
 ghost use Rattle.dap_session.specs.OrderLaws.{RefusalsComeInOrder};
 ghost use Rattle.dap_session.specs.ReferenceLaws.{ReferencesAreApart};
@@ -15,6 +16,12 @@ pub fn each_step_goes_on()
 {
     histories_grow();
 }
+
+/// Each step answers requests that are kept or that came just before it, each once, keeps the others, numbers its messages in
+/// turn, and gives and ends references as its messages say; and a turn leaves fewer requests to handle.
+pub fn each_step_goes_well()
+    ensures { EachStepGoesWell }
+{}
 
 /// What is true of every session stays true: no two kept requests have the same seq, no more requests are kept, references
 /// live and breakpoints stand than there is room for, and no number is given past the greatest of its kind.

@@ -1,14 +1,14 @@
 //! A session with its debuggee: what is kept, and how it changes.
 ghost use Rattle.std.specs.Prelude.{◌≡◌, ◌+◌, ◌≤◌, ◌<◌, [], ◌∷◌, ◌++◌, length, IfOk, OnOk, OnErr, IsTrue, true, false, not, nat_lt};
-ghost use Rattle.dap_tables.specs.Outstanding.{without, with_mark, contains_seq, unparked, unparked_ones, IsOrderly};
+ghost use Rattle.dap_tables.specs.Outstanding.{without, with_mark, contains_seq, kept_unparked, unparked_ones, IsOrderlyRequests};
 ghost use Rattle.dap_tables.specs.SourceMap.{count};
 ghost use Rattle.dap_session.specs.Session.{fresh_session};
 ghost use Rattle.dap_debuggee.specs.Laws.{is_short};
 ghost use Rattle.dap_debuggee.specs.Shown.{to_start, to_resume, to_pause, to_poll, to_end, done, happened};
 
 use crate::options::Options;
+use crate::outbox::Outbox;
 use crate::phase::Phase;
-use crate::sheet::Sheet;
 use dap_debuggee::{Debuggee, DebuggeeFault, Happening, How};
 use dap_frame::Limits;
 use dap_tables::{Breakpoints, Entry, Outstanding, PutFault, References, Seq};
@@ -31,9 +31,9 @@ pub struct Session<D: Debuggee + Drop> {
 impl<D: Debuggee + Drop> Model for Session<D> {
     ghost use Rattle.std.specs.Coded.{codes};
     ghost use Rattle.dap_json.specs.Stored.{coded_data};
-    ghost use Rattle.dap_session.specs.Seat.{Seat, IsSession};
+    ghost use Rattle.dap_session.specs.SessionState.{SessionState, IsSession};
 
-    ghost Value = { Seat D };
+    ghost Value = { SessionState D };
 
     ghost coded = { Prim.hlevel (codes, coded_data, D.code) };
 
@@ -54,12 +54,12 @@ impl<D: Debuggee + Drop> Model for Session<D> {
 }
 
 impl<D: Debuggee + Drop> Session<D> {
-    ghost use Rattle.dap_session.specs.Seat.{reply_of};
-    ghost use Rattle.dap_tables.specs.References.{cleared};
+    ghost use Rattle.dap_session.specs.SessionState.{reply_of};
+    ghost use Rattle.dap_tables.specs.References.{without_references};
 
     /// A fresh session.
     pub fn open(alloc: Global, limits: Limits, debuggee: D) -> Result<Session<D>, AllocError>
-        ensures { IfOk result (λ desk. desk ≡ record { session = fresh_session limits; debuggee = debuggee }) }
+        ensures { IfOk result (λ state. state ≡ record { session = fresh_session limits; debuggee = debuggee }) }
     {
         let kept = Outstanding::open(alloc, limits.requests())?;
         let references = References::open(alloc, limits.references(), limits.reference())?;
@@ -122,7 +122,7 @@ impl<D: Debuggee + Drop> Session<D> {
     pub(crate) fn put(&mut self, request: Entry)
         requires new { contains_seq request.seq self.old.session.kept ≡ false }
         requires room { length self.old.session.kept < self.old.session.limits.requests }
-        ensures { self.new ≡ record self.old { session = record self.old.session { kept = self.old.session.kept ++ unparked request ∷ [] } } }
+        ensures { self.new ≡ record self.old { session = record self.old.session { kept = self.old.session.kept ++ kept_unparked request ∷ [] } } }
     {
         put_in(&mut self.kept, request);
     }
@@ -136,51 +136,51 @@ impl<D: Debuggee + Drop> Session<D> {
     }
 
     /// Ends with a request, and with what was written: nothing of it was there before.
-    pub(crate) fn settle(&mut self, seq: u64, sheet: Sheet) -> Vec<u8>
-        requires last { sheet.numbers.last ≡ self.old.session.limits.seq }
-        requires used { sheet.numbers.used ≤ sheet.numbers.last }
-        ensures session { self.new ≡ record self.old { session = record self.old.session { kept = without seq self.old.session.kept; used = sheet.numbers.used } } }
-        ensures bytes { result ≡ sheet.bytes }
+    pub(crate) fn commit(&mut self, seq: u64, outbox: Outbox) -> Vec<u8>
+        requires last { outbox.numbers.last ≡ self.old.session.limits.seq }
+        requires used { outbox.numbers.used ≤ outbox.numbers.last }
+        ensures session { self.new ≡ record self.old { session = record self.old.session { kept = without seq self.old.session.kept; used = outbox.numbers.used } } }
+        ensures bytes { result ≡ outbox.bytes }
     {
-        let Sheet { bytes, numbers } = sheet;
+        let Outbox { bytes, numbers } = outbox;
         let _ = self.kept.take(seq);
         self.numbers = numbers;
         bytes
     }
 
     /// Ends with what was written: nothing of it was there before.
-    pub(crate) fn spend(&mut self, sheet: Sheet) -> Vec<u8>
-        requires last { sheet.numbers.last ≡ self.old.session.limits.seq }
-        requires used { sheet.numbers.used ≤ sheet.numbers.last }
-        ensures session { self.new ≡ record self.old { session = record self.old.session { used = sheet.numbers.used } } }
-        ensures bytes { result ≡ sheet.bytes }
+    pub(crate) fn spend(&mut self, outbox: Outbox) -> Vec<u8>
+        requires last { outbox.numbers.last ≡ self.old.session.limits.seq }
+        requires used { outbox.numbers.used ≤ outbox.numbers.last }
+        ensures session { self.new ≡ record self.old { session = record self.old.session { used = outbox.numbers.used } } }
+        ensures bytes { result ≡ outbox.bytes }
     {
-        let Sheet { bytes, numbers } = sheet;
+        let Outbox { bytes, numbers } = outbox;
         self.numbers = numbers;
         bytes
     }
 
     /// Ends with all requests, and with what was written.
-    pub(crate) fn settle_all(&mut self, sheet: Sheet) -> Vec<u8>
-        requires last { sheet.numbers.last ≡ self.old.session.limits.seq }
-        requires used { sheet.numbers.used ≤ sheet.numbers.last }
-        ensures session { self.new ≡ record self.old { session = record self.old.session { kept = []; used = sheet.numbers.used } } }
-        ensures bytes { result ≡ sheet.bytes }
+    pub(crate) fn commit_all(&mut self, outbox: Outbox) -> Vec<u8>
+        requires last { outbox.numbers.last ≡ self.old.session.limits.seq }
+        requires used { outbox.numbers.used ≤ outbox.numbers.last }
+        ensures session { self.new ≡ record self.old { session = record self.old.session { kept = []; used = outbox.numbers.used } } }
+        ensures bytes { result ≡ outbox.bytes }
     {
-        let Sheet { bytes, numbers } = sheet;
+        let Outbox { bytes, numbers } = outbox;
         self.kept.clear();
         self.numbers = numbers;
         bytes
     }
 
     /// Ends with a request and with those that are parked, and with what was written.
-    pub(crate) fn settle_parked(&mut self, seq: u64, sheet: Sheet) -> Vec<u8>
-        requires last { sheet.numbers.last ≡ self.old.session.limits.seq }
-        requires used { sheet.numbers.used ≤ sheet.numbers.last }
-        ensures session { self.new ≡ record self.old { session = record self.old.session { kept = unparked_ones (without seq self.old.session.kept); used = sheet.numbers.used } } }
-        ensures bytes { result ≡ sheet.bytes }
+    pub(crate) fn commit_parked(&mut self, seq: u64, outbox: Outbox) -> Vec<u8>
+        requires last { outbox.numbers.last ≡ self.old.session.limits.seq }
+        requires used { outbox.numbers.used ≤ outbox.numbers.last }
+        ensures session { self.new ≡ record self.old { session = record self.old.session { kept = unparked_ones (without seq self.old.session.kept); used = outbox.numbers.used } } }
+        ensures bytes { result ≡ outbox.bytes }
     {
-        let Sheet { bytes, numbers } = sheet;
+        let Outbox { bytes, numbers } = outbox;
         let _ = self.kept.take(seq);
         self.kept.clear_parked();
         self.numbers = numbers;
@@ -201,7 +201,7 @@ impl<D: Debuggee + Drop> Session<D> {
 
     /// All references die.
     pub(crate) fn clear_references(&mut self)
-        ensures { self.new ≡ record self.old { session = record self.old.session { references = cleared self.old.session.references } } }
+        ensures { self.new ≡ record self.old { session = record self.old.session { references = without_references self.old.session.references } } }
     {
         self.references.clear();
     }
@@ -275,8 +275,8 @@ impl<D: Debuggee + Drop> Session<D> {
 fn put_in(kept: &mut Outstanding, request: Entry)
     requires new { contains_seq request.seq kept.old.kept ≡ false }
     requires room { length kept.old.kept < kept.old.room }
-    ensures kept { kept.new ≡ record kept.old { kept = kept.old.kept ++ unparked request ∷ [] } }
-    ensures orderly { IsOrderly kept.new }
+    ensures kept { kept.new ≡ record kept.old { kept = kept.old.kept ++ kept_unparked request ∷ [] } }
+    ensures orderly { IsOrderlyRequests kept.new }
 {
     match kept.put(request) {
         Ok(()) => {}

@@ -3,19 +3,19 @@
 //! The answer is measured before the table and the debuggee change.
 ghost use Rattle.std.specs.Prelude.{◌≡◌, ◌+◌, ◌≤◌, map, length, Ok, Some, IfOk, IfErr, OnOk, OnErr, IsTrue, false};
 ghost use Rattle.dap_message.specs.Types.Call.{Call};
-ghost use Rattle.dap_tables.specs.Breakpoints.{max_id, replaced};
+ghost use Rattle.dap_tables.specs.Breakpoints.{max_id, breakpoints_with};
 ghost use Rattle.dap_tables.specs.Outstanding.{without};
 ghost use Rattle.dap_debuggee.specs.Shown.{to_set_breakpoints, done};
 ghost use Rattle.dap_session.specs.Breakpoints.{are_too_many};
 ghost use Rattle.dap_session.specs.Handling.{answers_to, breakpoints_plan, lines_asked};
-ghost use Rattle.dap_session.specs.Plan.{due};
-ghost use Rattle.dap_session.specs.Seat.{Carries, IsRefusedFor, IsUnasked};
-ghost use Rattle.dap_session.specs.Setting.{AreLines, SetsLines, IsToSet, IsToFail};
+ghost use Rattle.dap_session.specs.Plan.{messages_due};
+ghost use Rattle.dap_session.specs.SessionState.{Carries, IsRefusedFor, IsUnasked};
+ghost use Rattle.dap_session.specs.PrivateSetting.{AreLines, SetsLines, IsToSet, IsToFail};
 
 use crate::fault::AdapterFault;
+use crate::no_answer::NoAnswer;
+use crate::outbox::{Answer, Outbox};
 use crate::session::Session;
-use crate::sheet::{Answer, Sheet};
-use crate::untold::Untold;
 use dap_debuggee::Debuggee;
 use dap_message::{Body, Breakpoint, Call, Failure, SourceKey};
 use dap_tables::{BpFault, Entry};
@@ -62,23 +62,23 @@ impl<D: Debuggee + Drop> Session<D> {
         source: &SourceKey,
         lines: &[u32],
         asked: &[u32],
-    ) -> Result<Sheet, Untold>
+    ) -> Result<Outbox, NoAnswer>
         requires room { self.now.session.used + 1 ≤ self.now.session.limits.seq }
         requires asked { asked.now ≡ lines_asked self.now.session.options lines.now }
-        ensures sets { IfOk result (λ sheet. IsToSet (breakpoints_plan (D.shown self.now.debuggee) self.now.session request.now (Call.SetBreakpoints source.now lines.now)) self.now.session request.now source.now asked.now sheet) }
+        ensures sets { IfOk result (λ outbox. IsToSet (breakpoints_plan (D.shown self.now.debuggee) self.now.session request.now (Call.SetBreakpoints source.now lines.now)) self.now.session request.now source.now asked.now outbox) }
         ensures fails { IfErr result (λ untold. IsToFail untold (breakpoints_plan (D.shown self.now.debuggee) self.now.session request.now (Call.SetBreakpoints source.now lines.now)) self.now.session request.now) }
     {
         let verified = self.debuggee.verify(alloc, source, asked)?;
         if self.are_too_many(source, lines) {
-            return Err(Untold::Fails(Failure::TooManyBreakpoints));
+            return Err(NoAnswer::Fails(Failure::TooManyBreakpoints));
         }
         let answers = answers_to(alloc, self.breakpoints.next_id(), lines, verified)?;
         let body = Some(Body::SetBreakpoints {
             breakpoints: answers,
         });
         match self.measured(alloc, request, body)? {
-            Some(sheet) => Ok(sheet),
-            None => Err(Untold::Fails(Failure::TooLarge)),
+            Some(outbox) => Ok(outbox),
+            None => Err(NoAnswer::Fails(Failure::TooLarge)),
         }
     }
 
@@ -98,7 +98,7 @@ impl<D: Debuggee + Drop> Session<D> {
     /// Sets lines in the table.
     fn replace(&mut self, source: SourceKey, lines: &[u32]) -> Result<(), AllocError>
         requires { are_too_many self.old.session.limits source lines.now self.old.session.breakpoints ≡ false }
-        ensures ok { OnOk result (self.new ≡ record self.old { session = record self.old.session { breakpoints = replaced source lines.now self.old.session.breakpoints } }) }
+        ensures ok { OnOk result (self.new ≡ record self.old { session = record self.old.session { breakpoints = breakpoints_with source lines.now self.old.session.breakpoints } }) }
         ensures err { OnErr result (self.new ≡ self.old) }
     {
         match self.breakpoints.replace(source, lines) {
@@ -116,20 +116,20 @@ impl<D: Debuggee + Drop> Session<D> {
         request: &Entry,
         source: &SourceKey,
         asked: &[u32],
-        sheet: Sheet,
+        outbox: Outbox,
     ) -> Result<Vec<u8>, AllocError>
         requires few { are_too_many self.old.session.limits source.now asked.now self.old.session.breakpoints ≡ false }
-        requires last { sheet.numbers.last ≡ self.old.session.limits.seq }
-        requires used { sheet.numbers.used ≤ sheet.numbers.last }
+        requires last { outbox.numbers.last ≡ self.old.session.limits.seq }
+        requires used { outbox.numbers.used ≤ outbox.numbers.last }
         ensures follows { OnOk result (D.follows self.old.debuggee (to_set_breakpoints source.now asked.now) done self.new.debuggee) }
-        ensures session { OnOk result (self.new.session ≡ record self.old.session { kept = without request.now.seq self.old.session.kept; breakpoints = replaced source.now asked.now self.old.session.breakpoints; used = sheet.numbers.used }) }
-        ensures bytes { IfOk result (λ bytes. bytes ≡ sheet.bytes) }
+        ensures session { OnOk result (self.new.session ≡ record self.old.session { kept = without request.now.seq self.old.session.kept; breakpoints = breakpoints_with source.now asked.now self.old.session.breakpoints; used = outbox.numbers.used }) }
+        ensures bytes { IfOk result (λ bytes. bytes ≡ outbox.bytes) }
         ensures err { OnErr result (self.new.session ≡ self.old.session) }
     {
         let name = source.clone()?;
         self.ask_lines(alloc, source, asked)?;
         self.replace(name, asked)?;
-        Ok(self.settle(request.seq, sheet))
+        Ok(self.commit(request.seq, outbox))
     }
 
     /// Sets lines, or answers why not. `asked` are the lines as the debuggee counts them.
@@ -148,9 +148,9 @@ impl<D: Debuggee + Drop> Session<D> {
         ensures err { OnErr result (self.new.session ≡ self.old.session) }
     {
         match self.weigh(alloc, request, source, lines, asked) {
-            Ok(sheet) => self.set(alloc, request, source, asked, sheet),
-            Err(Untold::Fails(failure)) => self.answer(alloc, request, Answer::Failure(failure)),
-            Err(Untold::OutOfMemory) => Err(AllocError),
+            Ok(outbox) => self.set(alloc, request, source, asked, outbox),
+            Err(NoAnswer::Fails(failure)) => self.answer(alloc, request, Answer::Failure(failure)),
+            Err(NoAnswer::OutOfMemory) => Err(AllocError),
         }
     }
 
@@ -187,7 +187,7 @@ impl<D: Debuggee + Drop> Session<D> {
     ) -> Result<Vec<u8>, AdapterFault>
         requires lines { SetsLines call.now }
         ensures carries { IfOk result (λ bytes. Carries D.follows (breakpoints_plan (D.shown self.old.debuggee) self.old.session request.now call.now) self.old self.new bytes.items) }
-        ensures within { OnOk result (self.old.session.used + due (breakpoints_plan (D.shown self.old.debuggee) self.old.session request.now call.now) ≤ self.old.session.limits.seq) }
+        ensures within { OnOk result (self.old.session.used + messages_due (breakpoints_plan (D.shown self.old.debuggee) self.old.session request.now call.now) ≤ self.old.session.limits.seq) }
         ensures refused { IfErr result (λ fault. IsRefusedFor fault (breakpoints_plan (D.shown self.old.debuggee) self.old.session request.now call.now) self.old self.new) }
         ensures err { OnErr result (self.new.session ≡ self.old.session) }
     {

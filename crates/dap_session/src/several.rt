@@ -1,10 +1,10 @@
 //! Answers to several kept requests, one after the other.
 ghost use Rattle.std.specs.Prelude.{◌≡◌, ◌+◌, ◌≤◌, filter, length, OnOk};
 ghost use Rattle.dap_tables.specs.Outstanding.{entries};
-ghost use Rattle.dap_session.specs.Sheet.{answer_of};
-ghost use Rattle.dap_session.specs.Several.{chosen, answer_where, answer_by, WritesAll};
+ghost use Rattle.dap_session.specs.PrivateOutbox.{answer_of};
+ghost use Rattle.dap_session.specs.PrivateSeveral.{is_chosen, answer_where, answer_by, WritesAll};
 
-use crate::sheet::{Answer, Sheet};
+use crate::outbox::{Answer, Outbox};
 use dap_message::Failure;
 use dap_tables::{InOrder, Outstanding};
 use std::alloc::{AllocError, Global};
@@ -19,7 +19,7 @@ pub(crate) enum Chosen {
 }
 
 fn is_chosen(kept: &Outstanding, which: Chosen, seq: u64) -> bool
-    ensures { result ≡ chosen which kept.now.kept seq }
+    ensures { result ≡ is_chosen which kept.now.kept seq }
 {
     match which {
         Chosen::AllBut(one) => seq != one,
@@ -40,18 +40,18 @@ fn answer_by(failure: Option<Failure>) -> Answer
 /// Answers each chosen request of those that are still to come.
 fn answer_rest(
     alloc: Global,
-    sheet: &mut Sheet,
+    outbox: &mut Outbox,
     kept: &Outstanding,
     mut requests: InOrder<'_>,
     which: Chosen,
     failure: Option<Failure>,
 ) -> Result<(), AllocError>
-    requires { sheet.old.numbers.used + length (filter (λ r. chosen which kept.now.kept r.seq) requests) ≤ sheet.old.numbers.last }
-    ensures { OnOk result (WritesAll sheet.old sheet.new (answer_where (λ seq. chosen which kept.now.kept seq) (answer_by failure) requests.entry)) }
+    requires { outbox.old.numbers.used + length (filter (λ r. is_chosen which kept.now.kept r.seq) requests) ≤ outbox.old.numbers.last }
+    ensures { OnOk result (WritesAll outbox.old outbox.new (answer_where (λ seq. is_chosen which kept.now.kept seq) (answer_by failure) requests.entry)) }
 {
     while let Some(request) = requests.next() {
         if is_chosen(kept, which, request.seq) {
-            sheet.reply(alloc, request, answer_by(failure))?;
+            outbox.reply(alloc, request, answer_by(failure))?;
         }
     }
     Ok(())
@@ -60,13 +60,13 @@ fn answer_rest(
 /// Answers each chosen request, by arrival.
 pub(crate) fn answer_chosen(
     alloc: Global,
-    sheet: &mut Sheet,
+    outbox: &mut Outbox,
     kept: &Outstanding,
     which: Chosen,
     failure: Option<Failure>,
 ) -> Result<(), AllocError>
-    requires { sheet.old.numbers.used + length (filter (λ r. chosen which kept.now.kept r.seq) (entries kept.now.kept)) ≤ sheet.old.numbers.last }
-    ensures { OnOk result (WritesAll sheet.old sheet.new (answer_where (λ seq. chosen which kept.now.kept seq) (answer_by failure) (entries kept.now.kept))) }
+    requires { outbox.old.numbers.used + length (filter (λ r. is_chosen which kept.now.kept r.seq) (entries kept.now.kept)) ≤ outbox.old.numbers.last }
+    ensures { OnOk result (WritesAll outbox.old outbox.new (answer_where (λ seq. is_chosen which kept.now.kept seq) (answer_by failure) (entries kept.now.kept))) }
 {
-    answer_rest(alloc, sheet, kept, kept.in_order(), which, failure)
+    answer_rest(alloc, outbox, kept, kept.in_order(), which, failure)
 }

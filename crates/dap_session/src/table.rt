@@ -50,23 +50,23 @@ pub(crate) fn effect_in(command: Command, phase: Phase) -> Option<Effect>
     ensures { result ≡ effect_in command phase }
 {
     match command {
-        Command::Initialize => only_in(Phase::Fresh, phase, Effect::Begin),
+        Command::Initialize => only_in(Phase::Fresh, phase, Effect::Initialize),
         Command::Launch => start_in(phase),
         Command::Attach => start_in(phase),
         Command::ConfigurationDone => match phase {
-            Phase::Ready => Some(Effect::Configure),
+            Phase::Ready => Some(Effect::ConfigurationDone),
             Phase::Parked => Some(Effect::StartParked),
             _ => None,
         },
         Command::Disconnect => match phase {
             Phase::Ended => None,
-            Phase::Running => Some(Effect::EndAndLeave),
-            Phase::Stopped => Some(Effect::EndAndLeave),
-            _ => Some(Effect::Leave),
+            Phase::Running => Some(Effect::EndAndDisconnect),
+            Phase::Stopped => Some(Effect::EndAndDisconnect),
+            _ => Some(Effect::Disconnect),
         },
         Command::Terminate => match phase {
-            Phase::Running => Some(Effect::Finish),
-            Phase::Stopped => Some(Effect::Finish),
+            Phase::Running => Some(Effect::Terminate),
+            Phase::Stopped => Some(Effect::Terminate),
             _ => None,
         },
         Command::SetBreakpoints => {
@@ -78,7 +78,7 @@ pub(crate) fn effect_in(command: Command, phase: Phase) -> Option<Effect>
         }
         Command::SetExceptionBreakpoints => {
             if is_configuring_or_there(phase) {
-                Some(Effect::Tell)
+                Some(Effect::Query)
             } else {
                 None
             }
@@ -96,13 +96,13 @@ pub(crate) fn effect_in(command: Command, phase: Phase) -> Option<Effect>
         }
         Command::Pause => match phase {
             Phase::Running => Some(Effect::Pause),
-            Phase::Stopped => Some(Effect::Tell),
+            Phase::Stopped => Some(Effect::Query),
             _ => None,
         },
-        Command::StackTrace => only_in(Phase::Stopped, phase, Effect::Tell),
-        Command::Scopes => only_in(Phase::Stopped, phase, Effect::Tell),
-        Command::Variables => only_in(Phase::Stopped, phase, Effect::Tell),
-        Command::Evaluate => only_in(Phase::Stopped, phase, Effect::Tell),
+        Command::StackTrace => only_in(Phase::Stopped, phase, Effect::Query),
+        Command::Scopes => only_in(Phase::Stopped, phase, Effect::Query),
+        Command::Variables => only_in(Phase::Stopped, phase, Effect::Query),
+        Command::Evaluate => only_in(Phase::Stopped, phase, Effect::Query),
         _ => None,
     }
 }
@@ -121,59 +121,26 @@ fn tell_in(phase: Phase) -> Option<Effect>
     ensures { result ≡ effect_in Command.Threads phase }
 {
     if is_initialized(phase) {
-        Some(Effect::Tell)
+        Some(Effect::Query)
     } else {
         None
     }
 }
 
-/// Whether a command is served in no phase.
+/// Whether a command is served in no phase. Each that is served is served in one of these three.
 pub(crate) fn is_never_served(command: Command) -> bool
     ensures { result ≡ is_never_served command }
 {
-    match command {
-        Command::Initialize => false,
-        Command::Launch => false,
-        Command::Attach => false,
-        Command::ConfigurationDone => false,
-        Command::Disconnect => false,
-        Command::Threads => false,
-        Command::Terminate => false,
-        Command::SetBreakpoints => false,
-        Command::SetExceptionBreakpoints => false,
-        Command::Continue => false,
-        Command::Next => false,
-        Command::StepIn => false,
-        Command::StepOut => false,
-        Command::Pause => false,
-        Command::StepBack => false,
-        Command::ReverseContinue => false,
-        Command::StackTrace => false,
-        Command::Scopes => false,
-        Command::Variables => false,
-        Command::Evaluate => false,
-        Command::Source => false,
-        Command::LoadedSources => false,
-        _ => true,
-    }
+    effect_in(command, Phase::Stopped).is_none()
+        && effect_in(command, Phase::Ready).is_none()
+        && effect_in(command, Phase::Fresh).is_none()
 }
 
-/// Whether a command is served while the debuggee is stopped, and then alone.
+/// Whether a command is served while the debuggee is stopped, and then alone. One that is served in a stop and at another
+/// time is served while it runs.
 pub(crate) fn is_of_stops(command: Command) -> bool
     requires { is_never_served command ≡ false }
     ensures { result ≡ is_of_stops command }
 {
-    match command {
-        Command::Continue => true,
-        Command::Next => true,
-        Command::StepIn => true,
-        Command::StepOut => true,
-        Command::StepBack => true,
-        Command::ReverseContinue => true,
-        Command::StackTrace => true,
-        Command::Scopes => true,
-        Command::Variables => true,
-        Command::Evaluate => true,
-        _ => false,
-    }
+    effect_in(command, Phase::Stopped).is_some() && effect_in(command, Phase::Running).is_none()
 }

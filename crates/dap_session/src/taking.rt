@@ -5,17 +5,17 @@ ghost use Rattle.dap_tables.specs.Outstanding.{contains_seq, HasDistinctSeqs};
 ghost use Rattle.dap_session.specs.Failures.{of_known};
 ghost use Rattle.dap_session.specs.Plan.{reply, failure, plain_success};
 ghost use Rattle.dap_message.specs.Types.Failure.TheVariants.{Cancelled};
-ghost use Rattle.dap_session.specs.Seat.{MadeBy, HasTaken, NotTaken, TakesRequest, TakesNoRequest, IsBeyond, LacksRoom, NamesNone, NamesOne};
-ghost use Rattle.dap_session.specs.Sheet.{Holds, answer_of};
+ghost use Rattle.dap_session.specs.SessionState.{MadeBy, HasTaken, NotTaken, LacksRoom, NamesNone, NamesOne};
+ghost use Rattle.dap_session.specs.PrivateOutbox.{Holds, answer_of};
 ghost use Rattle.dap_session.specs.Table.{is_phase};
 ghost use Rattle.dap_session.specs.declared.phase.Phase.TheVariants.{Ended};
-ghost use Rattle.dap_session.specs.Taking.{answered_at_once, keeps, cancels, cancelled, id_in, is_cancel, is_request};
+ghost use Rattle.dap_session.specs.Taking.{after_answering_at_once, after_keeping, after_cancel_request, after_cancel, id_in, is_cancel, is_request, takes, takes_request};
 
 use crate::deciding::call_in;
 use crate::fault::AdapterFault;
+use crate::outbox::{Answer, Outbox};
 use crate::phase::Phase;
 use crate::session::Session;
-use crate::sheet::{Answer, Sheet};
 use dap_debuggee::Debuggee;
 use dap_message::{Call, CallFault, Command, Failure, Kind, Message, Text, Tree};
 use dap_tables::Entry;
@@ -67,24 +67,24 @@ impl<D: Debuggee + Drop> Session<D> {
         request: &Entry,
         answer: Answer,
     ) -> Result<Vec<u8>, AdapterFault>
-        ensures made { IfOk result (λ bytes. MadeBy (answered_at_once request.now (answer_of answer) self.old.session) self.old.session self.new.session bytes.items) }
-        ensures within { OnOk result (self.old.session.used + length (answered_at_once request.now (answer_of answer) self.old.session).drafts ≤ self.old.session.limits.seq) }
-        ensures refused { IfErr result (λ fault. IsBeyond fault self.old.session (answered_at_once request.now (answer_of answer) self.old.session)) }
+        ensures made { IfOk result (λ bytes. MadeBy (after_answering_at_once request.now (answer_of answer) self.old.session) self.old.session self.new.session bytes.items) }
+        ensures within { OnOk result (self.old.session.used + length (after_answering_at_once request.now (answer_of answer) self.old.session).drafts ≤ self.old.session.limits.seq) }
+        ensures refused { IfErr result (λ fault. LacksRoom fault self.old.session (length (after_answering_at_once request.now (answer_of answer) self.old.session).drafts)) }
         ensures err { OnErr result (self.new ≡ self.old) }
         ensures debuggee { self.new.debuggee ≡ self.old.debuggee }
         ensures limits { self.new.session.limits ≡ self.old.session.limits }
     {
         self.room(1)?;
-        let sheet = self.one(alloc, request, answer)?;
-        Ok(self.spend(sheet))
+        let outbox = self.one(alloc, request, answer)?;
+        Ok(self.spend(outbox))
     }
 
     /// Keeps a request, or answers that there is no room.
     fn keep(&mut self, alloc: Global, request: Entry) -> Result<Vec<u8>, AdapterFault>
         requires new { contains_seq request.seq self.old.session.kept ≡ false }
-        ensures made { IfOk result (λ bytes. MadeBy (keeps request self.old.session) self.old.session self.new.session bytes.items) }
-        ensures within { OnOk result (self.old.session.used + length (keeps request self.old.session).drafts ≤ self.old.session.limits.seq) }
-        ensures refused { IfErr result (λ fault. IsBeyond fault self.old.session (keeps request self.old.session)) }
+        ensures made { IfOk result (λ bytes. MadeBy (after_keeping request self.old.session) self.old.session self.new.session bytes.items) }
+        ensures within { OnOk result (self.old.session.used + length (after_keeping request self.old.session).drafts ≤ self.old.session.limits.seq) }
+        ensures refused { IfErr result (λ fault. LacksRoom fault self.old.session (length (after_keeping request self.old.session).drafts)) }
         ensures err { OnErr result (self.new ≡ self.old) }
         ensures debuggee { self.new.debuggee ≡ self.old.debuggee }
         ensures limits { self.new.session.limits ≡ self.old.session.limits }
@@ -98,33 +98,33 @@ impl<D: Debuggee + Drop> Session<D> {
     }
 
     /// A request is cancelled, and another one answered.
-    fn both_told(
+    fn both_responses(
         &self,
         alloc: Global,
         named: &Entry,
         request: &Entry,
-    ) -> Result<Sheet, AdapterFault>
-        ensures last { IfOk result (λ sheet. sheet.numbers.last ≡ self.now.session.limits.seq) }
-        ensures holds { IfOk result (λ sheet. Holds sheet self.now.session.limits.body self.now.session.used (reply named.now (failure Cancelled) ∷ reply request.now plain_success ∷ [])) }
+    ) -> Result<Outbox, AdapterFault>
+        ensures last { IfOk result (λ outbox. outbox.numbers.last ≡ self.now.session.limits.seq) }
+        ensures holds { IfOk result (λ outbox. Holds outbox self.now.session.limits.body self.now.session.used (reply named.now (failure Cancelled) ∷ reply request.now plain_success ∷ [])) }
         ensures refused { IfErr result (λ fault. LacksRoom fault self.now.session 2) }
     {
         self.room(2)?;
-        let mut sheet = self.one(alloc, named, Answer::Failure(Failure::Cancelled))?;
-        sheet.reply(alloc, request, Answer::Success(None))?;
-        Ok(sheet)
+        let mut outbox = self.one(alloc, named, Answer::Failure(Failure::Cancelled))?;
+        outbox.reply(alloc, request, Answer::Success(None))?;
+        Ok(outbox)
     }
 
     /// The answers to a request that is cancelled and to the cancel, where it names one that can be.
-    fn cancel_told(
+    fn cancel_responses(
         &self,
         alloc: Global,
         request: &Entry,
         id: u64,
-    ) -> Result<Option<Sheet>, AdapterFault>
+    ) -> Result<Option<Outbox>, AdapterFault>
         ensures none { IfOk result (λ o. IfNone o (NamesNone id self.now.session.kept)) }
-        ensures one { IfOk result (λ o. IfSome o (λ sheet. NamesOne id self.now.session.kept)) }
-        ensures last { IfOk result (λ o. IfSome o (λ sheet. sheet.numbers.last ≡ self.now.session.limits.seq)) }
-        ensures holds { IfOk result (λ o. IfSome o (λ sheet. Holds sheet self.now.session.limits.body self.now.session.used (cancelled (Some id) request.now self.now.session).drafts)) }
+        ensures one { IfOk result (λ o. IfSome o (λ outbox. NamesOne id self.now.session.kept)) }
+        ensures last { IfOk result (λ o. IfSome o (λ outbox. outbox.numbers.last ≡ self.now.session.limits.seq)) }
+        ensures holds { IfOk result (λ o. IfSome o (λ outbox. Holds outbox self.now.session.limits.body self.now.session.used (after_cancel (Some id) request.now self.now.session).drafts)) }
         ensures named { OnErr result (NamesOne id self.now.session.kept) }
         ensures refused { IfErr result (λ fault. LacksRoom fault self.now.session 2) }
     {
@@ -134,8 +134,8 @@ impl<D: Debuggee + Drop> Session<D> {
         let Some(named) = self.kept.get(id) else {
             return Ok(None);
         };
-        match self.both_told(alloc, named, request) {
-            Ok(sheet) => Ok(Some(sheet)),
+        match self.both_responses(alloc, named, request) {
+            Ok(outbox) => Ok(Some(outbox)),
             Err(fault) => Err(fault),
         }
     }
@@ -147,9 +147,9 @@ impl<D: Debuggee + Drop> Session<D> {
         request: &Entry,
         id: Option<u64>,
     ) -> Result<Vec<u8>, AdapterFault>
-        ensures made { IfOk result (λ bytes. MadeBy (cancelled id request.now self.old.session) self.old.session self.new.session bytes.items) }
-        ensures within { OnOk result (self.old.session.used + length (cancelled id request.now self.old.session).drafts ≤ self.old.session.limits.seq) }
-        ensures refused { IfErr result (λ fault. IsBeyond fault self.old.session (cancelled id request.now self.old.session)) }
+        ensures made { IfOk result (λ bytes. MadeBy (after_cancel id request.now self.old.session) self.old.session self.new.session bytes.items) }
+        ensures within { OnOk result (self.old.session.used + length (after_cancel id request.now self.old.session).drafts ≤ self.old.session.limits.seq) }
+        ensures refused { IfErr result (λ fault. LacksRoom fault self.old.session (length (after_cancel id request.now self.old.session).drafts)) }
         ensures err { OnErr result (self.new ≡ self.old) }
         ensures debuggee { self.new.debuggee ≡ self.old.debuggee }
         ensures limits { self.new.session.limits ≡ self.old.session.limits }
@@ -157,18 +157,18 @@ impl<D: Debuggee + Drop> Session<D> {
         let Some(id) = id else {
             return self.answer_at_once(alloc, request, Answer::Success(None));
         };
-        match self.cancel_told(alloc, request, id) {
+        match self.cancel_responses(alloc, request, id) {
             Err(fault) => Err(fault),
             Ok(None) => self.answer_at_once(alloc, request, Answer::Success(None)),
-            Ok(Some(sheet)) => Ok(self.settle(id, sheet)),
+            Ok(Some(outbox)) => Ok(self.commit(id, outbox)),
         }
     }
 
     /// Answers a cancel at once, and what it names.
     fn cancel(&mut self, alloc: Global, request: &Entry) -> Result<Vec<u8>, AdapterFault>
-        ensures made { IfOk result (λ bytes. MadeBy (cancels request.now self.old.session) self.old.session self.new.session bytes.items) }
-        ensures within { OnOk result (self.old.session.used + length (cancels request.now self.old.session).drafts ≤ self.old.session.limits.seq) }
-        ensures refused { IfErr result (λ fault. IsBeyond fault self.old.session (cancels request.now self.old.session)) }
+        ensures made { IfOk result (λ bytes. MadeBy (after_cancel_request request.now self.old.session) self.old.session self.new.session bytes.items) }
+        ensures within { OnOk result (self.old.session.used + length (after_cancel_request request.now self.old.session).drafts ≤ self.old.session.limits.seq) }
+        ensures refused { IfErr result (λ fault. LacksRoom fault self.old.session (length (after_cancel_request request.now self.old.session).drafts)) }
         ensures err { OnErr result (self.new ≡ self.old) }
         ensures debuggee { self.new.debuggee ≡ self.old.debuggee }
         ensures limits { self.new.session.limits ≡ self.old.session.limits }
@@ -194,8 +194,8 @@ impl<D: Debuggee + Drop> Session<D> {
         command: &Text,
         arguments: &Option<Tree>,
     ) -> Result<Vec<u8>, AdapterFault>
-        ensures taken { IfOk result (λ bytes. TakesRequest (record { seq = seq; command = command.now; arguments = arguments.now }) self.old.session self.new.session bytes.items) }
-        ensures refused { IfErr result (λ fault. TakesNoRequest fault (record { seq = seq; command = command.now; arguments = arguments.now }) self.old.session) }
+        ensures taken { IfOk result (λ bytes. HasTaken D.follows (takes_request (record { seq = seq; command = command.now; arguments = arguments.now }) self.old.session) self.old self.new bytes.items) }
+        ensures refused { IfErr result (λ fault. NotTaken fault (takes_request (record { seq = seq; command = command.now; arguments = arguments.now }) self.old.session)) }
         ensures err { OnErr result (self.new ≡ self.old) }
         ensures debuggee { self.new.debuggee ≡ self.old.debuggee }
         ensures limits { self.new.session.limits ≡ self.old.session.limits }
@@ -217,8 +217,8 @@ impl<D: Debuggee + Drop> Session<D> {
     /// Takes a message that was delivered: a request is kept, or answered at once. A response is refused, since no request
     /// of this end waits for one. Any other message has no effect.
     pub fn take(&mut self, alloc: Global, message: &Message) -> Result<Vec<u8>, AdapterFault>
-        ensures taken { IfOk result (λ bytes. HasTaken message.now self.old.session self.new.session bytes.items) }
-        ensures refused { IfErr result (λ fault. NotTaken fault message.now self.old.session) }
+        ensures taken { IfOk result (λ bytes. HasTaken D.follows (takes message.now self.old.session) self.old self.new bytes.items) }
+        ensures refused { IfErr result (λ fault. NotTaken fault (takes message.now self.old.session)) }
         ensures memory { IsErrOf result AdapterFault.OutOfMemory → is_request message.now.kind ≡ true }
         ensures err { OnErr result (self.new ≡ self.old) }
         ensures debuggee { self.new.debuggee ≡ self.old.debuggee }

@@ -3,7 +3,7 @@
 use Rattle.std.proofs.Common.{◌≡◌, ◌≢◌, ◌⊎◌, ℕ, zero, suc, ◌+◌, ◌-◌, ◌<◌, ◌≤◌, List, [], ◌∷◌, ◌++◌, length, Option, Some, None, IfSome, refl, sym, ap, ◌∙◌, subst, inl, inr, arith, eq-eqb, ne_eqb, length-append}
 use Rattle.std.proofs.lemmas.Bool.{cases_eq, cond-true, cond-false, not_from_true, not_from_false}
 use Rattle.dap_tables.specs.declared.arrivals.Link.{Link}
-use Rattle.dap_tables.specs.Arrivals.{without_key, IsIn, IsApart, from_key, keys_from, next_of, prev_of, Joins, Skips, Inserts, Splices, key_at, walk, IsChain, keys_of, IsSound}
+use Rattle.dap_tables.specs.Arrivals.{without_key, IsIn, IsApart, from_key, keys_from, next_of, prev_of, Joins, Skips, Inserts, Splices, key_at, walk, IsChain, keys_of, IsSoundRing}
 
 -- ---- lists of keys
 
@@ -31,21 +31,6 @@ IsIn-without key other (first ∷ rest) found =
             | inl here ↦ (inl here, λ same. differs (here ∙ same))
             | inr there ↦ let later = IsIn-without key other rest there in (inr later.0, later.1)
           ]
-    ]
-
-pub IsIn-without_kept : (key other : ℕ) (keys : List ℕ) → IsIn other keys → other ≢ key → IsIn other (without_key key keys)
-IsIn-without_kept key other [] found differs = absurd found
-IsIn-without_kept key other (first ∷ rest) found differs =
-    elim (cases_eq first key) [
-      | inl same ↦
-          subst (IsIn other) (sym (without_head key first rest same))
-          (elim found [
-            | inl here ↦ absurd (differs (sym here ∙ same))
-            | inr there ↦ IsIn-without_kept key other rest there differs
-          ])
-      | inr apart ↦
-          subst (IsIn other) (sym (without_past key first rest apart))
-          (elim found [ inl here ↦ inl here | inr there ↦ inr (IsIn-without_kept key other rest there differs) ])
     ]
 
 IsApart-without : (key : ℕ) (keys : List ℕ) → IsApart keys → IsApart (without_key key keys)
@@ -79,15 +64,6 @@ IsIn-push key other (first ∷ rest) found =
       | inl here ↦ inl (inl here)
       | inr there ↦ elim (IsIn-push key other rest there) [ inl old ↦ inl (inr old) | inr new ↦ inr new ]
     ]
-
-IsIn-push_kept : (key other : ℕ) (keys : List ℕ) → IsIn other keys → IsIn other (keys ++ key ∷ [])
-IsIn-push_kept key other [] found = absurd found
-IsIn-push_kept key other (first ∷ rest) found =
-    elim found [ inl here ↦ inl here | inr there ↦ inr (IsIn-push_kept key other rest there) ]
-
-IsIn-push_last : (key : ℕ) (keys : List ℕ) → IsIn key (keys ++ key ∷ [])
-IsIn-push_last key [] = inl refl
-IsIn-push_last key (first ∷ rest) = inr (IsIn-push_last key rest)
 
 IsApart-push : (key : ℕ) (keys : List ℕ) → IsApart keys → ¬ IsIn key keys → IsApart (keys ++ key ∷ [])
 IsApart-push key [] apart absent = (λ nowhere. nowhere, tt)
@@ -300,7 +276,7 @@ module _ (links : List Link) where
   keys_of-chain keys chain = walk_chain (next_of links) (prev_of links) 0 keys 0 chain
 
   -- a ring of so many keys is sound
-  sound_from_chain : (keys : List ℕ) (len : ℕ) → length keys ≡ len → IsChain (next_of links) (prev_of links) 0 keys 0 → IsApart keys → ((key : ℕ) → IsIn key keys → key + 1 < length links) → len ≤ length links - 1 → (keys_of links len ≡ keys) × IsSound links len
+  sound_from_chain : (keys : List ℕ) (len : ℕ) → length keys ≡ len → IsChain (next_of links) (prev_of links) 0 keys 0 → IsApart keys → ((key : ℕ) → IsIn key keys → key + 1 < length links) → len ≤ length links - 1 → (keys_of links len ≡ keys) × IsSoundRing links len
   sound_from_chain keys len count chain apart within few =
       let is : keys_of links len ≡ keys = ap (keys_of links) (sym count) ∙ keys_of-chain keys chain in (
         is,
@@ -313,11 +289,11 @@ module _ (links : List Link) where
       )
 
   -- links that all lead to the head are a ring of no key
-  pub emptied : next_of links 0 ≡ 0 → prev_of links 0 ≡ 0 → (keys_of links 0 ≡ []) × IsSound links 0
+  pub emptied : next_of links 0 ≡ 0 → prev_of links 0 ≡ 0 → (keys_of links 0 ≡ []) × IsSoundRing links 0
   emptied next prev = sound_from_chain [] 0 refl (next, prev) tt (λ key found. absurd found) (omega arith)
 
-module _ (links links' : List Link) (len : ℕ) (sound : IsSound links len) (long : length links' ≡ length links) where
-  pub pushed : (key : ℕ) → key + 1 < length links → len < length links - 1 → ¬ IsIn key (keys_of links len) → Splices links links' (key + 1) 0 → (keys_of links' (len + 1) ≡ keys_of links len ++ key ∷ []) × IsSound links' (len + 1)
+module _ (links links' : List Link) (len : ℕ) (sound : IsSoundRing links len) (long : length links' ≡ length links) where
+  pub pushed : (key : ℕ) → key + 1 < length links → len < length links - 1 → ¬ IsIn key (keys_of links len) → Splices links links' (key + 1) 0 → (keys_of links' (len + 1) ≡ keys_of links len ++ key ∷ []) × IsSoundRing links' (len + 1)
   pushed key fits room absent splices =
       let keys = keys_of links len in
       sound_from_chain links' (keys ++ key ∷ []) (len + 1)
@@ -330,7 +306,7 @@ module _ (links links' : List Link) (len : ℕ) (sound : IsSound links len) (lon
       ])
       (omega arith)
 
-  pub removed : (key : ℕ) → IsIn key (keys_of links len) → Skips links links' (key + 1) → (keys_of links' (len - 1) ≡ without_key key (keys_of links len)) × IsSound links' (len - 1)
+  pub removed : (key : ℕ) → IsIn key (keys_of links len) → Skips links links' (key + 1) → (keys_of links' (len - 1) ≡ without_key key (keys_of links len)) × IsSoundRing links' (len - 1)
   removed key found skips =
       let keys = keys_of links len in
       let shorter = length-without key keys sound.apart found in
@@ -342,7 +318,7 @@ module _ (links links' : List Link) (len : ℕ) (sound : IsSound links len) (lon
       (λ other there. omega (arith, sound.within other (IsIn-without key other keys there).0))
       (omega arith)
 
-module _ (links : List Link) (len : ℕ) (sound : IsSound links len) where
+module _ (links : List Link) (len : ℕ) (sound : IsSoundRing links len) where
   on_within : 0 < length links → (at : ℕ) → IsOn 0 (keys_of links len) at → at < length links
   on_within some at on = elim on [ inl here ↦ omega arith | inr found ↦ omega (arith, found.2, sound.within found.0 found.1) ]
 
@@ -370,7 +346,7 @@ module _ (links : List Link) (len : ℕ) (sound : IsSound links len) where
       some (first ∷ rest) there long = omega arith
 
 -- where there is no link there is no key
-pub first_none : (links : List Link) (len : ℕ) → IsSound links len → length links ≤ 0 → keys_of links len ≡ []
+pub first_none : (links : List Link) (len : ℕ) → IsSoundRing links len → length links ≤ 0 → keys_of links len ≡ []
 first_none [] len sound none = empty (keys_of [] len) sound.chained
   where
     empty : (keys : List ℕ) → IsChain (next_of []) (prev_of []) 0 keys 0 → keys ≡ []

@@ -7,7 +7,7 @@ use Rattle.std.specs.Ordering.{nat_cmp}
 use Rattle.std.proofs.lemmas.Bool.Decides.{nat_tests}
 use Rattle.dap_tables.specs.declared.target.Target.{Target}
 use Rattle.dap_tables.specs.References.{is_same, place_of, frame_of, holder_of, HasDistinctTargets}
-use Rattle.dap_tables.specs.ReferenceStore.{HasPlaces}
+use Rattle.dap_tables.specs.PrivateReferenceStore.{HasPlaces}
 use Rattle.dap_tables.proofs.Places.{or_else, place-push, absent-front, absent-last, absent-cons}
 use Rattle.dap_tables.proofs.ReferenceLemmas.{same-turned, distinct-push}
 

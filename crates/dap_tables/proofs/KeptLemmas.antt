@@ -7,7 +7,7 @@ use Rattle.std.proofs.lemmas.List.Elements.{filter-append}
 use Rattle.std.proofs.lemmas.List.Folds.{list_any-append}
 use Rattle.std.proofs.lemmas.Bool.Decides.{nat_tests}
 use Rattle.dap_tables.specs.declared.entry.Entry.{Entry}
-use Rattle.dap_tables.specs.Outstanding.{Kept, marked, entries, contains_seq, entry_with, without, is_parked, with_mark, oldest_unparked, unparked_ones, HasDistinctSeqs, IsOrderly}
+use Rattle.dap_tables.specs.Outstanding.{Kept, kept_with_mark, entries, contains_seq, entry_with, without, is_parked, with_mark, oldest_unparked, unparked_ones, HasDistinctSeqs, IsOrderlyRequests}
 use Rattle.dap_tables.specs.Ors.{or-false, or-left, or-right}
 
 pub eqb-flip : (a b : ℕ) → (a == b) ≡ (b == a)
@@ -32,8 +32,8 @@ HasDistinctSeqs-push (x ∷ ks) k d h =
     list_any-append (λ (q : Kept). q.entry.seq == x.entry.seq) ks (k ∷ []) ∙ or-false (contains_seq x.entry.seq ks) ((k.entry.seq == x.entry.seq) || false) d.0 (or-false (k.entry.seq == x.entry.seq) false apart refl) in
     (one, HasDistinctSeqs-push ks k d.1 (or-right (x.entry.seq == k.entry.seq) (contains_seq k.entry.seq ks) h))
 
-pub IsOrderly-push : (room : ℕ) (ks : List Kept) (k : Kept) → IsOrderly (record { room = room; kept = ks }) → contains_seq k.entry.seq ks ≡ false → length ks < room → IsOrderly (record { room = room; kept = ks ++ k ∷ [] })
-IsOrderly-push room ks k o h l = record { bound = simp length-append (omega arith); distinct = HasDistinctSeqs-push ks k o.distinct h }
+pub IsOrderlyRequests-push : (room : ℕ) (ks : List Kept) (k : Kept) → IsOrderlyRequests (record { room = room; kept = ks }) → contains_seq k.entry.seq ks ≡ false → length ks < room → IsOrderlyRequests (record { room = room; kept = ks ++ k ∷ [] })
+IsOrderlyRequests-push room ks k o h l = record { bound = simp length-append (omega arith); distinct = HasDistinctSeqs-push ks k o.distinct h }
 
 or-true : (a b : Bool) → b ≡ true → (a || b) ≡ true
 or-true true b h = refl
@@ -86,8 +86,8 @@ pub length-filter : (p : Kept → Bool) (ks : List Kept) → length (filter p ks
 length-filter p [] = omega arith
 length-filter p (k ∷ ks) = let h = cond-length (p k) k (filter p ks) (length ks) (length-filter p ks) in omega arith
 
-pub IsOrderly-without : (room seq : ℕ) (ks : List Kept) → IsOrderly (record { room = room; kept = ks }) → IsOrderly (record { room = room; kept = without seq ks })
-IsOrderly-without room seq ks o =
+pub IsOrderlyRequests-without : (room seq : ℕ) (ks : List Kept) → IsOrderlyRequests (record { room = room; kept = ks }) → IsOrderlyRequests (record { room = room; kept = without seq ks })
+IsOrderlyRequests-without room seq ks o =
     let shorter = length-filter (λ (q : Kept). not (q.entry.seq == seq)) ks in
     let old = o.bound in
     record { bound = omega arith; distinct = HasDistinctSeqs-filter (λ (q : Kept). not (q.entry.seq == seq)) ks o.distinct }
@@ -128,15 +128,15 @@ entry_with_from_contains seq (k ∷ ks) h = back-cases (k.entry.seq == seq) (con
 
 -- ---- marks
 
-marked-cases : (seq : ℕ) (mark : Bool) (b c d : Bool) (k : Kept) → c ≡ d → (((if b then marked mark k else k).entry.seq == seq) || c) ≡ ((k.entry.seq == seq) || d)
-marked-cases seq mark true c d k h = ap (λ x. (k.entry.seq == seq) || x) h
-marked-cases seq mark false c d k h = ap (λ x. (k.entry.seq == seq) || x) h
+kept_with_mark-cases : (seq : ℕ) (mark : Bool) (b c d : Bool) (k : Kept) → c ≡ d → (((if b then kept_with_mark mark k else k).entry.seq == seq) || c) ≡ ((k.entry.seq == seq) || d)
+kept_with_mark-cases seq mark true c d k h = ap (λ x. (k.entry.seq == seq) || x) h
+kept_with_mark-cases seq mark false c d k h = ap (λ x. (k.entry.seq == seq) || x) h
 
 pub contains_seq-with_mark : (q seq : ℕ) (mark : Bool) (ks : List Kept) → contains_seq q (with_mark seq mark ks) ≡ contains_seq q ks
 contains_seq-with_mark q seq mark [] = refl
-contains_seq-with_mark q seq mark (k ∷ ks) = marked-cases q mark (k.entry.seq == seq) (contains_seq q (with_mark seq mark ks)) (contains_seq q ks) k (contains_seq-with_mark q seq mark ks)
+contains_seq-with_mark q seq mark (k ∷ ks) = kept_with_mark-cases q mark (k.entry.seq == seq) (contains_seq q (with_mark seq mark ks)) (contains_seq q ks) k (contains_seq-with_mark q seq mark ks)
 
-mark-cases : (b mark : Bool) (k : Kept) (ks later : List Kept) → b ≡ false → later ≡ ks → (if b then marked mark k else k) ∷ later ≡ k ∷ ks
+mark-cases : (b mark : Bool) (k : Kept) (ks later : List Kept) → b ≡ false → later ≡ ks → (if b then kept_with_mark mark k else k) ∷ later ≡ k ∷ ks
 mark-cases true mark k ks later h e = cc
 mark-cases false mark k ks later h e = ap (λ (xs : List Kept). k ∷ xs) e
 
@@ -147,24 +147,24 @@ with_mark-absent seq mark (k ∷ ks) h =
     mark-cases (k.entry.seq == seq) mark k ks (with_mark seq mark ks) (or-left (k.entry.seq == seq) (contains_seq seq ks) h)
     (with_mark-absent seq mark ks (or-right (k.entry.seq == seq) (contains_seq seq ks) h))
 
-entry-marked : (b mark : Bool) (k : Kept) → (if b then marked mark k else k).entry ≡ k.entry
-entry-marked true mark k = refl
-entry-marked false mark k = refl
+entry-kept_with_mark : (b mark : Bool) (k : Kept) → (if b then kept_with_mark mark k else k).entry ≡ k.entry
+entry-kept_with_mark true mark k = refl
+entry-kept_with_mark false mark k = refl
 
 pub entries-with_mark : (seq : ℕ) (mark : Bool) (ks : List Kept) → entries (with_mark seq mark ks) ≡ entries ks
 entries-with_mark seq mark [] = refl
-entries-with_mark seq mark (k ∷ ks) = λ i. entry-marked (k.entry.seq == seq) mark k i ∷ entries-with_mark seq mark ks i
+entries-with_mark seq mark (k ∷ ks) = λ i. entry-kept_with_mark (k.entry.seq == seq) mark k i ∷ entries-with_mark seq mark ks i
 
 pub HasDistinctSeqs-with_mark : (seq : ℕ) (mark : Bool) (ks : List Kept) → HasDistinctSeqs ks → HasDistinctSeqs (with_mark seq mark ks)
 HasDistinctSeqs-with_mark seq mark [] d = tt
 HasDistinctSeqs-with_mark seq mark (k ∷ ks) d =
-    let same : (if k.entry.seq == seq then marked mark k else k).entry ≡ k.entry = entry-marked (k.entry.seq == seq) mark k in
+    let same : (if k.entry.seq == seq then kept_with_mark mark k else k).entry ≡ k.entry = entry-kept_with_mark (k.entry.seq == seq) mark k in
     let new : contains_seq k.entry.seq (with_mark seq mark ks) ≡ false = contains_seq-with_mark k.entry.seq seq mark ks ∙ d.0 in
     (subst (λ (e : Entry). contains_seq e.seq (with_mark seq mark ks) ≡ false) (sym same) new, HasDistinctSeqs-with_mark seq mark ks d.1)
 
-pub IsOrderly-with_mark : (room seq : ℕ) (mark : Bool) (ks : List Kept) → IsOrderly (record { room = room; kept = ks }) → IsOrderly (record { room = room; kept = with_mark seq mark ks })
-IsOrderly-with_mark room seq mark ks o =
-    record { bound = rw (length-map ks (λ (k : Kept). if k.entry.seq == seq then marked mark k else k)) o.bound; distinct = HasDistinctSeqs-with_mark seq mark ks o.distinct }
+pub IsOrderlyRequests-with_mark : (room seq : ℕ) (mark : Bool) (ks : List Kept) → IsOrderlyRequests (record { room = room; kept = ks }) → IsOrderlyRequests (record { room = room; kept = with_mark seq mark ks })
+IsOrderlyRequests-with_mark room seq mark ks o =
+    record { bound = rw (length-map ks (λ (k : Kept). if k.entry.seq == seq then kept_with_mark mark k else k)) o.bound; distinct = HasDistinctSeqs-with_mark seq mark ks o.distinct }
 
 -- ---- parked requests
 
@@ -216,13 +216,13 @@ unparked_from_oldest [] d = tt
 unparked_from_oldest (k ∷ ks) d =
     unparked-cases k.parked k ks (find (λ (x : Kept). not x.parked) ks) refl d.0 (contains_from_oldest ks) (unparked_from_oldest ks d.1)
 
-and-marked : (seq : ℕ) (mark : Bool) (k : Kept) (b : Bool) → (k.entry.seq == seq) ≡ b → (((if b then marked mark k else k).entry.seq == seq) && (if b then marked mark k else k).parked) ≡ (b && mark)
-and-marked seq mark k true e = rw e refl
-and-marked seq mark k false e = rw e refl
+and-kept_with_mark : (seq : ℕ) (mark : Bool) (k : Kept) (b : Bool) → (k.entry.seq == seq) ≡ b → (((if b then kept_with_mark mark k else k).entry.seq == seq) && (if b then kept_with_mark mark k else k).parked) ≡ (b && mark)
+and-kept_with_mark seq mark k true e = rw e refl
+and-kept_with_mark seq mark k false e = rw e refl
 
-all-marked : (seq : ℕ) (mark : Bool) (ks : List Kept) → is_parked seq (with_mark seq mark ks) ≡ (contains_seq seq ks && mark)
-all-marked seq mark [] = refl
-all-marked seq mark (k ∷ ks) = rw (and-marked seq mark k (k.entry.seq == seq) refl, all-marked seq mark ks) (both (k.entry.seq == seq) (contains_seq seq ks) mark)
+all-kept_with_mark : (seq : ℕ) (mark : Bool) (ks : List Kept) → is_parked seq (with_mark seq mark ks) ≡ (contains_seq seq ks && mark)
+all-kept_with_mark seq mark [] = refl
+all-kept_with_mark seq mark (k ∷ ks) = rw (and-kept_with_mark seq mark k (k.entry.seq == seq) refl, all-kept_with_mark seq mark ks) (both (k.entry.seq == seq) (contains_seq seq ks) mark)
   where
     both : (a b m : Bool) → ((a && m) || (b && m)) ≡ ((a || b) && m)
     both true true true = refl
@@ -232,10 +232,10 @@ all-marked seq mark (k ∷ ks) = rw (and-marked seq mark k (k.entry.seq == seq) 
     both false b m = refl
 
 pub is_parked-park : (seq : ℕ) (ks : List Kept) → contains_seq seq ks ≡ true → is_parked seq (with_mark seq true ks) ≡ true
-is_parked-park seq ks h = all-marked seq true ks ∙ rw h
+is_parked-park seq ks h = all-kept_with_mark seq true ks ∙ rw h
 
 pub is_parked-unpark : (seq : ℕ) (ks : List Kept) → is_parked seq (with_mark seq false ks) ≡ false
-is_parked-unpark seq ks = all-marked seq false ks ∙ none (contains_seq seq ks)
+is_parked-unpark seq ks = all-kept_with_mark seq false ks ∙ none (contains_seq seq ks)
   where
     none : (a : Bool) → (a && false) ≡ false
     none true = refl

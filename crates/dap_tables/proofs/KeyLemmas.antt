@@ -6,8 +6,8 @@ use Rattle.std.proofs.lemmas.Bool.{cases_eq}
 use Rattle.std.proofs.lemmas.List.Sums.{sum_by-cons}
 use Rattle.dap_tables.specs.declared.slot.Slot.{Slot}
 use Rattle.dap_tables.specs.Arrivals.{IsIn, from_key, without_key}
-use Rattle.dap_tables.specs.Outstanding.{contains_seq, without, with_mark, marked, HasDistinctSeqs}
-use Rattle.dap_tables.specs.OutstandingStore.{kept_of, before, slots_at, has_seq, key_with, slot_at, IsFilled}
+use Rattle.dap_tables.specs.Outstanding.{contains_seq, without, with_mark, kept_with_mark, HasDistinctSeqs}
+use Rattle.dap_tables.specs.PrivateOutstandingStore.{kept_of, slots_with, slots_at, has_seq, key_with, slot_at, IsFilled}
 use Rattle.dap_tables.proofs.KeptLemmas.{eqb-self, eqb-other, same-seq}
 use Rattle.dap_tables.proofs.ArrivalLemmas.{from_key-head}
 
@@ -32,7 +32,7 @@ or_else (Some key) later = Some key
 module _ (at at' : ℕ → Option Slot) where
   pub slots_at-same : (keys : List ℕ) → ((key : ℕ) → IsIn key keys → at' key ≡ at key) → slots_at at' keys ≡ slots_at at keys
   slots_at-same [] same = refl
-  slots_at-same (key ∷ keys) same = λ i. before (same key (inl refl) i) (slots_at-same keys (λ k there. same k (inr there)) i)
+  slots_at-same (key ∷ keys) same = λ i. slots_with (same key (inl refl) i) (slots_at-same keys (λ k there. same k (inr there)) i)
 
   -- a request that keeps its number keeps its key
   pub key_with-same : (seq : ℕ) (keys : List ℕ) → ((key : ℕ) → IsIn key keys → has_seq seq (at' key) ≡ has_seq seq (at key)) → key_with seq at' keys ≡ key_with seq at keys
@@ -40,7 +40,7 @@ module _ (at at' : ℕ → Option Slot) where
   key_with-same seq (key ∷ keys) same = λ i. if same key (inl refl) i then Some key else key_with-same seq keys (λ k there. same k (inr there)) i
 
 module _ (at : ℕ → Option Slot) where
-  before-append : (o : Option Slot) (xs ys zs : List Slot) → zs ≡ xs ++ ys → before o zs ≡ before o xs ++ ys
+  before-append : (o : Option Slot) (xs ys zs : List Slot) → zs ≡ xs ++ ys → slots_with o zs ≡ slots_with o xs ++ ys
   before-append None xs ys zs h = h
   before-append (Some slot) xs ys zs h = ap (λ later. slot ∷ later) h
 
@@ -48,7 +48,7 @@ module _ (at : ℕ → Option Slot) where
   slots_at-append [] more = refl
   slots_at-append (key ∷ keys) more = before-append (at key) (slots_at at keys) (slots_at at more) (slots_at at (keys ++ more)) (slots_at-append keys more)
 
-  length-before : (o : Option Slot) (later : List Slot) (n : ℕ) → is_some o ≡ true → length later ≡ n → length (before o later) ≡ n + 1
+  length-before : (o : Option Slot) (later : List Slot) (n : ℕ) → is_some o ≡ true → length later ≡ n → length (slots_with o later) ≡ n + 1
   length-before None later n some h = cc
   length-before (Some slot) later n some h = omega arith
 
@@ -60,7 +60,7 @@ module _ (at : ℕ → Option Slot) where
 
   -- a walk comes to a key
   pub slots_at-cons : (key : ℕ) (rest : List ℕ) (slot : Slot) → at key ≡ Some slot → slots_at at (key ∷ rest) ≡ slot ∷ slots_at at rest
-  slots_at-cons key rest slot is = ap (λ o. before o (slots_at at rest)) is
+  slots_at-cons key rest slot is = ap (λ o. slots_with o (slots_at at rest)) is
 
   slots_at-from : (keys : List ℕ) (key : ℕ) (slot : Slot) → IsIn key keys → at key ≡ Some slot → (later : List Slot) × (slots_at at (from_key key keys) ≡ slot ∷ later)
   slots_at-from keys key slot found is =
@@ -83,7 +83,7 @@ module _ (at : ℕ → Option Slot) where
 
   -- ---- the key of a number
 
-  contains-cases : (seq : ℕ) (o : Option Slot) (key : ℕ) (later : List Slot) (found : Option ℕ) → contains_seq seq (map kept_of later) ≡ is_some found → contains_seq seq (map kept_of (before o later)) ≡ is_some (if has_seq seq o then Some key else found)
+  contains-cases : (seq : ℕ) (o : Option Slot) (key : ℕ) (later : List Slot) (found : Option ℕ) → contains_seq seq (map kept_of later) ≡ is_some found → contains_seq seq (map kept_of (slots_with o later)) ≡ is_some (if has_seq seq o then Some key else found)
   contains-cases seq None key later found h = h
   contains-cases seq (Some slot) key later found h = by (slot.entry.seq == seq)
     where
@@ -95,7 +95,7 @@ module _ (at : ℕ → Option Slot) where
   contains-key seq [] = refl
   contains-key seq (key ∷ keys) = contains-cases seq (at key) key (slots_at at keys) (key_with seq at keys) (contains-key seq keys)
 
-  found-cases : (seq key : ℕ) (o : Option Slot) (later : List Slot) (found : Option ℕ) → at key ≡ o → find (λ slot. slot.entry.seq == seq) later ≡ slot_at at found → find (λ slot. slot.entry.seq == seq) (before o later) ≡ slot_at at (if has_seq seq o then Some key else found)
+  found-cases : (seq key : ℕ) (o : Option Slot) (later : List Slot) (found : Option ℕ) → at key ≡ o → find (λ slot. slot.entry.seq == seq) later ≡ slot_at at found → find (λ slot. slot.entry.seq == seq) (slots_with o later) ≡ slot_at at (if has_seq seq o then Some key else found)
   found-cases seq key None later found is h = h
   found-cases seq key (Some slot) later found is h = by (slot.entry.seq == seq)
     where
@@ -117,11 +117,11 @@ module _ (at : ℕ → Option Slot) where
       by true is rest same = let key_is : first ≡ key = cc in (inl key_is, ap (λ k. has_seq seq (at k)) (sym key_is) ∙ is)
       by false is rest later = let found = rest later in (inr found.0, found.1)
 
-  distinct-later : (o : Option Slot) (later : List Slot) → HasDistinctSeqs (map kept_of (before o later)) → HasDistinctSeqs (map kept_of later)
+  distinct-later : (o : Option Slot) (later : List Slot) → HasDistinctSeqs (map kept_of (slots_with o later)) → HasDistinctSeqs (map kept_of later)
   distinct-later None later d = d
   distinct-later (Some slot) later d = d.1
 
-  distinct-first : (seq : ℕ) (o : Option Slot) (later : List Slot) → HasDistinctSeqs (map kept_of (before o later)) → has_seq seq o ≡ true → contains_seq seq (map kept_of later) ≡ false
+  distinct-first : (seq : ℕ) (o : Option Slot) (later : List Slot) → HasDistinctSeqs (map kept_of (slots_with o later)) → has_seq seq o ≡ true → contains_seq seq (map kept_of later) ≡ false
   distinct-first seq None later d h = cc
   distinct-first seq (Some slot) later d h = ap (λ n. contains_seq n (map kept_of later)) (sym (same-seq slot.entry.seq seq h)) ∙ d.0
 
@@ -195,16 +195,16 @@ module _ (at : ℕ → Option Slot) where
       by false h = or_else-none (key_with seq at keys)
 
   pub slots_at-push : (slot : Slot) (key : ℕ) (keys : List ℕ) → at key ≡ Some slot → slots_at at (keys ++ key ∷ []) ≡ slots_at at keys ++ slot ∷ []
-  slots_at-push slot key keys is = slots_at-append keys (key ∷ []) ∙ ap (λ o. slots_at at keys ++ before o []) is
+  slots_at-push slot key keys is = slots_at-append keys (key ∷ []) ∙ ap (λ o. slots_at at keys ++ slots_with o []) is
 
   -- ---- a key that is taken out
 
-  without-cases : (seq : ℕ) (o : Option Slot) (b : Bool) (key : ℕ) (keys : List ℕ) (later : List Slot) → at key ≡ o → b ≡ has_seq seq o → map kept_of (slots_at at keys) ≡ without seq (map kept_of later) → map kept_of (slots_at at (cond (not b) (key ∷ keys) keys)) ≡ without seq (map kept_of (before o later))
+  without-cases : (seq : ℕ) (o : Option Slot) (b : Bool) (key : ℕ) (keys : List ℕ) (later : List Slot) → at key ≡ o → b ≡ has_seq seq o → map kept_of (slots_at at keys) ≡ without seq (map kept_of later) → map kept_of (slots_at at (cond (not b) (key ∷ keys) keys)) ≡ without seq (map kept_of (slots_with o later))
   without-cases seq None true key keys later is h rest = cc
-  without-cases seq None false key keys later is h rest = ap (λ o. map kept_of (before o (slots_at at keys))) is ∙ rest
+  without-cases seq None false key keys later is h rest = ap (λ o. map kept_of (slots_with o (slots_at at keys))) is ∙ rest
   without-cases seq (Some slot) true key keys later is h rest = rest ∙ ap (λ b. cond (not b) (kept_of slot ∷ without seq (map kept_of later)) (without seq (map kept_of later))) h
   without-cases seq (Some slot) false key keys later is h rest =
-      ap (λ o. map kept_of (before o (slots_at at keys))) is ∙ ap (λ ks. kept_of slot ∷ ks) rest
+      ap (λ o. map kept_of (slots_with o (slots_at at keys))) is ∙ ap (λ ks. kept_of slot ∷ ks) rest
       ∙ ap (λ b. cond (not b) (kept_of slot ∷ without seq (map kept_of later)) (without seq (map kept_of later))) h
 
   pub slots_at-without : (seq key : ℕ) (keys : List ℕ) → ((other : ℕ) → IsIn other keys → (other == key) ≡ has_seq seq (at other)) → map kept_of (slots_at at (without_key key keys)) ≡ without seq (map kept_of (slots_at at keys))
@@ -241,23 +241,23 @@ module _ (at at' : ℕ → Option Slot) (seq key : ℕ) (slot : Slot) (mark : Bo
       ]
 
   -- one slot of the marked requests
-  one : (first : ℕ) (b : Bool) → (first == key) ≡ b → b ≡ has_seq seq (at first) → (later later' : List Slot) → map kept_of later' ≡ with_mark seq mark (map kept_of later) → map kept_of (before (at' first) later') ≡ with_mark seq mark (map kept_of (before (at first) later))
+  one : (first : ℕ) (b : Bool) → (first == key) ≡ b → b ≡ has_seq seq (at first) → (later later' : List Slot) → map kept_of later' ≡ with_mark seq mark (map kept_of later) → map kept_of (slots_with (at' first) later') ≡ with_mark seq mark (map kept_of (slots_with (at first) later))
   one first true e h later later' rest =
       let same : first ≡ key = same-seq first key e in
       let here : at first ≡ Some slot = ap at same ∙ is in
       let there : at' first ≡ Some (record slot { parked = mark }) = ap at' same ∙ now in
       let has : true ≡ (slot.entry.seq == seq) = h ∙ ap (has_seq seq) here in
-      ap (λ o. map kept_of (before o later')) there
-      ∙ ap (λ ks. marked mark (kept_of slot) ∷ ks) rest
-      ∙ ap (λ b. (if b then marked mark (kept_of slot) else kept_of slot) ∷ with_mark seq mark (map kept_of later)) has
-      ∙ ap (λ o. with_mark seq mark (map kept_of (before o later))) (sym here)
+      ap (λ o. map kept_of (slots_with o later')) there
+      ∙ ap (λ ks. kept_with_mark mark (kept_of slot) ∷ ks) rest
+      ∙ ap (λ b. (if b then kept_with_mark mark (kept_of slot) else kept_of slot) ∷ with_mark seq mark (map kept_of later)) has
+      ∙ ap (λ o. with_mark seq mark (map kept_of (slots_with o later))) (sym here)
   one first false e h later later' rest = by (at first) (others first (λ same. let self = ap (λ k. k == key) same ∙ eqb-self key in cc)) h
     where
-      by : (o : Option Slot) → at' first ≡ o → false ≡ has_seq seq o → map kept_of (before (at' first) later') ≡ with_mark seq mark (map kept_of (before o later))
-      by None same miss = ap (λ o. map kept_of (before o later')) same ∙ rest
+      by : (o : Option Slot) → at' first ≡ o → false ≡ has_seq seq o → map kept_of (slots_with (at' first) later') ≡ with_mark seq mark (map kept_of (slots_with o later))
+      by None same miss = ap (λ o. map kept_of (slots_with o later')) same ∙ rest
       by (Some s) same miss =
-          ap (λ o. map kept_of (before o later')) same ∙ ap (λ ks. kept_of s ∷ ks) rest
-          ∙ ap (λ b. (if b then marked mark (kept_of s) else kept_of s) ∷ with_mark seq mark (map kept_of later)) miss
+          ap (λ o. map kept_of (slots_with o later')) same ∙ ap (λ ks. kept_of s ∷ ks) rest
+          ∙ ap (λ b. (if b then kept_with_mark mark (kept_of s) else kept_of s) ∷ with_mark seq mark (map kept_of later)) miss
 
   pub slots_at-marked : (keys : List ℕ) → ((other : ℕ) → IsIn other keys → (other == key) ≡ has_seq seq (at other)) → map kept_of (slots_at at' keys) ≡ with_mark seq mark (map kept_of (slots_at at keys))
   slots_at-marked [] which = refl

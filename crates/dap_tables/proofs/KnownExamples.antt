@@ -3,7 +3,7 @@ use Rattle.std.proofs.Common.{◌≡◌, ℕ, List, [], ◌∷◌, length, true,
 use Rattle.dap_tables.specs.declared.reference_kind.ReferenceKind.{ReferenceKind}
 use Rattle.dap_tables.specs.declared.reference_kind.ReferenceKind.TheVariants.{Frame, Holder}
 use Rattle.dap_tables.specs.Known.{has_pair, with_pairs, HasDistinctPairs, IsSet, TakesRoom}
-use Rattle.dap_tables.specs.KnownStore.{pairs_of, stored}
+use Rattle.dap_tables.specs.PrivateKnownStore.{pairs_of_targets, target_of_pair}
 
 -- a frame and a holder of the same number
 abbrev both : List (ReferenceKind × ℕ)
@@ -41,7 +41,7 @@ two_take_room = record { new = lit< tt; room = lit< tt }
 they_are_too_many : length (with_pairs ((Frame, 1) ∷ (Frame, 2) ∷ (Frame, 3) ∷ []) both) ≡ 4
 they_are_too_many = refl
 
-stored_and_back : pairs_of (stored (Frame, 5) ∷ stored (Holder, 5) ∷ []) ≡ (Frame, 5) ∷ (Holder, 5) ∷ []
+stored_and_back : pairs_of_targets (target_of_pair (Frame, 5) ∷ target_of_pair (Holder, 5) ∷ []) ≡ (Frame, 5) ∷ (Holder, 5) ∷ []
 stored_and_back = refl
 
 a_set_has_no_order : (has_pair (Frame, 2) (with_pairs ((Frame, 2) ∷ (Holder, 3) ∷ []) []) ≡ true) × (has_pair (Frame, 2) (with_pairs ((Holder, 3) ∷ (Frame, 2) ∷ []) []) ≡ true)

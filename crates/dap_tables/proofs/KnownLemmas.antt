@@ -2,13 +2,12 @@
 use Rattle.std.proofs.Common.{◌≡◌, ℕ, suc, zero, ◌+◌, ◌≤◌, ◌<◌, List, [], ◌∷◌, ◌++◌, length, take, Bool, true, false, Option, Some, None, option_map, refl, sym, ap, subst, ◌∙◌, arith, length-append, true≢false, is_some}
 use Rattle.std.specs.Prelude.{◌&&◌, ◌||◌, if◌then◌else◌}
 use Rattle.std.specs.List.{list_any, list_all}
-use Rattle.std.proofs.lemmas.List.{take-append-le}
 use Rattle.dap_tables.specs.declared.reference_kind.ReferenceKind.{ReferenceKind}
 use Rattle.dap_tables.specs.declared.target.Target.{Target}
-use Rattle.dap_tables.specs.References.{is_same, place_of, HasDistinctTargets}
+use Rattle.dap_tables.specs.References.{is_same, place_of}
 use Rattle.dap_tables.specs.Known.{KnownReferences, is_pair, has_pair, with_pair, with_pairs, HasDistinctPairs, IsSet}
 use Rattle.dap_tables.specs.KnownLaws.{KnownIsASet}
-use Rattle.dap_tables.specs.KnownStore.{pair_of, stored, pairs_of, known_of}
+use Rattle.dap_tables.specs.PrivateKnownStore.{pair_of_target, target_of_pair, pairs_of_targets, known_of}
 use Rattle.dap_tables.proofs.Places.{place_in, is_place}
 use Rattle.dap_tables.proofs.ReferenceLemmas.{target-is, same-turned}
 
@@ -19,12 +18,12 @@ has-by true c o h = refl
 has-by false c None h = h
 has-by false c (Some k) h = h
 
-has-in : (t : Target) (xs : List Target) → is_some (place_in (λ (x : Target). is_same x t) xs) ≡ has_pair (pair_of t) (pairs_of xs)
+has-in : (t : Target) (xs : List Target) → is_some (place_in (λ (x : Target). is_same x t) xs) ≡ has_pair (pair_of_target t) (pairs_of_targets xs)
 has-in t [] = refl
-has-in t (x ∷ xs) = has-by (is_same x t) (has_pair (pair_of t) (pairs_of xs)) (place_in (λ (y : Target). is_same y t) xs) (has-in t xs)
+has-in t (x ∷ xs) = has-by (is_same x t) (has_pair (pair_of_target t) (pairs_of_targets xs)) (place_in (λ (y : Target). is_same y t) xs) (has-in t xs)
 
 -- a pair is held where it has a place
-pub has-place : (t : Target) (xs : List Target) → is_some (place_of t xs) ≡ has_pair (pair_of t) (pairs_of xs)
+pub has-place : (t : Target) (xs : List Target) → is_some (place_of t xs) ≡ has_pair (pair_of_target t) (pairs_of_targets xs)
 has-place t xs = ap is_some (is_place (λ (x : Target). is_same x t) xs) ∙ has-in t xs
 
 no-place-by : (o : Option ℕ) → is_some o ≡ false → o ≡ None
@@ -32,25 +31,17 @@ no-place-by None h = refl
 no-place-by (Some k) h = absurd (true≢false h)
 
 -- and has no place where it is not held
-pub no-place : (t : Target) (xs : List Target) → has_pair (pair_of t) (pairs_of xs) ≡ false → place_of t xs ≡ None
+pub no-place : (t : Target) (xs : List Target) → has_pair (pair_of_target t) (pairs_of_targets xs) ≡ false → place_of t xs ≡ None
 no-place t xs h = no-place-by (place_of t xs) (has-place t xs ∙ h)
 
-pub pairs-push : (xs : List Target) (t : Target) → pairs_of (xs ++ t ∷ []) ≡ pairs_of xs ++ pair_of t ∷ []
-pairs-push [] t = refl
-pairs-push (x ∷ xs) t = ap (λ (ps : List (ReferenceKind × ℕ)). pair_of x ∷ ps) (pairs-push xs t)
-
-pub pairs-length : (xs : List Target) → length (pairs_of xs) ≡ length xs
+pub pairs-length : (xs : List Target) → length (pairs_of_targets xs) ≡ length xs
 pairs-length [] = refl
 pairs-length (x ∷ xs) = ap (λ n. suc n) (pairs-length xs)
 
-pub pairs-take : (n : ℕ) (xs : List Target) → pairs_of (take n xs) ≡ take n (pairs_of xs)
+pub pairs-take : (n : ℕ) (xs : List Target) → pairs_of_targets (take n xs) ≡ take n (pairs_of_targets xs)
 pairs-take zero xs = refl
 pairs-take (suc n) [] = refl
-pairs-take (suc n) (x ∷ xs) = ap (λ (ps : List (ReferenceKind × ℕ)). pair_of x ∷ ps) (pairs-take n xs)
-
-pub distinct-pairs : (xs : List Target) → HasDistinctTargets xs → HasDistinctPairs (pairs_of xs)
-distinct-pairs [] h = tt
-distinct-pairs (x ∷ xs) h = (sym (has-place x xs) ∙ ap is_some h.0, distinct-pairs xs h.1)
+pairs-take (suc n) (x ∷ xs) = ap (λ (ps : List (ReferenceKind × ℕ)). pair_of_target x ∷ ps) (pairs-take n xs)
 
 -- ---- counts
 
@@ -75,13 +66,6 @@ each-once (p ∷ ps) xs = omega (arith, one-within (has_pair p xs) p xs, each-on
 
 -- ---- one more
 
-front-if : (b : Bool) (n : ℕ) (p : ReferenceKind × ℕ) (xs : List (ReferenceKind × ℕ)) → n ≤ length xs → take n (if b then xs else xs ++ p ∷ []) ≡ take n xs
-front-if true n p xs h = refl
-front-if false n p xs h = take-append-le n xs (p ∷ []) h
-
-pub same-front : (n : ℕ) (p : ReferenceKind × ℕ) (xs : List (ReferenceKind × ℕ)) → n ≤ length xs → take n (with_pair p xs) ≡ take n xs
-same-front n p xs h = front-if (has_pair p xs) n p xs h
-
 -- where one pair is too many, or one more, all of them are
 pub all-then : (n : ℕ) (p : ReferenceKind × ℕ) (ps rest given xs ys : List (ReferenceKind × ℕ)) → rest ≡ p ∷ ps → with_pairs rest xs ≡ with_pairs given ys → n < length (with_pair p xs) → n < length (with_pairs given ys)
 all-then n p ps rest given xs ys is same h =
@@ -93,10 +77,10 @@ all-then n p ps rest given xs ys is same h =
 -- ---- a set
 
 pair-is : (a b : ReferenceKind × ℕ) → is_pair a b ≡ true → a ≡ b
-pair-is a b h = ap pair_of (target-is (stored a) (stored b) h)
+pair-is a b h = ap pair_of_target (target-is (target_of_pair a) (target_of_pair b) h)
 
 pair-turned : (a b : ReferenceKind × ℕ) → is_pair a b ≡ is_pair b a
-pair-turned a b = same-turned (stored a) (stored b)
+pair-turned a b = same-turned (target_of_pair a) (target_of_pair b)
 
 or-false : (b : Bool) → (b || false) ≡ b
 or-false true = refl
@@ -169,13 +153,13 @@ known_is_a_set = record { union = union; distinct = distinct; more = never-fewer
 -- ---- what is true of every table
 
 -- after a call that was refused
-pub back-to : (room n : ℕ) (targets more fewer : List Target) → IsSet (known_of room targets) → fewer ≡ take n more → n ≡ length targets → take (length targets) (pairs_of more) ≡ pairs_of targets → known_of room fewer ≡ known_of room targets
+pub back-to : (room n : ℕ) (targets more fewer : List Target) → IsSet (known_of room targets) → fewer ≡ take n more → n ≡ length targets → take (length targets) (pairs_of_targets more) ≡ pairs_of_targets targets → known_of room fewer ≡ known_of room targets
 back-to room n targets more fewer set is count front =
     let k : KnownReferences = known_of room targets in
-    let same : pairs_of fewer ≡ pairs_of targets = ap pairs_of is ∙ pairs-take n more ∙ ap (λ m. take m (pairs_of more)) count ∙ front in
+    let same : pairs_of_targets fewer ≡ pairs_of_targets targets = ap pairs_of_targets is ∙ pairs-take n more ∙ ap (λ m. take m (pairs_of_targets more)) count ∙ front in
     ap (λ (ps : List (ReferenceKind × ℕ)). let t : KnownReferences = record { room = room; pairs = ps } in t) same
 
 -- after one that was not
-pub set-then : (room : ℕ) (targets more : List Target) (given : List (ReferenceKind × ℕ)) → IsSet (known_of room targets) → pairs_of more ≡ with_pairs given (pairs_of targets) → length more ≤ room → IsSet (known_of room more)
+pub set-then : (room : ℕ) (targets more : List Target) (given : List (ReferenceKind × ℕ)) → IsSet (known_of room targets) → pairs_of_targets more ≡ with_pairs given (pairs_of_targets targets) → length more ≤ room → IsSet (known_of room more)
 set-then room targets more given set is bound =
-    record { bound = omega (arith, pairs-length more); distinct = subst HasDistinctPairs (sym is) (distinct given (pairs_of targets) set.distinct) }
+    record { bound = omega (arith, pairs-length more); distinct = subst HasDistinctPairs (sym is) (distinct given (pairs_of_targets targets) set.distinct) }

@@ -10,7 +10,7 @@ use Rattle.dap_tables.specs.declared.ref_fault.RefFault.{RefFault}
 use Rattle.dap_tables.specs.declared.ref_fault.RefFault.TheVariants.{Full, Exhausted}
 use Rattle.dap_tables.specs.declared.target.Target.{Target}
 use Rattle.dap_tables.specs.References.{LiveReferences, ReferenceTable, place_of, target_of, numbered_at}
-use Rattle.dap_tables.specs.Breakpoints.{SetBreakpoints, no_breakpoints, numbered, replaced}
+use Rattle.dap_tables.specs.Breakpoints.{SetBreakpoints, no_breakpoints, lines_with_ids, breakpoints_with}
 use Rattle.dap_tables.specs.TableLaws.{ReferenceCall, Gave, Refused, WentBack, Cleared, Does, Runs, gives, leaves, NumbersNeverComeAgain, ids_given, lines_of_all, IdsNeverComeAgain}
 use Rattle.dap_tables.specs.Ors.{or-false}
 
@@ -150,7 +150,7 @@ never-again = record {
 
 -- ---- ids
 
-ids-of : (first : ℕ) (lines : List ℕ) → map (λ (point : ℕ × ℕ). point.0) (numbered first lines) ≡ range_with_len first (length lines)
+ids-of : (first : ℕ) (lines : List ℕ) → map (λ (point : ℕ × ℕ). point.0) (lines_with_ids first lines) ≡ range_with_len first (length lines)
 ids-of first [] = refl
 ids-of first (line ∷ lines) = ap (λ (ns : List ℕ). first ∷ ns) (ids-of (first + 1) lines)
 
@@ -167,8 +167,8 @@ range-both a (suc n) m =
 rises : (calls : List (SourceKey × List ℕ)) (b : SetBreakpoints) → ids_given calls b ≡ range_with_len b.next_id (lines_of_all calls)
 rises [] b = refl
 rises (call ∷ calls) b =
-    ap (λ (ns : List ℕ). ns ++ ids_given calls (replaced call.0 call.1 b)) (ids-of b.next_id call.1)
-    ∙ ap (λ (ns : List ℕ). range_with_len b.next_id (length call.1) ++ ns) (rises calls (replaced call.0 call.1 b))
+    ap (λ (ns : List ℕ). ns ++ ids_given calls (breakpoints_with call.0 call.1 b)) (ids-of b.next_id call.1)
+    ∙ ap (λ (ns : List ℕ). range_with_len b.next_id (length call.1) ++ ns) (rises calls (breakpoints_with call.0 call.1 b))
     ∙ range-both b.next_id (length call.1) (lines_of_all calls)
 
 pub ids-rise : IdsNeverComeAgain

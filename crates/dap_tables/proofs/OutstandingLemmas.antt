@@ -10,10 +10,10 @@ use Rattle.dap_tables.specs.declared.entry.Entry.{Entry}
 use Rattle.dap_tables.specs.declared.slot.Slot.{Slot}
 use Rattle.dap_tables.specs.Arrivals.{Order, IsIn, without_key}
 use Rattle.dap_tables.specs.SeqIndex.{Index, key_for, Gets}
-use Rattle.dap_tables.specs.Outstanding.{Kept, unparked, contains_seq, entry_with, without, is_parked, with_mark, IsOrderly}
-use Rattle.dap_tables.specs.OutstandingStore.{kept_of, slots_at, has_seq, key_with, slot_at, marked_in, IsFilled, IsStored}
+use Rattle.dap_tables.specs.Outstanding.{Kept, kept_unparked, contains_seq, entry_with, without, is_parked, with_mark, IsOrderlyRequests}
+use Rattle.dap_tables.specs.PrivateOutstandingStore.{kept_of, slots_at, has_seq, key_with, slot_at, marked_in, IsFilled, IsStored}
 use Rattle.dap_tables.proofs.ArrivalLemmas.{IsIn-push, IsIn-without}
-use Rattle.dap_tables.proofs.KeptLemmas.{IsOrderly-push, IsOrderly-without, IsOrderly-with_mark}
+use Rattle.dap_tables.proofs.KeptLemmas.{IsOrderlyRequests-push, IsOrderlyRequests-without, IsOrderlyRequests-with_mark}
 use Rattle.dap_tables.proofs.KeyLemmas.{slots_at-same, key_with-same, length-slots_at, contains-key, find-key, key_with-found, is_key, key_with-push, slots_at-push, slots_at-without, key_with-without, has_seq-marked, slots_at-marked}
 use Rattle.dap_tables.proofs.SlotLemmas.{entry_with-slots, is_parked-slots}
 
@@ -84,7 +84,7 @@ module _ (room : ℕ) (slots : Slab Slot) (index : Index) (order : Order) (store
     put-same : (k : ℕ) → IsIn k order.keys → get slots' k ≡ get slots k
     put-same k there = updates.others k (λ same. vacant_key key vacant (subst (λ n. IsIn n order.keys) same there))
 
-    pub put-kept : kept_in slots' (order.keys ++ key ∷ []) ≡ kept_in slots order.keys ++ unparked entry ∷ []
+    pub put-kept : kept_in slots' (order.keys ++ key ∷ []) ≡ kept_in slots order.keys ++ kept_unparked entry ∷ []
     put-kept =
         let slot : Slot = record { entry = entry; parked = false } in
         ap (λ xs. map kept_of xs) (slots_at-push (λ k. get slots' k) slot key order.keys updates.changed
@@ -115,9 +115,9 @@ module _ (room : ℕ) (slots : Slab Slot) (index : Index) (order : Order) (store
         let slots_fit = stored.slots_fit in
         let pairs_fit = stored.pairs_fit in
         let last = length-append order.keys (key ∷ []) in
-        let orderly = IsOrderly-push room (kept_in slots order.keys) (unparked entry) stored.orderly new (omega arith) in
+        let orderly = IsOrderlyRequests-push room (kept_in slots order.keys) (kept_unparked entry) stored.orderly new (omega arith) in
         subst (λ o. IsStored room slots' index' o) (sym is) (record {
-          orderly = subst (λ ks. IsOrderly (record { room = room; kept = ks })) (sym put-kept) orderly;
+          orderly = subst (λ ks. IsOrderlyRequests (record { room = room; kept = ks })) (sym put-kept) orderly;
           filled = put-filled;
           indexed = put-indexed gets;
           counted = omega arith;
@@ -157,9 +157,9 @@ module _ (room : ℕ) (slots : Slab Slot) (index : Index) (order : Order) (store
         let pairs_fit = stored.pairs_fit in
         let keys = ap (λ (o : Order). o.keys) is in
         let left = ap length keys in
-        let orderly = IsOrderly-without room seq (kept_in slots order.keys) stored.orderly in
+        let orderly = IsOrderlyRequests-without room seq (kept_in slots order.keys) stored.orderly in
         subst (λ o. IsStored room slots' index' o) (sym is) (record {
-          orderly = subst (λ ks. IsOrderly (record { room = room; kept = ks })) (sym take-kept) orderly;
+          orderly = subst (λ ks. IsOrderlyRequests (record { room = room; kept = ks })) (sym take-kept) orderly;
           filled = λ k found. ap is_some (take-same k found) ∙ stored.filled k (IsIn-without key k order.keys found).0;
           indexed = take-indexed gets;
           counted = omega arith;
@@ -190,7 +190,7 @@ module _ (room : ℕ) (slots : Slab Slot) (index : Index) (order : Order) (store
     stored-mark long same_capacity =
         let slots_fit = stored.slots_fit in
         record {
-          orderly = subst (λ ks. IsOrderly (record { room = room; kept = ks })) (sym mark-kept) (IsOrderly-with_mark room seq mark (kept_in slots order.keys) stored.orderly);
+          orderly = subst (λ ks. IsOrderlyRequests (record { room = room; kept = ks })) (sym mark-kept) (IsOrderlyRequests-with_mark room seq mark (kept_in slots order.keys) stored.orderly);
           filled = λ k found. mark-filled k ∙ stored.filled k found;
           indexed = λ q. stored.indexed q ∙ sym (key_with-same (λ k. get slots k) (λ k. get slots' k) q order.keys (λ k there. has_seq-marked (λ n. get slots n) (λ n. get slots' n) seq key slot mark is updates.changed updates.others q k));
           counted = long ∙ stored.counted;

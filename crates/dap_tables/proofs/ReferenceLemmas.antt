@@ -8,8 +8,8 @@ use Rattle.std.proofs.lemmas.Option.{slice_get-get_or}
 use Rattle.dap_tables.specs.declared.reference_kind.ReferenceKind.{ReferenceKind}
 use Rattle.dap_tables.specs.declared.reference_kind.ReferenceKind.TheVariants.{Frame, Holder}
 use Rattle.dap_tables.specs.declared.target.Target.{Target}
-use Rattle.dap_tables.specs.References.{same_kind, is_same, place_of, target_of, HasDistinctTargets, IsOrderly}
-use Rattle.dap_tables.specs.ReferenceStore.{table_of}
+use Rattle.dap_tables.specs.References.{same_kind, is_same, place_of, target_of, HasDistinctTargets, IsOrderlyReferences}
+use Rattle.dap_tables.specs.PrivateReferenceStore.{reference_table_of}
 use Rattle.dap_tables.proofs.Places.{or_else, place-push, absent-tail, absent-head, absent-cons}
 
 is-lt : (a b : ℕ) → a < b → nat_lt a b ≡ true
@@ -98,16 +98,16 @@ distinct-take (suc n) (x ∷ ts) d = (absent-take x n ts d.0, distinct-take n ts
 
 -- ---- the invariant
 
-pub order-push : (room greatest base : ℕ) (live new : List Target) (t : Target) → IsOrderly (table_of room greatest base live) → place_of t live ≡ None → length live < room → base + length live < greatest → new ≡ live ++ t ∷ [] → IsOrderly (table_of room greatest base new)
+pub order-push : (room greatest base : ℕ) (live new : List Target) (t : Target) → IsOrderlyReferences (reference_table_of room greatest base live) → place_of t live ≡ None → length live < room → base + length live < greatest → new ≡ live ++ t ∷ [] → IsOrderlyReferences (reference_table_of room greatest base new)
 order-push room greatest base live new t o none free left is =
     let all = length-append live (t ∷ []) in
-    subst (λ (ts : List Target). IsOrderly (table_of room greatest base ts)) (sym is)
+    subst (λ (ts : List Target). IsOrderlyReferences (reference_table_of room greatest base ts)) (sym is)
     (record { bound = omega arith; numbers = omega arith; distinct = distinct-push live t o.distinct none })
 
-pub order-take : (room greatest base n : ℕ) (live new : List Target) → IsOrderly (table_of room greatest base live) → new ≡ take n live → IsOrderly (table_of room greatest base new)
+pub order-take : (room greatest base n : ℕ) (live new : List Target) → IsOrderlyReferences (reference_table_of room greatest base live) → new ≡ take n live → IsOrderlyReferences (reference_table_of room greatest base new)
 order-take room greatest base n live new o is =
     let bound = o.bound in
     let numbers = o.numbers in
     let all = length-take n live in
-    subst (λ (ts : List Target). IsOrderly (table_of room greatest base ts)) (sym is)
+    subst (λ (ts : List Target). IsOrderlyReferences (reference_table_of room greatest base ts)) (sym is)
     (record { bound = omega arith; numbers = omega arith; distinct = distinct-take n live o.distinct })

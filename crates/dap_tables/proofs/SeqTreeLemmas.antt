@@ -4,17 +4,17 @@ use Rattle.std.proofs.lemmas.Bool.Decides.{nat_tests}
 use Rattle.std.specs.declared.alloc.Global.{Global}
 use Rattle.dap_tables.specs.declared.seq_tree.Node.{Node}
 use Rattle.dap_tables.specs.SeqIndex.{key_for, Gets}
-use Rattle.dap_tables.specs.SeqTree.{raised, pair_of, pairs_of, pairs_under, Fits, IsBelow, IsSound, IsTaken, first_pair}
+use Rattle.dap_tables.specs.SeqTree.{pair_above, pair_of_node, pairs_of_side, pairs_under, Fits, IsBelow, IsSoundSide, IsTaken, first_pair}
 use Rattle.dap_tables.specs.SeqTreeFalls.{length-pairs_under}
 
 -- ---- look-ups
 
 -- no even number is on the odd side
-no_even : (q : ℕ) (odd : List (ℕ × ℕ)) → key_for (q * 2) (map (raised 1) odd) ≡ None
+no_even : (q : ℕ) (odd : List (ℕ × ℕ)) → key_for (q * 2) (map (pair_above 1) odd) ≡ None
 no_even q [] = refl
 no_even q (pair ∷ odd) = grind (arith, nat_tests, no_even q odd)
 
-only_odd : (q : ℕ) (odd : List (ℕ × ℕ)) → key_for (q * 2 + 1) (map (raised 1) odd) ≡ key_for q odd
+only_odd : (q : ℕ) (odd : List (ℕ × ℕ)) → key_for (q * 2 + 1) (map (pair_above 1) odd) ≡ key_for q odd
 only_odd q [] = refl
 only_odd q (pair ∷ odd) = grind (arith, nat_tests, only_odd q odd)
 
@@ -22,13 +22,13 @@ only_odd q (pair ∷ odd) = grind (arith, nat_tests, only_odd q odd)
 pub key_for-even : (q : ℕ) (even odd : List (ℕ × ℕ)) → key_for (q * 2) (pairs_under even odd) ≡ key_for q even
 unfolding pairs_under
 key_for-even q [] odd = no_even q odd
-key_for-even q (pair ∷ even) odd = let rest : key_for (q * 2) (map (raised 0) even ++ map (raised 1) odd) ≡ key_for q even = key_for-even q even odd in grind (arith, nat_tests)
+key_for-even q (pair ∷ even) odd = let rest : key_for (q * 2) (map (pair_above 0) even ++ map (pair_above 1) odd) ≡ key_for q even = key_for-even q even odd in grind (arith, nat_tests)
 
 -- an odd number is found on the odd side
 pub key_for-odd : (q : ℕ) (even odd : List (ℕ × ℕ)) → key_for (q * 2 + 1) (pairs_under even odd) ≡ key_for q odd
 unfolding pairs_under
 key_for-odd q [] odd = only_odd q odd
-key_for-odd q (pair ∷ even) odd = let rest : key_for (q * 2 + 1) (map (raised 0) even ++ map (raised 1) odd) ≡ key_for q odd = key_for-odd q even odd in grind (arith, nat_tests)
+key_for-odd q (pair ∷ even) odd = let rest : key_for (q * 2 + 1) (map (pair_above 0) even ++ map (pair_above 1) odd) ≡ key_for q odd = key_for-odd q even odd in grind (arith, nat_tests)
 
 -- the first pair is found
 first_found : (pairs : List (ℕ × ℕ)) (pair : ℕ × ℕ) → first_pair pairs ≡ Some pair → key_for pair.0 pairs ≡ Some pair.1
@@ -57,11 +57,11 @@ gets-odd even odd new q key gets other = elim (halved other) [
 
 -- the pairs of a tree whose root this is
 pub record AtNode (pairs : List (ℕ × ℕ)) (node : Node) : Type 0 where
-  pub is : pairs ≡ pair_of node ∷ pairs_under node.even node.odd
+  pub is : pairs ≡ pair_of_node node ∷ pairs_under node.even node.odd
   pub below : IsBelow (pairs_under node.even node.odd) node.number
 
-pub at_node : {root : Option (Box Node Global)} {pairs : List (ℕ × ℕ)} {held : Box Node Global} {node : Node} → pairs_of root ≡ pairs → IsSound root → root ≡ Some held → node ≡ held.value → AtNode pairs node
-at_node {root} {pairs} {held} {node} view_is sound is same = subst (λ (n : Node). AtNode pairs n) (sym same) (record { is = sym view_is ∙ ap pairs_of is; below = subst IsSound is sound })
+pub at_node : {root : Option (Box Node Global)} {pairs : List (ℕ × ℕ)} {held : Box Node Global} {node : Node} → pairs_of_side root ≡ pairs → IsSoundSide root → root ≡ Some held → node ≡ held.value → AtNode pairs node
+at_node {root} {pairs} {held} {node} view_is sound is same = subst (λ (n : Node). AtNode pairs n) (sym same) (record { is = sym view_is ∙ ap pairs_of_side is; below = subst IsSoundSide is sound })
 
 pub length-at : {pairs : List (ℕ × ℕ)} {node : Node} → AtNode pairs node → length pairs ≡ length node.even + length node.odd + 1
 length-at {pairs} {node} at = rw (at.is) (omega (arith, length-pairs_under node.even node.odd))
@@ -73,7 +73,7 @@ not_root {pairs} {node} at number none same = let absent = rw (at.is) at none in
 -- what a change of the pairs below the root leaves
 pub record IsChanged (pairs : List (ℕ × ℕ)) (node : Node) (under : List (ℕ × ℕ)) (number : ℕ) (key : Option ℕ) : Type 0 where
   pub below : IsBelow under node.number
-  pub gets : Gets pairs (pair_of node ∷ under) number key
+  pub gets : Gets pairs (pair_of_node node ∷ under) number key
 
 module _ (pairs : List (ℕ × ℕ)) (node : Node) (at : AtNode pairs node) (number : ℕ) (other : node.number ≢ number) where
   -- another number than the root's is found on its side

@@ -7,7 +7,7 @@ use Rattle.std.specs.Option.{option_map}
 use Rattle.std.proofs.lemmas.List.Sums.{sum_by-cons}
 use Rattle.dap_tables.specs.declared.entry.Entry.{Entry}
 use Rattle.dap_tables.specs.declared.slot.Slot.{Slot}
-use Rattle.dap_tables.specs.OutstandingStore.{kept_of, marked_in}
+use Rattle.dap_tables.specs.PrivateOutstandingStore.{kept_of, marked_in}
 use Rattle.dap_tables.specs.Outstanding.{Kept, entries, contains_seq, entry_with, is_parked, oldest_unparked, parked_ones, HasDistinctSeqs}
 use Rattle.dap_tables.proofs.Lists.{map-map}
 use Rattle.dap_tables.proofs.KeptLemmas.{same-seq, length-filter, is_parked-absent}

@@ -90,7 +90,7 @@ abbrev pub order_of : List Link → ℕ → Order
 order_of links len = record { limit = length links - 1; keys = keys_of links len }
 
 -- the ring holds these keys, each once, and each has a link
-pub record IsSound (links : List Link) (len : ℕ) : Type 0 where
+pub record IsSoundRing (links : List Link) (len : ℕ) : Type 0 where
   pub chained : IsChain (next_of links) (prev_of links) 0 (keys_of links len) 0
   pub apart : IsApart (keys_of links len)
   pub within : (key : ℕ) → IsIn key (keys_of links len) → key + 1 < length links

@@ -26,13 +26,13 @@ max_id = 9007199254740991
 -- ---- the map
 
 -- ids from the first on, in the order of the lines
-abbrev pub numbered : ℕ → List ℕ → List (ℕ × ℕ)
-numbered first [] = []
-numbered first (line ∷ lines) = (first, line) ∷ numbered (first + 1) lines
+abbrev pub lines_with_ids : ℕ → List ℕ → List (ℕ × ℕ)
+lines_with_ids first [] = []
+lines_with_ids first (line ∷ lines) = (first, line) ∷ lines_with_ids (first + 1) lines
 
 -- these lines in place of those of that source
-abbrev pub replaced : SourceKey → List ℕ → SetBreakpoints → SetBreakpoints
-replaced key lines b = record { sources = with_set key (numbered b.next_id lines) (of_others key b.sources); next_id = b.next_id + length lines }
+abbrev pub breakpoints_with : SourceKey → List ℕ → SetBreakpoints → SetBreakpoints
+breakpoints_with key lines b = record { sources = with_set key (lines_with_ids b.next_id lines) (of_others key b.sources); next_id = b.next_id + length lines }
 
 -- ---- when lines are refused
 
@@ -41,8 +41,8 @@ abbrev pub count_with : SourceKey → List ℕ → SetBreakpoints → ℕ
 count_with key lines b = count (of_others key b.sources) + length lines
 
 -- more than there is room for
-abbrev pub IsRefusedForRoom : SourceKey → List ℕ → BreakpointTable → Type 0
-IsRefusedForRoom key lines table = table.room < count_with key lines table.breakpoints
+abbrev pub HasNoRoomForLines : SourceKey → List ℕ → BreakpointTable → Type 0
+HasNoRoomForLines key lines table = table.room < count_with key lines table.breakpoints
 
 -- there is room, and an id would be past the greatest
 pub record IsRefusedForIds (key : SourceKey) (lines : List ℕ) (table : BreakpointTable) : Type 0 where
@@ -62,7 +62,7 @@ pub record TakesIds (key : SourceKey) (lines : List ℕ) (table : BreakpointTabl
 
 -- ---- what is true of every table
 
-pub record IsOrderly (table : BreakpointTable) : Type 0 where
+pub record IsOrderlyBreakpoints (table : BreakpointTable) : Type 0 where
   pub bound : count table.breakpoints.sources ≤ table.room
   pub ids : table.breakpoints.next_id ≤ max_id + 1
   pub distinct : HasDistinctSources table.breakpoints.sources

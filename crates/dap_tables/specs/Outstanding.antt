@@ -18,8 +18,8 @@ pub record KeptRequests : Type 0 where
   pub kept : List Kept
 
 -- a request as it is when it arrives
-abbrev pub unparked : Entry → Kept
-unparked entry = record { entry = entry; parked = false }
+abbrev pub kept_unparked : Entry → Kept
+kept_unparked entry = record { entry = entry; parked = false }
 
 -- the requests alone
 abbrev pub entries : List Kept → List Entry
@@ -42,12 +42,12 @@ abbrev pub is_parked : ℕ → List Kept → Bool
 is_parked seq kept = list_any (λ k. (k.entry.seq == seq) && k.parked) kept
 
 -- the same request, parked or not
-abbrev pub marked : Bool → Kept → Kept
-marked mark k = record k { parked = mark }
+abbrev pub kept_with_mark : Bool → Kept → Kept
+kept_with_mark mark k = record k { parked = mark }
 
 -- the same requests, the one with this number parked or not
 abbrev pub with_mark : ℕ → Bool → List Kept → List Kept
-with_mark seq mark kept = map (λ k. if k.entry.seq == seq then marked mark k else k) kept
+with_mark seq mark kept = map (λ k. if k.entry.seq == seq then kept_with_mark mark k else k) kept
 
 -- the requests that are parked, and the others
 abbrev pub parked_ones : List Kept → List Kept
@@ -66,11 +66,11 @@ HasDistinctSeqs [] = Unit {0}
 HasDistinctSeqs (k ∷ kept) = (contains_seq k.entry.seq kept ≡ false) × HasDistinctSeqs kept
 
 -- what is true of every table of requests
-pub record IsOrderly (table : KeptRequests) : Type 0 where
+pub record IsOrderlyRequests (table : KeptRequests) : Type 0 where
   pub bound : length table.kept ≤ table.room
   pub distinct : HasDistinctSeqs table.kept
 
 -- no request with this number is kept, and there is no room for it
-pub record IsRefusedForRoom (seq : ℕ) (table : KeptRequests) : Type 0 where
+pub record HasNoRoomForRequest (seq : ℕ) (table : KeptRequests) : Type 0 where
   pub new : contains_seq seq table.kept ≡ false
   pub full : length table.kept ≡ table.room

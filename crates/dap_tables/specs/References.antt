@@ -51,12 +51,12 @@ is_of_kind kind None = false
 is_of_kind kind (Some target) = same_kind target.kind kind
 
 -- all die, and their numbers never come again
-abbrev pub cleared : LiveReferences → LiveReferences
-cleared refs = record { base = refs.base + length refs.live; live = [] }
+abbrev pub without_references : LiveReferences → LiveReferences
+without_references refs = record { base = refs.base + length refs.live; live = [] }
 
 -- so many from the front stay, and the numbers of the others were never told
-abbrev pub taken_back : ℕ → LiveReferences → LiveReferences
-taken_back marked refs = record refs { live = take marked refs.live }
+abbrev pub back_to : ℕ → LiveReferences → LiveReferences
+back_to marked refs = record refs { live = take marked refs.live }
 
 -- ---- a number for a target; full and exhausted are what is answered where there are too many and where no number is left
 
@@ -73,13 +73,13 @@ numbered_at (Some place) full exhausted room greatest target refs = Ok (refs.bas
 numbered_at None full exhausted room greatest target refs = numbered_next full exhausted room greatest target refs
 
 -- a live target keeps its number
-abbrev pub interned : {Fault : Type 0} → Fault → Fault → ℕ → ℕ → Target → LiveReferences → Result (ℕ × LiveReferences) Fault
-interned full exhausted room greatest target refs = numbered_at (place_of target refs.live) full exhausted room greatest target refs
+abbrev pub intern_result : {Fault : Type 0} → Fault → Fault → ℕ → ℕ → Target → LiveReferences → Result (ℕ × LiveReferences) Fault
+intern_result full exhausted room greatest target refs = numbered_at (place_of target refs.live) full exhausted room greatest target refs
 
 -- ---- when a target gets no number
 
 -- it is not live, and as many are as there is room for
-pub record IsRefusedForRoom (target : Target) (table : ReferenceTable) : Type 0 where
+pub record HasNoRoomForTarget (target : Target) (table : ReferenceTable) : Type 0 where
   pub new : is_live target table.references ≡ false
   pub full : length table.references.live ≡ table.room
 
@@ -102,7 +102,7 @@ abbrev pub HasDistinctTargets : List Target → Type 0
 HasDistinctTargets [] = Unit {0}
 HasDistinctTargets (t ∷ ts) = (place_of t ts ≡ None) × HasDistinctTargets ts
 
-pub record IsOrderly (table : ReferenceTable) : Type 0 where
+pub record IsOrderlyReferences (table : ReferenceTable) : Type 0 where
   pub bound : length table.references.live ≤ table.room
   pub numbers : table.references.base + length table.references.live ≤ table.greatest
   pub distinct : HasDistinctTargets table.references.live

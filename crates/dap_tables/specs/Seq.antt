@@ -19,8 +19,8 @@ abbrev pub after_next : Numbers → Numbers
 after_next numbers = if nat_lt numbers.used numbers.last then record numbers { used = numbers.used + 1 } else numbers
 
 -- how many are left
-abbrev pub left : Numbers → ℕ
-left numbers = numbers.last - numbers.used
+abbrev pub numbers_left : Numbers → ℕ
+numbers_left numbers = numbers.last - numbers.used
 
 -- what so many calls in a row give
 abbrev pub answers : ℕ → Numbers → List (Option ℕ)

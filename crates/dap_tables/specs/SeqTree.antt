@@ -5,21 +5,21 @@ use Rattle.dap_tables.specs.declared.seq_tree.Node.{Node}
 use Rattle.dap_tables.specs.SeqIndex.{key_for, Gets}
 
 -- a pair of a side as it is above the side: the number doubled, with the bit that leads to the side
-abbrev pub raised : ℕ → ℕ × ℕ → ℕ × ℕ
-raised bit pair = (pair.0 * 2 + bit, pair.1)
+abbrev pub pair_above : ℕ → ℕ × ℕ → ℕ × ℕ
+pair_above bit pair = (pair.0 * 2 + bit, pair.1)
 
 -- the pairs of both sides, as they are above them
 unfoldable pub pairs_under : List (ℕ × ℕ) → List (ℕ × ℕ) → List (ℕ × ℕ)
-pairs_under even odd = map (raised 0) even ++ map (raised 1) odd
+pairs_under even odd = map (pair_above 0) even ++ map (pair_above 1) odd
 
 -- the number of a node, with its key
-abbrev pub pair_of : Node → ℕ × ℕ
-pair_of node = (node.number, node.key)
+abbrev pub pair_of_node : Node → ℕ × ℕ
+pair_of_node node = (node.number, node.key)
 
 -- the pairs of a tree
-abbrev pub pairs_of : Option (Box Node Global) → List (ℕ × ℕ)
-pairs_of None = []
-pairs_of (Some node) = pair_of node.value ∷ pairs_under node.value.even node.value.odd
+abbrev pub pairs_of_side : Option (Box Node Global) → List (ℕ × ℕ)
+pairs_of_side None = []
+pairs_of_side (Some node) = pair_of_node node.value ∷ pairs_under node.value.even node.value.odd
 
 -- none of the numbers needs more than 64 bits
 abbrev pub Fits : List (ℕ × ℕ) → Type 0
@@ -31,9 +31,9 @@ pub record IsBelow (pairs : List (ℕ × ℕ)) (number : ℕ) : Type 0 where
   pub fits : Fits pairs
 
 -- what stands below each number may
-abbrev pub IsSound : Option (Box Node Global) → Type 0
-IsSound None = Unit {0}
-IsSound (Some node) = IsBelow (pairs_under node.value.even node.value.odd) node.value.number
+abbrev pub IsSoundSide : Option (Box Node Global) → Type 0
+IsSoundSide None = Unit {0}
+IsSoundSide (Some node) = IsBelow (pairs_under node.value.even node.value.odd) node.value.number
 
 -- the first pair
 abbrev pub first_pair : List (ℕ × ℕ) → Option (ℕ × ℕ)
@@ -49,4 +49,4 @@ pub record IsTaken (old new : List (ℕ × ℕ)) (pair : ℕ × ℕ) : Type 0 wh
 -- the first pair goes, in the node that comes out, or there is none
 abbrev pub Takes : List (ℕ × ℕ) → List (ℕ × ℕ) → Option (Box Node Global) → Type 0
 Takes old new None = (old ≡ []) × (new ≡ [])
-Takes old new (Some node) = IsTaken old new (pair_of node.value)
+Takes old new (Some node) = IsTaken old new (pair_of_node node.value)

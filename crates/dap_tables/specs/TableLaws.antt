@@ -5,9 +5,9 @@ use Rattle.std.specs.List.{list_any, list_all, range_with_len}
 use Rattle.dap_call.specs.declared.call.SourceKey.{SourceKey}
 use Rattle.dap_tables.specs.declared.ref_fault.RefFault.TheVariants.{Full, Exhausted}
 use Rattle.dap_tables.specs.declared.target.Target.{Target}
-use Rattle.dap_tables.specs.References.{ReferenceTable, target_of, interned, taken_back, cleared}
+use Rattle.dap_tables.specs.References.{ReferenceTable, target_of, intern_result, back_to, without_references}
 use Rattle.dap_tables.specs.SourceMap.{count}
-use Rattle.dap_tables.specs.Breakpoints.{SetBreakpoints, no_breakpoints, numbered, replaced, count_with}
+use Rattle.dap_tables.specs.Breakpoints.{SetBreakpoints, no_breakpoints, lines_with_ids, breakpoints_with, count_with}
 
 -- ---- references
 
@@ -20,10 +20,10 @@ pub data ReferenceCall : Type 0 where
 
 -- what it does, as the calls' contracts say it
 abbrev pub Does : ReferenceCall → ReferenceTable → ReferenceTable → Type 0
-Does (Gave target number) old new = (interned Full Exhausted old.room old.greatest target old.references ≡ Ok (number, new.references)) × (new.room ≡ old.room) × (new.greatest ≡ old.greatest)
+Does (Gave target number) old new = (intern_result Full Exhausted old.room old.greatest target old.references ≡ Ok (number, new.references)) × (new.room ≡ old.room) × (new.greatest ≡ old.greatest)
 Does (Refused target) old new = new ≡ old
-Does (WentBack mark) old new = (mark ≤ length old.references.live) × (new ≡ record old { references = taken_back mark old.references })
-Does Cleared old new = new ≡ record old { references = cleared old.references }
+Does (WentBack mark) old new = (mark ≤ length old.references.live) × (new ≡ record old { references = back_to mark old.references })
+Does Cleared old new = new ≡ record old { references = without_references old.references }
 
 abbrev pub Runs : List ReferenceCall → ReferenceTable → ReferenceTable → Type 0
 Runs [] old new = new ≡ old
@@ -55,7 +55,7 @@ pub record NumbersNeverComeAgain : Type 0 where
 -- the ids that calls give, each with a source and lines
 abbrev pub ids_given : List (SourceKey × List ℕ) → SetBreakpoints → List ℕ
 ids_given [] b = []
-ids_given (call ∷ calls) b = map (λ point. point.0) (numbered b.next_id call.1) ++ ids_given calls (replaced call.0 call.1 b)
+ids_given (call ∷ calls) b = map (λ point. point.0) (lines_with_ids b.next_id call.1) ++ ids_given calls (breakpoints_with call.0 call.1 b)
 
 abbrev pub lines_of_all : List (SourceKey × List ℕ) → ℕ
 lines_of_all [] = 0
@@ -67,4 +67,4 @@ IdsNeverComeAgain = (calls : List (SourceKey × List ℕ)) → ids_given calls n
 
 -- so many stand after a call: those of the other sources, and one a line
 abbrev pub LinesAreCounted : Type 0
-LinesAreCounted = (key : SourceKey) (lines : List ℕ) (b : SetBreakpoints) → count (replaced key lines b).sources ≡ count_with key lines b
+LinesAreCounted = (key : SourceKey) (lines : List ℕ) (b : SetBreakpoints) → count (breakpoints_with key lines b).sources ≡ count_with key lines b

@@ -24,13 +24,13 @@ struct Link {
 }
 
 impl Model for Arrivals {
-    ghost use Rattle.dap_tables.specs.Arrivals.{Order, order_of, IsSound};
+    ghost use Rattle.dap_tables.specs.Arrivals.{Order, order_of, IsSoundRing};
 
     ghost Value = { Order };
 
     ghost view = { λ a. order_of a.links.items a.len };
 
-    ghost invariant = { λ a. IsSound a.links.items a.len };
+    ghost invariant = { λ a. IsSoundRing a.links.items a.len };
 }
 
 // The links of a ring of no key, with places for the head and the keys below a limit.

@@ -2,7 +2,7 @@
 ghost use Rattle.std.specs.Prelude.{◌≡◌, ◌+◌, ◌<◌, ◌≤◌, ◌↔◌, List, ℕ, [], ◌++◌, length, false, IsTrue, IsOk, IfOk, OnOk, OnErr, Ok, Err};
 ghost use Rattle.dap_call.specs.declared.call.SourceKey.{SourceKey as Source};
 ghost use Rattle.dap_tables.specs.SourceMap.{set_of, count, of_others, with_set};
-ghost use Rattle.dap_tables.specs.Breakpoints.{BreakpointTable, no_breakpoints, numbered, replaced, max_id, IsAllowed, IsRefusedForRoom, IsRefusedForIds, TakesIds, IsOrderly};
+ghost use Rattle.dap_tables.specs.Breakpoints.{BreakpointTable, no_breakpoints, lines_with_ids, breakpoints_with, max_id, IsAllowed, HasNoRoomForLines, IsRefusedForIds, TakesIds, IsOrderlyBreakpoints};
 ghost use Rattle.dap_call.specs.SameSource.{is_source};
 
 use crate::bp_fault::BpFault;
@@ -29,19 +29,19 @@ pub struct Breakpoints {
 impl Model for Breakpoints {
     ghost use Rattle.std.specs.Prelude.{◌≡◌};
     ghost use Rattle.dap_tables.specs.SourceMap.{count};
-    ghost use Rattle.dap_tables.specs.Breakpoints.{BreakpointTable, IsOrderly};
+    ghost use Rattle.dap_tables.specs.Breakpoints.{BreakpointTable, IsOrderlyBreakpoints};
 
     ghost Value = { BreakpointTable };
 
     ghost view = { λ b. record { room = b.room; breakpoints = record { sources = b.sets; next_id = b.next_id } } };
 
-    ghost invariant = { λ b. (b.len ≡ count b.sets) × IsOrderly (record { room = b.room; breakpoints = record { sources = b.sets; next_id = b.next_id } }) };
+    ghost invariant = { λ b. (b.len ≡ count b.sets) × IsOrderlyBreakpoints (record { room = b.room; breakpoints = record { sources = b.sets; next_id = b.next_id } }) };
 }
 
 /// Lines with their ids.
 fn numbered(alloc: Global, first: u64, lines: &[u32]) -> Result<Vec<(u64, u32)>, AllocError>
     requires { first + length lines.now ≤ max_id + 1 }
-    ensures numbered { IfOk result (λ set. set.items ≡ numbered first lines.now) }
+    ensures numbered { IfOk result (λ set. set.items ≡ lines_with_ids first lines.now) }
 {
     let mut set = Vec::with_capacity(alloc, lines.len())?;
     let mut id = first;
@@ -61,7 +61,7 @@ fn set_lines(
     lines: &[u32],
 ) -> Result<(), AllocError>
     requires { first + length lines.now ≤ max_id + 1 }
-    ensures ok { OnOk result (sets.new ≡ with_set source (numbered first lines.now) (of_others source sets.old)) }
+    ensures ok { OnOk result (sets.new ≡ with_set source (lines_with_ids first lines.now) (of_others source sets.old)) }
     ensures err { OnErr result (sets.new ≡ sets.old) }
     ensures memory { OnErr result (0 < length lines.now) }
 {
@@ -99,20 +99,20 @@ impl Breakpoints {
     /// `OutOfMemory` where memory is refused. The table is then as it was.
     #[tactic(auto, using(crate::proofs::SetLemmas::replacing))]
     pub fn replace(&mut self, source: SourceKey, lines: &[u32]) -> Result<u64, BpFault>
-        ensures ok { OnOk result (self.new ≡ record self.old { breakpoints = replaced source lines.now self.old.breakpoints }) }
+        ensures ok { OnOk result (self.new ≡ record self.old { breakpoints = breakpoints_with source lines.now self.old.breakpoints }) }
         ensures first { IfOk result (λ first. first ≡ self.old.breakpoints.next_id) }
         ensures err { OnErr result (self.new ≡ self.old) }
 
         // Which refusal comes.
-        ensures full { (result ≡ Err BpFault.Full) ↔ IsRefusedForRoom source lines.now self.old }
+        ensures full { (result ≡ Err BpFault.Full) ↔ HasNoRoomForLines source lines.now self.old }
         ensures exhausted { (result ≡ Err BpFault.Exhausted) ↔ IsRefusedForIds source lines.now self.old }
         ensures memory { result ≡ Err BpFault.OutOfMemory → TakesIds source lines.now self.old }
         ensures none { length lines.now ≡ 0 → result ≡ Ok self.old.breakpoints.next_id }
 
         // The source has these lines, and each other source what it had.
-        ensures set { OnOk result (set_of source self.new.breakpoints.sources ≡ numbered self.old.breakpoints.next_id lines.now) }
+        ensures set { OnOk result (set_of source self.new.breakpoints.sources ≡ lines_with_ids self.old.breakpoints.next_id lines.now) }
         ensures others { OnOk result ((other : Source) → is_source source other ≡ false → set_of other self.new.breakpoints.sources ≡ set_of other self.old.breakpoints.sources) }
-        ensures orderly { IsOrderly self.new }
+        ensures orderly { IsOrderlyBreakpoints self.new }
     {
         if let Err(fault) = self.check(&source, lines) {
             return Err(fault);
@@ -133,7 +133,7 @@ impl Breakpoints {
     /// `Full` and `Exhausted`, where `replace` would answer them.
     pub fn check(&self, source: &SourceKey, lines: &[u32]) -> Result<(), BpFault>
         ensures ok { OnOk result (IsAllowed source.now lines.now self.now) }
-        ensures full { (result ≡ Err BpFault.Full) ↔ IsRefusedForRoom source.now lines.now self.now }
+        ensures full { (result ≡ Err BpFault.Full) ↔ HasNoRoomForLines source.now lines.now self.now }
         ensures exhausted { (result ≡ Err BpFault.Exhausted) ↔ IsRefusedForIds source.now lines.now self.now }
         ensures memory { result ≡ Err BpFault.OutOfMemory → ⊥ }
         ensures none { OnErr result (0 < length lines.now) }
@@ -151,7 +151,7 @@ impl Breakpoints {
     fn count_of_others(&self, source: &SourceKey) -> usize
         ensures others { result ≡ count (of_others source.now self.now.breakpoints.sources) }
         ensures bound { result ≤ self.now.room }
-        ensures orderly { IsOrderly self.now }
+        ensures orderly { IsOrderlyBreakpoints self.now }
     {
         self.len - self.sets.of_source(source).len()
     }
@@ -175,7 +175,7 @@ impl Breakpoints {
     /// How many breakpoints there are in all lists together.
     pub fn len(&self) -> usize
         ensures len { result ≡ count self.now.breakpoints.sources }
-        ensures orderly { IsOrderly self.now }
+        ensures orderly { IsOrderlyBreakpoints self.now }
     {
         self.len
     }

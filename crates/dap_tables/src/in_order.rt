@@ -24,7 +24,7 @@ impl<'a> Model for InOrder<'a> {
     ghost use Rattle.slab.specs.Slab.{get};
     ghost use Rattle.dap_tables.specs.declared.entry.Entry.{Entry};
     ghost use Rattle.dap_tables.specs.Arrivals.{keys_from};
-    ghost use Rattle.dap_tables.specs.OutstandingStore.{slots_at, IsWalk};
+    ghost use Rattle.dap_tables.specs.PrivateOutstandingStore.{slots_at, IsWalk};
 
     ghost Value = { List Entry };
 

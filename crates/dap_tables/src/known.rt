@@ -1,7 +1,7 @@
 //! The references that a peer gave.
 ghost use Rattle.std.specs.Prelude.{◌≡◌, ◌≤◌, ◌<◌, ◌↔◌, [], length, take, IsTrue, IsOk, IfErr, OnOk, OnErr, Ok, Err, IfOk};
 ghost use Rattle.dap_tables.specs.Known.{has_pair, with_pair, with_pairs, IsSet, TakesRoom};
-ghost use Rattle.dap_tables.specs.KnownStore.{stored, pairs_of};
+ghost use Rattle.dap_tables.specs.PrivateKnownStore.{target_of_pair, pairs_of_targets};
 
 use crate::live_targets::LiveTargets;
 use crate::reference_kind::ReferenceKind;
@@ -27,7 +27,7 @@ pub struct Known {
 
 impl Model for Known {
     ghost use Rattle.dap_tables.specs.Known.{KnownReferences, IsSet};
-    ghost use Rattle.dap_tables.specs.KnownStore.{known_of};
+    ghost use Rattle.dap_tables.specs.PrivateKnownStore.{known_of};
 
     ghost Value = { KnownReferences };
 
@@ -38,7 +38,7 @@ impl Model for Known {
 
 /// A reference as it is stored.
 fn stored(kind: ReferenceKind, number: u32) -> Target
-    ensures { result ≡ stored (kind, number) }
+    ensures { result ≡ target_of_pair (kind, number) }
 {
     Target {
         kind,
@@ -47,7 +47,7 @@ fn stored(kind: ReferenceKind, number: u32) -> Target
 }
 
 fn has(held: &LiveTargets, target: Target) -> bool
-    ensures { result ≡ has_pair (target.kind, target.object) (pairs_of held.now) }
+    ensures { result ≡ has_pair (target.kind, target.object) (pairs_of_targets held.now) }
 {
     held.place(target).is_some()
 }
@@ -60,11 +60,11 @@ fn add_one(
     number: u32,
 ) -> Result<(), KnownFault>
     requires { length held.old ≤ room }
-    ensures ok { OnOk result (pairs_of held.new ≡ with_pair (kind, number) (pairs_of held.old)) }
+    ensures ok { OnOk result (pairs_of_targets held.new ≡ with_pair (kind, number) (pairs_of_targets held.old)) }
     ensures within { OnOk result (length held.new ≤ room) }
     ensures err { OnErr result (held.new ≡ held.old) }
-    ensures full { result ≡ Err KnownFault.Full → room < length (with_pair (kind, number) (pairs_of held.old)) }
-    ensures memory { result ≡ Err KnownFault.OutOfMemory → (length held.old < length (with_pair (kind, number) (pairs_of held.old))) × (length held.old < room) }
+    ensures full { result ≡ Err KnownFault.Full → room < length (with_pair (kind, number) (pairs_of_targets held.old)) }
+    ensures memory { result ≡ Err KnownFault.OutOfMemory → (length held.old < length (with_pair (kind, number) (pairs_of_targets held.old))) × (length held.old < room) }
 {
     let target = stored(kind, number);
     if has(held, target) {
@@ -86,12 +86,12 @@ fn add_each(
     given: &[(ReferenceKind, u32)],
 ) -> Result<(), KnownFault>
     requires { length held.old ≤ room }
-    ensures ok { OnOk result (pairs_of held.new ≡ with_pairs given.now (pairs_of held.old)) }
+    ensures ok { OnOk result (pairs_of_targets held.new ≡ with_pairs given.now (pairs_of_targets held.old)) }
     ensures within { OnOk result (length held.new ≤ room) }
-    ensures front { OnErr result (take (length held.old) (pairs_of held.new) ≡ pairs_of held.old) }
+    ensures front { OnErr result (take (length held.old) (pairs_of_targets held.new) ≡ pairs_of_targets held.old) }
     ensures more { length held.old ≤ length held.new }
-    ensures full { result ≡ Err KnownFault.Full → room < length (with_pairs given.now (pairs_of held.old)) }
-    ensures memory { result ≡ Err KnownFault.OutOfMemory → (length held.old < length (with_pairs given.now (pairs_of held.old))) × (length held.old < room) }
+    ensures full { result ≡ Err KnownFault.Full → room < length (with_pairs given.now (pairs_of_targets held.old)) }
+    ensures memory { result ≡ Err KnownFault.OutOfMemory → (length held.old < length (with_pairs given.now (pairs_of_targets held.old))) × (length held.old < room) }
 {
     let mut rest = given;
     while let Some((pair, others)) = rest.split_first() {

@@ -22,7 +22,7 @@ impl Model for LiveTargets {
     ghost use Rattle.std.specs.Prelude.{List};
     ghost use Rattle.dap_tables.specs.declared.target.Target.{Target as Named};
     ghost use Rattle.dap_tables.specs.References.{HasDistinctTargets};
-    ghost use Rattle.dap_tables.specs.ReferenceStore.{HasPlaces};
+    ghost use Rattle.dap_tables.specs.PrivateReferenceStore.{HasPlaces};
 
     ghost Value = { List Named };
 

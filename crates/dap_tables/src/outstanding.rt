@@ -1,7 +1,7 @@
 //! The requests that an end has still to answer.
 ghost use Rattle.std.specs.Prelude.{◌≡◌, ◌<◌, ◌≤◌, ◌↔◌, [], ◌∷◌, ◌++◌, true, false, length, IsTrue, IsSome, IfOk, IfErr, IfSome, IfNone, OnOk, OnErr, Err, Some, find};
 ghost use Rattle.std.specs.Option.{option_copied, option_map};
-ghost use Rattle.dap_tables.specs.Outstanding.{IsOrderly, IsRefusedForRoom, unparked, entries, contains_seq, entry_with, without, is_parked, with_mark, oldest_unparked, parked_ones, unparked_ones};
+ghost use Rattle.dap_tables.specs.Outstanding.{IsOrderlyRequests, HasNoRoomForRequest, kept_unparked, entries, contains_seq, entry_with, without, is_parked, with_mark, oldest_unparked, parked_ones, unparked_ones};
 ghost use Rattle.dap_tables.specs.PutFault.{refused_entry};
 
 use crate::arrivals::Arrivals;
@@ -31,13 +31,13 @@ impl Model for Outstanding {
     ghost use Rattle.std.specs.Coded.{codes};
     ghost use Rattle.dap_json.specs.Stored.{coded_data};
     ghost use Rattle.dap_tables.specs.Outstanding.{KeptRequests};
-    ghost use Rattle.dap_tables.specs.OutstandingStore.{table_of, IsStored};
+    ghost use Rattle.dap_tables.specs.PrivateOutstandingStore.{request_table_of, IsStored};
 
     ghost Value = { KeptRequests };
 
     ghost coded = { Prim.hlevel (codes, coded_data) };
 
-    ghost view = { λ o. table_of o.room o.slots o.order };
+    ghost view = { λ o. request_table_of o.room o.slots o.order };
 
     ghost invariant = { λ o. IsStored o.room o.slots o.index o.order };
 }
@@ -63,14 +63,14 @@ impl Outstanding {
     ///
     /// `Repeated` comes where its seq is kept already, else `Full` where there is no room.
     pub fn put(&mut self, entry: Entry) -> Result<(), PutFault>
-        ensures ok { OnOk result (self.new ≡ record self.old { kept = self.old.kept ++ unparked entry ∷ [] }) }
+        ensures ok { OnOk result (self.new ≡ record self.old { kept = self.old.kept ++ kept_unparked entry ∷ [] }) }
         ensures err { OnErr result (self.new ≡ self.old) }
-        ensures orderly { IsOrderly self.new }
+        ensures orderly { IsOrderlyRequests self.new }
 
         // Which refusal comes, and that it hands the request back.
         ensures handed_back { IfErr result (λ fault. refused_entry fault ≡ entry) }
         ensures repeated { (result ≡ Err (PutFault.Repeated entry)) ↔ IsTrue (contains_seq entry.seq self.old.kept) }
-        ensures full { (result ≡ Err (PutFault.Full entry)) ↔ IsRefusedForRoom entry.seq self.old }
+        ensures full { (result ≡ Err (PutFault.Full entry)) ↔ HasNoRoomForRequest entry.seq self.old }
         ensures new { OnOk result (contains_seq entry.seq self.old.kept ≡ false) }
 
         // The request is found again by its seq, and taking it out gives back what was kept before.
@@ -98,7 +98,7 @@ impl Outstanding {
     pub fn take(&mut self, seq: u64) -> Option<Entry>
         ensures entry { result ≡ entry_with seq self.old.kept }
         ensures others { self.new ≡ record self.old { kept = without seq self.old.kept } }
-        ensures orderly { IsOrderly self.new }
+        ensures orderly { IsOrderlyRequests self.new }
         ensures found { IsSome result ↔ IsTrue (contains_seq seq self.old.kept) }
         ensures seq { IfSome result (λ entry. entry.seq ≡ seq) }
         ensures gone { contains_seq seq self.new.kept ≡ false }
@@ -112,7 +112,7 @@ impl Outstanding {
     /// Gives all requests up.
     pub fn clear(&mut self)
         ensures none { self.new ≡ record self.old { kept = [] } }
-        ensures orderly { IsOrderly self.new }
+        ensures orderly { IsOrderlyRequests self.new }
     {
         self.slots.clear();
         self.index.clear();
@@ -122,7 +122,7 @@ impl Outstanding {
     /// Gives up the requests that are parked.
     pub fn clear_parked(&mut self)
         ensures others { self.new ≡ record self.old { kept = unparked_ones self.old.kept } }
-        ensures orderly { IsOrderly self.new }
+        ensures orderly { IsOrderlyRequests self.new }
     {
         while let Some(seq) = self.oldest_parked() {
             self.give_up(seq);
@@ -145,7 +145,7 @@ impl Outstanding {
         ensures mark { self.new ≡ record self.old { kept = with_mark seq true self.old.kept } }
         ensures parked { is_parked seq self.new.kept ≡ true }
         ensures entries { entries self.new.kept ≡ entries self.old.kept }
-        ensures orderly { IsOrderly self.new }
+        ensures orderly { IsOrderlyRequests self.new }
     {
         self.set_mark(seq, true);
     }
@@ -157,7 +157,7 @@ impl Outstanding {
         ensures mark { self.new ≡ record self.old { kept = with_mark seq false self.old.kept } }
         ensures unparked { is_parked seq self.new.kept ≡ false }
         ensures entries { entries self.new.kept ≡ entries self.old.kept }
-        ensures orderly { IsOrderly self.new }
+        ensures orderly { IsOrderlyRequests self.new }
     {
         self.set_mark(seq, false);
     }
@@ -165,7 +165,7 @@ impl Outstanding {
     /// Whether the request with a seq is kept.
     pub fn contains(&self, seq: u64) -> bool
         ensures contains { result ≡ contains_seq seq self.now.kept }
-        ensures orderly { IsOrderly self.now }
+        ensures orderly { IsOrderlyRequests self.now }
     {
         self.index.get(seq).is_some()
     }
@@ -190,7 +190,7 @@ impl Outstanding {
     /// How many requests are kept.
     pub fn len(&self) -> usize
         ensures len { result ≡ length self.now.kept }
-        ensures orderly { IsOrderly self.now }
+        ensures orderly { IsOrderlyRequests self.now }
     {
         self.order.len()
     }
@@ -221,7 +221,7 @@ impl Outstanding {
     pub fn in_order(&self) -> InOrder<'_>
         ensures entries { result ≡ entries self.now.kept }
         ensures len { length result ≡ length self.now.kept }
-        ensures orderly { IsOrderly self.now }
+        ensures orderly { IsOrderlyRequests self.now }
     {
         InOrder {
             slots: &self.slots,
@@ -232,7 +232,7 @@ impl Outstanding {
 
     fn set_mark(&mut self, seq: u64, parked: bool)
         ensures mark { self.new ≡ record self.old { kept = with_mark seq parked self.old.kept } }
-        ensures orderly { IsOrderly self.new }
+        ensures orderly { IsOrderlyRequests self.new }
     {
         match self.index.get(seq) {
             Some(key) => self.slots[key].parked = parked,
@@ -250,7 +250,7 @@ impl Outstanding {
     fn oldest_parked(&self) -> Option<u64>
         ensures oldest { let found = find (λ k. k.parked) self.now.kept in
             result ≡ option_map (λ k. k.entry.seq) found }
-        ensures orderly { IsOrderly self.now }
+        ensures orderly { IsOrderlyRequests self.now }
     {
         slot::oldest(&self.slots, &self.order, true)
     }

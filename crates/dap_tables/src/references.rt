@@ -1,7 +1,7 @@
 //! The numbers of what a client may ask for while the debuggee is stopped.
 ghost use Rattle.std.specs.Prelude.{◌≡◌, ◌<◌, ◌≤◌, ◌+◌, ◌↔◌, [], length, IsTrue, IsOk, IfOk, IfSome, OnErr, Ok, Err, Some};
 ghost use Rattle.std.specs.Option.{option_copied};
-ghost use Rattle.dap_tables.specs.References.{ReferenceTable, no_references, is_live, place_of, target_of, cleared, taken_back, interned, IsRefusedForRoom, IsRefusedForNumber, TakesNumber, IsOrderly};
+ghost use Rattle.dap_tables.specs.References.{ReferenceTable, no_references, is_live, place_of, target_of, without_references, back_to, intern_result, HasNoRoomForTarget, IsRefusedForNumber, TakesNumber, IsOrderlyReferences};
 
 use crate::live_targets::LiveTargets;
 use crate::mark::Mark;
@@ -22,14 +22,14 @@ pub struct References {
 }
 
 impl Model for References {
-    ghost use Rattle.dap_tables.specs.References.{ReferenceTable, IsOrderly};
-    ghost use Rattle.dap_tables.specs.ReferenceStore.{table_of};
+    ghost use Rattle.dap_tables.specs.References.{ReferenceTable, IsOrderlyReferences};
+    ghost use Rattle.dap_tables.specs.PrivateReferenceStore.{reference_table_of};
 
     ghost Value = { ReferenceTable };
 
-    ghost view = { λ r. table_of r.room r.greatest r.base r.live };
+    ghost view = { λ r. reference_table_of r.room r.greatest r.base r.live };
 
-    ghost invariant = { λ r. IsOrderly (table_of r.room r.greatest r.base r.live) };
+    ghost invariant = { λ r. IsOrderlyReferences (reference_table_of r.room r.greatest r.base r.live) };
 }
 
 impl References {
@@ -54,19 +54,19 @@ impl References {
     /// `Full` where as many are live as there is room for, else `Exhausted` where no number is left, else `OutOfMemory` where
     /// memory for one more is refused. The table is then as it was.
     pub fn intern(&mut self, target: Target) -> Result<u32, RefFault>
-        ensures ok { IfOk result (λ number. interned RefFault.Full RefFault.Exhausted self.old.room self.old.greatest target self.old.references ≡ Ok (number, self.new.references)) }
+        ensures ok { IfOk result (λ number. intern_result RefFault.Full RefFault.Exhausted self.old.room self.old.greatest target self.old.references ≡ Ok (number, self.new.references)) }
         ensures limits { (self.new.room ≡ self.old.room) × (self.new.greatest ≡ self.old.greatest) }
         ensures err { OnErr result (self.new ≡ self.old) }
 
         // Which refusal comes.
-        ensures full { (result ≡ Err RefFault.Full) ↔ IsRefusedForRoom target self.old }
+        ensures full { (result ≡ Err RefFault.Full) ↔ HasNoRoomForTarget target self.old }
         ensures exhausted { (result ≡ Err RefFault.Exhausted) ↔ IsRefusedForNumber target self.old }
         ensures memory { result ≡ Err RefFault.OutOfMemory → TakesNumber target self.old }
 
         // A target that is live keeps its number, whatever is full, and nothing changes.
         ensures known { IfSome (place_of target self.old.references.live) (λ place. (result ≡ Ok (self.old.references.base + 1 + place)) × (self.new ≡ self.old)) }
         ensures names { IfOk result (λ number. target_of self.new.references number ≡ Some target) }
-        ensures orderly { IsOrderly self.new }
+        ensures orderly { IsOrderlyReferences self.new }
     {
         if let Some(place) = self.live.place(target) {
             return Ok(self.base + 1 + place as u32);
@@ -107,16 +107,16 @@ impl References {
     /// again. At least so many must be live.
     pub fn back_to(&mut self, mark: Mark)
         requires { mark ≤ length self.old.references.live }
-        ensures back { self.new ≡ record self.old { references = taken_back mark self.old.references } }
-        ensures orderly { IsOrderly self.new }
+        ensures back { self.new ≡ record self.old { references = back_to mark self.old.references } }
+        ensures orderly { IsOrderlyReferences self.new }
     {
         self.live.truncate(mark.live);
     }
 
     /// Lets all die. Their numbers never come again.
     pub fn clear(&mut self)
-        ensures none { self.new ≡ record self.old { references = cleared self.old.references } }
-        ensures orderly { IsOrderly self.new }
+        ensures none { self.new ≡ record self.old { references = without_references self.old.references } }
+        ensures orderly { IsOrderlyReferences self.new }
     {
         self.base += self.live.len() as u32;
         self.live.clear();
@@ -125,7 +125,7 @@ impl References {
     /// How many are live.
     pub fn len(&self) -> usize
         ensures len { result ≡ length self.now.references.live }
-        ensures orderly { IsOrderly self.now }
+        ensures orderly { IsOrderlyReferences self.now }
     {
         self.live.len()
     }

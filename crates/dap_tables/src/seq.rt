@@ -1,6 +1,6 @@
 //! The numbers that an end gives its own messages.
 ghost use Rattle.std.specs.Prelude.{◌≡◌, ◌≤◌, ◌↔◌, IsNone};
-ghost use Rattle.dap_tables.specs.Seq.{next_number, after_next, left, CountsTo};
+ghost use Rattle.dap_tables.specs.Seq.{next_number, after_next, numbers_left, CountsTo};
 
 use std::marker::Model;
 
@@ -50,7 +50,7 @@ impl Seq {
 
     /// How many numbers are left to give.
     pub fn left(&self) -> u64
-        ensures left { result ≡ left self.now }
+        ensures left { result ≡ numbers_left self.now }
         ensures bound { self.now.used ≤ self.now.last }
     {
         self.last - self.used

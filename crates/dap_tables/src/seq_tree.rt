@@ -2,7 +2,7 @@
 ghost use Rattle.std.specs.Prelude.{◌≡◌, ◌+◌, [], ◌∷◌, length, None, Some, OnSome};
 ghost use Rattle.std.specs.Option.{option_map};
 ghost use Rattle.dap_tables.specs.SeqIndex.{key_for, Gets};
-ghost use Rattle.dap_tables.specs.SeqTree.{pair_of, pairs_under, Fits, Takes};
+ghost use Rattle.dap_tables.specs.SeqTree.{pair_of_node, pairs_under, Fits, Takes};
 
 use std::marker::Model;
 use std::mem;
@@ -32,11 +32,11 @@ impl Model for SeqTree {
 
     ghost Value = { List (ℕ × ℕ) };
 
-    ghost use Rattle.dap_tables.specs.SeqTree.{pairs_of, IsSound};
+    ghost use Rattle.dap_tables.specs.SeqTree.{pairs_of_side, IsSoundSide};
 
-    ghost view = { λ tree. pairs_of tree.root };
+    ghost view = { λ tree. pairs_of_side tree.root };
 
-    ghost invariant = { λ tree. IsSound tree.root };
+    ghost invariant = { λ tree. IsSoundSide tree.root };
 
     ghost size = { length };
 
@@ -64,7 +64,7 @@ impl Node {
     fn take_below(&mut self) -> Option<Box<Node>>
         requires { Fits (pairs_under self.old.even self.old.odd) }
         ensures takes { Takes (pairs_under self.old.even self.old.odd) (pairs_under self.new.even self.new.odd) result }
-        ensures same { pair_of self.new ≡ pair_of self.old }
+        ensures same { pair_of_node self.new ≡ pair_of_node self.old }
     {
         match self.even.take() {
             Some(mut node) => {

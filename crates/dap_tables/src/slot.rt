@@ -2,7 +2,7 @@
 ghost use Rattle.std.specs.Prelude.{◌≡◌, not, if◌then◌else◌, find, count_by};
 ghost use Rattle.std.specs.Option.{option_map, option_copied};
 ghost use Rattle.slab.specs.Slab.{get};
-ghost use Rattle.dap_tables.specs.OutstandingStore.{IsFilled, marked_in, slot_at, slots_at};
+ghost use Rattle.dap_tables.specs.PrivateOutstandingStore.{IsFilled, marked_in, slot_at, slots_at};
 
 use crate::arrivals::Arrivals;
 use crate::entry::Entry;

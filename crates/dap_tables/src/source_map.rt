@@ -22,7 +22,7 @@ impl<T> Model for SourceMap<T> {
     ghost use Rattle.std.specs.Ordering.{nat_cmp};
     ghost use Rattle.std.specs.String.{string_cmp};
     ghost use Rattle.dap_tables.specs.SourceMap.{OfSource, HasNoEmptyList};
-    ghost use Rattle.dap_tables.specs.SourceStore.{sources_of};
+    ghost use Rattle.dap_tables.specs.PrivateSourceStore.{sources_of};
 
     ghost Value = { List (OfSource T) };
 

@@ -9,7 +9,7 @@ use Rattle.dap_session.specs.declared.fault.AdapterFault.TheVariants as adapter
 use Rattle.dap_adapter.specs.declared.served.ServeFault.TheVariants as serve
 use Rattle.dap_debuggee.specs.declared.reading.RecordingKey.TheVariants.{Moments}
 use Rattle.dap_debuggee.specs.declared.reading.RecordingFault.TheVariants as recording
-use Rattle.dap_tool.specs.Listing.{shown, line_of_message}
+use Rattle.dap_tool.specs.Listing.{shown_text, line_of_message}
 use Rattle.dap_tool.specs.Faults.{status_of, line_of}
 use Rattle.dap_tool.specs.declared.fault.ToolFault.TheVariants.{Serve, Recording, Show, Wrap, File, Truncated, Write, OutOfMemory}
 use Rattle.dap_tool.specs.declared.files.FileFault.TheVariants.{Read, FileTooLong}
@@ -18,18 +18,18 @@ use Rattle.dap_tool.specs.declared.wrapping.WrapFault.TheVariants.{Body as BadLi
 
 -- ---- names
 
-plain_names_stay : shown (codes "setBreakpoints") ≡ codes "setBreakpoints"
+plain_names_stay : shown_text (codes "setBreakpoints") ≡ codes "setBreakpoints"
 plain_names_stay = refl
 
 -- U+0000, U+001F, the space, U+007E, U+007F
-controls_are_hidden : shown (0 ∷ 31 ∷ 32 ∷ 126 ∷ 127 ∷ []) ≡ 63 ∷ 63 ∷ 32 ∷ 126 ∷ 63 ∷ []
+controls_are_hidden : shown_text (0 ∷ 31 ∷ 32 ∷ 126 ∷ 127 ∷ []) ≡ 63 ∷ 63 ∷ 32 ∷ 126 ∷ 63 ∷ []
 controls_are_hidden = refl
 
 -- the two bytes of U+00E9, and those of U+0080, which is a control character that is shown
-other_bytes_stay : shown (195 ∷ 169 ∷ 194 ∷ 128 ∷ []) ≡ 195 ∷ 169 ∷ 194 ∷ 128 ∷ []
+other_bytes_stay : shown_text (195 ∷ 169 ∷ 194 ∷ 128 ∷ []) ≡ 195 ∷ 169 ∷ 194 ∷ 128 ∷ []
 other_bytes_stay = refl
 
-no_name : shown [] ≡ []
+no_name : shown_text [] ≡ []
 no_name = refl
 
 -- ---- lines

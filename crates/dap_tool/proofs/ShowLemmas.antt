@@ -1,53 +1,19 @@
 -- A listing that goes on.
-use Rattle.std.proofs.Common.{◌≡◌, ℕ, ◌+◌, ◌<◌, ◌≤◌, ◌^◌, List, [], ◌∷◌, ◌++◌, length, take, drop, codes, decimal, Ok, Err, refl, sym, ap, ◌∙◌, subst, arith, length-drop}
+use Rattle.std.proofs.Common.{◌≡◌, ℕ, ◌+◌, ◌<◌, ◌≤◌, ◌^◌, List, [], ◌∷◌, ◌++◌, length, take, drop, Err, sym, ap, ◌∙◌, subst, arith, length-drop}
 use Rattle.std.proofs.lemmas.List.{length-append, append_assoc, append-nil, take_all, take-append-drop, append_cancel_right}
 use Rattle.std.proofs.Math.Seq.{take-add}
 use Rattle.dap_frame.specs.declared.Refusal.{Refusal}
-use Rattle.dap_frame.specs.declared.frames.End.{End}
-use Rattle.dap_frame.specs.declared.frames.End.TheVariants.{Clean, Truncated, Refused as EndRefused}
 use Rattle.dap_frame.specs.declared.frames.FrameFault.{FrameFault}
 use Rattle.dap_frame.specs.Settings.{Settings, bounds_of}
 use Rattle.dap_frame.specs.Stream.{FramesThen, Split}
-use Rattle.dap_frame.specs.Verdict.{verdict, Part, Refused as Refuses}
+use Rattle.dap_frame.specs.Verdict.{verdict, Refused as Refuses}
 use Rattle.dap_frame.specs.Intake.{Intake, IsReady, StandsFor, Shut, StartsAt, LastStartsAt}
 use Rattle.dap_frame.specs.Feeds.{Completes, Gathers, Closes}
-use Rattle.dap_frame.specs.Ends.{EndsWith}
 use Rattle.dap_message.specs.Meaning.{Msg}
-use Rattle.dap_message.specs.Refusals.{Bad}
-use Rattle.dap_message.specs.declared.fault.BodyRefusal.{BodyRefusal}
 use Rattle.dap_message.specs.declared.message.Message.{Message}
-use Rattle.dap_message.specs.declared.message.Kind.{Kind}
-use Rattle.dap_message.specs.declared.message.Kind.TheVariants as message
-use Rattle.dap_message.specs.declared.heading.Heading.{Heading}
-use Rattle.dap_message.specs.declared.heading.HeadingKind.{HeadingKind}
-use Rattle.dap_message.specs.declared.heading.HeadingKind.TheVariants.{Request, Response, Event, Other}
-use Rattle.dap_message.specs.Heading.{IsHeadingOf, IsKindOf}
-use Rattle.dap_tool.specs.Listing.{none, one_more, IsEndOf, Listed, Shows, shown, kind_text, line_of_message}
-use Rattle.dap_tool.specs.ShowSteps.{kind_words, ListedTo, ListedBefore}
-use Rattle.dap_tool.specs.declared.listing.ShowFault.TheVariants.{Frame, Body, OutOfMemory}
-
--- ---- the words of a heading are those of its message
-
-pub words_of : (k : HeadingKind) (kind : Kind) → IsKindOf k kind → kind_words k ≡ kind_text kind
-words_of (Request name) (message.Request command arguments) is = ap (λ c. codes " request " ++ shown c) is
-words_of (Request name) (message.Response request_seq success command reason body) is = absurd is
-words_of (Request name) (message.Event event body) is = absurd is
-words_of (Request name) (message.Other tag) is = absurd is
-words_of (Response n b name) (message.Request command arguments) is = absurd is
-words_of (Response n b name) (message.Response request_seq success command reason body) is = rw (is.0, is.1, is.2) refl
-words_of (Response n b name) (message.Event event body) is = absurd is
-words_of (Response n b name) (message.Other tag) is = absurd is
-words_of (Event name) (message.Request command arguments) is = absurd is
-words_of (Event name) (message.Response request_seq success command reason body) is = absurd is
-words_of (Event name) (message.Event event body) is = ap (λ c. codes " event " ++ shown c) is
-words_of (Event name) (message.Other tag) is = absurd is
-words_of (Other name) (message.Request command arguments) is = absurd is
-words_of (Other name) (message.Response request_seq success command reason body) is = absurd is
-words_of (Other name) (message.Event event body) is = absurd is
-words_of (Other name) (message.Other tag) is = ap (λ c. codes " other " ++ shown c) is
-
-pub line_of_heading : (offset : ℕ) (h : Heading) (m : Message) → IsHeadingOf h m → decimal offset ++ codes " " ++ decimal h.seq ++ kind_words h.kind ++ codes "\n" ≡ line_of_message offset m
-line_of_heading offset h m is = ap (λ n. decimal offset ++ codes " " ++ decimal n ++ kind_words h.kind ++ codes "\n") is.seq ∙ ap (λ words. decimal offset ++ codes " " ++ decimal m.seq ++ words ++ codes "\n") (words_of h.kind m.kind is.kind)
+use Rattle.dap_tool.specs.Listing.{none, one_more, Listed, Shows, line_of_message}
+use Rattle.dap_tool.specs.PrivateShowSteps.{ListedTo, ListedBefore}
+use Rattle.dap_tool.specs.declared.listing.ShowFault.TheVariants.{Frame, OutOfMemory}
 
 -- ---- how far a listing has come
 
@@ -106,25 +72,8 @@ module _ (limits : Settings) (frames : Intake) (bytes rest : List ℕ) (at : ℕ
 -- ---- a ready body
 
 module _ (limits : Settings) (frames : Intake) (bytes : List ℕ) (at : ℕ) (old new : List ℕ) (l : ListedBefore limits frames bytes at old new) (ready : IsReady frames) where
-  split_here : Split (bounds_of limits) (take at bytes) (l.bodies ++ frames.held ∷ []) []
-  split_here = subst (λ b. Split b (take at bytes) (l.bodies ++ frames.held ∷ []) []) l.bounds l.stands.split
-
   last_here : LastStartsAt frames.bounds frames.start (take at bytes) (l.bodies ++ frames.held ∷ []) frames.held
   last_here = (l.stands.ready ready).last
-
-  pub interrupted : Shows limits bytes old new (Err OutOfMemory)
-  interrupted = record { bodies = l.bodies; listed = l.listed }
-
-  pub refused_body : (cause : BodyRefusal) (offset : ℕ) → Bad frames.held cause → offset ≡ frames.start → Shows limits bytes old new (Err (Body cause offset))
-  refused_body cause offset bad starts = record {
-    n = at;
-    bodies = l.bodies;
-    body = frames.held;
-    split = split_here;
-    listed = l.listed;
-    bad = bad;
-    starts = subst (λ b. LastStartsAt b offset (take at bytes) (l.bodies ++ frames.held ∷ []) frames.held) l.bounds (subst (λ k. LastStartsAt frames.bounds k (take at bytes) (l.bodies ++ frames.held ∷ []) frames.held) (sym starts) last_here);
-  }
 
   module _ (m : Message) (is : Msg frames.held m) (offset : ℕ) (starts : offset ≡ frames.start) (small : length bytes < 2 ^ 64) where
     last : LastStartsAt (bounds_of limits) frames.start (take at bytes) (l.bodies ++ frames.held ∷ []) frames.held
@@ -162,22 +111,6 @@ module _ (limits : Settings) (frames : Intake) (bytes : List ℕ) (at : ℕ) (ol
 
 pub out_of_memory_first : (limits : Settings) (bytes old : List ℕ) → Shows limits bytes old old (Err OutOfMemory)
 out_of_memory_first limits bytes old = record { bodies = []; listed = record { messages = []; text = []; lists = none; appended = sym (append-nil old) } }
-
-ends_as : (limits : Settings) (frames : Intake) (rest : List ℕ) (end : End) → frames.bounds ≡ bounds_of limits → (end ≡ EndRefused → ⊥) → EndsWith frames rest end → IsEndOf limits rest end
-ends_as limits frames rest Clean bounds other e = e
-ends_as limits frames rest Truncated bounds other e = subst (λ b. verdict b rest ≡ Part) bounds e
-ends_as limits frames rest EndRefused bounds other e = absurd (other refl)
-
-pub ended : (limits : Settings) (frames : Intake) (bytes : List ℕ) (at : ℕ) (old new : List ℕ) (end : End) → length bytes ≤ at → ListedTo limits frames bytes at old new → (end ≡ EndRefused → ⊥) → ((s : List ℕ) (xs : List (List ℕ)) (rest : List ℕ) → StandsFor frames s xs rest → EndsWith frames rest end) → Shows limits bytes old new (Ok end)
-ended limits frames bytes at old new end past l other ends =
-    let whole : take at bytes ≡ bytes = take_all at bytes past in
-    record {
-      bodies = l.bodies;
-      rest = l.rest;
-      split = subst (λ b. Split b bytes l.bodies l.rest) l.bounds (subst (λ z. Split frames.bounds z l.bodies l.rest) whole l.stands.split);
-      listed = l.listed;
-      ends = ends_as limits frames l.rest end l.bounds other (ends (take at bytes) l.bodies l.rest l.stands);
-    }
 
 -- ---- what is used
 

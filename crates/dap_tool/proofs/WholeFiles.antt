@@ -1,5 +1,5 @@
 -- Files that are read piece by piece, and what their calls say of bytes.
-use Rattle.std.proofs.Common.{◌≡◌, ℕ, ◌+◌, ◌<◌, ◌≤◌, List, [], ◌∷◌, ◌++◌, length, take, Option, Result, Ok, Err, Vec, IfOk, IfErr, refl, sym, ap, ◌∙◌, subst, arith, append-nil, length-append, length-take}
+use Rattle.std.proofs.Common.{◌≡◌, ℕ, ◌+◌, ◌<◌, ◌≤◌, List, [], ◌∷◌, ◌++◌, length, take, Option, Result, Ok, Err, Vec, IfOk, IfErr, sym, ap, ◌∙◌, subst, arith, append-nil, length-append, length-take}
 use Rattle.std.specs.Io.KnownBytes.{Consumes, IsAtEnd}
 use Rattle.std.specs.declared.alloc.Global.{Global}
 use Rattle.dap_channel.specs.Channel.{IoEvent, Gave, ReadFailed, Took, WriteFailed, Flushed, FlushFailed, Ran, bytes_read, MayGoOn, HasReadFailed, Inputs}
@@ -20,10 +20,6 @@ module _ {C : Type 0} (goes : C → IoEvent → C → Type 0) (before : C) where
     pub goes_on : MayGoOn log
     pub bytes_are : bytes ≡ bytes_read log
     pub few : length bytes ≤ max_file + 65536
-
-  -- nothing is read yet
-  pub at_first : ReadSoFar before []
-  at_first = record { log = []; ran = refl; are_reads = tt; due = tt; goes_on = tt; bytes_are = refl; few = omega arith }
 
   -- one read more, which gave some bytes
   pub one_more : (now next : C) (bytes : List ℕ) (room n : ℕ) (buffer : List ℕ) → ReadSoFar now bytes → length bytes ≤ max_file → 0 < room → room ≤ 65536 → length buffer ≡ room → 0 < n → n ≤ room
@@ -61,11 +57,6 @@ module _ {C : Type 0} (goes : C → IoEvent → C → Type 0) (before : C) where
           short = short;
         };
       }
-
-  pub too_long : (now : C) (bytes : List ℕ) → ReadSoFar now bytes → max_file < length bytes → ReadsWhole goes before now (Err FileTooLong)
-  too_long now bytes so long =
-      let same : length bytes ≡ length (bytes_read so.log) = ap length so.bytes_are in
-      record { log = so.log; ran = so.ran; are_reads = so.are_reads; due = so.due; reason = (so.goes_on, omega (arith, same, long), omega (arith, same, so.few)) }
 
   pub no_memory : (now : C) (bytes : List ℕ) → ReadSoFar now bytes → ReadsWhole goes before now (Err OutOfMemory)
   no_memory now bytes so =

@@ -13,7 +13,7 @@ use Rattle.dap_message.specs.Meaning.{Msg}
 use Rattle.dap_message.specs.Refusals.{first_refusal}
 use Rattle.dap_message.specs.declared.fault.BodyRefusal.TheVariants.{NotJson, BadSeq}
 use Rattle.dap_message.specs.declared.message.Kind.TheVariants.{Other}
-use Rattle.dap_tool.specs.Wrapping.{bodies, framed, IsBody, FirstRefused}
+use Rattle.dap_tool.specs.Wrapping.{bodies, frames_of_bodies, IsBody, FirstRefused}
 use Rattle.dap_tool.specs.declared.wrapping.WrapFault.TheVariants.{Body, BodyTooLong}
 
 -- ---- lines
@@ -59,13 +59,13 @@ blank_is_no_empty_line = refl
 empty_lines_are_counted : length (lines (codes "\n\r\nab\n")) ≡ 3
 empty_lines_are_counted = refl
 
-no_frame : framed (lines (codes "\n\r\n")) ≡ []
+no_frame : frames_of_bodies (lines (codes "\n\r\n")) ≡ []
 no_frame = refl
 
-frames_in_order : framed (lines (codes "ab\r\n\ncd")) ≡ frame_of (codes "ab") ++ frame_of (codes "cd")
+frames_in_order : frames_of_bodies (lines (codes "ab\r\n\ncd")) ≡ frame_of (codes "ab") ++ frame_of (codes "cd")
 frames_in_order = let two : decimal 2 ≡ 50 ∷ [] = decimal_digit 2 (omega arith) in rw two refl
 
-frame_of_two_bytes : framed (lines (codes "{}\n")) ≡ codes "Content-Length: 2\r\n\r\n{}"
+frame_of_two_bytes : frames_of_bodies (lines (codes "{}\n")) ≡ codes "Content-Length: 2\r\n\r\n{}"
 frame_of_two_bytes = let two : decimal 2 ≡ 50 ∷ [] = decimal_digit 2 (omega arith) in rw two refl
 
 -- ---- faults

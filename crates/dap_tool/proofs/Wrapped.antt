@@ -8,7 +8,7 @@ use Rattle.std.proofs.lemmas.List.Concat.{flat_map-append}
 use Rattle.std.proofs.lemmas.List.Elements.{filter-append, All-append, All-nil, All-cons}
 use Rattle.dap_frame.specs.Settings.{Settings}
 use Rattle.dap_frame.specs.Written.{frame_of}
-use Rattle.dap_tool.specs.Wrapping.{bodies, framed, IsBody, AreBodies, Refuses, FirstRefused}
+use Rattle.dap_tool.specs.Wrapping.{bodies, frames_of_bodies, IsBody, AreBodies, Refuses, FirstRefused}
 use Rattle.dap_tool.specs.declared.wrapping.WrapFault.{WrapFault}
 
 -- the lines before rest are bodies, of this number, and their frames are out
@@ -17,7 +17,7 @@ pub record Wrapped (limits : Settings) (bytes rest out : List ℕ) (number : ℕ
   pub split : lines bytes ≡ before ++ lines rest
   pub count : number ≡ length before
   pub accepted : AreBodies limits before
-  pub frames : out ≡ framed before
+  pub frames : out ≡ frames_of_bodies before
   pub few : number + length rest ≤ length bytes
 
 abbrev has_bytes : List ℕ → Bool

@@ -1,6 +1,6 @@
 pub mod Faults
 pub mod Files
 pub mod Listing
-pub mod ShowSteps
+pub mod PrivateShowSteps
 pub mod Verdicts
 pub mod Wrapping

@@ -23,18 +23,18 @@ use Rattle.dap_tool.specs.declared.listing.ShowFault.TheVariants.{Frame as BadFr
 abbrev pub shown_byte : ℕ → ℕ
 shown_byte b = if nat_lt b 32 || b == 127 then 63 else b
 
-abbrev pub shown : List ℕ → List ℕ
-shown text = map shown_byte text
+abbrev pub shown_text : List ℕ → List ℕ
+shown_text text = map shown_byte text
 
 abbrev pub outcome_text : Bool → List ℕ
 outcome_text true = codes " ok"
 outcome_text false = codes " failed"
 
 abbrev pub kind_text : Kind → List ℕ
-kind_text (Request command arguments) = codes " request " ++ shown command
-kind_text (Response request_seq success command message body) = codes " response " ++ shown command ++ codes " " ++ decimal request_seq ++ outcome_text success
-kind_text (Event event body) = codes " event " ++ shown event
-kind_text (Other tag) = codes " other " ++ shown tag
+kind_text (Request command arguments) = codes " request " ++ shown_text command
+kind_text (Response request_seq success command message body) = codes " response " ++ shown_text command ++ codes " " ++ decimal request_seq ++ outcome_text success
+kind_text (Event event body) = codes " event " ++ shown_text event
+kind_text (Other tag) = codes " other " ++ shown_text tag
 
 abbrev pub line_of_message : ℕ → Message → List ℕ
 line_of_message offset m = decimal offset ++ codes " " ++ decimal m.seq ++ kind_text m.kind ++ codes "\n"

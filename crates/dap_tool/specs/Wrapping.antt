@@ -14,8 +14,8 @@ abbrev pub bodies : List (List ℕ) → List (List ℕ)
 bodies texts = filter (λ text. not (length text == 0)) texts
 
 -- their frames, in order
-abbrev pub framed : List (List ℕ) → List ℕ
-framed texts = flat_map frame_of (bodies texts)
+abbrev pub frames_of_bodies : List (List ℕ) → List ℕ
+frames_of_bodies texts = flat_map frame_of (bodies texts)
 
 -- the line is a message and within the limit of a body
 pub record IsBody (limits : Settings) (text : List ℕ) : Type 0 where

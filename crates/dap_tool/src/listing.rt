@@ -6,8 +6,8 @@ ghost use Rattle.dap_frame.specs.Intake.{IsReady, IsUnderWay};
 ghost use Rattle.dap_message.specs.Heading.{IsHeadingOf};
 ghost use Rattle.dap_message.specs.Meaning.{Msg};
 ghost use Rattle.dap_message.specs.declared.message.Message.{Message};
-ghost use Rattle.dap_tool.specs.Listing.{Shows, shown, shown_byte, outcome_text, line_of_message};
-ghost use Rattle.dap_tool.specs.ShowSteps.{kind_words, IsUnread, ListedBefore, ListedTo};
+ghost use Rattle.dap_tool.specs.Listing.{Shows, shown_text, shown_byte, outcome_text, line_of_message};
+ghost use Rattle.dap_tool.specs.PrivateShowSteps.{kind_words, IsUnread, ListedBefore, ListedTo};
 
 use dap_frame::{End, FrameFault, Frames, Limits};
 use dap_message::{
@@ -48,7 +48,7 @@ fn shown_as(byte: u8) -> u8
 }
 
 fn push_shown(line: &mut Vec<u8>, text: &[u8]) -> Result<(), AllocError>
-    ensures { OnOk result (line.new.items ≡ line.old.items ++ shown text.now) }
+    ensures { OnOk result (line.new.items ≡ line.old.items ++ shown_text text.now) }
 {
     for byte in text {
         line.push(shown_as(*byte))?;

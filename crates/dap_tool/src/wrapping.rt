@@ -5,9 +5,9 @@ ghost use Rattle.std.specs.Str.Lines.{lines};
 ghost use Rattle.dap_frame.specs.Written.{frame_of};
 ghost use Rattle.dap_message.specs.Meaning.{Msg};
 ghost use Rattle.dap_message.specs.declared.message.Message.{Message};
-ghost use Rattle.dap_tool.specs.ShowSteps.{IsUnread};
+ghost use Rattle.dap_tool.specs.PrivateShowSteps.{IsUnread};
 ghost use Rattle.dap_tool.specs.declared.wrapping.WrapFault.{WrapFault};
-ghost use Rattle.dap_tool.specs.Wrapping.{IsBody, AreBodies, framed, Refuses, FirstRefused};
+ghost use Rattle.dap_tool.specs.Wrapping.{IsBody, AreBodies, frames_of_bodies, Refuses, FirstRefused};
 
 use dap_check::split_line;
 use dap_frame::{Limits, write_frame};
@@ -87,7 +87,7 @@ fn wrap_line(
 /// The first line that is no message, or is longer than a body may be, is told. At a fault there are no frames.
 pub fn wrap(alloc: Global, bytes: &[u8], limits: Limits) -> Result<Vec<u8>, WrapFault>
     ensures accepted { OnOk result (AreBodies limits (lines bytes.now)) }
-    ensures frames { IfOk result (λ out. out.items ≡ framed (lines bytes.now)) }
+    ensures frames { IfOk result (λ out. out.items ≡ frames_of_bodies (lines bytes.now)) }
     ensures refused { IfErr result (FirstRefused limits (lines bytes.now)) }
 
     // And the other way, unless memory runs out.

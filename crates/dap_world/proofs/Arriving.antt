@@ -8,7 +8,7 @@ use Rattle.dap_check.specs.declared.line.Side.{Side}
 use Rattle.dap_check.specs.declared.line.Side.TheVariants.{Client, Adapter}
 use Rattle.dap_debuggee.specs.Shown.{Shown}
 use Rattle.dap_session.specs.Carried.{Goes}
-use Rattle.dap_session.specs.Seat.{Seat}
+use Rattle.dap_session.specs.SessionState.{SessionState}
 use Rattle.dap_client.specs.Sending.{next_message, after_send}
 use Rattle.dap_client.specs.Session.{Session as ClientSession}
 use Rattle.dap_world.specs.World.{World, Said, said_by, messages_of, client_said, adapter_said, Step, by_sending, by_coming_up, by_coming_down, by_turning, by_polling, Schedule, starts, goes}
@@ -33,7 +33,7 @@ module _ {D : Type 0} (limits : Settings) where
   by-client : (session : ClientSession) (ms : List Message) (w : World D) → AllArrive limits w → AllReadBack limits.body ms → AllArrive limits (client_said session ms w)
   by-client session ms w a h = record { up = all-append (ReadsBack limits.body) w.up ms a.up h; down = a.down; said = said-more limits.body w.said Client ms a.said h }
 
-  by-adapter : (seat : Seat D) (ms : List Message) (w : World D) → AllArrive limits w → AllReadBack limits.body ms → AllArrive limits (adapter_said seat ms w)
+  by-adapter : (seat : SessionState D) (ms : List Message) (w : World D) → AllArrive limits w → AllReadBack limits.body ms → AllArrive limits (adapter_said seat ms w)
   by-adapter seat ms w a h = record { up = a.up; down = all-append (ReadsBack limits.body) w.down ms a.down h; said = said-more limits.body w.said Adapter ms a.said h }
 
   later-up : (w : World D) (m : Message) (later : List Message) → w.up ≡ m ∷ later → AllArrive limits w → AllArrive limits (record w { up = later })

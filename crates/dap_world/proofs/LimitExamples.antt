@@ -15,9 +15,9 @@ use Rattle.dap_debuggee.specs.Shown.{Shown, Act, to_start, to_resume, to_pause, 
 use Rattle.dap_debuggee.specs.declared.answers.Happening.TheVariants as happening
 use Rattle.dap_debuggee.specs.declared.answers.State.{State}
 use Rattle.dap_debuggee.specs.declared.answers.State.TheVariants.{NotStarted, Running, Stopped, Gone}
-use Rattle.dap_session.specs.Bodies.{telling}
+use Rattle.dap_session.specs.Bodies.{query_result}
 use Rattle.dap_session.specs.Handling.{plan_for}
-use Rattle.dap_session.specs.Polling.{saw}
+use Rattle.dap_session.specs.Polling.{after_happening}
 use Rattle.dap_client.specs.Taking.{takes as client_takes}
 use Rattle.dap_client.specs.declared.fault.ClientFault.TheVariants.{ReferenceLimit}
 use Rattle.dap_world.specs.World.{World, fresh_world, starts}
@@ -155,16 +155,16 @@ x30 = turned shows replies x29
 -- It knows a reference of the stop before, and none is live at the adapter: the answer to `next` came when it stood in the
 -- second stop, and so did not end what it knew.
 knows_one : (length x26.client.seen.known ≡ 1) × (x26.adapter.session.references.live ≡ [])
-unfolding canon tree_of request_members response_members event_members initialize_members stack_trace_members escape_byte digits plan_for initialize_of thread_of stack_trace_of telling json_of is_utf8 chars serde_json_on_literals saw replies shows
+unfolding canon tree_of request_members response_members event_members initialize_members stack_trace_members escape_byte digits plan_for initialize_of thread_of stack_trace_of query_result json_of is_utf8 chars serde_json_on_literals after_happening replies shows
 knows_one = (refl, refl)
 
 too_many : (length x30.down ≡ 1) × (client_takes (first_message x30.down) x30.client ≡ Err ReferenceLimit)
-unfolding canon tree_of request_members response_members event_members initialize_members stack_trace_members escape_byte digits plan_for initialize_of thread_of stack_trace_of telling json_of is_utf8 chars serde_json_on_literals saw replies shows
+unfolding canon tree_of request_members response_members event_members initialize_members stack_trace_members escape_byte digits plan_for initialize_of thread_of stack_trace_of query_result json_of is_utf8 chars serde_json_on_literals after_happening replies shows
 too_many = (refl, refl)
 
 -- it is a schedule, where what is written is read back
 begins_so : Leads shows replies one_reference NotStarted x8
-unfolding canon tree_of request_members response_members event_members initialize_members stack_trace_members escape_byte digits plan_for initialize_of thread_of stack_trace_of telling json_of is_utf8 chars serde_json_on_literals saw replies shows
+unfolding canon tree_of request_members response_members event_members initialize_members stack_trace_members escape_byte digits plan_for initialize_of thread_of stack_trace_of query_result json_of is_utf8 chars serde_json_on_literals after_happening replies shows
 begins_so =
     turns_once shows replies one_reference NotStarted x7 _ refl refl
     (comes_up shows replies one_reference NotStarted x6 _ _ _ refl refl refl
@@ -176,7 +176,7 @@ begins_so =
     (sends shows replies one_reference NotStarted initialize x0 refl refl refl (λ h. starts))))))))
 
 stops_so : Leads shows replies one_reference NotStarted x15
-unfolding canon tree_of request_members response_members event_members initialize_members stack_trace_members escape_byte digits plan_for initialize_of thread_of stack_trace_of telling json_of is_utf8 chars serde_json_on_literals saw replies shows
+unfolding canon tree_of request_members response_members event_members initialize_members stack_trace_members escape_byte digits plan_for initialize_of thread_of stack_trace_of query_result json_of is_utf8 chars serde_json_on_literals after_happening replies shows
 stops_so =
     comes_down shows replies one_reference NotStarted x14 _ _ _ refl refl refl
     (polls_once shows replies one_reference NotStarted x13 (omega arith) refl
@@ -187,7 +187,7 @@ stops_so =
     (sends shows replies one_reference NotStarted call.ConfigurationDone x8 refl refl refl begins_so))))))
 
 asks_so : Leads shows replies one_reference NotStarted x21
-unfolding canon tree_of request_members response_members event_members initialize_members stack_trace_members escape_byte digits plan_for initialize_of thread_of stack_trace_of telling json_of is_utf8 chars serde_json_on_literals saw replies shows
+unfolding canon tree_of request_members response_members event_members initialize_members stack_trace_members escape_byte digits plan_for initialize_of thread_of stack_trace_of query_result json_of is_utf8 chars serde_json_on_literals after_happening replies shows
 asks_so =
     comes_down shows replies one_reference NotStarted x20 _ _ _ refl refl refl
     (polls_once shows replies one_reference NotStarted x19 (omega arith) refl
@@ -197,7 +197,7 @@ asks_so =
     (sends shows replies one_reference NotStarted stack_trace x15 refl refl refl stops_so)))))
 
 goes_so : Leads shows replies one_reference NotStarted x27
-unfolding canon tree_of request_members response_members event_members initialize_members stack_trace_members escape_byte digits plan_for initialize_of thread_of stack_trace_of telling json_of is_utf8 chars serde_json_on_literals saw replies shows
+unfolding canon tree_of request_members response_members event_members initialize_members stack_trace_members escape_byte digits plan_for initialize_of thread_of stack_trace_of query_result json_of is_utf8 chars serde_json_on_literals after_happening replies shows
 goes_so =
     comes_down shows replies one_reference NotStarted x26 _ _ _ refl refl refl
     (polls_once shows replies one_reference NotStarted x25 (omega arith) refl
@@ -207,7 +207,7 @@ goes_so =
     (turns_once shows replies one_reference NotStarted x21 _ refl refl asks_so)))))
 
 leads_there : Leads shows replies one_reference NotStarted x30
-unfolding canon tree_of request_members response_members event_members initialize_members stack_trace_members escape_byte digits plan_for initialize_of thread_of stack_trace_of telling json_of is_utf8 chars serde_json_on_literals saw replies shows
+unfolding canon tree_of request_members response_members event_members initialize_members stack_trace_members escape_byte digits plan_for initialize_of thread_of stack_trace_of query_result json_of is_utf8 chars serde_json_on_literals after_happening replies shows
 leads_there =
     turns_once shows replies one_reference NotStarted x29 _ refl refl
     (comes_up shows replies one_reference NotStarted x28 _ _ _ refl refl refl

@@ -15,9 +15,9 @@ use Rattle.dap_check.specs.declared.line.Side.TheVariants.{Client, Adapter}
 use Rattle.dap_session.specs.declared.fault.AdapterFault.{AdapterFault}
 use Rattle.dap_session.specs.Carried.{Goes, CarriedOut}
 use Rattle.dap_session.specs.Handling.{turns}
-use Rattle.dap_session.specs.Plan.{Made, Plan, at_once, asking, numbered}
+use Rattle.dap_session.specs.Plan.{Made, Plan, at_once, asking, numbered_messages}
 use Rattle.dap_session.specs.Polling.{polls}
-use Rattle.dap_session.specs.Seat.{Seat}
+use Rattle.dap_session.specs.SessionState.{SessionState}
 use Rattle.dap_session.specs.Taking.{takes}
 use Rattle.dap_client.specs.declared.fault.ClientFault.{ClientFault}
 use Rattle.dap_client.specs.Sending.{first_of, refusals_in_order, next_message, after_send}
@@ -61,9 +61,9 @@ abbrev pub sent : {D : Type 0} → Call → World D → World D
 sent c w = client_said (after_send c w.client) (next_message w.client c ∷ []) w
 
 abbrev pub out_of : {D : Type 0} → Replies D → Plan → World D → List Message
-out_of replies plan w = numbered w.adapter.session.used (made_by replies plan w.adapter.debuggee).drafts
+out_of replies plan w = numbered_messages w.adapter.session.used (made_by replies plan w.adapter.debuggee).drafts
 
-abbrev pub seat_after : {D : Type 0} → Replies D → Plan → World D → Seat D
+abbrev pub seat_after : {D : Type 0} → Replies D → Plan → World D → SessionState D
 seat_after replies plan w = record { session = (made_by replies plan w.adapter.debuggee).after; debuggee = left_by replies plan w.adapter.debuggee }
 
 abbrev pub spoke : {D : Type 0} → Replies D → Plan → World D → World D

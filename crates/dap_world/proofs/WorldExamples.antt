@@ -10,11 +10,11 @@ use Rattle.dap_message.specs.Call.{initialize_of, cancel_of}
 use Rattle.dap_message.specs.CallTree.{initialize_members}
 use Rattle.dap_message.specs.Canon.{canon, tree_of, request_members, response_members, event_members}
 use Rattle.dap_message.specs.Types.Call.TheVariants as call
-use Rattle.dap_debuggee.specs.Played.{Played, unplayed, shown_of}
+use Rattle.dap_debuggee.specs.Played.{Played, fresh_played, shown_of}
 use Rattle.dap_debuggee.specs.Shown.{Shown}
 use Rattle.dap_debuggee.specs.declared.recording.Recording.{Recording}
 use Rattle.dap_session.specs.declared.fault.AdapterFault.TheVariants.{SeqExhausted}
-use Rattle.dap_session.specs.Bodies.{telling}
+use Rattle.dap_session.specs.Bodies.{query_result}
 use Rattle.dap_session.specs.Handling.{plan_for, turns}
 use Rattle.dap_session.specs.Taking.{takes}
 use Rattle.dap_tables.specs.Outstanding.{parked_ones}
@@ -82,27 +82,27 @@ module _ {D : Type 0} (shown : D → Shown) (replies : Replies D) (d : D) where
       ∷ codes "{\"body\":{\"error\":{\"format\":\"The request was cancelled.\",\"id\":1012}},\"command\":\"launch\",\"message\":\"cancelled\",\"request_seq\":2,\"seq\":3,\"success\":false,\"type\":\"response\"}"
       ∷ codes "{\"command\":\"disconnect\",\"request_seq\":3,\"seq\":4,\"success\":true,\"type\":\"response\"}"
       ∷ []
-  unfolding canon tree_of request_members response_members event_members initialize_members escape_byte digits plan_for initialize_of cancel_of telling json_of is_utf8 chars serde_json_on_literals
+  unfolding canon tree_of request_members response_members event_members initialize_members escape_byte digits plan_for initialize_of cancel_of query_result json_of is_utf8 chars serde_json_on_literals
   lines = refl
 
   -- after the turn that parks it, the launch alone is outstanding, and nothing is under way
   parked_alone : (names_of w8.client.outstanding ≡ names_of w8.adapter.session.kept) × (length (parked_ones w8.adapter.session.kept) ≡ 1) × (length w8.client.outstanding ≡ 1) × (w8.up ≡ []) × (w8.down ≡ [])
-  unfolding canon tree_of request_members response_members event_members initialize_members escape_byte digits plan_for initialize_of cancel_of telling json_of is_utf8 chars serde_json_on_literals
+  unfolding canon tree_of request_members response_members event_members initialize_members escape_byte digits plan_for initialize_of cancel_of query_result json_of is_utf8 chars serde_json_on_literals
   parked_alone = (refl, refl, refl, refl, refl)
 
   -- two are outstanding: one is kept, and the other is under way up
   one_each : (length w9.client.outstanding ≡ 2) × (length w9.adapter.session.kept ≡ 1) × (length (asked_in w9.up) ≡ 1)
-  unfolding canon tree_of request_members response_members event_members initialize_members escape_byte digits plan_for initialize_of cancel_of telling json_of is_utf8 chars serde_json_on_literals
+  unfolding canon tree_of request_members response_members event_members initialize_members escape_byte digits plan_for initialize_of cancel_of query_result json_of is_utf8 chars serde_json_on_literals
   one_each = (refl, refl, refl)
 
   -- then both responses are under way down, and in the end none is outstanding
   both_answered : (length (answered_in w11.down) ≡ 2) × (w11.adapter.session.kept ≡ []) × (length w11.client.outstanding ≡ 2) × (w13.client.outstanding ≡ [])
-  unfolding canon tree_of request_members response_members event_members initialize_members escape_byte digits plan_for initialize_of cancel_of telling json_of is_utf8 chars serde_json_on_literals
+  unfolding canon tree_of request_members response_members event_members initialize_members escape_byte digits plan_for initialize_of cancel_of query_result json_of is_utf8 chars serde_json_on_literals
   both_answered = (refl, refl, refl, refl)
 
   -- it is a schedule, where what is written is read back
   begun : Leads shown replies usual_settings d w5
-  unfolding canon tree_of request_members response_members event_members initialize_members escape_byte digits plan_for initialize_of cancel_of telling json_of is_utf8 chars serde_json_on_literals
+  unfolding canon tree_of request_members response_members event_members initialize_members escape_byte digits plan_for initialize_of cancel_of query_result json_of is_utf8 chars serde_json_on_literals
   begun =
       comes_down shown replies usual_settings d w4 _ _ _ refl refl refl
       (comes_down shown replies usual_settings d w3 _ _ _ refl refl refl
@@ -111,7 +111,7 @@ module _ {D : Type 0} (shown : D → Shown) (replies : Replies D) (d : D) where
       (sends shown replies usual_settings d initialize w0 refl refl refl (λ h. starts)))))
 
   whole_schedule : Leads shown replies usual_settings d w13
-  unfolding canon tree_of request_members response_members event_members initialize_members escape_byte digits plan_for initialize_of cancel_of telling json_of is_utf8 chars serde_json_on_literals
+  unfolding canon tree_of request_members response_members event_members initialize_members escape_byte digits plan_for initialize_of cancel_of query_result json_of is_utf8 chars serde_json_on_literals
   whole_schedule =
       comes_down shown replies usual_settings d w12 _ _ _ refl refl refl
       (comes_down shown replies usual_settings d w11 _ _ _ refl refl refl
@@ -129,7 +129,7 @@ nothing_recorded = record { exit = pos 0; sources = []; moments = []; scopes = [
 
 module _ (replies : Replies Played) where
   abbrev v0 : World Played
-  v0 = fresh_world usual_settings (unplayed nothing_recorded)
+  v0 = fresh_world usual_settings (fresh_played nothing_recorded)
 
   abbrev v1 : World Played
   v1 = sent initialize v0
@@ -187,18 +187,18 @@ module _ (replies : Replies Played) where
       ∷ codes "{\"command\":\"cancel\",\"request_seq\":4,\"seq\":4,\"success\":true,\"type\":\"response\"}"
       ∷ codes "{\"body\":{\"threads\":[]},\"command\":\"threads\",\"request_seq\":3,\"seq\":5,\"success\":true,\"type\":\"response\"}"
       ∷ []
-  unfolding canon tree_of request_members response_members event_members initialize_members escape_byte digits plan_for initialize_of cancel_of telling json_of is_utf8 chars serde_json_on_literals
+  unfolding canon tree_of request_members response_members event_members initialize_members escape_byte digits plan_for initialize_of cancel_of query_result json_of is_utf8 chars serde_json_on_literals
   nine_lines = refl
 
   -- of three outstanding requests one is kept, and two are answered under way down
   three_places : (length v11.client.outstanding ≡ 3) × (v11.up ≡ []) × (length v11.adapter.session.kept ≡ 1) × (length (answered_in v11.down) ≡ 2) × (v15.client.outstanding ≡ [])
-  unfolding canon tree_of request_members response_members event_members initialize_members escape_byte digits plan_for initialize_of cancel_of telling json_of is_utf8 chars serde_json_on_literals
+  unfolding canon tree_of request_members response_members event_members initialize_members escape_byte digits plan_for initialize_of cancel_of query_result json_of is_utf8 chars serde_json_on_literals
   three_places = (refl, refl, refl, refl, refl)
 
-  nine_lines_lead : Leads shown_of replies usual_settings (unplayed nothing_recorded) v15
-  unfolding canon tree_of request_members response_members event_members initialize_members escape_byte digits plan_for initialize_of cancel_of telling json_of is_utf8 chars serde_json_on_literals
+  nine_lines_lead : Leads shown_of replies usual_settings (fresh_played nothing_recorded) v15
+  unfolding canon tree_of request_members response_members event_members initialize_members escape_byte digits plan_for initialize_of cancel_of query_result json_of is_utf8 chars serde_json_on_literals
   nine_lines_lead =
-      let d = unplayed nothing_recorded in
+      let d = fresh_played nothing_recorded in
       comes_down shown_of replies usual_settings d v14 _ _ _ refl refl refl
       (turns_once shown_of replies usual_settings d v13 _ refl refl
       (comes_down shown_of replies usual_settings d v12 _ _ _ refl refl refl
@@ -221,7 +221,7 @@ module _ {D : Type 0} (shown : D → Shown) (replies : Replies D) (d : D) where
   u2 = up replies (sent initialize (fresh_world (with_numbers 1) d))
 
   no_turn : turns (shown u2.adapter.debuggee) u2.adapter.session ≡ Err SeqExhausted
-  unfolding canon tree_of request_members response_members event_members initialize_members escape_byte digits plan_for initialize_of cancel_of telling json_of is_utf8 chars serde_json_on_literals
+  unfolding canon tree_of request_members response_members event_members initialize_members escape_byte digits plan_for initialize_of cancel_of query_result json_of is_utf8 chars serde_json_on_literals
   no_turn = refl
 
   abbrev t5 : World D
@@ -231,5 +231,5 @@ module _ {D : Type 0} (shown : D → Shown) (replies : Replies D) (d : D) where
   t8 = sent (call.Cancel (Some 2)) (up replies (sent call.Threads t5))
 
   no_cancel : (length t8.up ≡ 1) × (takes (first_message t8.up) t8.adapter.session ≡ Err SeqExhausted)
-  unfolding canon tree_of request_members response_members event_members initialize_members escape_byte digits plan_for initialize_of cancel_of telling json_of is_utf8 chars serde_json_on_literals
+  unfolding canon tree_of request_members response_members event_members initialize_members escape_byte digits plan_for initialize_of cancel_of query_result json_of is_utf8 chars serde_json_on_literals
   no_cancel = (refl, refl)

@@ -1,7 +1,7 @@
 //! The references that bodies give, gathered beside the heading with no tree.
 
 use crate::checks::check;
-use dap_message::{Command, Given, Scratch, read_heading_and_given};
+use dap_message::{Command, GatheredReferences, Scratch, read_heading_and_references};
 
 /// Bodies that are read one after another, and the frames that each gives.
 static FRAMES: [(&str, &[u64]); 4] = [
@@ -24,14 +24,14 @@ static FRAMES: [(&str, &[u64]); 4] = [
 ];
 
 /// Whether a body is read.
-fn is_read(scratch: &mut Scratch, given: &mut Given, body: &str) -> bool {
-    read_heading_and_given(scratch, given, body.as_bytes()).is_some()
+fn is_read(scratch: &mut Scratch, given: &mut GatheredReferences, body: &str) -> bool {
+    read_heading_and_references(scratch, given, body.as_bytes()).is_some()
 }
 
 #[test]
 fn gathers_frames(rt: HostRuntime) {
     let mut scratch = Scratch::new(rt.alloc());
-    let mut given = Given::new(rt.alloc());
+    let mut given = GatheredReferences::new(rt.alloc());
     for (body, frames) in &FRAMES {
         check(&rt, is_read(&mut scratch, &mut given, body), *body);
         check(&rt, given.frames() == *frames, *body);
@@ -52,7 +52,7 @@ static HOLDERS: [(Command, &[u64]); 5] = [
 #[test]
 fn gathers_holders(rt: HostRuntime) {
     let mut scratch = Scratch::new(rt.alloc());
-    let mut given = Given::new(rt.alloc());
+    let mut given = GatheredReferences::new(rt.alloc());
     let body =
         "{\"body\":{\"scopes\":[{\"variablesReference\":2},{\"variablesReference\":0}],\"variables\":[{\"name\":\"a\",\"value\":\"\\\"\",\"variablesReference\":2147483647},{\"variablesReference\":2147483648},{\"variablesReference\":3}],\"variablesReference\":7},\"command\":\"scopes\",\"type\":\"response\",\"seq\":1,\"request_seq\":1,\"success\":true}";
     check(&rt, is_read(&mut scratch, &mut given, body), body);
@@ -81,7 +81,7 @@ static ODD: [&str; 9] = [
 #[test]
 fn tells_nothing_of_odd_bodies(rt: HostRuntime) {
     let mut scratch = Scratch::new(rt.alloc());
-    let mut given = Given::new(rt.alloc());
+    let mut given = GatheredReferences::new(rt.alloc());
     for body in &ODD {
         check(&rt, !is_read(&mut scratch, &mut given, body), *body);
     }

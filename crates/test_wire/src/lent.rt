@@ -2,7 +2,7 @@
 
 use crate::checks::check;
 use crate::messages::{is_written, nested};
-use dap_json::skim::{Scratch, Skim, Skimmed};
+use dap_json::object_reader::{MemberValue, ObjectReader, Scratch};
 use dap_json::{Tree, write};
 use dap_message::{BodyFault, BodyRefusal, read_message_with};
 use std::alloc::Global;
@@ -130,12 +130,13 @@ fn is_tree(alloc: Global, tree: &Tree, wanted: &[u8]) -> bool {
     }
 }
 
-fn gives(alloc: Global, skim: &mut Skim<'_>, step: &Step) -> bool {
+fn gives(alloc: Global, object_reader: &mut ObjectReader<'_>, step: &Step) -> bool {
     match step {
-        Step::Key(key) => matches!(skim.next_key(), Ok(found) if found == *key),
-        Step::Whole(n) => matches!(skim.pass(), Ok(Skimmed::Whole(found)) if found == *n),
-        Step::Other => matches!(skim.pass(), Ok(Skimmed::Other)),
-        Step::Tree(text) => match skim.tree(alloc) {
+        Step::Key(key) => matches!(object_reader.next_key(), Ok(found) if found == *key),
+        Step::Whole(n) =>
+            matches!(object_reader.pass(), Ok(MemberValue::Whole(found)) if found == *n),
+        Step::Other => matches!(object_reader.pass(), Ok(MemberValue::Other)),
+        Step::Tree(text) => match object_reader.tree(alloc) {
             Ok(tree) => {
                 let is_so = is_tree(alloc, &tree, text);
                 drop(tree);
@@ -143,8 +144,8 @@ fn gives(alloc: Global, skim: &mut Skim<'_>, step: &Step) -> bool {
             }
             Err(_) => false,
         },
-        Step::Member(key, value) => match skim.next() {
-            Ok(Some((found, Skimmed::Text(text)))) => found == *key && text == *value,
+        Step::Member(key, value) => match object_reader.next() {
+            Ok(Some((found, MemberValue::Text(text)))) => found == *key && text == *value,
             _ => false,
         },
     }
@@ -154,10 +155,10 @@ fn gives(alloc: Global, skim: &mut Skim<'_>, step: &Step) -> bool {
 fn gives_trees_of_members(rt: HostRuntime) {
     let text = b"{\"a\":1,\"b\":[1,{\"d\":-2,\"c\":\"\\u0041\"}],\"e\":{\"f\":[]},\"g\":\"x\"}";
     let mut scratch = Scratch::new(rt.alloc());
-    match Skim::open(text, &mut scratch) {
-        Ok(mut skim) => {
+    match ObjectReader::open(text, &mut scratch) {
+        Ok(mut object_reader) => {
             for (place, step) in STEPS.iter().enumerate() {
-                check(&rt, gives(rt.alloc(), &mut skim, step), place);
+                check(&rt, gives(rt.alloc(), &mut object_reader, step), place);
             }
         }
         Err(_) => check(&rt, false, "no object"),
@@ -167,9 +168,9 @@ fn gives_trees_of_members(rt: HostRuntime) {
 
 /// Whether the first member of an object, which is `a`, is given as a tree.
 fn fits(alloc: Global, scratch: &mut Scratch, text: &str) -> Option<bool> {
-    match Skim::open(text.as_bytes(), scratch) {
-        Ok(mut skim) => match skim.next_key() {
-            Ok(Some("a")) => Some(skim.tree(alloc).is_ok()),
+    match ObjectReader::open(text.as_bytes(), scratch) {
+        Ok(mut object_reader) => match object_reader.next_key() {
+            Ok(Some("a")) => Some(object_reader.tree(alloc).is_ok()),
             _ => None,
         },
         Err(_) => None,

@@ -4,7 +4,7 @@ use crate::checks::check;
 use crate::frames::limits;
 use dap_frame::{End, FrameFault, Refusal};
 use dap_message::BodyRefusal;
-use dap_reader::{MessageReader, Next, ReadFault};
+use dap_reader::{MessageReader, ReadFault};
 use std::alloc::Global;
 
 /// Three messages, which have 1, 2 and 3 as their `seq`, in frames of 53 bytes.
@@ -26,22 +26,22 @@ struct Seen {
 /// Reads a piece up to a refusal.
 fn read_piece(alloc: Global, reader: &mut MessageReader, piece: &[u8], seen: &mut Seen) {
     let mut rest = piece;
-    for _ in 0..piece.len() {
-        if rest.is_empty() || seen.fault.is_some() {
-            break;
-        }
-        match reader.next(alloc, rest) {
-            Ok(Next { used, message }) => {
-                if let Some(message) = message {
-                    seen.messages = seen.messages.saturating_add(1);
-                    seen.in_order = seen.in_order && message.seq == seen.messages;
-                }
-                seen.used = seen.used.saturating_add(used);
-                rest = rest.split_at(used).1;
+    for _ in 0..=piece.len() {
+        match reader.next_in(alloc, &mut rest) {
+            Ok(Some(message)) => {
+                seen.messages = seen.messages.saturating_add(1);
+                seen.in_order = seen.in_order && message.seq == seen.messages;
             }
-            Err(fault) => seen.fault = Some(fault),
+            Ok(None) => break,
+            Err(fault) => {
+                seen.fault = Some(fault);
+                break;
+            }
         }
     }
+    seen.used = seen
+        .used
+        .saturating_add(piece.len().saturating_sub(rest.len()));
 }
 
 /// Reads a stream in pieces of a size; none where memory is refused.

@@ -1,7 +1,7 @@
 use Rattle.std.proofs.Common.{◌≡◌, ◌∙◌, ◌++◌, ap}
 use Rattle.serde_json.proofs.Texts.{print-outline}
 use Rattle.dap_body.specs.Body.{data_of}
-use Rattle.dap_body.specs.Text.{tokens_of}
+use Rattle.dap_body.specs.PrivateText.{tokens_of}
 use Rattle.dap_body.proofs.body.body_text.Goals as goal
 
 pub returns-clause-text : goal.returns-clause-text

@@ -1,6 +1,6 @@
 use Rattle.std.proofs.Common.{◌≡◌, ℕ, List, max, drop, unwrap_or}
 use Rattle.std.specs.BTreeMap.{get_by_text}
-use Rattle.dap_debuggee.specs.Held.{most_lines}
+use Rattle.dap_debuggee.specs.PrivateHeld.{most_lines}
 use Rattle.dap_debuggee.proofs.paths.of_sources.Given as goal
 
 -- the most lines so far, or of what is left

@@ -1,5 +1,5 @@
 use Rattle.std.proofs.Common.{◌≡◌, drop}
-use Rattle.dap_debuggee.specs.Held.{thread_with}
+use Rattle.dap_debuggee.specs.PrivateHeld.{thread_with}
 use Rattle.dap_debuggee.proofs.queries.thread_of.Given as goal
 
 -- the thread stands in what is left

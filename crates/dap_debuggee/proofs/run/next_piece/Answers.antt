@@ -2,7 +2,7 @@ use Rattle.std.proofs.Common.{◌≡◌, ◌≤◌, ◌-◌, ◌+◌, length, ta
 use Rattle.std.specs.List.{slice_get}
 use Rattle.std.specs.Str.{IsCharBoundary}
 use Rattle.std.proofs.lemmas.Option.{slice_get_read}
-use Rattle.dap_debuggee.specs.Held.{output_left, output_in}
+use Rattle.dap_debuggee.specs.PrivateHeld.{output_left, output_in}
 use Rattle.dap_debuggee.specs.Played.{piece_length}
 use Rattle.dap_debuggee.proofs.Outputs.{ready_told, told_piece, told_whole, output_is}
 use Rattle.dap_debuggee.proofs.run.next_piece.Goals as goal

@@ -1,12 +1,12 @@
 use Rattle.std.proofs.Common.{◌≡◌, ◌-◌, length, Some}
-use Rattle.dap_debuggee.specs.Held.{output_left, IsToldWhole}
+use Rattle.dap_debuggee.specs.PrivateHeld.{output_left, IsOutputWhole}
 use Rattle.dap_debuggee.specs.Played.{first_piece}
 use Rattle.dap_debuggee.proofs.run.skipped.Given as goal
 
 -- what was passed gives no piece
 abbrev pub invariant-loop-going : goal.invariant-loop-going
 invariant-loop-going l =
-    IsToldWhole l.moments (Some l.going)
+    IsOutputWhole l.moments (Some l.going)
     × (first_piece (output_left l.moments l.going) ≡ first_piece (output_left l.moments l.fn.going))
     × (l.going.to ≡ l.fn.going.to) × (l.going.paused ≡ l.fn.going.paused)
 

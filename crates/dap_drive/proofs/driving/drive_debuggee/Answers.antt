@@ -1,4 +1,5 @@
 use Rattle.std.proofs.Common.{refl, sym, ap, ◌∙◌, arith}
+use Rattle.dap_drive.specs.PrivateHeld.{driven_by, both_of}
 use Rattle.dap_drive.proofs.Doing.{no_items}
 use Rattle.dap_drive.proofs.Scripting.{part_way_begins, part_way_on, part_way_stops, part_way_done}
 use Rattle.dap_drive.proofs.driving.drive_debuggee.Goals as goal
@@ -7,23 +8,23 @@ pub loop-rest-init : goal.loop-rest-init
 loop-rest-init g c = record {
   reading = c.in_ok-drive.ensures.reading;
   within = omega arith;
-  part = part_way_begins g.D.Debuggee.shown g.D.Debuggee.follows c.args.limits c.args.debuggee c.args.script.now c.in_ok-drive.drive.client c.in_ok-drive.drive.adapter c.in_ok-drive.drive.reader c.in_ok-drive.drive.transcript.items c.in_ok-drive.ensures.fresh;
+  part = part_way_begins (driven_by g.D.Debuggee.shown g.D.Debuggee.follows c.args.limits c.args.debuggee) c.args.script.now (both_of c.in_ok-drive.drive) c.in_ok-drive.ensures.fresh;
 }
 
 pub loop-rest-preserved : goal.loop-rest-preserved
 loop-rest-preserved g c = record {
   reading = c.in-Ok.ensures.reading;
   within = omega (arith, c.loop-rest.invariant.within, c.split_line.ensures.shorter);
-  part = part_way_on g.D.Debuggee.shown g.D.Debuggee.follows c.args.limits c.args.debuggee c.args.script.now c.loop-rest.rest.now c.split_line.result.1.now c.split_line.result.0.now c.loop-rest.number c.loop-rest.drive.client c.do_line.new.drive.client c.loop-rest.drive.adapter c.do_line.new.drive.adapter c.loop-rest.drive.reader c.do_line.new.drive.reader c.loop-rest.drive.transcript.items c.do_line.new.drive.transcript.items
+  part = part_way_on (driven_by g.D.Debuggee.shown g.D.Debuggee.follows c.args.limits c.args.debuggee) c.args.script.now c.loop-rest.rest.now c.split_line.result.1.now c.split_line.result.0.now c.loop-rest.number (both_of c.loop-rest.drive) (both_of c.do_line.new.drive)
       c.split_line.ensures.lines c.loop-rest.invariant.part (c.in-Ok.ensures.ran c.args.limits c.args.debuggee c.loop-rest.invariant.part.before);
 }
 
 pub returns-in-Err-clause-stops : goal.returns-in-Err-clause-stops
 returns-in-Err-clause-stops g c =
-    part_way_stops g.D.Debuggee.shown g.D.Debuggee.follows c.args.limits c.args.debuggee c.args.script.now c.loop-rest.rest.now c.split_line.result.1.now c.split_line.result.0.now c.loop-rest.number c.in-Err.fault c.loop-rest.drive.client c.loop-rest.drive.adapter c.loop-rest.drive.reader c.loop-rest.drive.transcript.items
+    part_way_stops (driven_by g.D.Debuggee.shown g.D.Debuggee.follows c.args.limits c.args.debuggee) c.args.script.now c.loop-rest.rest.now c.split_line.result.1.now c.split_line.result.0.now c.loop-rest.number c.in-Err.fault (both_of c.loop-rest.drive)
     c.split_line.ensures.lines c.in-Err.ensures.bytes c.loop-rest.invariant.part (c.in-Err.ensures.stops c.args.limits c.args.debuggee)
 
 pub returns-clause-drives : goal.returns-clause-drives
 returns-clause-drives g c =
-    part_way_done g.D.Debuggee.shown g.D.Debuggee.follows c.args.limits c.args.debuggee c.each_schedule_agrees.ensures.agrees c.each_schedule_agrees.ensures.rules c.canonical_text_is_one_line.ensures c.args.script.now c.loop-rest.rest.now c.loop-rest.number c.loop-rest.drive.client c.loop-rest.drive.adapter c.loop-rest.drive.reader c.loop-rest.drive.transcript.items c.into_transcript.result.items
+    part_way_done (driven_by g.D.Debuggee.shown g.D.Debuggee.follows c.args.limits c.args.debuggee) c.each_schedule_agrees.ensures.agrees c.each_schedule_agrees.ensures.rules c.canonical_text_is_one_line.ensures c.args.script.now c.loop-rest.rest.now c.loop-rest.number (both_of c.loop-rest.drive) c.into_transcript.result.items
     (no_items c.loop-rest.rest.now _ refl (sym c.is_empty.ensures ∙ c.loop-rest-test.false)) (ap (λ (v : _). v.items) c.into_transcript.ensures) c.loop-rest.invariant.part

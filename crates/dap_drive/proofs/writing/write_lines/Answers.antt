@@ -1,7 +1,7 @@
 use Rattle.std.proofs.Common.{ℕ, ◌<◌, List, length, subst, arith}
 use Rattle.std.proofs.lemmas.List.{take_all}
 use Rattle.std.proofs.lemmas.Result.{err_from_is_err_and}
-use Rattle.dap_drive.specs.Lines.{WritesLines}
+use Rattle.dap_drive.specs.PrivateLines.{WritesLines}
 use Rattle.dap_drive.proofs.LinesWritten.{line_written, rest_unwritten}
 use Rattle.dap_drive.proofs.writing.write_lines.Goals as goal
 

@@ -1,7 +1,7 @@
 use Rattle.std.proofs.Common.{◌-◌, ◌≤◌, length, take}
 use Rattle.dap_frame.specs.Intake.{IsUnderWay}
 use Rattle.dap_frame.specs.Settings.{Settings}
-use Rattle.dap_drive.specs.Lines.{IsBetween, WritesLines}
+use Rattle.dap_drive.specs.PrivateLines.{IsBetween, WritesLines}
 use Rattle.dap_drive.proofs.writing.write_lines.Given as goal
 
 abbrev pub invariant-loop-at : goal.invariant-loop-at

@@ -1,6 +1,6 @@
 use Rattle.std.proofs.Common.{◌-◌, take, length, ap, sym, subst}
 use Rattle.dap_frame.specs.declared.frames.HeaderEnd.TheVariants.{Open, Whole, TooLong}
-use Rattle.dap_frame.specs.Steps.{EndsAs}
+use Rattle.dap_frame.specs.PrivateSteps.{EndsAs}
 use Rattle.dap_frame.proofs.Streams.{stays_open, too_long}
 use Rattle.dap_frame.proofs.frames.gather_header.Goals as goal
 

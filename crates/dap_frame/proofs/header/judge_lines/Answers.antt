@@ -1,5 +1,5 @@
 use Rattle.std.proofs.Common.{◌≡◌, true, false, sym, ◌∙◌, refl}
-use Rattle.dap_frame.specs.Given.{given_lists}
+use Rattle.dap_frame.specs.PrivateGivenLength.{given_lists}
 use Rattle.dap_frame.specs.Header.{gives_length}
 use Rattle.dap_frame.specs.Verdict.{is_field_line, field_of, lines}
 use Rattle.dap_frame.proofs.Judging.{step_other}

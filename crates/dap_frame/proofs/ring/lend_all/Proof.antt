@@ -47,7 +47,7 @@ use Rattle.circular_buffer.specs.Buffer.{Buffer, buffer}
 use Rattle.circular_buffer.specs.contracts.heap.HeapCircularBuffer.{the_row}
 use Rattle.circular_buffer.specs.contracts.heap.HeapCircularBuffer.make_contiguous as callee
 use Rattle.circular_buffer.proofs.heap.HeapCircularBuffer.make_contiguous.Met.{met}
-use Rattle.dap_frame.specs.RingLends.{StaysItems}
+use Rattle.dap_frame.specs.PrivateRingLends.{StaysItems}
 use Rattle.dap_frame.specs.contracts.ring.lend_all as f
 use Rattle.dap_frame.proofs.ring.lend_all.Statement.{statement}
 use Rattle.dap_frame.proofs.ring.lend_all.Code as code

@@ -2,7 +2,7 @@ use Rattle.std.proofs.Common.{◌≡◌, ◌-◌, length, Some, true, false, byt
 use Rattle.json.specs.Json.{read_key, value}
 use Rattle.json.proofs.Grammar.{read_key-shorter}
 use Rattle.serde_json.specs.Data.{no_members, put}
-use Rattle.dap_json.proofs.SkimLemmas.{member_read, members_over}
+use Rattle.dap_json.proofs.ObjectReaderLemmas.{member_read, members_over}
 use Rattle.dap_json.proofs.InsideLemmas.{noted_here, noted_before}
 use Rattle.dap_json.proofs.inside.number_at.Goals as goal
 

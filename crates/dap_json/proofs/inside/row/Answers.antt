@@ -5,7 +5,7 @@ use Rattle.json.specs.Reads.{token_of}
 use Rattle.json.proofs.Grammar.{value-begin_object}
 use Rattle.serde_json.specs.Data.{object}
 use Rattle.serde_json.specs.Read.{of_json, converted}
-use Rattle.dap_json.proofs.SkimLemmas.{converted-object}
+use Rattle.dap_json.proofs.ObjectReaderLemmas.{converted-object}
 use Rattle.dap_json.proofs.inside.row.Goals as goal
 
 pub returns-clause-ok : goal.returns-clause-ok

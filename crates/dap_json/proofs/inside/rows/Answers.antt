@@ -4,9 +4,9 @@ use Rattle.std.proofs.lemmas.List.{append-nil}
 use Rattle.json.specs.Json.{parse_map, after_end_array, value}
 use Rattle.serde_json.specs.Data.{no_items, item}
 use Rattle.dap_json.specs.Field.{whole_at}
-use Rattle.dap_json.specs.Inside.{within, numbers_in}
+use Rattle.dap_json.specs.Inside.{if_within, numbers_in}
 use Rattle.dap_json.proofs.InsideLemmas.{kept}
-use Rattle.dap_json.proofs.SkimLemmas.{item_read, items_over, one_more_item, none_before}
+use Rattle.dap_json.proofs.ObjectReaderLemmas.{item_read, items_over, one_more_item, none_before}
 use Rattle.dap_json.proofs.inside.rows.Goals as goal
 
 pub rows-init : goal.rows-init
@@ -28,13 +28,13 @@ rows-preserved c =
     let less : length r < length l.reader = rw (← going.1) done.shorter in
     let turn = item_read p n l.reader r d (omega (arith, l.invariant.1)) going.0 (rw (← going.1) done.ok.1) in
     let number : c.in_ok-number.number ≡ whole_at key d = done.ok.2 in
-    let more : c.keep.new.found.items ≡ l.found.items ++ cons_option (within least most (whole_at key d)) [] = c.in_ok-keep.ensures ∙ ap (λ x. l.found.items ++ cons_option (within least most x) []) number in (
+    let more : c.keep.new.found.items ≡ l.found.items ++ cons_option (if_within least most (whole_at key d)) [] = c.in_ok-keep.ensures ∙ ap (λ x. l.found.items ++ cons_option (if_within least most x) []) number in (
       n - 1,
       omega (arith, l.invariant.1),
       (
         λ ds. f (item d ds),
         l.invariant.2.1 ∙ ap (parse_map f) turn ∙ one_more_item f d _,
-        λ ds. l.invariant.2.2 (item d ds) ∙ sym (ap (λ xs. xs ++ numbers_in key least most ds) more ∙ kept l.found.items (within least most (whole_at key d)) (numbers_in key least most ds)),
+        λ ds. l.invariant.2.2 (item d ds) ∙ sym (ap (λ xs. xs ++ numbers_in key least most ds) more ∙ kept l.found.items (if_within least most (whole_at key d)) (numbers_in key least most ds)),
       ),
       omega (arith, l.invariant.3),
     )

@@ -7,7 +7,7 @@ use Rattle.serde_json.specs.View.{view, items_view, members_view}
 use Rattle.serde_json.specs.declared.value.Value.{the_lemmas}
 use Rattle.serde_json.proofs.Views.{Entry, view-Array, view-Object}
 use Rattle.dap_json.specs.Sound.{IsSound, HasSound}
-use Rattle.dap_json.specs.Walk.{members_writable}
+use Rattle.dap_json.specs.PrivateWalk.{members_writable}
 use Rattle.dap_json.specs.Writable.{is_writable}
 use Rattle.dap_json.proofs.WalkLemmas.{is_writable-array, is_writable-object}
 use Rattle.dap_json.proofs.SortedKeys.{IsBefore-members_view}

@@ -9,7 +9,7 @@ use Rattle.serde_json.specs.Read.{of_json, of_members, converted}
 use Rattle.serde_json.specs.View.{view, number_view, items_view, members_view}
 use Rattle.serde_json.specs.declared.value.Value.{String, Number, Bool, Null, the_lemmas}
 use Rattle.serde_json.proofs.Views.{view-Array, view-Object, members_view-insert_entry}
-use Rattle.dap_json.proofs.SkimLemmas.{converted-array, converted-object, item_read, items_over, member_read, members_over, none_before}
+use Rattle.dap_json.proofs.ObjectReaderLemmas.{converted-array, converted-object, item_read, items_over, member_read, members_over, none_before}
 use Rattle.dap_json.proofs.ReadingLemmas.{items_before, items_before-no_items, one_more_value}
 use Rattle.dap_json.proofs.reading.+read.Goals as goal
 

@@ -1,5 +1,5 @@
 use Rattle.std.proofs.Common.{◌≡◌, ◌∙◌, ◌++◌, append_assoc}
-use Rattle.dap_message.specs.Answering.{response_end}
+use Rattle.dap_message.specs.PrivateAnswering.{response_end}
 use Rattle.dap_message.proofs.answering.close_response.Goals as goal
 
 pub returns : goal.returns

@@ -2,7 +2,7 @@ use Rattle.std.proofs.Common.{◌≡◌, ◌∙◌, ◌++◌, ap, None, true}
 use Rattle.std.proofs.lemmas.Result.{IfOk-weaker}
 use Rattle.json.specs.Tree.{members_tokens}
 use Rattle.serde_json.specs.Written.{members_outline}
-use Rattle.dap_message.specs.Answering.{response_end}
+use Rattle.dap_message.specs.PrivateAnswering.{response_end}
 use Rattle.dap_message.specs.Canon.{response_members}
 use Rattle.dap_message.proofs.AnswerTexts.{print-members}
 use Rattle.dap_message.proofs.answering.close_success.Goals as goal

@@ -1,7 +1,7 @@
 use Rattle.std.proofs.Common.{◌∙◌, ℕ, List, subst, sym}
 use Rattle.std.proofs.lemmas.Result.{IfOk-weaker}
 use Rattle.dap_message.proofs.AnswerTexts.{canon-event}
-use Rattle.dap_message.specs.Lengths.{happened}
+use Rattle.dap_message.specs.AdapterMessages.{event_message}
 use Rattle.dap_message.specs.Meaning.{Msg}
 use Rattle.dap_message.proofs.ReadsBack.{happened-back}
 use Rattle.dap_message.proofs.answering.write_event.Goals as goal
@@ -11,5 +11,5 @@ returns-clause-canon c = IfOk-weaker c.close_event.result _ _ (λ text e. e ∙ 
 
 pub returns-clause-reads_back : goal.returns-clause-reads_back
 returns-clause-reads_back c = IfOk-weaker c.close_event.result _ _ (λ text is. λ fits.
-    subst (λ (b : List ℕ). Msg b (happened c.args.seq c.args.event.now c.args.body.now)) (sym is)
+    subst (λ (b : List ℕ). Msg b (event_message c.args.seq c.args.event.now c.args.body.now)) (sym is)
     (happened-back c.written_is_read_again.ensures c.args.seq c.args.event.now c.args.body.now c.requires c.utf8.event c.in_ok-out.ensures.sound fits)) (returns-clause-canon c)

@@ -3,9 +3,9 @@ use Rattle.std.proofs.lemmas.Result.{IfOk-weaker}
 use Rattle.json.specs.Tree.{members_tokens}
 use Rattle.serde_json.specs.Written.{members_outline}
 use Rattle.dap_body.specs.Failure.{row_of, failure_body}
-use Rattle.dap_message.specs.Answering.{with_body, response_end}
+use Rattle.dap_message.specs.PrivateAnswering.{with_body, response_end}
 use Rattle.dap_message.specs.Canon.{response_members}
-use Rattle.dap_message.specs.Lengths.{failed}
+use Rattle.dap_message.specs.AdapterMessages.{failure_response}
 use Rattle.dap_message.specs.Meaning.{Msg}
 use Rattle.dap_message.proofs.ReadsBack.{failed-back, name-text}
 use Rattle.dap_message.proofs.AnswerTexts.{print-members, canon-response}
@@ -27,6 +27,6 @@ returns-clause-canon c =
 
 pub returns-clause-reads_back : goal.returns-clause-reads_back
 returns-clause-reads_back c = IfOk-weaker c.close_response.result _ _ (λ text is. λ fits from short.
-    let m = failed c.args.seq c.args.request_seq c.args.command.now c.args.failure in
+    let m = failure_response c.args.seq c.args.request_seq c.args.command.now c.args.failure in
     subst (λ (b : List ℕ). Msg b m) (sym is)
     (failed-back c.written_is_read_again.ensures c.args.seq c.args.request_seq c.args.command.now c.args.failure c.utf8.command (name-text c.args.failure) c.in_ok-open_failure.ensures.sound fits from short)) (returns-clause-canon c)

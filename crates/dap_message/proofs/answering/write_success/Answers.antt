@@ -1,7 +1,7 @@
 use Rattle.std.proofs.Common.{◌∙◌, None, true, ℕ, List, subst, sym}
 use Rattle.std.proofs.lemmas.Result.{IfOk-weaker}
 use Rattle.dap_message.proofs.AnswerTexts.{canon-response}
-use Rattle.dap_message.specs.Lengths.{succeeded}
+use Rattle.dap_message.specs.AdapterMessages.{success_response}
 use Rattle.dap_message.specs.Meaning.{Msg}
 use Rattle.dap_message.proofs.ReadsBack.{succeeded-back}
 use Rattle.dap_message.proofs.answering.write_success.Goals as goal
@@ -11,5 +11,5 @@ returns-clause-canon c = IfOk-weaker c.close_success.result _ _ (λ text e. e �
 
 pub returns-clause-reads_back : goal.returns-clause-reads_back
 returns-clause-reads_back c = IfOk-weaker c.close_success.result _ _ (λ text is. λ fits from short.
-    subst (λ (b : List ℕ). Msg b (succeeded c.args.seq c.args.request_seq c.args.command.now c.args.body.now)) (sym is)
+    subst (λ (b : List ℕ). Msg b (success_response c.args.seq c.args.request_seq c.args.command.now c.args.body.now)) (sym is)
     (succeeded-back c.written_is_read_again.ensures c.args.seq c.args.request_seq c.args.command.now c.args.body.now c.requires c.utf8.command c.in_ok-text.ensures.sound fits from short)) (returns-clause-canon c)

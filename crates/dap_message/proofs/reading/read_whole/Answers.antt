@@ -1,5 +1,5 @@
 use Rattle.std.proofs.Common.{ap, rules}
-use Rattle.dap_message.specs.Verdict.{verdict_of}
+use Rattle.dap_message.specs.PrivateVerdict.{verdict_of}
 use Rattle.dap_message.proofs.reading.read_whole.Goals as goal
 
 pub returns-in-Ok : goal.returns-in-Ok

@@ -1,4 +1,4 @@
-use Rattle.dap_session.proofs.ReferencesLemmas.{references_are_apart}
+use Rattle.dap_session.proofs.Apart.{references_are_apart}
 use Rattle.dap_session.proofs.laws.references_are_apart.Goals as goal
 
 pub returns : goal.returns

@@ -1,5 +1,5 @@
 use Rattle.std.proofs.Common.{ℕ, sym, ◌∙◌}
-use Rattle.dap_session.specs.Several.{chosen, answer_by}
+use Rattle.dap_session.specs.PrivateSeveral.{is_chosen, answer_by}
 use Rattle.dap_session.proofs.SeveralAnswers.{goes-answered, goes-passed, room-answered, room-passed, writes-none}
 use Rattle.dap_session.proofs.several.answer_rest.Goals as goal
 
@@ -9,8 +9,8 @@ loop-request-preserved-in-Continue-1 c =
     let e = c.in-Some.ensures.steps in
     let is = sym c.is_chosen.ensures ∙ c.if-is_chosen.true in
     record {
-      room = rw c.in_ok-reply.ensures.last (room-answered (λ (seq : ℕ). chosen c.args.which c.args.kept.now.kept seq) _ _ _ _ _ _ e is c.in_ok-reply.ensures.given i.room);
-      goes = λ final w. i.goes final (goes-answered (λ (seq : ℕ). chosen c.args.which c.args.kept.now.kept seq) (answer_by c.args.failure) _ _ c.in-Some.request.now _ _ final e is (rw c.answer_by.ensures at c.in_ok-reply.ensures) w);
+      room = rw c.in_ok-reply.ensures.last (room-answered (λ (seq : ℕ). is_chosen c.args.which c.args.kept.now.kept seq) _ _ _ _ _ _ e is c.in_ok-reply.ensures.given i.room);
+      goes = λ final w. i.goes final (goes-answered (λ (seq : ℕ). is_chosen c.args.which c.args.kept.now.kept seq) (answer_by c.args.failure) _ _ c.in-Some.request.now _ _ final e is (rw c.answer_by.ensures at c.in_ok-reply.ensures) w);
     }
 
 pub loop-request-preserved : goal.loop-request-preserved
@@ -19,9 +19,9 @@ loop-request-preserved c =
     let e = c.in-Some.ensures.steps in
     let is = sym c.is_chosen.ensures ∙ c.if-is_chosen.false in
     record {
-      room = room-passed (λ (seq : ℕ). chosen c.args.which c.args.kept.now.kept seq) _ _ _ _ c.in-Some.request.now e is i.room;
-      goes = λ final w. i.goes final (goes-passed (λ (seq : ℕ). chosen c.args.which c.args.kept.now.kept seq) (answer_by c.args.failure) _ _ c.in-Some.request.now _ final e is w);
+      room = room-passed (λ (seq : ℕ). is_chosen c.args.which c.args.kept.now.kept seq) _ _ _ _ c.in-Some.request.now e is i.room;
+      goes = λ final w. i.goes final (goes-passed (λ (seq : ℕ). is_chosen c.args.which c.args.kept.now.kept seq) (answer_by c.args.failure) _ _ c.in-Some.request.now _ final e is w);
     }
 
 pub returns : goal.returns
-returns c = c.loop-request.invariant.goes c.loop-request.sheet (rw c.in_default.ensures.steps.0 (writes-none c.loop-request.sheet))
+returns c = c.loop-request.invariant.goes c.loop-request.outbox (rw c.in_default.ensures.steps.0 (writes-none c.loop-request.outbox))

@@ -5,7 +5,7 @@ use Rattle.std.specs.Option.{option_map}
 use Rattle.slab.specs.Slab.{get}
 use Rattle.dap_tables.specs.declared.slot.Slot.{Slot}
 use Rattle.dap_tables.specs.Arrivals.{IsIn, keys_from}
-use Rattle.dap_tables.specs.OutstandingStore.{slots_at}
+use Rattle.dap_tables.specs.PrivateOutstandingStore.{slots_at}
 use Rattle.dap_tables.proofs.KeyLemmas.{find-here}
 use Rattle.dap_tables.proofs.slot.oldest.Goals as goal
 

@@ -2,7 +2,7 @@ use Rattle.std.proofs.Common.{◌≡◌, IfSome, not, length}
 use Rattle.std.specs.Prelude.{find, if◌then◌else◌}
 use Rattle.slab.specs.Slab.{get}
 use Rattle.dap_tables.specs.Arrivals.{IsIn, keys_from}
-use Rattle.dap_tables.specs.OutstandingStore.{slots_at}
+use Rattle.dap_tables.specs.PrivateOutstandingStore.{slots_at}
 use Rattle.dap_tables.proofs.slot.oldest.Given as goal
 
 abbrev pub invariant-loop-at : goal.invariant-loop-at

@@ -3,7 +3,7 @@ use Rattle.std.specs.List.{count_by}
 use Rattle.slab.specs.Slab.{get}
 use Rattle.dap_tables.specs.declared.slot.Slot.{Slot}
 use Rattle.dap_tables.specs.Arrivals.{IsIn, keys_from}
-use Rattle.dap_tables.specs.OutstandingStore.{slots_at}
+use Rattle.dap_tables.specs.PrivateOutstandingStore.{slots_at}
 use Rattle.dap_tables.proofs.KeyLemmas.{count-here, length-slots_at}
 use Rattle.dap_tables.proofs.SlotLemmas.{count_both}
 use Rattle.dap_tables.proofs.slot.parked.Goals as goal

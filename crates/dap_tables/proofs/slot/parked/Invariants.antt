@@ -2,7 +2,7 @@ use Rattle.std.proofs.Common.{◌≡◌, ◌+◌, IfSome, length, not}
 use Rattle.std.specs.List.{count_by}
 use Rattle.slab.specs.Slab.{get}
 use Rattle.dap_tables.specs.Arrivals.{IsIn, keys_from}
-use Rattle.dap_tables.specs.OutstandingStore.{slots_at}
+use Rattle.dap_tables.specs.PrivateOutstandingStore.{slots_at}
 use Rattle.dap_tables.proofs.slot.parked.Given as goal
 
 abbrev pub invariant-loop-at : goal.invariant-loop-at

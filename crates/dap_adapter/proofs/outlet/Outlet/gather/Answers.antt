@@ -6,4 +6,4 @@ pub returns-clause-gathers : goal.returns-clause-gathers
 returns-clause-gathers g c = record { log = []; ran = refl; no_reads = refl; flushed = refl; goes_on = tt; all = c.in_default.ensures.items; count = λ others is. omega (arith, is) }
 
 pub returns-in-Ok-clause-gathers : goal.returns-in-Ok-clause-gathers
-returns-in-Ok-clause-gathers g c = rw c.in_default.ensures.items at (sent_gathers g.C.Channel.goes _ _ _ _ _ _ c.in-Ok.ensures.sent c.in-Ok.ensures.none c.in-Ok.ensures.count)
+returns-in-Ok-clause-gathers g c = sent_gathers g.C.Channel.goes _ _ c.args.bytes.now _ c.in_default.ensures.items c.in-Ok.ensures.sent c.in-Ok.ensures.none c.in-Ok.ensures.count

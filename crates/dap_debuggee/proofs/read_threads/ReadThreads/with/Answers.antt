@@ -1,6 +1,6 @@
 use Rattle.std.proofs.Common.{rules, sym, subst, int_cmp, true}
 use Rattle.std.specs.BTreeSet.{Updates}
-use Rattle.dap_debuggee.specs.ReadThreads.{HasIds}
+use Rattle.dap_debuggee.specs.PrivateReadThreads.{HasIds}
 use Rattle.dap_debuggee.proofs.Ids.{ids_more}
 use Rattle.dap_debuggee.proofs.read_threads.ReadThreads.with.Goals as goal
 

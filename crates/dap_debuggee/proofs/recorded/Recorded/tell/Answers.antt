@@ -1,5 +1,5 @@
 use Rattle.std.proofs.Common.{sym, ap, ◌∙◌}
-use Rattle.dap_debuggee.specs.Held.{output_left}
+use Rattle.dap_debuggee.specs.PrivateHeld.{output_left}
 use Rattle.dap_debuggee.specs.Played.{Played}
 use Rattle.dap_debuggee.proofs.Outputs.{ready_none}
 use Rattle.dap_debuggee.proofs.recorded.Recorded.tell.Goals as goal

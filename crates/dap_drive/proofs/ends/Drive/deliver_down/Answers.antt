@@ -1,7 +1,7 @@
 use Rattle.std.proofs.Common.{List, ℕ, ◌<◌, length, sym, ◌∙◌, subst, arith}
 use Rattle.std.proofs.Math.ListN.{drop_of_length-le}
 use Rattle.std.proofs.lemmas.Result.{err_from_is_err_and}
-use Rattle.dap_drive.specs.Held.{HasDelivered}
+use Rattle.dap_drive.specs.PrivateHeld.{driven_by, both_of, HasDelivered}
 use Rattle.dap_drive.proofs.Doing.{part_by_part}
 use Rattle.dap_drive.proofs.Spending.{spends_then}
 use Rattle.dap_drive.proofs.ends.Drive.deliver_down.Goals as goal
@@ -13,8 +13,8 @@ loop-at-preserved g c =
       within = omega (arith, c.in_ok-at.ensures.within, c.split_at.ensures.back_len);
       reading = c.in_ok-at.ensures.reading;
       delivered = λ limits debuggee start h. part_by_part
-          (λ z. HasDelivered g.D.Debuggee.shown g.D.Debuggee.follows limits debuggee start c.loop-at.self.client c.loop-at.self.adapter c.loop-at.self.reader c.loop-at.self.transcript.items c.loop-at.up.items z)
-          (λ z. HasDelivered g.D.Debuggee.shown g.D.Debuggee.follows limits debuggee start c.take_down.new.self.client c.take_down.new.self.adapter c.take_down.new.self.reader c.take_down.new.self.transcript.items c.take_down.new.up.items z)
+          (λ z. HasDelivered (driven_by g.D.Debuggee.shown g.D.Debuggee.follows limits debuggee) start (both_of c.loop-at.self) c.loop-at.up.items z)
+          (λ z. HasDelivered (driven_by g.D.Debuggee.shown g.D.Debuggee.follows limits debuggee) start (both_of c.take_down.new.self) c.take_down.new.up.items z)
           c.loop-at.at c.in_ok-at.field-0 c.args.down.now c.split_at.result.1.now c.split_at.ensures.back (c.in_ok-at.ensures.delivered some limits debuggee start) (c.loop-at.invariant.delivered limits debuggee start h);
       spends = spends_then _ _ _ _ _ c.loop-at.invariant.spends c.in_ok-at.ensures.spends;
       adapter = c.take_down.ensures.adapter ∙ c.loop-at.invariant.adapter;
@@ -22,7 +22,7 @@ loop-at-preserved g c =
 
 pub returns-clause-delivered : goal.returns-clause-delivered
 returns-clause-delivered g c = λ limits debuggee start h.
-    subst (λ (z : List ℕ). HasDelivered g.D.Debuggee.shown g.D.Debuggee.follows limits debuggee start c.loop-at.self.client c.loop-at.self.adapter c.loop-at.self.reader c.loop-at.self.transcript.items c.loop-at.up.items z)
+    subst (λ (z : List ℕ). HasDelivered (driven_by g.D.Debuggee.shown g.D.Debuggee.follows limits debuggee) start (both_of c.loop-at.self) c.loop-at.up.items z)
     (drop_of_length-le c.args.down.now (omega arith)) (c.loop-at.invariant.delivered limits debuggee start h)
 
 pub returns-in_err-at-clause-stops : goal.returns-in_err-at-clause-stops
@@ -30,4 +30,4 @@ returns-in_err-at-clause-stops g c =
     let p = err_from_is_err_and c.from_residual.result c.from_residual.ensures.1 in
     let some : 0 < length c.split_at.result.1.now = omega (arith, c.split_at.ensures.back_len) in
     rw (p.1, p.2) (λ limits debuggee start h. c.in_err-at.ensures.stops limits debuggee start
-    (subst (λ (z : List ℕ). HasDelivered g.D.Debuggee.shown g.D.Debuggee.follows limits debuggee start c.loop-at.self.client c.loop-at.self.adapter c.loop-at.self.reader c.loop-at.self.transcript.items c.loop-at.up.items z) (sym c.split_at.ensures.back) (c.loop-at.invariant.delivered limits debuggee start h)) some)
+    (subst (λ (z : List ℕ). HasDelivered (driven_by g.D.Debuggee.shown g.D.Debuggee.follows limits debuggee) start (both_of c.loop-at.self) c.loop-at.up.items z) (sym c.split_at.ensures.back) (c.loop-at.invariant.delivered limits debuggee start h)) some)

@@ -1,7 +1,7 @@
 use Rattle.std.proofs.Common.{◌≡◌, ◌-◌, ◌≤◌, [], length, drop}
 use Rattle.dap_frame.specs.Intake.{IsUnderWay}
 use Rattle.dap_frame.specs.Settings.{Settings}
-use Rattle.dap_drive.specs.Held.{HasDelivered}
+use Rattle.dap_drive.specs.PrivateHeld.{driven_by, both_of, HasDelivered}
 use Rattle.dap_world.specs.World.{World}
 use Rattle.dap_drive.proofs.ends.Drive.deliver_up.Given as goal
 
@@ -9,8 +9,8 @@ abbrev pub invariant-loop-at : goal.invariant-loop-at
 invariant-loop-at g l = record {
   within : l.at ≤ length l.up;
   reading : IsUnderWay l.self.reader;
-  delivered : (limits : Settings) (debuggee : g.row.D.Denot) (start : World g.row.D.Denot) → HasDelivered g.D.Debuggee.shown g.D.Debuggee.follows limits debuggee start l.fn.self.client l.fn.self.adapter l.fn.self.reader l.fn.self.transcript.items l.up []
-      → HasDelivered g.D.Debuggee.shown g.D.Debuggee.follows limits debuggee start l.self.client l.self.adapter l.self.reader l.self.transcript.items (drop l.at l.up) l.down.items;
+  delivered : (limits : Settings) (debuggee : g.row.D.Denot) (start : World g.row.D.Denot) → HasDelivered (driven_by g.D.Debuggee.shown g.D.Debuggee.follows limits debuggee) start (both_of l.fn.self) l.up []
+      → HasDelivered (driven_by g.D.Debuggee.shown g.D.Debuggee.follows limits debuggee) start (both_of l.self) (drop l.at l.up) l.down.items;
   client : l.self.client ≡ l.fn.self.client;
   limits : l.self.adapter.session.limits ≡ l.fn.self.adapter.session.limits;
 }

@@ -1,13 +1,13 @@
 use Rattle.std.proofs.Common.{ℕ, List, [], length, refl, sym, ◌∙◌, subst, arith}
 use Rattle.std.proofs.lemmas.Result.{err_from_is_err_and}
-use Rattle.dap_drive.specs.Held.{HasDelivered}
+use Rattle.dap_drive.specs.PrivateHeld.{driven_by, both_of, HasDelivered}
 use Rattle.dap_drive.proofs.Doing.{all_delivered, hearing_less, round_less, round_spends, no_items, some_items}
 use Rattle.dap_drive.proofs.ends.Drive.settle.Goals as goal
 
 pub returns-then-is_empty-clause-settled : goal.returns-then-is_empty-clause-settled
 returns-then-is_empty-clause-settled g c = λ limits debuggee start h.
-    let before = subst (λ (z : List ℕ). HasDelivered g.D.Debuggee.shown g.D.Debuggee.follows limits debuggee start c.settle.self.client c.settle.self.adapter c.settle.self.reader c.settle.self.transcript.items [] z) (sym c.deref.ensures.value) (c.settle.invariant.delivered limits debuggee start h) in
-    all_delivered c.frames_keep_their_laws.ensures.one_split g.D.Debuggee.shown g.D.Debuggee.follows limits debuggee start c.deliver_down.new.self.client c.deliver_down.new.self.adapter c.deliver_down.new.self.reader c.deliver_down.new.self.transcript.items c.in_ok-up.up.items [] (c.in_ok-up.ensures.delivered limits debuggee start before)
+    let before = subst (λ (z : List ℕ). HasDelivered (driven_by g.D.Debuggee.shown g.D.Debuggee.follows limits debuggee) start (both_of c.settle.self) [] z) (sym c.deref.ensures.value) (c.settle.invariant.delivered limits debuggee start h) in
+    all_delivered c.frames_keep_their_laws.ensures.one_split (driven_by g.D.Debuggee.shown g.D.Debuggee.follows limits debuggee) start (both_of c.deliver_down.new.self) c.in_ok-up.up.items [] (c.in_ok-up.ensures.delivered limits debuggee start before)
     (no_items c.in_ok-up.up.items c.in_ok-up.up.len (omega (arith, c.in_ok-up.up.ok)) (sym c.is_empty.ensures ∙ c.if-is_empty.true)) refl
 
 pub returns-then-is_empty-clause-less : goal.returns-then-is_empty-clause-less
@@ -22,9 +22,9 @@ settle-preserved g c =
     record {
       reading = c.in_ok-down.ensures.reading;
       delivered = λ limits debuggee start h.
-          let before = subst (λ (z : List ℕ). HasDelivered g.D.Debuggee.shown g.D.Debuggee.follows limits debuggee start c.settle.self.client c.settle.self.adapter c.settle.self.reader c.settle.self.transcript.items [] z) (sym c.deref.ensures.value) (c.settle.invariant.delivered limits debuggee start h) in
+          let before = subst (λ (z : List ℕ). HasDelivered (driven_by g.D.Debuggee.shown g.D.Debuggee.follows limits debuggee) start (both_of c.settle.self) [] z) (sym c.deref.ensures.value) (c.settle.invariant.delivered limits debuggee start h) in
           let heard = c.in_ok-up.ensures.delivered limits debuggee start before in
-          c.in_ok-down.ensures.delivered limits debuggee start (subst (λ (z : List ℕ). HasDelivered g.D.Debuggee.shown g.D.Debuggee.follows limits debuggee start c.deliver_down.new.self.client c.deliver_down.new.self.adapter c.deliver_down.new.self.reader c.deliver_down.new.self.transcript.items z []) (sym c.deref-in-settle.ensures.value) heard);
+          c.in_ok-down.ensures.delivered limits debuggee start (subst (λ (z : List ℕ). HasDelivered (driven_by g.D.Debuggee.shown g.D.Debuggee.follows limits debuggee) start (both_of c.deliver_down.new.self) z []) (sym c.deref-in-settle.ensures.value) heard);
       less = omega (arith, less, c.settle.invariant.less);
     }
 
@@ -37,12 +37,12 @@ pub returns-in_err-up-clause-stops : goal.returns-in_err-up-clause-stops
 returns-in_err-up-clause-stops g c =
     let p = err_from_is_err_and c.from_residual.result c.from_residual.ensures.1 in
     rw (p.1, p.2) (λ limits debuggee start h. c.in_err-up.ensures.stops limits debuggee start
-    (subst (λ (z : List ℕ). HasDelivered g.D.Debuggee.shown g.D.Debuggee.follows limits debuggee start c.settle.self.client c.settle.self.adapter c.settle.self.reader c.settle.self.transcript.items [] z) (sym c.deref.ensures.value) (c.settle.invariant.delivered limits debuggee start h)))
+    (subst (λ (z : List ℕ). HasDelivered (driven_by g.D.Debuggee.shown g.D.Debuggee.follows limits debuggee) start (both_of c.settle.self) [] z) (sym c.deref.ensures.value) (c.settle.invariant.delivered limits debuggee start h)))
 
 pub returns-in_err-down-clause-stops : goal.returns-in_err-down-clause-stops
 returns-in_err-down-clause-stops g c =
     let p = err_from_is_err_and c.from_residual-in_err-down.result c.from_residual-in_err-down.ensures.1 in
     rw (p.1, p.2) (λ limits debuggee start h.
-    let before = subst (λ (z : List ℕ). HasDelivered g.D.Debuggee.shown g.D.Debuggee.follows limits debuggee start c.settle.self.client c.settle.self.adapter c.settle.self.reader c.settle.self.transcript.items [] z) (sym c.deref.ensures.value) (c.settle.invariant.delivered limits debuggee start h) in
+    let before = subst (λ (z : List ℕ). HasDelivered (driven_by g.D.Debuggee.shown g.D.Debuggee.follows limits debuggee) start (both_of c.settle.self) [] z) (sym c.deref.ensures.value) (c.settle.invariant.delivered limits debuggee start h) in
     let heard = c.in_ok-up.ensures.delivered limits debuggee start before in
-    c.in_err-down.ensures.stops limits debuggee start (subst (λ (z : List ℕ). HasDelivered g.D.Debuggee.shown g.D.Debuggee.follows limits debuggee start c.deliver_down.new.self.client c.deliver_down.new.self.adapter c.deliver_down.new.self.reader c.deliver_down.new.self.transcript.items z []) (sym c.deref-in-settle.ensures.value) heard))
+    c.in_err-down.ensures.stops limits debuggee start (subst (λ (z : List ℕ). HasDelivered (driven_by g.D.Debuggee.shown g.D.Debuggee.follows limits debuggee) start (both_of c.deliver_down.new.self) z []) (sym c.deref-in-settle.ensures.value) heard))

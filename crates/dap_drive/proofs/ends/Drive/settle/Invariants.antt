@@ -1,15 +1,15 @@
 use Rattle.std.proofs.Common.{◌-◌, ◌≤◌, []}
 use Rattle.dap_frame.specs.Intake.{IsUnderWay}
 use Rattle.dap_frame.specs.Settings.{Settings}
-use Rattle.dap_drive.specs.Held.{HasDelivered, left_to_do}
+use Rattle.dap_drive.specs.PrivateHeld.{driven_by, both_of, HasDelivered, left_to_do}
 use Rattle.dap_world.specs.World.{World}
 use Rattle.dap_drive.proofs.ends.Drive.settle.Given as goal
 
 abbrev pub invariant-settle : goal.invariant-settle
 invariant-settle g l = record {
   reading : IsUnderWay l.self.reader;
-  delivered : (limits : Settings) (debuggee : g.row.D.Denot) (start : World g.row.D.Denot) → HasDelivered g.D.Debuggee.shown g.D.Debuggee.follows limits debuggee start l.fn.self.client l.fn.self.adapter l.fn.self.reader l.fn.self.transcript.items [] l.fn.first.items
-      → HasDelivered g.D.Debuggee.shown g.D.Debuggee.follows limits debuggee start l.self.client l.self.adapter l.self.reader l.self.transcript.items [] l.down.items;
+  delivered : (limits : Settings) (debuggee : g.row.D.Denot) (start : World g.row.D.Denot) → HasDelivered (driven_by g.D.Debuggee.shown g.D.Debuggee.follows limits debuggee) start (both_of l.fn.self) [] l.fn.first.items
+      → HasDelivered (driven_by g.D.Debuggee.shown g.D.Debuggee.follows limits debuggee) start (both_of l.self) [] l.down.items;
   less : left_to_do l.self.client l.self.adapter ≤ left_to_do l.fn.self.client l.fn.self.adapter;
 }
 

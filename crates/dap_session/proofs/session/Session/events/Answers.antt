@@ -1,4 +1,4 @@
 use Rattle.dap_session.proofs.session.Session.events.Goals as goal
 
 pub returns-clause-holds : goal.returns-clause-holds
-returns-clause-holds g c = c.in_ok-tell.ensures.holds _ _ _ c.in_ok-sheet.ensures.holds.room c.in_ok-sheet.ensures.holds
+returns-clause-holds g c = c.in_ok-emit.ensures.holds _ _ _ c.in_ok-outbox.ensures.holds.room c.in_ok-outbox.ensures.holds

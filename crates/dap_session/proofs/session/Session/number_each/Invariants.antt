@@ -1,6 +1,6 @@
 use Rattle.std.proofs.Common.{◌≡◌, drop}
 use Rattle.dap_session.specs.References.{intern_each}
-use Rattle.dap_session.specs.Telling.{OnlyGives}
+use Rattle.dap_session.specs.QueryResults.{OnlyGives}
 use Rattle.dap_session.proofs.GivenNumbers.{onto_all}
 use Rattle.dap_session.proofs.session.Session.number_each.Given as goal
 

@@ -2,4 +2,4 @@ use Rattle.std.proofs.Common.{[]}
 use Rattle.dap_session.proofs.session.Session.one.Goals as goal
 
 pub returns-clause-holds : goal.returns-clause-holds
-returns-clause-holds g c = c.in_ok-reply.ensures.holds _ _ [] c.fresh_sheet-sheet.ensures.holds.room c.fresh_sheet-sheet.ensures.holds
+returns-clause-holds g c = c.in_ok-reply.ensures.holds _ _ [] c.fresh_outbox-outbox.ensures.holds.room c.fresh_outbox-outbox.ensures.holds

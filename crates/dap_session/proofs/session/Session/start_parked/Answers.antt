@@ -3,45 +3,45 @@ use Rattle.dap_message.specs.ReadBack.{AllReadBack}
 use Rattle.dap_tables.specs.Outstanding.{parked_ones}
 use Rattle.dap_debuggee.specs.Shown.{to_start, done}
 use Rattle.dap_session.specs.declared.fault.AdapterFault.TheVariants.{OutOfMemory}
-use Rattle.dap_session.specs.Handling.{started_parked}
+use Rattle.dap_session.specs.Handling.{after_parked_launch}
 use Rattle.dap_session.specs.InRange.{AnswersInRange}
-use Rattle.dap_session.specs.Plan.{asking, numbered}
-use Rattle.dap_session.specs.Seat.{Seat, reply_of}
+use Rattle.dap_session.specs.Plan.{asking, numbered_messages}
+use Rattle.dap_session.specs.SessionState.{SessionState, reply_of}
 use Rattle.dap_session.specs.Session.{Session}
-use Rattle.dap_session.proofs.Leaves.{due-started, count-started, refused-for}
+use Rattle.dap_session.proofs.Disconnects.{messages_due-started, count-started, refused-for}
 use Rattle.dap_session.proofs.Unasked.{asked}
 use Rattle.dap_session.proofs.session.Session.start_parked.Goals as goal
 
 pub returns-in_err-room-clause-refused : goal.returns-in_err-room-clause-refused
 returns-in_err-room-clause-refused g c =
     let is : c.from_residual.result ≡ Err c.in_err-room.field-0.0 = search rules in
-    let same : length (parked_ones c.args.self.now.session.kept) ≡ c.parked.result = sym (c.parked.ensures.parked ∙ ap (λ (x : Seat _). length (parked_ones x.session.kept)) c.self.view_is) in
-    rw is (refused-for c.in_err-room.field-0.0 (asking to_start (started_parked c.args.self.now.session c.args.request.now)) c.args.self.now (1 + c.parked.result) c.in_err-room.ensures.err.0 c.in_err-room.ensures.err.1 (due-started c.args.self.now.session c.args.request.now done c.requires.unparked ∙ ap (λ n. 1 + n) same))
+    let same : length (parked_ones c.args.self.now.session.kept) ≡ c.parked.result = sym (c.parked.ensures.parked ∙ ap (λ (x : SessionState _). length (parked_ones x.session.kept)) c.self.view_is) in
+    rw is (refused-for c.in_err-room.field-0.0 (asking to_start (after_parked_launch c.args.self.now.session c.args.request.now)) c.args.self.now (1 + c.parked.result) c.in_err-room.ensures.err.0 c.in_err-room.ensures.err.1 (messages_due-started c.args.self.now.session c.args.request.now done c.requires.unparked ∙ ap (λ n. 1 + n) same))
 
 pub returns-in_err-ok-clause-refused : goal.returns-in_err-ok-clause-refused
 returns-in_err-ok-clause-refused g c =
     let is : c.from_residual-in_err-ok.result ≡ Err OutOfMemory = search rules in
-    let same : length (parked_ones c.args.self.now.session.kept) ≡ c.parked.result = sym (c.parked.ensures.parked ∙ ap (λ (x : Seat _). length (parked_ones x.session.kept)) c.self.view_is) in
-    let due_is = due-started c.args.self.now.session c.args.request.now done c.requires.unparked ∙ ap (λ n. 1 + n) same in
-    rw is (asked c.args.self.now.session (asking to_start (started_parked c.args.self.now.session c.args.request.now)) _ _ (rw due_is c.in_ok-room.ensures.ok) tt)
+    let same : length (parked_ones c.args.self.now.session.kept) ≡ c.parked.result = sym (c.parked.ensures.parked ∙ ap (λ (x : SessionState _). length (parked_ones x.session.kept)) c.self.view_is) in
+    let due_is = messages_due-started c.args.self.now.session c.args.request.now done c.requires.unparked ∙ ap (λ n. 1 + n) same in
+    rw is (asked c.args.self.now.session (asking to_start (after_parked_launch c.args.self.now.session c.args.request.now)) _ _ (rw due_is c.in_ok-room.ensures.ok) tt)
 
-pub returns-in_err-sheet-clause-refused : goal.returns-in_err-sheet-clause-refused
-returns-in_err-sheet-clause-refused g c =
-    let is : c.from_residual-in_err-sheet.result ≡ Err OutOfMemory = search rules in
-    let same : length (parked_ones c.args.self.now.session.kept) ≡ c.parked.result = sym (c.parked.ensures.parked ∙ ap (λ (x : Seat _). length (parked_ones x.session.kept)) c.self.view_is) in
-    let due_is = due-started c.args.self.now.session c.args.request.now done c.requires.unparked ∙ ap (λ n. 1 + n) same in
-    rw is (asked c.args.self.now.session (asking to_start (started_parked c.args.self.now.session c.args.request.now)) _ _ (rw due_is c.in_ok-room.ensures.ok) tt)
+pub returns-in_err-outbox-clause-refused : goal.returns-in_err-outbox-clause-refused
+returns-in_err-outbox-clause-refused g c =
+    let is : c.from_residual-in_err-outbox.result ≡ Err OutOfMemory = search rules in
+    let same : length (parked_ones c.args.self.now.session.kept) ≡ c.parked.result = sym (c.parked.ensures.parked ∙ ap (λ (x : SessionState _). length (parked_ones x.session.kept)) c.self.view_is) in
+    let due_is = messages_due-started c.args.self.now.session c.args.request.now done c.requires.unparked ∙ ap (λ n. 1 + n) same in
+    rw is (asked c.args.self.now.session (asking to_start (after_parked_launch c.args.self.now.session c.args.request.now)) _ _ (rw due_is c.in_ok-room.ensures.ok) tt)
 
 pub returns-clause-carries : goal.returns-clause-carries
 returns-clause-carries g c =
     record {
       made = _;
-      carried = (reply_of c.in_ok-ok.ok, rw (c.set_phase.ensures, c.settle_parked-bytes.ensures.session) c.in_ok-ok.ensures.follows, refl);
+      carried = (reply_of c.in_ok-ok.ok, rw (c.set_phase.ensures, c.commit_parked-bytes.ensures.session) c.in_ok-ok.ensures.follows, refl);
       by =
           record {
-            session = rw (c.set_phase.ensures, c.settle_parked-bytes.ensures.session, c.in_ok-sheet.ensures.holds.count, count-started c.ask_start.new.self.session c.args.request.now (reply_of c.in_ok-ok.ok), c.in_ok-ok.ensures.session, c.start_phase.ensures) refl;
-            bytes_are = rw (c.settle_parked-bytes.ensures.bytes, c.in_ok-sheet.ensures.holds.bytes, c.in_ok-ok.ensures.session) refl;
+            session = rw (c.set_phase.ensures, c.commit_parked-bytes.ensures.session, c.in_ok-outbox.ensures.holds.count, count-started c.ask_start.new.self.session c.args.request.now (reply_of c.in_ok-ok.ok), c.in_ok-ok.ensures.session, c.start_phase.ensures) refl;
+            bytes_are = rw (c.commit_parked-bytes.ensures.bytes, c.in_ok-outbox.ensures.holds.bytes, c.in_ok-ok.ensures.session) refl;
             reads_back =
-                subst (λ (x : Session). AnswersInRange (started_parked x c.args.request.now (reply_of c.in_ok-ok.ok)).drafts → AllReadBack x.limits.body (numbered x.used (started_parked x c.args.request.now (reply_of c.in_ok-ok.ok)).drafts)) c.in_ok-ok.ensures.session c.in_ok-sheet.ensures.holds.reads_back;
+                subst (λ (x : Session). AnswersInRange (after_parked_launch x c.args.request.now (reply_of c.in_ok-ok.ok)).drafts → AllReadBack x.limits.body (numbered_messages x.used (after_parked_launch x c.args.request.now (reply_of c.in_ok-ok.ok)).drafts)) c.in_ok-ok.ensures.session c.in_ok-outbox.ensures.holds.reads_back;
           };
     }

@@ -2,8 +2,8 @@ use Rattle.std.proofs.Common.{◌≡◌, ◌+◌, ◌≤◌, length, false, sym,
 use Rattle.dap_tables.specs.Outstanding.{contains_seq}
 use Rattle.dap_tables.specs.declared.entry.Entry.{Entry}
 use Rattle.dap_session.specs.Failures.{of_known, command_of}
-use Rattle.dap_session.specs.Seat.{Seat, MadeBy}
-use Rattle.dap_session.specs.Taking.{is_cancel, keeps}
+use Rattle.dap_session.specs.SessionState.{SessionState, MadeBy}
+use Rattle.dap_session.specs.Taking.{is_cancel, after_keeping}
 use Rattle.dap_session.specs.Session.{Session}
 use Rattle.dap_session.specs.Table.{is_phase}
 use Rattle.dap_session.specs.declared.phase.Phase.TheVariants.{Ended}
@@ -13,16 +13,18 @@ use Rattle.dap_session.proofs.session.Session.take_request.Goals as goal
 pub returns-clause-taken : goal.returns-clause-taken
 returns-clause-taken g c =
     let r : Entry = record { seq = c.args.seq; command = c.args.command.now; arguments = c.args.arguments.now } in
-    let s : Session = c.args.self.now.session in
+    let v : SessionState _ = c.args.self.now in
+    let s : Session = v.session in
     let open_to : IsOpenTo r s = record {
-      not_ended = sym (c.if-has_ended.ensures ∙ ap (λ (x : Seat _). is_phase Ended x.session.phase) c.self.view_is);
-      new = sym (c.if-contains.ensures.contains ∙ ap (λ (x : Seat _). contains_seq c.args.seq x.session.kept) c.self.view_is);
+      not_ended = sym (c.if-has_ended.ensures ∙ ap (λ (x : SessionState _). is_phase Ended x.session.phase) c.self.view_is);
+      new = sym (c.if-contains.ensures.contains ∙ ap (λ (x : SessionState _). contains_seq c.args.seq x.session.kept) c.self.view_is);
     } in
     let other : of_known is_cancel (command_of r) ≡ false = sym (rw (c.as_str.ensures, c.in_ok-request.ensures) at c.if-is_cancel.ensures) in
     ok-both c.keep.result _ _ _
     (λ bytes made within.
-    takes-made r s _ (keeps r s) bytes.items open_to (as-other r s other)
-    (subst (λ (x : Entry). s.used + length (keeps x s).drafts ≤ s.limits.seq) c.in_ok-request.ensures within)
-    (subst (λ (x : Entry). MadeBy (keeps x s) s c.keep.new.self.session bytes.items) c.in_ok-request.ensures made))
+    takes-made g.D.Debuggee.follows r v _ (after_keeping r s) bytes.items open_to (as-other r s other)
+    (subst (λ (x : Entry). s.used + length (after_keeping x s).drafts ≤ s.limits.seq) c.in_ok-request.ensures within)
+    (subst (λ (x : Entry). MadeBy (after_keeping x s) s c.keep.new.self.session bytes.items) c.in_ok-request.ensures made)
+    c.keep.ensures.debuggee)
     c.keep.ensures.made
     c.keep.ensures.within

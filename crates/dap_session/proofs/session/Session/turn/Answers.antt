@@ -1,4 +1,4 @@
-use Rattle.dap_session.proofs.Limited.{turned-limits}
+use Rattle.dap_session.proofs.Limited.{turned-limits, turned-fewer}
 use Rattle.dap_session.proofs.Turning.{turned, not_turned}
 use Rattle.dap_session.proofs.session.Session.turn.Goals as goal
 
@@ -7,7 +7,10 @@ returns-in-Ok-clause-done g c =
     turned g.D.Debuggee.shown g.D.Debuggee.follows _ _ _ c.in-Ok-Some.request (rw c.in-Ok-Some.field-0-is at c.in-Ok-Some.ensures.oldest) c.in-Ok.ensures.within c.in-Ok.ensures.carries
 
 pub returns-in-Ok-clause-limits : goal.returns-in-Ok-clause-limits
-returns-in-Ok-clause-limits g c = turned-limits g.D.Debuggee.shown g.D.Debuggee.follows _ _ _ (rw (← c.self.view_is) c.self.invariant.orderly.distinct) (returns-in-Ok-clause-done g c)
+returns-in-Ok-clause-limits g c = turned-limits g.D.Debuggee.shown g.D.Debuggee.follows _ _ _ (returns-in-Ok-clause-done g c)
+
+pub returns-in-Ok-clause-fewer : goal.returns-in-Ok-clause-fewer
+returns-in-Ok-clause-fewer g c = turned-fewer g.D.Debuggee.shown g.D.Debuggee.follows _ _ _ (rw (← c.self.view_is) c.self.invariant.orderly.distinct) (returns-in-Ok-clause-done g c)
 
 pub returns-in-Err-handle_copy-clause-refused : goal.returns-in-Err-handle_copy-clause-refused
 returns-in-Err-handle_copy-clause-refused g c =

@@ -1,5 +1,5 @@
 use Rattle.std.proofs.Common.{◌≡◌, ◌+◌, ◌-◌, ◌++◌, [], ◌∷◌, ap, ◌∙◌, arith, ℕ, List, length}
-use Rattle.dap_tables.specs.Arrivals.{IsSound, keys_of}
+use Rattle.dap_tables.specs.Arrivals.{IsSoundRing, keys_of}
 use Rattle.dap_tables.proofs.ArrivalLemmas.{last_within, not_last, pushed, length-keys_of}
 use Rattle.dap_tables.proofs.arrivals.Arrivals.push.Goals as goal
 use Rattle.dap_tables.proofs.arrivals.Arrivals.push.Goals.{After-splice}
@@ -13,7 +13,7 @@ pub splice-requires-clause-not_prev : goal.splice-requires-clause-not_prev
 splice-requires-clause-not_prev c =
     not_last c.self.inside.links.items c.self.inside.len c.self.invariant c.args.key (rw (← c.self.view_is) at c.requires.new)
 
-both : (c : After-splice) → (keys_of c.splice.new.links.items (c.self.inside.len + 1) ≡ keys_of c.self.inside.links.items c.self.inside.len ++ c.args.key ∷ []) × IsSound c.splice.new.links.items (c.self.inside.len + 1)
+both : (c : After-splice) → (keys_of c.splice.new.links.items (c.self.inside.len + 1) ≡ keys_of c.self.inside.links.items c.self.inside.len ++ c.args.key ∷ []) × IsSoundRing c.splice.new.links.items (c.self.inside.len + 1)
 both c =
     let within = rw (← c.self.view_is) at c.requires.within in
     let room = rw (← c.self.view_is) at c.requires.room in

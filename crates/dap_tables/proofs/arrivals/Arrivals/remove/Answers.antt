@@ -1,5 +1,5 @@
 use Rattle.std.proofs.Common.{◌≡◌, ◌-◌, ap, ◌∙◌, arith, ℕ, List, length}
-use Rattle.dap_tables.specs.Arrivals.{IsSound, keys_of, without_key}
+use Rattle.dap_tables.specs.Arrivals.{IsSoundRing, keys_of, without_key}
 use Rattle.dap_tables.proofs.ArrivalLemmas.{before_within, after_within, removed, some_key, length-keys_of}
 use Rattle.dap_tables.proofs.arrivals.Arrivals.remove.Goals as goal
 use Rattle.dap_tables.proofs.arrivals.Arrivals.remove.Goals.{After-skip}
@@ -25,7 +25,7 @@ skip-requires-clause-next_in c =
 pub overflow_sub-self : goal.overflow_sub-self
 overflow_sub-self c = some_key c.self.inside.links.items c.self.inside.len c.self.invariant c.args.key (rw (← c.self.view_is) at c.requires)
 
-both : (c : After-skip) → (keys_of c.skip.new.links.items (c.self.inside.len - 1) ≡ without_key c.args.key (keys_of c.self.inside.links.items c.self.inside.len)) × IsSound c.skip.new.links.items (c.self.inside.len - 1)
+both : (c : After-skip) → (keys_of c.skip.new.links.items (c.self.inside.len - 1) ≡ without_key c.args.key (keys_of c.self.inside.links.items c.self.inside.len)) × IsSoundRing c.skip.new.links.items (c.self.inside.len - 1)
 both c =
     removed c.self.inside.links.items c.skip.new.links.items c.self.inside.len c.self.invariant (omega arith) c.args.key
     (rw (← c.self.view_is) at c.requires) c.skip.ensures.skips

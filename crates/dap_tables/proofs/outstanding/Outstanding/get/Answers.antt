@@ -4,7 +4,7 @@ use Rattle.std.specs.Option.{option_map}
 use Rattle.slab.specs.Slab.{get}
 use Rattle.dap_tables.specs.declared.entry.Entry.{Entry}
 use Rattle.dap_tables.specs.declared.slot.Slot.{Slot}
-use Rattle.dap_tables.specs.OutstandingStore.{slot_at}
+use Rattle.dap_tables.specs.PrivateOutstandingStore.{slot_at}
 use Rattle.dap_tables.proofs.KeptLemmas.{contains_from_entry_with, entry_with_from_contains, entry_with-seq}
 use Rattle.dap_tables.proofs.OutstandingLemmas.{entry-stored}
 use Rattle.dap_tables.proofs.Lists.{is_some-copied, IfSome-copied}

@@ -1,7 +1,7 @@
 use Rattle.std.proofs.Common.{◌∙◌, ap, ℕ, List, map}
 use Rattle.slab.specs.Slab.{get}
 use Rattle.dap_tables.specs.declared.slot.Slot.{Slot}
-use Rattle.dap_tables.specs.OutstandingStore.{slots_at}
+use Rattle.dap_tables.specs.PrivateOutstandingStore.{slots_at}
 use Rattle.dap_tables.proofs.SlotLemmas.{entries-slots}
 use Rattle.dap_tables.proofs.outstanding.Outstanding.in_order.Goals as goal
 

@@ -1,6 +1,6 @@
 use Rattle.std.proofs.Common.{ap, ◌∙◌, sym, Option, ℕ}
 use Rattle.slab.specs.Slab.{get}
-use Rattle.dap_tables.specs.OutstandingStore.{slot_at, marked_in}
+use Rattle.dap_tables.specs.PrivateOutstandingStore.{slot_at, marked_in}
 use Rattle.dap_tables.proofs.KeptLemmas.{contains_from_is_parked}
 use Rattle.dap_tables.proofs.OutstandingLemmas.{parked-stored}
 use Rattle.dap_tables.proofs.outstanding.Outstanding.is_parked.Goals as goal

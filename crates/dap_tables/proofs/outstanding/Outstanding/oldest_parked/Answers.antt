@@ -1,6 +1,6 @@
 use Rattle.std.proofs.Common.{◌∙◌}
 use Rattle.slab.specs.Slab.{get}
-use Rattle.dap_tables.specs.OutstandingStore.{slots_at}
+use Rattle.dap_tables.specs.PrivateOutstandingStore.{slots_at}
 use Rattle.dap_tables.proofs.SlotLemmas.{oldest_parked-slots}
 use Rattle.dap_tables.proofs.outstanding.Outstanding.oldest_parked.Goals as goal
 

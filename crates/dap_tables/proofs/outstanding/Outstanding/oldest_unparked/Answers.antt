@@ -1,7 +1,7 @@
 use Rattle.std.proofs.Common.{◌∙◌, sym, subst, Option, ℕ, IfSome, IsTrue, false, ◌≡◌}
 use Rattle.slab.specs.Slab.{get}
 use Rattle.dap_tables.specs.Outstanding.{contains_seq, is_parked}
-use Rattle.dap_tables.specs.OutstandingStore.{slots_at}
+use Rattle.dap_tables.specs.PrivateOutstandingStore.{slots_at}
 use Rattle.dap_tables.proofs.KeptLemmas.{contains_from_oldest, unparked_from_oldest}
 use Rattle.dap_tables.proofs.SlotLemmas.{oldest_unparked-slots}
 use Rattle.dap_tables.proofs.OutstandingLemmas.{kept_in}

@@ -1,6 +1,6 @@
 use Rattle.std.proofs.Common.{◌∙◌, sym, subst, ℕ, ◌≤◌, length}
 use Rattle.slab.specs.Slab.{get}
-use Rattle.dap_tables.specs.OutstandingStore.{slots_at}
+use Rattle.dap_tables.specs.PrivateOutstandingStore.{slots_at}
 use Rattle.dap_tables.proofs.SlotLemmas.{parked_ones-slots, parked-few}
 use Rattle.dap_tables.proofs.outstanding.Outstanding.parked.Goals as goal
 

@@ -1,7 +1,7 @@
 use Rattle.std.proofs.Common.{◌≡◌, ◌<◌, ◌++◌, [], ◌∷◌, ap, ◌∙◌, sym, arith, List, length, false}
 use Rattle.dap_tables.specs.Arrivals.{Order}
-use Rattle.dap_tables.specs.Outstanding.{Kept, unparked, contains_seq, entry_with, without}
-use Rattle.dap_tables.specs.OutstandingStore.{IsStored}
+use Rattle.dap_tables.specs.Outstanding.{Kept, kept_unparked, contains_seq, entry_with, without}
+use Rattle.dap_tables.specs.PrivateOutstandingStore.{IsStored}
 use Rattle.dap_tables.proofs.KeptLemmas.{entry_with-push, without-push, contains_seq-push}
 use Rattle.dap_tables.proofs.OutstandingLemmas.{kept_in, absent-stored, room_left, put-kept, stored-put}
 use Rattle.dap_tables.proofs.outstanding.Outstanding.put.Goals as goal
@@ -45,7 +45,7 @@ stored c =
     (few c) (absent c) c.insert_reserved-key.ensures.was_vacant c.insert_reserved-key.ensures.updates
     c.insert_reserved-key.ensures.len c.insert_reserved-key.ensures.capacity c.insert.ensures.gets c.insert.ensures.len c.insert.ensures.room c.push.ensures
 
-list : (c : After-push) → kept_in c.insert_reserved-key.new.self c.push.new.self.keys ≡ kept_in c.self.inside.slots c.self.inside.order.keys ++ unparked c.args.entry ∷ []
+list : (c : After-push) → kept_in c.insert_reserved-key.new.self c.push.new.self.keys ≡ kept_in c.self.inside.slots c.self.inside.order.keys ++ kept_unparked c.args.entry ∷ []
 list c =
     ap (λ (order : Order). kept_in c.insert_reserved-key.new.self order.keys) c.push.ensures
     ∙ put-kept c.self.inside.room c.self.inside.slots c.self.inside.index c.self.inside.order c.self.invariant
@@ -67,17 +67,17 @@ pub returns-clause-found : goal.returns-clause-found
 returns-clause-found c =
     let w = (goal.at.returns-clause-found c).After-push in
     ap (λ (kept : List Kept). entry_with w.args.entry.seq kept) (list w)
-    ∙ entry_with-push (kept_in w.self.inside.slots w.self.inside.order.keys) (unparked w.args.entry) (absent w)
+    ∙ entry_with-push (kept_in w.self.inside.slots w.self.inside.order.keys) (kept_unparked w.args.entry) (absent w)
 
 pub returns-clause-kept : goal.returns-clause-kept
 returns-clause-kept c =
     let w = (goal.at.returns-clause-kept c).After-push in
     ap (λ (kept : List Kept). contains_seq w.args.entry.seq kept) (list w)
-    ∙ contains_seq-push (kept_in w.self.inside.slots w.self.inside.order.keys) (unparked w.args.entry)
+    ∙ contains_seq-push (kept_in w.self.inside.slots w.self.inside.order.keys) (kept_unparked w.args.entry)
 
 pub returns-clause-undone : goal.returns-clause-undone
 returns-clause-undone c =
     let w = (goal.at.returns-clause-undone c).After-push in
     rw (← c.self.view_is)
     (ap (λ (kept : List Kept). without w.args.entry.seq kept) (list w)
-    ∙ without-push (kept_in w.self.inside.slots w.self.inside.order.keys) (unparked w.args.entry) (absent w))
+    ∙ without-push (kept_in w.self.inside.slots w.self.inside.order.keys) (kept_unparked w.args.entry) (absent w))

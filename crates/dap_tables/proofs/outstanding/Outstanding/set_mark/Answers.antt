@@ -2,7 +2,7 @@ use Rattle.std.proofs.Common.{◌≡◌, ap, ◌∙◌, sym, refl, List, Some, N
 use Rattle.slab.specs.Slab.{with_value}
 use Rattle.slab.proofs.SlabLemmas.{Updates-with_value}
 use Rattle.dap_tables.specs.Outstanding.{Kept, with_mark}
-use Rattle.dap_tables.specs.OutstandingStore.{IsStored}
+use Rattle.dap_tables.specs.PrivateOutstandingStore.{IsStored}
 use Rattle.dap_tables.specs.SeqIndex.{key_for}
 use Rattle.dap_tables.proofs.KeptLemmas.{with_mark-absent}
 use Rattle.dap_tables.proofs.OutstandingLemmas.{kept_in, slot_found, contains-none, mark-kept, stored-mark, count-written}

@@ -5,7 +5,7 @@ use Rattle.dap_tables.specs.Arrivals.{Order}
 use Rattle.dap_tables.specs.declared.entry.Entry.{Entry}
 use Rattle.dap_tables.specs.declared.slot.Slot.{Slot}
 use Rattle.dap_tables.specs.Outstanding.{Kept, contains_seq, entry_with, without}
-use Rattle.dap_tables.specs.OutstandingStore.{IsStored, slot_at}
+use Rattle.dap_tables.specs.PrivateOutstandingStore.{IsStored, slot_at}
 use Rattle.dap_tables.proofs.KeptLemmas.{contains_seq-without, without-absent, entry_with-absent, entry_with-seq}
 use Rattle.dap_tables.proofs.OutstandingLemmas.{kept_in, key_found, slot_found, entry-stored, contains-none, contains-some, take-kept, stored-take}
 use Rattle.dap_tables.proofs.outstanding.Outstanding.take.Goals as goal

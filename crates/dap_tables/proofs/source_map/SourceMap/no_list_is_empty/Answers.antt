@@ -1,6 +1,6 @@
 use Rattle.std.proofs.Common.{length, ◌≤◌, subst}
 use Rattle.dap_tables.specs.SourceMap.{count}
-use Rattle.dap_tables.specs.SourceStore.{sources_of}
+use Rattle.dap_tables.specs.PrivateSourceStore.{sources_of}
 use Rattle.dap_tables.proofs.SourceMapLemmas.{few-entries}
 use Rattle.dap_tables.proofs.source_map.SourceMap.no_list_is_empty.Goals as goal
 

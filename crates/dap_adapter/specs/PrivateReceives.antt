@@ -1,0 +1,36 @@
+-- The code's words for the bytes that come: what becomes of the reader of messages and of the session.
+use Rattle.std.specs.Prelude.{◌≡◌, ℕ, List, [], Option, Some, None}
+use Rattle.dap_frame.specs.Feeds.{Gathers}
+use Rattle.dap_frame.specs.Intake.{Intake}
+use Rattle.dap_message.specs.declared.message.Message.{Message}
+use Rattle.dap_session.specs.Carried.{Goes}
+use Rattle.dap_session.specs.SessionState.{SessionState, HasTaken}
+use Rattle.dap_session.specs.Taking.{takes}
+use Rattle.dap_session.specs.declared.fault.AdapterFault.{AdapterFault}
+use Rattle.dap_session.specs.declared.fault.AdapterFault.TheVariants as fault
+use Rattle.dap_reader.specs.Reader.{GivesOne}
+use Rattle.dap_reader.specs.declared.fault.ReadFault.{ReadFault}
+use Rattle.dap_reader.specs.declared.fault.ReadFault.TheVariants.{Frame, Body, OutOfMemory, Closed}
+use Rattle.dap_adapter.specs.declared.taken.Taken.{Taken}
+
+-- nothing came whole
+pub record StillWaits {D : Type 0} (i j : Intake) (old new : SessionState D) (piece : List ℕ) (taken : Taken) : Type 0 where
+  pub gathers : Gathers i j piece taken.used
+  pub none_written : taken.bytes.items ≡ []
+  pub same : new ≡ old
+
+-- a message came whole, and the session took it
+pub record HasDelivered {D : Type 0} (follows : Goes D) (i j : Intake) (old new : SessionState D) (piece : List ℕ) (taken : Taken) (m : Message) : Type 0 where
+  pub gives : GivesOne i j piece taken.used m
+  pub has_taken : HasTaken follows (takes m old.session) old new taken.bytes.items
+
+abbrev pub HasReceived : {D : Type 0} → Goes D → Intake → Intake → SessionState D → SessionState D → List ℕ → Taken → Option Message → Type 0
+HasReceived follows i j old new piece taken None = StillWaits i j old new piece taken
+HasReceived follows i j old new piece taken (Some m) = HasDelivered follows i j old new piece taken m
+
+-- the fault of an adapter is that of its reader
+abbrev pub IsBy : ReadFault → AdapterFault → Type 0
+IsBy (Frame cause) f = f ≡ fault.Frame cause
+IsBy (Body cause offset) f = f ≡ fault.Body cause offset
+IsBy OutOfMemory f = f ≡ fault.OutOfMemory
+IsBy Closed f = ⊥

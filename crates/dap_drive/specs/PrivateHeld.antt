@@ -1,0 +1,170 @@
+-- The code's words for where both ends stand. Only private clauses cite these.
+use Rattle.std.specs.Prelude.{◌≡◌, ◌≤◌, ◌<◌, ◌==◌, ◌||◌, ◌+◌, ◌*◌, ◌-◌, ℕ, Bool, true, false, List, [], length, Some, Ok, if◌then◌else◌}
+use Rattle.dap_frame.specs.Intake.{Intake}
+use Rattle.dap_frame.specs.Settings.{Settings, AreInRange}
+use Rattle.dap_history.specs.History.{Entry}
+use Rattle.dap_debuggee.specs.Shown.{Shown}
+use Rattle.dap_message.specs.Types.Call.{Call as TheCall}
+use Rattle.dap_session.specs.Carried.{Goes}
+use Rattle.dap_session.specs.Plan.{bytes_of}
+use Rattle.dap_session.specs.SessionState.{SessionState}
+use Rattle.dap_session.specs.Session.{to_handle}
+use Rattle.dap_session.specs.Table.{is_phase}
+use Rattle.dap_session.specs.declared.phase.Phase.TheVariants.{Stopped}
+use Rattle.dap_adapter.specs.AdapterState.{AdapterState}
+use Rattle.dap_adapter.specs.StandsFor.{StandsFor as AdapterStandsFor}
+use Rattle.dap_adapter.specs.Run.{Next, to_take, to_poll}
+use Rattle.dap_client.specs.ClientState.{ClientState}
+use Rattle.dap_client.specs.Sending.{first_of, refusals_in_order}
+use Rattle.dap_client.specs.Session.{Session as ClientSession}
+use Rattle.dap_client.specs.StandsFor.{StandsFor as ClientStandsFor}
+use Rattle.dap_world.specs.World.{World, IsIdle, Schedule}
+use Rattle.dap_drive.specs.Driven.{AdapterStops, ClientStops}
+use Rattle.dap_drive.specs.PrivateFrames.{AreFramesOf}
+use Rattle.dap_drive.specs.PrivateLines.{IsBetween}
+use Rattle.dap_drive.specs.Orders.{Delivers, Settles, Handles, DoesPoll, Does, Ran, LacksNumbers, HasTooManyReferences}
+use Rattle.dap_drive.specs.Script.{order_of}
+use Rattle.dap_drive.specs.Transcript.{text_of}
+use Rattle.dap_drive.specs.declared.ends.Drive.{Drive}
+use Rattle.dap_drive.specs.declared.script.Order.{Order}
+use Rattle.dap_drive.specs.declared.script.Order.TheVariants.{Send as ToSend}
+use Rattle.dap_drive.specs.declared.fault.DriveFault.{DriveFault}
+use Rattle.dap_drive.specs.declared.fault.DriveFault.TheVariants.{Send, Adapter, Client, OutOfMemory}
+
+-- ---- both ends
+
+-- an open client with this session, to which whole frames came
+pub record IsClientAt (limits : Settings) (e : ClientState) (session : ClientSession) : Type 0 where
+  pub session_is : e.session ≡ session
+  pub limits_are : session.limits ≡ limits
+  pub came : List ℕ
+  pub history : List Entry
+  pub stands : ClientStandsFor e came history
+  pub between : stands.received.rest ≡ []
+
+-- the same of an adapter
+pub record IsAdapterAt {D : Type 0} (limits : Settings) (e : AdapterState D) (seat : SessionState D) : Type 0 where
+  pub session_is : e.session ≡ seat.session
+  pub debuggee_is : e.debuggee ≡ seat.debuggee
+  pub limits_are : seat.session.limits ≡ limits
+  pub came : List ℕ
+  pub history : List Entry
+  pub stands : AdapterStandsFor e came history
+  pub between : stands.received.rest ≡ []
+
+-- what the debuggee shows and follows, the limits, and the debuggee that a script begins with
+pub record Driving (D : Type 0) : Type 1 where
+  pub shown : D → Shown
+  pub follows : Goes D
+  pub limits : Settings
+  pub debuggee : D
+
+abbrev pub driven_by : {D : Type 0} → (D → Shown) → Goes D → Settings → D → Driving D
+driven_by shown follows limits debuggee = record { shown = shown; follows = follows; limits = limits; debuggee = debuggee }
+
+-- both ends, the reader that tells where messages end, and the transcript so far
+pub record BothEnds (D : Type 0) : Type 0 where
+  pub client : ClientState
+  pub adapter : AdapterState D
+  pub reader : Intake
+  pub transcript : List ℕ
+
+abbrev pub both : {D : Type 0} → ClientState → AdapterState D → Intake → List ℕ → BothEnds D
+both client adapter reader transcript = record { client = client; adapter = adapter; reader = reader; transcript = transcript }
+
+abbrev pub both_of : {D : Type 0} → Drive D → BothEnds D
+both_of d = both d.client d.adapter d.reader d.transcript.items
+
+-- they stand in a world to which a schedule leads
+pub record IsAt {D : Type 0} (drive : Driving D) (ends : BothEnds D) (w : World D) : Type 0 where
+  pub in_range : AreInRange drive.limits
+  pub schedule : Schedule drive.shown drive.follows drive.limits drive.debuggee w
+  pub client_at : IsClientAt drive.limits ends.client w.client
+  pub adapter_at : IsAdapterAt drive.limits ends.adapter w.adapter
+  pub reader_at : IsBetween drive.limits ends.reader
+  pub transcript_is : ends.transcript ≡ text_of w.said
+
+-- some of what was under way is delivered, and these bytes are what is still under way, each way
+pub record HasDelivered {D : Type 0} (drive : Driving D) (start : World D) (ends : BothEnds D) (up down : List ℕ) : Type 0 where
+  pub world : World D
+  pub delivers : Delivers drive.follows start world
+  pub at : IsAt drive ends world
+  pub up_is : AreFramesOf drive.limits world.up up
+  pub down_is : AreFramesOf drive.limits world.down down
+
+-- nothing is under way any more
+pub record HasSettled {D : Type 0} (drive : Driving D) (start : World D) (ends : BothEnds D) : Type 0 where
+  pub world : World D
+  pub settles : Settles drive.follows start world
+  pub at : IsAt drive ends world
+
+-- both ends stand here, and nothing is under way
+pub record IsQuiet {D : Type 0} (drive : Driving D) (ends : BothEnds D) (w : World D) : Type 0 where
+  pub at : IsAt drive ends w
+  pub none_up : w.up ≡ []
+  pub none_down : w.down ≡ []
+
+-- an order is done, and nothing is under way again
+pub record HasDone {D : Type 0} (drive : Driving D) (does : World D → World D → Type 0) (start : World D) (ends : BothEnds D) : Type 0 where
+  pub world : World D
+  pub done : does start world
+  pub quiet : IsQuiet drive ends world
+
+-- whether a request was handled
+abbrev pub HasTurned : {D : Type 0} → (D → Shown) → Goes D → Bool → World D → World D → Type 0
+HasTurned shown follows true old new = Handles shown follows old new
+HasTurned shown follows false old new = IsIdle shown old × (new ≡ old)
+
+-- whether the debuggee is asked no more
+pub record HasPolled {D : Type 0} (follows : Goes D) (last : Bool) (old new : World D) : Type 0 where
+  pub does : DoesPoll follows old new
+  pub last_is : last ≡ (length (bytes_of does.polls.outs) == 0) || is_phase Stopped does.polled.adapter.session.phase
+
+-- after so many polls
+abbrev pub next_after_polls : ℕ → Next
+next_after_polls made = if made == 65536 then to_take else to_poll made
+
+-- ---- own numbers are spent where bytes are written
+
+pub record Spends (old new : ClientSession) (before after : ℕ) : Type 0 where
+  pub limits : new.limits ≡ old.limits
+  pub more : old.used ≤ new.used
+  pub some : before < after → old.used < new.used
+  pub within : old.used < new.used → new.used ≤ new.limits.seq
+
+-- what is left to do: own numbers of the client, and for each of them as many requests as may be kept
+abbrev pub left_to_do : {D : Type 0} → ClientState → AdapterState D → ℕ
+left_to_do client adapter = (adapter.session.limits.requests + 1) * (client.session.limits.seq - client.session.used) + to_handle adapter.session.kept
+
+-- ---- faults of an order
+
+-- why delivering ends early: some of it led to a world where the end that takes the next message is closed, or memory was refused
+abbrev pub StopsDelivering : {D : Type 0} → Driving D → DriveFault → World D → Type 0
+StopsDelivering {D} drive Adapter start = (now : World D) × Delivers drive.follows start now × LacksNumbers drive.shown drive.follows to_take now
+StopsDelivering {D} drive Client start = (now : World D) × Delivers drive.follows start now × HasTooManyReferences now
+StopsDelivering drive OutOfMemory start = Unit {0}
+StopsDelivering drive fault start = ⊥
+
+-- why an order is not done, other than that it is not sent
+abbrev pub StopsOrder : {D : Type 0} → Driving D → Order → DriveFault → World D → Type 0
+StopsOrder drive o Adapter start = AdapterStops drive.shown drive.follows o start
+StopsOrder drive o Client start = ClientStops drive.shown drive.follows o start
+StopsOrder drive o OutOfMemory start = Unit {0}
+StopsOrder drive o fault start = ⊥
+
+-- or the request on the line of this number is not sent
+abbrev pub StopsSend : {D : Type 0} → Driving D → ℕ → TheCall → DriveFault → World D → Type 0
+StopsSend drive number call (Send line cause) start = (line ≡ number) × (first_of refusals_in_order call false start.client ≡ Some cause)
+StopsSend drive number call fault start = StopsOrder drive (ToSend call) fault start
+
+-- ---- a script
+
+-- a line that has bytes is done
+abbrev pub DoesLine : {D : Type 0} → (D → Shown) → Goes D → List ℕ → World D → World D → Type 0
+DoesLine shown follows text old new = (order : Order) × (order_of text ≡ Ok order) × Does shown follows order old new
+
+-- these lines are done, and nothing is under way
+pub record HasRun {D : Type 0} (drive : Driving D) (texts : List (List ℕ)) (ends : BothEnds D) : Type 0 where
+  pub world : World D
+  pub ran : Ran drive.shown drive.follows drive.limits drive.debuggee texts world
+  pub quiet : IsQuiet drive ends world

@@ -1,0 +1,19 @@
+use Rattle.std.proofs.Common.{◌≡◌, ◌∷◌, length, sym, ap, ◌∙◌, arith}
+use Rattle.json.specs.Token.{Token}
+use Rattle.json.specs.Json.{items, value, parse_map}
+use Rattle.json.specs.Reads.{token_of}
+use Rattle.json.proofs.Grammar.{value-begin_array}
+use Rattle.serde_json.specs.Data.{array}
+use Rattle.serde_json.specs.Read.{of_json, converted}
+use Rattle.dap_json.proofs.ObjectReaderLemmas.{converted-array}
+use Rattle.dap_json.proofs.object_reader.ObjectReader.column.Goals as goal
+
+pub returns : goal.returns
+returns c =
+    let after = c.next.new.self in
+    let first : c.args.self.now ≡ token_of c.in-Some-BeginArray.field-0 ∷ after = sym c.self.view_is ∙ c.in-Some-BeginArray.ensures.value in
+    let opens : c.args.self.now ≡ Token.begin_array ∷ after = first ∙ ap (λ k. token_of k ∷ after) c.in-Some-BeginArray.field-0-is in
+    let opened = ap (converted of_json) (ap (value 125) opens ∙ value-begin_array 125 after (omega arith)) ∙ converted-array (items (value 124) (length after) after) in
+    let done = c.in_ok-rows.ensures.ok in
+    let shorter = c.in_ok-rows.ensures.shorter in
+    (done.0, (opened ∙ ap (parse_map array) done.1, omega (arith, ap length opens)), done.2)

@@ -1,0 +1,61 @@
+-- The messages of an adapter by their parts: failures, responses and events, with the bodies of a fixed shape and each event's name and body.
+-- Specification, "ErrorResponse", "InitializeResponse", "ContinueResponse" and "Events".
+use Rattle.std.specs.Prelude.{ℕ, ℤ, List, codes, false, true, Option, Some, None}
+use Rattle.serde_json.specs.Data.{Data}
+use Rattle.dap_call.specs.Capabilities.{capabilities_data}
+use Rattle.dap_call.specs.declared.capabilities.Capabilities.{Capabilities}
+use Rattle.dap_body.specs.Failure.{row_of, failure_body}
+use Rattle.dap_body.specs.ResponseBody.{continue_body}
+use Rattle.dap_body.specs.EventBody.{output_body, stopped_body, continued_body, exited_body}
+use Rattle.dap_body.specs.declared.failure.Failure.{Failure}
+use Rattle.dap_message.specs.declared.message.Message.{Message}
+use Rattle.dap_message.specs.declared.message.Kind.TheVariants.{Response, Event}
+
+-- ---- the three kinds
+
+abbrev pub failure_response : ℕ → ℕ → List ℕ → Failure → Message
+failure_response seq request_seq command failure = record { seq = seq; kind = Response request_seq false command (Some (row_of failure).name) (Some (failure_body failure)) }
+
+abbrev pub success_response : ℕ → ℕ → List ℕ → Option Data → Message
+success_response seq request_seq command body = record { seq = seq; kind = Response request_seq true command None body }
+
+abbrev pub event_message : ℕ → List ℕ → Option Data → Message
+event_message seq event body = record { seq = seq; kind = Event event body }
+
+-- ---- bodies of a fixed shape
+
+pub data FixedBody : Type 0 where
+  none : FixedBody
+  offers : Capabilities → FixedBody
+  all_go_on : FixedBody
+
+abbrev pub body_of : FixedBody → Option Data
+body_of none = None
+body_of (offers capabilities) = Some (capabilities_data capabilities)
+body_of all_go_on = Some continue_body
+
+-- ---- events
+
+pub data AdapterEvent : Type 0 where
+  initialized : AdapterEvent
+  output : List ℕ → List ℕ → AdapterEvent
+  stopped : List ℕ → ℤ → AdapterEvent
+  continued : ℤ → AdapterEvent
+  exited : ℤ → AdapterEvent
+  terminated : AdapterEvent
+
+abbrev pub event_name : AdapterEvent → List ℕ
+event_name initialized = codes "initialized"
+event_name (output category text) = codes "output"
+event_name (stopped reason thread) = codes "stopped"
+event_name (continued thread) = codes "continued"
+event_name (exited code) = codes "exited"
+event_name terminated = codes "terminated"
+
+abbrev pub event_body : AdapterEvent → Option Data
+event_body initialized = None
+event_body (output category text) = Some (output_body category text)
+event_body (stopped reason thread) = Some (stopped_body reason thread)
+event_body (continued thread) = Some (continued_body thread)
+event_body (exited code) = Some (exited_body code)
+event_body terminated = None

@@ -1,0 +1,207 @@
+-- What comes of a message that is delivered: each is sound, and keeps to the limits.
+use Rattle.std.proofs.Common.{◌≡◌, ℕ, ◌+◌, ◌<◌, ◌≤◌, List, [], ◌∷◌, ◌++◌, Bool, true, false, Option, Some, None, Result, Ok, Err, length, refl, sym, ap, ◌∙◌, subst, arith, length-append, filter}
+use Rattle.std.specs.Prelude.{◌==◌, ◌&&◌, not, if◌then◌else◌, nat_lt, nat_le, option_to_list}
+use Rattle.std.proofs.lemmas.List.{append-nil}
+use Rattle.dap_history.specs.History.{Asked, request_as, response_as}
+use Rattle.dap_history.specs.Requests.{asked_of, asks}
+use Rattle.dap_message.specs.Argument.{Read}
+use Rattle.dap_message.specs.Call.{call_of}
+use Rattle.dap_message.specs.Types.Call.{Call}
+use Rattle.dap_message.specs.Types.Command.TheVariants as command
+use Rattle.dap_message.specs.Types.Failure.TheVariants.{NotInitialized, BadArguments, Busy, Cancelled}
+use Rattle.dap_message.specs.declared.message.Message.{Message}
+use Rattle.dap_message.specs.declared.message.Kind.{Kind}
+use Rattle.dap_message.specs.declared.message.Kind.TheVariants.{Request as RequestKind, Response, Event, Other}
+use Rattle.serde_json.specs.Data.{Data}
+use Rattle.dap_tables.specs.Outstanding.{Kept, kept_unparked, contains_seq, HasDistinctSeqs}
+use Rattle.dap_tables.specs.declared.entry.Entry.{Entry as Request}
+use Rattle.dap_session.specs.declared.fault.AdapterFault.{AdapterFault}
+use Rattle.dap_session.specs.declared.fault.AdapterFault.TheVariants.{RepeatedSeq, Ended as EndedFault}
+use Rattle.dap_session.specs.declared.phase.Phase.TheVariants.{Fresh, Ended}
+use Rattle.dap_session.specs.Failures.{of_known, command_of}
+use Rattle.dap_session.specs.Handling.{answer_each}
+use Rattle.dap_session.specs.Laws.{CanMake}
+use Rattle.dap_session.specs.Plan.{Answer, failure, plain_success, names_in, reply, Made, Plan, at_once, no_change, messages_due, plan_within_numbers}
+use Rattle.dap_session.specs.Session.{Session, cancelled_by, not_cancelled_by}
+use Rattle.dap_session.specs.Table.{is_phase}
+use Rattle.dap_session.specs.Taking.{after_answering_at_once, is_cancel, id_in, named_by, unnamed_by, after_cancel, after_cancel_call, after_cancel_request, after_keeping, after_taking, takes_as, takes}
+use Rattle.dap_session.proofs.Distinct.{AreDistinct, asks-distinct, asks-more}
+use Rattle.dap_session.proofs.Happenings.{no_change-sound}
+use Rattle.dap_session.proofs.Interned.{lt-of}
+use Rattle.dap_session.proofs.Kept.{Walked, walked-none, walked-append, walked-each, walked-one, asks-append, distinct-more, distinct-filter, contains-filter}
+use Rattle.dap_session.proofs.Moves.{IsPlain, is-plain, moves-plain}
+use Rattle.dap_session.proofs.Outcomes.{IsSound, NameNone, references-plain, each-names-none, append-names-none}
+use Rattle.dap_session.proofs.Rows.{length-each}
+use Rattle.dap_session.proofs.Turns.{afforded, le-of}
+
+-- ---- a request that came
+
+abbrev came : Request → List Asked
+came r = asked_of r ∷ []
+
+-- a new one, beside kept requests with distinct numbers
+pub record IsNew (s : Session) (r : Request) : Type 0 where
+  pub distinct : HasDistinctSeqs s.kept
+  pub new : contains_seq r.seq s.kept ≡ false
+
+-- what is proved of it once it was taken
+pub record IsTakenIn (s : Session) (r : Request) (m : Made) : Type 0 where
+  pub sound : IsSound (IsNew s r) s (came r) m
+  pub few : length s.kept ≤ s.limits.requests → length m.after.kept ≤ s.limits.requests
+
+joined : (kept : List Kept) (r : Request) → asks (kept ++ kept_unparked r ∷ []) ≡ asks kept ++ came r
+joined kept r = asks-append kept (kept_unparked r ∷ [])
+
+joined-distinct : (s : Session) (r : Request) → IsNew s r → HasDistinctSeqs (s.kept ++ kept_unparked r ∷ [])
+joined-distinct s r n = distinct-more s.kept (kept_unparked r) n.distinct n.new
+
+-- a request that came is answered, and never kept
+walked-came : (kept : List Kept) (r : Request) (answer : Answer) → HasDistinctSeqs (kept ++ kept_unparked r ∷ []) → Walked (reply r answer ∷ []) (asks kept ++ came r) (asks kept)
+walked-came kept r answer d =
+    let told = walked-one answer kept (kept_unparked r) [] d in
+    let here = subst (λ (qs : List Asked). Walked (reply r answer ∷ []) qs (asks (kept ++ []))) (joined kept r) told in
+    subst (λ (xs : List Kept). Walked (reply r answer ∷ []) (asks kept ++ came r) (asks xs)) (append-nil kept) here
+
+-- what walks the requests that were kept and the one that came
+taken : (s : Session) (r : Request) (m : Made) → IsPlain s m → NameNone m.drafts → m.after.used ≡ s.used + length m.drafts → (IsNew s r → Walked m.drafts (asks s.kept ++ came r) (asks m.after.kept))
+    → (length s.kept ≤ s.limits.requests → length m.after.kept ≤ s.limits.requests) → IsTakenIn s r m
+taken s r m p n u w f =
+    record {
+      sound = record {
+        well = λ (new : IsNew s r). record { each = (w new).each; kept = sym (w new).left_is; used = u; references = references-plain s m n p; limits = p.limits };
+        moves = moves-plain s m p;
+      };
+      few = f;
+    }
+
+-- ---- the rows
+
+at_once-taken : (s : Session) (r : Request) (answer : Answer) → names_in answer ≡ [] → IsTakenIn s r (after_answering_at_once r answer s)
+at_once-taken s r answer e =
+    taken s r (after_answering_at_once r answer s) (is-plain s _ refl refl refl) (e, tt) refl (λ (n : IsNew s r). walked-came s.kept r answer (joined-distinct s r n)) (λ (h : length s.kept ≤ s.limits.requests). h)
+
+kept-few : (s : Session) (r : Request) → length s.kept < s.limits.requests → length (s.kept ++ kept_unparked r ∷ []) ≤ s.limits.requests
+kept-few s r h = let all = length-append s.kept (kept_unparked r ∷ []) in omega arith
+
+after_keeping-taken : (b : Bool) (s : Session) (r : Request) → nat_lt (length s.kept) s.limits.requests ≡ b → IsTakenIn s r (if b then record { drafts = []; drops = false; after = record s { kept = s.kept ++ kept_unparked r ∷ [] } } else after_answering_at_once r (failure Busy) s)
+after_keeping-taken true s r h =
+    taken s r (record { drafts = []; drops = false; after = record s { kept = s.kept ++ kept_unparked r ∷ [] } }) (is-plain s _ refl refl refl) tt (omega arith)
+    (λ (n : IsNew s r). subst (λ (qs : List Asked). Walked [] (asks s.kept ++ came r) qs) (sym (joined s.kept r)) (walked-none (asks s.kept ++ came r)))
+    (λ (few : length s.kept ≤ s.limits.requests). kept-few s r (lt-of (length s.kept) s.limits.requests h))
+after_keeping-taken false s r h = at_once-taken s r (failure Busy) refl
+
+-- those that a cancel names are answered, among those that are kept
+walked-named : (id : Option ℕ) (s : Session) (r : Request) → HasDistinctSeqs (s.kept ++ kept_unparked r ∷ []) → Walked (answer_each (failure Cancelled) (named_by id s.kept)) (asks s.kept ++ came r) (asks (unnamed_by id s.kept) ++ came r)
+walked-named None s r d = walked-none (asks s.kept ++ came r)
+walked-named (Some seq) s r d =
+    let told = walked-each (λ (k : Kept). not k.parked && (k.entry.seq == seq)) (failure Cancelled) s.kept (kept_unparked r ∷ []) [] d in
+    let here = subst (λ (qs : List Asked). Walked (answer_each (failure Cancelled) (cancelled_by seq s.kept)) qs (asks (not_cancelled_by seq s.kept ++ kept_unparked r ∷ []))) (joined s.kept r) told in
+    subst (λ (qs : List Asked). Walked (answer_each (failure Cancelled) (cancelled_by seq s.kept)) (asks s.kept ++ came r) qs) (joined (not_cancelled_by seq s.kept) r) here
+
+unnamed-distinct : (id : Option ℕ) (s : Session) (r : Request) → IsNew s r → HasDistinctSeqs (unnamed_by id s.kept ++ kept_unparked r ∷ [])
+unnamed-distinct None s r n = joined-distinct s r n
+unnamed-distinct (Some seq) s r n =
+    distinct-more (not_cancelled_by seq s.kept) (kept_unparked r) (distinct-filter (λ k. not (not k.parked && (k.entry.seq == seq))) s.kept n.distinct) (contains-filter r.seq (λ k. not (not k.parked && (k.entry.seq == seq))) s.kept n.new)
+
+kept-cons : (b : Bool) (k : Kept) (xs kept : List Kept) → length xs ≤ length kept → length (if b then k ∷ xs else xs) ≤ length (k ∷ kept)
+kept-cons true k xs kept h = omega arith
+kept-cons false k xs kept h = omega arith
+
+length-kept-filtered : (p : Kept → Bool) (kept : List Kept) → length (filter p kept) ≤ length kept
+length-kept-filtered p [] = omega arith
+length-kept-filtered p (k ∷ kept) = kept-cons (p k) k (filter p kept) kept (length-kept-filtered p kept)
+
+unnamed-few : (id : Option ℕ) (kept : List Kept) → length (unnamed_by id kept) ≤ length kept
+unnamed-few None kept = omega arith
+unnamed-few (Some seq) kept = length-kept-filtered (λ k. not (not k.parked && (k.entry.seq == seq))) kept
+
+after_cancel-walked : (id : Option ℕ) (s : Session) (r : Request) → IsNew s r → Walked (after_cancel id r s).drafts (asks s.kept ++ came r) (asks (unnamed_by id s.kept))
+after_cancel-walked id s r n =
+    walked-append (answer_each (failure Cancelled) (named_by id s.kept)) (reply r plain_success ∷ []) (asks s.kept ++ came r) (asks (unnamed_by id s.kept) ++ came r) (asks (unnamed_by id s.kept)) (walked-named id s r (joined-distinct s r n))
+    (walked-came (unnamed_by id s.kept) r plain_success (unnamed-distinct id s r n))
+
+after_cancel-taken : (id : Option ℕ) (s : Session) (r : Request) → IsTakenIn s r (after_cancel id r s)
+after_cancel-taken id s r =
+    let named = named_by id s.kept in
+    let count = length-each (failure Cancelled) named in
+    let all = length-append (answer_each (failure Cancelled) named) (reply r plain_success ∷ []) in
+    taken s r (after_cancel id r s) (is-plain s _ refl refl refl) (append-names-none (answer_each (failure Cancelled) named) (reply r plain_success ∷ []) (each-names-none (failure Cancelled) named refl) (refl, tt)) (omega arith)
+    (λ (n : IsNew s r). after_cancel-walked id s r n)
+    (λ (h : length s.kept ≤ s.limits.requests). let few = unnamed-few id s.kept in omega arith)
+
+after_cancel_call-taken : (asked : Read Call) (s : Session) (r : Request) → IsTakenIn s r (after_cancel_call asked r s)
+after_cancel_call-taken (Err key) s r = at_once-taken s r (failure (BadArguments key)) refl
+after_cancel_call-taken (Ok asked) s r = after_cancel-taken (id_in asked) s r
+
+after_cancel_request-taken : (b : Bool) (s : Session) (r : Request) → IsTakenIn s r (if b then after_answering_at_once r (failure NotInitialized) s else after_cancel_call (call_of command.Cancel r.arguments) r s)
+after_cancel_request-taken true s r = at_once-taken s r (failure NotInitialized) refl
+after_cancel_request-taken false s r = after_cancel_call-taken (call_of command.Cancel r.arguments) s r
+
+taken-if : (b : Bool) (s : Session) (r : Request) → IsTakenIn s r (if b then after_cancel_request r s else after_keeping r s)
+taken-if true s r = after_cancel_request-taken (is_phase Fresh s.phase) s r
+taken-if false s r = after_keeping-taken (nat_lt (length s.kept) s.limits.requests) s r refl
+
+-- ---- a request that does not close the end
+
+-- what comes of it, for which there are own numbers enough
+pub record TakesIn (s : Session) (r : Request) (made : Made) : Type 0 where
+  pub is : IsTakenIn s r made
+  pub new : contains_seq r.seq s.kept ≡ false
+  pub room : s.used + length made.drafts ≤ s.limits.seq
+
+request-is : (ended repeated : Bool) (s : Session) (r : Request) (plan : Plan) (made : Made) → contains_seq r.seq s.kept ≡ repeated
+    → (if ended then Err EndedFault else (if repeated then Err (RepeatedSeq r.seq) else plan_within_numbers s (at_once (after_taking r s)))) ≡ Ok plan → CanMake plan made → TakesIn s r made
+request-is true repeated s r plan made h e is = cc
+request-is false true s r plan made h e is = cc
+request-is false false s r plan made h e is =
+    let given = afforded (nat_le (s.used + messages_due (at_once (after_taking r s))) s.limits.seq) (at_once (after_taking r s)) plan _ e in
+    let made_is : made ≡ after_taking r s = subst (λ (x : Plan). CanMake x made) given.1 is in
+    let room = le-of (s.used + length (after_taking r s).drafts) s.limits.seq given.0 in
+    subst (λ (x : Made). TakesIn s r x) (sym made_is) (record { is = taken-if (of_known is_cancel (command_of r)) s r; new = h; room = room })
+
+-- ---- each message
+
+-- what is proved of a message that was taken
+pub record IsDelivery (s : Session) (seq : ℕ) (kind : Kind) (made : Made) : Type 0 where
+  pub sound : IsSound (HasDistinctSeqs s.kept) s (option_to_list (request_as seq kind)) made
+  pub few : length s.kept ≤ s.limits.requests → length made.after.kept ≤ s.limits.requests
+  pub room : s.used ≤ s.limits.seq → s.used + length made.drafts ≤ s.limits.seq
+  pub distinct : HasDistinctSeqs s.kept → AreDistinct (asks s.kept ++ option_to_list (request_as seq kind))
+  pub no_response : response_as kind ≡ None
+
+request-delivery : (s : Session) (seq : ℕ) (command : List ℕ) (arguments : Option Data) (made : Made) → TakesIn s (record { seq = seq; command = command; arguments = arguments }) made → IsDelivery s seq (RequestKind command arguments) made
+request-delivery s seq command arguments made t =
+    record {
+      sound = record { well = λ (d : HasDistinctSeqs s.kept). t.is.sound.well (record { distinct = d; new = t.new }); moves = t.is.sound.moves };
+      few = t.is.few;
+      room = λ (h : s.used ≤ s.limits.seq). t.room;
+      distinct = λ (d : HasDistinctSeqs s.kept). asks-more s.kept (record { seq = seq; command = command; arguments = arguments }) d t.new;
+      no_response = refl;
+    }
+
+-- nothing comes of it
+no_change-delivery : (s : Session) (seq : ℕ) (kind : Kind) → request_as seq kind ≡ None → response_as kind ≡ None → IsDelivery s seq kind (no_change s)
+no_change-delivery s seq kind e r =
+    record {
+      sound = record { well = λ (d : HasDistinctSeqs s.kept). rw e ((no_change-sound s).well tt); moves = (no_change-sound s).moves };
+      few = λ (h : length s.kept ≤ s.limits.requests). h;
+      room = λ (h : s.used ≤ s.limits.seq). let none : s.used + 0 ≡ s.used = omega arith in omega arith;
+      distinct = λ (d : HasDistinctSeqs s.kept). rw (e, append-nil (asks s.kept)) (asks-distinct s.kept d);
+      no_response = r;
+    }
+
+-- of a plan to do nothing
+no_change-made : (s : Session) (seq : ℕ) (kind : Kind) (plan : Plan) (made : Made) → request_as seq kind ≡ None → response_as kind ≡ None → plan ≡ at_once (no_change s) → CanMake plan made → IsDelivery s seq kind made
+no_change-made s seq kind plan made e r p is =
+    let made_is : made ≡ no_change s = subst (λ (x : Plan). CanMake x made) p is in
+    subst (λ (x : Made). IsDelivery s seq kind x) (sym made_is) (no_change-delivery s seq kind e r)
+
+delivery-of : (s : Session) (seq : ℕ) (kind : Kind) (plan : Plan) (made : Made) → takes_as seq kind s ≡ Ok plan → CanMake plan made → IsDelivery s seq kind made
+delivery-of s seq (RequestKind command arguments) plan made e is =
+    request-delivery s seq command arguments made (request-is (is_phase Ended s.phase) (contains_seq seq s.kept) s (record { seq = seq; command = command; arguments = arguments }) plan made refl e is)
+delivery-of s seq (Response request_seq ok command message body) plan made e is = cc
+delivery-of s seq (Event event body) plan made e is = no_change-made s seq (Event event body) plan made refl refl (cc) is
+delivery-of s seq (Other tag) plan made e is = no_change-made s seq (Other tag) plan made refl refl (cc) is
+
+pub delivery-is : (s : Session) (m : Message) (plan : Plan) (made : Made) → takes m s ≡ Ok plan → CanMake plan made → IsDelivery s m.seq m.kind made
+delivery-is s m plan made e is = delivery-of s m.seq m.kind plan made e is

@@ -1,0 +1,74 @@
+-- The answers to all requests at a disconnect, and to those that are parked at a start.
+use Rattle.std.proofs.Common.{◌≡◌, ℕ, ◌+◌, ◌<◌, ◌≤◌, List, [], ◌∷◌, Bool, true, false, None, refl, sym, ap, ◌∙◌, subst, arith, length, filter, length-append}
+use Rattle.std.proofs.lemmas.List.{length-map}
+use Rattle.std.specs.Prelude.{◌==◌, not}
+use Rattle.dap_message.specs.Lengths.{max_fixed}
+use Rattle.dap_message.specs.Types.Failure.TheVariants.{Cancelled}
+use Rattle.dap_tables.specs.Outstanding.{Kept, entries, contains_seq, is_parked, parked_ones, without, HasDistinctSeqs}
+use Rattle.dap_tables.specs.declared.entry.Entry.{Entry}
+use Rattle.dap_debuggee.specs.Shown.{Reply}
+use Rattle.dap_session.specs.Handling.{answer_each, by_reply, after_disconnect, after_parked_launch}
+use Rattle.dap_session.specs.declared.fault.AdapterFault.{AdapterFault}
+use Rattle.dap_session.specs.declared.fault.AdapterFault.TheVariants.{SeqExhausted}
+use Rattle.dap_session.specs.SessionState.{SessionState, IsRefusedFor}
+use Rattle.dap_session.specs.Plan.{Plan, messages_due, Answer, Draft, failure, plain_success, reply}
+use Rattle.dap_session.specs.Session.{Session}
+use Rattle.dap_session.specs.PrivateSeveral.{answer_where, WritesAll}
+use Rattle.dap_session.specs.PrivateOutbox.{Holds, AppendsDraft}
+use Rattle.dap_session.specs.declared.outbox.Outbox.{Outbox}
+use Rattle.dap_session.proofs.Rows.{length-each}
+use Rattle.dap_session.proofs.SeveralAnswers.{answers-kept, others-kept, length-without, answers-parked, count-parked, parked-without}
+
+-- how many messages a disconnect takes
+pub messages_due-after_disconnect : (s : Session) (r : Entry) → HasDistinctSeqs s.kept → contains_seq r.seq s.kept ≡ true → length (after_disconnect s r).drafts ≡ length s.kept
+messages_due-after_disconnect s r d h =
+    let others = without r.seq s.kept in
+    let all = length-append (answer_each (failure Cancelled) others) (reply r plain_success ∷ []) in
+    let each = length-each (failure Cancelled) others in
+    let one = length-without r.seq s.kept d h in
+    omega arith
+
+count-answers : (passes : ℕ → Bool) (answer : Answer) (rs : List Entry) → length (answer_where passes answer rs) ≡ length (filter (λ (r : Entry). passes r.seq) rs)
+count-answers passes answer rs = length-map (filter (λ (r : Entry). passes r.seq) rs) (λ (r : Entry). reply r answer)
+
+-- those but one
+room-after_disconnect : (seq : ℕ) (kept : List Kept) → HasDistinctSeqs kept → contains_seq seq kept ≡ true → length (filter (λ (r : Entry). not (r.seq == seq)) (entries kept)) + 1 ≡ length kept
+room-after_disconnect seq kept d h = let e = others-kept seq kept in let one = length-without seq kept d h in omega arith
+
+pub room-first : (seq : ℕ) (kept : List Kept) (fresh : Outbox) (limit used last : ℕ) → HasDistinctSeqs kept → contains_seq seq kept ≡ true → Holds fresh limit used [] → fresh.numbers.last ≡ last → used + length kept ≤ last → fresh.numbers.used + length (filter (λ (r : Entry). not (r.seq == seq)) (entries kept)) ≤ fresh.numbers.last
+room-first seq kept fresh limit used last d c h l room = let others = room-after_disconnect seq kept d c in let count = h.count in omega arith
+
+pub room-last : (seq : ℕ) (kept : List Kept) (fresh mid : Outbox) (limit used last : ℕ) → HasDistinctSeqs kept → contains_seq seq kept ≡ true → Holds fresh limit used [] → fresh.numbers.last ≡ last → used + length kept ≤ last → WritesAll fresh mid (answer_where (λ n. not (n == seq)) (failure Cancelled) (entries kept)) → mid.numbers.used < mid.numbers.last
+room-last seq kept fresh mid limit used last d c h l room w =
+    let others = room-after_disconnect seq kept d c in
+    let drafts = count-answers (λ n. not (n == seq)) (failure Cancelled) (entries kept) in
+    let count = (w.holds limit used [] h).count in
+    let same = w.last in
+    omega arith
+
+pub holds-after_disconnect : (s : Session) (r : Entry) (fresh mid last : Outbox) (limit : ℕ) → Holds fresh limit s.used [] → WritesAll fresh mid (answer_where (λ seq. not (seq == r.seq)) (failure Cancelled) (entries s.kept)) → AppendsDraft max_fixed mid last (reply r plain_success) → Holds last limit s.used (after_disconnect s r).drafts
+holds-after_disconnect s r fresh mid last limit h w v =
+    let so_far : Holds mid limit s.used (answer_each (failure Cancelled) (without r.seq s.kept)) = subst (λ (ds : List Draft). Holds mid limit s.used ds) (answers-kept r.seq (failure Cancelled) s.kept) (w.holds limit s.used [] h) in
+    v.holds limit s.used (answer_each (failure Cancelled) (without r.seq s.kept)) so_far.room so_far
+
+-- how many a start takes that is waited for
+pub messages_due-started : (s : Session) (r : Entry) (last : Reply) → is_parked r.seq s.kept ≡ false → length (after_parked_launch s r last).drafts ≡ 1 + length (parked_ones s.kept)
+messages_due-started s r last h =
+    let each = length-each (by_reply None last) (parked_ones (without r.seq s.kept)) in
+    let same = ap (λ (ks : List Kept). length ks) (parked-without r.seq s.kept h) in
+    omega arith
+
+pub room-started : (kept : List Kept) (one : Outbox) (limit used last : ℕ) (r : Entry) → HasDistinctSeqs kept → Holds one limit used (reply r plain_success ∷ []) → one.numbers.last ≡ last → used + (1 + length (parked_ones kept)) ≤ last → one.numbers.used + length (filter (λ (x : Entry). is_parked x.seq kept) (entries kept)) ≤ one.numbers.last
+room-started kept one limit used last r d h l room = let others = count-parked kept d in let count = h.count in omega arith
+
+pub holds-started : (s : Session) (r : Entry) (last : Reply) (answer : Answer) (one all : Outbox) (limit : ℕ) → HasDistinctSeqs s.kept → is_parked r.seq s.kept ≡ false → Holds one limit s.used (reply r plain_success ∷ []) → WritesAll one all (answer_where (λ seq. is_parked seq s.kept) answer (entries s.kept)) → Holds all limit s.used (reply r plain_success ∷ answer_each answer (parked_ones (without r.seq s.kept)))
+holds-started s r last answer one all limit d h o w =
+    subst (λ (ds : List Draft). Holds all limit s.used (reply r plain_success ∷ ds)) (answers-parked answer s.kept d ∙ ap (λ (ks : List Kept). answer_each answer ks) (sym (parked-without r.seq s.kept h))) (w.holds limit s.used (reply r plain_success ∷ []) o)
+
+pub count-started : (s : Session) (r : Entry) (last : Reply) → length (after_parked_launch s r last).drafts ≡ 1 + length (parked_ones (without r.seq s.kept))
+count-started s r last = let each = length-each (by_reply None last) (parked_ones (without r.seq s.kept)) in omega arith
+
+-- ---- more messages than own numbers
+
+pub refused-for : {D : Type 0} (fault : AdapterFault) (plan : Plan) (old : SessionState D) (n : ℕ) → fault ≡ SeqExhausted → old.session.limits.seq < old.session.used + n → messages_due plan ≡ n → IsRefusedFor fault plan old old
+refused-for fault plan old n e h d = rw (e, d) (h, refl)

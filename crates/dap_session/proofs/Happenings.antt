@@ -1,0 +1,42 @@
+-- What happened to the debuggee: each telling of it is sound.
+use Rattle.std.proofs.Common.{◌≡◌, ℕ, ◌+◌, List, [], ◌∷◌, ◌++◌, Bool, true, false, length, refl, sym, ◌∙◌, subst, arith}
+use Rattle.std.specs.Prelude.{if◌then◌else◌}
+use Rattle.dap_history.specs.Requests.{asks}
+use Rattle.dap_debuggee.specs.Shown.{to_poll, Reply, done, refused, happened}
+use Rattle.dap_debuggee.specs.declared.answers.Happening.{Happening}
+use Rattle.dap_debuggee.specs.declared.answers.Happening.TheVariants as happening
+use Rattle.dap_session.specs.Laws.{CanMake}
+use Rattle.dap_session.specs.Plan.{emit, Made, Plan, at_once, asking, no_change}
+use Rattle.dap_session.specs.Polling.{after_happening, after_poll_reply, polls, has_debuggee}
+use Rattle.dap_session.specs.Session.{Session}
+use Rattle.dap_session.proofs.Kept.{Walked, walked-none, walked-append, walked-event}
+use Rattle.dap_session.proofs.Moves.{IsPlain, is-plain, moves-plain}
+use Rattle.dap_session.proofs.Outcomes.{IsSound, NameNone, references-plain, walked-well}
+
+-- events alone: the kept requests stay
+told-sound : (s : Session) (m : Made) → IsPlain s m → NameNone m.drafts → m.after.used ≡ s.used + length m.drafts → Walked m.drafts (asks s.kept) (asks m.after.kept) → IsSound (Unit {0}) s [] m
+told-sound s m p n u w = record { well = λ (t : Unit {0}). walked-well s m (moves-plain s m p) w u (references-plain s m n p); moves = moves-plain s m p }
+
+pub no_change-sound : (s : Session) → IsSound (Unit {0}) s [] (no_change s)
+no_change-sound s = told-sound s (no_change s) (is-plain s _ refl refl refl) tt (omega arith) (walked-none (asks s.kept))
+
+after_happening-sound : (h : Happening) (s : Session) → IsSound (Unit {0}) s [] (after_happening h s)
+unfolding after_happening
+after_happening-sound happening.Nothing s = no_change-sound s
+after_happening-sound (happening.Output category text) s = told-sound s _ (is-plain s _ refl refl refl) (refl, tt) refl (walked-event _ (asks s.kept))
+after_happening-sound (happening.Stopped reason thread) s = told-sound s _ (is-plain s _ refl refl refl) (refl, tt) refl (walked-event _ (asks s.kept))
+after_happening-sound (happening.Continued thread) s = told-sound s _ (is-plain s _ refl refl refl) (refl, tt) refl (walked-event _ (asks s.kept))
+after_happening-sound (happening.Exited code) s =
+    told-sound s _ (is-plain s _ refl refl refl) (refl, (refl, tt)) refl (walked-append _ _ (asks s.kept) (asks s.kept) (asks s.kept) (walked-event _ (asks s.kept)) (walked-event _ (asks s.kept)))
+
+reply-sound : (s : Session) (r : Reply) → IsSound (Unit {0}) s [] (after_poll_reply s r)
+reply-sound s done = no_change-sound s
+reply-sound s refused = no_change-sound s
+reply-sound s (happened h) = after_happening-sound h s
+
+polls-sound : (b : Bool) (s : Session) (made : Made) → CanMake (if b then asking to_poll (after_poll_reply s) else at_once (no_change s)) made → IsSound (Unit {0}) s [] made
+polls-sound true s made is = subst (λ (x : Made). IsSound (Unit {0}) s [] x) (sym is.1) (reply-sound s is.0)
+polls-sound false s made is = subst (λ (x : Made). IsSound (Unit {0}) s [] x) (sym is) (no_change-sound s)
+
+pub poll-is : (s : Session) (made : Made) → CanMake (polls s) made → IsSound (Unit {0}) s [] made
+poll-is s made is = polls-sound (has_debuggee s.phase) s made is

@@ -1,0 +1,101 @@
+-- A message more on an outbox, and that a client reads it.
+use Rattle.std.proofs.Common.{◌≡◌, ℕ, ◌+◌, ◌<◌, ◌≤◌, List, [], ◌∷◌, ◌++◌, Result, Ok, Err, IfOk, length, refl, sym, ap, ◌∙◌, subst, append_assoc, arith, length-append}
+use Rattle.std.specs.List.{AllByRecursion}
+use Rattle.std.proofs.lemmas.List.{append-nil}
+use Rattle.dap_json.specs.Field.{max_seq}
+use Rattle.dap_frame.specs.Written.{frame_of}
+use Rattle.dap_message.specs.Canon.{canon}
+use Rattle.dap_message.specs.AdapterMessages.{failure_response, success_response, event_message, FixedBody, body_of, AdapterEvent, event_name, event_body}
+use Rattle.dap_message.specs.Lengths.{IsWithin, max_fixed, FailuresAreShort, FixedResponsesAreShort, EventsAreShort}
+use Rattle.dap_message.specs.Meaning.{Msg}
+use Rattle.dap_message.specs.ReadBack.{ReadsBack, AllReadBack}
+use Rattle.dap_message.specs.Refusals.{max_command}
+use Rattle.dap_message.specs.Types.Failure.{Failure}
+use Rattle.dap_message.specs.declared.message.Message.{Message}
+use Rattle.dap_tables.specs.declared.entry.Entry.{Entry}
+use Rattle.dap_session.specs.InRange.{IsRequestInRange, IsDraftInRange}
+use Rattle.dap_session.specs.Plan.{Draft, message_of, numbered_messages, bytes_of}
+use Rattle.dap_session.specs.PrivateOutbox.{AppendsDraft}
+use Rattle.dap_session.specs.declared.outbox.Outbox.{Outbox}
+
+numbered_messages-append : (used : ℕ) (ds : List Draft) (d : Draft) → numbered_messages used (ds ++ d ∷ []) ≡ numbered_messages used ds ++ message_of (used + length ds + 1) d ∷ []
+numbered_messages-append used [] d = let e : used + 0 ≡ used = omega arith in rw e refl
+numbered_messages-append used (x ∷ ds) d =
+    let e : (used + 1) + length ds + 1 ≡ used + length (x ∷ ds) + 1 = omega arith in
+    ap (λ (ms : List Message). message_of (used + 1) x ∷ ms) (numbered_messages-append (used + 1) ds d ∙ ap (λ n. numbered_messages (used + 1) ds ++ message_of n d ∷ []) e)
+
+bytes_of-append : (ms : List Message) (m : Message) → bytes_of (ms ++ m ∷ []) ≡ bytes_of ms ++ frame_of (canon m)
+bytes_of-append [] m = append-nil (frame_of (canon m))
+bytes_of-append (x ∷ ms) m = ap (λ (bs : List ℕ). frame_of (canon x) ++ bs) (bytes_of-append ms m) ∙ sym (append_assoc (frame_of (canon x)) (bytes_of ms) (frame_of (canon m)))
+
+-- ---- messages that are read again
+
+reads-more : (a b : ℕ) (m : Message) → a ≤ b → ReadsBack a m → ReadsBack b m
+reads-more a b m h r = let short = r.fits in record { fits = omega arith; reads = r.reads }
+
+-- a text that was measured
+pub reads-text : (most : ℕ) (text : List ℕ) (m : Message) → text ≡ canon m → length text ≤ most → Msg text m → ReadsBack most m
+reads-text most text m e short r = record { fits = subst (λ (bs : List ℕ). length bs ≤ most) e short; reads = subst (λ (bs : List ℕ). Msg bs m) e r }
+
+-- a failure, which is short
+pub reads-failure : FailuresAreShort → (seq : ℕ) (r : Entry) (f : Failure) (text : List ℕ) → text ≡ canon (failure_response seq r.seq r.command f)
+    → (seq ≤ max_seq → r.seq ≤ max_seq → length r.command ≤ max_command → Msg text (failure_response seq r.seq r.command f)) → seq ≤ max_seq → IsRequestInRange r → ReadsBack max_fixed (failure_response seq r.seq r.command f)
+reads-failure short seq r f text e reads s i = record { fits = short seq r.seq r.command f s i.seq i.command; reads = subst (λ (bs : List ℕ). Msg bs (failure_response seq r.seq r.command f)) e (reads s i.seq i.command) }
+
+-- a success with a body of a fixed shape
+pub reads-success : FixedResponsesAreShort → (seq : ℕ) (r : Entry) (shape : FixedBody) (text : List ℕ) → text ≡ canon (success_response seq r.seq r.command (body_of shape))
+    → (seq ≤ max_seq → r.seq ≤ max_seq → length r.command ≤ max_command → Msg text (success_response seq r.seq r.command (body_of shape))) → seq ≤ max_seq → IsRequestInRange r → ReadsBack max_fixed (success_response seq r.seq r.command (body_of shape))
+reads-success short seq r shape text e reads s i = record { fits = short seq r.seq r.command shape s i.seq i.command; reads = subst (λ (bs : List ℕ). Msg bs (success_response seq r.seq r.command (body_of shape))) e (reads s i.seq i.command) }
+
+-- an event
+pub reads-event : EventsAreShort → (seq : ℕ) (event : AdapterEvent) (text : List ℕ) → IsWithin event → text ≡ canon (event_message seq (event_name event) (event_body event))
+    → (seq ≤ max_seq → Msg text (event_message seq (event_name event) (event_body event))) → seq ≤ max_seq → ReadsBack max_fixed (event_message seq (event_name event) (event_body event))
+reads-event short seq event text w e reads s = record { fits = short seq event s w; reads = subst (λ (bs : List ℕ). Msg bs (event_message seq (event_name event) (event_body event))) e (reads s) }
+
+-- two things of what a call returned
+pub both-ok : {T E : Type 0} (r : Result T E) (P Q R : T → Type 0) → ((x : T) → P x → Q x → R x) → IfOk r P → IfOk r Q → IfOk r R
+both-ok (Ok x) P Q R f p q = f x p q
+both-ok (Err e) P Q R f p q = tt
+
+-- ---- all of a list
+
+all-more : {A : Type 0} (P : A → Type 0) (xs : List A) (x : A) → AllByRecursion P xs → P x → AllByRecursion P (xs ++ x ∷ [])
+all-more P [] x a p = (p, tt)
+all-more P (y ∷ ys) x a p = (a.0, all-more P ys x a.1 p)
+
+all-front : {A : Type 0} (P : A → Type 0) (xs ys : List A) → AllByRecursion P (xs ++ ys) → AllByRecursion P xs
+all-front P [] ys a = tt
+all-front P (x ∷ xs) ys a = (a.0, all-front P xs ys a.1)
+
+all-last : {A : Type 0} (P : A → Type 0) (xs : List A) (x : A) → AllByRecursion P (xs ++ x ∷ []) → P x
+all-last P [] x a = a.0
+all-last P (y ∷ ys) x a = all-last P ys x a.1
+
+-- ---- an outbox
+
+pub writes-one : (most : ℕ) (old new : Outbox) (d : Draft) → new.bytes.items ≡ old.bytes.items ++ frame_of (canon (message_of (old.numbers.used + 1) d)) → new.numbers.used ≡ old.numbers.used + 1 → new.numbers.last ≡ old.numbers.last
+    → old.numbers.used < old.numbers.last → (old.numbers.used + 1 ≤ max_seq → IsDraftInRange d → ReadsBack most (message_of (old.numbers.used + 1) d)) → AppendsDraft most old new d
+writes-one most old new d b u l left reads =
+    record {
+      last = l;
+      given = u;
+      holds =
+          λ limit used ds fits h.
+          let count = length-append ds (d ∷ []) in
+          let so_far = h.count in
+          let in_range = h.in_range in
+          let at : old.numbers.used + 1 ≡ used + length ds + 1 = omega arith in
+          let small : old.numbers.used + 1 ≤ max_seq = omega arith in
+          record {
+            bytes = b ∙ (rw (h.bytes, at) (sym (bytes_of-append (numbered_messages used ds) (message_of (used + length ds + 1) d)) ∙ ap bytes_of (sym (numbered_messages-append used ds d))));
+            count = omega arith;
+            in_range = omega arith;
+            room = h.room;
+            reads_back =
+                λ answers.
+                let one = reads-more most limit _ fits (reads small (all-last IsDraftInRange ds d answers)) in
+                let here = subst (λ n. ReadsBack limit (message_of n d)) at one in
+                subst (λ (ms : List Message). AllReadBack limit ms) (sym (numbered_messages-append used ds d))
+                (all-more (ReadsBack limit) (numbered_messages used ds) (message_of (used + length ds + 1) d) (h.reads_back (all-front IsDraftInRange ds (d ∷ []) answers)) here);
+          };
+    }

@@ -1,0 +1,99 @@
+-- A turn is a row of the table, or one failure: where no failure holds, the request is of a command that is served, with arguments that suit.
+use Rattle.std.proofs.Common.{◌≡◌, ℕ, ◌+◌, ◌≤◌, [], ◌∷◌, Bool, true, false, Option, Some, None, Result, Ok, Err, refl, sym, ap, ◌∙◌, subst, arith}
+use Rattle.std.specs.Prelude.{◌||◌, ◌&&◌, not, nat_le, if◌then◌else◌, option_map, find, List}
+use Rattle.std.specs.List.{list_any}
+use Rattle.std.proofs.lemmas.Bool.Decides.{nat_tests}
+use Rattle.dap_message.specs.Argument.{Read}
+use Rattle.dap_message.specs.Types.Call.{Call}
+use Rattle.dap_message.specs.Types.Command.{Command}
+use Rattle.dap_message.specs.Types.Failure.{Failure}
+use Rattle.dap_message.specs.Types.Failure.TheVariants.{NotInitialized, UnknownCommand, BadArguments, WrongPhase, NotStopped}
+use Rattle.dap_tables.specs.Outstanding.{Kept}
+use Rattle.dap_debuggee.specs.Shown.{Shown}
+use Rattle.dap_session.specs.declared.effect.Effect.{Effect}
+use Rattle.dap_session.specs.declared.fault.AdapterFault.{AdapterFault}
+use Rattle.dap_session.specs.declared.phase.Phase.{Phase}
+use Rattle.dap_session.specs.declared.phase.Phase.TheVariants.{Fresh}
+use Rattle.dap_session.specs.Failures.{command_of, call_in, first_failure, or_else, when, name_refused, key_refused, phase_refused, call_refused, read_refused, known_refused, refusal, waits_for_stop}
+use Rattle.dap_session.specs.Handling.{plan_of_call, plan_of_command, plan_unless, plan as plan_at, some_plan, turn_of, turns}
+use Rattle.dap_session.specs.Plan.{Plan, messages_due, plan_within_numbers}
+use Rattle.dap_session.specs.Session.{Session, oldest}
+use Rattle.dap_session.specs.Table.{Row, rows_of, effect_in, is_served, is_among, is_phase}
+use Rattle.dap_session.proofs.Fewer.{IsHandled}
+use Rattle.dap_session.proofs.Kept.{kept-found, found-passes}
+use Rattle.dap_session.proofs.Outcomes.{IsRow, failed-row}
+use Rattle.dap_session.proofs.Rows.{plan_for-row}
+use Rattle.dap_session.proofs.ServedRows.{unserved}
+use Rattle.dap_session.proofs.SetLines.{call-suits}
+
+-- ---- where no failure holds
+
+-- the command is known
+unknown-fails : (b : Bool) → first_failure (first_failure (when b NotInitialized ∷ None ∷ Some UnknownCommand ∷ None ∷ []) ∷ None ∷ []) ≡ None → ⊥
+unknown-fails true h = cc
+unknown-fails false h = cc
+
+-- its arguments are read
+badly-fails : (name : Option Failure) (f : Failure) (later : Option Failure) → or_else name (or_else (or_else (Some f) later) None) ≡ None → ⊥
+badly-fails (Some g) f later h = cc
+badly-fails None f later h = cc
+
+-- and it is served
+unserved-fails : (name : Option Failure) (waits : Bool) (call : Option Failure) → or_else name (or_else (or_else None (or_else (or_else (when (not waits) WrongPhase) (or_else (Some NotStopped) None)) call)) None) ≡ None → ⊥
+unserved-fails (Some g) waits call h = cc
+unserved-fails None true call h = cc
+unserved-fails None false call h = cc
+
+-- ---- the rows
+
+served-row : (view : Shown) (s : Session) (k : Kept) (c : Command) (o : Option Effect) (read : Read Call) → IsHandled s k → effect_in c s.phase ≡ o → call_in k.entry c ≡ read
+    → first_failure (name_refused s.phase (Some c) ∷ first_failure (key_refused read ∷ phase_refused s.phase c ∷ read_refused view s.references read ∷ []) ∷ []) ≡ None → IsRow s (plan_of_call view s k.entry o read)
+served-row view s k c (Some e) (Ok asked) i h r none = plan_for-row e view s k asked i (call-suits c s.phase k.entry.arguments e asked h r)
+served-row view s k c o (Err key) i h r none = absurd (badly-fails (name_refused s.phase (Some c)) (BadArguments key) None none)
+served-row view s k c None (Ok asked) i h r none =
+    let not_served : is_served c s.phase ≡ false = unserved s.phase c h in
+    absurd (unserved-fails (name_refused s.phase (Some c)) (waits_for_stop s.phase c) (or_else (call_refused view s.references asked) None) (rw not_served at none))
+
+command-row : (view : Shown) (s : Session) (k : Kept) (o : Option Command) → IsHandled s k → first_failure (name_refused s.phase o ∷ known_refused view s k.entry o ∷ []) ≡ None → IsRow s (plan_of_command view s k.entry o)
+command-row view s k None i none = absurd (unknown-fails (is_phase Fresh s.phase && true) none)
+command-row view s k (Some c) i none = served-row view s k c (effect_in c s.phase) (call_in k.entry c) i refl refl none
+
+unless-row : (view : Shown) (s : Session) (k : Kept) (o : Option Failure) → IsHandled s k → refusal view s k.entry ≡ o → IsRow s (plan_unless o view s k.entry)
+unless-row view s k (Some f) i h = failed-row s k f i
+unless-row view s k None i h = command-row view s k (command_of k.entry) i h
+
+-- ---- a plan that is afforded
+
+pub afforded : (b : Bool) (p q : Plan) (fault : AdapterFault) → (let given : Result Plan AdapterFault = (if b then Ok p else Err fault) in given) ≡ Ok q → (b ≡ true) × (q ≡ p)
+afforded true p q fault e = (refl, cc)
+afforded false p q fault e = cc
+
+some-afforded : (given : Result Plan AdapterFault) (q : Plan) → some_plan given ≡ Ok (Some q) → given ≡ Ok q
+some-afforded (Ok p) q e = cc
+some-afforded (Err fault) q e = cc
+
+pub le-of : (a b : ℕ) → nat_le a b ≡ true → a ≤ b
+le-of a b h = grind (arith, nat_tests)
+
+-- ---- the turn
+
+not-parked : (b : Bool) → not b ≡ true → b ≡ false
+not-parked true h = cc
+not-parked false h = refl
+
+-- a row, for which there are own numbers enough
+pub record IsTurn (s : Session) (plan : Plan) : Type 0 where
+  pub row : IsRow s plan
+  pub room : s.used + messages_due plan ≤ s.limits.seq
+
+turn-of : (view : Shown) (s : Session) (o : Option Kept) (plan : Plan) → oldest s.kept ≡ o → turn_of view s o ≡ Ok (Some plan) → IsTurn s plan
+turn-of view s None plan is e = cc
+turn-of view s (Some k) plan is e =
+    let p = plan_at view s k.entry in
+    let given = afforded (nat_le (s.used + messages_due p) s.limits.seq) p plan _ (some-afforded (plan_within_numbers s p) plan e) in
+    let handled : IsHandled s k = record { kept = kept-found (λ (x : Kept). not x.parked) s.kept k is; unparked = not-parked k.parked (found-passes (λ (x : Kept). not x.parked) s.kept k is) } in
+    let row = unless-row view s k (refusal view s k.entry) handled refl in
+    subst (λ (x : Plan). IsTurn s x) (sym given.1) (record { row = row; room = le-of (s.used + messages_due p) s.limits.seq given.0 })
+
+pub turn-is : (view : Shown) (s : Session) (plan : Plan) → turns view s ≡ Ok (Some plan) → IsTurn s plan
+turn-is view s plan e = turn-of view s (oldest s.kept) plan refl e

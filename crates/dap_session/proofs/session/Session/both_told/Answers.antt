@@ -1,4 +1,0 @@
-use Rattle.dap_session.proofs.session.Session.both_told.Goals as goal
-
-pub returns-clause-holds : goal.returns-clause-holds
-returns-clause-holds g c = c.in_ok-reply.ensures.holds _ _ _ c.in_ok-sheet.ensures.holds.room c.in_ok-sheet.ensures.holds

@@ -1,0 +1,47 @@
+-- The code's words for what a call is about to write.
+use Rattle.std.specs.Prelude.{◌≡◌, ℕ, ◌+◌, ◌≤◌, List, [], ◌∷◌, ◌++◌, length, Option, Some, None}
+use Rattle.dap_json.specs.Field.{max_seq}
+use Rattle.dap_message.specs.AdapterMessages.{AdapterEvent, initialized, output, stopped, continued, exited, terminated, FixedBody, none, offers, all_go_on, body_of}
+use Rattle.dap_message.specs.Lengths.{max_fixed}
+use Rattle.dap_message.specs.ReadBack.{AllReadBack}
+use Rattle.dap_debuggee.specs.Shown.{category_name}
+use Rattle.dap_session.specs.declared.outbox.Answer.{Answer}
+use Rattle.dap_session.specs.declared.outbox.Answer.TheVariants.{Success, Failure}
+use Rattle.dap_session.specs.declared.outbox.Fixed.{Fixed}
+use Rattle.dap_session.specs.declared.outbox.Fixed.TheVariants.{Offers, AllGoOn}
+use Rattle.dap_session.specs.declared.outbox.Event.{Event}
+use Rattle.dap_session.specs.declared.outbox.Event.TheVariants.{Initialized, Output, Stopped, Continued, Exited, Terminated}
+use Rattle.dap_session.specs.declared.outbox.Outbox.{Outbox}
+use Rattle.dap_session.specs.InRange.{AnswersInRange}
+use Rattle.dap_session.specs.Plan.{Answer as AnswerWord, success, failure, Draft, numbered_messages, bytes_of}
+
+abbrev pub shape_of : Option Fixed → FixedBody
+shape_of None = none
+shape_of (Some (Offers capabilities)) = offers capabilities
+shape_of (Some AllGoOn) = all_go_on
+
+abbrev pub answer_of : Answer → AnswerWord
+answer_of (Success body) = success (body_of (shape_of body)) []
+answer_of (Failure f) = failure f
+
+abbrev pub event_of : Event → AdapterEvent
+event_of Initialized = initialized
+event_of (Output category text) = output (category_name category) text
+event_of (Stopped reason thread) = stopped reason thread
+event_of (Continued thread) = continued thread
+event_of (Exited code) = exited code
+event_of Terminated = terminated
+
+-- the outbox holds just these messages, numbered after the first ones that were used; a client whose bodies have at most so many bytes reads each
+pub record Holds (outbox : Outbox) (limit used : ℕ) (ds : List Draft) : Type 0 where
+  pub bytes : outbox.bytes.items ≡ bytes_of (numbered_messages used ds)
+  pub count : outbox.numbers.used ≡ used + length ds
+  pub in_range : outbox.numbers.last ≤ max_seq
+  pub room : max_fixed ≤ limit
+  pub reads_back : AnswersInRange ds → AllReadBack limit (numbered_messages used ds)
+
+-- one message more, which a client reads whose bodies may have so many bytes
+pub record AppendsDraft (most : ℕ) (old new : Outbox) (d : Draft) : Type 0 where
+  pub last : new.numbers.last ≡ old.numbers.last
+  pub given : new.numbers.used ≡ old.numbers.used + 1
+  pub holds : (limit used : ℕ) (ds : List Draft) → most ≤ limit → Holds old limit used ds → Holds new limit used (ds ++ d ∷ [])
