@@ -10,22 +10,18 @@ use Rattle.dap_message.specs.InRange.{ReadIsInRange}
 use Rattle.dap_message.specs.declared.message.Message.{Message}
 use Rattle.dap_debuggee.specs.Shown.{Shown}
 use Rattle.dap_session.specs.declared.fault.AdapterFault.{AdapterFault}
-use Rattle.dap_session.specs.Carried.{Goes, CarriedOut}
+use Rattle.dap_session.specs.Carried.{Goes}
 use Rattle.dap_session.specs.Follows.{Follows}
-use Rattle.dap_session.specs.Laws.{CanMake, EachStepGoesOn}
-use Rattle.dap_session.specs.Plan.{Made, Plan, at_once, asking, entries_of}
+use Rattle.dap_session.specs.Laws.{CanMake, can_make, EachStepGoesOn}
+use Rattle.dap_session.specs.Plan.{Made, Plan, entries_of}
 use Rattle.dap_session.specs.Polling.{polls}
 use Rattle.dap_session.specs.SessionState.{SessionState, Carries, HasTurned}
 use Rattle.dap_session.specs.Session.{Session, fresh_session}
 use Rattle.dap_session.specs.Within.{IsWithin, EachStepStaysWithin}
 use Rattle.dap_adapter.specs.Calls.{Step, Handled, Saw}
-use Rattle.dap_adapter.specs.AdapterState.{AdapterState}
+use Rattle.dap_adapter.specs.AdapterState.{AdapterState, state_of}
 use Rattle.dap_adapter.specs.StandsFor.{GoesOn}
 use Rattle.dap_adapter.proofs.Readable.{step-reads}
-
-pub can-make : {D : Type 0} (follows : Goes D) (plan : Plan) (v w : D) (made : Made) → CarriedOut follows plan v made w → CanMake plan made
-can-make follows (at_once m) v w made c = c.0
-can-make follows (asking act makes) v w made c = (c.0, c.2)
 
 -- no fault was met
 pub none-met : (fault : Option AdapterFault) → ((f : AdapterFault) → fault ≡ Some f → ⊥) → fault ≡ None
@@ -44,36 +40,34 @@ bounds-stay old new i l b = i ∙ (b ∙ ap bounds_of (sym l))
 
 -- a step without bytes of the client
 pub stepped : {D : Type 0} (grow : HistoriesGrow) (ranges : ReadIsInRange) (laws : EachStepGoesOn) (follows : Goes D) (plan : Plan) (old new : AdapterState D) (bytes : List ℕ) (from to : SessionState D)
-    → from ≡ record { session = old.session; debuggee = old.debuggee } → to ≡ record { session = new.session; debuggee = new.debuggee } → new.intake ≡ old.intake
+    → from ≡ state_of old → to ≡ state_of new → new.intake ≡ old.intake
     → new.fault ≡ None → new.session.limits ≡ old.session.limits
     → Carries follows plan from to bytes
     → ((made : Made) (h : List Entry) → CanMake plan made → IsWithin old.session → Follows old.session h → Follows made.after (h ++ entries_of old.session.used made))
     → ((made : Made) → CanMake plan made → new.session ≡ made.after → IsWithin old.session → IsWithin made.after)
     → Step follows plan old new [] [] bytes
 stepped grow ranges laws follows plan old new bytes from to a b i fault limits c go stay =
-    let carried = rw (a, b) at c.carried in
-    let session = rw b at c.by.session in
-    let can = can-make follows plan _ _ c.made carried in
-    let goes : GoesOn old new [] (entries_of old.session.used c.made) =
+    let carries : Carries follows plan (state_of old) (state_of new) bytes = rw (a, b) at c in
+    let step = carries.step in
+    let can = can_make follows plan _ _ step.made step.carried in
+    let goes : GoesOn old new [] (entries_of old.session.used step.made) =
     λ s h st.
     record {
       no_fault = fault;
-      received = rw (i, append-nil s) (received-more grow old.intake s h (entries_of old.session.used c.made) (laws.none_come old.session.used c.made) st.received);
-      session = rw session (go c.made h can st.within st.session);
-      within = rw session (stay c.made can session st.within);
+      received = rw (i, append-nil s) (received-more grow old.intake s h (entries_of old.session.used step.made) (laws.none_come old.session.used step.made) st.received);
+      session = rw step.after (go step.made h can st.within st.session);
+      within = rw step.after (stay step.made can step.after st.within);
       bounds = bounds-stay old new (ap (λ (x : Intake). x.bounds) i) limits st.bounds;
     } in
     record {
-      made = c.made;
-      carried = carried;
-      session = session;
-      bytes_are = rw a at c.by.bytes_are;
+      session = step;
+      bytes_are = carries.tells.bytes_are;
       goes_on = goes;
-      reads_back = step-reads ranges old new [] [] c.made goes (rw a at c.by.reads_back);
+      reads_back = step-reads ranges old new [] [] step.made goes carries.tells.reads_back;
     }
 
 pub handled : {D : Type 0} (grow : HistoriesGrow) (ranges : ReadIsInRange) (laws : EachStepGoesOn) (within : EachStepStaysWithin) (shown : D → Shown) (follows : Goes D) (old new : AdapterState D) (bytes : List ℕ) (from to : SessionState D)
-    → from ≡ record { session = old.session; debuggee = old.debuggee } → to ≡ record { session = new.session; debuggee = new.debuggee } → new.intake ≡ old.intake
+    → from ≡ state_of old → to ≡ state_of new → new.intake ≡ old.intake
     → new.fault ≡ None → new.session.limits ≡ old.session.limits
     → HasTurned shown follows from to bytes → Handled shown follows old bytes new
 handled grow ranges laws within shown follows old new bytes from to a b i fault limits t =
@@ -94,7 +88,7 @@ pub fresh-within : (limits : Settings) → IsWithin (fresh_session limits)
 fresh-within limits = record { distinct = tt; kept = omega arith; used = omega arith; references = omega arith; numbers = omega arith; breakpoints = omega arith; ids = omega arith }
 
 pub sees : {D : Type 0} (grow : HistoriesGrow) (ranges : ReadIsInRange) (laws : EachStepGoesOn) (within : EachStepStaysWithin) (follows : Goes D) (old new : AdapterState D) (bytes : List ℕ) (from to : SessionState D)
-    → from ≡ record { session = old.session; debuggee = old.debuggee } → to ≡ record { session = new.session; debuggee = new.debuggee } → new.intake ≡ old.intake
+    → from ≡ state_of old → to ≡ state_of new → new.intake ≡ old.intake
     → new.fault ≡ None → new.session.limits ≡ old.session.limits
     → Carries follows (polls from.session) from to bytes → new.session.used ≤ old.session.limits.seq → Saw follows old bytes new
 sees grow ranges laws within follows old new bytes from to a b i fault limits c w =

@@ -1,5 +1,5 @@
 -- An adapter stands for the bytes that come, from what the reader of messages says.
-use Rattle.std.proofs.Common.{◌≡◌, ℕ, List, [], ◌∷◌, ◌++◌, Option, Some, None, Ok, refl, ap, sym, ◌∙◌, take}
+use Rattle.std.proofs.Common.{◌≡◌, ℕ, List, [], ◌∷◌, ◌++◌, Option, Some, None, Ok, ap, sym, ◌∙◌, take}
 use Rattle.std.proofs.lemmas.List.{append-nil}
 use Rattle.dap_frame.specs.Feeds.{Completes, Gathers}
 use Rattle.dap_frame.specs.Intake.{Intake, IsUnderWay, StandsFor as StandsForStream}
@@ -10,17 +10,16 @@ use Rattle.dap_message.specs.InRange.{ReadIsInRange}
 use Rattle.dap_message.specs.Meaning.{Msg}
 use Rattle.dap_message.specs.declared.message.Message.{Message}
 use Rattle.dap_session.specs.Carried.{Goes}
-use Rattle.dap_session.specs.Laws.{CanMake, EachStepGoesOn}
+use Rattle.dap_session.specs.Laws.{CanMake, can_make, EachStepGoesOn}
 use Rattle.dap_session.specs.Plan.{Made, Plan, entries_of}
 use Rattle.dap_session.specs.SessionState.{SessionState}
 use Rattle.dap_session.specs.Taking.{takes}
 use Rattle.dap_session.specs.Within.{EachStepStaysWithin}
 use Rattle.dap_adapter.specs.Calls.{Takes}
-use Rattle.dap_adapter.specs.AdapterState.{AdapterState}
+use Rattle.dap_adapter.specs.AdapterState.{AdapterState, state_of}
 use Rattle.dap_adapter.specs.PrivateReceives.{HasReceived}
 use Rattle.dap_adapter.specs.StandsFor.{GoesOn}
 use Rattle.dap_adapter.specs.declared.taken.Taken.{Taken}
-use Rattle.dap_adapter.proofs.Adapting.{can-make}
 use Rattle.dap_adapter.proofs.Readable.{step-reads}
 
 -- the frame is still under way
@@ -70,7 +69,7 @@ delivers-goes_on grow laws within old new ready piece n m plan made c read gathe
 
 -- what became of the reader and of the session, said of the adapter
 pub received : {D : Type 0} (grow : HistoriesGrow) (ranges : ReadIsInRange) (laws : EachStepGoesOn) (within : EachStepStaysWithin) (follows : Goes D) (old new : AdapterState D) (from to : SessionState D) (piece : List ℕ) (taken : Taken) (delivered : Option Message)
-    → from ≡ record { session = old.session; debuggee = old.debuggee } → to ≡ record { session = new.session; debuggee = new.debuggee }
+    → from ≡ state_of old → to ≡ state_of new
     → new.intake.bounds ≡ old.intake.bounds → new.session.limits ≡ old.session.limits → new.fault ≡ None
     → HasReceived follows old.intake new.intake from to piece taken delivered → Takes follows old piece taken delivered new
 received grow ranges laws within follows old new from to piece taken None a b bounds limits fault w =
@@ -85,19 +84,18 @@ received grow ranges laws within follows old new from to piece taken None a b bo
     }
 received grow ranges laws within follows old new from to piece taken (Some m) a b bounds limits fault d =
     let has = rw (a, b) at d.has_taken in
-    let can = can-make follows has.plan _ _ has.carries.made has.carries.carried in
-    let goes = delivers-goes_on grow laws within old new d.gives.whole.ready piece taken.used m has.plan has.carries.made d.gives.whole.completes d.gives.read d.gives.under_way bounds d.gives.stands has.is can has.carries.by.session limits fault in
+    let step = has.carries.step in
+    let can = can_make follows has.plan _ _ step.made step.carried in
+    let goes = delivers-goes_on grow laws within old new d.gives.whole.ready piece taken.used m has.plan step.made d.gives.whole.completes d.gives.read d.gives.under_way bounds d.gives.stands has.is can step.after limits fault in
     record {
       whole = d.gives.whole;
       read = d.gives.read;
       plan = has.plan;
       is = has.is;
       step = record {
-        made = has.carries.made;
-        carried = has.carries.carried;
-        session = has.carries.by.session;
-        bytes_are = has.carries.by.bytes_are;
+        session = step;
+        bytes_are = has.carries.tells.bytes_are;
         goes_on = goes;
-        reads_back = step-reads ranges old new (take taken.used piece) (In m ∷ []) has.carries.made goes has.carries.by.reads_back;
+        reads_back = step-reads ranges old new (take taken.used piece) (In m ∷ []) step.made goes has.carries.tells.reads_back;
       };
     }

@@ -51,9 +51,9 @@ module _ {D : Type 0} (shown : D → Shown) (follows : Goes D) (limits : Setting
   event_came x seq event body is =
       let p = fresh_state limits d in
       let none = no_change (fresh_session limits) in
-      sees (x ∷ []) [] [] p p 0
+      sees (x ∷ []) [] p p 0
       (idles (x ∷ []) [] p
-      (delivers [] [] [] p p x (record { seq = seq; kind = Event event body }) (at_once none) begins refl is refl (record { made = none; carried = (refl, refl); session = refl; outs_are = refl }))
+      (delivers [] [] p p x (record { seq = seq; kind = Event event body }) (at_once none) begins refl is refl (record { made = none; carried = (refl, refl); after = refl }))
       refl)
-      (record { made = none; carried = (refl, refl); session = refl; outs_are = refl })
+      (record { made = none; carried = (refl, refl); after = refl })
       (omega arith)

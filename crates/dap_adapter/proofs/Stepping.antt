@@ -1,5 +1,5 @@
 -- Each step of serving goes on as its run does.
-use Rattle.std.proofs.Common.{◌≡◌, ℕ, ◌+◌, List, [], ◌∷◌, ◌++◌, take, drop, Bool, true, false, Option, Some, None, Ok, refl, sym, ap, ◌∙◌, subst, arith, append_assoc, append-nil}
+use Rattle.std.proofs.Common.{◌≡◌, ℕ, ◌+◌, List, [], ◌∷◌, ◌++◌, take, drop, Bool, true, false, Option, Some, None, Ok, sym, ap, ◌∙◌, subst, arith, append_assoc, append-nil}
 use Rattle.std.proofs.lemmas.List.{take-append-drop, take_all}
 use Rattle.dap_frame.specs.Intake.{Intake, StandsFor as StandsForStream}
 use Rattle.dap_frame.specs.Laws.{EachStreamHasOneSplit}
@@ -8,9 +8,9 @@ use Rattle.dap_frame.specs.Stream.{Split}
 use Rattle.dap_frame.specs.declared.limits.Bounds.{Bounds}
 use Rattle.dap_message.specs.declared.message.Message.{Message}
 use Rattle.dap_session.specs.Handling.{turns}
-use Rattle.dap_session.specs.Plan.{numbered_messages, bytes_of, entries_of}
+use Rattle.dap_session.specs.Plan.{written_by, bytes_of, entries_of}
 use Rattle.dap_adapter.specs.Calls.{Handled, Saw, Delivers, Waits, Takes}
-use Rattle.dap_adapter.specs.AdapterState.{AdapterState}
+use Rattle.dap_adapter.specs.AdapterState.{AdapterState, state_of}
 use Rattle.dap_adapter.specs.StandsFor.{StandsFor}
 use Rattle.dap_adapter.specs.Run.{to_take, to_turn, to_poll, has_ended, after_poll, fresh_state, Run, handles as one_handled, idles, sees, delivers}
 use Rattle.dap_adapter.specs.Served.{MakesSome}
@@ -25,7 +25,7 @@ pub turned : {C D : Type 0} (b : Serving C D) (v : Progress C D) (f : AdapterSta
 turned b v f n used later bytes r x l =
     let e = v.end in
     let h = r.handles in
-    let now = numbered_messages e.session.used x.step.made.drafts in
+    let now = written_by e.session x.step.session.made in
     record {
       outs = r.outs;
       now = now;
@@ -34,10 +34,10 @@ turned b v f n used later bytes r x l =
       makes = makes_of b e (place_at n used later []) r.outs to_turn h;
       handles = record {
         bodies = h.bodies;
-        history = h.history ++ entries_of e.session.used x.step.made;
-        stands = subst (λ (z : List ℕ). StandsFor f z (h.history ++ entries_of e.session.used x.step.made)) (append-nil used) (x.step.goes_on used h.history h.stands);
+        history = h.history ++ entries_of e.session.used x.step.session.made;
+        stands = subst (λ (z : List ℕ). StandsFor f z (h.history ++ entries_of e.session.used x.step.session.made)) (append-nil used) (x.step.goes_on used h.history h.stands);
         stream = subst (λ (z : Intake). StandsForStream z used h.bodies []) (sym x.intake) h.stream;
-        run = one_handled h.bodies r.outs now (record { session = e.session; debuggee = e.debuggee }) (record { session = f.session; debuggee = f.debuggee }) x.plan h.run x.is (record { made = x.step.made; carried = x.step.carried; session = x.step.session; outs_are = refl });
+        run = one_handled h.bodies r.outs (state_of e) (state_of f) x.plan h.run x.is x.step.session;
         limits_are = l ∙ h.limits_are;
       };
     }
@@ -56,7 +56,7 @@ idled b v f n used later r x same =
         history = h.history;
         stands = h.stands;
         stream = h.stream;
-        run = idles h.bodies r.outs (record { session = v.end.session; debuggee = v.end.debuggee }) h.run x;
+        run = idles h.bodies r.outs (state_of v.end) h.run x;
         limits_are = h.limits_are;
       };
     } in
@@ -68,9 +68,9 @@ pub told : {C D : Type 0} (b : Serving C D) (v : Progress C D) (f : AdapterState
 told b v f n made used later bytes r x l =
     let e = v.end in
     let h = r.handles in
-    let now = numbered_messages e.session.used x.step.made.drafts in
-    let ran : Run b.shown b.follows (fresh_state b.start.limits b.start.debuggee) h.bodies (r.outs ++ now) (after_poll (made + 1) (bytes_of now) f.session.phase) (record { session = f.session; debuggee = f.debuggee }) =
-    sees h.bodies r.outs now (record { session = e.session; debuggee = e.debuggee }) (record { session = f.session; debuggee = f.debuggee }) made h.run (record { made = x.step.made; carried = x.step.carried; session = x.step.session; outs_are = refl }) x.within in
+    let now = written_by e.session x.step.session.made in
+    let ran : Run b.shown b.follows (fresh_state b.start.limits b.start.debuggee) h.bodies (r.outs ++ now) (after_poll (made + 1) (bytes_of now) f.session.phase) (state_of f) =
+    sees h.bodies r.outs (state_of e) (state_of f) made h.run x.step.session x.within in
     record {
       outs = r.outs;
       now = now;
@@ -79,10 +79,10 @@ told b v f n made used later bytes r x l =
       makes = makes_of b e (place_at n used later []) r.outs (to_poll made) h;
       handles = record {
         bodies = h.bodies;
-        history = h.history ++ entries_of e.session.used x.step.made;
-        stands = subst (λ (z : List ℕ). StandsFor f z (h.history ++ entries_of e.session.used x.step.made)) (append-nil used) (x.step.goes_on used h.history h.stands);
+        history = h.history ++ entries_of e.session.used x.step.session.made;
+        stands = subst (λ (z : List ℕ). StandsFor f z (h.history ++ entries_of e.session.used x.step.session.made)) (append-nil used) (x.step.goes_on used h.history h.stands);
         stream = subst (λ (z : Intake). StandsForStream z used h.bodies []) (sym x.intake) h.stream;
-        run = subst (λ (z : List ℕ). Run b.shown b.follows (fresh_state b.start.limits b.start.debuggee) h.bodies (r.outs ++ now) (after_poll (made + 1) z f.session.phase) (record { session = f.session; debuggee = f.debuggee })) (sym x.step.bytes_are) ran;
+        run = subst (λ (z : List ℕ). Run b.shown b.follows (fresh_state b.start.limits b.start.debuggee) h.bodies (r.outs ++ now) (after_poll (made + 1) z f.session.phase) (state_of f)) (sym x.step.bytes_are) ran;
         limits_are = l ∙ h.limits_are;
       };
     }
@@ -105,7 +105,7 @@ module _ {C D : Type 0} (b : Serving C D) (v : Progress C D) (f : AdapterState D
   took split m open_session x l =
       let e = v.end in
       let h = r.handles in
-      let now = numbered_messages e.session.used x.step.made.drafts in
+      let now = written_by e.session x.step.session.made in
       let ready = x.whole.ready in
       let k = taken.used in
       let at = used ++ take k piece in
@@ -128,7 +128,7 @@ module _ {C D : Type 0} (b : Serving C D) (v : Progress C D) (f : AdapterState D
           history = _;
           stands = got;
           stream = stream;
-          run = delivers h.bodies r.outs now (record { session = e.session; debuggee = e.debuggee }) (record { session = f.session; debuggee = f.debuggee }) ready.held m x.plan h.run open_session x.read x.is (record { made = x.step.made; carried = x.step.carried; session = x.step.session; outs_are = refl });
+          run = delivers h.bodies r.outs (state_of e) (state_of f) ready.held m x.plan h.run open_session x.read x.is x.step.session;
           limits_are = l ∙ h.limits_are;
         };
       }

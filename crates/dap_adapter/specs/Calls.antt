@@ -1,5 +1,5 @@
 -- What the calls of an adapter do, as their contracts say it.
-use Rattle.std.specs.Prelude.{◌≡◌, ℕ, ◌+◌, ◌<◌, ◌≤◌, List, [], ◌∷◌, ◌++◌, length, take, Option, Some, None, Ok, Err, ⊤, true}
+use Rattle.std.specs.Prelude.{◌≡◌, ℕ, ◌<◌, ◌≤◌, List, [], ◌∷◌, ◌++◌, take, Option, Some, None, Ok, Err, ⊤, true}
 use Rattle.dap_frame.specs.Feeds.{Gathers}
 use Rattle.dap_frame.specs.Intake.{Intake}
 use Rattle.dap_frame.specs.Settings.{Settings, bounds_of}
@@ -15,25 +15,23 @@ use Rattle.dap_session.specs.declared.fault.AdapterFault.TheVariants.{Frame, Bod
 use Rattle.dap_adapter.specs.declared.taken.Taken.{Taken}
 use Rattle.dap_adapter.specs.declared.taken.Turned.{Turned}
 use Rattle.dap_adapter.specs.declared.taken.Turned.TheVariants.{Idle, Done}
-use Rattle.dap_session.specs.Carried.{Goes, CarriedOut}
+use Rattle.dap_session.specs.Carried.{Goes}
 use Rattle.dap_session.specs.Handling.{turns}
-use Rattle.dap_session.specs.Plan.{Made, Plan, numbered_messages, bytes_of, entries_of}
+use Rattle.dap_session.specs.Plan.{Plan, written_by, bytes_of, entries_of}
 use Rattle.dap_session.specs.Polling.{polls, has_debuggee}
-use Rattle.dap_session.specs.SessionState.{IsUnasked}
+use Rattle.dap_session.specs.SessionState.{SessionStep, IsUnasked, HasTooMany}
 use Rattle.dap_session.specs.Session.{Session, to_handle}
 use Rattle.dap_reader.specs.Reader.{Reader}
-use Rattle.dap_adapter.specs.AdapterState.{AdapterState}
+use Rattle.dap_adapter.specs.AdapterState.{AdapterState, state_of}
 use Rattle.dap_adapter.specs.StandsFor.{StandsFor, GoesOn}
 use Rattle.dap_session.specs.Taking.{takes}
 
--- the session went on by a plan, over these bytes of the client and what came with them; a client with the same limit on bodies reads each message that it wrote
+-- its session made a step, over these bytes of the client and what came with them; a client with the same limit on bodies reads each message that it wrote
 pub record Step {D : Type 0} (follows : Goes D) (plan : Plan) (old new : AdapterState D) (used : List ℕ) (came : List Entry) (bytes : List ℕ) : Type 0 where
-  pub made : Made
-  pub carried : CarriedOut follows plan old.debuggee made new.debuggee
-  pub session : new.session ≡ made.after
-  pub bytes_are : bytes ≡ bytes_of (numbered_messages old.session.used made.drafts)
-  pub goes_on : GoesOn old new used (came ++ entries_of old.session.used made)
-  pub reads_back : (s : List ℕ) (h : List Entry) → StandsFor old s h → AllReadBack old.session.limits.body (numbered_messages old.session.used made.drafts)
+  pub session : SessionStep follows plan (state_of old) (state_of new)
+  pub bytes_are : bytes ≡ bytes_of (written_by old.session session.made)
+  pub goes_on : GoesOn old new used (came ++ entries_of old.session.used session.made)
+  pub reads_back : (s : List ℕ) (h : List Entry) → StandsFor old s h → AllReadBack old.session.limits.body (written_by old.session session.made)
 
 -- ---- take
 
@@ -101,16 +99,10 @@ pub record Saw {D : Type 0} (follows : Goes D) (old : AdapterState D) (bytes : L
   pub step : Step follows (polls old.session) old new [] [] bytes
   pub within : new.session.used ≤ old.session.limits.seq
 
--- the events of what happened were more than own numbers are left
-pub record TooManyEvents {D : Type 0} (follows : Goes D) (old new : AdapterState D) : Type 0 where
-  pub made : Made
-  pub carried : CarriedOut follows (polls old.session) old.debuggee made new.debuggee
-  pub short : old.session.limits.seq < old.session.used + length made.drafts
-
--- why a poll was refused. Memory may be refused where there is a debuggee to ask
+-- why a poll was refused: the events of what happened were more than own numbers are left, or memory was refused, where there is a debuggee to ask
 abbrev pub PollRefused : {D : Type 0} → Goes D → AdapterState D → AdapterFault → AdapterState D → Type 0
 PollRefused follows old OutOfMemory new = has_debuggee old.session.phase ≡ true
-PollRefused follows old SeqExhausted new = TooManyEvents follows old new
+PollRefused follows old SeqExhausted new = HasTooMany follows (polls old.session) (state_of old) (state_of new)
 PollRefused follows old fault new = ⊥
 
 -- ---- what holds between calls

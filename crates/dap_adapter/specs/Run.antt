@@ -10,26 +10,25 @@ use Rattle.dap_session.specs.declared.phase.Phase.{Phase}
 use Rattle.dap_session.specs.declared.phase.Phase.TheVariants.{Stopped, Ended}
 use Rattle.dap_session.specs.Carried.{Goes}
 use Rattle.dap_session.specs.Handling.{turns}
-use Rattle.dap_session.specs.Plan.{Plan, bytes_of}
+use Rattle.dap_session.specs.Plan.{Plan, written_by, bytes_of}
 use Rattle.dap_session.specs.Polling.{polls}
-use Rattle.dap_session.specs.SessionState.{SessionState}
+use Rattle.dap_session.specs.SessionState.{SessionState, SessionStep}
 use Rattle.dap_session.specs.Session.{Session, fresh_session}
 use Rattle.dap_session.specs.Table.{is_phase}
 use Rattle.dap_session.specs.Taking.{takes}
-use Rattle.dap_session.specs.Writing.{Writes}
 
 -- what is done next: a message is delivered, a request is handled, or the debuggee is asked what happened, so many times already since the message
 pub data Next : Type 0 where
   to_take : Next
   to_turn : Next
-  to_poll : (made : ℕ) → Next
+  to_poll : (asks : ℕ) → Next
 
 -- the debuggee is asked no more after one that gave no bytes, in a stop, and after 65536 times
 abbrev pub is_last_poll : ℕ → List ℕ → Phase → Bool
-is_last_poll made bytes phase = (length bytes == 0) || is_phase Stopped phase || (made == 65536)
+is_last_poll asks bytes phase = (length bytes == 0) || is_phase Stopped phase || (asks == 65536)
 
 abbrev pub after_poll : ℕ → List ℕ → Phase → Next
-after_poll made bytes phase = if is_last_poll made bytes phase then to_take else to_poll made
+after_poll asks bytes phase = if is_last_poll asks bytes phase then to_take else to_poll asks
 
 -- nothing is delivered any more
 abbrev pub has_ended : Session → Bool
@@ -43,21 +42,21 @@ fresh_state limits debuggee = record { session = fresh_session limits; debuggee 
 pub data Run {D : Type 0} (shown : D → Shown) (follows : Goes D) (start : SessionState D) : List (List ℕ) → List Message → Next → SessionState D → Type 0 where
   begins : Run shown follows start [] [] to_take start
   -- the next body is a message, and it is delivered
-  delivers : (xs : List (List ℕ)) (outs now : List Message) (p q : SessionState D) (x : List ℕ) (m : Message) (plan : Plan)
-      → Run shown follows start xs outs to_take p → has_ended p.session ≡ false → Msg x m → takes m p.session ≡ Ok plan → Writes follows plan p now q
-      → Run shown follows start (xs ++ x ∷ []) (outs ++ now) to_turn q
+  delivers : (xs : List (List ℕ)) (outs : List Message) (p q : SessionState D) (x : List ℕ) (m : Message) (plan : Plan)
+      → Run shown follows start xs outs to_take p → has_ended p.session ≡ false → Msg x m → takes m p.session ≡ Ok plan → (step : SessionStep follows plan p q)
+      → Run shown follows start (xs ++ x ∷ []) (outs ++ written_by p.session step.made) to_turn q
   -- the oldest request that is not parked is handled
-  handles : (xs : List (List ℕ)) (outs now : List Message) (p q : SessionState D) (plan : Plan)
-      → Run shown follows start xs outs to_turn p → turns (shown p.debuggee) p.session ≡ Ok (Some plan) → Writes follows plan p now q
-      → Run shown follows start xs (outs ++ now) to_turn q
+  handles : (xs : List (List ℕ)) (outs : List Message) (p q : SessionState D) (plan : Plan)
+      → Run shown follows start xs outs to_turn p → turns (shown p.debuggee) p.session ≡ Ok (Some plan) → (step : SessionStep follows plan p q)
+      → Run shown follows start xs (outs ++ written_by p.session step.made) to_turn q
   -- no request waits to be handled
   idles : (xs : List (List ℕ)) (outs : List Message) (p : SessionState D)
       → Run shown follows start xs outs to_turn p → turns (shown p.debuggee) p.session ≡ Ok None
       → Run shown follows start xs outs (to_poll 0) p
   -- what happened is told
-  sees : (xs : List (List ℕ)) (outs now : List Message) (p q : SessionState D) (made : ℕ)
-      → Run shown follows start xs outs (to_poll made) p → Writes follows (polls p.session) p now q → q.session.used ≤ p.session.limits.seq
-      → Run shown follows start xs (outs ++ now) (after_poll (made + 1) (bytes_of now) q.session.phase) q
+  sees : (xs : List (List ℕ)) (outs : List Message) (p q : SessionState D) (asks : ℕ)
+      → Run shown follows start xs outs (to_poll asks) p → (step : SessionStep follows (polls p.session) p q) → q.session.used ≤ p.session.limits.seq
+      → Run shown follows start xs (outs ++ written_by p.session step.made) (after_poll (asks + 1) (bytes_of (written_by p.session step.made)) q.session.phase) q
 
 -- a run over the frames of these bytes, with this rest after them
 pub record RanTo {D : Type 0} (shown : D → Shown) (follows : Goes D) (limits : Settings) (start : D) (used : List ℕ) (xs : List (List ℕ)) (rest : List ℕ) (outs : List Message) (next : Next) (p : SessionState D) : Type 0 where

@@ -1,5 +1,5 @@
 -- What an adapter stands for: the bytes that it used, and the history of what came and what it handed out.
-use Rattle.std.specs.Prelude.{◌≡◌, ℕ, List, [], ◌++◌, None}
+use Rattle.std.specs.Prelude.{◌≡◌, ℕ, List, ◌++◌, None}
 use Rattle.dap_frame.specs.Settings.{bounds_of}
 use Rattle.dap_history.specs.History.{Entry}
 use Rattle.dap_history.specs.Received.{Received}

@@ -157,7 +157,7 @@ impl<D: Debuggee + Drop> Adapter<D> {
     /// # Errors
     /// `SeqExhausted` where more messages are due than own numbers are left: then neither the session nor the debuggee has
     /// changed. `OutOfMemory` where memory is refused: then the debuggee has not changed either, unless the request is one
-    /// that starts, resumes or pauses it. Where no request waits, no memory is asked for.
+    /// that starts, resumes or pauses it, or sets its breakpoints. Where no request waits, no memory is asked for.
     pub fn turn(&mut self, alloc: Global) -> Result<Turned, AdapterFault>
         ensures gives { IfOk result (λ turned. TurnGives D.shown D.follows self.old turned self.new) }
         ensures open { OnOk result (self.new.fault ≡ None) }

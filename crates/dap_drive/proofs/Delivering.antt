@@ -14,9 +14,8 @@ use Rattle.dap_message.specs.Refusals.{Bad}
 use Rattle.dap_message.specs.declared.fault.BodyRefusal.{BodyRefusal}
 use Rattle.dap_message.specs.declared.message.Message.{Message}
 use Rattle.dap_session.specs.Carried.{CarriedOut}
-use Rattle.dap_session.specs.Plan.{Plan, numbered_messages, bytes_of, entries_of}
-use Rattle.dap_session.specs.SessionState.{SessionState}
-use Rattle.dap_session.specs.Writing.{Writes}
+use Rattle.dap_session.specs.Plan.{Plan, written_by, bytes_of, entries_of}
+use Rattle.dap_session.specs.SessionState.{SessionState, SessionStep}
 use Rattle.dap_session.specs.Session.{Session}
 use Rattle.dap_session.specs.Taking.{takes}
 use Rattle.dap_session.specs.declared.fault.AdapterFault.{AdapterFault}
@@ -266,30 +265,31 @@ module _ {D : Type 0} (laws : FrameLaws) (drive : Driving D) (agrees : EachSched
 
   -- by a step, after which whole frames came still
   pub adapter_steps : (old new : AdapterState D) (p : SessionState D) (a : IsAdapterAt drive.limits old p) (plan : Plan) (used : List ℕ) (came : List Entry) (bytes : List ℕ) (s : Step drive.follows plan old new used came bytes) → new.session.limits ≡ old.session.limits
-      → (s.goes_on a.came a.history a.stands).received.rest ≡ [] → IsAdapterAt drive.limits new (record { session = s.made.after; debuggee = new.debuggee })
+      → (s.goes_on a.came a.history a.stands).received.rest ≡ [] → IsAdapterAt drive.limits new (record { session = s.session.made.after; debuggee = new.debuggee })
   adapter_steps old new p a plan used came bytes s keeps between = record {
-    session_is = s.session;
+    session_is = s.session.after;
     debuggee_is = refl;
-    limits_are = ap (λ (z : Session). z.limits) (sym s.session) ∙ (keeps ∙ (ap (λ (z : Session). z.limits) a.session_is ∙ a.limits_are));
+    limits_are = ap (λ (z : Session). z.limits) (sym s.session.after) ∙ (keeps ∙ (ap (λ (z : Session). z.limits) a.session_is ∙ a.limits_are));
     came = a.came ++ used;
-    history = a.history ++ (came ++ entries_of old.session.used s.made);
+    history = a.history ++ (came ++ entries_of old.session.used s.session.made);
     stands = s.goes_on a.came a.history a.stands;
     between = between;
   }
 
-  pub step_writes : (old new : AdapterState D) (p : SessionState D) (a : IsAdapterAt drive.limits old p) (plan : Plan) (used : List ℕ) (came : List Entry) (bytes : List ℕ) (s : Step drive.follows plan old new used came bytes)
-      → Writes drive.follows plan p (numbered_messages p.session.used s.made.drafts) (record { session = s.made.after; debuggee = new.debuggee })
-  step_writes old new p a plan used came bytes s = record { made = s.made; carried = subst (λ (z : D). CarriedOut drive.follows plan z s.made new.debuggee) a.debuggee_is s.carried; session = refl; outs_are = refl }
+  abbrev pub step_of : (old new : AdapterState D) (p : SessionState D) (a : IsAdapterAt drive.limits old p) (plan : Plan) (used : List ℕ) (came : List Entry) (bytes : List ℕ) (s : Step drive.follows plan old new used came bytes)
+      → SessionStep drive.follows plan p (record { session = s.session.made.after; debuggee = new.debuggee })
+  step_of old new p a plan used came bytes s =
+      record { made = s.session.made; carried = subst (λ (z : D). CarriedOut drive.follows plan z s.session.made new.debuggee) a.debuggee_is s.session.carried; after = refl }
 
   -- what it writes is read back
-  pub step_back : (old new : AdapterState D) (p : SessionState D) (a : IsAdapterAt drive.limits old p) (plan : Plan) (used : List ℕ) (came : List Entry) (bytes : List ℕ) (s : Step drive.follows plan old new used came bytes) → AllReadBack p.session.limits.body (numbered_messages p.session.used s.made.drafts)
-  step_back old new p a plan used came bytes s = subst (λ (z : Session). AllReadBack z.limits.body (numbered_messages z.used s.made.drafts)) a.session_is (s.reads_back a.came a.history a.stands)
+  pub step_back : (old new : AdapterState D) (p : SessionState D) (a : IsAdapterAt drive.limits old p) (plan : Plan) (used : List ℕ) (came : List Entry) (bytes : List ℕ) (s : Step drive.follows plan old new used came bytes) → AllReadBack p.session.limits.body (written_by p.session s.session.made)
+  step_back old new p a plan used came bytes s = subst (λ (z : Session). AllReadBack z.limits.body (written_by z s.session.made)) a.session_is (s.reads_back a.came a.history a.stands)
 
-  pub step_within : (old new : AdapterState D) (p : SessionState D) (a : IsAdapterAt drive.limits old p) (plan : Plan) (used : List ℕ) (came : List Entry) (bytes : List ℕ) (s : Step drive.follows plan old new used came bytes) → AllReadBack drive.limits.body (numbered_messages p.session.used s.made.drafts)
-  step_within old new p a plan used came bytes s = subst (λ (z : Settings). AllReadBack z.body (numbered_messages p.session.used s.made.drafts)) a.limits_are (step_back old new p a plan used came bytes s)
+  pub step_within : (old new : AdapterState D) (p : SessionState D) (a : IsAdapterAt drive.limits old p) (plan : Plan) (used : List ℕ) (came : List Entry) (bytes : List ℕ) (s : Step drive.follows plan old new used came bytes) → AllReadBack drive.limits.body (written_by p.session s.session.made)
+  step_within old new p a plan used came bytes s = subst (λ (z : Settings). AllReadBack z.body (written_by p.session s.session.made)) a.limits_are (step_back old new p a plan used came bytes s)
 
-  pub step_bytes : (old new : AdapterState D) (p : SessionState D) (a : IsAdapterAt drive.limits old p) (plan : Plan) (used : List ℕ) (came : List Entry) (bytes : List ℕ) (s : Step drive.follows plan old new used came bytes) → bytes ≡ bytes_of (numbered_messages p.session.used s.made.drafts)
-  step_bytes old new p a plan used came bytes s = s.bytes_are ∙ ap (λ (z : Session). bytes_of (numbered_messages z.used s.made.drafts)) a.session_is
+  pub step_bytes : (old new : AdapterState D) (p : SessionState D) (a : IsAdapterAt drive.limits old p) (plan : Plan) (used : List ℕ) (came : List Entry) (bytes : List ℕ) (s : Step drive.follows plan old new used came bytes) → bytes ≡ bytes_of (written_by p.session s.session.made)
+  step_bytes old new p a plan used came bytes s = s.bytes_are ∙ ap (λ (z : Session). bytes_of (written_by z s.session.made)) a.session_is
 
   -- where no bytes came
   pub still_between : (old new : AdapterState D) (p : SessionState D) (a : IsAdapterAt drive.limits old p) (plan : Plan) (came : List Entry) (bytes : List ℕ) (s : Step drive.follows plan old new [] came bytes) → new.session.limits ≡ old.session.limits
@@ -323,8 +323,8 @@ module _ {D : Type 0} (laws : FrameLaws) (drive : Driving D) (agrees : EachSched
       let stands = s.goes_on a.came a.history a.stands in
       let same_limits : next.session.limits ≡ drive.limits = keeps ∙ (ap (λ (z : Session). z.limits) a.session_is ∙ a.limits_are) in
       let new_bounds : next.intake.bounds ≡ b = stands.bounds ∙ ap bounds_of same_limits in
-      let seat : SessionState D = record { session = s.made.after; debuggee = next.debuggee } in
-      let outs = numbered_messages p.session.used s.made.drafts in
+      let seat : SessionState D = record { session = s.session.made.after; debuggee = next.debuggee } in
+      let outs = written_by p.session s.session.made in
       let lines = written laws drive.limits Adapter outs taken.bytes.items ends.transcript longer_transcript later h.at.in_range (step_within ends.adapter next p a d.plan used came taken.bytes.items s) (step_bytes ends.adapter next p a d.plan used came taken.bytes.items s) w in
       let world : World D = adapter_said seat outs (record h.world { up = xs }) in
       let step : ComesUp drive.follows h.world world =
@@ -334,11 +334,12 @@ module _ {D : Type 0} (laws : FrameLaws) (drive : Driving D) (agrees : EachSched
         first = first;
         plan = d.plan;
         taken = subst (λ (z : Message). takes z p.session ≡ Ok d.plan) same (subst (λ (z : Session). takes m z ≡ Ok d.plan) a.session_is d.is);
-        outs = outs;
-        seat = seat;
-        writes = step_writes ends.adapter next p a d.plan used came taken.bytes.items s;
-        reads_back = step_back ends.adapter next p a d.plan used came taken.bytes.items s;
-        is = refl;
+        step = record {
+          seat = seat;
+          session = step_of ends.adapter next p a d.plan used came taken.bytes.items s;
+          reads_back = step_back ends.adapter next p a d.plan used came taken.bytes.items s;
+          is = refl;
+        };
       } in
       record {
         world = world;
@@ -384,7 +385,7 @@ module _ {D : Type 0} (laws : FrameLaws) (drive : Driving D) (agrees : EachSched
   step_framed ends next up down h plan used came bytes s given is refuses =
       let a = h.at.adapter_at in
       let p = h.world.adapter in
-      not_unwritten laws drive.limits (numbered_messages p.session.used s.made.drafts) given ends.reader h.at.in_range (step_within ends.adapter next p a plan used came bytes s) (is ∙ step_bytes ends.adapter next p a plan used came bytes s) h.at.reader_at refuses
+      not_unwritten laws drive.limits (written_by p.session s.session.made) given ends.reader h.at.in_range (step_within ends.adapter next p a plan used came bytes s) (is ∙ step_bytes ends.adapter next p a plan used came bytes s) h.at.reader_at refuses
 
   pub served_framed : (ends : BothEnds D) (next : AdapterState D) (rest down : List ℕ) → At ends rest down → (taken : Taken) (delivered : Option Message) → AdapterTakes drive.follows ends.adapter rest taken delivered next
       → (bytes : List ℕ) → bytes ≡ taken.bytes.items → IsUnwritten unwritten.Frames ends.reader bytes → ⊥

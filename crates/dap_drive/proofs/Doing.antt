@@ -14,7 +14,8 @@ use Rattle.dap_history.specs.History.{Out}
 use Rattle.dap_message.specs.PlainCall.{is_plain_call}
 use Rattle.dap_message.specs.Types.Call.{Call}
 use Rattle.dap_session.specs.Handling.{turns}
-use Rattle.dap_session.specs.Plan.{Plan, Made, numbered_messages, bytes_of}
+use Rattle.dap_session.specs.Carried.{CarriedOut}
+use Rattle.dap_session.specs.Plan.{Plan, Made, written_by, bytes_of}
 use Rattle.dap_session.specs.Polling.{polls}
 use Rattle.dap_session.specs.SessionState.{SessionState}
 use Rattle.dap_session.specs.Session.{Session, to_handle, fresh_session as fresh_adapter}
@@ -49,7 +50,7 @@ use Rattle.dap_drive.specs.declared.fault.DriveFault.{DriveFault}
 use Rattle.dap_drive.specs.declared.fault.DriveFault.TheVariants as fault
 use Rattle.dap_drive.specs.declared.script.Order.TheVariants.{Turn as ToTurn, Poll as ToPoll, Run as ToRun}
 use Rattle.dap_drive.specs.declared.writing.Unwritten.TheVariants as unwritten
-use Rattle.dap_drive.proofs.Delivering.{longer, written, not_unwritten, adapter_steps, step_writes, step_back, step_within, step_bytes, still_between}
+use Rattle.dap_drive.proofs.Delivering.{longer, written, not_unwritten, adapter_steps, step_of, step_back, step_within, step_bytes, still_between}
 use Rattle.dap_drive.proofs.Streams.{none as no_frames, none_left, between_still}
 
 -- ---- part by part
@@ -262,7 +263,7 @@ module _ {D : Type 0} (laws : FrameLaws) (drive : Driving D) (agrees : EachSched
   seat_after new after = record { session = after; debuggee = new.debuggee }
 
   abbrev out_of : World D → Made → List Message
-  out_of start made = numbered_messages start.adapter.session.used made.drafts
+  out_of start made = written_by start.adapter.session made
 
   abbrev spoke : AdapterState D → Made → World D → World D
   spoke new made start = adapter_said (seat_after new made.after) (out_of start made) start
@@ -271,41 +272,47 @@ module _ {D : Type 0} (laws : FrameLaws) (drive : Driving D) (agrees : EachSched
       → IsUnwritten unwritten.Frames ends.reader given → ⊥
   step_framed ends new bytes given start q plan s is refuses =
       let a = q.at.adapter_at in
-      not_unwritten laws drive.limits (out_of start s.made) given ends.reader q.at.in_range (step_within laws drive agrees start ends.adapter new start.adapter a plan [] [] bytes s) (is ∙ step_bytes laws drive agrees start ends.adapter new start.adapter a plan [] [] bytes s) q.at.reader_at refuses
+      not_unwritten laws drive.limits (out_of start s.session.made) given ends.reader q.at.in_range (step_within laws drive agrees start ends.adapter new start.adapter a plan [] [] bytes s) (is ∙ step_bytes laws drive agrees start ends.adapter new start.adapter a plan [] [] bytes s) q.at.reader_at refuses
 
-  turns_so : (ends : BothEnds D) (new : AdapterState D) (bytes : List ℕ) (start : World D) (q : IsQuiet drive ends start) (t : Handled drive.shown drive.follows ends.adapter bytes new) → Turns drive.shown drive.follows start (spoke new t.step.made start)
+  turns_so : (ends : BothEnds D) (new : AdapterState D) (bytes : List ℕ) (start : World D) (q : IsQuiet drive ends start) (t : Handled drive.shown drive.follows ends.adapter bytes new) → Turns drive.shown drive.follows start (spoke new t.step.session.made start)
   turns_so ends new bytes start q t =
       let a = q.at.adapter_at in
       record {
         plan = t.plan;
         turned = rw (a.session_is, a.debuggee_is) at t.is;
-        outs = out_of start t.step.made;
-        seat = seat_after new t.step.made.after;
-        writes = step_writes laws drive agrees start ends.adapter new start.adapter a t.plan [] [] bytes t.step;
-        reads_back = step_back laws drive agrees start ends.adapter new start.adapter a t.plan [] [] bytes t.step;
-        is = refl;
+        step = record {
+          seat = seat_after new t.step.session.made.after;
+          session = step_of laws drive agrees start ends.adapter new start.adapter a t.plan [] [] bytes t.step;
+          reads_back = step_back laws drive agrees start ends.adapter new start.adapter a t.plan [] [] bytes t.step;
+          is = refl;
+        };
       }
 
-  polls_so : (ends : BothEnds D) (new : AdapterState D) (bytes : List ℕ) (start : World D) (q : IsQuiet drive ends start) (t : Saw drive.follows ends.adapter bytes new) → Polls drive.follows start (spoke new t.step.made start)
+  polls_so : (ends : BothEnds D) (new : AdapterState D) (bytes : List ℕ) (start : World D) (q : IsQuiet drive ends start) (t : Saw drive.follows ends.adapter bytes new) → Polls drive.follows start (spoke new t.step.session.made start)
   polls_so ends new bytes start q t =
       let a = q.at.adapter_at in
       record {
-        outs = out_of start t.step.made;
-        seat = seat_after new t.step.made.after;
-        writes = rw a.session_is at (step_writes laws drive agrees start ends.adapter new start.adapter a (polls ends.adapter.session) [] [] bytes t.step);
-        within = rw (a.session_is, t.step.session) at t.within;
-        reads_back = step_back laws drive agrees start ends.adapter new start.adapter a (polls ends.adapter.session) [] [] bytes t.step;
-        is = refl;
+        step = record {
+          seat = seat_after new t.step.session.made.after;
+          session = record {
+            made = t.step.session.made;
+            carried = subst (λ (z : Session). CarriedOut drive.follows (polls z) start.adapter.debuggee t.step.session.made new.debuggee) a.session_is (step_of laws drive agrees start ends.adapter new start.adapter a (polls ends.adapter.session) [] [] bytes t.step).carried;
+            after = refl;
+          };
+          reads_back = step_back laws drive agrees start ends.adapter new start.adapter a (polls ends.adapter.session) [] [] bytes t.step;
+          is = refl;
+        };
+        within = rw (a.session_is, t.step.session.after) at t.within;
       }
 
-  spoken : (ends : BothEnds D) (new : AdapterState D) (later : Intake) (longer_transcript bytes : List ℕ) (start : World D) (q : IsQuiet drive ends start) (plan : Plan) (s : Step drive.follows plan ends.adapter new [] [] bytes) → Schedule drive.shown drive.follows drive.limits drive.debuggee (spoke new s.made start)
+  spoken : (ends : BothEnds D) (new : AdapterState D) (later : Intake) (longer_transcript bytes : List ℕ) (start : World D) (q : IsQuiet drive ends start) (plan : Plan) (s : Step drive.follows plan ends.adapter new [] [] bytes) → Schedule drive.shown drive.follows drive.limits drive.debuggee (spoke new s.session.made start)
       → new.session.limits ≡ ends.adapter.session.limits → (w : WritesLines drive.limits later Adapter bytes ends.transcript longer_transcript)
-      → HasDelivered drive (spoke new s.made start) (record ends { adapter = new; reader = later; transcript = longer_transcript }) [] bytes
+      → HasDelivered drive (spoke new s.session.made start) (record ends { adapter = new; reader = later; transcript = longer_transcript }) [] bytes
   spoken ends new later longer_transcript bytes start q plan s schedule keeps w =
       let a = q.at.adapter_at in
-      let lines = written laws drive.limits Adapter (out_of start s.made) bytes ends.transcript longer_transcript later q.at.in_range (step_within laws drive agrees start ends.adapter new start.adapter a plan [] [] bytes s) (step_bytes laws drive agrees start ends.adapter new start.adapter a plan [] [] bytes s) w in
+      let lines = written laws drive.limits Adapter (out_of start s.session.made) bytes ends.transcript longer_transcript later q.at.in_range (step_within laws drive agrees start ends.adapter new start.adapter a plan [] [] bytes s) (step_bytes laws drive agrees start ends.adapter new start.adapter a plan [] [] bytes s) w in
       record {
-        world = spoke new s.made start;
+        world = spoke new s.session.made start;
         delivers = none;
         at = record {
           in_range = q.at.in_range;
@@ -313,28 +320,28 @@ module _ {D : Type 0} (laws : FrameLaws) (drive : Driving D) (agrees : EachSched
           client_at = q.at.client_at;
           adapter_at = adapter_steps laws drive agrees start ends.adapter new start.adapter a plan [] [] bytes s keeps (still_between laws drive agrees start ends.adapter new start.adapter a plan [] bytes s keeps);
           reader_at = w.between;
-          transcript_is = longer laws drive.limits Adapter (out_of start s.made) start.said ends.transcript longer_transcript q.at.transcript_is lines.lines;
+          transcript_is = longer laws drive.limits Adapter (out_of start s.session.made) start.said ends.transcript longer_transcript q.at.transcript_is lines.lines;
         };
         up_is = nothing_framed drive.limits start.up q.none_up;
-        down_is = subst (λ (z : List Message). AreFramesOf drive.limits (z ++ out_of start s.made) bytes) (sym q.none_down) lines.frames;
+        down_is = subst (λ (z : List Message). AreFramesOf drive.limits (z ++ out_of start s.session.made) bytes) (sym q.none_down) lines.frames;
       }
 
   pub turn_spoken : (ends : BothEnds D) (new : AdapterState D) (later : Intake) (longer_transcript bytes : List ℕ) (start : World D) (q : IsQuiet drive ends start) (t : Handled drive.shown drive.follows ends.adapter bytes new)
-      → new.session.limits ≡ ends.adapter.session.limits → (w : WritesLines drive.limits later Adapter bytes ends.transcript longer_transcript) → HasDelivered drive (spoke new t.step.made start) (record ends { adapter = new; reader = later; transcript = longer_transcript }) [] bytes
+      → new.session.limits ≡ ends.adapter.session.limits → (w : WritesLines drive.limits later Adapter bytes ends.transcript longer_transcript) → HasDelivered drive (spoke new t.step.session.made start) (record ends { adapter = new; reader = later; transcript = longer_transcript }) [] bytes
   turn_spoken ends new later longer_transcript bytes start q t keeps w =
-      spoken ends new later longer_transcript bytes start q t.plan t.step (goes start (spoke new t.step.made start) q.at.schedule (by_turning (turns_so ends new bytes start q t))) keeps w
+      spoken ends new later longer_transcript bytes start q t.plan t.step (goes start (spoke new t.step.session.made start) q.at.schedule (by_turning (turns_so ends new bytes start q t))) keeps w
 
   pub poll_spoken : (ends : BothEnds D) (new : AdapterState D) (later : Intake) (longer_transcript bytes : List ℕ) (start : World D) (q : IsQuiet drive ends start) (t : Saw drive.follows ends.adapter bytes new)
-      → new.session.limits ≡ ends.adapter.session.limits → (w : WritesLines drive.limits later Adapter bytes ends.transcript longer_transcript) → HasDelivered drive (spoke new t.step.made start) (record ends { adapter = new; reader = later; transcript = longer_transcript }) [] bytes
+      → new.session.limits ≡ ends.adapter.session.limits → (w : WritesLines drive.limits later Adapter bytes ends.transcript longer_transcript) → HasDelivered drive (spoke new t.step.session.made start) (record ends { adapter = new; reader = later; transcript = longer_transcript }) [] bytes
   poll_spoken ends new later longer_transcript bytes start q t keeps w =
-      spoken ends new later longer_transcript bytes start q (polls ends.adapter.session) t.step (goes start (spoke new t.step.made start) q.at.schedule (by_polling (polls_so ends new bytes start q t))) keeps w
+      spoken ends new later longer_transcript bytes start q (polls ends.adapter.session) t.step (goes start (spoke new t.step.session.made start) q.at.schedule (by_polling (polls_so ends new bytes start q t))) keeps w
 
   pub turn_done : (ends last : BothEnds D) (new : AdapterState D) (bytes : List ℕ) (start : World D) (q : IsQuiet drive ends start) (t : Handled drive.shown drive.follows ends.adapter bytes new)
-      → HasSettled drive (spoke new t.step.made start) last → HasDone drive (HasTurned drive.shown drive.follows true) start last
+      → HasSettled drive (spoke new t.step.session.made start) last → HasDone drive (HasTurned drive.shown drive.follows true) start last
   turn_done ends last new bytes start q t h =
       record {
         world = h.world;
-        done = record { turned = spoke new t.step.made start; turns = turns_so ends new bytes start q t; settles = h.settles };
+        done = record { turned = spoke new t.step.session.made start; turns = turns_so ends new bytes start q t; settles = h.settles };
         quiet = record { at = h.at; none_up = h.settles.none_up; none_down = h.settles.none_down };
       }
 
@@ -359,16 +366,16 @@ module _ {D : Type 0} (laws : FrameLaws) (drive : Driving D) (agrees : EachSched
 
   pub poll_done : (ends final : BothEnds D) (new : AdapterState D) (bytes : List ℕ) (start : World D) (q : IsQuiet drive ends start) (t : Saw drive.follows ends.adapter bytes new)
       → (last : Bool) → last ≡ (length bytes == 0) || is_phase Stopped new.session.phase
-      → HasSettled drive (spoke new t.step.made start) final → HasDone drive (HasPolled drive.follows last) start final
+      → HasSettled drive (spoke new t.step.session.made start) final → HasDone drive (HasPolled drive.follows last) start final
   unfolding polls_so
   poll_done ends final new bytes start q t last is h =
       let a = q.at.adapter_at in
-      let bytes_is : bytes ≡ bytes_of (out_of start t.step.made) = step_bytes laws drive agrees start ends.adapter new start.adapter a (polls ends.adapter.session) [] [] bytes t.step in
+      let bytes_is : bytes ≡ bytes_of (out_of start t.step.session.made) = step_bytes laws drive agrees start ends.adapter new start.adapter a (polls ends.adapter.session) [] [] bytes t.step in
       record {
         world = h.world;
         done = record {
-          does = record { polled = spoke new t.step.made start; polls = polls_so ends new bytes start q t; settles = h.settles };
-          last_is = is ∙ (ap (λ (z : List ℕ). (length z == 0) || is_phase Stopped new.session.phase) bytes_is ∙ ap (λ (z : Session). (length (bytes_of (out_of start t.step.made)) == 0) || is_phase Stopped z.phase) t.step.session);
+          does = record { polled = spoke new t.step.session.made start; polls = polls_so ends new bytes start q t; settles = h.settles };
+          last_is = is ∙ (ap (λ (z : List ℕ). (length z == 0) || is_phase Stopped new.session.phase) bytes_is ∙ ap (λ (z : Session). (length (bytes_of (out_of start t.step.session.made)) == 0) || is_phase Stopped z.phase) t.step.session.after);
         };
         quiet = record { at = h.at; none_up = h.settles.none_up; none_down = h.settles.none_down };
       }
@@ -394,13 +401,13 @@ module _ {D : Type 0} (laws : FrameLaws) (drive : Driving D) (agrees : EachSched
   turn_refused ends new start q adapter_fault.OutOfMemory t = tt
 
   pub turn_stops : (ends : BothEnds D) (new : AdapterState D) (bytes : List ℕ) (start : World D) (q : IsQuiet drive ends start) (t : Handled drive.shown drive.follows ends.adapter bytes new) (f : DriveFault)
-      → StopsDelivering drive f (spoke new t.step.made start) → StopsOrder drive ToTurn f start
+      → StopsDelivering drive f (spoke new t.step.session.made start) → StopsOrder drive ToTurn f start
   turn_stops ends new bytes start q t fault.Recording h = absurd h
   turn_stops ends new bytes start q t (fault.Script line) h = absurd h
   turn_stops ends new bytes start q t (fault.Call line) h = absurd h
   turn_stops ends new bytes start q t (fault.Send line cause) h = absurd h
-  turn_stops ends new bytes start q t fault.Adapter h = record { next = to_take; now = h.0; reaches = in_turn start (spoke new t.step.made start) h.0 (turns_so ends new bytes start q t) h.1; lacks = h.2 }
-  turn_stops ends new bytes start q t fault.Client h = record { now = h.0; reaches = in_turn start (spoke new t.step.made start) h.0 (turns_so ends new bytes start q t) h.1; has = h.2 }
+  turn_stops ends new bytes start q t fault.Adapter h = record { next = to_take; now = h.0; reaches = in_turn start (spoke new t.step.session.made start) h.0 (turns_so ends new bytes start q t) h.1; lacks = h.2 }
+  turn_stops ends new bytes start q t fault.Client h = record { now = h.0; reaches = in_turn start (spoke new t.step.session.made start) h.0 (turns_so ends new bytes start q t) h.1; has = h.2 }
   turn_stops ends new bytes start q t fault.OutOfMemory h = tt
 
   pub poll_refused : (ends : BothEnds D) (new : AdapterState D) (start : World D) (q : IsQuiet drive ends start) (f : AdapterFault) → PollRefused drive.follows ends.adapter f new → StopsOrder drive ToPoll (fault_of_adapter f) start
@@ -415,13 +422,13 @@ module _ {D : Type 0} (laws : FrameLaws) (drive : Driving D) (agrees : EachSched
   poll_refused ends new start q adapter_fault.OutOfMemory t = tt
 
   pub poll_stops : (ends : BothEnds D) (new : AdapterState D) (bytes : List ℕ) (start : World D) (q : IsQuiet drive ends start) (t : Saw drive.follows ends.adapter bytes new) (f : DriveFault)
-      → StopsDelivering drive f (spoke new t.step.made start) → StopsOrder drive ToPoll f start
+      → StopsDelivering drive f (spoke new t.step.session.made start) → StopsOrder drive ToPoll f start
   poll_stops ends new bytes start q t fault.Recording h = absurd h
   poll_stops ends new bytes start q t (fault.Script line) h = absurd h
   poll_stops ends new bytes start q t (fault.Call line) h = absurd h
   poll_stops ends new bytes start q t (fault.Send line cause) h = absurd h
-  poll_stops ends new bytes start q t fault.Adapter h = record { next = to_take; now = h.0; reaches = in_poll start (spoke new t.step.made start) h.0 (polls_so ends new bytes start q t) h.1; lacks = h.2 }
-  poll_stops ends new bytes start q t fault.Client h = record { now = h.0; reaches = in_poll start (spoke new t.step.made start) h.0 (polls_so ends new bytes start q t) h.1; has = h.2 }
+  poll_stops ends new bytes start q t fault.Adapter h = record { next = to_take; now = h.0; reaches = in_poll start (spoke new t.step.session.made start) h.0 (polls_so ends new bytes start q t) h.1; lacks = h.2 }
+  poll_stops ends new bytes start q t fault.Client h = record { now = h.0; reaches = in_poll start (spoke new t.step.session.made start) h.0 (polls_so ends new bytes start q t) h.1; has = h.2 }
   poll_stops ends new bytes start q t fault.OutOfMemory h = tt
 
   -- ---- two fresh ends
@@ -483,7 +490,7 @@ module _ {D : Type 0} (laws : FrameLaws) (drive : Driving D) (agrees : EachSched
       let p = h.done in
       record {
         world = h.world;
-        done = subst (λ (z : Next). RunsTo drive.shown drive.follows start z h.world) (goes_on (made + 1) (bytes_of p.does.polls.outs) p.does.polled.adapter.session.phase (sym p.last_is ∙ e))
+        done = subst (λ (z : Next). RunsTo drive.shown drive.follows start z h.world) (goes_on (made + 1) (bytes_of (written_by v.adapter.session p.does.polls.step.session.made)) p.does.polled.adapter.session.phase (sym p.last_is ∙ e))
             (polled v h.world made (subst (λ (z : Next). RunsTo drive.shown drive.follows start z v) (polling_below made below) r) p.does);
         quiet = h.quiet;
       }
@@ -494,7 +501,7 @@ module _ {D : Type 0} (laws : FrameLaws) (drive : Driving D) (agrees : EachSched
       let p = h.done in
       record {
         world = h.world;
-        done = subst (λ (z : Next). RunsTo drive.shown drive.follows start z h.world) (ends_there (made + 1) (bytes_of p.does.polls.outs) p.does.polled.adapter.session.phase (sym p.last_is ∙ e))
+        done = subst (λ (z : Next). RunsTo drive.shown drive.follows start z h.world) (ends_there (made + 1) (bytes_of (written_by v.adapter.session p.does.polls.step.session.made)) p.does.polled.adapter.session.phase (sym p.last_is ∙ e))
             (polled v h.world made (subst (λ (z : Next). RunsTo drive.shown drive.follows start z v) (polling_below made below) r) p.does);
         quiet = h.quiet;
       }

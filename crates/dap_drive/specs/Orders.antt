@@ -6,7 +6,7 @@ use Rattle.dap_message.specs.declared.message.Message.{Message}
 use Rattle.dap_debuggee.specs.Shown.{Shown}
 use Rattle.dap_session.specs.Carried.{Goes, CarriedOut}
 use Rattle.dap_session.specs.Handling.{turns}
-use Rattle.dap_session.specs.Plan.{Made, bytes_of}
+use Rattle.dap_session.specs.Plan.{Made, written_by, bytes_of}
 use Rattle.dap_session.specs.Polling.{polls}
 use Rattle.dap_session.specs.Taking.{takes}
 use Rattle.dap_session.specs.declared.fault.AdapterFault.TheVariants.{SeqExhausted}
@@ -60,8 +60,8 @@ pub data RunsTo {D : Type 0} (shown : D → Shown) (follows : Goes D) (start : W
   begins : RunsTo shown follows start to_turn start
   handled : (v w : World D) → RunsTo shown follows start to_turn v → Handles shown follows v w → RunsTo shown follows start to_turn w
   idles : (w : World D) → RunsTo shown follows start to_turn w → IsIdle shown w → RunsTo shown follows start (to_poll 0) w
-  polled : (v w : World D) (made : ℕ) → RunsTo shown follows start (to_poll made) v → (p : DoesPoll follows v w)
-      → RunsTo shown follows start (after_poll (made + 1) (bytes_of p.polls.outs) p.polled.adapter.session.phase) w
+  polled : (v w : World D) (asks : ℕ) → RunsTo shown follows start (to_poll asks) v → (p : DoesPoll follows v w)
+      → RunsTo shown follows start (after_poll (asks + 1) (bytes_of (written_by v.adapter.session p.polls.step.session.made)) p.polled.adapter.session.phase) w
 
 abbrev pub Does : {D : Type 0} → (D → Shown) → Goes D → Order → World D → World D → Type 0
 Does shown follows (Send call) old new = DoesSend follows call old new

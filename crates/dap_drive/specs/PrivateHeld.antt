@@ -6,7 +6,7 @@ use Rattle.dap_history.specs.History.{Entry}
 use Rattle.dap_debuggee.specs.Shown.{Shown}
 use Rattle.dap_message.specs.Types.Call.{Call as TheCall}
 use Rattle.dap_session.specs.Carried.{Goes}
-use Rattle.dap_session.specs.Plan.{bytes_of}
+use Rattle.dap_session.specs.Plan.{written_by, bytes_of}
 use Rattle.dap_session.specs.SessionState.{SessionState}
 use Rattle.dap_session.specs.Session.{to_handle}
 use Rattle.dap_session.specs.Table.{is_phase}
@@ -118,7 +118,7 @@ HasTurned shown follows false old new = IsIdle shown old × (new ≡ old)
 -- whether the debuggee is asked no more
 pub record HasPolled {D : Type 0} (follows : Goes D) (last : Bool) (old new : World D) : Type 0 where
   pub does : DoesPoll follows old new
-  pub last_is : last ≡ (length (bytes_of does.polls.outs) == 0) || is_phase Stopped does.polled.adapter.session.phase
+  pub last_is : last ≡ (length (bytes_of (written_by old.adapter.session does.polls.step.session.made)) == 0) || is_phase Stopped does.polled.adapter.session.phase
 
 -- after so many polls
 abbrev pub next_after_polls : ℕ → Next

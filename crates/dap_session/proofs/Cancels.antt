@@ -1,7 +1,6 @@
 -- The requests that a cancel names.
-use Rattle.std.proofs.Common.{◌≡◌, ℕ, List, [], ◌∷◌, ◌++◌, Bool, true, false, Option, Some, refl, sym, ap, ◌∙◌, subst, arith, length, true≢false}
+use Rattle.std.proofs.Common.{◌≡◌, ℕ, List, [], ◌∷◌, ◌++◌, Bool, true, false, Option, Some, refl, sym, ap, ◌∙◌, subst, true≢false}
 use Rattle.std.specs.Prelude.{◌==◌, ◌||◌, ◌&&◌, not, if◌then◌else◌}
-use Rattle.std.proofs.lemmas.Bool.Decides.{nat_tests}
 use Rattle.dap_message.specs.Types.Failure.TheVariants.{Cancelled}
 use Rattle.dap_tables.specs.Outstanding.{Kept, contains_seq, entry_with, is_parked, HasDistinctSeqs}
 use Rattle.dap_tables.specs.declared.entry.Entry.{Entry}
@@ -10,8 +9,8 @@ use Rattle.dap_session.specs.Plan.{failure, plain_success, reply}
 use Rattle.dap_session.specs.SessionState.{NamesNone, NamesOne}
 use Rattle.dap_session.specs.Session.{Session}
 use Rattle.dap_session.specs.Taking.{after_cancel}
-use Rattle.dap_session.proofs.Kept.{false-left, false-right, all-without}
-use Rattle.dap_session.proofs.SeveralAnswers.{none-parked}
+use Rattle.dap_session.proofs.Kept.{false-left, false-right, all-without, none-parked}
+use Rattle.dap_session.proofs.Interned.{is-eq}
 
 and-false : (b : Bool) → (b && false) ≡ false
 and-false true = refl
@@ -20,9 +19,6 @@ and-false false = refl
 pub is-false : (b : Bool) → (b ≡ true → ⊥) → b ≡ false
 is-false true h = absurd (h refl)
 is-false false h = refl
-
-same-seq : (a b : ℕ) → (a == b) ≡ true → a ≡ b
-same-seq a b h = grind (arith, nat_tests)
 
 -- one that is not named
 names-other : (id : ℕ) (k : Kept) (ks : List Kept) → (k.entry.seq == id) ≡ false → NamesNone id ks → NamesNone id (k ∷ ks)
@@ -48,7 +44,7 @@ or-right true b e h = refl
 or-right false b e h = absurd (true≢false (sym h ∙ e))
 
 gone-after : (id : ℕ) (k : Kept) (ks : List Kept) → (k.entry.seq == id) ≡ true → contains_seq k.entry.seq ks ≡ false → contains_seq id ks ≡ false
-gone-after id k ks h d = subst (λ n. contains_seq n ks ≡ false) (same-seq k.entry.seq id h) d
+gone-after id k ks h d = subst (λ n. contains_seq n ks ≡ false) (is-eq k.entry.seq id h) d
 
 parked-if : (b : Bool) (id : ℕ) (k : Kept) (ks : List Kept) → (k.entry.seq == id) ≡ b → contains_seq k.entry.seq ks ≡ false → (is_parked id ks ≡ true → NamesNone id ks) → ((b && k.parked) || is_parked id ks) ≡ true → NamesNone id (k ∷ ks)
 parked-if true id k ks h d ih p =
@@ -94,6 +90,3 @@ finds id (k ∷ kept) r d p e = finds-if (k.entry.seq == id) id k kept r (entry_
 pub after_cancel-one : (id : ℕ) (r named : Entry) (s : Session) → Finds id s.kept named → (after_cancel (Some id) r s).drafts ≡ reply named (failure Cancelled) ∷ reply r plain_success ∷ []
 after_cancel-one id r named s f =
     ap (λ (ks : List Kept). answer_each (failure Cancelled) ks ++ reply r plain_success ∷ []) f.names.named ∙ ap (λ (x : Entry). reply x (failure Cancelled) ∷ reply r plain_success ∷ []) f.entry
-
-pub count-one : (id : ℕ) (r : Entry) (s : Session) → NamesOne id s.kept → length (after_cancel (Some id) r s).drafts ≡ 2
-count-one id r s n = ap (λ (ks : List Kept). length (answer_each (failure Cancelled) ks ++ reply r plain_success ∷ [])) n.named

@@ -1,5 +1,5 @@
 -- What comes of a message that is delivered: each is sound, and keeps to the limits.
-use Rattle.std.proofs.Common.{◌≡◌, ℕ, ◌+◌, ◌<◌, ◌≤◌, List, [], ◌∷◌, ◌++◌, Bool, true, false, Option, Some, None, Result, Ok, Err, length, refl, sym, ap, ◌∙◌, subst, arith, length-append, filter}
+use Rattle.std.proofs.Common.{◌≡◌, ℕ, ◌+◌, ◌<◌, ◌≤◌, List, [], ◌∷◌, ◌++◌, Bool, true, false, Option, Some, None, Ok, Err, length, refl, sym, subst, arith, length-append}
 use Rattle.std.specs.Prelude.{◌==◌, ◌&&◌, not, if◌then◌else◌, nat_lt, nat_le, option_to_list}
 use Rattle.std.proofs.lemmas.List.{append-nil}
 use Rattle.dap_history.specs.History.{Asked, request_as, response_as}
@@ -15,7 +15,6 @@ use Rattle.dap_message.specs.declared.message.Kind.TheVariants.{Request as Reque
 use Rattle.serde_json.specs.Data.{Data}
 use Rattle.dap_tables.specs.Outstanding.{Kept, kept_unparked, contains_seq, HasDistinctSeqs}
 use Rattle.dap_tables.specs.declared.entry.Entry.{Entry as Request}
-use Rattle.dap_session.specs.declared.fault.AdapterFault.{AdapterFault}
 use Rattle.dap_session.specs.declared.fault.AdapterFault.TheVariants.{RepeatedSeq, Ended as EndedFault}
 use Rattle.dap_session.specs.declared.phase.Phase.TheVariants.{Fresh, Ended}
 use Rattle.dap_session.specs.Failures.{of_known, command_of}
@@ -28,7 +27,7 @@ use Rattle.dap_session.specs.Taking.{after_answering_at_once, is_cancel, id_in, 
 use Rattle.dap_session.proofs.Distinct.{AreDistinct, asks-distinct, asks-more}
 use Rattle.dap_session.proofs.Happenings.{no_change-sound}
 use Rattle.dap_session.proofs.Interned.{lt-of}
-use Rattle.dap_session.proofs.Kept.{Walked, walked-none, walked-append, walked-each, walked-one, asks-append, distinct-more, distinct-filter, contains-filter}
+use Rattle.dap_session.proofs.Kept.{Walked, walked-none, walked-append, walked-each, walked-one, asks-append, distinct-more, distinct-filter, contains-filter, length-filtered}
 use Rattle.dap_session.proofs.Moves.{IsPlain, is-plain, moves-plain}
 use Rattle.dap_session.proofs.Outcomes.{IsSound, NameNone, references-plain, each-names-none, append-names-none}
 use Rattle.dap_session.proofs.Rows.{length-each}
@@ -103,17 +102,9 @@ unnamed-distinct None s r n = joined-distinct s r n
 unnamed-distinct (Some seq) s r n =
     distinct-more (not_cancelled_by seq s.kept) (kept_unparked r) (distinct-filter (λ k. not (not k.parked && (k.entry.seq == seq))) s.kept n.distinct) (contains-filter r.seq (λ k. not (not k.parked && (k.entry.seq == seq))) s.kept n.new)
 
-kept-cons : (b : Bool) (k : Kept) (xs kept : List Kept) → length xs ≤ length kept → length (if b then k ∷ xs else xs) ≤ length (k ∷ kept)
-kept-cons true k xs kept h = omega arith
-kept-cons false k xs kept h = omega arith
-
-length-kept-filtered : (p : Kept → Bool) (kept : List Kept) → length (filter p kept) ≤ length kept
-length-kept-filtered p [] = omega arith
-length-kept-filtered p (k ∷ kept) = kept-cons (p k) k (filter p kept) kept (length-kept-filtered p kept)
-
 unnamed-few : (id : Option ℕ) (kept : List Kept) → length (unnamed_by id kept) ≤ length kept
 unnamed-few None kept = omega arith
-unnamed-few (Some seq) kept = length-kept-filtered (λ k. not (not k.parked && (k.entry.seq == seq))) kept
+unnamed-few (Some seq) kept = length-filtered (λ k. not (not k.parked && (k.entry.seq == seq))) kept
 
 after_cancel-walked : (id : Option ℕ) (s : Session) (r : Request) → IsNew s r → Walked (after_cancel id r s).drafts (asks s.kept ++ came r) (asks (unnamed_by id s.kept))
 after_cancel-walked id s r n =

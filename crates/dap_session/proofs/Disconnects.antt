@@ -8,9 +8,11 @@ use Rattle.dap_tables.specs.Outstanding.{Kept, entries, contains_seq, is_parked,
 use Rattle.dap_tables.specs.declared.entry.Entry.{Entry}
 use Rattle.dap_debuggee.specs.Shown.{Reply}
 use Rattle.dap_session.specs.Handling.{answer_each, by_reply, after_disconnect, after_parked_launch}
+use Rattle.dap_tables.specs.References.{without_references}
+use Rattle.dap_session.specs.declared.phase.Phase.TheVariants.{Ended}
 use Rattle.dap_session.specs.declared.fault.AdapterFault.{AdapterFault}
 use Rattle.dap_session.specs.declared.fault.AdapterFault.TheVariants.{SeqExhausted}
-use Rattle.dap_session.specs.SessionState.{SessionState, IsRefusedFor}
+use Rattle.dap_session.specs.SessionState.{SessionState, MadeBy, IsRefusedFor}
 use Rattle.dap_session.specs.Plan.{Plan, messages_due, Answer, Draft, failure, plain_success, reply}
 use Rattle.dap_session.specs.Session.{Session}
 use Rattle.dap_session.specs.PrivateSeveral.{answer_where, WritesAll}
@@ -72,3 +74,16 @@ count-started s r last = let each = length-each (by_reply None last) (parked_one
 
 pub refused-for : {D : Type 0} (fault : AdapterFault) (plan : Plan) (old : SessionState D) (n : ℕ) → fault ≡ SeqExhausted → old.session.limits.seq < old.session.used + n → messages_due plan ≡ n → IsRefusedFor fault plan old old
 refused-for fault plan old n e h d = rw (e, d) (h, refl)
+
+-- ---- what the session is then
+
+count-disconnected : (s : Session) (r : Entry) → length (after_disconnect s r).drafts ≡ length (without r.seq s.kept) + 1
+count-disconnected s r = length-append (answer_each (failure Cancelled) (without r.seq s.kept)) (reply r plain_success ∷ []) ∙ ap (λ (n : ℕ). n + 1) (length-each (failure Cancelled) (without r.seq s.kept))
+
+pub disconnect-made : (s : Session) (r : Entry) (outbox : Outbox) (new : Session) (bytes : List ℕ) → Holds outbox s.limits.body s.used (after_disconnect s r).drafts
+    → new ≡ record s { phase = Ended; kept = []; references = without_references s.references; used = outbox.numbers.used } → bytes ≡ outbox.bytes.items → MadeBy (after_disconnect s r) s new bytes
+disconnect-made s r outbox new bytes h n b =
+    record {
+      session = n ∙ ap (λ (u : ℕ). let x : Session = record s { phase = Ended; kept = []; references = without_references s.references; used = u } in x) (h.count ∙ ap (λ (k : ℕ). s.used + k) (count-disconnected s r));
+      tells = record { bytes_are = b ∙ h.bytes; reads_back = h.reads_back };
+    }

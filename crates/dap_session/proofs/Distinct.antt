@@ -1,14 +1,13 @@
 -- Requests with distinct numbers, as they are kept and as they are asked.
-use Rattle.std.proofs.Common.{◌≡◌, ℕ, ◌+◌, ◌≤◌, List, [], ◌∷◌, ◌++◌, Bool, true, false, length, refl, sym, ap, ◌∙◌, subst, arith, filter}
+use Rattle.std.proofs.Common.{◌≡◌, ℕ, ◌≤◌, List, [], ◌∷◌, ◌++◌, Bool, true, false, length, refl, sym, ap, ◌∙◌, arith, filter}
 use Rattle.std.specs.Prelude.{◌==◌, ◌||◌, not, if◌then◌else◌}
-use Rattle.std.proofs.lemmas.Bool.Decides.{nat_tests}
 use Rattle.dap_history.specs.History.{Asked, without_answered, has_request_seq}
 use Rattle.dap_history.specs.Requests.{asked_of, asks}
 use Rattle.dap_tables.specs.Outstanding.{Kept, contains_seq, HasDistinctSeqs}
 use Rattle.dap_tables.specs.declared.entry.Entry.{Entry as Request}
 use Rattle.dap_session.specs.Answering.{answered_by, open_after}
 use Rattle.dap_session.specs.Plan.{Draft}
-use Rattle.dap_session.proofs.Kept.{false-left, false-right, both-false}
+use Rattle.dap_session.proofs.Kept.{false-left, false-right, both-false, same-seq, length-filtered}
 
 abbrev pub has_seq : ℕ → List Asked → Bool
 has_seq seq [] = false
@@ -50,14 +49,6 @@ pub distinct-open : (ds : List Draft) (qs : List Asked) → AreDistinct qs → A
 distinct-open [] qs d = d
 distinct-open (x ∷ ds) qs d = distinct-open ds (without_answered (answered_by x) qs) (distinct-filter (λ (q : Asked). not (has_request_seq q.seq (answered_by x))) qs d)
 
-length-cons : (b : Bool) (q : Asked) (xs qs : List Asked) → length xs ≤ length qs → length (if b then q ∷ xs else xs) ≤ length (q ∷ qs)
-length-cons true q xs qs h = omega arith
-length-cons false q xs qs h = omega arith
-
-length-filtered : (p : Asked → Bool) (qs : List Asked) → length (filter p qs) ≤ length qs
-length-filtered p [] = omega arith
-length-filtered p (q ∷ qs) = length-cons (p q) q (filter p qs) qs (length-filtered p qs)
-
 pub length-open : (ds : List Draft) (qs : List Asked) → length (open_after ds qs) ≤ length qs
 length-open [] qs = omega arith
 length-open (x ∷ ds) qs =
@@ -69,9 +60,6 @@ pub length-asks : (kept : List Kept) → length (asks kept) ≡ length kept
 length-asks [] = refl
 length-asks (k ∷ kept) = let h = length-asks kept in omega arith
 
-other-seq : (a b : ℕ) → (a == b) ≡ false → (b == a) ≡ false
-other-seq a b h = grind (arith, nat_tests)
-
 has_seq-more : (seq : ℕ) (qs : List Asked) (q : Asked) → has_seq seq qs ≡ false → (q.seq == seq) ≡ false → has_seq seq (qs ++ q ∷ []) ≡ false
 has_seq-more seq [] q h e = both-false (q.seq == seq) false e refl
 has_seq-more seq (x ∷ qs) q h e = both-false (x.seq == seq) (has_seq seq (qs ++ q ∷ [])) (false-left (x.seq == seq) (has_seq seq qs) h) (has_seq-more seq qs q (false-right (x.seq == seq) (has_seq seq qs) h) e)
@@ -80,7 +68,7 @@ has_seq-more seq (x ∷ qs) q h e = both-false (x.seq == seq) (has_seq seq (qs +
 distinct-more : (qs : List Asked) (q : Asked) → AreDistinct qs → has_seq q.seq qs ≡ false → AreDistinct (qs ++ q ∷ [])
 distinct-more [] q d h = (refl, tt)
 distinct-more (x ∷ qs) q d h =
-    (has_seq-more x.seq qs q d.0 (other-seq x.seq q.seq (false-left (x.seq == q.seq) (has_seq q.seq qs) h)), distinct-more qs q d.1 (false-right (x.seq == q.seq) (has_seq q.seq qs) h))
+    (has_seq-more x.seq qs q d.0 (same-seq x.seq q.seq (false-left (x.seq == q.seq) (has_seq q.seq qs) h)), distinct-more qs q d.1 (false-right (x.seq == q.seq) (has_seq q.seq qs) h))
 
 -- the kept requests and a new one that came
 pub asks-more : (kept : List Kept) (r : Request) → HasDistinctSeqs kept → contains_seq r.seq kept ≡ false → AreDistinct (asks kept ++ asked_of r ∷ [])

@@ -1,11 +1,10 @@
 -- A request that is handled waits for no turn any more: fewer are left to handle.
-use Rattle.std.proofs.Common.{◌≡◌, ℕ, ◌+◌, ◌<◌, ◌≤◌, List, [], ◌∷◌, ◌++◌, Bool, true, false, cond, length, refl, sym, ◌∙◌, subst, arith, true≢false}
+use Rattle.std.proofs.Common.{◌≡◌, ℕ, ◌<◌, ◌≤◌, List, [], ◌∷◌, ◌++◌, Bool, true, false, cond, length, refl, sym, ◌∙◌, subst, arith, true≢false}
 use Rattle.std.specs.Prelude.{◌==◌, ◌&&◌, ◌||◌, not, if◌then◌else◌}
-use Rattle.std.specs.List.{list_any}
 use Rattle.std.proofs.lemmas.List.Folds.{list_any-append}
 use Rattle.dap_tables.specs.Outstanding.{Kept, contains_seq, is_parked, without, with_mark, kept_with_mark, unparked_ones, HasDistinctSeqs}
 use Rattle.dap_session.specs.Session.{Session, to_handle}
-use Rattle.dap_session.proofs.Kept.{IsKept, IsApart, apart, contains-append, eqb-self, false-left, false-right, both-false}
+use Rattle.dap_session.proofs.Kept.{IsKept, IsApart, apart, contains-append, eqb-self, both-false, none-parked, length-filtered}
 
 -- ---- one request more at the front
 
@@ -67,13 +66,8 @@ fewer-kept_with_mark seq (k ∷ kept) c u =
 
 -- ---- none, and without the parked ones
 
-kept-at : (p : Bool) (k : Kept) (xs : List Kept) (n : ℕ) → length xs ≤ n → length (cond p (k ∷ xs) xs) ≤ n + 1
-kept-at true k xs n h = omega arith
-kept-at false k xs n h = omega arith
-
 unparked-at-most : (kept : List Kept) → to_handle kept ≤ length kept
-unparked-at-most [] = omega arith
-unparked-at-most (k ∷ kept) = let h = kept-at (not k.parked) k (unparked_ones kept) (length kept) (unparked-at-most kept) in omega arith
+unparked-at-most kept = length-filtered (λ (k : Kept). not k.parked) kept
 
 parked-fewer : (seq : ℕ) (kept : List Kept) → contains_seq seq kept ≡ true → is_parked seq kept ≡ false → to_handle (unparked_ones (without seq kept)) < to_handle kept
 parked-fewer seq kept c u = let h = fewer-without seq kept c u in let m = unparked-at-most (unparked_ones (without seq kept)) in omega arith
@@ -85,16 +79,11 @@ pub record IsHandled (s : Session) (k : Kept) : Type 0 where
   pub kept : IsKept s.kept k
   pub unparked : k.parked ≡ false
 
--- what is not kept is not parked
-none-parked : (seq : ℕ) (kept : List Kept) → contains_seq seq kept ≡ false → is_parked seq kept ≡ false
-none-parked seq [] h = refl
-none-parked seq (k ∷ kept) h = rw (false-left (k.entry.seq == seq) (contains_seq seq kept) h) (none-parked seq kept (false-right (k.entry.seq == seq) (contains_seq seq kept) h))
-
 any-right : (a b : Bool) → b ≡ true → (a || b) ≡ true
 any-right true b h = refl
 any-right false b h = h
 
-middle-contained : (before : List Kept) (k : Kept) (after : List Kept) → contains_seq k.entry.seq (before ++ k ∷ after) ≡ true
+pub middle-contained : (before : List Kept) (k : Kept) (after : List Kept) → contains_seq k.entry.seq (before ++ k ∷ after) ≡ true
 middle-contained before k after =
     contains-append k.entry.seq before (k ∷ after) ∙ any-right (contains_seq k.entry.seq before) (contains_seq k.entry.seq (k ∷ after)) (rw (eqb-self k.entry.seq) refl)
 

@@ -1,7 +1,5 @@
 -- Each step goes on as its history does, and leaves fewer requests to handle where it handled one.
-use Rattle.std.proofs.Common.{◌≡◌, ◌<◌, Some, Ok, ap, ◌∙◌}
 use Rattle.dap_history.specs.HistoryLaws.{HistoriesGrow}
-use Rattle.dap_tables.specs.Outstanding.{HasDistinctSeqs}
 use Rattle.dap_session.specs.Answering.{EachStepGoesWell}
 use Rattle.dap_session.specs.Laws.{EachStepGoesOn}
 use Rattle.dap_session.proofs.Deliveries.{delivery-is}

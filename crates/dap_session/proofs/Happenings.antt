@@ -1,12 +1,12 @@
 -- What happened to the debuggee: each telling of it is sound.
-use Rattle.std.proofs.Common.{◌≡◌, ℕ, ◌+◌, List, [], ◌∷◌, ◌++◌, Bool, true, false, length, refl, sym, ◌∙◌, subst, arith}
+use Rattle.std.proofs.Common.{◌≡◌, ◌+◌, [], Bool, true, false, length, refl, sym, subst, arith}
 use Rattle.std.specs.Prelude.{if◌then◌else◌}
 use Rattle.dap_history.specs.Requests.{asks}
 use Rattle.dap_debuggee.specs.Shown.{to_poll, Reply, done, refused, happened}
 use Rattle.dap_debuggee.specs.declared.answers.Happening.{Happening}
 use Rattle.dap_debuggee.specs.declared.answers.Happening.TheVariants as happening
 use Rattle.dap_session.specs.Laws.{CanMake}
-use Rattle.dap_session.specs.Plan.{emit, Made, Plan, at_once, asking, no_change}
+use Rattle.dap_session.specs.Plan.{Made, at_once, asking, no_change}
 use Rattle.dap_session.specs.Polling.{after_happening, after_poll_reply, polls, has_debuggee}
 use Rattle.dap_session.specs.Session.{Session}
 use Rattle.dap_session.proofs.Kept.{Walked, walked-none, walked-append, walked-event}

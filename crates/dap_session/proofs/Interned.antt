@@ -31,7 +31,7 @@ no-lt a b h = grind (arith, nat_tests)
 pub is-lt : (a b : ℕ) → a < b → nat_lt a b ≡ true
 is-lt a b h = grind (arith, nat_tests)
 
-is-eq : (a b : ℕ) → (a == b) ≡ true → a ≡ b
+pub is-eq : (a b : ℕ) → (a == b) ≡ true → a ≡ b
 is-eq a b h = grind (arith, nat_tests)
 
 and-left : (a b : Bool) → (a && b) ≡ true → a ≡ true
@@ -154,9 +154,6 @@ interned-at None limits t refs given is e = interned-next (nat_lt (length refs.l
 
 interned-one : (limits : Settings) (t : Target) (refs : LiveReferences) (given : ℕ × LiveReferences) → intern limits t refs ≡ Ok given → Interned limits t refs given
 interned-one limits t refs given e = interned-at (place_of t refs.live) limits t refs given refl e
-
-pub interned-grows : (limits : Settings) (t : Target) (refs : LiveReferences) (given : ℕ × LiveReferences) → intern limits t refs ≡ Ok given → Grows refs given.1
-interned-grows limits t refs given e = (interned-one limits t refs given e).grows
 
 -- and for each
 pub record InternedEach (limits : Settings) (ts : List (Option Target)) (old : LiveReferences) (given : List ℕ × LiveReferences) : Type 0 where

@@ -1,20 +1,21 @@
 -- Kept requests with distinct numbers, and answers to some of them.
-use Rattle.std.proofs.Common.{◌≡◌, ℕ, List, [], ◌∷◌, ◌++◌, Bool, true, false, Option, Some, None, refl, sym, ap, ◌∙◌, subst, append_assoc, arith, filter, true≢false}
+use Rattle.std.proofs.Common.{◌≡◌, ℕ, List, [], ◌∷◌, ◌++◌, Bool, true, false, Option, Some, None, refl, sym, ap, ◌∙◌, subst, append_assoc, arith, filter, true≢false, ◌≤◌, length}
 use Rattle.std.specs.Prelude.{◌==◌, ◌||◌, not, find, if◌then◌else◌}
 use Rattle.std.proofs.lemmas.Bool.Decides.{nat_tests}
 use Rattle.std.proofs.lemmas.List.{map-append}
 use Rattle.std.proofs.lemmas.List.Elements.{filter-append}
 use Rattle.std.proofs.lemmas.List.Folds.{list_any-append}
 use Rattle.dap_history.specs.History.{Asked, without_answered, has_request_seq}
-use Rattle.dap_tables.specs.Outstanding.{Kept, contains_seq, without, HasDistinctSeqs}
+use Rattle.dap_tables.specs.Outstanding.{Kept, contains_seq, without, HasDistinctSeqs, is_parked}
 use Rattle.dap_tables.specs.declared.entry.Entry.{Entry as Request}
 use Rattle.dap_session.specs.Answering.{answered_by, with_seq, AnswersEach, open_after}
 use Rattle.dap_session.specs.Handling.{answer_each}
 use Rattle.dap_session.specs.Plan.{Answer, Draft, reply, emit}
 use Rattle.dap_history.specs.Requests.{asked_of, asks}
 use Rattle.dap_message.specs.AdapterMessages.{AdapterEvent}
+use Rattle.std.proofs.lemmas.List.Sums.{length-filter, count_by-le-length}
 
-same-seq : (a b : ℕ) → (a == b) ≡ false → (b == a) ≡ false
+pub same-seq : (a b : ℕ) → (a == b) ≡ false → (b == a) ≡ false
 same-seq a b h = grind (arith, nat_tests)
 
 pub eqb-self : (n : ℕ) → (n == n) ≡ true
@@ -31,6 +32,16 @@ false-right false b e = e
 pub both-false : (a b : Bool) → a ≡ false → b ≡ false → (a || b) ≡ false
 both-false true b e f = e
 both-false false b e f = f
+
+-- what is not kept is not parked
+pub none-parked : (seq : ℕ) (ks : List Kept) → contains_seq seq ks ≡ false → is_parked seq ks ≡ false
+none-parked seq [] h = refl
+none-parked seq (k ∷ ks) h =
+    rw (false-left (k.entry.seq == seq) (contains_seq seq ks) h) (none-parked seq ks (false-right (k.entry.seq == seq) (contains_seq seq ks) h))
+
+-- no filter adds
+pub length-filtered : {T : Type 0} (p : T → Bool) (xs : List T) → length (filter p xs) ≤ length xs
+length-filtered p xs = rw (length-filter p xs) (count_by-le-length p xs)
 
 pub asks-append : (xs ys : List Kept) → asks (xs ++ ys) ≡ asks xs ++ asks ys
 asks-append xs ys = map-append (λ (k : Kept). asked_of k.entry) xs ys

@@ -32,4 +32,5 @@ pub mod SetLines
 pub mod Refusals
 pub mod Stale
 pub mod Ordered
+pub mod OrderedAnswers
 pub mod ProtocolLists

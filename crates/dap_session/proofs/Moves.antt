@@ -1,5 +1,5 @@
 -- What a step does to the tables: references stay, grow or die, breakpoints stay or are set, and both keep to their room.
-use Rattle.std.proofs.Common.{◌≡◌, ℕ, ◌+◌, ◌≤◌, List, [], ◌∷◌, ◌++◌, Bool, true, false, Option, Some, None, length, refl, sym, ap, ◌∙◌, subst, arith, true≢false}
+use Rattle.std.proofs.Common.{◌≡◌, ℕ, ◌+◌, ◌≤◌, Bool, true, false, Some, length, refl, sym, ap, ◌∙◌, subst, arith, true≢false}
 use Rattle.dap_frame.specs.Settings.{Settings}
 use Rattle.dap_tables.specs.declared.target.Target.{Target}
 use Rattle.dap_tables.specs.SourceMap.{count}

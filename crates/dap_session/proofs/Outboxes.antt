@@ -5,8 +5,8 @@ use Rattle.std.proofs.lemmas.List.{append-nil}
 use Rattle.dap_json.specs.Field.{max_seq}
 use Rattle.dap_frame.specs.Written.{frame_of}
 use Rattle.dap_message.specs.Canon.{canon}
-use Rattle.dap_message.specs.AdapterMessages.{failure_response, success_response, event_message, FixedBody, body_of, AdapterEvent, event_name, event_body}
-use Rattle.dap_message.specs.Lengths.{IsWithin, max_fixed, FailuresAreShort, FixedResponsesAreShort, EventsAreShort}
+use Rattle.dap_message.specs.AdapterMessages.{failure_response, success_response, FixedBody, body_of}
+use Rattle.dap_message.specs.Lengths.{max_fixed, FailuresAreShort, FixedResponsesAreShort}
 use Rattle.dap_message.specs.Meaning.{Msg}
 use Rattle.dap_message.specs.ReadBack.{ReadsBack, AllReadBack}
 use Rattle.dap_message.specs.Refusals.{max_command}
@@ -46,11 +46,6 @@ reads-failure short seq r f text e reads s i = record { fits = short seq r.seq r
 pub reads-success : FixedResponsesAreShort → (seq : ℕ) (r : Entry) (shape : FixedBody) (text : List ℕ) → text ≡ canon (success_response seq r.seq r.command (body_of shape))
     → (seq ≤ max_seq → r.seq ≤ max_seq → length r.command ≤ max_command → Msg text (success_response seq r.seq r.command (body_of shape))) → seq ≤ max_seq → IsRequestInRange r → ReadsBack max_fixed (success_response seq r.seq r.command (body_of shape))
 reads-success short seq r shape text e reads s i = record { fits = short seq r.seq r.command shape s i.seq i.command; reads = subst (λ (bs : List ℕ). Msg bs (success_response seq r.seq r.command (body_of shape))) e (reads s i.seq i.command) }
-
--- an event
-pub reads-event : EventsAreShort → (seq : ℕ) (event : AdapterEvent) (text : List ℕ) → IsWithin event → text ≡ canon (event_message seq (event_name event) (event_body event))
-    → (seq ≤ max_seq → Msg text (event_message seq (event_name event) (event_body event))) → seq ≤ max_seq → ReadsBack max_fixed (event_message seq (event_name event) (event_body event))
-reads-event short seq event text w e reads s = record { fits = short seq event s w; reads = subst (λ (bs : List ℕ). Msg bs (event_message seq (event_name event) (event_body event))) e (reads s) }
 
 -- two things of what a call returned
 pub both-ok : {T E : Type 0} (r : Result T E) (P Q R : T → Type 0) → ((x : T) → P x → Q x → R x) → IfOk r P → IfOk r Q → IfOk r R

@@ -14,7 +14,7 @@ use Rattle.dap_debuggee.specs.Shown.{Act, Reply, done}
 use Rattle.dap_session.specs.Answering.{GoesWell}
 use Rattle.dap_session.specs.Handling.{answer_each}
 use Rattle.dap_session.specs.Laws.{CanMake}
-use Rattle.dap_session.specs.Plan.{Answer, success, failure, Draft, reply, emit, names_in, names_of, outs, Made, Plan, at_once, asking, no_change, after_answering, messages_due, entries_of, references_end_if}
+use Rattle.dap_session.specs.Plan.{Answer, success, failure, Draft, reply, emit, names_in, names_of, outs, Made, Plan, at_once, asking, after_answering, messages_due, entries_of, references_end_if}
 use Rattle.dap_session.specs.References.{references_after}
 use Rattle.dap_session.specs.RefusalLaws.{is_for_room}
 use Rattle.dap_session.specs.Session.{Session, to_handle}

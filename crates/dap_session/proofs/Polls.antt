@@ -4,9 +4,10 @@ use Rattle.dap_session.specs.Carried.{Goes}
 use Rattle.dap_session.specs.Plan.{Plan, at_once, no_change}
 use Rattle.dap_session.specs.Polling.{polls, has_debuggee}
 use Rattle.dap_session.specs.SessionState.{SessionState, Carries}
+use Rattle.dap_session.proofs.TakingRequests.{no-step}
 
 -- where there is no debuggee to ask
 pub polls-none : {D : Type 0} (follows : Goes D) (old : SessionState D) (bytes : List ℕ) → has_debuggee old.session.phase ≡ false → bytes ≡ [] → Carries follows (polls old.session) old old bytes
 polls-none follows old bytes h b =
     let e : polls old.session ≡ at_once (no_change old.session) = rw h refl in
-    subst (λ (p : Plan). Carries follows p old old bytes) (sym e) (record { made = no_change old.session; carried = (refl, refl); by = record { session = refl; bytes_are = b; reads_back = λ _. tt } })
+    subst (λ (p : Plan). Carries follows p old old bytes) (sym e) (no-step follows old bytes b)

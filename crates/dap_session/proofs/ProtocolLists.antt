@@ -1,6 +1,5 @@
 -- What is told of lists of the debuggee, each with its numbers.
 use Rattle.std.proofs.Common.{◌≡◌, ℕ, List, [], ◌∷◌, Option, Some, Ok, length, map, refl, ap}
-use Rattle.std.specs.Prelude.{option_map}
 use Rattle.std.specs.List.{zip}
 use Rattle.serde_json.specs.Data.{Data}
 use Rattle.dap_message.specs.ResponseBody.{stack_trace_body, scopes_body, variables_body}
@@ -15,12 +14,12 @@ use Rattle.dap_debuggee.specs.declared.answers.Frame.{Frame}
 use Rattle.dap_debuggee.specs.declared.answers.Scope.{Scope}
 use Rattle.dap_debuggee.specs.declared.answers.Source.{Source}
 use Rattle.dap_debuggee.specs.declared.answers.Variable.{Variable}
-use Rattle.dap_tables.specs.References.{LiveReferences, frame_of, holder_of}
+use Rattle.dap_tables.specs.References.{LiveReferences}
 use Rattle.dap_tables.specs.declared.target.Target.{Target}
 use Rattle.dap_session.specs.declared.options.Options.{Options}
 use Rattle.dap_session.specs.declared.no_answer.NoAnswer.{NoAnswer}
 use Rattle.dap_session.specs.declared.no_answer.NoAnswer.TheVariants.{Fails, OutOfMemory}
-use Rattle.dap_session.specs.Bodies.{query_result, result_with_references, with_numbers, frame_with, protocol_frame, protocol_scope, protocol_variable, source_of_frame, window, page, object_of}
+use Rattle.dap_session.specs.Bodies.{query_result, result_with_references, with_numbers, frame_with, protocol_frame, protocol_scope, protocol_variable, source_of_frame, window, page, object_of, frame_objects, scope_objects, variable_objects}
 use Rattle.dap_session.specs.References.{intern_each}
 use Rattle.dap_session.specs.Session.{Session}
 use Rattle.dap_session.specs.QueryResults.{Says, AnswersWith}
@@ -40,48 +39,48 @@ says-with OutOfMemory s objects body h = tt
 -- ---- frames
 
 pub frames-told : (view : Shown) (s : Session) (asked : StackTrace) (all shown : List Frame) (named : List (Option Target)) (ns : List ℕ) (refs : LiveReferences) (frames : List FrameBody) (total : ℕ)
-    → view.frames asked.thread_id ≡ Some all → shown ≡ window asked.start_frame asked.levels all → named ≡ map (λ (f : Frame). Some (frame_of f.object)) shown → intern_each s.limits named s.references ≡ Ok (ns, refs)
+    → view.frames asked.thread_id ≡ Some all → shown ≡ window asked.start_frame asked.levels all → named ≡ frame_objects shown → intern_each s.limits named s.references ≡ Ok (ns, refs)
     → frames ≡ with_numbers (protocol_frame s.options view.sources) ns shown → total ≡ length all → AnswersWith (query_result view s (call.StackTrace asked)) (Some (stack_trace_body frames total)) refs
 unfolding query_result
 frames-told view s asked all shown named ns refs frames total e w n g f b =
     rw (e, b, f, w)
-    (told-with s (map (λ (x : Frame). Some (frame_of x.object)) (window asked.start_frame asked.levels all)) (λ ids. stack_trace_body (with_numbers (protocol_frame s.options view.sources) ids (window asked.start_frame asked.levels all)) (length all)) ns refs (rw (n, w) at g))
+    (told-with s (frame_objects (window asked.start_frame asked.levels all)) (λ ids. stack_trace_body (with_numbers (protocol_frame s.options view.sources) ids (window asked.start_frame asked.levels all)) (length all)) ns refs (rw (n, w) at g))
 
 pub frames-fail : (view : Shown) (s : Session) (asked : StackTrace) (all shown : List Frame) (named : List (Option Target)) (u : NoAnswer) → view.frames asked.thread_id ≡ Some all → shown ≡ window asked.start_frame asked.levels all
-    → named ≡ map (λ (f : Frame). Some (frame_of f.object)) shown → Says u (intern_each s.limits named s.references) → Says u (query_result view s (call.StackTrace asked))
+    → named ≡ frame_objects shown → Says u (intern_each s.limits named s.references) → Says u (query_result view s (call.StackTrace asked))
 unfolding query_result
 frames-fail view s asked all shown named u e w n g =
     rw e
-    (says-with u s (map (λ (x : Frame). Some (frame_of x.object)) (window asked.start_frame asked.levels all)) (λ ids. stack_trace_body (with_numbers (protocol_frame s.options view.sources) ids (window asked.start_frame asked.levels all)) (length all)) (rw (n, w) at g))
+    (says-with u s (frame_objects (window asked.start_frame asked.levels all)) (λ ids. stack_trace_body (with_numbers (protocol_frame s.options view.sources) ids (window asked.start_frame asked.levels all)) (length all)) (rw (n, w) at g))
 
 -- ---- scopes
 
 pub scopes-told : (view : Shown) (s : Session) (number frame : ℕ) (shown : List Scope) (named : List (Option Target)) (ns : List ℕ) (refs : LiveReferences) (scopes : List ScopeBody)
-    → object_of s.references number ≡ Some frame → view.scopes frame ≡ Some shown → named ≡ map (λ (x : Scope). Some (holder_of x.holder)) shown → intern_each s.limits named s.references ≡ Ok (ns, refs)
+    → object_of s.references number ≡ Some frame → view.scopes frame ≡ Some shown → named ≡ scope_objects shown → intern_each s.limits named s.references ≡ Ok (ns, refs)
     → scopes ≡ with_numbers protocol_scope ns shown → AnswersWith (query_result view s (call.Scopes number)) (Some (scopes_body scopes)) refs
 unfolding query_result
 scopes-told view s number frame shown named ns refs scopes o e n g f =
-    rw (o, e, f) (told-with s (map (λ (x : Scope). Some (holder_of x.holder)) shown) (λ numbers. scopes_body (with_numbers protocol_scope numbers shown)) ns refs (rw n at g))
+    rw (o, e, f) (told-with s (scope_objects shown) (λ numbers. scopes_body (with_numbers protocol_scope numbers shown)) ns refs (rw n at g))
 
 pub scopes-fail : (view : Shown) (s : Session) (number frame : ℕ) (shown : List Scope) (named : List (Option Target)) (u : NoAnswer) → object_of s.references number ≡ Some frame → view.scopes frame ≡ Some shown
-    → named ≡ map (λ (x : Scope). Some (holder_of x.holder)) shown → Says u (intern_each s.limits named s.references) → Says u (query_result view s (call.Scopes number))
+    → named ≡ scope_objects shown → Says u (intern_each s.limits named s.references) → Says u (query_result view s (call.Scopes number))
 unfolding query_result
 scopes-fail view s number frame shown named u o e n g =
-    rw (o, e) (says-with u s (map (λ (x : Scope). Some (holder_of x.holder)) shown) (λ numbers. scopes_body (with_numbers protocol_scope numbers shown)) (rw n at g))
+    rw (o, e) (says-with u s (scope_objects shown) (λ numbers. scopes_body (with_numbers protocol_scope numbers shown)) (rw n at g))
 
 -- ---- variables
 
 pub variables-told : (view : Shown) (s : Session) (asked : Variables) (holder : ℕ) (all shown : List Variable) (named : List (Option Target)) (ns : List ℕ) (refs : LiveReferences) (variables : List VariableBody)
-    → object_of s.references asked.variables_reference ≡ Some holder → view.children holder ≡ Some all → shown ≡ page s.options asked.start asked.count all → named ≡ map (λ (x : Variable). option_map holder_of x.holder) shown
+    → object_of s.references asked.variables_reference ≡ Some holder → view.children holder ≡ Some all → shown ≡ page s.options asked.start asked.count all → named ≡ variable_objects shown
     → intern_each s.limits named s.references ≡ Ok (ns, refs) → variables ≡ with_numbers protocol_variable ns shown → AnswersWith (query_result view s (call.Variables asked)) (Some (variables_body variables)) refs
 unfolding query_result
 variables-told view s asked holder all shown named ns refs variables o e w n g f =
     rw (o, e, f, w)
-    (told-with s (map (λ (x : Variable). option_map holder_of x.holder) (page s.options asked.start asked.count all)) (λ numbers. variables_body (with_numbers protocol_variable numbers (page s.options asked.start asked.count all))) ns refs (rw (n, w) at g))
+    (told-with s (variable_objects (page s.options asked.start asked.count all)) (λ numbers. variables_body (with_numbers protocol_variable numbers (page s.options asked.start asked.count all))) ns refs (rw (n, w) at g))
 
 pub variables-fail : (view : Shown) (s : Session) (asked : Variables) (holder : ℕ) (all shown : List Variable) (named : List (Option Target)) (u : NoAnswer) → object_of s.references asked.variables_reference ≡ Some holder → view.children holder ≡ Some all
-    → shown ≡ page s.options asked.start asked.count all → named ≡ map (λ (x : Variable). option_map holder_of x.holder) shown → Says u (intern_each s.limits named s.references) → Says u (query_result view s (call.Variables asked))
+    → shown ≡ page s.options asked.start asked.count all → named ≡ variable_objects shown → Says u (intern_each s.limits named s.references) → Says u (query_result view s (call.Variables asked))
 unfolding query_result
 variables-fail view s asked holder all shown named u o e w n g =
     rw (o, e)
-    (says-with u s (map (λ (x : Variable). option_map holder_of x.holder) (page s.options asked.start asked.count all)) (λ numbers. variables_body (with_numbers protocol_variable numbers (page s.options asked.start asked.count all))) (rw (n, w) at g))
+    (says-with u s (variable_objects (page s.options asked.start asked.count all)) (λ numbers. variables_body (with_numbers protocol_variable numbers (page s.options asked.start asked.count all))) (rw (n, w) at g))

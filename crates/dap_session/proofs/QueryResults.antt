@@ -1,6 +1,6 @@
 -- What is told gives just the references that it names, and no more than there is room for.
-use Rattle.std.proofs.Common.{◌≡◌, ℕ, ◌-◌, List, [], ◌∷◌, Option, Some, None, Result, Ok, Err, length, refl, map, subst}
-use Rattle.std.specs.Prelude.{option_and_then, option_map}
+use Rattle.std.proofs.Common.{◌≡◌, ℕ, ◌-◌, List, [], Option, Some, None, Result, Ok, Err, length, refl, subst}
+use Rattle.std.specs.Prelude.{option_and_then}
 use Rattle.serde_json.specs.Data.{Data}
 use Rattle.dap_tables.specs.declared.target.Target.{Target}
 use Rattle.dap_message.specs.ResponseBody.{source_body, stack_trace_body, scopes_body, variables_body, evaluate_body}
@@ -12,9 +12,9 @@ use Rattle.dap_debuggee.specs.declared.answers.Frame.{Frame}
 use Rattle.dap_debuggee.specs.declared.answers.Scope.{Scope}
 use Rattle.dap_debuggee.specs.declared.answers.Variable.{Variable}
 use Rattle.dap_debuggee.specs.declared.answers.Evaluation.{Evaluation}
-use Rattle.dap_session.specs.Bodies.{QueryAnswer, QueryResult, query_result, result_without_references, result_with_references, unless_refused, stack_trace_result, scopes_result, variables_result, evaluate_result, window, page, object_of, with_numbers, protocol_frame, protocol_scope, protocol_variable, number_in}
+use Rattle.dap_session.specs.Bodies.{QueryAnswer, QueryResult, query_result, result_without_references, result_with_references, unless_refused, stack_trace_result, scopes_result, variables_result, evaluate_result, window, page, object_of, frame_objects, scope_objects, variable_objects, value_objects, with_numbers, protocol_frame, protocol_scope, protocol_variable, number_in}
 use Rattle.dap_session.specs.References.{intern_each, targets_named, and_then, with_targets}
-use Rattle.dap_tables.specs.References.{LiveReferences, frame_of, holder_of}
+use Rattle.dap_tables.specs.References.{LiveReferences}
 use Rattle.dap_session.specs.Session.{Session}
 use Rattle.dap_session.specs.QueryResults.{Grows}
 use Rattle.dap_session.proofs.Interned.{AreFew, grows-not, interned-each}
@@ -50,16 +50,16 @@ asked-well s None told w t e = cc
 
 frames-well : (view : Shown) (s : Session) (total : ℕ) (frames : List Frame) → AreWell s (stack_trace_result view s total frames)
 frames-well view s total frames =
-    result_with_references-well s (map (λ (f : Frame). Some (frame_of f.object)) frames) (λ ids. stack_trace_body (with_numbers (protocol_frame s.options view.sources) ids frames) total)
+    result_with_references-well s (frame_objects frames) (λ ids. stack_trace_body (with_numbers (protocol_frame s.options view.sources) ids frames) total)
 
 scopes-well : (s : Session) (scopes : List Scope) → AreWell s (scopes_result s scopes)
-scopes-well s scopes = result_with_references-well s (map (λ (x : Scope). Some (holder_of x.holder)) scopes) (λ numbers. scopes_body (with_numbers protocol_scope numbers scopes))
+scopes-well s scopes = result_with_references-well s (scope_objects scopes) (λ numbers. scopes_body (with_numbers protocol_scope numbers scopes))
 
 variables-well : (s : Session) (variables : List Variable) → AreWell s (variables_result s variables)
-variables-well s variables = result_with_references-well s (map (λ (x : Variable). option_map holder_of x.holder) variables) (λ numbers. variables_body (with_numbers protocol_variable numbers variables))
+variables-well s variables = result_with_references-well s (variable_objects variables) (λ numbers. variables_body (with_numbers protocol_variable numbers variables))
 
 value-well : (s : Session) (value : Evaluation) → AreWell s (evaluate_result s value)
-value-well s value = result_with_references-well s (option_map holder_of value.holder ∷ []) (λ numbers. evaluate_body value.value (number_in numbers))
+value-well s value = result_with_references-well s (value_objects value) (λ numbers. evaluate_body value.value (number_in numbers))
 
 pub query_result-well : (view : Shown) (s : Session) (asked : Call) → AreWell s (query_result view s asked)
 unfolding query_result

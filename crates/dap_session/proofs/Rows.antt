@@ -1,5 +1,5 @@
 -- Each row of the table, and what its parts are shown by: a new effect is one row more of `plan_for-row`, by its outcome.
-use Rattle.std.proofs.Common.{◌≡◌, ℕ, ◌+◌, ◌<◌, ◌≤◌, List, [], ◌∷◌, ◌++◌, Bool, true, false, Option, Some, None, Result, Ok, Err, length, refl, sym, ap, ◌∙◌, subst, arith, length-append, filter, map}
+use Rattle.std.proofs.Common.{◌≡◌, ℕ, ◌+◌, List, [], ◌∷◌, ◌++◌, Bool, true, false, Option, Some, None, Ok, Err, length, refl, sym, ap, ◌∙◌, subst, arith, length-append, filter, map}
 use Rattle.std.specs.Prelude.{◌==◌, not, if◌then◌else◌, nat_lt}
 use Rattle.std.proofs.lemmas.List.Elements.{filter-append}
 use Rattle.std.proofs.lemmas.List.{append-nil, length-map}
@@ -11,12 +11,10 @@ use Rattle.dap_message.specs.AdapterMessages.{AdapterEvent, initialized, termina
 use Rattle.dap_message.specs.ResponseBody.{set_breakpoints_body}
 use Rattle.dap_message.specs.Types.Call.{Call}
 use Rattle.dap_message.specs.Types.Call.TheVariants as call
-use Rattle.dap_message.specs.Types.Failure.{Failure}
 use Rattle.dap_message.specs.Types.Failure.TheVariants.{Cancelled, TooLarge, Debuggee, TooManyBreakpoints}
 use Rattle.dap_message.specs.Types.SourceKey.{SourceKey}
 use Rattle.dap_tables.specs.Breakpoints.{SetBreakpoints, count_with, breakpoints_with, max_id}
 use Rattle.dap_tables.specs.Outstanding.{Kept, contains_seq, without, with_mark, kept_with_mark, parked_ones, unparked_ones, HasDistinctSeqs}
-use Rattle.dap_tables.specs.References.{LiveReferences}
 use Rattle.dap_tables.proofs.SetLemmas.{count-breakpoints_with}
 use Rattle.dap_debuggee.specs.Shown.{Shown, Reply, done, refused, happened}
 use Rattle.dap_debuggee.specs.declared.answers.How.{How}
@@ -26,8 +24,8 @@ use Rattle.dap_session.specs.declared.options.Options.{Options}
 use Rattle.dap_session.specs.Bodies.{QueryAnswer, QueryResult, query_result}
 use Rattle.dap_session.specs.Breakpoints.{are_too_many}
 use Rattle.dap_session.specs.Handling.{after_initialize, after_park, after_launch, after_configuration_done, after_parked_launch, after_disconnect, after_terminate, after_resume, resume_body, after_query, fits, by_reply, answer_each, answers_to, lines_asked, breakpoints_set, breakpoints_answered, breakpoints_verified, plan_for}
-use Rattle.dap_session.specs.Plan.{Answer, success, failure, plain_success, Draft, reply, emit, names_in, Made, Plan, at_once, asking, after_answering}
-use Rattle.dap_session.specs.Session.{Session, to_handle}
+use Rattle.dap_session.specs.Plan.{Answer, success, failure, plain_success, reply, emit, names_in, at_once, after_answering}
+use Rattle.dap_session.specs.Session.{Session}
 use Rattle.dap_session.specs.PrivateSetting.{Suits}
 use Rattle.dap_session.proofs.Fewer.{IsHandled, fewer-handled, fewer-park, fewer-unparked, fewer-none}
 use Rattle.dap_session.proofs.Interned.{le-not}
@@ -111,10 +109,6 @@ after_parked_launch-outcome s k i last =
     (λ (d : HasDistinctSeqs s.kept). fewer-unparked s k d i)
 
 -- ---- disconnect and terminate
-
-kept-twice : (b : Bool) → not (not b) ≡ b
-kept-twice true = refl
-kept-twice false = refl
 
 none-twice : (seq : ℕ) (kept : List Kept) → contains_seq seq kept ≡ false → rejected (λ x. not (x.entry.seq == seq)) kept ≡ []
 none-twice seq [] h = refl

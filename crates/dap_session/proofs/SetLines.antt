@@ -18,7 +18,7 @@ use Rattle.dap_message.specs.Types.Key.{Key}
 use Rattle.dap_message.specs.Types.Key.TheVariants as key
 use Rattle.dap_message.specs.Types.SourceKey.{SourceKey}
 use Rattle.dap_tables.specs.declared.entry.Entry.{Entry}
-use Rattle.dap_debuggee.specs.Shown.{Shown, to_set_breakpoints, done}
+use Rattle.dap_debuggee.specs.Shown.{to_set_breakpoints, done}
 use Rattle.dap_tables.specs.Breakpoints.{breakpoints_with}
 use Rattle.dap_tables.specs.Outstanding.{without}
 use Rattle.dap_session.specs.Carried.{Goes}
@@ -27,10 +27,7 @@ use Rattle.dap_session.specs.declared.outbox.Outbox.{Outbox}
 use Rattle.dap_session.specs.declared.effect.Effect.{Effect}
 use Rattle.dap_session.specs.declared.effect.Effect.TheVariants as effect
 use Rattle.dap_session.specs.declared.phase.Phase.{Phase}
-use Rattle.dap_session.specs.Breakpoints.{are_too_many}
-use Rattle.dap_session.specs.Handling.{breakpoints_plan, breakpoints_verified, fits, lines_asked}
-use Rattle.dap_session.specs.Plan.{Plan, messages_due}
-use Rattle.dap_session.specs.Session.{Session}
+use Rattle.dap_session.specs.Plan.{Plan}
 use Rattle.dap_session.specs.PrivateSetting.{AreLines, SetsLines, Suits, IsToSet}
 use Rattle.dap_session.specs.Table.{Row, rows_of, effect_in, is_among}
 
@@ -125,15 +122,16 @@ all-if : (b c : Bool) → (b && c) ≡ true → (b ≡ true) × (c ≡ true)
 all-if true c h = (refl, h)
 all-if false c h = absurd (true≢false (sym h))
 
-found-if : (b : Bool) (r : Row) (rest : Option Row) (e : Effect) → option_map (λ (x : Row). x.effect) (cond b (Some r) rest) ≡ Some e → sets_none r.effect ≡ true → (option_map (λ (x : Row). x.effect) rest ≡ Some e → sets_none e ≡ true) → sets_none e ≡ true
-found-if true r rest e h s later = let same : r.effect ≡ e = cc in subst (λ (x : Effect). sets_none x ≡ true) same s
-found-if false r rest e h s later = later h
+found-if : (p : Effect → Bool) (b : Bool) (r : Row) (rest : Option Row) (e : Effect) → option_map (λ (x : Row). x.effect) (cond b (Some r) rest) ≡ Some e → p r.effect ≡ true → (option_map (λ (x : Row). x.effect) rest ≡ Some e → p e ≡ true) → p e ≡ true
+found-if p true r rest e h s later = let same : r.effect ≡ e = cc in subst (λ (x : Effect). p x ≡ true) same s
+found-if p false r rest e h s later = later h
 
-found-none : (phase : Phase) (rows : List Row) (e : Effect) → list_all (λ r. sets_none r.effect) rows ≡ true → option_map (λ (x : Row). x.effect) (find (λ r. is_among phase r.phases) rows) ≡ Some e → sets_none e ≡ true
-found-none phase [] e a h = cc
-found-none phase (r ∷ rows) e a h =
-    let both = all-if (sets_none r.effect) (list_all (λ x. sets_none x.effect) rows) a in
-    found-if (is_among phase r.phases) r (find (λ x. is_among phase x.phases) rows) e h both.0 (found-none phase rows e both.1)
+-- what is true of all rows is true of the one that serves
+pub found-all : (p : Effect → Bool) (phase : Phase) (rows : List Row) (e : Effect) → list_all (λ r. p r.effect) rows ≡ true → option_map (λ (x : Row). x.effect) (find (λ r. is_among phase r.phases) rows) ≡ Some e → p e ≡ true
+found-all p phase [] e a h = cc
+found-all p phase (r ∷ rows) e a h =
+    let both = all-if (p r.effect) (list_all (λ x. p x.effect) rows) a in
+    found-if p (is_among phase r.phases) r (find (λ x. is_among phase x.phases) rows) e h both.0 (found-all p phase rows e both.1)
 
 -- the rows of each other command set none
 sets-alone : (c : Command) → (list_all (λ r. sets_none r.effect) (rows_of c) ≡ true) ⊎ (c ≡ command.SetBreakpoints)
@@ -141,25 +139,11 @@ sets-alone command.SetBreakpoints = inr refl
 sets-alone _ = inl refl
 
 suits-if : (c : Command) (phase : Phase) (given : Option Data) (e : Effect) (asked : Call) → (list_all (λ r. sets_none r.effect) (rows_of c) ≡ true) ⊎ (c ≡ command.SetBreakpoints) → effect_in c phase ≡ Some e → call_of c given ≡ Ok asked → Suits e asked
-suits-if c phase given e asked (inl none) h r = none-suits e asked (found-none phase (rows_of c) e none h)
+suits-if c phase given e asked (inl none) h r = none-suits e asked (found-all sets_none phase (rows_of c) e none h)
 suits-if c phase given e asked (inr same) h r = lines-suit e asked (reads-lines given asked (subst (λ (x : Command). call_of x given ≡ Ok asked) same r))
 
 pub call-suits : (c : Command) (phase : Phase) (given : Option Data) (e : Effect) (asked : Call) → effect_in c phase ≡ Some e → call_of c given ≡ Ok asked → Suits e asked
 call-suits c phase given e asked h r = suits-if c phase given e asked (sets-alone c) h r
-
--- ---- one message is due
-
-either-one : (b : Bool) (p q : Plan) → messages_due p ≡ 1 → messages_due q ≡ 1 → messages_due (if b then p else q) ≡ 1
-either-one true p q x y = x
-either-one false p q x y = y
-
-verified-one : (s : Session) (r : Entry) (key : SourceKey) (lines : List ℕ) (verified : Option (List Bool)) → messages_due (breakpoints_verified s r key lines verified) ≡ 1
-verified-one s r key lines None = refl
-verified-one s r key lines (Some verified) = either-one (are_too_many s.limits key lines s.breakpoints) _ _ refl (either-one (fits s r _) _ _ refl refl)
-
-pub one-messages_due : (view : Shown) (s : Session) (r : Entry) (asked : Call) → SetsLines asked → messages_due (breakpoints_plan view s r asked) ≡ 1
-one-messages_due view s r (call.SetBreakpoints key lines) h = verified-one s r key lines (view.verify key (lines_asked s.options lines))
-one-messages_due view s r _ h = absurd h
 
 -- ---- lines that are set
 
@@ -169,9 +153,8 @@ pub set-carries : {D : Type 0} (follows : Goes D) (plan : Plan) (old new : Sessi
 set-carries follows plan old new r key lines outbox bytes t f s b =
     rw t.is
     (record {
-      made = _;
-      carried = (done, f, refl);
-      by = record { session = rw (s, t.holds.count) refl; bytes_are = rw (b, t.holds.bytes) refl; reads_back = t.holds.reads_back };
+      step = record { made = _; carried = (done, f, refl); after = rw (s, t.holds.count) refl };
+      tells = record { bytes_are = rw (b, t.holds.bytes) refl; reads_back = t.holds.reads_back };
     })
 
 pub all-ok : {T E : Type 0} (r : Result T E) (A B : Type 0) (P Q : T → Type 0) → (A → B → (x : T) → P x → Q x) → OnOk r A → OnOk r B → IfOk r P → IfOk r Q

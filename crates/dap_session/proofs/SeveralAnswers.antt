@@ -8,7 +8,7 @@ use Rattle.dap_message.specs.Lengths.{max_fixed}
 use Rattle.dap_tables.specs.Outstanding.{Kept, entries, without, contains_seq, is_parked, parked_ones, HasDistinctSeqs}
 use Rattle.dap_tables.specs.declared.entry.Entry.{Entry}
 use Rattle.dap_session.specs.Handling.{answer_each}
-use Rattle.dap_session.proofs.Kept.{all-without, IsApart, apart, false-left, false-right, eqb-self}
+use Rattle.dap_session.proofs.Kept.{all-without, IsApart, apart, false-left, false-right, eqb-self, none-parked}
 use Rattle.dap_session.specs.declared.outbox.Outbox.{Outbox}
 use Rattle.dap_session.specs.PrivateSeveral.{answer_where, WritesAll}
 use Rattle.dap_session.specs.Plan.{Answer, Draft, reply}
@@ -87,11 +87,6 @@ length-parked passes (k ∷ ks) t = rw t.0 (length-cons k.parked k (filter (λ (
 or-none : (b : Bool) → (b || false) ≡ b
 or-none true = refl
 or-none false = refl
-
-pub none-parked : (seq : ℕ) (ks : List Kept) → contains_seq seq ks ≡ false → is_parked seq ks ≡ false
-none-parked seq [] h = refl
-none-parked seq (k ∷ ks) h =
-    rw (false-left (k.entry.seq == seq) (contains_seq seq ks) h) (none-parked seq ks (false-right (k.entry.seq == seq) (contains_seq seq ks) h))
 
 parked-here : (before : List Kept) (k : Kept) (after : List Kept) → IsApart before k after → is_parked k.entry.seq (before ++ k ∷ after) ≡ k.parked
 parked-here before k after a =

@@ -1,24 +1,24 @@
 -- What is true of a session stays true.
-use Rattle.std.proofs.Common.{◌≡◌, ℕ, ◌+◌, ◌≤◌, List, [], ◌∷◌, ◌++◌, Some, Ok, length, refl, sym, ap, ◌∙◌, subst, arith}
+use Rattle.std.proofs.Common.{◌≡◌, ◌≤◌, List, [], ◌++◌, Some, Ok, length, ap, arith}
 use Rattle.std.proofs.lemmas.List.{append-nil}
 use Rattle.dap_frame.specs.Settings.{Settings}
 use Rattle.dap_history.specs.History.{Asked}
 use Rattle.dap_history.specs.Requests.{asks}
 use Rattle.dap_message.specs.declared.message.Message.{Message}
 use Rattle.dap_debuggee.specs.Shown.{Shown}
-use Rattle.dap_session.specs.Answering.{open_after, GoesWell}
+use Rattle.dap_session.specs.Answering.{GoesWell}
 use Rattle.dap_session.specs.Handling.{turns}
 use Rattle.dap_session.specs.Laws.{CanMake}
-use Rattle.dap_session.specs.Plan.{Made, Plan, messages_due}
+use Rattle.dap_session.specs.Plan.{Made, Plan}
 use Rattle.dap_session.specs.Polling.{polls}
 use Rattle.dap_session.specs.Session.{Session, fresh_session}
 use Rattle.dap_session.specs.Taking.{takes}
 use Rattle.dap_session.specs.Within.{IsWithin, EachStepStaysWithin}
-use Rattle.dap_session.proofs.Deliveries.{IsDelivery, delivery-is}
+use Rattle.dap_session.proofs.Deliveries.{delivery-is}
 use Rattle.dap_session.proofs.Distinct.{AreDistinct, asks-distinct, distinct-asks, distinct-open, length-open, length-asks}
 use Rattle.dap_session.proofs.Happenings.{poll-is}
 use Rattle.dap_session.proofs.Moves.{Moves}
-use Rattle.dap_session.proofs.Turns.{IsTurn, turn-is}
+use Rattle.dap_session.proofs.Turns.{turn-is}
 
 -- what a step leaves, where it keeps few enough requests, and there are own numbers enough
 step-within : (s : Session) (came : List Asked) (m : Made) → IsWithin s → Moves s m → GoesWell s came m → AreDistinct (asks s.kept ++ came) → length m.after.kept ≤ s.limits.requests → m.after.used ≤ s.limits.seq → IsWithin m.after

@@ -1,7 +1,6 @@
 -- A turn is a row of the table, or one failure: where no failure holds, the request is of a command that is served, with arguments that suit.
-use Rattle.std.proofs.Common.{◌≡◌, ℕ, ◌+◌, ◌≤◌, [], ◌∷◌, Bool, true, false, Option, Some, None, Result, Ok, Err, refl, sym, ap, ◌∙◌, subst, arith}
-use Rattle.std.specs.Prelude.{◌||◌, ◌&&◌, not, nat_le, if◌then◌else◌, option_map, find, List}
-use Rattle.std.specs.List.{list_any}
+use Rattle.std.proofs.Common.{◌≡◌, ℕ, ◌+◌, ◌≤◌, [], ◌∷◌, Bool, true, false, Option, Some, None, Result, Ok, Err, refl, sym, subst, arith}
+use Rattle.std.specs.Prelude.{◌&&◌, not, nat_le, if◌then◌else◌}
 use Rattle.std.proofs.lemmas.Bool.Decides.{nat_tests}
 use Rattle.dap_message.specs.Argument.{Read}
 use Rattle.dap_message.specs.Types.Call.{Call}
@@ -12,13 +11,12 @@ use Rattle.dap_tables.specs.Outstanding.{Kept}
 use Rattle.dap_debuggee.specs.Shown.{Shown}
 use Rattle.dap_session.specs.declared.effect.Effect.{Effect}
 use Rattle.dap_session.specs.declared.fault.AdapterFault.{AdapterFault}
-use Rattle.dap_session.specs.declared.phase.Phase.{Phase}
 use Rattle.dap_session.specs.declared.phase.Phase.TheVariants.{Fresh}
 use Rattle.dap_session.specs.Failures.{command_of, call_in, first_failure, or_else, when, name_refused, key_refused, phase_refused, call_refused, read_refused, known_refused, refusal, waits_for_stop}
 use Rattle.dap_session.specs.Handling.{plan_of_call, plan_of_command, plan_unless, plan as plan_at, some_plan, turn_of, turns}
 use Rattle.dap_session.specs.Plan.{Plan, messages_due, plan_within_numbers}
 use Rattle.dap_session.specs.Session.{Session, oldest}
-use Rattle.dap_session.specs.Table.{Row, rows_of, effect_in, is_served, is_among, is_phase}
+use Rattle.dap_session.specs.Table.{effect_in, is_served, is_phase}
 use Rattle.dap_session.proofs.Fewer.{IsHandled}
 use Rattle.dap_session.proofs.Kept.{kept-found, found-passes}
 use Rattle.dap_session.proofs.Outcomes.{IsRow, failed-row}
@@ -29,17 +27,17 @@ use Rattle.dap_session.proofs.SetLines.{call-suits}
 -- ---- where no failure holds
 
 -- the command is known
-unknown-fails : (b : Bool) → first_failure (first_failure (when b NotInitialized ∷ None ∷ Some UnknownCommand ∷ None ∷ []) ∷ None ∷ []) ≡ None → ⊥
+pub unknown-fails : (b : Bool) → first_failure (first_failure (when b NotInitialized ∷ None ∷ Some UnknownCommand ∷ None ∷ []) ∷ None ∷ []) ≡ None → ⊥
 unknown-fails true h = cc
 unknown-fails false h = cc
 
 -- its arguments are read
-badly-fails : (name : Option Failure) (f : Failure) (later : Option Failure) → or_else name (or_else (or_else (Some f) later) None) ≡ None → ⊥
+pub badly-fails : (name : Option Failure) (f : Failure) (later : Option Failure) → or_else name (or_else (or_else (Some f) later) None) ≡ None → ⊥
 badly-fails (Some g) f later h = cc
 badly-fails None f later h = cc
 
 -- and it is served
-unserved-fails : (name : Option Failure) (waits : Bool) (call : Option Failure) → or_else name (or_else (or_else None (or_else (or_else (when (not waits) WrongPhase) (or_else (Some NotStopped) None)) call)) None) ≡ None → ⊥
+pub unserved-fails : (name : Option Failure) (waits : Bool) (call : Option Failure) → or_else name (or_else (or_else None (or_else (or_else (when (not waits) WrongPhase) (or_else (Some NotStopped) None)) call)) None) ≡ None → ⊥
 unserved-fails (Some g) waits call h = cc
 unserved-fails None true call h = cc
 unserved-fails None false call h = cc

@@ -104,20 +104,34 @@ abbrev pub number_in : List ℕ → ℕ
 number_in [] = 0
 number_in (n ∷ ns) = n
 
+-- ---- the objects that answers name, in order
+
+abbrev pub frame_objects : List Frame → List (Option Target)
+frame_objects frames = map (λ (f : Frame). Some (frame_of f.object)) frames
+
+abbrev pub scope_objects : List Scope → List (Option Target)
+scope_objects scopes = map (λ (x : Scope). Some (holder_of x.holder)) scopes
+
+abbrev pub variable_objects : List Variable → List (Option Target)
+variable_objects variables = map (λ (x : Variable). option_map holder_of x.holder) variables
+
+abbrev pub value_objects : Evaluation → List (Option Target)
+value_objects value = option_map holder_of value.holder ∷ []
+
 -- ---- the answers
 
 abbrev pub stack_trace_result : Shown → Session → ℕ → List Frame → QueryResult
 stack_trace_result view s total shown_frames =
-    result_with_references s (map (λ (f : Frame). Some (frame_of f.object)) shown_frames) (λ ids. stack_trace_body (with_numbers (protocol_frame s.options view.sources) ids shown_frames) total)
+    result_with_references s (frame_objects shown_frames) (λ ids. stack_trace_body (with_numbers (protocol_frame s.options view.sources) ids shown_frames) total)
 
 abbrev pub scopes_result : Session → List Scope → QueryResult
-scopes_result s scopes = result_with_references s (map (λ (x : Scope). Some (holder_of x.holder)) scopes) (λ numbers. scopes_body (with_numbers protocol_scope numbers scopes))
+scopes_result s scopes = result_with_references s (scope_objects scopes) (λ numbers. scopes_body (with_numbers protocol_scope numbers scopes))
 
 abbrev pub variables_result : Session → List Variable → QueryResult
-variables_result s variables = result_with_references s (map (λ (x : Variable). option_map holder_of x.holder) variables) (λ numbers. variables_body (with_numbers protocol_variable numbers variables))
+variables_result s variables = result_with_references s (variable_objects variables) (λ numbers. variables_body (with_numbers protocol_variable numbers variables))
 
 abbrev pub evaluate_result : Session → Evaluation → QueryResult
-evaluate_result s value = result_with_references s (option_map holder_of value.holder ∷ []) (λ numbers. evaluate_body value.value (number_in numbers))
+evaluate_result s value = result_with_references s (value_objects value) (λ numbers. evaluate_body value.value (number_in numbers))
 
 -- the object of a live number
 abbrev pub object_of : LiveReferences → ℕ → Option ℕ

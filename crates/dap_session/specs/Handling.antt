@@ -157,6 +157,10 @@ lines_asked options lines = if options.lines_start_at_1 then lines else map (λ 
 abbrev pub answers_to : ℕ → List ℕ → List Bool → List BreakpointBody
 answers_to first lines verified = map (λ p. record { id = p.0; line = p.1.0; verified = p.1.1 }) (zip (range_with_len first (length lines)) (zip lines verified))
 
+-- the answer to lines that were asked for
+abbrev pub breakpoints_body : Session → List ℕ → List Bool → Option Data
+breakpoints_body s lines verified = Some (set_breakpoints_body (answers_to s.breakpoints.next_id lines verified))
+
 abbrev pub breakpoints_set : Session → Entry → SourceKey → List ℕ → Option Data → Plan
 breakpoints_set s r key lines body = asking (to_set_breakpoints key lines)
     (λ last. record {
@@ -174,7 +178,7 @@ breakpoints_verified s r key lines None = at_once (after_answering r (failure De
 breakpoints_verified s r key lines (Some verified) =
     if are_too_many s.limits key lines s.breakpoints
     then at_once (after_answering r (failure TooManyBreakpoints) s)
-    else breakpoints_answered s r key (lines_asked s.options lines) (Some (set_breakpoints_body (answers_to s.breakpoints.next_id lines verified)))
+    else breakpoints_answered s r key (lines_asked s.options lines) (breakpoints_body s lines verified)
 
 abbrev pub breakpoints_plan : Shown → Session → Entry → Call → Plan
 breakpoints_plan view s r (call.SetBreakpoints key lines) = breakpoints_verified s r key lines (view.verify key (lines_asked s.options lines))

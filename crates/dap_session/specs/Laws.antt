@@ -4,6 +4,7 @@ use Rattle.dap_history.specs.History.{Entry, In, ins_of}
 use Rattle.dap_message.specs.declared.message.Message.{Message}
 use Rattle.dap_tables.specs.Outstanding.{HasDistinctSeqs}
 use Rattle.dap_debuggee.specs.Shown.{Shown, Reply}
+use Rattle.dap_session.specs.Carried.{Goes, CarriedOut}
 use Rattle.dap_session.specs.Handling.{turns}
 use Rattle.dap_session.specs.Plan.{Made, Plan, at_once, asking, entries_of}
 use Rattle.dap_session.specs.Polling.{polls}
@@ -15,6 +16,11 @@ use Rattle.dap_session.specs.Taking.{takes}
 abbrev pub CanMake : Plan → Made → Type 0
 CanMake (at_once m) made = made ≡ m
 CanMake (asking act makes) made = (r : Reply) × (made ≡ makes r)
+
+-- what is made where a plan is carried out is what it can come to
+pub can_make : {D : Type 0} (follows : Goes D) (plan : Plan) (v w : D) (made : Made) → CarriedOut follows plan v made w → CanMake plan made
+can_make follows (at_once m) v w made c = c.0
+can_make follows (asking act makes) v w made c = (c.0, c.2)
 
 pub record EachStepGoesOn : Type 0 where
   -- what is made is written, and nothing comes by it

@@ -23,4 +23,3 @@ pub mod PrivateSetting
 pub mod RefusalLaws
 pub mod StaleLaws
 pub mod OrderLaws
-pub mod Writing

@@ -71,6 +71,10 @@ pub record Made : Type 0 where
   pub drops : Bool
   pub after : Session
 
+-- the messages of a step, with the own numbers after the last one used
+abbrev pub written_by : Session → Made → List Message
+written_by s m = numbered_messages s.used m.drafts
+
 -- what is made at once, or what the debuggee is asked, and what is made of each reply
 pub data Plan : Type 0 where
   at_once : Made → Plan

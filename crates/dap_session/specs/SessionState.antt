@@ -1,4 +1,4 @@
--- The code's words for the session with its debuggee, and for the steps that the calls are made of.
+-- A session with its debuggee, one step of it, and what the three calls are made of.
 use Rattle.std.specs.Prelude.{◌≡◌, ℕ, ◌+◌, ◌≤◌, ◌<◌, ⊤, List, [], ◌∷◌, length, Bool, true, false, Option, Some, None, Result, Ok, Err}
 use Rattle.dap_frame.specs.Settings.{Settings}
 use Rattle.dap_tables.specs.Outstanding.{Kept, KeptRequests, IsOrderlyRequests, without}
@@ -14,7 +14,7 @@ use Rattle.dap_session.specs.declared.fault.AdapterFault.TheVariants.{SeqExhaust
 use Rattle.dap_session.specs.Carried.{Goes, CarriedOut}
 use Rattle.dap_session.specs.InRange.{AnswersInRange}
 use Rattle.dap_session.specs.Handling.{plan_for, some_plan, turns}
-use Rattle.dap_session.specs.Plan.{Made, Plan, at_once, asking, messages_due, plan_within_numbers, after_answering, failure, numbered_messages, bytes_of}
+use Rattle.dap_session.specs.Plan.{Made, Plan, at_once, asking, messages_due, plan_within_numbers, after_answering, failure, written_by, bytes_of}
 use Rattle.dap_session.specs.Session.{Session, cancelled_by, not_cancelled_by}
 use Rattle.dap_message.specs.ReadBack.{AllReadBack}
 
@@ -22,6 +22,12 @@ use Rattle.dap_message.specs.ReadBack.{AllReadBack}
 pub record SessionState (D : Type 0) : Type 0 where
   pub session : Session
   pub debuggee : D
+
+-- One step: the debuggee was asked just what the plan asks, and the session is the one that was made of its reply. What is written by it is `written_by old.session made`
+pub record SessionStep {D : Type 0} (follows : Goes D) (plan : Plan) (old new : SessionState D) : Type 0 where
+  pub made : Made
+  pub carried : CarriedOut follows plan old.debuggee made new.debuggee
+  pub after : new.session ≡ made.after
 
 -- the tables of references and of breakpoints have the limits' room
 pub record HaveRooms (limits : Settings) (references : ReferenceTable) (breakpoints : BreakpointTable) : Type 0 where
@@ -37,11 +43,15 @@ pub record IsSession (limits : Settings) (table : KeptRequests) (references : Re
   pub last : numbers.last ≡ limits.seq
   pub used : numbers.used ≤ numbers.last
 
--- the session went on, and these bytes say so; a client with the same limit on bodies reads each of the messages, where the requests that they answer are in range
+-- these bytes are the messages of a step; a client with the same limit on bodies reads each of them, where the requests that they answer are in range
+pub record Tells (old : Session) (m : Made) (bytes : List ℕ) : Type 0 where
+  pub bytes_are : bytes ≡ bytes_of (written_by old m)
+  pub reads_back : AnswersInRange m.drafts → AllReadBack old.limits.body (written_by old m)
+
+-- the session is what was made, and these bytes say so
 pub record MadeBy (m : Made) (old new : Session) (bytes : List ℕ) : Type 0 where
   pub session : new ≡ m.after
-  pub bytes_are : bytes ≡ bytes_of (numbered_messages old.used m.drafts)
-  pub reads_back : AnswersInRange m.drafts → AllReadBack old.limits.body (numbered_messages old.used m.drafts)
+  pub tells : Tells old m bytes
 
 -- what was decided of a request, as a plan
 abbrev pub plan_of_decision : Decision → Shown → Session → Entry → Plan
@@ -55,9 +65,8 @@ reply_of false = refused
 
 -- a plan was carried out, and these bytes say so
 pub record Carries {D : Type 0} (follows : Goes D) (plan : Plan) (old new : SessionState D) (bytes : List ℕ) : Type 0 where
-  pub made : Made
-  pub carried : CarriedOut follows plan old.debuggee made new.debuggee
-  pub by : MadeBy made old.session new.session bytes
+  pub step : SessionStep follows plan old new
+  pub tells : Tells old.session step.made bytes
 
 -- memory was refused to a turn that comes to this: the debuggee was not asked where it is asked nothing, nor where it is ended, which is done last
 abbrev pub IsUnasked : {D : Type 0} → Result (Option Plan) AdapterFault → D → D → Type 0
@@ -95,12 +104,13 @@ LacksRoom SeqExhausted s n = s.limits.seq < s.used + n
 LacksRoom OutOfMemory s n = s.used + n ≤ s.limits.seq
 LacksRoom fault s n = ⊥
 
--- why a poll was refused: of what happened then, or of memory
+-- what was made takes more messages than own numbers are left
 pub record HasTooMany {D : Type 0} (follows : Goes D) (plan : Plan) (old new : SessionState D) : Type 0 where
   pub made : Made
   pub carried : CarriedOut follows plan old.debuggee made new.debuggee
   pub short : old.session.limits.seq < old.session.used + length made.drafts
 
+-- why a poll was refused: of what happened then, or of memory
 abbrev pub IsRefusedPoll : {D : Type 0} → Goes D → AdapterFault → Plan → SessionState D → SessionState D → Type 0
 IsRefusedPoll follows SeqExhausted plan old new = HasTooMany follows plan old new
 IsRefusedPoll follows OutOfMemory plan old new = ⊤

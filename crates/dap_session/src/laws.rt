@@ -1,7 +1,7 @@
 //! Laws of the definitions, each on a function with nothing to run.
 ghost use Rattle.dap_session.specs.Answering.{EachStepGoesWell};
 ghost use Rattle.dap_session.specs.Laws.{EachStepGoesOn};
-ghost use Rattle.dap_session.specs.OrderLaws.{RefusalsComeInOrder};
+ghost use Rattle.dap_session.specs.OrderLaws.{FailuresComeInOrder, RefusalsComeInOrder};
 ghost use Rattle.dap_session.specs.ReferenceLaws.{ReferencesAreApart};
 ghost use Rattle.dap_session.specs.RefusalLaws.{RefusalsChangeNothing};
 ghost use Rattle.dap_session.specs.StaleLaws.{DeadNumbersAreStale};
@@ -49,7 +49,16 @@ pub fn refusals_change_nothing()
     ensures { RefusalsChangeNothing }
 {}
 
-/// A request is refused with the first failure, in the one order that the failures have, whose test holds.
+/// Before it is served, a request is refused with the first failure, in the one order that the failures have, whose test
+/// holds, and passes where none does.
 pub fn refusals_come_in_order()
     ensures { RefusalsComeInOrder }
+{}
+
+/// Within its limits, a session answers a request that is handled with the first failure, in the one order that the failures
+/// have, whose test holds, and does nothing else. Where none holds the debuggee is asked just what the effect asks, and the
+/// request succeeds or is parked; `launch`, `attach`, a resumption, and `pause` while it runs, fail as `debuggee`, and nothing
+/// else is done, where the debuggee refuses.
+pub fn failures_come_in_order()
+    ensures { FailuresComeInOrder }
 {}

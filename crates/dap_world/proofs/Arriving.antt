@@ -8,6 +8,7 @@ use Rattle.dap_check.specs.declared.line.Side.{Side}
 use Rattle.dap_check.specs.declared.line.Side.TheVariants.{Client, Adapter}
 use Rattle.dap_debuggee.specs.Shown.{Shown}
 use Rattle.dap_session.specs.Carried.{Goes}
+use Rattle.dap_session.specs.Plan.{written_by}
 use Rattle.dap_session.specs.SessionState.{SessionState}
 use Rattle.dap_client.specs.Sending.{next_message, after_send}
 use Rattle.dap_client.specs.Session.{Session as ClientSession}
@@ -52,11 +53,11 @@ module _ {D : Type 0} (limits : Settings) where
   step-arrives shown follows old new (by_sending call t) g a =
       subst (λ (w : World D). AllArrive limits w) (sym t.is) (by-client (after_send call old.client) (next_message old.client call ∷ []) old a (at-client old (next_message old.client call ∷ []) g (t.reads_back, tt)))
   step-arrives shown follows old new (by_coming_up t) g a =
-      subst (λ (w : World D). AllArrive limits w) (sym t.is) (by-adapter t.seat t.outs (record old { up = t.later }) (later-up old t.message t.later t.first a) (at-adapter old t.outs g t.reads_back))
+      subst (λ (w : World D). AllArrive limits w) (sym t.step.is) (by-adapter t.step.seat (written_by old.adapter.session t.step.session.made) (record old { up = t.later }) (later-up old t.message t.later t.first a) (at-adapter old (written_by old.adapter.session t.step.session.made) g t.step.reads_back))
   step-arrives shown follows old new (by_coming_down t) g a =
       subst (λ (w : World D). AllArrive limits w) (sym t.is) (by-client t.made.after t.made.written (record old { down = t.later }) (later-down old t.message t.later t.first a) (at-client old t.made.written g t.reads_back))
-  step-arrives shown follows old new (by_turning t) g a = subst (λ (w : World D). AllArrive limits w) (sym t.is) (by-adapter t.seat t.outs old a (at-adapter old t.outs g t.reads_back))
-  step-arrives shown follows old new (by_polling t) g a = subst (λ (w : World D). AllArrive limits w) (sym t.is) (by-adapter t.seat t.outs old a (at-adapter old t.outs g t.reads_back))
+  step-arrives shown follows old new (by_turning t) g a = subst (λ (w : World D). AllArrive limits w) (sym t.step.is) (by-adapter t.step.seat (written_by old.adapter.session t.step.session.made) old a (at-adapter old (written_by old.adapter.session t.step.session.made) g t.step.reads_back))
+  step-arrives shown follows old new (by_polling t) g a = subst (λ (w : World D). AllArrive limits w) (sym t.step.is) (by-adapter t.step.seat (written_by old.adapter.session t.step.session.made) old a (at-adapter old (written_by old.adapter.session t.step.session.made) g t.step.reads_back))
 
 pub schedule-arrives : {D : Type 0} (laws : Laws) (shown : D → Shown) (follows : Goes D) (limits : Settings) (debuggee : D) (w : World D) → AreInRange limits → Schedule shown follows limits debuggee w → AllArrive limits w
 schedule-arrives laws shown follows limits debuggee _ r starts = record { up = tt; down = tt; said = tt }

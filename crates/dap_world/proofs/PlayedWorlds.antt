@@ -15,14 +15,14 @@ use Rattle.dap_check.specs.declared.line.Side.TheVariants.{Client, Adapter}
 use Rattle.dap_session.specs.declared.fault.AdapterFault.{AdapterFault}
 use Rattle.dap_session.specs.Carried.{Goes, CarriedOut}
 use Rattle.dap_session.specs.Handling.{turns}
-use Rattle.dap_session.specs.Plan.{Made, Plan, at_once, asking, numbered_messages}
+use Rattle.dap_session.specs.Plan.{Made, Plan, at_once, asking, written_by}
 use Rattle.dap_session.specs.Polling.{polls}
 use Rattle.dap_session.specs.SessionState.{SessionState}
 use Rattle.dap_session.specs.Taking.{takes}
 use Rattle.dap_client.specs.declared.fault.ClientFault.{ClientFault}
 use Rattle.dap_client.specs.Sending.{first_of, refusals_in_order, next_message, after_send}
 use Rattle.dap_client.specs.Taking.{Made as ClientMade, takes as client_takes}
-use Rattle.dap_world.specs.World.{World, Said, said_by, messages_of, client_said, adapter_said, by_sending, by_coming_up, by_coming_down, by_turning, by_polling, Schedule, goes}
+use Rattle.dap_world.specs.World.{AdapterStep, World, Said, said_by, messages_of, client_said, adapter_said, by_sending, by_coming_up, by_coming_down, by_turning, by_polling, Schedule, goes}
 use Rattle.dap_world.proofs.Arriving.{messages-more}
 
 -- ---- words of the examples
@@ -61,7 +61,7 @@ abbrev pub sent : {D : Type 0} → Call → World D → World D
 sent c w = client_said (after_send c w.client) (next_message w.client c ∷ []) w
 
 abbrev pub out_of : {D : Type 0} → Replies D → Plan → World D → List Message
-out_of replies plan w = numbered_messages w.adapter.session.used (made_by replies plan w.adapter.debuggee).drafts
+out_of replies plan w = written_by w.adapter.session (made_by replies plan w.adapter.debuggee)
 
 abbrev pub seat_after : {D : Type 0} → Replies D → Plan → World D → SessionState D
 seat_after replies plan w = record { session = (made_by replies plan w.adapter.debuggee).after; debuggee = left_by replies plan w.adapter.debuggee }
@@ -121,6 +121,14 @@ module _ {D : Type 0} (shown : D → Shown) (replies : Replies D) (limits : Sett
       let p = both_read limits.body w.said Client (next_message w.client c ∷ []) h in
       goes w (sent c w) (s p.0) (by_sending c (record { plain = plain; free = free; reads_back = subst (λ (z : Settings). ReadsBack z.body (next_message w.client c)) (sym same) p.1.0; is = refl }))
 
+  abbrev step_so : (plan : Plan) (w left : World D) → AllReadBack w.adapter.session.limits.body (out_of replies plan w) → AdapterStep (FollowsBy replies) plan w left (adapter_said (seat_after replies plan w) (out_of replies plan w) left)
+  step_so plan w left back = record {
+    seat = seat_after replies plan w;
+    session = record { made = made_by replies plan w.adapter.debuggee; carried = carried replies plan w.adapter.debuggee; after = refl };
+    reads_back = back;
+    is = refl;
+  }
+
   pub comes_up : (w : World D) (m : Message) (later : List Message) (plan : Plan) → w.up ≡ m ∷ later → takes m w.adapter.session ≡ Ok plan → w.adapter.session.limits ≡ limits → Leads w → Leads (up replies w)
   comes_up w m later plan first taken same s = rw (first, taken) (λ h.
       let p = both_read limits.body w.said Adapter (out_of replies plan w) h in
@@ -130,11 +138,7 @@ module _ {D : Type 0} (shown : D → Shown) (replies : Replies D) (limits : Sett
         first = first;
         plan = plan;
         taken = taken;
-        outs = out_of replies plan w;
-        seat = seat_after replies plan w;
-        writes = record { made = made_by replies plan w.adapter.debuggee; carried = carried replies plan w.adapter.debuggee; session = refl; outs_are = refl };
-        reads_back = subst (λ (z : Settings). AllReadBack z.body (out_of replies plan w)) (sym same) p.1;
-        is = refl;
+        step = step_so plan w (record w { up = later }) (subst (λ (z : Settings). AllReadBack z.body (out_of replies plan w)) (sym same) p.1);
       })))
 
   pub comes_down : (w : World D) (m : Message) (later : List Message) (made : ClientMade) → w.down ≡ m ∷ later → client_takes m w.client ≡ Ok made → w.client.limits ≡ limits → Leads w → Leads (down w)
@@ -156,11 +160,7 @@ module _ {D : Type 0} (shown : D → Shown) (replies : Replies D) (limits : Sett
       goes w (spoke replies plan w) (s p.0) (by_turning (record {
         plan = plan;
         turned = is;
-        outs = out_of replies plan w;
-        seat = seat_after replies plan w;
-        writes = record { made = made_by replies plan w.adapter.debuggee; carried = carried replies plan w.adapter.debuggee; session = refl; outs_are = refl };
-        reads_back = subst (λ (z : Settings). AllReadBack z.body (out_of replies plan w)) (sym same) p.1;
-        is = refl;
+        step = step_so plan w w (subst (λ (z : Settings). AllReadBack z.body (out_of replies plan w)) (sym same) p.1);
       })))
 
   pub polls_once : (w : World D) → (seat_after replies (polls w.adapter.session) w).session.used ≤ w.adapter.session.limits.seq → w.adapter.session.limits ≡ limits → Leads w → Leads (polled replies w)
@@ -168,10 +168,6 @@ module _ {D : Type 0} (shown : D → Shown) (replies : Replies D) (limits : Sett
       let plan = polls w.adapter.session in
       let p = both_read limits.body w.said Adapter (out_of replies plan w) h in
       goes w (spoke replies plan w) (s p.0) (by_polling (record {
-        outs = out_of replies plan w;
-        seat = seat_after replies plan w;
-        writes = record { made = made_by replies plan w.adapter.debuggee; carried = carried replies plan w.adapter.debuggee; session = refl; outs_are = refl };
+        step = step_so plan w w (subst (λ (z : Settings). AllReadBack z.body (out_of replies plan w)) (sym same) p.1);
         within = within;
-        reads_back = subst (λ (z : Settings). AllReadBack z.body (out_of replies plan w)) (sym same) p.1;
-        is = refl;
       }))

@@ -19,7 +19,7 @@ use Rattle.dap_debuggee.specs.Shown.{Shown}
 use Rattle.dap_check.specs.declared.line.Side.{Side}
 use Rattle.dap_check.specs.declared.line.Side.TheVariants.{Client, Adapter}
 use Rattle.dap_session.specs.Carried.{Goes}
-use Rattle.dap_session.specs.Laws.{CanMake}
+use Rattle.dap_session.specs.Laws.{CanMake, can_make}
 use Rattle.dap_session.specs.Plan.{Made, numbered_messages}
 use Rattle.dap_session.specs.Polling.{polls}
 use Rattle.dap_session.specs.Session.{Session}
@@ -33,7 +33,7 @@ use Rattle.dap_world.proofs.ClientStepping.{Leaves, kind-leaves, down-first, is-
 use Rattle.dap_world.proofs.KeptSeen.{all_told, numbered_messages-seen}
 use Rattle.dap_world.proofs.PollsSeen.{polls-seen}
 use Rattle.dap_world.proofs.Standing.{none-zero, good-kind, told-answers, world_seen, Stands}
-use Rattle.dap_world.proofs.Stepping.{Laws, carried-can, world_made, written, turn-is, up-first}
+use Rattle.dap_world.proofs.Stepping.{Laws, world_made, written, turn-is, up-first}
 use Rattle.dap_world.proofs.TakesSeen.{takes-seen}
 
 -- ---- what was written
@@ -76,17 +76,17 @@ turn-step {D} laws shown follows limits old new r t g =
     let seen = turn-is laws shown follows limits old new r t g in
     record {
       step = Turn seen.ok;
-      is = ap (λ (w : World D). told_seen w) (written follows old new old.up t.plan t.outs t.seat t.writes t.is) ∙ made-is old old.up t.writes.made t.seat.debuggee (adapter_model_turns (adapter_model_of old.adapter.session) seen.ok) seen.after seen.outs;
+      is = ap (λ (w : World D). told_seen w) (written follows old new old.up t.plan t.step.seat t.step.session t.step.is) ∙ made-is old old.up t.step.session.made t.step.seat.debuggee (adapter_model_turns (adapter_model_of old.adapter.session) seen.ok) seen.after seen.outs;
     }
 
 poll-step : {D : Type 0} (follows : Goes D) (n : ℕ) (old new : World D) → Polls follows old new → IsSmallStep n old new
 poll-step {D} follows n old new t =
     let s : Session = old.adapter.session in
-    let can : CanMake (polls s) t.writes.made = carried-can follows (polls s) old.adapter.debuggee t.seat.debuggee t.writes.made t.writes.carried in
-    let seen = polls-seen s t.writes.made can in
+    let can : CanMake (polls s) t.step.session.made = can_make follows (polls s) old.adapter.debuggee t.step.seat.debuggee t.step.session.made t.step.session.carried in
+    let seen = polls-seen s t.step.session.made can in
     record {
       step = Poll seen.happening;
-      is = ap (λ (w : World D). told_seen w) (written follows old new old.up (polls s) t.outs t.seat t.writes t.is) ∙ made-is old old.up t.writes.made t.seat.debuggee (adapter_model_polls (adapter_model_of s) seen.happening) seen.after seen.outs;
+      is = ap (λ (w : World D). told_seen w) (written follows old new old.up (polls s) t.step.seat t.step.session t.step.is) ∙ made-is old old.up t.step.session.made t.step.seat.debuggee (adapter_model_polls (adapter_model_of s) seen.happening) seen.after seen.outs;
     }
 
 -- where this is the first under way
@@ -96,15 +96,15 @@ up_told n w ms = record { world = comes_up n (world_seen w) ms; written = all_se
 up-step : {D : Type 0} (laws : Laws) (follows : Goes D) (limits : Settings) (old new : World D) → ComesUp follows old new → Stands limits old → IsSmallStep limits.requests old new
 up-step {D} laws follows limits old new t g =
     let s : Session = old.adapter.session in
-    let made : Made = t.writes.made in
-    let can : CanMake t.plan made = carried-can follows t.plan old.adapter.debuggee t.seat.debuggee made t.writes.carried in
+    let made : Made = t.step.session.made in
+    let can : CanMake t.plan made = can_make follows t.plan old.adapter.debuggee t.step.seat.debuggee made t.step.session.carried in
     let ups = up-first limits old t.message t.later t.first g in
     let seen = takes-seen t.message s t.plan made (good-kind t.message.seq t.message.kind ups.0) (none-zero s.kept g.kept) t.taken can in
     let n : s.limits.requests ≡ limits.requests = ap (λ (l : Settings). l.requests) g.adapter_limits in
-    let one = made-is old t.later made t.seat.debuggee (adapter_model_takes s.limits.requests (adapter_model_of s) (message_seen t.message)) seen.after seen.outs in
+    let one = made-is old t.later made t.step.seat.debuggee (adapter_model_takes s.limits.requests (adapter_model_of s) (message_seen t.message)) seen.after seen.outs in
     record {
       step = DeliverUp;
-      is = ap (λ (w : World D). told_seen w) (written follows old new t.later t.plan t.outs t.seat t.writes t.is)
+      is = ap (λ (w : World D). told_seen w) (written follows old new t.later t.plan t.step.seat t.step.session t.step.is)
           ∙ (one ∙ (ap (λ k. up_told k old (all_seen (t.message ∷ t.later))) n ∙ ap (λ (ms : List Message). up_told limits.requests old (all_seen ms)) (sym t.first)));
     }
 

@@ -1,9 +1,10 @@
-use Rattle.std.proofs.Common.{rules, ◌≡◌, length, Err, ap, ◌∙◌, sym, subst}
+use Rattle.std.proofs.Common.{rules, refl, ◌≡◌, length, Err, ap, ◌∙◌, sym, subst}
 use Rattle.dap_tables.specs.Outstanding.{HasDistinctSeqs}
 use Rattle.dap_session.specs.Handling.{after_disconnect}
 use Rattle.dap_session.specs.Plan.{at_once}
 use Rattle.dap_session.specs.SessionState.{SessionState}
-use Rattle.dap_session.proofs.Disconnects.{messages_due-after_disconnect, refused-for}
+use Rattle.dap_session.proofs.Disconnects.{messages_due-after_disconnect, refused-for, disconnect-made}
+use Rattle.dap_session.proofs.TakingRequests.{at_once_carries}
 use Rattle.dap_session.proofs.session.Session.disconnect.Goals as goal
 
 pub returns-in_err-room-clause-refused : goal.returns-in_err-room-clause-refused
@@ -12,3 +13,9 @@ returns-in_err-room-clause-refused g c =
     let d : HasDistinctSeqs c.args.self.now.session.kept = subst (λ (x : SessionState _). HasDistinctSeqs x.session.kept) c.self.view_is c.self.invariant.orderly.distinct in
     let same : length c.args.self.now.session.kept ≡ c.len.result = sym (c.len.ensures.len ∙ ap (λ (x : SessionState _). length x.session.kept) c.self.view_is) in
     rw is (refused-for c.in_err-room.field-0.0 (at_once (after_disconnect c.args.self.now.session c.args.request.now)) c.args.self.now c.len.result c.in_err-room.ensures.err.0 c.in_err-room.ensures.err.1 (messages_due-after_disconnect c.args.self.now.session c.args.request.now d c.requires.kept ∙ same))
+
+pub returns-clause-carries : goal.returns-clause-carries
+returns-clause-carries g c =
+    at_once_carries g.D.Debuggee.follows (after_disconnect c.args.self.now.session c.args.request.now) c.args.self.now _ _
+    (disconnect-made c.args.self.now.session c.args.request.now c.in_ok-outbox.outbox _ _ c.in_ok-outbox.ensures.holds (ap (λ (x : SessionState _). x.session) c.go.ensures.session) (rw c.go.ensures.bytes refl))
+    (ap (λ (x : SessionState _). x.debuggee) c.go.ensures.session)

@@ -5,7 +5,7 @@ use Rattle.dap_debuggee.specs.Shown.{to_start, done}
 use Rattle.dap_session.specs.declared.fault.AdapterFault.TheVariants.{OutOfMemory}
 use Rattle.dap_session.specs.Handling.{after_parked_launch}
 use Rattle.dap_session.specs.InRange.{AnswersInRange}
-use Rattle.dap_session.specs.Plan.{asking, numbered_messages}
+use Rattle.dap_session.specs.Plan.{asking, written_by}
 use Rattle.dap_session.specs.SessionState.{SessionState, reply_of}
 use Rattle.dap_session.specs.Session.{Session}
 use Rattle.dap_session.proofs.Disconnects.{messages_due-started, count-started, refused-for}
@@ -35,13 +35,13 @@ returns-in_err-outbox-clause-refused g c =
 pub returns-clause-carries : goal.returns-clause-carries
 returns-clause-carries g c =
     record {
-      made = _;
-      carried = (reply_of c.in_ok-ok.ok, rw (c.set_phase.ensures, c.commit_parked-bytes.ensures.session) c.in_ok-ok.ensures.follows, refl);
-      by =
-          record {
-            session = rw (c.set_phase.ensures, c.commit_parked-bytes.ensures.session, c.in_ok-outbox.ensures.holds.count, count-started c.ask_start.new.self.session c.args.request.now (reply_of c.in_ok-ok.ok), c.in_ok-ok.ensures.session, c.start_phase.ensures) refl;
-            bytes_are = rw (c.commit_parked-bytes.ensures.bytes, c.in_ok-outbox.ensures.holds.bytes, c.in_ok-ok.ensures.session) refl;
-            reads_back =
-                subst (λ (x : Session). AnswersInRange (after_parked_launch x c.args.request.now (reply_of c.in_ok-ok.ok)).drafts → AllReadBack x.limits.body (numbered_messages x.used (after_parked_launch x c.args.request.now (reply_of c.in_ok-ok.ok)).drafts)) c.in_ok-ok.ensures.session c.in_ok-outbox.ensures.holds.reads_back;
-          };
+      step = record {
+        made = _;
+        carried = (reply_of c.in_ok-ok.ok, rw (c.set_phase.ensures, c.commit_parked-bytes.ensures.session) c.in_ok-ok.ensures.follows, refl);
+        after = rw (c.set_phase.ensures, c.commit_parked-bytes.ensures.session, c.in_ok-outbox.ensures.holds.count, count-started c.ask_start.new.self.session c.args.request.now (reply_of c.in_ok-ok.ok), c.in_ok-ok.ensures.session, c.start_phase.ensures) refl;
+      };
+      tells = record {
+        bytes_are = rw (c.commit_parked-bytes.ensures.bytes, c.in_ok-outbox.ensures.holds.bytes, c.in_ok-ok.ensures.session) refl;
+        reads_back = subst (λ (x : Session). AnswersInRange (after_parked_launch x c.args.request.now (reply_of c.in_ok-ok.ok)).drafts → AllReadBack x.limits.body (written_by x (after_parked_launch x c.args.request.now (reply_of c.in_ok-ok.ok)))) c.in_ok-ok.ensures.session c.in_ok-outbox.ensures.holds.reads_back;
+      };
     }

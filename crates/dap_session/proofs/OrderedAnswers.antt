@@ -1,0 +1,479 @@
+-- What a request is answered with is the first failure whose test holds, also once it is served.
+use Rattle.std.proofs.Common.{◌≡◌, ℕ, ◌+◌, ◌-◌, ◌<◌, ◌≤◌, List, [], ◌∷◌, ◌++◌, length, Bool, true, false, not, ◌&&◌, cond, Option, Some, None, Result, Ok, Err, refl, sym, ap, ◌∙◌, subst, arith, length-append, append_assoc, ◌⊎◌, inl, inr, true≢false, map}
+use Rattle.std.specs.List.{AllByRecursion, list_all}
+use Rattle.std.specs.Prelude.{◌==◌, ◌||◌, find, is_none, is_some, nat_lt, nat_le, option_and_then, if◌then◌else◌}
+use Rattle.std.proofs.lemmas.Bool.Decides.{nat_tests}
+use Rattle.dap_frame.specs.Settings.{Settings}
+use Rattle.serde_json.specs.Data.{Data}
+use Rattle.dap_message.specs.AdapterMessages.{terminated}
+use Rattle.dap_message.specs.Argument.{Read}
+use Rattle.dap_message.specs.Failure.{failures_in_order}
+use Rattle.dap_message.specs.ResponseBody.{source_body, threads_body, loaded_sources_body}
+use Rattle.dap_message.specs.Types.Call.{Call}
+use Rattle.dap_message.specs.Types.Call.TheVariants as call
+use Rattle.dap_message.specs.Types.Command.{Command}
+use Rattle.dap_message.specs.Types.Command.TheVariants as command
+use Rattle.dap_message.specs.Types.Failure.{Failure}
+use Rattle.dap_message.specs.Types.Failure.TheVariants.{NotInitialized, AlreadyInitialized, UnknownCommand, Unsupported, BadArguments, WrongPhase, NotStopped, UnknownThread, StaleReference, UnknownSource, Debuggee, TooManyBreakpoints, TooManyReferences, ReferencesExhausted, TooLarge, Cancelled}
+use Rattle.dap_message.specs.Types.Key.{Key}
+use Rattle.dap_message.specs.Types.SourceKey.{SourceKey}
+use Rattle.dap_tables.specs.Outstanding.{Kept, contains_seq, without, parked_ones}
+use Rattle.dap_tables.specs.References.{LiveReferences, place_of, numbered_at}
+use Rattle.dap_tables.specs.declared.entry.Entry.{Entry}
+use Rattle.dap_tables.specs.declared.target.Target.{Target}
+use Rattle.dap_tables.proofs.KeptLemmas.{contains_seq-without}
+use Rattle.dap_debuggee.specs.Shown.{Shown, Reply, done, refused, happened}
+use Rattle.dap_debuggee.specs.declared.answers.How.{How}
+use Rattle.dap_session.specs.declared.effect.Effect.{Effect}
+use Rattle.dap_session.specs.declared.effect.Effect.TheVariants as effect
+use Rattle.dap_session.specs.declared.phase.Phase.{Phase}
+use Rattle.dap_session.specs.declared.phase.Phase.TheVariants.{Fresh, Configured}
+use Rattle.dap_session.specs.Bodies.{QueryAnswer, QueryResult, query_result, result_without_references, unless_refused, protocol_thread, protocol_sources, frame_objects, scope_objects, variable_objects, value_objects, scopes_result, evaluate_result, window, page, object_of}
+use Rattle.dap_session.specs.Breakpoints.{are_too_many}
+use Rattle.dap_session.specs.Failures.{command_of, call_in, call_refused, first_failure, key_refused, known_refused, name_refused, or_else, phase_refused, read_refused, refusal, waits_for_stop}
+use Rattle.dap_session.specs.Handling.{plan, plan_for, plan_of_call, plan_of_command, plan_unless, after_query, after_initialize, after_launch, after_parked_launch, after_resume, after_disconnect, by_reply, answer_each, fits, lines_asked, breakpoints_body, breakpoints_set, breakpoints_verified}
+use Rattle.dap_session.specs.OrderLaws.{holds_before, holds, of_effect, of_served, refuses, refuses_query, sets_too_many, objects_in, objects_told, live_with, is_past_room, is_past_numbers, names_too_many, exhausts_numbers, is_too_large, is_long_answer, is_long_list, act_in, act_of, answer_to, made_by, IsSuccess, IsByReply, IsDoneOrRefused, IsAnswered, IsServed, IsBadKey, FailuresComeInOrder}
+use Rattle.dap_session.specs.Plan.{Answer, Draft, reply, emit, failure, plain_success, Made, Plan, at_once, after_answering}
+use Rattle.dap_session.specs.PrivateSetting.{Suits}
+use Rattle.dap_session.specs.References.{intern_each, and_then, onto_first, targets_named, with_target, with_targets}
+use Rattle.dap_session.specs.Session.{Session}
+use Rattle.dap_session.specs.Table.{rows_of, effect_in, is_phase, is_served}
+use Rattle.dap_session.specs.Within.{IsWithin}
+use Rattle.dap_session.proofs.Interned.{AreFew, interned-each, is-lt, no-lt, lt-of}
+use Rattle.dap_session.proofs.Fewer.{middle-contained}
+use Rattle.dap_session.proofs.Kept.{eqb-self, false-left, false-right, same-seq, contains-append, contains-filter}
+use Rattle.dap_session.proofs.Ordered.{refusals_come_in_order}
+use Rattle.dap_session.proofs.ServedRows.{unserved}
+use Rattle.dap_session.proofs.SetLines.{call-suits, found-all}
+use Rattle.dap_session.proofs.Turns.{unknown-fails, badly-fails, unserved-fails}
+
+-- ---- numbers for the objects of an answer: which failure it is, by counting
+
+-- so many would be live, of so many that have been
+abbrev FailsWith : Failure → Settings → ℕ → ℕ → Type 0
+FailsWith TooManyReferences limits base n = (limits.references < n) × (base + limits.references ≤ limits.reference)
+FailsWith ReferencesExhausted limits base n = (limits.reference < base + n) × (limits.reference < base + limits.references)
+FailsWith _ limits base n = ⊥
+
+one-longer : (b : Bool) (t : Target) (live : List Target) → length live ≤ length (let out : List Target = (if b then live else live ++ t ∷ []) in out)
+one-longer true t live = omega arith
+one-longer false t live = let all = length-append live (t ∷ []) in omega arith
+
+with-longer : (ts : List Target) (live : List Target) → length live ≤ length (with_targets ts live)
+with-longer [] live = omega arith
+with-longer (t ∷ ts) live =
+    let one = one-longer (is_some (place_of t live)) t live in
+    let rest = with-longer ts (with_target t live) in
+    omega arith
+
+with-new : (t : Target) (live : List Target) → place_of t live ≡ None → with_target t live ≡ live ++ t ∷ []
+with-new t live new = rw new refl
+
+with-live : (t : Target) (live : List Target) (p : ℕ) → place_of t live ≡ Some p → with_target t live ≡ live
+with-live t live p is = rw is refl
+
+-- where the first object has none
+none-given : (room greatest : Bool) (limits : Settings) (t : Target) (ts : List Target) (refs : LiveReferences) (given : ℕ × LiveReferences) (f : Failure) → place_of t refs.live ≡ None → AreFew limits refs
+    → nat_lt (length refs.live) limits.references ≡ room → nat_lt (refs.base + length refs.live) limits.reference ≡ greatest
+    → (let out : Result (ℕ × LiveReferences) Failure = (if room then (if greatest then Ok given else Err ReferencesExhausted) else Err TooManyReferences) in out) ≡ Err f → FailsWith f limits refs.base (length (with_targets (t ∷ ts) refs.live))
+none-given true true limits t ts refs given f new few a b e = cc
+none-given true false limits t ts refs given f new few a b e =
+    let live = lt-of (length refs.live) limits.references a in
+    let all = length-append refs.live (t ∷ []) in
+    let more = rw new at (with-longer ts (with_target t refs.live)) in
+    let past : limits.reference ≤ refs.base + length refs.live = grind (arith, nat_tests) in
+    let is : ReferencesExhausted ≡ f = cc in
+    subst (λ (x : Failure). FailsWith x limits refs.base (length (with_targets (t ∷ ts) refs.live))) is (rw new (omega arith, omega arith))
+none-given false greatest limits t ts refs given f new few a b e =
+    let all = length-append refs.live (t ∷ []) in
+    let more = rw new at (with-longer ts (with_target t refs.live)) in
+    let full : limits.references ≤ length refs.live = grind (arith, nat_tests) in
+    let few_live = few.references in
+    let few_numbers = few.numbers in
+    let is : TooManyReferences ≡ f = cc in
+    subst (λ (x : Failure). FailsWith x limits refs.base (length (with_targets (t ∷ ts) refs.live))) is (rw new (omega arith, omega arith))
+
+onto-fails : (n : ℕ) (rest : Result (List ℕ × LiveReferences) Failure) (f : Failure) → onto_first n rest ≡ Err f → rest ≡ Err f
+onto-fails n (Ok r) f e = cc
+onto-fails n (Err g) f e = cc
+
+-- with a number, or without
+some-given : (room greatest : Bool) (limits : Settings) (t : Target) (ts : List (Option Target)) (refs : LiveReferences) (f : Failure) → place_of t refs.live ≡ None → AreFew limits refs
+    → nat_lt (length refs.live) limits.references ≡ room → nat_lt (refs.base + length refs.live) limits.reference ≡ greatest
+    → ((more : LiveReferences) → intern_each limits ts more ≡ Err f → AreFew limits more → FailsWith f limits more.base (length (with_targets (targets_named ts) more.live)))
+    → (let first : Result (ℕ × LiveReferences) Failure = (if room then (if greatest then Ok (refs.base + 1 + length refs.live, record refs { live = refs.live ++ t ∷ [] }) else Err ReferencesExhausted) else Err TooManyReferences) in and_then first (λ r. onto_first r.0 (intern_each limits ts r.1))) ≡ Err f
+    → FailsWith f limits refs.base (length (with_targets (t ∷ targets_named ts) refs.live))
+some-given true true limits t ts refs f new few a b ih e =
+    let all = length-append refs.live (t ∷ []) in
+    let live = lt-of (length refs.live) limits.references a in
+    let number = lt-of (refs.base + length refs.live) limits.reference b in
+    let more : LiveReferences = record refs { live = refs.live ++ t ∷ [] } in
+    subst (λ (xs : List Target). FailsWith f limits refs.base (length (with_targets (targets_named ts) xs))) (sym (with-new t refs.live new))
+    (ih more (onto-fails (refs.base + 1 + length refs.live) (intern_each limits ts more) f e) (record { references = omega arith; numbers = omega arith }))
+some-given true false limits t ts refs f new few a b ih e = none-given true false limits t (targets_named ts) refs (0, refs) f new few a b (ap (λ (x : Failure). let out : Result (ℕ × LiveReferences) Failure = Err x in out) cc)
+some-given false greatest limits t ts refs f new few a b ih e = none-given false greatest limits t (targets_named ts) refs (0, refs) f new few a b (ap (λ (x : Failure). let out : Result (ℕ × LiveReferences) Failure = Err x in out) cc)
+
+at-place-fails : (o : Option ℕ) (limits : Settings) (t : Target) (ts : List (Option Target)) (refs : LiveReferences) (f : Failure) → place_of t refs.live ≡ o → AreFew limits refs
+    → ((more : LiveReferences) → intern_each limits ts more ≡ Err f → AreFew limits more → FailsWith f limits more.base (length (with_targets (targets_named ts) more.live)))
+    → and_then (numbered_at o TooManyReferences ReferencesExhausted limits.references limits.reference t refs) (λ r. onto_first r.0 (intern_each limits ts r.1)) ≡ Err f
+    → FailsWith f limits refs.base (length (with_targets (t ∷ targets_named ts) refs.live))
+at-place-fails (Some p) limits t ts refs f is few ih e =
+    subst (λ (xs : List Target). FailsWith f limits refs.base (length (with_targets (targets_named ts) xs))) (sym (with-live t refs.live p is)) (ih refs (onto-fails (refs.base + 1 + p) (intern_each limits ts refs) f e) few)
+at-place-fails None limits t ts refs f is few ih e = some-given (nat_lt (length refs.live) limits.references) (nat_lt (refs.base + length refs.live) limits.reference) limits t ts refs f is few refl refl ih e
+
+each-fails : (limits : Settings) (ts : List (Option Target)) (f : Failure) (refs : LiveReferences) → intern_each limits ts refs ≡ Err f → AreFew limits refs → FailsWith f limits refs.base (length (with_targets (targets_named ts) refs.live))
+each-fails limits [] f refs e few = cc
+each-fails limits (None ∷ ts) f refs e few = each-fails limits ts f refs (onto-fails 0 (intern_each limits ts refs) f e) few
+each-fails limits (Some t ∷ ts) f refs e few = at-place-fails (place_of t refs.live) limits t ts refs f refl few (λ more is fits. each-fails limits ts f more is fits) e
+
+-- ---- what a query is told
+
+-- what the debuggee refuses, or a body with numbers for these objects
+data Told (s : Session) : Bool → List (Option Target) → QueryResult → Type 0 where
+  is_refused : (objects : List (Option Target)) → Told s true objects (Err Debuggee)
+  is_told : (objects : List (Option Target)) (tell : List ℕ × LiveReferences → QueryAnswer) → Told s false objects (and_then (intern_each s.limits objects s.references) (λ given. Ok (tell given)))
+
+if-told : {A : Type 0} (s : Session) (o : Option A) (of : A → List (Option Target)) (tell : A → QueryResult) → ((x : A) → Told s false (of x) (tell x)) → Told s (is_none o) (objects_in of o) (unless_refused o tell)
+if-told s (Some x) of tell k = k x
+if-told s None of tell k = is_refused []
+
+without-told : (s : Session) (body : Option Data) → Told s false [] (result_without_references s body)
+without-told s body = is_told [] (λ given. record { body = body; names = []; references = given.1 })
+
+content-told : (s : Session) (o : Option (List ℕ)) → Told s (is_none o) [] (unless_refused o (λ text. result_without_references s (Some (source_body text))))
+content-told s (Some text) = without-told s (Some (source_body text))
+content-told s None = is_refused []
+
+query-told : (view : Shown) (s : Session) (asked : Call) → Told s (refuses_query view s asked) (objects_told view s asked) (query_result view s asked)
+unfolding query_result
+query-told view s (call.StackTrace asked) = if-told s (view.frames asked.thread_id) (λ frames. frame_objects (window asked.start_frame asked.levels frames)) _ (λ frames. is_told _ _)
+query-told view s (call.Scopes number) = if-told s (option_and_then view.scopes (object_of s.references number)) scope_objects (scopes_result s) (λ scopes. is_told _ _)
+query-told view s (call.Variables asked) = if-told s (option_and_then view.children (object_of s.references asked.variables_reference)) (λ variables. variable_objects (page s.options asked.start asked.count variables)) _ (λ variables. is_told _ _)
+query-told view s (call.Evaluate asked) = if-told s (view.evaluate (option_and_then (object_of s.references) asked.frame_id) asked.expression) value_objects (evaluate_result s) (λ value. is_told _ _)
+query-told view s (call.Source number) = content-told s (view.content (number - 1))
+query-told view s call.Threads = without-told s (Some (threads_body (map protocol_thread view.threads)))
+query-told view s call.LoadedSources = without-told s (Some (loaded_sources_body (protocol_sources view.sources)))
+query-told view s _ = without-told s None
+
+-- ---- the tests of a request that is served, in their order
+
+abbrev served_first : Bool → Bool → Bool → Bool → Bool → Option Failure
+served_first a b c d e = cond a (Some Debuggee) (cond b (Some TooManyBreakpoints) (cond c (Some TooManyReferences) (cond d (Some ReferencesExhausted) (cond e (Some TooLarge) None))))
+
+-- a plan that fails with the first of them, or does what is said here
+record Fails (first : Option Failure) (p : Plan) (s : Session) (r : Entry) (Does : Type 0) : Type 0 where
+  some : (f : Failure) → first ≡ Some f → p ≡ at_once (after_answering r (failure f) s)
+  none : first ≡ None → Does
+
+fails-so : (f : Failure) (s : Session) (r : Entry) (Does : Type 0) → Fails (Some f) (at_once (after_answering r (failure f) s)) s r Does
+fails-so f s r Does = record { some = λ g e. (let is : f ≡ g = cc in ap (λ (x : Failure). at_once (after_answering r (failure x) s)) is); none = λ e. absurd cc }
+
+does-so : (p : Plan) (s : Session) (r : Entry) (Does : Type 0) → Does → Fails None p s r Does
+does-so p s r Does d = record { some = λ f e. absurd cc; none = λ e. d }
+
+-- ---- what is answered
+
+behind-others : (seq : ℕ) (answer : Answer) (ks : List Kept) (ds : List Draft) → contains_seq seq ks ≡ false → answer_to seq (answer_each answer ks ++ ds) ≡ answer_to seq ds
+behind-others seq answer [] ds h = refl
+behind-others seq answer (k ∷ ks) ds h = rw (false-left (k.entry.seq == seq) (contains_seq seq ks) h) (behind-others seq answer ks ds (false-right (k.entry.seq == seq) (contains_seq seq ks) h))
+
+-- ---- the effects
+
+-- what comes of a request that is served
+record DoesWell (e : Effect) (s : Session) (r : Entry) (asked : Call) (p : Plan) : Type 0 where
+  asks : act_in p ≡ act_of e s asked
+  answered : (last : Reply) → IsAnswered e s r last (made_by p last)
+
+size-fails : (b : Bool) (m : Made) (s : Session) (r : Entry) (Does : Type 0) → (b ≡ true → Does) → Fails (served_first false false false false (not b)) (at_once (let out : Made = (if b then m else after_answering r (failure TooLarge) s) in out)) s r Does
+size-fails true m s r Does d = does-so (at_once m) s r Does (d refl)
+size-fails false m s r Does d = fails-so TooLarge s r Does
+
+-- numbers that can be given
+given-fails : (s : Session) (objects : List (Option Target)) (n : ℕ) → n ≡ live_with s objects → n ≤ s.limits.references → s.references.base + n ≤ s.limits.reference → (is_past_room s (live_with s objects) ≡ false) × (is_past_numbers s (live_with s objects) ≡ false)
+given-fails s objects n is room numbers =
+    let a : nat_lt s.limits.references n ≡ false = no-lt s.limits.references n (omega arith) in
+    let b : nat_lt s.limits.reference (s.references.base + n) ≡ false = no-lt s.limits.reference (s.references.base + n) (omega arith) in
+    rw (← is) (rw a refl, b)
+
+past-room : (s : Session) (n : ℕ) → s.limits.references < n → s.references.base + s.limits.references ≤ s.limits.reference → is_past_room s n ≡ true
+past-room s n a b =
+    let more : nat_lt s.limits.references n ≡ true = is-lt s.limits.references n a in
+    let fits_first : nat_le (s.references.base + s.limits.references) s.limits.reference ≡ true = grind (arith, nat_tests) in
+    rw (more, fits_first) refl
+
+and-no : (b : Bool) → (b && false) ≡ false
+and-no true = refl
+and-no false = refl
+
+past-numbers : (s : Session) (n : ℕ) → s.limits.reference < s.references.base + n → s.limits.reference < s.references.base + s.limits.references → (is_past_room s n ≡ false) × (is_past_numbers s n ≡ true)
+past-numbers s n a b =
+    let more : nat_lt s.limits.reference (s.references.base + n) ≡ true = is-lt s.limits.reference (s.references.base + n) a in
+    let none : nat_le (s.references.base + s.limits.references) s.limits.reference ≡ false = grind (arith, nat_tests) in
+    (rw none (and-no (nat_lt s.limits.references n)), more)
+
+-- a query
+
+size-succeeds : (s : Session) (r : Entry) (t : QueryAnswer) → fits s r t.body ≡ true → IsSuccess (answer_to r.seq (after_query s r (Ok t)).drafts)
+size-succeeds s r t h = rw h (rw (eqb-self r.seq) tt)
+
+failed-so : (s : Session) (r : Entry) (f : Failure) (n : ℕ) (Does : Type 0) → FailsWith f s.limits s.references.base n → Fails (served_first false false (is_past_room s n) (is_past_numbers s n) false) (at_once (after_answering r (failure f) s)) s r Does
+failed-so s r TooManyReferences n Does h = rw (past-room s n h.0 h.1) (fails-so TooManyReferences s r Does)
+failed-so s r ReferencesExhausted n Does h = let p = past-numbers s n h.0 h.1 in rw (p.0, p.1) (fails-so ReferencesExhausted s r Does)
+failed-so s r _ n Does h = absurd h
+
+told-fails : (s : Session) (r : Entry) (objects : List (Option Target)) (tell : List ℕ × LiveReferences → QueryAnswer) (given : Result (List ℕ × LiveReferences) Failure) → intern_each s.limits objects s.references ≡ given → AreFew s.limits s.references
+    → Fails (served_first false false (is_past_room s (live_with s objects)) (is_past_numbers s (live_with s objects)) (is_long_answer s r (and_then given (λ g. Ok (tell g))))) (at_once (after_query s r (and_then given (λ g. Ok (tell g))))) s r (IsSuccess (answer_to r.seq (after_query s r (and_then given (λ g. Ok (tell g)))).drafts))
+told-fails s r objects tell (Ok g) is few =
+    let each = interned-each s.limits objects s.references g is in
+    let then_few = each.few few in
+    let live = ap (λ (x : LiveReferences). length x.live) each.live in
+    let base = ap (λ (x : LiveReferences). x.base) each.live in
+    let room = then_few.references in
+    let numbers = then_few.numbers in
+    let fit = given-fails s objects (length g.1.live) live room (omega arith) in
+    rw (fit.0, fit.1) (size-fails (fits s r (tell g).body) _ s r _ (size-succeeds s r (tell g)))
+told-fails s r objects tell (Err f) is few = failed-so s r f (live_with s objects) _ (each-fails s.limits objects f s.references is few)
+
+query-fails : (s : Session) (r : Entry) (refused : Bool) (objects : List (Option Target)) (q : QueryResult) → Told s refused objects q → AreFew s.limits s.references
+    → Fails (served_first refused false (is_past_room s (live_with s objects)) (is_past_numbers s (live_with s objects)) (is_long_answer s r q)) (at_once (after_query s r q)) s r (IsSuccess (answer_to r.seq (after_query s r q).drafts))
+query-fails s r _ objects _ (is_refused _) few = fails-so Debuggee s r _
+query-fails s r _ objects _ (is_told _ tell) few = told-fails s r objects tell (intern_each s.limits objects s.references) refl few
+
+-- breakpoints
+
+abbrev SetsWell : Session → Entry → SourceKey → List ℕ → Plan → Type 0
+SetsWell s r key lines p = DoesWell effect.SetBreakpoints s r (call.SetBreakpoints key lines) p
+
+list-fails : (few fit : Bool) (set : Plan) (s : Session) (r : Entry) (key : SourceKey) (lines : List ℕ) → SetsWell s r key lines set
+    → (let p : Plan = (if few then at_once (after_answering r (failure TooManyBreakpoints) s) else (if fit then set else at_once (after_answering r (failure TooLarge) s))) in Fails (served_first false few false false (not fit)) p s r (SetsWell s r key lines p))
+list-fails true fit set s r key lines w = fails-so TooManyBreakpoints s r _
+list-fails false true set s r key lines w = does-so set s r _ w
+list-fails false false set s r key lines w = fails-so TooLarge s r _
+
+setting-fails : (s : Session) (r : Entry) (key : SourceKey) (lines : List ℕ) (o : Option (List Bool))
+    → Fails (served_first (is_none o) (are_too_many s.limits key lines s.breakpoints) false false (is_long_list s r lines o)) (breakpoints_verified s r key lines o) s r (SetsWell s r key lines (breakpoints_verified s r key lines o))
+setting-fails s r key lines None = fails-so Debuggee s r _
+setting-fails s r key lines (Some verified) =
+    list-fails (are_too_many s.limits key lines s.breakpoints) (fits s r (breakpoints_body s lines verified)) (breakpoints_set s r key (lines_asked s.options lines) (breakpoints_body s lines verified)) s r key lines
+    (record { asks = refl; answered = λ last. rw (eqb-self r.seq) tt })
+
+-- each effect
+
+succeeds-first : (r : Entry) (ds : List Draft) → IsSuccess (answer_to r.seq (reply r plain_success ∷ ds))
+succeeds-first r ds = rw (eqb-self r.seq) tt
+
+succeeds-initialize : (s : Session) (r : Entry) (asked : Call) → IsSuccess (answer_to r.seq (after_initialize s r asked).drafts)
+succeeds-initialize s r asked = rw (eqb-self r.seq) tt
+
+pauses-so : (s : Session) (r : Entry) (last : Reply) → IsDoneOrRefused s r last (after_answering r (by_reply None last) s)
+pauses-so s r done = rw (eqb-self r.seq) tt
+pauses-so s r refused = refl
+pauses-so s r (happened h) = refl
+
+resumes-so : (how : How) (s : Session) (r : Entry) (last : Reply) → IsDoneOrRefused s r last (after_resume how s r last)
+resumes-so how s r done = rw (eqb-self r.seq) tt
+resumes-so how s r refused = refl
+resumes-so how s r (happened h) = refl
+
+still-configured : (s : Session) (r : Entry) → s.phase ≡ Configured
+    → (let m : Made = record { drafts = reply r (failure Debuggee) ∷ []; drops = false; after = record s { phase = Configured; kept = without r.seq s.kept; used = s.used + 1 } } in m) ≡ after_answering r (failure Debuggee) s
+still-configured s r h =
+    ap (λ (p : Phase). let m : Made = record { drafts = reply r (failure Debuggee) ∷ []; drops = false; after = record s { phase = p; kept = without r.seq s.kept; used = s.used + 1 } } in m) (sym h)
+
+starts-so : (s : Session) (r : Entry) (last : Reply) → s.phase ≡ Configured → IsDoneOrRefused s r last (after_launch s r last)
+starts-so s r done h = rw (eqb-self r.seq) tt
+starts-so s r refused h = still-configured s r h
+starts-so s r (happened x) h = still-configured s r h
+
+disconnects-so : (s : Session) (r : Entry) → IsSuccess (answer_to r.seq (after_disconnect s r).drafts)
+disconnects-so s r = rw (behind-others r.seq (failure Cancelled) (without r.seq s.kept) (reply r plain_success ∷ []) (contains_seq-without r.seq s.kept)) (succeeds-first r [])
+
+-- those that are parked
+
+replies-so : (body : Option Data) (last : Reply) → IsByReply last (Some (by_reply body last))
+replies-so body done = tt
+replies-so body refused = refl
+replies-so body (happened h) = refl
+
+among-if : (b c : Bool) (answer : Answer) (later : Option Answer) → (b || c) ≡ true → (c ≡ true → later ≡ Some answer) → (let out : Option Answer = (if b then Some answer else later) in out) ≡ Some answer
+among-if true c answer later h k = refl
+among-if false c answer later h k = k h
+
+among-others : (seq : ℕ) (answer : Answer) (ks : List Kept) → contains_seq seq ks ≡ true → answer_to seq (answer_each answer ks) ≡ Some answer
+among-others seq answer [] h = absurd (true≢false (sym h))
+among-others seq answer (k ∷ ks) h = among-if (k.entry.seq == seq) (contains_seq seq ks) answer (answer_to seq (answer_each answer ks)) h (among-others seq answer ks)
+
+parked-apart : (seq : ℕ) (ks : List Kept) → contains_seq seq ks ≡ false → contains_seq seq (parked_ones ks) ≡ false
+parked-apart seq ks h = contains-filter seq (λ (k : Kept). k.parked) ks h
+
+not-among : (seq : ℕ) (before : List Kept) (k : Kept) (after : List Kept) → contains_seq seq (before ++ k ∷ after) ≡ false → (k.entry.seq == seq) ≡ false
+not-among seq before k after h =
+    false-left (k.entry.seq == seq) (contains_seq seq after) (false-right (contains_seq seq before) (contains_seq seq (k ∷ after)) (sym (contains-append seq before (k ∷ after)) ∙ h))
+
+each-replied : (r : Entry) (last : Reply) (before ks : List Kept) → contains_seq r.seq (before ++ ks) ≡ false
+    → AllByRecursion (λ k. IsByReply last (answer_to k.entry.seq (reply r plain_success ∷ answer_each (by_reply None last) (before ++ ks)))) ks
+each-replied r last before [] h = tt
+each-replied r last before (k ∷ ks) h =
+    let other : (r.seq == k.entry.seq) ≡ false = same-seq k.entry.seq r.seq (not-among r.seq before k ks h) in
+    let moved : (before ++ k ∷ []) ++ ks ≡ before ++ k ∷ ks = append_assoc before (k ∷ []) ks in
+    let rest = each-replied r last (before ++ k ∷ []) ks (rw moved h) in (
+      rw (other, among-others k.entry.seq (by_reply None last) (before ++ k ∷ ks) (middle-contained before k ks)) (replies-so None last),
+      subst (λ (xs : List Kept). AllByRecursion (λ (x : Kept). IsByReply last (answer_to x.entry.seq (reply r plain_success ∷ answer_each (by_reply None last) xs))) ks) moved rest,
+    )
+
+starts-parked-so : (s : Session) (r : Entry) (last : Reply) → IsAnswered effect.StartParked s r last (after_parked_launch s r last)
+starts-parked-so s r last = (succeeds-first r (answer_each (by_reply None last) (parked_ones (without r.seq s.kept))), each-replied r last [] (parked_ones (without r.seq s.kept)) (parked-apart r.seq (without r.seq s.kept) (contains_seq-without r.seq s.kept)))
+
+abbrev first_of : Shown → Session → Entry → Effect → Call → Option Failure
+first_of view s r e asked = served_first (refuses view s e asked) (sets_too_many s e asked) (names_too_many view s e asked) (exhausts_numbers view s e asked) (is_too_large view s r e asked)
+
+well-so : (e : Effect) (s : Session) (r : Entry) (asked : Call) (p : Plan) → act_in p ≡ act_of e s asked → ((last : Reply) → IsAnswered e s r last (made_by p last)) → Fails None p s r (DoesWell e s r asked p)
+well-so e s r asked p a d = does-so p s r (DoesWell e s r asked p) (record { asks = a; answered = d })
+
+effect-fails : (view : Shown) (s : Session) (r : Entry) (e : Effect) (asked : Call) → IsWithin s → Suits e asked → (e ≡ effect.Start → s.phase ≡ Configured) → Fails (first_of view s r e asked) (plan_for e view s r asked) s r (DoesWell e s r asked (plan_for e view s r asked))
+unfolding plan_for
+effect-fails view s r effect.Query asked w suits starts =
+    let q = query-fails s r (refuses_query view s asked) (objects_told view s asked) (query_result view s asked) (query-told view s asked) (record { references = w.references; numbers = w.numbers }) in
+    record { some = q.some; none = λ e. record { asks = refl; answered = λ last. q.none e } }
+effect-fails view s r effect.SetBreakpoints (call.SetBreakpoints key lines) w suits starts = setting-fails s r key lines (view.verify key (lines_asked s.options lines))
+effect-fails view s r effect.SetBreakpoints _ w suits starts = absurd suits
+effect-fails view s r effect.Initialize asked w suits starts = well-so effect.Initialize s r asked _ refl (λ last. succeeds-initialize s r asked)
+effect-fails view s r effect.Park asked w suits starts = well-so effect.Park s r asked _ refl (λ last. refl)
+effect-fails view s r effect.Start asked w suits starts = well-so effect.Start s r asked _ refl (λ last. starts-so s r last (starts refl))
+effect-fails view s r effect.ConfigurationDone asked w suits starts = well-so effect.ConfigurationDone s r asked _ refl (λ last. succeeds-first r [])
+effect-fails view s r effect.StartParked asked w suits starts = well-so effect.StartParked s r asked _ refl (λ last. starts-parked-so s r last)
+effect-fails view s r effect.Disconnect asked w suits starts = well-so effect.Disconnect s r asked _ refl (λ last. disconnects-so s r)
+effect-fails view s r effect.EndAndDisconnect asked w suits starts = well-so effect.EndAndDisconnect s r asked _ refl (λ last. disconnects-so s r)
+effect-fails view s r effect.Terminate asked w suits starts = well-so effect.Terminate s r asked _ refl (λ last. succeeds-first r (emit terminated ∷ []))
+effect-fails view s r (effect.Resume how) asked w suits starts = well-so (effect.Resume how) s r asked _ refl (λ last. resumes-so how s r last)
+effect-fails view s r effect.Pause asked w suits starts = well-so effect.Pause s r asked _ refl (λ last. pauses-so s r last)
+
+-- what starts the debuggee is served in one phase
+
+abbrev starts_none : Effect → Bool
+starts_none effect.Start = false
+starts_none _ = true
+
+-- of the rows of each other command none starts it
+starts-alone : (c : Command) → (list_all (λ r. starts_none r.effect) (rows_of c) ≡ true) ⊎ (((c ≡ command.Launch) ⊎ (c ≡ command.Attach)))
+starts-alone command.Launch = inr (inl refl)
+starts-alone command.Attach = inr (inr refl)
+starts-alone _ = inl refl
+
+launch-starts : (phase : Phase) → effect_in command.Launch phase ≡ Some effect.Start → phase ≡ Configured
+launch-starts Configured h = refl
+launch-starts _ h = cc
+
+attach-starts : (phase : Phase) → effect_in command.Attach phase ≡ Some effect.Start → phase ≡ Configured
+attach-starts Configured h = refl
+attach-starts _ h = cc
+
+starts-where : (c : Command) (phase : Phase) → (list_all (λ r. starts_none r.effect) (rows_of c) ≡ true) ⊎ (((c ≡ command.Launch) ⊎ (c ≡ command.Attach))) → effect_in c phase ≡ Some effect.Start → phase ≡ Configured
+starts-where c phase (inl none) h = absurd (true≢false (sym (found-all starts_none phase (rows_of c) effect.Start none h)))
+starts-where c phase (inr (inl is)) h = launch-starts phase (subst (λ (x : Command). effect_in x phase ≡ Some effect.Start) is h)
+starts-where c phase (inr (inr is)) h = attach-starts phase (subst (λ (x : Command). effect_in x phase ≡ Some effect.Start) is h)
+
+starts-configured : (c : Command) (phase : Phase) (e : Effect) → effect_in c phase ≡ Some e → e ≡ effect.Start → phase ≡ Configured
+starts-configured c phase e h is = starts-where c phase (starts-alone c) (h ∙ ap Some is)
+
+-- ---- all tests
+
+-- the tests before a request is served, and those after
+behind : (a b c d e f g h i j : Bool) (key : Key) (later : Option Failure)
+    → cond a (Some NotInitialized) (cond b (Some AlreadyInitialized) (cond c (Some UnknownCommand) (cond d (Some Unsupported) (cond e (Some (BadArguments key)) (cond f (Some WrongPhase) (cond g (Some NotStopped) (cond h (Some UnknownThread) (cond i (Some StaleReference) (cond j (Some UnknownSource) later)))))))))
+    ≡ or_else (cond a (Some NotInitialized) (cond b (Some AlreadyInitialized) (cond c (Some UnknownCommand) (cond d (Some Unsupported) (cond e (Some (BadArguments key)) (cond f (Some WrongPhase) (cond g (Some NotStopped) (cond h (Some UnknownThread) (cond i (Some StaleReference) (cond j (Some UnknownSource) None)))))))))) later
+behind true b c d e f g h i j key later = refl
+behind false true c d e f g h i j key later = refl
+behind false false true d e f g h i j key later = refl
+behind false false false true e f g h i j key later = refl
+behind false false false false true f g h i j key later = refl
+behind false false false false false true g h i j key later = refl
+behind false false false false false false true h i j key later = refl
+behind false false false false false false false true i j key later = refl
+behind false false false false false false false false true j key later = refl
+behind false false false false false false false false false true key later = refl
+behind false false false false false false false false false false key later = refl
+
+abbrev later_first : Shown → Session → Entry → Option Command → Option Failure
+later_first view s r o = served_first (of_served (refuses view s) s r o) (of_served (sets_too_many s) s r o) (of_served (names_too_many view s) s r o) (of_served (exhausts_numbers view s) s r o) (of_served (is_too_large view s r) s r o)
+
+abbrev test_before : Shown → Session → Entry → Failure → Bool
+test_before view s r f = holds_before view s (command_of r) (call_in r) f
+
+all-tests : (view : Shown) (s : Session) (r : Entry) (key : Key) → IsBadKey r key → find (holds view s r) (failures_in_order key) ≡ or_else (refusal view s r) (later_first view s r (command_of r))
+all-tests view s r key same =
+    behind (test_before view s r NotInitialized) (test_before view s r AlreadyInitialized) (test_before view s r UnknownCommand) (test_before view s r Unsupported) (test_before view s r (BadArguments key)) (test_before view s r WrongPhase) (test_before view s r NotStopped) (test_before view s r UnknownThread) (test_before view s r StaleReference) (test_before view s r UnknownSource) key (later_first view s r (command_of r))
+    ∙ ap (λ (o : Option Failure). or_else o (later_first view s r (command_of r))) (sym (refusals_come_in_order view s r key same))
+
+-- ---- the first failure
+
+call-first : (view : Shown) (s : Session) (r : Entry) (c : Command) (o : Option Effect) (read : Read Call) → effect_in c s.phase ≡ o → call_in r c ≡ read → IsWithin s
+    → (f : Failure) → served_first (of_effect (refuses view s) o read) (of_effect (sets_too_many s) o read) (of_effect (names_too_many view s) o read) (of_effect (exhausts_numbers view s) o read) (of_effect (is_too_large view s r) o read) ≡ Some f → plan_of_call view s r o read ≡ at_once (after_answering r (failure f) s)
+call-first view s r c (Some e) (Ok asked) h i w f is = (effect-fails view s r e asked w (call-suits c s.phase r.arguments e asked h i) (starts-configured c s.phase e h)).some f is
+call-first view s r c (Some e) (Err key) h i w f is = absurd cc
+call-first view s r c None read h i w f is = absurd cc
+
+command-first : (view : Shown) (s : Session) (r : Entry) (o : Option Command) → IsWithin s → (f : Failure) → later_first view s r o ≡ Some f → plan_of_command view s r o ≡ at_once (after_answering r (failure f) s)
+command-first view s r None w f is = absurd cc
+command-first view s r (Some c) w f is = call-first view s r c (effect_in c s.phase) (call_in r c) refl refl w f is
+
+plan-first : (view : Shown) (s : Session) (r : Entry) (o : Option Failure) → IsWithin s → (f : Failure) → or_else o (later_first view s r (command_of r)) ≡ Some f → plan_unless o view s r ≡ at_once (after_answering r (failure f) s)
+plan-first view s r (Some g) w f is = (let same : g ≡ f = cc in ap (λ (x : Failure). at_once (after_answering r (failure x) s)) same)
+plan-first view s r None w f is = command-first view s r (command_of r) w f is
+
+-- ---- where none holds
+
+both-none : (o later : Option Failure) → or_else o later ≡ None → (o ≡ None) × (later ≡ None)
+both-none (Some f) later h = absurd cc
+both-none None later h = (refl, h)
+
+-- what comes of it, of the plan that it comes to
+record ServesBy (view : Shown) (s : Session) (r : Entry) (c : Command) (p : Plan) (last : Reply) : Type 0 where
+  asked : Call
+  read : call_in r c ≡ Ok asked
+  does : Effect
+  is : effect_in c s.phase ≡ Some does
+  asks : act_in p ≡ act_of does s asked
+  answered : IsAnswered does s r last (made_by p last)
+
+call-serves : (view : Shown) (s : Session) (r : Entry) (c : Command) (o : Option Effect) (read : Read Call) → effect_in c s.phase ≡ o → call_in r c ≡ read → IsWithin s
+    → first_failure (name_refused s.phase (Some c) ∷ first_failure (key_refused read ∷ phase_refused s.phase c ∷ read_refused view s.references read ∷ []) ∷ []) ≡ None
+    → served_first (of_effect (refuses view s) o read) (of_effect (sets_too_many s) o read) (of_effect (names_too_many view s) o read) (of_effect (exhausts_numbers view s) o read) (of_effect (is_too_large view s r) o read) ≡ None
+    → (last : Reply) → ServesBy view s r c (plan_of_call view s r o read) last
+call-serves view s r c (Some e) (Ok asked) h i w none later last =
+    let well = (effect-fails view s r e asked w (call-suits c s.phase r.arguments e asked h i) (starts-configured c s.phase e h)).none later in
+    record { asked = asked; read = i; does = e; is = h; asks = well.asks; answered = well.answered last }
+call-serves view s r c o (Err key) h i w none later last = absurd (badly-fails (name_refused s.phase (Some c)) (BadArguments key) None none)
+call-serves view s r c None (Ok asked) h i w none later last =
+    let not_served : is_served c s.phase ≡ false = unserved s.phase c h in
+    absurd (unserved-fails (name_refused s.phase (Some c)) (waits_for_stop s.phase c) (or_else (call_refused view s.references asked) None) (rw not_served at none))
+
+abbrev ServesPlan : Shown → Session → Entry → Option Command → Plan → Reply → Type 0
+ServesPlan view s r o p last = (c : Command) × (o ≡ Some c) × ServesBy view s r c p last
+
+command-serves : (view : Shown) (s : Session) (r : Entry) (o : Option Command) → IsWithin s → first_failure (name_refused s.phase o ∷ known_refused view s r o ∷ []) ≡ None → later_first view s r o ≡ None → (last : Reply) → ServesPlan view s r o (plan_of_command view s r o) last
+command-serves view s r None w none later last = absurd (unknown-fails (is_phase Fresh s.phase && true) none)
+command-serves view s r (Some c) w none later last = (c, refl, call-serves view s r c (effect_in c s.phase) (call_in r c) refl refl w none later last)
+
+plan-serves : (view : Shown) (s : Session) (r : Entry) → IsWithin s → refusal view s r ≡ None → later_first view s r (command_of r) ≡ None → (last : Reply) → IsServed view s r last
+plan-serves view s r w none later last =
+    let by = command-serves view s r (command_of r) w none later last in
+    let same : plan view s r ≡ plan_of_command view s r (command_of r) = ap (λ (o : Option Failure). plan_unless o view s r) none in
+    record {
+      command = by.0;
+      known = by.1;
+      asked = by.2.asked;
+      read = by.2.read;
+      does = by.2.does;
+      is = by.2.is;
+      asks = ap act_in same ∙ by.2.asks;
+      answered = subst (λ (p : Plan). IsAnswered by.2.does s r last (made_by p last)) (sym same) by.2.answered;
+    }
+
+pub failures_come_in_order : FailuresComeInOrder
+failures_come_in_order = record {
+  fails = λ view s r key same w f is. plan-first view s r (refusal view s r) w f (sym (all-tests view s r key same) ∙ is);
+  serves = λ view s r key same w none last.
+      let both = both-none (refusal view s r) (later_first view s r (command_of r)) (sym (all-tests view s r key same) ∙ none) in
+      plan-serves view s r w both.0 both.1 last;
+}
