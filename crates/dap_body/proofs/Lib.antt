@@ -1,3 +1,4 @@
 pub mod Examples
 pub mod Tokens
 mod Soundness
+pub mod PlainBodies

@@ -2,4 +2,5 @@ pub mod Failure
 pub mod ResponseBody
 pub mod EventBody
 pub mod Body
+pub mod PlainBodies
 pub mod PrivateText

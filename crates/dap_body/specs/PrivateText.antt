@@ -1,10 +1,13 @@
 -- What a writer is given for a body.
-use Rattle.std.specs.Prelude.{◌≡◌, ℕ, List, [], ◌∷◌, ◌++◌, codes, Option, Some, None, IsUtf8, ⊤}
+use Rattle.std.specs.Prelude.{◌≡◌, ℕ, Bool, true, false, List, [], ◌∷◌, ◌++◌, codes, Option, Some, None, IsUtf8, ⊤}
 use Rattle.json.specs.Token.{Token, key, string}
 use Rattle.json.specs.Tree.{json_tokens}
 use Rattle.json.specs.Written.{Written}
-use Rattle.serde_json.specs.Data.{Data}
+use Rattle.serde_json.specs.Data.{Data, string as text_data}
 use Rattle.serde_json.specs.Written.{outline}
+use Rattle.dap_body.specs.ResponseBody.{only_member}
+use Rattle.dap_body.specs.declared.body.Body.{Body}
+use Rattle.dap_body.specs.declared.body.Body.TheVariants.{Initialize}
 
 abbrev pub tokens_of : Data → List Token
 tokens_of d = json_tokens (outline d)
@@ -22,3 +25,12 @@ pub record Adds (old new : Written) (ts : List Token) : Type 0 where
 abbrev pub HasSoundPath : Option (List ℕ) → Type 0
 HasSoundPath None = ⊤
 HasSoundPath (Some path) = IsUtf8 path
+
+-- an object of one text
+abbrev pub text_member : List ℕ → List ℕ → Data
+text_member k text = only_member k (text_data text)
+
+-- its parts are written one by one
+abbrev pub is_of_parts : Body → Bool
+is_of_parts (Initialize capabilities) = false
+is_of_parts _ = true

@@ -103,3 +103,6 @@ source_body content = only_member (codes "content") (string content)
 
 abbrev pub loaded_sources_body : List Source → Data
 loaded_sources_body sources = only_member (codes "sources") (list_of source sources)
+
+abbrev pub set_variable_body : List ℕ → Data
+set_variable_body value = only_member (codes "value") (string value)

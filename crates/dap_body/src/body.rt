@@ -1,23 +1,33 @@
 //! The bodies of an adapter's responses as their parts, and their texts, written with no tree: Specification, the types
 //! whose names end in "Response", and "Types".
-ghost use Rattle.std.specs.Prelude.{◌≡◌, ◌<◌, ◌^◌, [], ◌∷◌, ◌++◌, decimal, IfOk, OnOk, IsUtf8};
+ghost use Rattle.std.specs.Prelude.{◌≡◌, ◌<◌, ◌^◌, [], ◌∷◌, ◌++◌, decimal, IfOk, OnOk, IsUtf8, IsTrue};
 ghost use Rattle.std.specs.Fmt.{signed_decimal};
 ghost use Rattle.json.specs.Token.{key as key_token, number as number_token, string as string_token, boolean as boolean_token};
+ghost use Rattle.serde_json.specs.Data.{boolean};
 ghost use Rattle.serde_json.specs.Written.{compact_text};
 ghost use Rattle.serde_json.specs.Find.{of_integer};
+ghost use Rattle.serde_json.specs.View.{view};
 ghost use Rattle.dap_json.specs.Sound.{IsSound, IsSoundNumber};
 ghost use Rattle.dap_body.specs.Body.{data_of};
-ghost use Rattle.dap_body.specs.ResponseBody.{list_of, only_member, stack_trace_body, evaluate_body, source_body};
-ghost use Rattle.dap_body.specs.PrivateText.{Adds, HasSoundPath, path_tokens, tokens_of};
+ghost use Rattle.dap_call.specs.Capabilities.{capabilities_data};
+ghost use Rattle.dap_body.specs.ResponseBody.{list_of, only_member, stack_trace_body, evaluate_body};
+ghost use Rattle.dap_body.specs.PrivateText.{Adds, HasSoundPath, is_of_parts, path_tokens, text_member, tokens_of};
 
 use crate::response::{Breakpoint, Scope, Source, StackFrame, Thread, Variable};
-use dap_json::Text;
+use dap_call::Capabilities;
+use dap_json::laws::{text_is_read_again, what_is_read_is_sound};
+use dap_json::{ParseFault, Text, parse};
 use json::Writer;
-use std::alloc::AllocError;
+use serde_json::Value;
+use std::alloc::{AllocError, Global};
 
 /// The body of a response that succeeded. Its text has the keys in byte order.
 #[derive(Debug, Drop)]
 pub enum Body {
+    /// What the adapter offers.
+    Initialize {
+        capabilities: Capabilities,
+    },
     /// An answer to each line that was asked for, in order.
     SetBreakpoints {
         breakpoints: Vec<Breakpoint>,
@@ -25,6 +35,8 @@ pub enum Body {
     Threads {
         threads: Vec<Thread>,
     },
+    /// All threads go on.
+    Continue,
     /// The frames asked for, and how many the thread has in all.
     StackTrace {
         stack_frames: Vec<StackFrame>,
@@ -35,6 +47,10 @@ pub enum Body {
     },
     Variables {
         variables: Vec<Variable>,
+    },
+    /// The value that was set, as text.
+    SetVariable {
+        value: Text,
     },
     /// The result as text, and the number by which a client asks for its parts, 0 where it has none.
     Evaluate {
@@ -244,45 +260,99 @@ fn write_value(out: &mut Writer, value: &Text, reference: u32) -> Result<(), All
     out.end_object()
 }
 
-fn write_content(out: &mut Writer, content: &Text) -> Result<(), AllocError>
-    ensures adds { OnOk result (Adds out.old out.new (tokens_of (source_body content.now))) }
-    ensures sound { OnOk result (IsSound (source_body content.now)) }
+/// An object of one text.
+fn write_text(out: &mut Writer, key: &str, value: &Text) -> Result<(), AllocError>
+    requires { IsUtf8 key.now }
+    ensures adds { OnOk result (Adds out.old out.new (tokens_of (text_member key.now value.now))) }
+    ensures sound { OnOk result (IsSound (text_member key.now value.now)) }
 {
     out.begin_object()?;
-    text(out, "content", content)?;
+    text(out, key, value)?;
     out.end_object()
 }
 
+/// An object of one flag.
+fn write_flag(out: &mut Writer, key: &str, on: bool) -> Result<(), AllocError>
+    requires { IsUtf8 key.now }
+    ensures adds { OnOk result (Adds out.old out.new (tokens_of (only_member key.now (boolean on)))) }
+    ensures sound { OnOk result (IsSound (only_member key.now (boolean on))) }
+{
+    out.begin_object()?;
+    flag(out, key, on)?;
+    out.end_object()
+}
+
+/// What is offered is written by way of its tree, in `offers_text`.
 fn write(out: &mut Writer, body: &Body) -> Result<(), AllocError>
+    requires { IsTrue (is_of_parts body.now) }
     ensures adds { OnOk result (Adds out.old out.new (tokens_of (data_of body.now))) }
     ensures sound { OnOk result (IsSound (data_of body.now)) }
 {
     match body {
+        Body::Initialize { .. } => unreachable!(),
         Body::SetBreakpoints { breakpoints } => {
             write_only(out, "breakpoints", breakpoints.as_slice())
         }
         Body::Threads { threads } => write_only(out, "threads", threads.as_slice()),
+        Body::Continue => write_flag(out, "allThreadsContinued", true),
         Body::StackTrace {
             stack_frames,
             total_frames,
         } => write_frames(out, stack_frames.as_slice(), *total_frames),
         Body::Scopes { scopes } => write_only(out, "scopes", scopes.as_slice()),
         Body::Variables { variables } => write_only(out, "variables", variables.as_slice()),
+        Body::SetVariable { value } => write_text(out, "value", value),
         Body::Evaluate {
             result,
             variables_reference,
         } => write_value(out, result, *variables_reference),
-        Body::Source { content } => write_content(out, content),
+        Body::Source { content } => write_text(out, "content", content),
         Body::LoadedSources { sources } => write_only(out, "sources", sources.as_slice()),
     }
 }
 
+/// Appends the text of what is offered.
+fn offers_text(
+    alloc: Global,
+    out: Vec<u8>,
+    capabilities: &Capabilities,
+) -> Result<Vec<u8>, AllocError>
+    ensures text { IfOk result (λ text. text.items ≡ out.items ++ compact_text (capabilities_data capabilities.now)) }
+    ensures sound { OnOk result (IsSound (capabilities_data capabilities.now)) }
+{
+    // A law for the proof: what is written is read again, and what is read is sound.
+    what_is_read_is_sound();
+    let tree = capabilities.write(alloc)?;
+    let mut out = out;
+    out.extend_from_slice(&dap_json::write(alloc, &tree)?)?;
+    Ok(out)
+}
+
 /// Appends the text of a body.
-pub fn body_text(out: Vec<u8>, body: &Body) -> Result<Vec<u8>, AllocError>
+pub fn body_text(alloc: Global, out: Vec<u8>, body: &Body) -> Result<Vec<u8>, AllocError>
     ensures text { IfOk result (λ text. text.items ≡ out.items ++ compact_text (data_of body.now)) }
     ensures sound { OnOk result (IsSound (data_of body.now)) }
 {
+    if let Body::Initialize { capabilities } = body {
+        return offers_text(alloc, out, capabilities);
+    }
     let mut out = Writer::new(out);
     write(&mut out, body)?;
     Ok(out.into_inner())
+}
+
+impl Body {
+    /// The body as a tree. Its text is written, and read again.
+    pub fn value(&self, alloc: Global) -> Result<Value, AllocError>
+        ensures { IfOk result (λ v. view v ≡ data_of self.now) }
+    {
+        // A law for the proof: what is written is read again.
+        text_is_read_again();
+        let text = body_text(alloc, Vec::new(alloc), self)?;
+        match parse(alloc, &text) {
+            Ok(value) => Ok(value),
+            Err(ParseFault::OutOfMemory) => Err(AllocError),
+            Err(ParseFault::NotJson) => unreachable!(),
+        }
+    }
 }

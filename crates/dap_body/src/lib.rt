@@ -1,13 +1,13 @@
 //! The bodies that an adapter writes: those of its responses, of its events and of its failures.
 //!
-//! Specification, "Responses" under "Requests", "Events", "ErrorResponse" and "Types". The body of the response to
-//! `initialize` is written by `dap_call::Capabilities`. This crate must not know the envelope of a message, nor header
-//! fields.
+//! Specification, "Responses" under "Requests", "Events", "ErrorResponse" and "Types". This crate must not know the
+//! envelope of a message, nor header fields.
 #![tactic(auto)]
 
 mod body;
 mod event;
 mod failure;
+pub mod laws;
 mod response;
 
 pub use body::{Body, body_text};
@@ -15,6 +15,6 @@ pub use event::{body_continued, body_exited, body_output, body_stopped};
 pub use failure::{Failure, body_failure, failure_text};
 pub use response::{
     Breakpoint, Scope, Source, StackFrame, Thread, Variable, body_continue, body_evaluate,
-    body_loaded_sources, body_scopes, body_set_breakpoints, body_source, body_stack_trace,
-    body_threads, body_variables,
+    body_loaded_sources, body_scopes, body_set_breakpoints, body_set_variable, body_source,
+    body_stack_trace, body_threads, body_variables,
 };

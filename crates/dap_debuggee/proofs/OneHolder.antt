@@ -6,10 +6,12 @@ use Rattle.std.specs.Option.{option_to_list}
 use Rattle.dap_debuggee.specs.declared.answers.Scope.{Scope}
 use Rattle.dap_debuggee.specs.declared.answers.Variable.{Variable}
 use Rattle.dap_debuggee.specs.ShownNumbers.{NamesOneHolder}
-use Rattle.dap_debuggee.specs.Played.{Played, shown_of, moment_shown, is_in, if_within}
+use Rattle.dap_debuggee.specs.Played.{Played, shown_of, moment_shown, is_in, if_within, variables_held}
 use Rattle.dap_debuggee.specs.declared.recording.Moment.{Moment}
 use Rattle.dap_debuggee.specs.declared.recording.Span.{Span}
 use Rattle.dap_debuggee.specs.Recording.{IsRecording, holders_of_scopes, holders_of_variables}
+use Rattle.dap_debuggee.specs.PrivateHeld.{KeepHolders}
+use Rattle.dap_debuggee.proofs.Changed.{RecordedAt, recorded-at}
 use Rattle.dap_debuggee.proofs.Ranges.{some_same}
 
 -- ---- one place or two
@@ -106,17 +108,20 @@ in_recording span (Some m) n found x e = in_recording_by (is_in (span m) n) foun
 scopes_recorded : (v : Played) (f : ℕ) (ss : List Scope) → (shown_of v).scopes f ≡ Some ss → slice_get v.recording.scopes f ≡ Some ss
 scopes_recorded v f ss e = in_recording (λ m. m.frames) (moment_shown v) f (slice_get v.recording.scopes f) ss e
 
-children_recorded : (v : Played) (h : ℕ) (xs : List Variable) → (shown_of v).children h ≡ Some xs → slice_get v.recording.variables h ≡ Some xs
-children_recorded v h xs e = in_recording (λ m. m.holders) (moment_shown v) h (slice_get v.recording.variables h) xs e
+child_recorded : (v : Played) → KeepHolders v.recording.variables v.changed → (h i : ℕ) (xs : List Variable) (x : Variable) → (shown_of v).children h ≡ Some xs → slice_get xs i ≡ Some x → RecordedAt v.recording.variables h i x
+child_recorded v keeps h i xs x e at = recorded-at v keeps h i xs x (in_recording (λ m. m.holders) (moment_shown v) h (variables_held v h) xs e) at
 
-pub names_one_holder : (v : Played) → IsRecording v.recording → NamesOneHolder (shown_of v)
-names_one_holder v good = record {
+pub names_one_holder : (v : Played) → IsRecording v.recording → KeepHolders v.recording.variables v.changed → NamesOneHolder (shown_of v)
+names_one_holder v good keeps = record {
   scopes = λ f g ss ts i j s t of_f of_g at_s at_t same.
       one_place holders_of_scopes (λ (x : Scope). is_it t.holder x.holder) t.holder v.recording.scopes f g i j ss ts s t (count_in_scopes t.holder) (omega (arith, count_both t.holder v good)) (scopes_recorded v f ss of_f) (scopes_recorded v g ts of_g) at_s at_t (it_is t.holder s.holder same) (it_is t.holder t.holder refl);
   variables = λ h k xs ys i j x y n of_h of_k at_x at_y is_x is_y.
-      one_place holders_of_variables (λ (z : Variable). count_by (nat_eq n) (option_to_list z.holder)) n v.recording.variables h k i j xs ys x y (count_in_variables n) (omega (arith, count_both n v good)) (children_recorded v h xs of_h) (children_recorded v k ys of_k) at_x at_y (it_is_given n x.holder is_x) (it_is_given n y.holder is_y);
+      let a = child_recorded v keeps h i xs x of_h at_x in
+      let b = child_recorded v keeps k j ys y of_k at_y in
+      one_place holders_of_variables (λ (z : Variable). count_by (nat_eq n) (option_to_list z.holder)) n v.recording.variables h k i j a.list b.list a.variable b.variable (count_in_variables n) (omega (arith, count_both n v good)) a.at_list b.at_list a.at_variable b.at_variable (it_is_given n a.variable.holder (a.same ∙ is_x)) (it_is_given n b.variable.holder (b.same ∙ is_y));
   apart = λ f h ss xs i j s x of_f of_h at_s at_x same.
       let scope = among holders_of_scopes (λ (y : Scope). is_it s.holder y.holder) s.holder v.recording.scopes f i ss s (count_in_scopes s.holder) (scopes_recorded v f ss of_f) at_s in
-      let variable = among holders_of_variables (λ (z : Variable). count_by (nat_eq s.holder) (option_to_list z.holder)) s.holder v.recording.variables h j xs x (count_in_variables s.holder) (children_recorded v h xs of_h) at_x in
-      omega (arith, count_both s.holder v good, scope, variable, it_is s.holder s.holder refl, it_is_given s.holder x.holder same);
+      let a = child_recorded v keeps h j xs x of_h at_x in
+      let variable = among holders_of_variables (λ (z : Variable). count_by (nat_eq s.holder) (option_to_list z.holder)) s.holder v.recording.variables h j a.list a.variable (count_in_variables s.holder) a.at_list a.at_variable in
+      omega (arith, count_both s.holder v good, scope, variable, it_is s.holder s.holder refl, it_is_given s.holder a.variable.holder (a.same ∙ same));
 }

@@ -6,7 +6,7 @@ use Rattle.std.specs.Str.{IsCharBoundary}
 use Rattle.std.proofs.lemmas.List.{drop-drop, get_or-drop}
 use Rattle.dap_debuggee.specs.PrivateHeld.{without_first, output_left, output_in, IsReady}
 use Rattle.dap_debuggee.specs.Moves.{is_forward}
-use Rattle.dap_debuggee.specs.Played.{Played, run_from, after_resume, move_from, output_of, output_on_move, first_piece, piece_length}
+use Rattle.dap_debuggee.specs.Played.{Played, run_from, after_resume, move_from, output_of, output_on_move, first_piece, piece_length, with_changed}
 use Rattle.dap_debuggee.specs.declared.answers.How.{How}
 use Rattle.dap_debuggee.specs.declared.moves.Move.{Move}
 use Rattle.dap_debuggee.specs.declared.recording.Moment.{Moment}
@@ -98,10 +98,10 @@ fresh_output how moments at to last move is = by_way (is_forward how) moments at
 
 -- what goes on from the moment that is shown
 pub goes : (v : Played) (how : How) (move : Move) (last : ℕ) → move ≡ move_from how v → last ≡ (if is_forward how then move.to else v.at)
-    → run_from v.at (output_left v.recording.moments (record { moment = v.at + 1; told = 0; last = last; to = move; paused = false })) move v ≡ after_resume how v
+    → run_from v.at (output_left v.recording.moments (record { moment = v.at + 1; told = 0; last = last; to = move; paused = false })) move (with_changed [] v) ≡ after_resume how v
 goes v how move last is far =
-    ap (λ output. run_from v.at output move v) (fresh_output how v.recording.moments v.at move.to last move far)
-    ∙ ap (λ (m : Move). run_from v.at (output_on_move how v.recording.moments v.at m.to) m v) is
+    ap (λ output. run_from v.at output move (with_changed [] v)) (fresh_output how v.recording.moments v.at move.to last move far)
+    ∙ ap (λ (m : Move). run_from v.at (output_on_move how v.recording.moments v.at m.to) m (with_changed [] v)) is
 
 -- ---- a poll
 

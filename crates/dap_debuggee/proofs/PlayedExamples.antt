@@ -100,7 +100,7 @@ acts : ((shown_of at_first).acts ≡ 3) × ((shown_of (view_after fresh (go Next
 acts = (refl, refl, refl, refl)
 
 abbrev worn : Played
-worn = record { recording = fresh.recording; state = fresh.state; at = fresh.at; run = fresh.run; set = fresh.set; acts = 18446744073709551615; last = fresh.last }
+worn = record { recording = fresh.recording; state = fresh.state; at = fresh.at; run = fresh.run; set = fresh.set; changed = fresh.changed; acts = 18446744073709551615; last = fresh.last }
 
 count_turns_over : (view_after worn (to_poll ∷ [])).acts ≡ 0
 count_turns_over = refl
@@ -137,7 +137,7 @@ abbrev locals : Scope
 locals = record { name = codes "Locals"; holder = 1 }
 
 told : ShownCanBeAsked (shown_of at_first)
-told = told_can_be_asked at_first three_moments_is_recording
+told = told_can_be_asked at_first three_moments_is_recording tt
 
 -- the frame has scopes, its scope has variables, and so have a variable and a value of it
 asked_for_what_it_holds : ((shown_of at_first).frames (pos 1) ≡ Some (main_frame ∷ [])) × IsSome ((shown_of at_first).scopes main_frame.object) × IsSome ((shown_of at_first).children 1) × IsSome ((shown_of at_first).children 0)

@@ -30,7 +30,7 @@ abbrev run : Bool → Bool → Run
 run held paused = record { output = codes "x" ∷ codes "y" ∷ []; move = record { to = 2; held = held; reason = Pause }; paused = paused }
 
 abbrev going : Run → Played
-going r = record { recording = three_moments; state = Running; at = 0; run = Some r; set = []; acts = 0; last = (fresh_played three_moments).last }
+going r = record { recording = three_moments; state = Running; at = 0; run = Some r; set = []; changed = []; acts = 0; last = (fresh_played three_moments).last }
 
 happenings : output_happenings (codes "x" ∷ codes "y" ∷ []) ≡ Output Stdout (codes "x") ∷ Output Stdout (codes "y") ∷ []
 happenings = refl

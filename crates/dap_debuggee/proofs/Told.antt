@@ -6,7 +6,9 @@ use Rattle.std.proofs.lemmas.List.Folds.{find_at}
 use Rattle.std.specs.List.{slice_get, find, position_or_len}
 use Rattle.std.specs.Option.{IsSome}
 use Rattle.std.specs.Ordering.{int_eq}
-use Rattle.dap_debuggee.specs.Played.{Played, shown_of, moment_shown, threads_at, thread_shown, source_shown, is_there, is_in, if_within, scopes_shown, variable_named, first_of, value_in, evaluation}
+use Rattle.dap_debuggee.specs.Laws.{variable_named}
+use Rattle.dap_debuggee.specs.PrivateHeld.{KeepHolders}
+use Rattle.dap_debuggee.specs.Played.{Played, shown_of, moment_shown, threads_at, thread_shown, source_shown, is_there, is_in, if_within, scopes_shown, first_of, variables_held, changed_at, value_in, evaluation}
 use Rattle.dap_debuggee.specs.Recording.{IsRecording, IsWithin, HasOwnNumbers}
 use Rattle.dap_debuggee.specs.ShownNumbers.{ShownCanBeAsked}
 use Rattle.dap_debuggee.specs.declared.answers.Thread.{Thread}
@@ -19,6 +21,7 @@ use Rattle.dap_debuggee.specs.declared.answers.Variable.{Variable}
 use Rattle.dap_debuggee.specs.declared.answers.Evaluation.{Evaluation}
 use Rattle.dap_debuggee.specs.declared.recording.Moment.{Moment}
 use Rattle.dap_debuggee.specs.declared.recording.Span.{Span}
+use Rattle.dap_debuggee.proofs.Changed.{recorded-at}
 use Rattle.dap_debuggee.proofs.Ranges.{some_same}
 
 -- ---- what was found
@@ -42,6 +45,10 @@ stands : {A : Type 0} (xs : List A) (n : ℕ) → n < length xs → IsSome (slic
 stands [] n below = absurd (omega (arith, below))
 stands (x ∷ xs) zero below = refl
 stands (x ∷ xs) (suc n) below = stands xs n (omega (arith, below))
+
+some_held : {A : Type 0} (o p : Option A) → IsSome p → IsSome (first_of o p)
+some_held None p here = here
+some_held (Some x) p here = refl
 
 -- ---- the span of a moment
 
@@ -76,7 +83,7 @@ frame_asked v good m is n p =
 holder_asked : (v : Played) → IsRecording v.recording → (m : Moment) → moment_shown v ≡ Some m → (n : ℕ) → IsWithin m.holders n → IsSome ((shown_of v).children n)
 holder_asked v good m is n p =
     let own = shown_own v good m is in
-    is_shown (λ m. m.holders) (moment_shown v) m n (slice_get v.recording.variables n) is p (stands v.recording.variables n (omega (arith, p.to, own.holders_stand)))
+    is_shown (λ m. m.holders) (moment_shown v) m n (variables_held v n) is p (some_held (changed_at n v.changed) (slice_get v.recording.variables n) (stands v.recording.variables n (omega (arith, p.to, own.holders_stand))))
 
 -- ---- frames
 
@@ -102,55 +109,57 @@ scopes_told v good frame ss i s e is =
     let own = shown_own v good t.0 t.1 in
     holder_asked v good t.0 t.1 s.holder (own.of_scopes frame i ss s t.2 t.3 is)
 
-variables_told : (v : Played) → IsRecording v.recording → (holder : ℕ) (xs : List Variable) (i : ℕ) (x : Variable) (n : ℕ) → (shown_of v).children holder ≡ Some xs → slice_get xs i ≡ Some x → x.holder ≡ Some n → IsSome ((shown_of v).children n)
-variables_told v good holder xs i x n e is has =
-    let t = shown_is (λ m. m.holders) (moment_shown v) holder (slice_get v.recording.variables holder) xs e in
+variables_told : (v : Played) → IsRecording v.recording → KeepHolders v.recording.variables v.changed → (holder : ℕ) (xs : List Variable) (i : ℕ) (x : Variable) (n : ℕ) → (shown_of v).children holder ≡ Some xs → slice_get xs i ≡ Some x → x.holder ≡ Some n → IsSome ((shown_of v).children n)
+variables_told v good keeps holder xs i x n e is has =
+    let t = shown_is (λ m. m.holders) (moment_shown v) holder (variables_held v holder) xs e in
     let own = shown_own v good t.0 t.1 in
-    holder_asked v good t.0 t.1 n (own.of_variables holder i xs x n t.2 t.3 is has)
+    let at = recorded-at v keeps holder i xs x t.3 is in
+    holder_asked v good t.0 t.1 n (own.of_variables holder i at.list at.variable n t.2 at.at_list at.at_variable (at.same ∙ has))
 
 -- ---- values
 
 -- a variable of one of the scopes
-record InScope (variables : List (List Variable)) (ss : List Scope) (x : Variable) : Type 0 where
+record InScope (held : ℕ → Option (List Variable)) (ss : List Scope) (x : Variable) : Type 0 where
   pub place : ℕ
   pub scope : Scope
   pub at_scope : slice_get ss place ≡ Some scope
   pub variables_of : List Variable
-  pub at_holder : slice_get variables scope.holder ≡ Some variables_of
+  pub at_holder : held scope.holder ≡ Some variables_of
   pub place_in : ℕ
   pub at_variable : slice_get variables_of place_in ≡ Some x
 
-named_in : (variables : List (List Variable)) (s : Scope) (ss : List Scope) (name : List ℕ) (x : Variable) (o : Option (List Variable)) → slice_get variables s.holder ≡ o → variable_named name (unwrap_or o []) ≡ Some x → InScope variables (s ∷ ss) x
-named_in variables s ss name x None is e = absurd (cc e)
-named_in variables s ss name x (Some xs) is e =
+named_in : (held : ℕ → Option (List Variable)) (s : Scope) (ss : List Scope) (name : List ℕ) (x : Variable) (o : Option (List Variable)) → held s.holder ≡ o → variable_named name (unwrap_or o []) ≡ Some x → InScope held (s ∷ ss) x
+named_in held s ss name x None is e = absurd (cc e)
+named_in held s ss name x (Some xs) is e =
     let found = place_found _ xs x e in
     record { place = 0; scope = s; at_scope = refl; variables_of = xs; at_holder = is; place_in = found.0; at_variable = found.1 }
 
-in_later : (variables : List (List Variable)) (s : Scope) (ss : List Scope) (x : Variable) → InScope variables ss x → InScope variables (s ∷ ss) x
-in_later variables s ss x p = record { place = suc p.place; scope = p.scope; at_scope = p.at_scope; variables_of = p.variables_of; at_holder = p.at_holder; place_in = p.place_in; at_variable = p.at_variable }
+in_later : (held : ℕ → Option (List Variable)) (s : Scope) (ss : List Scope) (x : Variable) → InScope held ss x → InScope held (s ∷ ss) x
+in_later held s ss x p = record { place = suc p.place; scope = p.scope; at_scope = p.at_scope; variables_of = p.variables_of; at_holder = p.at_holder; place_in = p.place_in; at_variable = p.at_variable }
 
 first_is : (o rest : Option Variable) (x : Variable) (P : Type 0) → first_of o rest ≡ Some x → (o ≡ Some x → P) → (rest ≡ Some x → P) → P
 first_is None rest x P e here later = later e
 first_is (Some y) rest x P e here later = here e
 
-value_found : (variables : List (List Variable)) (name : List ℕ) (ss : List Scope) (x : Variable) → value_in variables name ss ≡ Some x → InScope variables ss x
-value_found variables name [] x e = absurd (cc e)
-value_found variables name (s ∷ ss) x e =
-    first_is (variable_named name (unwrap_or (slice_get variables s.holder) [])) (value_in variables name ss) x (InScope variables (s ∷ ss) x) e
-    (λ here. named_in variables s ss name x (slice_get variables s.holder) refl here)
-    (λ later. in_later variables s ss x (value_found variables name ss x later))
+value_found : (held : ℕ → Option (List Variable)) (name : List ℕ) (ss : List Scope) (x : Variable) → value_in held name ss ≡ Some x → InScope held ss x
+value_found held name [] x e = absurd (cc e)
+value_found held name (s ∷ ss) x e =
+    first_is (variable_named name (unwrap_or (held s.holder) [])) (value_in held name ss) x (InScope held (s ∷ ss) x) e
+    (λ here. named_in held s ss name x (held s.holder) refl here)
+    (λ later. in_later held s ss x (value_found held name ss x later))
 
-values_told : (v : Played) → IsRecording v.recording → (frame : Option ℕ) (text : List ℕ) (e : Evaluation) (n : ℕ) → (shown_of v).evaluate frame text ≡ Some e → e.holder ≡ Some n → IsSome ((shown_of v).children n)
-values_told v good None text e n is has = absurd (cc is)
-values_told v good (Some frame) text e n is has =
-    let value = map_is evaluation (option_and_then (value_in v.recording.variables text) (scopes_shown v frame)) e is in
-    let scopes = then_is (value_in v.recording.variables text) (scopes_shown v frame) value.0 value.1 in
+values_told : (v : Played) → IsRecording v.recording → KeepHolders v.recording.variables v.changed → (frame : Option ℕ) (text : List ℕ) (e : Evaluation) (n : ℕ) → (shown_of v).evaluate frame text ≡ Some e → e.holder ≡ Some n → IsSome ((shown_of v).children n)
+values_told v good keeps None text e n is has = absurd (cc is)
+values_told v good keeps (Some frame) text e n is has =
+    let value = map_is evaluation (option_and_then (value_in (variables_held v) text) (scopes_shown v frame)) e is in
+    let scopes = then_is (value_in (variables_held v) text) (scopes_shown v frame) value.0 value.1 in
     let t = shown_is (λ m. m.frames) (moment_shown v) frame (slice_get v.recording.scopes frame) scopes.0 scopes.1 in
     let own = shown_own v good t.0 t.1 in
-    let at = value_found v.recording.variables text scopes.0 value.0 scopes.2 in
-    let of_scope = own.of_scopes frame at.place scopes.0 at.scope t.2 t.3 at.at_scope in
+    let found = value_found (variables_held v) text scopes.0 value.0 scopes.2 in
+    let of_scope = own.of_scopes frame found.place scopes.0 found.scope t.2 t.3 found.at_scope in
     let number : value.0.holder ≡ Some n = ap (λ (x : Evaluation). x.holder) value.2 ∙ has in
-    holder_asked v good t.0 t.1 n (own.of_variables at.scope.holder at.place_in at.variables_of value.0 n of_scope at.at_holder at.at_variable number)
+    let at = recorded-at v keeps found.scope.holder found.place_in found.variables_of value.0 found.at_holder found.at_variable in
+    holder_asked v good t.0 t.1 n (own.of_variables found.scope.holder found.place_in at.list at.variable n of_scope at.at_list at.at_variable (at.same ∙ number))
 
 -- ---- threads and sources
 
@@ -171,12 +180,12 @@ source_asked [] i source e = absurd (cc e)
 source_asked (s ∷ sources) zero source e = refl
 source_asked (s ∷ sources) (suc i) source e = source_asked sources i source e
 
-pub told_can_be_asked : (v : Played) → IsRecording v.recording → ShownCanBeAsked (shown_of v)
-told_can_be_asked v good = record {
+pub told_can_be_asked : (v : Played) → IsRecording v.recording → KeepHolders v.recording.variables v.changed → ShownCanBeAsked (shown_of v)
+told_can_be_asked v good keeps = record {
   threads = thread_asked (threads_at v);
   sources = source_asked v.recording.sources;
   frames = frames_told v good;
   scopes = scopes_told v good;
-  variables = variables_told v good;
-  values = values_told v good;
+  variables = variables_told v good keeps;
+  values = values_told v good keeps;
 }

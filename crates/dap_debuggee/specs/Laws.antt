@@ -1,19 +1,22 @@
 -- The laws that every debuggee keeps, over what it shows in a view and over the views that an act may leave.
 -- The states, and what each act does to them, are this profile's choice; what a stop, an exit and output are, and that the frames and variables of a stop last until the debuggee goes on, is told by the Overview, "Lifetime of Objects References", and the Specification, "StoppedEvent", "ContinuedEvent", "ExitedEvent", "OutputEvent".
-use Rattle.std.specs.Prelude.{◌≡◌, ℕ, ◌+◌, ◌%◌, ◌^◌, ◌≤◌, ℤ, pos, negsuc, int_le, Bool, true, false, ◌&&◌, nat_le, nat_lt, List, [], length, Option, Some, None, IsTrue, if◌then◌else◌, Result, Ok, Err}
-use Rattle.std.specs.List.{list_all, slice_get}
+use Rattle.std.specs.Prelude.{◌≡◌, ℕ, ◌+◌, ◌%◌, ◌^◌, ◌≤◌, ℤ, pos, negsuc, int_le, Bool, true, false, ◌&&◌, nat_le, nat_lt, nat_eq, bytes_eq, List, [], ◌∷◌, length, Option, Some, None, IsTrue, if◌then◌else◌, option_map, option_and_then, Result, Ok, Err}
+use Rattle.std.specs.List.{list_all, slice_get, find}
+use Rattle.std.specs.Option.{IsSome}
 use Rattle.dap_call.specs.SameSource.{is_source}
 use Rattle.dap_call.specs.Argument.{is_int}
 use Rattle.dap_call.specs.declared.call.SourceKey.{SourceKey}
 use Rattle.dap_debuggee.specs.Shown.{Shown, Act, Reply, asked_of_act}
-use Rattle.dap_debuggee.specs.Shown.{to_start, to_resume, to_pause, to_poll, to_set_breakpoints, to_end, done, refused, happened}
+use Rattle.dap_debuggee.specs.Shown.{to_start, to_resume, to_pause, to_poll, to_set_breakpoints, to_assign, to_end, done, refused, happened}
 use Rattle.dap_debuggee.specs.declared.answers.State.{State}
 use Rattle.dap_debuggee.specs.declared.answers.State.TheVariants.{NotStarted, Running, Stopped, Gone}
 use Rattle.dap_debuggee.specs.declared.answers.Happening.{Happening}
 use Rattle.dap_debuggee.specs.declared.answers.Happening.TheVariants as happening
 use Rattle.dap_debuggee.specs.declared.answers.DebuggeeFault.{DebuggeeFault}
 use Rattle.dap_debuggee.specs.declared.answers.DebuggeeFault.TheVariants.{Refused, OutOfMemory}
+use Rattle.dap_debuggee.specs.declared.answers.Assigned.{Assigned}
 use Rattle.dap_debuggee.specs.declared.answers.Frame.{Frame}
+use Rattle.dap_debuggee.specs.declared.answers.Variable.{Variable}
 
 -- ---- what a call returned, want of memory aside
 
@@ -52,6 +55,7 @@ may_answer state to_pause done = true
 may_answer state to_pause refused = true
 may_answer state to_poll (happened h) = may_happen state h
 may_answer state (to_set_breakpoints source lines) done = true
+may_answer state (to_assign holder name text) done = true
 may_answer state to_end done = true
 may_answer _ _ _ = false
 
@@ -100,6 +104,37 @@ pub record SameAnswers (v w : Shown) : Type 0 where
   pub threads : w.threads ≡ v.threads
   pub frames : SameFrames v w
   pub evaluate : (frame : Option ℕ) (text : List ℕ) → w.evaluate frame text ≡ v.evaluate frame text
+  pub assigned : (holder : ℕ) (name text : List ℕ) → w.assigned holder name text ≡ v.assigned holder name text
+  pub sources : SameSources v w
+  pub verify : (source : SourceKey) (lines : List ℕ) → w.verify source lines ≡ v.verify source lines
+
+-- all but the count of acts and the last one
+pub record Stands (v w : Shown) : Type 0 where
+  pub state : w.state ≡ v.state
+  pub lines : (key : SourceKey) → w.lines key ≡ v.lines key
+  pub answers : SameAnswers v w
+
+-- ---- a value that is set
+
+-- the first of them with a name
+abbrev pub variable_named : List ℕ → List Variable → Option Variable
+variable_named name variables = find (λ variable. bytes_eq name variable.name) variables
+
+-- that one has the value, and what holds its children stays
+abbrev pub with_value : List ℕ → List ℕ → List Variable → List Variable
+with_value name value [] = []
+with_value name value (x ∷ xs) = if bytes_eq name x.name then record { name = x.name; value = value; holder = x.holder } ∷ xs else x ∷ with_value name value xs
+
+abbrev pub children_after : ℕ → List ℕ → List ℕ → (ℕ → Option (List Variable)) → ℕ → Option (List Variable)
+children_after holder name value before h = if nat_eq h holder then option_map (with_value name value) (before h) else before h
+
+-- the first variable of the name directly in the holder has the value; nothing else changes, but the count of acts, the last one and what texts evaluate to
+pub record SetsOneValue (holder : ℕ) (name value : List ℕ) (v w : Shown) : Type 0 where
+  pub threads : w.threads ≡ v.threads
+  pub frames : (thread : ℤ) → w.frames thread ≡ v.frames thread
+  pub scopes : (frame : ℕ) → w.scopes frame ≡ v.scopes frame
+  pub children : (h : ℕ) → w.children h ≡ children_after holder name value v.children h
+  pub assigned : (h : ℕ) (n text : List ℕ) → w.assigned h n text ≡ v.assigned h n text
   pub sources : SameSources v w
   pub verify : (source : SourceKey) (lines : List ℕ) → w.verify source lines ≡ v.verify source lines
 
@@ -147,6 +182,10 @@ KeepsAnswers {View} shown follows = (v w : View) (a : Act) (r : Reply) → follo
 abbrev pub KeepsFrames : {View : Type 0} → (View → Shown) → Follows View → Type 0
 KeepsFrames {View} shown follows = (v w : View) (a : Act) (r : Reply) → follows v a r w → IsTrue (keeps_frames a r) → SameFrames (shown v) (shown w)
 
+-- a variable gets the value that was told of it before
+abbrev pub SetsValues : {View : Type 0} → (View → Shown) → Follows View → Type 0
+SetsValues {View} shown follows = (v w : View) (holder : ℕ) (name text : List ℕ) (r : Reply) (a : Assigned) → follows v (to_assign holder name text) r w → (shown v).assigned holder name text ≡ Some a → SetsOneValue holder name a.value (shown v) (shown w)
+
 -- sources and their texts never change
 abbrev pub KeepsSources : {View : Type 0} → (View → Shown) → Follows View → Type 0
 KeepsSources {View} shown follows = (v w : View) (a : Act) (r : Reply) → follows v a r w → SameSources (shown v) (shown w)
@@ -158,6 +197,10 @@ NoThreads {View} shown = (v : View) → ((shown v).state ≡ NotStarted → (sho
 -- one answer for each line asked
 abbrev pub VerifiesEach : {View : Type 0} → (View → Shown) → Type 0
 VerifiesEach {View} shown = (v : View) (source : SourceKey) (lines : List ℕ) (answers : List Bool) → (shown v).verify source lines ≡ Some answers → length answers ≡ length lines
+
+-- only a variable that is there can be set
+abbrev pub AssignsVariables : {View : Type 0} → (View → Shown) → Type 0
+AssignsVariables {View} shown = (v : View) (holder : ℕ) (name text : List ℕ) → IsSome ((shown v).assigned holder name text) → IsSome (option_and_then (variable_named name) ((shown v).children holder))
 
 -- ---- of one view
 

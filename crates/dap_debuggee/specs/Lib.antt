@@ -8,6 +8,5 @@ pub mod Moves
 pub mod Played
 pub mod PrivateHeld
 pub mod PlayedLaws
-pub mod Stubborn
 pub mod Polls
 pub mod ShownNumbers

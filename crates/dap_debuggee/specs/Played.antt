@@ -1,11 +1,12 @@
 -- A recorded debuggee: what it is seen as, what it shows, and what each act does.
 -- This profile's choice.
-use Rattle.std.specs.Prelude.{◌≡◌, ℕ, zero, suc, ◌+◌, ◌-◌, ◌%◌, ◌^◌, ℤ, pos, Bool, true, false, ◌&&◌, ◌||◌, not, nat_le, nat_lt, bytes_eq, slice_index, List, [], ◌∷◌, length, map, take, drop, Option, Some, None, option_map, option_and_then, unwrap_or, if◌then◌else◌}
+use Rattle.std.specs.Prelude.{◌≡◌, ℕ, zero, suc, ◌+◌, ◌-◌, ◌%◌, ◌^◌, ℤ, pos, Bool, true, false, ◌&&◌, ◌||◌, not, nat_le, nat_lt, nat_eq, bytes_eq, slice_index, List, [], ◌∷◌, length, map, take, drop, Option, Some, None, option_map, option_and_then, unwrap_or, if◌then◌else◌}
 use Rattle.std.specs.List.{list_any, slice_get, find}
 use Rattle.std.specs.Ordering.{int_eq}
 use Rattle.dap_call.specs.declared.call.SourceKey.{SourceKey}
 use Rattle.dap_call.specs.declared.call.SourceKey.TheVariants.{Path, Reference}
-use Rattle.dap_debuggee.specs.Shown.{Shown, Act, to_start, to_resume, to_pause, to_poll, to_set_breakpoints, to_end, Reply, done, refused, happened, asked_of_act, Last}
+use Rattle.dap_debuggee.specs.Shown.{Shown, Act, to_start, to_resume, to_pause, to_poll, to_set_breakpoints, to_assign, to_end, Reply, done, refused, happened, asked_of_act, Last}
+use Rattle.dap_debuggee.specs.Laws.{variable_named, with_value}
 use Rattle.dap_debuggee.specs.Recording.{id_at}
 use Rattle.dap_debuggee.specs.Moves.{move_of, is_forward, reason_text}
 use Rattle.dap_debuggee.specs.declared.answers.State.{State}
@@ -19,6 +20,7 @@ use Rattle.dap_debuggee.specs.declared.answers.Frame.{Frame}
 use Rattle.dap_debuggee.specs.declared.answers.Scope.{Scope}
 use Rattle.dap_debuggee.specs.declared.answers.Variable.{Variable}
 use Rattle.dap_debuggee.specs.declared.answers.Evaluation.{Evaluation}
+use Rattle.dap_debuggee.specs.declared.answers.Assigned.{Assigned}
 use Rattle.dap_debuggee.specs.declared.answers.Source.{Source}
 use Rattle.dap_debuggee.specs.declared.recording.RecordedSource.{RecordedSource}
 use Rattle.dap_debuggee.specs.declared.recording.RecordedThread.{RecordedThread}
@@ -37,6 +39,11 @@ pub record Run : Type 0 where
   pub move : Move
   pub paused : Bool
 
+-- the variables of a holder
+pub record OfHolder : Type 0 where
+  pub holder : ℕ
+  pub variables : List Variable
+
 pub record Played : Type 0 where
   pub recording : Recording
   pub state : State
@@ -45,6 +52,8 @@ pub record Played : Type 0 where
   pub run : Option Run
   -- the lines of each source that has some, in the order of the sources' names
   pub set : List (OfSource ℕ)
+  -- of each holder in which a variable was set since the debuggee went on, in the order of their numbers
+  pub changed : List OfHolder
   pub acts : ℕ
   pub last : Option Last
 
@@ -53,6 +62,27 @@ pub record Played : Type 0 where
 -- the lines of a source, none where none were set
 abbrev pub lines_in : List (OfSource ℕ) → SourceKey → List ℕ
 lines_in set key = set_of key set
+
+-- ---- values that were set
+
+abbrev pub changed_at : ℕ → List OfHolder → Option (List Variable)
+changed_at holder [] = None
+changed_at holder (c ∷ changed) = if nat_eq holder c.holder then Some c.variables else changed_at holder changed
+
+abbrev pub with_variables : ℕ → List Variable → List OfHolder → List OfHolder
+with_variables holder variables [] = record { holder = holder; variables = variables } ∷ []
+with_variables holder variables (c ∷ changed) =
+    if nat_lt holder c.holder then record { holder = holder; variables = variables } ∷ c ∷ changed
+    else (if nat_eq holder c.holder then record { holder = c.holder; variables = variables } ∷ changed
+    else c ∷ with_variables holder variables changed)
+
+abbrev pub first_of : {A : Type 0} → Option A → Option A → Option A
+first_of None other = other
+first_of (Some x) other = Some x
+
+-- a value that was set lies on top of the recording
+abbrev pub variables_held : Played → ℕ → Option (List Variable)
+variables_held v holder = first_of (changed_at holder v.changed) (slice_get v.recording.variables holder)
 
 -- ---- output
 
@@ -100,6 +130,9 @@ with_pause run v = record v { run = option_map (λ (r : Run). record { output = 
 abbrev pub with_lines : List (OfSource ℕ) → Played → Played
 with_lines set v = record v { set = set }
 
+abbrev pub with_changed : List OfHolder → Played → Played
+with_changed changed v = record v { changed = changed }
+
 -- to the first moment
 abbrev pub after_start : Played → Played
 after_start v = run_from 0 (output_of v.recording.moments 0 0) (record { to = 0; held = false; reason = Entry }) v
@@ -111,8 +144,12 @@ output_on_move how moments i to = if is_forward how then output_of moments (suc 
 abbrev pub move_from : How → Played → Move
 move_from how v = move_of v.recording.sources v.recording.moments (lines_in v.set) how v.at
 
+-- no value stays set
 abbrev pub after_resume : How → Played → Played
-after_resume how v = run_from v.at (output_on_move how v.recording.moments v.at (move_from how v).to) (move_from how v) v
+after_resume how v = run_from v.at (output_on_move how v.recording.moments v.at (move_from how v).to) (move_from how v) (with_changed [] v)
+
+abbrev pub after_assign : ℕ → List ℕ → List ℕ → Played → Played
+after_assign holder name text v = with_changed (with_variables holder (with_value name text (unwrap_or (variables_held v holder) [])) v.changed) v
 
 -- the end of a run, once all is written: held, stopped or gone
 abbrev pub end_of_run : Run → Played → Happening × Played
@@ -157,6 +194,7 @@ act_on (to_resume how thread) v = resume_in v.state how v
 act_on to_pause v = pause_in v.state v.run v
 act_on to_poll v = poll_in (poll_result v.state v.run v)
 act_on (to_set_breakpoints source lines) v = (done, with_lines (with_source_lines source lines v.set) v)
+act_on (to_assign holder name text) v = (done, after_assign holder name text v)
 act_on to_end v = (done, at_rest Gone v.at v)
 
 -- the view that an act with an answer leaves
@@ -191,7 +229,7 @@ abbrev pub scopes_shown : Played → ℕ → Option (List Scope)
 scopes_shown v frame = if_within (λ m. m.frames) (moment_shown v) frame (slice_get v.recording.scopes frame)
 
 abbrev pub children_shown : Played → ℕ → Option (List Variable)
-children_shown v holder = if_within (λ m. m.holders) (moment_shown v) holder (slice_get v.recording.variables holder)
+children_shown v holder = if_within (λ m. m.holders) (moment_shown v) holder (variables_held v holder)
 
 abbrev pub thread_shown : RecordedThread → Thread
 thread_shown thread = record { id = thread.id; name = thread.name }
@@ -199,25 +237,21 @@ thread_shown thread = record { id = thread.id; name = thread.name }
 abbrev pub frames_of : Played → ℤ → Option (List Frame)
 frames_of v id = option_map (λ thread. thread.frames) (find (λ thread. int_eq id thread.id) (threads_at v))
 
--- the first of them with a name
-abbrev pub variable_named : List ℕ → List Variable → Option Variable
-variable_named name variables = find (λ variable. bytes_eq name variable.name) variables
-
-abbrev pub first_of : {A : Type 0} → Option A → Option A → Option A
-first_of None other = other
-first_of (Some x) other = Some x
-
--- a value of the first scope that has one
-abbrev pub value_in : List (List Variable) → List ℕ → List Scope → Option Variable
-value_in variables name [] = None
-value_in variables name (scope ∷ scopes) = first_of (variable_named name (unwrap_or (slice_get variables scope.holder) [])) (value_in variables name scopes)
+-- a value of the first scope that has one, where the holders have these variables
+abbrev pub value_in : (ℕ → Option (List Variable)) → List ℕ → List Scope → Option Variable
+value_in held name [] = None
+value_in held name (scope ∷ scopes) = first_of (variable_named name (unwrap_or (held scope.holder) [])) (value_in held name scopes)
 
 abbrev pub evaluation : Variable → Evaluation
 evaluation variable = record { value = variable.value; holder = variable.holder }
 
 abbrev pub evaluation_in : Played → Option ℕ → List ℕ → Option Evaluation
 evaluation_in v None name = None
-evaluation_in v (Some frame) name = option_map evaluation (option_and_then (value_in v.recording.variables name) (scopes_shown v frame))
+evaluation_in v (Some frame) name = option_map evaluation (option_and_then (value_in (variables_held v) name) (scopes_shown v frame))
+
+-- the value is the text
+abbrev pub assigned_in : Played → ℕ → List ℕ → List ℕ → Option Assigned
+assigned_in v holder name text = option_map (λ variable. record { value = text }) (option_and_then (variable_named name) (children_shown v holder))
 
 abbrev pub source_shown : RecordedSource → Source
 source_shown source = record { name = source.name; path = source.path }
@@ -246,6 +280,7 @@ shown_of v = record {
   scopes = scopes_shown v;
   children = children_shown v;
   evaluate = evaluation_in v;
+  assigned = assigned_in v;
   sources = map source_shown v.recording.sources;
   content = λ index. option_map (λ source. source.text) (slice_get v.recording.sources index);
   verify = λ source lines. Some (map (has_source_line v.recording.sources source) lines);
@@ -261,6 +296,7 @@ fresh_played r = record {
   at = 0;
   run = None;
   set = [];
+  changed = [];
   acts = 0;
   last = None;
 }

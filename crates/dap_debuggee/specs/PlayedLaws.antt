@@ -1,10 +1,17 @@
 -- A recorded debuggee keeps the laws of every debuggee.
-use Rattle.std.proofs.Common.{◌≡◌, ℕ, ◌+◌, ◌%◌, ◌^◌, ℤ, Bool, true, false, ◌&&◌, not, nat_lt, if◌then◌else◌, List, [], ◌∷◌, length, map, Option, Some, None, IsTrue, refl, sym, ap, subst, suc, option_map, unwrap_or, ◌∙◌, true≢false}
-use Rattle.std.specs.List.{slice_get}
+use Rattle.std.proofs.Common.{◌≡◌, ℕ, ◌+◌, ◌%◌, ◌^◌, ℤ, Bool, true, false, ◌&&◌, not, nat_lt, nat_eq, bytes_eq, arith, if◌then◌else◌, List, [], ◌∷◌, length, map, Option, Some, None, IsTrue, refl, sym, ap, subst, suc, option_map, unwrap_or, ◌∙◌, true≢false}
+use Rattle.std.specs.List.{slice_get, find}
+use Rattle.std.specs.Option.{IsSome}
+use Rattle.std.specs.Prelude.{option_and_then}
+use Rattle.std.proofs.lemmas.Bool.Decides.{nat_tests}
 use Rattle.dap_call.specs.declared.call.SourceKey.{SourceKey}
-use Rattle.dap_debuggee.specs.Shown.{Act, to_start, to_resume, to_pause, to_poll, to_set_breakpoints, to_end, Reply, done, refused, happened}
-use Rattle.dap_debuggee.specs.Laws.{may_answer, state_after, keeps_answers, keeps_frames, lines_after, Counts, Remembers, Answers, Moves, SetsLines, KeepsAnswers, KeepsFrames, KeepsSources, SameFrames, SameSources, NoThreads, VerifiesEach}
-use Rattle.dap_debuggee.specs.Played.{Played, Run, act_on, with_ask, after_start, after_resume, start_in, resume_in, pause_in, poll_result, step_of_run, end_of_run, with_run, with_pause, with_lines, at_rest, with_source_lines, lines_in, first_piece, shown_of, has_source_line, source_shown, FollowsPlayed}
+use Rattle.dap_debuggee.specs.Shown.{Act, to_start, to_resume, to_pause, to_poll, to_set_breakpoints, to_assign, to_end, Reply, done, refused, happened}
+use Rattle.dap_debuggee.specs.Laws.{may_answer, state_after, keeps_answers, keeps_frames, lines_after, Counts, Remembers, Answers, Moves, SetsLines, SetsValues, SetsOneValue, KeepsAnswers, KeepsFrames, KeepsSources, SameFrames, SameSources, NoThreads, VerifiesEach, AssignsVariables, variable_named, with_value}
+use Rattle.dap_debuggee.specs.Played.{Played, Run, OfHolder, changed_at, with_variables, variables_held, first_of, if_within, is_in, moment_shown, children_shown, after_assign, act_on, with_ask, after_start, after_resume, start_in, resume_in, pause_in, poll_result, step_of_run, end_of_run, with_run, with_pause, with_lines, at_rest, with_source_lines, lines_in, first_piece, shown_of, has_source_line, source_shown, FollowsPlayed}
+use Rattle.dap_debuggee.specs.declared.answers.Assigned.{Assigned}
+use Rattle.dap_debuggee.specs.declared.answers.Variable.{Variable}
+use Rattle.dap_debuggee.specs.declared.recording.Moment.{Moment}
+use Rattle.dap_debuggee.specs.declared.recording.Span.{Span}
 use Rattle.dap_debuggee.specs.declared.answers.State.{State}
 use Rattle.dap_debuggee.specs.declared.answers.State.TheVariants.{NotStarted, Running, Stopped, Gone}
 use Rattle.dap_debuggee.specs.declared.answers.How.{How}
@@ -28,6 +35,7 @@ data Row (v : Played) : Act → Reply → Played → Type 0 where
   stops : (reason : List ℕ) (thread : ℤ) (at : ℕ) → v.state ≡ Running → Row v to_poll (happened (happening.Stopped reason thread)) (at_rest Stopped at v)
   exits : (code : ℤ) → v.state ≡ Running → Row v to_poll (happened (happening.Exited code)) (at_rest Gone v.at v)
   sets : (source : SourceKey) (lines : List ℕ) → Row v (to_set_breakpoints source lines) done (with_lines (with_source_lines source lines v.set) v)
+  assigns : (holder : ℕ) (name text : List ℕ) → Row v (to_assign holder name text) done (after_assign holder name text v)
   ends : Row v to_end done (at_rest Gone v.at v)
 
 start_row : (v : Played) (s : State) → v.state ≡ s → Row v to_start (start_in s v).0 (start_in s v).1
@@ -75,6 +83,7 @@ act_row v (to_resume how thread) = resume_row v how thread v.state refl
 act_row v to_pause = pause_row v v.state v.run refl
 act_row v to_poll = poll_row v v.state v.run refl
 act_row v (to_set_breakpoints source lines) = sets source lines
+act_row v (to_assign holder name text) = assigns holder name text
 act_row v to_end = ends
 
 -- ---- in each state
@@ -108,6 +117,12 @@ sets_always NotStarted source lines = refl
 sets_always Running source lines = refl
 sets_always Stopped source lines = refl
 sets_always Gone source lines = refl
+
+assigns_always : (s : State) (holder : ℕ) (name text : List ℕ) → may_answer s (to_assign holder name text) done ≡ true
+assigns_always NotStarted holder name text = refl
+assigns_always Running holder name text = refl
+assigns_always Stopped holder name text = refl
+assigns_always Gone holder name text = refl
 
 ends_always : (s : State) → may_answer s to_end done ≡ true
 ends_always NotStarted = refl
@@ -172,6 +187,12 @@ same_sets Running source lines = refl
 same_sets Stopped source lines = refl
 same_sets Gone source lines = refl
 
+same_assigns : (s : State) (holder : ℕ) (name text : List ℕ) → s ≡ state_after s (to_assign holder name text) done
+same_assigns NotStarted holder name text = refl
+same_assigns Running holder name text = refl
+same_assigns Stopped holder name text = refl
+same_assigns Gone holder name text = refl
+
 end_state : (s : State) → Gone ≡ state_after s to_end done
 end_state NotStarted = refl
 end_state Running = refl
@@ -193,6 +214,7 @@ acts_row v _ _ _ (tells piece run is) = refl
 acts_row v _ _ _ (stops reason thread at is) = refl
 acts_row v _ _ _ (exits code is) = refl
 acts_row v _ _ _ (sets source lines) = refl
+acts_row v _ _ _ (assigns holder name text) = refl
 acts_row v _ _ _ ends = refl
 
 answer_row : (v w : Played) (a : Act) (r : Reply) → Row v a r w → may_answer v.state a r ≡ true
@@ -208,6 +230,7 @@ answer_row v _ _ _ (tells piece run is) = rw is
 answer_row v _ _ _ (stops reason thread at is) = rw is
 answer_row v _ _ _ (exits code is) = rw is
 answer_row v _ _ _ (sets source lines) = sets_always v.state source lines
+answer_row v _ _ _ (assigns holder name text) = assigns_always v.state holder name text
 answer_row v _ _ _ ends = ends_always v.state
 
 state_row : (v w : Played) (a : Act) (r : Reply) → Row v a r w → w.state ≡ state_after v.state a r
@@ -223,6 +246,7 @@ state_row v _ _ _ (tells piece run is) = same_output v.state piece
 state_row v _ _ _ (stops reason thread at is) = stop_state v.state reason thread
 state_row v _ _ _ (exits code is) = exit_state v.state code
 state_row v _ _ _ (sets source lines) = same_sets v.state source lines
+state_row v _ _ _ (assigns holder name text) = same_assigns v.state holder name text
 state_row v _ _ _ ends = end_state v.state
 
 frames_row : (v w : Played) (a : Act) (r : Reply) → Row v a r w → IsTrue (keeps_frames a r) → SameFrames (shown_of v) (shown_of w)
@@ -238,6 +262,7 @@ frames_row v _ _ _ (tells piece run is) keeps = record { frames = λ t. refl; sc
 frames_row v _ _ _ (stops reason thread at is) keeps = absurd (true≢false (sym keeps))
 frames_row v _ _ _ (exits code is) keeps = absurd (true≢false (sym keeps))
 frames_row v _ _ _ (sets source lines) keeps = record { frames = λ t. refl; scopes = λ n. refl; children = λ n. refl }
+frames_row v _ _ _ (assigns holder name text) keeps = absurd (true≢false (sym keeps))
 frames_row v _ _ _ ends keeps = absurd (true≢false (sym keeps))
 
 recording_row : (v w : Played) (a : Act) (r : Reply) → Row v a r w → w.recording ≡ v.recording
@@ -253,6 +278,7 @@ recording_row v _ _ _ (tells piece run is) = refl
 recording_row v _ _ _ (stops reason thread at is) = refl
 recording_row v _ _ _ (exits code is) = refl
 recording_row v _ _ _ (sets source lines) = refl
+recording_row v _ _ _ (assigns holder name text) = refl
 recording_row v _ _ _ ends = refl
 
 threads_row : (v w : Played) (a : Act) (r : Reply) → Row v a r w → IsTrue (keeps_answers a r) → (shown_of w).threads ≡ (shown_of v).threads
@@ -268,6 +294,7 @@ threads_row v _ _ _ (tells piece run is) keeps = absurd (true≢false (sym keeps
 threads_row v _ _ _ (stops reason thread at is) keeps = absurd (true≢false (sym keeps))
 threads_row v _ _ _ (exits code is) keeps = absurd (true≢false (sym keeps))
 threads_row v _ _ _ (sets source lines) keeps = refl
+threads_row v _ _ _ (assigns holder name text) keeps = absurd (true≢false (sym keeps))
 threads_row v _ _ _ ends keeps = absurd (true≢false (sym keeps))
 
 values_row : (v w : Played) (a : Act) (r : Reply) → Row v a r w → IsTrue (keeps_answers a r) → (frame : Option ℕ) (text : List ℕ) → (shown_of w).evaluate frame text ≡ (shown_of v).evaluate frame text
@@ -285,7 +312,24 @@ values_row v _ _ _ (stops reason thread at is) keeps frame text = absurd (true�
 values_row v _ _ _ (exits code is) keeps frame text = absurd (true≢false (sym keeps))
 values_row v _ _ _ (sets source lines) keeps None text = refl
 values_row v _ _ _ (sets source lines) keeps (Some frame) text = refl
+values_row v _ _ _ (assigns holder name given) keeps frame text = absurd (true≢false (sym keeps))
 values_row v _ _ _ ends keeps frame text = absurd (true≢false (sym keeps))
+
+assigned_row : (v w : Played) (a : Act) (r : Reply) → Row v a r w → IsTrue (keeps_answers a r) → (holder : ℕ) (name text : List ℕ) → (shown_of w).assigned holder name text ≡ (shown_of v).assigned holder name text
+assigned_row v _ _ _ (starts is) keeps holder name text = absurd (true≢false (sym keeps))
+assigned_row v _ _ _ does_not_start keeps holder name text = refl
+assigned_row v _ _ _ (resumes how thread is) keeps holder name text = absurd (true≢false (sym keeps))
+assigned_row v _ _ _ (does_not_resume how thread) keeps holder name text = refl
+assigned_row v _ _ _ (pauses run is) keeps holder name text = refl
+assigned_row v _ _ _ does_not_pause keeps holder name text = refl
+assigned_row v _ _ _ gives_nothing keeps holder name text = absurd (true≢false (sym keeps))
+assigned_row v _ _ _ (holds run) keeps holder name text = absurd (true≢false (sym keeps))
+assigned_row v _ _ _ (tells piece run is) keeps holder name text = absurd (true≢false (sym keeps))
+assigned_row v _ _ _ (stops reason thread at is) keeps holder name text = absurd (true≢false (sym keeps))
+assigned_row v _ _ _ (exits code is) keeps holder name text = absurd (true≢false (sym keeps))
+assigned_row v _ _ _ (sets source lines) keeps holder name text = refl
+assigned_row v _ _ _ (assigns at called given) keeps holder name text = absurd (true≢false (sym keeps))
+assigned_row v _ _ _ ends keeps holder name text = absurd (true≢false (sym keeps))
 
 -- what keeps all answers keeps the frames
 keeps_too : (a : Act) (r : Reply) → IsTrue (keeps_answers a r) → IsTrue (keeps_frames a r)
@@ -294,6 +338,7 @@ keeps_too (to_resume how thread) r keeps = keeps
 keeps_too to_pause r keeps = refl
 keeps_too to_poll r keeps = absurd (true≢false (sym keeps))
 keeps_too (to_set_breakpoints source lines) r keeps = refl
+keeps_too (to_assign holder name text) r keeps = absurd (true≢false (sym keeps))
 keeps_too to_end r keeps = absurd (true≢false (sym keeps))
 
 -- ---- the laws
@@ -345,6 +390,7 @@ keeps_answers-played v w a r f keeps = record {
   threads = ap (λ (p : Played). (shown_of p).threads) f.view ∙ threads_row v _ a r (row v w a r f) keeps;
   frames = keeps_frames-played v w a r f (keeps_too a r keeps);
   evaluate = λ frame text. ap (λ (p : Played). (shown_of p).evaluate frame text) f.view ∙ values_row v _ a r (row v w a r f) keeps frame text;
+  assigned = λ holder name text. ap (λ (p : Played). (shown_of p).assigned holder name text) f.view ∙ assigned_row v _ a r (row v w a r f) keeps holder name text;
   sources = keeps_sources-played v w a r f;
   verify = λ source lines. ap (λ r. Some (map (has_source_line r.sources source) lines)) (ap (λ (p : Played). p.recording) f.view ∙ recording_row v _ a r (row v w a r f));
 }
@@ -364,7 +410,130 @@ lines_row v _ _ _ (tells piece run is) key = refl
 lines_row v _ _ _ (stops reason thread at is) key = refl
 lines_row v _ _ _ (exits code is) key = refl
 lines_row v _ _ _ (sets source lines) key = set-of-put source key lines v.set
+lines_row v _ _ _ (assigns holder name text) key = refl
 lines_row v _ _ _ ends key = refl
 
 pub sets_lines-played : SetsLines shown_of FollowsPlayed
 sets_lines-played v w a r f key = ap (λ (p : Played). lines_in p.set key) f.view ∙ lines_row v _ a r (row v w a r f) key
+
+-- ---- a value that is set
+
+own-number : (n : ℕ) → nat_eq n n ≡ true
+own-number n = grind (arith, nat_tests)
+
+same-number : (m n : ℕ) → nat_eq m n ≡ true → m ≡ n
+same-number m n h = grind (arith, nat_tests)
+
+-- of the holder that is named
+here-by : (b e : Bool) (holder : ℕ) (xs : List Variable) (c : OfHolder) (changed : List OfHolder) → nat_eq holder c.holder ≡ e → changed_at holder (with_variables holder xs changed) ≡ Some xs
+    → changed_at holder (if b then record { holder = holder; variables = xs } ∷ c ∷ changed else (if e then record { holder = c.holder; variables = xs } ∷ changed else c ∷ with_variables holder xs changed)) ≡ Some xs
+here-by true e holder xs c changed is rest = rw (own-number holder) refl
+here-by false true holder xs c changed is rest = rw is refl
+here-by false false holder xs c changed is rest = rw is rest
+
+changed-here : (holder : ℕ) (xs : List Variable) (changed : List OfHolder) → changed_at holder (with_variables holder xs changed) ≡ Some xs
+changed-here holder xs [] = rw (own-number holder) refl
+changed-here holder xs (c ∷ changed) = here-by (nat_lt holder c.holder) (nat_eq holder c.holder) holder xs c changed refl (changed-here holder xs changed)
+
+-- and of any other
+else-by : (b e : Bool) (holder h : ℕ) (xs : List Variable) (c : OfHolder) (changed : List OfHolder) → nat_eq holder c.holder ≡ e → nat_eq h holder ≡ false → changed_at h (with_variables holder xs changed) ≡ changed_at h changed
+    → changed_at h (if b then record { holder = holder; variables = xs } ∷ c ∷ changed else (if e then record { holder = c.holder; variables = xs } ∷ changed else c ∷ with_variables holder xs changed)) ≡ changed_at h (c ∷ changed)
+else-by true e holder h xs c changed is other rest = rw other refl
+else-by false true holder h xs c changed is other rest = let apart : nat_eq h c.holder ≡ false = subst (λ n. nat_eq h n ≡ false) (same-number holder c.holder is) other in rw apart refl
+else-by false false holder h xs c changed is other rest = ap (λ (o : Option (List Variable)). if nat_eq h c.holder then Some c.variables else o) rest
+
+changed-elsewhere : (holder h : ℕ) (xs : List Variable) (changed : List OfHolder) → nat_eq h holder ≡ false → changed_at h (with_variables holder xs changed) ≡ changed_at h changed
+changed-elsewhere holder h xs [] other = rw other refl
+changed-elsewhere holder h xs (c ∷ changed) other = else-by (nat_lt holder c.holder) (nat_eq holder c.holder) holder h xs c changed refl other (changed-elsewhere holder h xs changed other)
+
+-- what is shown by a number, and what is made of it
+map-if : {A B : Type 0} (b : Bool) (f : A → B) (found : Option A) → option_map f (if b then found else None) ≡ (if b then option_map f found else None)
+map-if true f found = refl
+map-if false f found = refl
+
+map-within : {A B : Type 0} (span : Moment → Span) (o : Option Moment) (n : ℕ) (f : A → B) (found : Option A) → option_map f (if_within span o n found) ≡ if_within span o n (option_map f found)
+map-within span None n f found = refl
+map-within span (Some m) n f found = map-if (is_in (span m) n) f found
+
+found-if : {A : Type 0} (b : Bool) (found : Option A) (x : A) → (if b then found else None) ≡ Some x → found ≡ Some x
+found-if true found x e = e
+found-if false found x e = absurd (cc e)
+
+pub found-within : {A : Type 0} (span : Moment → Span) (o : Option Moment) (n : ℕ) (found : Option A) (x : A) → if_within span o n found ≡ Some x → found ≡ Some x
+found-within span None n found x e = absurd (cc e)
+found-within span (Some m) n found x e = found-if (is_in (span m) n) found x e
+
+-- the value is the text, of a variable that is there
+value-is : (o : Option Variable) (text : List ℕ) (a : Assigned) → option_map (λ variable. record { value = text }) o ≡ Some a → a.value ≡ text
+value-is None text a e = absurd (cc e)
+value-is (Some x) text a e = let same : (let out : Assigned = record { value = text } in out) ≡ a = cc in sym (ap (λ (y : Assigned). y.value) same)
+
+named-in : (o : Option (List Variable)) (name text : List ℕ) (a : Assigned) → option_map (λ variable. record { value = text }) (option_and_then (variable_named name) o) ≡ Some a → (xs : List Variable) × (o ≡ Some xs) × (a.value ≡ text)
+named-in None name text a e = absurd (cc e)
+named-in (Some xs) name text a e = (xs, refl, value-is (variable_named name xs) text a e)
+
+children-by : (b : Bool) (v : Played) (holder h : ℕ) (name text : List ℕ) (xs : List Variable) → nat_eq h holder ≡ b → variables_held v holder ≡ Some xs
+    → children_shown (after_assign holder name text v) h ≡ (if b then option_map (with_value name text) (children_shown v h) else children_shown v h)
+children-by true v holder h name text xs is held =
+    let same : h ≡ holder = same-number h holder is in
+    let set : changed_at h (after_assign holder name text v).changed ≡ Some (with_value name text xs) =
+    subst (λ n. changed_at n (after_assign holder name text v).changed ≡ Some (with_value name text xs)) (sym same)
+    (changed-here holder (with_value name text (unwrap_or (variables_held v holder) [])) v.changed ∙ ap (λ (o : Option (List Variable)). Some (with_value name text (unwrap_or o []))) held) in
+    let before : variables_held v h ≡ Some xs = subst (λ n. variables_held v n ≡ Some xs) (sym same) held in
+    ap (λ (o : Option (List Variable)). if_within (λ m. m.holders) (moment_shown v) h (first_of o (slice_get v.recording.variables h))) set
+    ∙ ap (λ (o : Option (List Variable)). if_within (λ m. m.holders) (moment_shown v) h (option_map (with_value name text) o)) (sym before)
+    ∙ sym (map-within (λ m. m.holders) (moment_shown v) h (with_value name text) (variables_held v h))
+children-by false v holder h name text xs is held =
+    ap (λ (o : Option (List Variable)). if_within (λ m. m.holders) (moment_shown v) h (first_of o (slice_get v.recording.variables h))) (changed-elsewhere holder h (with_value name text (unwrap_or (variables_held v holder) [])) v.changed is)
+
+-- the names stay, and so what can be set
+head-by : (b c : Bool) (x y : Variable) (xs ys : List Variable) (n text : List ℕ) → (let f : Variable → Assigned = (λ variable. record { value = text }) in option_map f (find (λ variable. bytes_eq n variable.name) xs) ≡ option_map f (find (λ variable. bytes_eq n variable.name) ys))
+    → (let f : Variable → Assigned = (λ variable. record { value = text }) in option_map f (if c then Some x else find (λ variable. bytes_eq n variable.name) xs) ≡ option_map f (if c then Some y else find (λ variable. bytes_eq n variable.name) ys))
+head-by b true x y xs ys n text rest = refl
+head-by b false x y xs ys n text rest = rest
+
+names-by : (b : Bool) (x : Variable) (xs : List Variable) (name value n text : List ℕ)
+    → (let f : Variable → Assigned = (λ variable. record { value = text }) in option_map f (variable_named n (with_value name value xs)) ≡ option_map f (variable_named n xs))
+    → (let f : Variable → Assigned = (λ variable. record { value = text }) in option_map f (variable_named n (if b then record { name = x.name; value = value; holder = x.holder } ∷ xs else x ∷ with_value name value xs)) ≡ option_map f (variable_named n (x ∷ xs)))
+names-by true x xs name value n text rest = head-by true (bytes_eq n x.name) (record { name = x.name; value = value; holder = x.holder }) x xs xs n text refl
+names-by false x xs name value n text rest = head-by false (bytes_eq n x.name) x x (with_value name value xs) xs n text rest
+
+names-stay : (xs : List Variable) (name value n text : List ℕ) → (let f : Variable → Assigned = (λ variable. record { value = text }) in option_map f (variable_named n (with_value name value xs)) ≡ option_map f (variable_named n xs))
+names-stay [] name value n text = refl
+names-stay (x ∷ xs) name value n text = names-by (bytes_eq name x.name) x xs name value n text (names-stay xs name value n text)
+
+abbrev set_in : List ℕ → List ℕ → Option (List Variable) → Option Assigned
+set_in n text o = option_map (λ variable. record { value = text }) (option_and_then (variable_named n) o)
+
+assigned-map : (o : Option (List Variable)) (name value n text : List ℕ) → set_in n text (option_map (with_value name value) o) ≡ set_in n text o
+assigned-map None name value n text = refl
+assigned-map (Some xs) name value n text = names-stay xs name value n text
+
+assigned-by : (b : Bool) (o : Option (List Variable)) (name value n text : List ℕ) → set_in n text (if b then option_map (with_value name value) o else o) ≡ set_in n text o
+assigned-by true o name value n text = assigned-map o name value n text
+assigned-by false o name value n text = refl
+
+sets-one : (v : Played) (holder : ℕ) (name text : List ℕ) (a : Assigned) (r : Reply) → (shown_of v).assigned holder name text ≡ Some a → SetsOneValue holder name a.value (shown_of v) (shown_of (with_ask (to_assign holder name text) r (after_assign holder name text v)))
+sets-one v holder name text a r is =
+    let named = named-in (children_shown v holder) name text a is in
+    let held = found-within (λ m. m.holders) (moment_shown v) holder (variables_held v holder) named.0 named.1 in
+    subst (λ (value : List ℕ). SetsOneValue holder name value (shown_of v) (shown_of (with_ask (to_assign holder name text) r (after_assign holder name text v)))) (sym named.2)
+    (record {
+      threads = refl;
+      frames = λ t. refl;
+      scopes = λ n. refl;
+      children = λ h. children-by (nat_eq h holder) v holder h name text named.0 refl held;
+      assigned = λ h n t. ap (set_in n t) (children-by (nat_eq h holder) v holder h name text named.0 refl held) ∙ assigned-by (nat_eq h holder) (children_shown v h) name text n t;
+      sources = record { sources = refl; content = λ n. refl };
+      verify = λ source lines. refl;
+    })
+
+pub sets_values-played : SetsValues shown_of FollowsPlayed
+sets_values-played v w holder name text r a f is = subst (λ p. SetsOneValue holder name a.value (shown_of v) (shown_of p)) (sym f.view) (sets-one v holder name text a r is)
+
+some-before : {A B : Type 0} (f : A → B) (o : Option A) → IsSome (option_map f o) → IsSome o
+some-before f None h = h
+some-before f (Some x) h = refl
+
+pub assigns_variables-played : AssignsVariables shown_of
+assigns_variables-played v holder name text h = some-before (λ variable. record { value = text }) (option_and_then (variable_named name) (children_shown v holder)) h

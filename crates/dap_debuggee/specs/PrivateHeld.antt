@@ -1,6 +1,6 @@
 -- How the code holds a run and the last act, and what that amounts to.
 -- Only private clauses, invariants and proofs cite this file.
-use Rattle.std.specs.Prelude.{ℤ, Bool, zero, max, false, bytes_eq, if◌then◌else◌, ◌≡◌, ◌⊎◌, ◌≤◌, ◌+◌, ◌%◌, ◌^◌, ℕ, suc, ◌-◌, ◌<◌, length, List, [], ◌∷◌, String, map, take, drop, Option, Some, None, option_map, unwrap_or, pos}
+use Rattle.std.specs.Prelude.{ℤ, Bool, zero, max, false, bytes_eq, if◌then◌else◌, Vec, ◌≡◌, ◌⊎◌, ◌≤◌, ◌+◌, ◌%◌, ◌^◌, ℕ, suc, ◌-◌, ◌<◌, length, List, [], ◌∷◌, String, map, take, drop, Option, Some, None, option_map, unwrap_or, pos}
 use Rattle.std.specs.List.{slice_get, find}
 use Rattle.std.specs.BTreeMap.{BTreeMap, get_by_text}
 use Rattle.std.specs.Ordering.{int_eq}
@@ -11,7 +11,7 @@ use Rattle.dap_debuggee.specs.Shown.{done, refused, happened, Last}
 use Rattle.dap_call.specs.declared.call.SourceKey.{SourceKey}
 use Rattle.dap_debuggee.specs.Recording.{id_at}
 use Rattle.dap_debuggee.specs.Moves.{reason_text}
-use Rattle.dap_debuggee.specs.Played.{Played, Run}
+use Rattle.dap_debuggee.specs.Played.{Played, Run, OfHolder}
 use Rattle.std.specs.Option.{IsSome}
 use Rattle.dap_debuggee.specs.declared.answers.State.{State}
 use Rattle.dap_debuggee.specs.declared.answers.State.TheVariants.{Running}
@@ -99,8 +99,21 @@ lines_of_key sources (Path path) = most_lines path sources
 lines_of_key sources (Reference zero) = 0
 lines_of_key sources (Reference (suc n)) = unwrap_or (option_map (λ source. source.lines) (slice_get sources n)) 0
 
-abbrev pub variables_held_by : List (List Variable) → ℕ → List Variable
-variables_held_by variables holder = unwrap_or (slice_get variables holder) []
+-- the variables of each holder in which one was set
+abbrev pub of_holder : {A : Type 0} → ℕ × Vec Variable A → OfHolder
+of_holder e = record { holder = e.0; variables = e.1.items }
+
+abbrev pub changed_of : {A : Type 0} → BTreeMap ℕ (Vec Variable A) → List OfHolder
+changed_of m = map of_holder m.entries
+
+-- what holds the children of each variable
+abbrev pub holders_in : List Variable → List (Option ℕ)
+holders_in variables = map (λ variable. variable.holder) variables
+
+-- a value that is set leaves the holders as they are recorded
+abbrev pub KeepHolders : List (List Variable) → List OfHolder → Type 0
+KeepHolders recorded [] = Unit {0}
+KeepHolders recorded (c ∷ changed) = (option_map holders_in (slice_get recorded c.holder) ≡ Some (holders_in c.variables)) × KeepHolders recorded changed
 
 abbrev pub thread_with : ℤ → List RecordedThread → Option RecordedThread
 thread_with id threads = find (λ thread. int_eq id thread.id) threads

@@ -4,7 +4,7 @@ use Rattle.dap_call.specs.declared.call.SourceKey.{SourceKey}
 use Rattle.dap_debuggee.specs.declared.answers.State.{State}
 use Rattle.dap_debuggee.specs.declared.answers.How.{How}
 use Rattle.dap_debuggee.specs.declared.answers.Asked.{Asked}
-use Rattle.dap_debuggee.specs.declared.answers.Asked.TheVariants.{Start, Resume, Pause, Poll, SetBreakpoints, End}
+use Rattle.dap_debuggee.specs.declared.answers.Asked.TheVariants.{Start, Resume, Pause, Poll, SetBreakpoints, Assign, End}
 use Rattle.dap_debuggee.specs.declared.answers.Category.{Category}
 use Rattle.dap_debuggee.specs.declared.answers.Category.TheVariants.{Console, Stdout, Stderr}
 use Rattle.dap_debuggee.specs.declared.answers.Happening.{Happening}
@@ -13,6 +13,7 @@ use Rattle.dap_debuggee.specs.declared.answers.Frame.{Frame}
 use Rattle.dap_debuggee.specs.declared.answers.Scope.{Scope}
 use Rattle.dap_debuggee.specs.declared.answers.Variable.{Variable}
 use Rattle.dap_debuggee.specs.declared.answers.Evaluation.{Evaluation}
+use Rattle.dap_debuggee.specs.declared.answers.Assigned.{Assigned}
 use Rattle.dap_debuggee.specs.declared.answers.Source.{Source}
 
 abbrev pub category_name : Category → List ℕ
@@ -27,6 +28,8 @@ pub data Act : Type 0 where
   to_pause : Act
   to_poll : Act
   to_set_breakpoints : SourceKey → List ℕ → Act
+  -- the first variable of a name directly in a holder, to a text
+  to_assign : ℕ → List ℕ → List ℕ → Act
   to_end : Act
 
 -- what it answers to an act
@@ -42,6 +45,7 @@ asked_of_act (to_resume how thread) = Resume how thread
 asked_of_act to_pause = Pause
 asked_of_act to_poll = Poll
 asked_of_act (to_set_breakpoints source lines) = SetBreakpoints
+asked_of_act (to_assign holder name text) = Assign
 asked_of_act to_end = End
 
 -- the last act, with its answer
@@ -66,6 +70,8 @@ pub record Shown : Type 0 where
   pub children : ℕ → Option (List Variable)
   -- in a frame or in none
   pub evaluate : Option ℕ → List ℕ → Option Evaluation
+  -- what a variable is set to by a text: by its holder's object number and its name
+  pub assigned : ℕ → List ℕ → List ℕ → Option Assigned
   pub sources : List Source
   -- the text of a source, by its index
   pub content : ℕ → Option (List ℕ)

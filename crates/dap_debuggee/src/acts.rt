@@ -1,14 +1,46 @@
 //! What a recorded debuggee does when it is asked.
-use crate::answers::{Asked, DebuggeeFault, How, State};
+ghost use Rattle.std.specs.Prelude.{◌≡◌, IfOk};
+ghost use Rattle.dap_debuggee.specs.Laws.{with_value};
+
+use crate::answers::{Asked, DebuggeeFault, How, State, Variable};
 use crate::recorded::{Going, LastAsked, Recorded};
 use dap_call::SourceKey;
+use dap_json::Text;
 use std::alloc::{AllocError, Global};
+
+/// The same variables, the first of which with a name has a value.
+fn with_value(
+    alloc: Global,
+    variables: &[Variable],
+    name: &str,
+    value: &str,
+) -> Result<Vec<Variable>, AllocError>
+    ensures { IfOk result (λ changed. changed.items ≡ with_value name.now value.now variables.now) }
+{
+    let mut changed = Vec::with_capacity(alloc, variables.len())?;
+    let mut is_set = false;
+    for variable in variables {
+        let is_it = !is_set && name == variable.name.as_str();
+        changed.push(Variable {
+            name: variable.name.clone()?,
+            value: if is_it {
+                Text::copied(alloc, value)?
+            } else {
+                variable.value.clone()?
+            },
+            holder: variable.holder,
+        })?;
+        is_set = is_set || is_it;
+    }
+    Ok(changed)
+}
 
 impl Recorded {
     ghost use Rattle.std.specs.Prelude.{◌≡◌, ◌<◌, length, None, OnOk, OnErr, IsErrOf};
-    ghost use Rattle.dap_debuggee.specs.Shown.{to_start, to_resume, to_pause, to_set_breakpoints, to_end, done};
+    ghost use Rattle.std.specs.Option.{IsSome};
+    ghost use Rattle.dap_debuggee.specs.Shown.{to_start, to_resume, to_pause, to_set_breakpoints, to_assign, to_end, done};
     ghost use Rattle.dap_debuggee.specs.Laws.{Replies};
-    ghost use Rattle.dap_debuggee.specs.Played.{FollowsPlayed, at_rest, with_source_lines, with_lines};
+    ghost use Rattle.dap_debuggee.specs.Played.{FollowsPlayed, at_rest, with_source_lines, with_lines, after_assign, shown_of};
     ghost use Rattle.dap_debuggee.specs.PrivateHeld.{HasRun};
 
     pub(crate) fn to_start(&mut self) -> Result<(), DebuggeeFault>
@@ -115,6 +147,42 @@ impl Recorded {
     {
         self.put_lines(alloc, source, lines)?;
         self.note(LastAsked::Done(Asked::SetBreakpoints));
+        Ok(())
+    }
+
+    /// Sets a value on top of what is recorded.
+    fn put_value(
+        &mut self,
+        alloc: Global,
+        holder: u64,
+        name: &str,
+        text: &str,
+    ) -> Result<(), AllocError>
+        requires { IsSome ((shown_of self.old).assigned holder name.now text.now) }
+        ensures set { OnOk result (self.new ≡ after_assign holder name.now text.now self.old) }
+        ensures memory { OnErr result (self.new ≡ self.old) }
+    {
+        let Some(variables) = self.variables_of(holder) else {
+            return Ok(());
+        };
+        let changed = with_value(alloc, variables, name, text)?;
+        self.changed.insert(holder, changed)?;
+        Ok(())
+    }
+
+    pub(crate) fn to_assign(
+        &mut self,
+        alloc: Global,
+        holder: u64,
+        name: &str,
+        text: &str,
+    ) -> Result<(), AllocError>
+        requires { IsSome ((shown_of self.old).assigned holder name.now text.now) }
+        ensures follows { OnOk result (FollowsPlayed self.old (to_assign holder name.now text.now) done self.new) }
+        ensures memory { OnErr result (self.new ≡ self.old) }
+    {
+        self.put_value(alloc, holder, name, text)?;
+        self.note(LastAsked::Done(Asked::Assign));
         Ok(())
     }
 }

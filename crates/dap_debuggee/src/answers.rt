@@ -35,6 +35,7 @@ pub enum Asked {
     Pause,
     Poll,
     SetBreakpoints,
+    Assign,
     End,
 }
 
@@ -122,6 +123,12 @@ pub struct Evaluation {
     pub value: Text,
     /// What holds its children; `None` where it has none.
     pub holder: Option<u64>,
+}
+
+/// The value that a variable gets: Specification, "SetVariableResponse".
+#[derive(Debug, Drop)]
+pub struct Assigned {
+    pub value: Text,
 }
 
 /// Specification, "Source".

@@ -6,7 +6,7 @@
 ghost use Rattle.std.specs.Prelude.{◌≡◌, IfOk, OnOk};
 
 use crate::answers::{
-    DebuggeeFault, Evaluation, Frame, Happening, How, Scope, Source, Thread, Variable,
+    Assigned, DebuggeeFault, Evaluation, Frame, Happening, How, Scope, Source, Thread, Variable,
 };
 use dap_call::SourceKey;
 use dap_json::Text;
@@ -14,11 +14,13 @@ use std::alloc::{AllocError, Global};
 
 /// A debugger with what it debugs.
 ///
-/// Each act is counted and remembered, a refused one too. After want of memory nothing is said of the view.
+/// Each act is counted and remembered, a refused one too. After want of memory nothing is said of the view, but where `assign`
+/// says so.
 pub trait Debuggee {
-    ghost use Rattle.std.specs.Prelude.{◌≡◌, IfOk, OnOk, IsTrue};
-    ghost use Rattle.dap_debuggee.specs.Shown.{Shown, Act, Reply, to_start, to_resume, to_pause, to_poll, to_set_breakpoints, to_end, done, happened};
-    ghost use Rattle.dap_debuggee.specs.Laws.{Replies, AnswersQuery, Counts, Remembers, Answers, Moves, SetsLines, KeepsAnswers, KeepsFrames, KeepsSources, is_short, NoThreads, ThreadsInRange, FramesInRange, NamesOneFrame, SourcesInRange, VerifiesEach};
+    ghost use Rattle.std.specs.Prelude.{◌≡◌, IfOk, OnOk, OnErr, IsTrue};
+    ghost use Rattle.std.specs.Option.{IsSome};
+    ghost use Rattle.dap_debuggee.specs.Shown.{Shown, Act, Reply, to_start, to_resume, to_pause, to_poll, to_set_breakpoints, to_assign, to_end, done, happened};
+    ghost use Rattle.dap_debuggee.specs.Laws.{Replies, AnswersQuery, Counts, Remembers, Answers, Moves, SetsLines, SetsValues, KeepsAnswers, KeepsFrames, KeepsSources, Stands, is_short, NoThreads, ThreadsInRange, FramesInRange, NamesOneFrame, SourcesInRange, VerifiesEach, AssignsVariables};
 
     /// What a view shows.
     ghost shown: { Self → Shown };
@@ -52,6 +54,21 @@ pub trait Debuggee {
     ) -> Result<(), AllocError>
         ensures { OnOk result (follows self.old (to_set_breakpoints source.now lines.now) done self.new) };
 
+    /// Sets the first variable of a name directly in a holder, by its object number, to the value that `assigned` tells of it.
+    ///
+    /// # Errors
+    /// `AllocError` where memory is refused. All is then as it was, but the count of acts and the last one.
+    fn assign(
+        &mut self,
+        alloc: Global,
+        holder: u64,
+        name: &str,
+        text: &str,
+    ) -> Result<(), AllocError>
+        requires { IsSome ((shown self.old).assigned holder name.now text.now) }
+        ensures follows { OnOk result (follows self.old (to_assign holder name.now text.now) done self.new) }
+        ensures memory { OnErr result (Stands (shown self.old) (shown self.new)) };
+
     /// Ends the debuggee.
     fn end(&mut self)
         ensures { follows self.old to_end done self.new };
@@ -83,6 +100,17 @@ pub trait Debuggee {
         text: &str,
     ) -> Result<Evaluation, DebuggeeFault>
         ensures { AnswersQuery result (λ value. value) ((shown self.now).evaluate frame text.now) };
+
+    /// The value that `assign` gives the first variable of a name directly in a holder, by its object number. `Refused` where
+    /// there is no such variable, or the text is no value of it.
+    fn assigned(
+        &self,
+        alloc: Global,
+        holder: u64,
+        name: &str,
+        text: &str,
+    ) -> Result<Assigned, DebuggeeFault>
+        ensures { AnswersQuery result (λ assigned. assigned) ((shown self.now).assigned holder name.now text.now) };
 
     /// The sources, in order.
     fn sources(&self, alloc: Global) -> Result<Vec<Source>, AllocError>
@@ -117,10 +145,13 @@ pub trait Debuggee {
     /// Lines change by being set.
     ghost sets_lines: { SetsLines shown follows };
 
+    /// A value that is set is that of one variable.
+    ghost sets_values: { SetsValues shown follows };
+
     /// A refused act, a pause and the setting of breakpoints change no answer.
     ghost keeps_answers: { KeepsAnswers shown follows };
 
-    /// Frames, scopes and variables stay until the debuggee starts, goes on, stops, exits or is ended.
+    /// Frames, scopes and variables stay until a value is set, or the debuggee starts, goes on, stops, exits or is ended.
     ghost keeps_frames: { KeepsFrames shown follows };
 
     /// Sources and their texts never change.
@@ -131,4 +162,7 @@ pub trait Debuggee {
 
     /// One answer for each line asked.
     ghost verifies_each: { VerifiesEach shown };
+
+    /// Only a variable that is there can be set.
+    ghost assigns_variables: { AssignsVariables shown };
 }

@@ -20,15 +20,13 @@ mod recorded;
 mod recording;
 mod rows;
 mod run;
-mod stubborn;
 
 pub use answers::{
-    Asked, Category, DebuggeeFault, Evaluation, Frame, Happening, How, Scope, Source, State,
-    Thread, Variable,
+    Asked, Assigned, Category, DebuggeeFault, Evaluation, Frame, Happening, How, Scope, Source,
+    State, Thread, Variable,
 };
 pub use dap_json::List;
 pub use debuggee::Debuggee;
 pub use laws::{held_gives_nothing, pieces_are_the_output, polls_tell_the_pieces};
 pub use reading::{RecordingFault, RecordingKey};
 pub use recorded::Recorded;
-pub use stubborn::Stubborn;

@@ -1,9 +1,12 @@
 //! What a recorded debuggee tells of the moment that it shows.
 ghost use Rattle.std.specs.Prelude.{◌≡◌, ◌&&◌, nat_le, IfOk, map, option_map};
-ghost use Rattle.dap_debuggee.specs.PrivateHeld.{variables_held_by, thread_with};
-ghost use Rattle.dap_debuggee.specs.Played.{is_in as is_in_span, variable_named, value_in as value_within, source_shown, thread_shown};
+ghost use Rattle.dap_debuggee.specs.Laws.{variable_named};
+ghost use Rattle.dap_debuggee.specs.PrivateHeld.{thread_with};
+ghost use Rattle.dap_debuggee.specs.Played.{is_in as is_in_span, source_shown, thread_shown};
 
-use crate::answers::{DebuggeeFault, Evaluation, Frame, Scope, Source, State, Thread, Variable};
+use crate::answers::{
+    Assigned, DebuggeeFault, Evaluation, Frame, Scope, Source, State, Thread, Variable,
+};
 use crate::recorded::Recorded;
 use crate::recording::{Moment, RecordedSource, RecordedThread, Span};
 use dap_call::SourceKey;
@@ -61,7 +64,7 @@ fn scopes(alloc: Global, scopes: &[Scope]) -> Result<Vec<Scope>, AllocError>
     Ok(copy)
 }
 
-fn variables(alloc: Global, variables: &[Variable]) -> Result<Vec<Variable>, AllocError>
+pub(crate) fn variables(alloc: Global, variables: &[Variable]) -> Result<Vec<Variable>, AllocError>
     ensures { IfOk result (λ copy. copy.items ≡ variables.now) }
 {
     let mut copy = Vec::with_capacity(alloc, variables.len())?;
@@ -109,33 +112,6 @@ fn named<'v>(variables: &'v [Variable], name: &str) -> Option<&'v Variable>
     None
 }
 
-/// The first variable with a name in a scope.
-fn value_in_scope<'r>(
-    variables: &'r [List<Variable>],
-    name: &str,
-    scope: &Scope,
-) -> Option<&'r Variable>
-    ensures { option_map (λ v. v.now) result ≡ variable_named name.now (variables_held_by variables.now scope.now.holder) }
-{
-    named(variables.get(scope.holder as usize)?.as_slice(), name)
-}
-
-/// The first variable with a name directly in one of the scopes, in order.
-fn value_in<'r>(
-    variables: &'r [List<Variable>],
-    name: &str,
-    scopes: &[Scope],
-) -> Option<&'r Variable>
-    ensures { option_map (λ v. v.now) result ≡ value_within variables.now name.now scopes.now }
-{
-    for scope in scopes {
-        if let Some(variable) = value_in_scope(variables, name, scope) {
-            return Some(variable);
-        }
-    }
-    None
-}
-
 fn verified(alloc: Global, most: u64, lines: &[u32]) -> Result<Vec<bool>, AllocError>
     ensures { IfOk result (λ answers. answers.items ≡ map (λ line. nat_le 1 line && nat_le line most) lines.now) }
 {
@@ -153,11 +129,12 @@ fn is_in(span: Span, number: u64) -> bool
 }
 
 impl Recorded {
-    ghost use Rattle.std.specs.Prelude.{◌≡◌, IfOk, map, option_map, IsErrOf};
+    ghost use Rattle.std.specs.Prelude.{◌≡◌, [], IfOk, map, option_map, unwrap_or, IsErrOf};
+    ghost use Rattle.std.specs.List.{slice_get};
     ghost use Rattle.std.specs.Option.{IsSome};
-    ghost use Rattle.dap_debuggee.specs.Laws.{AnswersQuery};
+    ghost use Rattle.dap_debuggee.specs.Laws.{AnswersQuery, variable_named};
     ghost use Rattle.dap_debuggee.specs.PrivateHeld.{lines_of_key};
-    ghost use Rattle.dap_debuggee.specs.Played.{moment_shown, threads_at, scopes_shown, children_shown, thread_shown, shown_of};
+    ghost use Rattle.dap_debuggee.specs.Played.{moment_shown, threads_at, scopes_shown, children_shown, changed_at, variables_held, value_in as value_within, thread_shown, shown_of};
 
     /// The moment that is shown; none before the start and once gone.
     fn moment(&self) -> Option<&Moment>
@@ -191,6 +168,53 @@ impl Recorded {
         Some(scopes.as_slice())
     }
 
+    /// The variables of a holder in which one was set.
+    fn changed_of(&self, holder: u64) -> Option<&[Variable]>
+        ensures { option_map (λ v. v.now) result ≡ changed_at holder self.now.changed }
+    {
+        match self.changed.get(&holder) {
+            None => None,
+            Some(variables) => Some(variables.as_slice()),
+        }
+    }
+
+    /// The variables of a holder as they are recorded.
+    fn recorded_of(&self, holder: u64) -> Option<&[Variable]>
+        ensures { option_map (λ v. v.now) result ≡ slice_get self.now.recording.variables holder }
+    {
+        let variables = self.recording.variables.as_slice().get(holder as usize)?;
+        Some(variables.as_slice())
+    }
+
+    /// The variables of a holder of any moment, with the values that were set.
+    pub(crate) fn variables_of(&self, holder: u64) -> Option<&[Variable]>
+        ensures { option_map (λ v. v.now) result ≡ variables_held self.now holder }
+    {
+        match self.changed_of(holder) {
+            None => self.recorded_of(holder),
+            Some(variables) => Some(variables),
+        }
+    }
+
+    /// The first variable with a name in a scope.
+    fn value_in_scope(&self, name: &str, scope: &Scope) -> Option<&Variable>
+        ensures { option_map (λ v. v.now) result ≡ variable_named name.now (unwrap_or (variables_held self.now scope.now.holder) []) }
+    {
+        named(self.variables_of(scope.holder)?, name)
+    }
+
+    /// The first variable with a name directly in one of the scopes, in order.
+    fn value_in(&self, name: &str, scopes: &[Scope]) -> Option<&Variable>
+        ensures { option_map (λ v. v.now) result ≡ value_within (λ holder. variables_held self.now holder) name.now scopes.now }
+    {
+        for scope in scopes {
+            if let Some(variable) = self.value_in_scope(name, scope) {
+                return Some(variable);
+            }
+        }
+        None
+    }
+
     /// The variables of a holder of the moment that is shown.
     fn children_at(&self, holder: u64) -> Option<&[Variable]>
         ensures { option_map (λ v. v.now) result ≡ children_shown self.now holder }
@@ -199,8 +223,7 @@ impl Recorded {
         if !is_in(moment.holders, holder) {
             return None;
         }
-        let variables = self.recording.variables.as_slice().get(holder as usize)?;
-        Some(variables.as_slice())
+        self.variables_of(holder)
     }
 
     pub(crate) fn all_threads(&self, alloc: Global) -> Result<Vec<Thread>, AllocError>
@@ -273,12 +296,32 @@ impl Recorded {
         let Some(scopes) = self.scopes_at(frame) else {
             return Err(DebuggeeFault::Refused);
         };
-        let variables = self.recording.variables.as_slice();
-        match value_in(variables, name, scopes) {
+        match self.value_in(name, scopes) {
             None => Err(DebuggeeFault::Refused),
             Some(variable) => Ok(Evaluation {
                 value: variable.value.clone()?,
                 holder: variable.holder,
+            }),
+        }
+    }
+
+    pub(crate) fn assigned_of(
+        &self,
+        alloc: Global,
+        holder: u64,
+        name: &str,
+        text: &str,
+    ) -> Result<Assigned, DebuggeeFault>
+        ensures told { AnswersQuery result (λ assigned. assigned) ((shown_of self.now).assigned holder name.now text.now) }
+        ensures memory { IsErrOf result DebuggeeFault.OutOfMemory → IsSome ((shown_of self.now).assigned holder name.now text.now) }
+    {
+        let Some(children) = self.children_at(holder) else {
+            return Err(DebuggeeFault::Refused);
+        };
+        match named(children, name) {
+            None => Err(DebuggeeFault::Refused),
+            Some(_) => Ok(Assigned {
+                value: Text::copied(alloc, text)?,
             }),
         }
     }

@@ -6,7 +6,8 @@ ghost use Rattle.dap_debuggee.specs.Moves.{is_forward};
 ghost use Rattle.dap_debuggee.specs.Recording.{IsRecording};
 
 use crate::answers::{
-    Asked, DebuggeeFault, Evaluation, Frame, Happening, How, Scope, Source, State, Thread, Variable,
+    Asked, Assigned, DebuggeeFault, Evaluation, Frame, Happening, How, Scope, Source, State,
+    Thread, Variable,
 };
 use crate::debuggee::Debuggee;
 use crate::moves::{Move, Plan, Reason};
@@ -17,6 +18,7 @@ use dap_call::SourceKey;
 use dap_json::Text;
 use dap_tables::SourceMap;
 use std::alloc::{AllocError, Global};
+use std::collections::BTreeMap;
 use std::marker::Model;
 
 /// The rest of a run.
@@ -70,6 +72,8 @@ pub struct Recorded {
     pub(crate) going: Option<Going>,
     /// The lines that are set.
     pub(crate) set: SourceMap<u32>,
+    /// The variables of each holder in which one was set since the debuggee went on.
+    pub(crate) changed: BTreeMap<u64, Vec<Variable>>,
     pub(crate) acts: u64,
     pub(crate) last: LastAsked,
 }
@@ -77,7 +81,7 @@ pub struct Recorded {
 impl Model for Recorded {
     ghost use Rattle.std.specs.Prelude.{◌<◌, length};
     ghost use Rattle.dap_debuggee.specs.Played.{Played};
-    ghost use Rattle.dap_debuggee.specs.PrivateHeld.{run_of, last_of, IsOutputWhole, HasMost, HasRun};
+    ghost use Rattle.dap_debuggee.specs.PrivateHeld.{run_of, last_of, changed_of, IsOutputWhole, HasMost, HasRun, KeepHolders};
     ghost use Rattle.dap_debuggee.specs.Recording.{IsRecording};
 
     ghost Value = { Played };
@@ -88,11 +92,12 @@ impl Model for Recorded {
       at = r.at;
       run = run_of r.recording.moments r.going;
       set = r.set;
+      changed = changed_of r.changed;
       acts = r.acts;
       last = last_of r.recording r.last;
     } };
 
-    ghost invariant = { λ r. IsRecording r.recording × (r.at < length r.recording.moments) × IsOutputWhole r.recording.moments r.going × HasMost r.paths.most r.recording.sources × HasRun r.state r.going };
+    ghost invariant = { λ r. IsRecording r.recording × (r.at < length r.recording.moments) × IsOutputWhole r.recording.moments r.going × HasMost r.paths.most r.recording.sources × HasRun r.state r.going × KeepHolders r.recording.variables (changed_of r.changed) };
 }
 
 impl Recorded {
@@ -100,7 +105,7 @@ impl Recorded {
     ghost use Rattle.std.specs.Option.{IsSome};
     ghost use Rattle.dap_debuggee.specs.Played.{fresh_played, after_start, after_resume};
     ghost use Rattle.dap_debuggee.specs.Recording.{IsRecording};
-    ghost use Rattle.dap_debuggee.specs.PrivateHeld.{after_act};
+    ghost use Rattle.dap_debuggee.specs.PrivateHeld.{after_act, KeepHolders};
     ghost use Rattle.dap_debuggee.specs.Played.{shown_of};
     ghost use Rattle.dap_debuggee.specs.ShownNumbers.{ShownCanBeAsked, NamesOneHolder};
     ghost use Rattle.dap_tables.specs.SourceMap.{count, HasNoEmptyList};
@@ -118,6 +123,7 @@ impl Recorded {
             at: 0,
             going: None,
             set: SourceMap::new(alloc),
+            changed: BTreeMap::new(alloc),
             acts: 0,
             last: LastAsked::Never,
         })
@@ -131,10 +137,11 @@ impl Recorded {
         self.last = last;
     }
 
-    /// What holds of the recording. There is nothing to run.
+    /// What holds of the recording, and of the values that were set. There is nothing to run.
     #[inline(always)]
     fn is_recording(&self)
-        ensures { IsRecording self.now.recording }
+        ensures recording { IsRecording self.now.recording }
+        ensures changed { KeepHolders self.now.recording.variables self.now.changed }
     {
         let _ = &self.recording;
     }
@@ -197,6 +204,7 @@ impl Recorded {
             paused: false,
         });
         self.state = State::Running;
+        self.changed.clear();
     }
 
     /// Goes to the first moment.
@@ -229,10 +237,10 @@ fn last_told(how: How, at: usize, to: usize) -> usize
 impl Debuggee for Recorded {
     ghost use Rattle.std.specs.Prelude.{◌≡◌, ◌<◌, length, IfOk, IsTrue, IsErrOf, OnOk, OnErr};
     ghost use Rattle.std.specs.Option.{IsSome};
-    ghost use Rattle.dap_debuggee.specs.Shown.{to_start, to_resume, to_pause, to_poll, to_set_breakpoints, done, happened};
+    ghost use Rattle.dap_debuggee.specs.Shown.{to_start, to_resume, to_pause, to_poll, to_set_breakpoints, to_assign, done, happened};
     ghost use Rattle.dap_debuggee.specs.Laws.{Replies, AnswersQuery, is_short, FramesInRange, NamesOneFrame};
     ghost use Rattle.dap_debuggee.specs.Played.{shown_of, FollowsPlayed};
-    ghost use Rattle.dap_debuggee.specs.PlayedLaws.{counts-played, remembers-played, answers-played, moves-played, sets_lines-played, keeps_answers-played, keeps_frames-played, keeps_sources-played, no_threads-played, verifies_each-played};
+    ghost use Rattle.dap_debuggee.specs.PlayedLaws.{counts-played, remembers-played, answers-played, moves-played, sets_lines-played, sets_values-played, keeps_answers-played, keeps_frames-played, keeps_sources-played, no_threads-played, verifies_each-played, assigns_variables-played};
 
     ghost shown = { shown_of };
 
@@ -281,6 +289,20 @@ impl Debuggee for Recorded {
         self.to_set(alloc, source, lines)
     }
 
+    fn assign(
+        &mut self,
+        alloc: Global,
+        holder: u64,
+        name: &str,
+        text: &str,
+    ) -> Result<(), AllocError>
+        requires { IsSome ((shown_of self.old).assigned holder name.now text.now) }
+        ensures follows { OnOk result (FollowsPlayed self.old (to_assign holder name.now text.now) done self.new) }
+        ensures memory { OnErr result (self.new ≡ self.old) }
+    {
+        self.to_assign(alloc, holder, name, text)
+    }
+
     fn end(&mut self) {
         self.to_end()
     }
@@ -326,6 +348,19 @@ impl Debuggee for Recorded {
         self.value_of(frame, text)
     }
 
+    fn assigned(
+        &self,
+        alloc: Global,
+        holder: u64,
+        name: &str,
+        text: &str,
+    ) -> Result<Assigned, DebuggeeFault>
+        ensures told { AnswersQuery result (λ assigned. assigned) ((shown_of self.now).assigned holder name.now text.now) }
+        ensures memory { IsErrOf result DebuggeeFault.OutOfMemory → IsSome ((shown_of self.now).assigned holder name.now text.now) }
+    {
+        self.assigned_of(alloc, holder, name, text)
+    }
+
     fn sources(&self, alloc: Global) -> Result<Vec<Source>, AllocError> {
         self.is_recording();
         self.all_sources(alloc)
@@ -357,6 +392,8 @@ impl Debuggee for Recorded {
 
     ghost sets_lines = { sets_lines-played };
 
+    ghost sets_values = { sets_values-played };
+
     ghost keeps_answers = { keeps_answers-played };
 
     ghost keeps_frames = { keeps_frames-played };
@@ -366,4 +403,6 @@ impl Debuggee for Recorded {
     ghost no_threads = { no_threads-played };
 
     ghost verifies_each = { verifies_each-played };
+
+    ghost assigns_variables = { assigns_variables-played };
 }

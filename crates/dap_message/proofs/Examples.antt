@@ -8,18 +8,19 @@ use Rattle.serde_json.proofs.OnLiterals.{serde_json_on_literals}
 use Rattle.dap_json.specs.Field.{max_seq}
 use Rattle.dap_json.specs.Put.{whole_number}
 use Rattle.dap_json.specs.Read.{json_of}
-use Rattle.dap_call.specs.Capabilities.{capabilities_of}
+use Rattle.dap_call.specs.Capabilities.{capabilities_of, capabilities_data}
 use Rattle.dap_call.specs.declared.capabilities.Capabilities.{Capabilities}
 use Rattle.dap_call.specs.declared.key.Key.TheVariants.{SupportsRunInTerminalRequest}
 use Rattle.dap_body.specs.declared.failure.Failure.TheVariants.{NotInitialized, Unsupported, BadArguments, Cancelled}
 use Rattle.dap_message.specs.Canon.{tree_of, canon, request_members, response_members, event_members}
-use Rattle.dap_message.specs.AdapterMessages.{failure_response, success_response, event_message, none, offers, all_go_on, body_of, initialized, output, stopped, continued, exited, event_name, event_body}
+use Rattle.dap_message.specs.AdapterMessages.{failure_response, success_response, event_message, initialized, output, stopped, continued, exited, event_name, event_body}
 use Rattle.dap_message.specs.Lengths.{is_exit_code, IsWithin}
 use Rattle.dap_message.specs.Meaning.{Msg}
 use Rattle.dap_json.specs.Writable.{is_plain_tree}
 use Rattle.dap_body.specs.Failure.{failure_body}
+use Rattle.dap_body.specs.PlainBodies.{IsPlain}
+use Rattle.dap_body.specs.ResponseBody.{continue_body, set_variable_body}
 use Rattle.dap_message.specs.Plain.{is_plain}
-use Rattle.dap_message.specs.PlainBodies.{IsPlain}
 use Rattle.dap_message.specs.Refusals.{Bad, first_refusal}
 use Rattle.dap_message.specs.declared.fault.BodyRefusal.TheVariants.{NotJson, NotObject, BadSeq, BadType, BadCommand, BadRequestSeq, BadSuccess, BadEvent, BadMessage}
 use Rattle.dap_message.specs.declared.message.Kind.TheVariants.{Request, Response, Event, Other}
@@ -150,18 +151,23 @@ longest_failure : length (canon (failure_response max_seq max_seq (replicate 64 
 unfolding canon tree_of response_members escape_byte digits
 longest_failure = refl
 
-nothing_to_say : canon (success_response 4 3 (codes "cancel") (body_of none)) ≡ codes "{\"command\":\"cancel\",\"request_seq\":3,\"seq\":4,\"success\":true,\"type\":\"response\"}"
+nothing_to_say : canon (success_response 4 3 (codes "cancel") None) ≡ codes "{\"command\":\"cancel\",\"request_seq\":3,\"seq\":4,\"success\":true,\"type\":\"response\"}"
 unfolding canon tree_of response_members escape_byte digits
 nothing_to_say = refl
 
-all_threads_go_on : canon (success_response 7 4 (codes "continue") (body_of all_go_on)) ≡ codes "{\"body\":{\"allThreadsContinued\":true},\"command\":\"continue\",\"request_seq\":4,\"seq\":7,\"success\":true,\"type\":\"response\"}"
+all_threads_go_on : canon (success_response 7 4 (codes "continue") (Some continue_body)) ≡ codes "{\"body\":{\"allThreadsContinued\":true},\"command\":\"continue\",\"request_seq\":4,\"seq\":7,\"success\":true,\"type\":\"response\"}"
 unfolding canon tree_of response_members escape_byte digits
 all_threads_go_on = refl
+
+-- the value that was set has any length, so that no fixed size holds it
+a_value_was_set : canon (success_response 16 15 (codes "setVariable") (Some (set_variable_body (codes "9")))) ≡ codes "{\"body\":{\"value\":\"9\"},\"command\":\"setVariable\",\"request_seq\":15,\"seq\":16,\"success\":true,\"type\":\"response\"}"
+unfolding canon tree_of response_members escape_byte digits
+a_value_was_set = refl
 
 abbrev every_flag : Capabilities
 every_flag = capabilities_of (λ gate. true)
 
-longest_response : length (canon (success_response max_seq max_seq (replicate 64 1) (body_of (offers every_flag)))) ≡ 889
+longest_response : length (canon (success_response max_seq max_seq (replicate 64 1) (Some (capabilities_data every_flag)))) ≡ 889
 unfolding canon tree_of response_members escape_byte digits
 longest_response = refl
 
@@ -196,7 +202,7 @@ failure_is_plain = (refl, refl)
 long_command_is_not_plain : is_plain (failure_response 3 2 (replicate 65 97) Cancelled) ≡ false
 long_command_is_not_plain = refl
 
-capabilities_are_plain : is_plain (success_response 1 1 (codes "initialize") (body_of (offers every_flag))) ≡ true
+capabilities_are_plain : is_plain (success_response 1 1 (codes "initialize") (Some (capabilities_data every_flag))) ≡ true
 capabilities_are_plain = refl
 
 event_is_plain : is_plain (event_message 5 (event_name (exited (negsuc 0))) (event_body (exited (negsuc 0)))) ≡ true

@@ -1,5 +1,5 @@
 -- What an adapter writes of a fixed shape has 1024 bytes at most.
-use Rattle.std.proofs.Common.{◌≡◌, ℕ, suc, ◌+◌, ◌≤◌, ℤ, pos, negsuc, List, length, Bool, true, false, nat_le, IsTrue, Option, Some, None, decimal, arith}
+use Rattle.std.proofs.Common.{◌≡◌, ℕ, suc, ◌+◌, ◌≤◌, ℤ, pos, negsuc, List, length, Bool, true, false, nat_le, IsTrue, Option, Some, None, decimal, sym, true≢false, arith}
 use Rattle.std.proofs.lemmas.Bool.{leb-true, and_parts}
 use Rattle.std.proofs.lemmas.Fmt.{length-decimal-le}
 use Rattle.std.specs.Fmt.{digits}
@@ -18,10 +18,13 @@ use Rattle.dap_call.specs.declared.command.Gate.TheVariants as gate
 use Rattle.dap_call.specs.declared.key.Key.{Key}
 use Rattle.dap_call.specs.declared.key.Key.TheVariants as key
 use Rattle.dap_body.specs.Failure.{row_of, bad_argument_format, failure_body}
+use Rattle.dap_body.specs.Body.{data_in}
+use Rattle.dap_body.specs.declared.body.Body.{Body}
+use Rattle.dap_body.specs.declared.body.Body.TheVariants.{Initialize, Continue}
 use Rattle.dap_body.specs.declared.failure.Failure.{Failure}
 use Rattle.dap_body.specs.declared.failure.Failure.TheVariants.{NotInitialized, BadArguments}
 use Rattle.dap_message.specs.Canon.{canon, tree_of, members_of, response_members, event_members}
-use Rattle.dap_message.specs.AdapterMessages.{failure_response, success_response, event_message, FixedBody, none, offers, all_go_on, body_of, AdapterEvent, initialized, output, stopped, continued, exited, terminated, event_name, event_body}
+use Rattle.dap_message.specs.AdapterMessages.{failure_response, success_response, event_message, has_fixed_shape, AdapterEvent, initialized, output, stopped, continued, exited, terminated, event_name, event_body}
 use Rattle.dap_message.specs.Lengths.{is_exit_code, IsWithin, FailuresAreShort, FixedResponsesAreShort, EventsAreShort}
 use Rattle.dap_message.specs.Refusals.{max_command}
 use Rattle.dap_message.specs.declared.message.Message.{Message}
@@ -131,14 +134,15 @@ capabilities_size c =
     let s12 = flag_size gate.Terminate c.terminate m11 in
     omega arith
 
-fixed_size : (b : FixedBody) → body_size (body_of b) ≤ 410
+fixed_size : (b : Option Body) → has_fixed_shape b ≡ true → body_size (data_in b) ≤ 410
 unfolding escape_byte
-fixed_size none = omega arith
-fixed_size (offers c) = omega (arith, capabilities_size c)
-fixed_size all_go_on = omega arith
+fixed_size None h = omega arith
+fixed_size (Some (Initialize c)) h = omega (arith, capabilities_size c)
+fixed_size (Some Continue) h = omega arith
+fixed_size (Some _) h = absurd (true≢false (sym h))
 
 pub fixed_responses_are_short : FixedResponsesAreShort
-fixed_responses_are_short seq r c b s q h = omega (arith, length-canon (success_response seq r c (body_of b)), response_size seq r true c None (body_of b) s q h, fixed_size b)
+fixed_responses_are_short seq r c b f s q h = omega (arith, length-canon (success_response seq r c (data_in b)), response_size seq r true c None (data_in b) s q h, fixed_size b f)
 
 -- ---- events
 

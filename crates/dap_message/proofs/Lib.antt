@@ -9,7 +9,6 @@ pub mod Examples
 pub mod SoundReading
 pub mod Sizes
 pub mod Lengths
-pub mod PlainBodies
 pub mod Ranges
 pub mod AnswerTexts
 mod ReadsBack

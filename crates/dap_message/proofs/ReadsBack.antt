@@ -8,7 +8,6 @@ use Rattle.dap_json.specs.Writable.{is_plain_tree}
 use Rattle.dap_body.specs.Body.{data_in}
 use Rattle.dap_body.specs.Failure.{failure_body, row_of}
 use Rattle.dap_body.specs.declared.body.Body.{Body}
-use Rattle.dap_body.specs.declared.body.Body.TheVariants.{SetBreakpoints, Threads, StackTrace, Scopes, Variables, Evaluate, Source, LoadedSources}
 use Rattle.dap_body.specs.declared.failure.Failure.{Failure}
 use Rattle.dap_body.specs.declared.failure.Failure.TheVariants.{NotInitialized, AlreadyInitialized, UnknownCommand, Unsupported, BadArguments, WrongPhase, NotStopped, UnknownThread, StaleReference, UnknownSource, Debuggee, TooManyBreakpoints, TooManyReferences, ReferencesExhausted, TooLarge, Busy, Cancelled}
 use Rattle.dap_message.specs.Canon.{canon}
@@ -18,7 +17,7 @@ use Rattle.dap_message.specs.Meaning.{Msg}
 use Rattle.dap_message.specs.Refusals.{max_command}
 use Rattle.dap_message.specs.SoundMessage.{IsSoundTree}
 use Rattle.dap_message.specs.declared.message.Kind.TheVariants.{Request}
-use Rattle.dap_message.proofs.PlainBodies.{failure_bodies_are_plain, response_bodies_are_plain}
+use Rattle.dap_body.proofs.PlainBodies.{failure_bodies_are_plain, body_is_plain}
 
 within : (n most : ℕ) → n ≤ most → nat_le n most ≡ true
 within n most h = grind (arith, nat_tests)
@@ -26,14 +25,7 @@ within n most h = grind (arith, nat_tests)
 -- a body that is given by its parts can be written
 pub parts-plain : (body : Option Body) → IsTrue (is_plain_tree (data_in body))
 parts-plain None = refl
-parts-plain (Some (SetBreakpoints breakpoints)) = response_bodies_are_plain.set_breakpoints breakpoints.items
-parts-plain (Some (Threads threads)) = response_bodies_are_plain.threads threads.items
-parts-plain (Some (StackTrace frames total)) = response_bodies_are_plain.stack_trace frames.items total
-parts-plain (Some (Scopes scopes)) = response_bodies_are_plain.scopes scopes.items
-parts-plain (Some (Variables variables)) = response_bodies_are_plain.variables variables.items
-parts-plain (Some (Evaluate result reference)) = response_bodies_are_plain.evaluate result reference
-parts-plain (Some (Source content)) = response_bodies_are_plain.source content
-parts-plain (Some (LoadedSources sources)) = response_bodies_are_plain.loaded_sources sources.items
+parts-plain (Some b) = body_is_plain b
 
 -- a failure's short name
 pub name-text : (failure : Failure) → IsUtf8 (row_of failure).name

@@ -1,12 +1,11 @@
--- The messages of an adapter by their parts: failures, responses and events, with the bodies of a fixed shape and each event's name and body.
+-- The messages of an adapter by their parts: failures, responses and events, which bodies have a fixed shape, and each event's name and body.
 -- Specification, "ErrorResponse", "InitializeResponse", "ContinueResponse" and "Events".
-use Rattle.std.specs.Prelude.{ℕ, ℤ, List, codes, false, true, Option, Some, None}
+use Rattle.std.specs.Prelude.{ℕ, ℤ, List, codes, Bool, false, true, Option, Some, None}
 use Rattle.serde_json.specs.Data.{Data}
-use Rattle.dap_call.specs.Capabilities.{capabilities_data}
-use Rattle.dap_call.specs.declared.capabilities.Capabilities.{Capabilities}
 use Rattle.dap_body.specs.Failure.{row_of, failure_body}
-use Rattle.dap_body.specs.ResponseBody.{continue_body}
 use Rattle.dap_body.specs.EventBody.{output_body, stopped_body, continued_body, exited_body}
+use Rattle.dap_body.specs.declared.body.Body.{Body}
+use Rattle.dap_body.specs.declared.body.Body.TheVariants.{Initialize, Continue}
 use Rattle.dap_body.specs.declared.failure.Failure.{Failure}
 use Rattle.dap_message.specs.declared.message.Message.{Message}
 use Rattle.dap_message.specs.declared.message.Kind.TheVariants.{Response, Event}
@@ -24,15 +23,11 @@ event_message seq event body = record { seq = seq; kind = Event event body }
 
 -- ---- bodies of a fixed shape
 
-pub data FixedBody : Type 0 where
-  none : FixedBody
-  offers : Capabilities → FixedBody
-  all_go_on : FixedBody
-
-abbrev pub body_of : FixedBody → Option Data
-body_of none = None
-body_of (offers capabilities) = Some (capabilities_data capabilities)
-body_of all_go_on = Some continue_body
+abbrev pub has_fixed_shape : Option Body → Bool
+has_fixed_shape None = true
+has_fixed_shape (Some (Initialize capabilities)) = true
+has_fixed_shape (Some Continue) = true
+has_fixed_shape _ = false
 
 -- ---- events
 

@@ -1,10 +1,12 @@
 -- How long what an adapter writes can become, where its shape is fixed: each failure, each event, and each response whose body is none or one of a fixed shape.
 -- Specification, "ErrorResponse", "InitializeResponse", "ContinueResponse" and "Events". The limits, and that 1024 bytes are enough, are this profile's choice.
-use Rattle.std.specs.Prelude.{ℕ, ◌≤◌, ◌&&◌, ℤ, pos, negsuc, int_le, List, length, Bool, IsTrue, ⊤}
+use Rattle.std.specs.Prelude.{ℕ, ◌≤◌, ◌&&◌, ℤ, pos, negsuc, int_le, List, length, Bool, Option, IsTrue, ⊤}
 use Rattle.dap_json.specs.Field.{max_seq}
 use Rattle.dap_call.specs.Argument.{is_int}
+use Rattle.dap_body.specs.Body.{data_in}
+use Rattle.dap_body.specs.declared.body.Body.{Body}
 use Rattle.dap_body.specs.declared.failure.Failure.{Failure}
-use Rattle.dap_message.specs.AdapterMessages.{failure_response, success_response, event_message, FixedBody, body_of, AdapterEvent, initialized, output, stopped, continued, exited, terminated, event_name, event_body}
+use Rattle.dap_message.specs.AdapterMessages.{failure_response, success_response, event_message, has_fixed_shape, AdapterEvent, initialized, output, stopped, continued, exited, terminated, event_name, event_body}
 use Rattle.dap_message.specs.Canon.{canon}
 use Rattle.dap_message.specs.Refusals.{max_command}
 use Rattle.dap_message.specs.declared.message.Message.{Message}
@@ -35,8 +37,8 @@ FailuresAreShort = (seq request_seq : ℕ) (command : List ℕ) (failure : Failu
     → IsShort (failure_response seq request_seq command failure)
 
 abbrev pub FixedResponsesAreShort : Type 0
-FixedResponsesAreShort = (seq request_seq : ℕ) (command : List ℕ) (body : FixedBody) → seq ≤ max_seq → request_seq ≤ max_seq → length command ≤ max_command
-    → IsShort (success_response seq request_seq command (body_of body))
+FixedResponsesAreShort = (seq request_seq : ℕ) (command : List ℕ) (body : Option Body) → IsTrue (has_fixed_shape body) → seq ≤ max_seq → request_seq ≤ max_seq → length command ≤ max_command
+    → IsShort (success_response seq request_seq command (data_in body))
 
 abbrev pub EventsAreShort : Type 0
 EventsAreShort = (seq : ℕ) (event : AdapterEvent) → seq ≤ max_seq → IsWithin event → IsShort (event_message seq (event_name event) (event_body event))

@@ -37,4 +37,4 @@ pub mod SoundMessage
 pub mod Laws
 pub mod AdapterMessages
 pub mod Lengths
-pub mod PlainBodies
+pub use Rattle.dap_body.specs.PlainBodies

@@ -33,13 +33,16 @@ const MOST_ROOM: usize = 65536;
 /// The room that a text with this body most often needs, in bytes; one that is longer takes more as it grows.
 fn room_for(body: &Body) -> usize {
     let (count, each) = match body {
+        Body::Initialize { .. } => (12, 32),
         Body::SetBreakpoints { breakpoints } => (breakpoints.len(), 48),
         Body::Threads { threads } => (threads.len(), 64),
+        Body::Continue => (1, 32),
         Body::StackTrace { stack_frames, .. } => (stack_frames.len(), 224),
         Body::Scopes { scopes } => (scopes.len(), 96),
         Body::Variables { variables } => (variables.len(), 96),
         Body::LoadedSources { sources } => (sources.len(), 128),
         Body::Source { content } => (content.len(), 1),
+        Body::SetVariable { value } => (value.len(), 1),
         Body::Evaluate { result, .. } => (result.len(), 1),
     };
     count
@@ -90,7 +93,7 @@ fn open_answer(alloc: Global, body: &Option<Body>) -> Result<Vec<u8>, AllocError
         Some(body) => {
             let mut out = Vec::with_capacity(alloc, room_for(body))?;
             out.extend_from_slice(b"{\"body\":")?;
-            let mut out = body_text(out, body)?;
+            let mut out = body_text(alloc, out, body)?;
             out.push(b',')?;
             Ok(out)
         }
@@ -215,24 +218,6 @@ pub fn write_failure(
 }
 
 /// The text of the response to a request that succeeded.
-pub fn write_success(
-    alloc: Global,
-    seq: u64,
-    request_seq: u64,
-    command: &str,
-    body: &Option<Tree>,
-) -> Result<Vec<u8>, AllocError>
-    requires { IsTrue (is_plain_tree body.now) }
-    ensures canon { IfOk result (λ text. text.items ≡ canon (success_response seq request_seq command.now body.now)) }
-    ensures reads_back { IfOk result (λ text. seq ≤ max_seq → request_seq ≤ max_seq → length command.now ≤ max_command → Msg text.items (success_response seq request_seq command.now body.now)) }
-{
-    // A law for the proof: what is written is read again.
-    written_is_read_again();
-    let text = open(alloc, body)?;
-    close_success(text, seq, request_seq, command)
-}
-
-/// The same of a body that is given by its parts, with no tree of it either.
 pub fn write_answer(
     alloc: Global,
     seq: u64,

@@ -2,9 +2,9 @@
 ghost use Rattle.dap_message.specs.Laws.{EachBodyIsOne, WrittenIsReadAgain, ReadIsSound};
 ghost use Rattle.dap_message.specs.InRange.{ReadIsInRange};
 ghost use Rattle.dap_message.specs.OneLine.{CanonIsOneLine};
-ghost use Rattle.dap_message.specs.PlainBodies.{EventBodiesArePlain, FailureBodiesArePlain, ResponseBodiesArePlain};
 ghost use Rattle.dap_message.specs.Lengths.{EventsAreShort, FailuresAreShort, FixedResponsesAreShort};
 
+pub use dap_body::laws::bodies_are_plain;
 pub use dap_call::laws::{written_call_is_plain, written_call_is_read_again};
 use dap_json::laws::{put_is_sound, text_is_read_again, what_is_read_is_sound};
 
@@ -40,14 +40,6 @@ pub fn fixed_messages_are_short()
     ensures failures { FailuresAreShort }
     ensures responses { FixedResponsesAreShort }
     ensures events { EventsAreShort }
-{}
-
-/// What the builders of bodies give can stand in a message that is written, however long its lists
-/// and texts are: a message with such a body is plain where its numbers and its command are.
-pub fn bodies_are_plain()
-    ensures responses { ResponseBodiesArePlain }
-    ensures failures { FailureBodiesArePlain }
-    ensures events { EventBodiesArePlain }
 {}
 
 /// The canonical text of a message has no control character, so that it is one line of a text.

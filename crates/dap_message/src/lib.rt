@@ -15,12 +15,12 @@ mod reading;
 mod response_references;
 mod writing;
 
-pub use answering::{write_answer, write_event, write_failure, write_request, write_success};
+pub use answering::{write_answer, write_event, write_failure, write_request};
 pub use dap_body::{
     Body, Breakpoint, Failure, Scope, Source, StackFrame, Thread, Variable, body_continue,
     body_continued, body_evaluate, body_exited, body_failure, body_loaded_sources, body_output,
-    body_scopes, body_set_breakpoints, body_source, body_stack_trace, body_stopped, body_threads,
-    body_variables,
+    body_scopes, body_set_breakpoints, body_set_variable, body_source, body_stack_trace,
+    body_stopped, body_threads, body_variables,
 };
 pub use dap_call::{
     BreakpointLocations, Call, CallFault, Capabilities, Command, Completions, Evaluate,

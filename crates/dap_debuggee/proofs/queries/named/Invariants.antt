@@ -1,5 +1,5 @@
 use Rattle.std.proofs.Common.{◌≡◌, drop}
-use Rattle.dap_debuggee.specs.Played.{variable_named}
+use Rattle.dap_debuggee.specs.Laws.{variable_named}
 use Rattle.dap_debuggee.proofs.queries.named.Given as goal
 
 -- the variable stands in what is left

@@ -7,7 +7,7 @@ use Rattle.dap_call.specs.Capabilities.{capabilities_data}
 use Rattle.dap_call.specs.declared.capabilities.Capabilities.{Capabilities}
 use Rattle.dap_body.specs.EventBody.{output_body, stopped_body, continued_body, exited_body}
 use Rattle.dap_body.specs.Failure.{failure_body}
-use Rattle.dap_body.specs.ResponseBody.{set_breakpoints_body, threads_body, continue_body, stack_trace_body, scopes_body, variables_body, evaluate_body, source_body, loaded_sources_body}
+use Rattle.dap_body.specs.ResponseBody.{set_breakpoints_body, threads_body, continue_body, stack_trace_body, scopes_body, variables_body, set_variable_body, evaluate_body, source_body, loaded_sources_body}
 use Rattle.dap_body.specs.declared.failure.Failure.{Failure}
 use Rattle.dap_body.specs.declared.response.Breakpoint.{Breakpoint}
 use Rattle.dap_body.specs.declared.response.Scope.{Scope}
@@ -27,6 +27,7 @@ pub record ResponseBodiesArePlain : Type 0 where
   pub stack_trace : (frames : List StackFrame) (total : ℕ) → IsPlain (stack_trace_body frames total)
   pub scopes : (scopes : List Scope) → IsPlain (scopes_body scopes)
   pub variables : (variables : List Variable) → IsPlain (variables_body variables)
+  pub set_variable : (value : List ℕ) → IsPlain (set_variable_body value)
   pub evaluate : (result : List ℕ) (reference : ℕ) → IsPlain (evaluate_body result reference)
   pub source : (content : List ℕ) → IsPlain (source_body content)
   pub loaded_sources : (sources : List Source) → IsPlain (loaded_sources_body sources)

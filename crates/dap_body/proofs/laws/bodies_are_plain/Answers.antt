@@ -1,5 +1,5 @@
-use Rattle.dap_message.proofs.PlainBodies.{event_bodies_are_plain, failure_bodies_are_plain, response_bodies_are_plain}
-use Rattle.dap_message.proofs.laws.bodies_are_plain.Goals as goal
+use Rattle.dap_body.proofs.PlainBodies.{event_bodies_are_plain, failure_bodies_are_plain, response_bodies_are_plain}
+use Rattle.dap_body.proofs.laws.bodies_are_plain.Goals as goal
 
 pub returns-clause-responses : goal.returns-clause-responses
 returns-clause-responses c = response_bodies_are_plain

@@ -1,7 +1,9 @@
 -- What the builders give has no floats, and nests four deep at most.
-use Rattle.std.proofs.Common.{◌≡◌, ℕ, suc, ◌≤◌, ℤ, pos, negsuc, List, [], ◌∷◌, map, codes, Bool, true, false, Option, Some, None, refl, arith}
-use Rattle.std.proofs.lemmas.Bool.{le-leb}
-use Rattle.serde_json.specs.Data.{Data, boolean, number, object, Members, no_members, member, depth, items_depth, members_depth}
+use Rattle.std.proofs.Common.{◌≡◌, ℕ, suc, ◌≤◌, ◌&&◌, ◌||◌, ℤ, pos, negsuc, List, [], ◌∷◌, map, codes, Bool, true, false, not, nat_le, Option, Some, None, IsTrue, Ordering, Less, Equal, Greater, nat_cmp, refl, sym, true≢false, arith}
+use Rattle.std.proofs.lemmas.Bool.{le-leb, leb-true, and_parts}
+use Rattle.std.specs.Ordering.{match_ordering}
+use Rattle.std.specs.Cmp.Lexicographic.{slice_cmp}
+use Rattle.serde_json.specs.Data.{Data, boolean, number, object, Members, no_members, member, put, depth, items_depth, members_depth}
 use Rattle.serde_json.specs.Find.{of_integer}
 use Rattle.serde_json.specs.View.{items_of}
 use Rattle.serde_json.specs.Written.{has_float, items_have_float, members_have_float}
@@ -11,13 +13,52 @@ use Rattle.dap_call.specs.Command.{flag_of}
 use Rattle.dap_call.specs.declared.capabilities.Capabilities.{Capabilities}
 use Rattle.dap_call.specs.declared.command.Gate.{Gate}
 use Rattle.dap_call.specs.declared.command.Gate.TheVariants as gate
+use Rattle.serde_json.specs.Written.{compact_text}
+use Rattle.dap_json.specs.Field.{is_null}
+use Rattle.serde_json.specs.Read.{max_depth}
+use Rattle.dap_json.specs.Read.{json_of, IsReadAgain}
+use Rattle.dap_json.specs.Sound.{IsSound}
+use Rattle.dap_json.specs.Writable.{is_plain_tree, max_nesting}
+use Rattle.dap_body.specs.Body.{data_of}
+use Rattle.dap_body.specs.declared.body.Body.{Body}
+use Rattle.dap_body.specs.declared.body.Body.TheVariants.{Initialize, SetBreakpoints, Threads, Continue, StackTrace, Scopes, Variables, SetVariable, Evaluate, Source as SourceText, LoadedSources}
 use Rattle.dap_body.specs.EventBody.{stopped_body, continued_body, exited_body}
 use Rattle.dap_body.specs.ResponseBody.{breakpoint, thread, source, stack_frame, scope, variable, list_of, only_member, stack_trace_body}
-use Rattle.dap_message.specs.PlainBodies.{IsPlain, ResponseBodiesArePlain, FailureBodiesArePlain, EventBodiesArePlain}
+use Rattle.dap_body.specs.PlainBodies.{IsPlain, ResponseBodiesArePlain, FailureBodiesArePlain, EventBodiesArePlain}
 use Rattle.dap_body.specs.declared.response.Source.{Source}
 use Rattle.dap_body.specs.declared.response.StackFrame.{StackFrame}
 use Rattle.dap_body.specs.declared.response.Thread.{Thread}
-use Rattle.dap_message.proofs.RoundTrip.{put_float, put_depth}
+
+-- ---- a member more
+
+float_at : (o : Ordering) (k l : List ℕ) (d e : Data) (ms : Members) → has_float d ≡ false → has_float e ≡ false → members_have_float ms ≡ false → members_have_float (put k d ms) ≡ false
+    → members_have_float (match_ordering o (member k d (member l e ms)) (member l d ms) (member l e (put k d ms))) ≡ false
+float_at Less k l d e ms f g h i = rw (f, g, h)
+float_at Equal k l d e ms f g h i = rw (f, h)
+float_at Greater k l d e ms f g h i = rw (g, i)
+
+split_or : (a b : Bool) → (a || b) ≡ false → (a ≡ false) × (b ≡ false)
+split_or false false e = (refl, refl)
+split_or false true e = absurd (true≢false e)
+split_or true b e = absurd (true≢false e)
+
+pub put_float : (k : List ℕ) (d : Data) (ms : Members) → has_float d ≡ false → members_have_float ms ≡ false → members_have_float (put k d ms) ≡ false
+put_float k d no_members f h = rw f
+put_float k d (member l e ms) f h =
+    let p = split_or (has_float e) (members_have_float ms) h in
+    float_at (slice_cmp nat_cmp k l) k l d e ms f p.0 p.1 (put_float k d ms f p.1)
+
+depth_at : (o : Ordering) (n : ℕ) (k l : List ℕ) (d e : Data) (ms : Members) → depth d ≤ n → depth e ≤ n → members_depth ms ≤ n → members_depth (put k d ms) ≤ n
+    → members_depth (match_ordering o (member k d (member l e ms)) (member l d ms) (member l e (put k d ms))) ≤ n
+depth_at Less n k l d e ms f g h i = omega arith
+depth_at Equal n k l d e ms f g h i = omega arith
+depth_at Greater n k l d e ms f g h i = omega arith
+
+pub put_depth : {n : ℕ} (k : List ℕ) (d : Data) (ms : Members) → depth d ≤ n → members_depth ms ≤ n → members_depth (put k d ms) ≤ n
+put_depth k d no_members f h = omega arith
+put_depth {n} k d (member l e ms) f h =
+    let small : members_depth ms ≤ n = omega arith in
+    depth_at (slice_cmp nat_cmp k l) n k l d e ms f (omega arith) small (put_depth k d ms f small)
 
 -- ---- lists
 
@@ -144,6 +185,7 @@ response_bodies_are_plain = record {
   stack_trace = frames_plain;
   scopes = plain_list (codes "scopes") scope (λ s. refl) (λ s. omega arith);
   variables = plain_list (codes "variables") variable (λ v. refl) (λ v. omega arith);
+  set_variable = λ value. refl;
   evaluate = λ result reference. refl;
   source = λ content. refl;
   loaded_sources = plain_list (codes "sources") source source_float (λ s. omega (arith, source_depth s));
@@ -159,3 +201,55 @@ event_bodies_are_plain = record {
   continued = continued_plain;
   exited = exited_plain;
 }
+
+pub body_is_plain : (body : Body) → IsPlain (data_of body)
+body_is_plain (Initialize capabilities) = response_bodies_are_plain.initialize capabilities
+body_is_plain (SetBreakpoints breakpoints) = response_bodies_are_plain.set_breakpoints breakpoints.items
+body_is_plain (Threads threads) = response_bodies_are_plain.threads threads.items
+body_is_plain Continue = response_bodies_are_plain.continue
+body_is_plain (StackTrace frames total) = response_bodies_are_plain.stack_trace frames.items total
+body_is_plain (Scopes scopes) = response_bodies_are_plain.scopes scopes.items
+body_is_plain (Variables variables) = response_bodies_are_plain.variables variables.items
+body_is_plain (SetVariable value) = response_bodies_are_plain.set_variable value
+body_is_plain (Evaluate result reference) = response_bodies_are_plain.evaluate result reference
+body_is_plain (SourceText content) = response_bodies_are_plain.source content
+body_is_plain (LoadedSources sources) = response_bodies_are_plain.loaded_sources sources.items
+
+-- ---- a body's text is read again
+
+no : (a : Bool) → not a ≡ true → a ≡ false
+no true e = absurd (true≢false (sym e))
+no false e = refl
+
+plain-parts : (d : Data) → IsPlain d → (has_float d ≡ false) × (depth d ≤ max_nesting)
+plain-parts d p =
+    let parts = and_parts (not (has_float d)) (nat_le (depth d) max_nesting) (and_parts (not (is_null d)) (not (has_float d) && nat_le (depth d) max_nesting) p).1 in
+    (no (has_float d) parts.0, leb-true (depth d) max_nesting parts.1)
+
+plain-again : (d : Data) → IsReadAgain → IsPlain d → IsSound d → json_of (compact_text d) ≡ Some d
+plain-again d again p s =
+    let parts = plain-parts d p in
+    let shallow_enough = parts.1 in
+    again d s parts.0 (omega arith)
+
+pub body-again : IsReadAgain → (body : Body) → IsSound (data_of body) → json_of (compact_text (data_of body)) ≡ Some (data_of body)
+body-again again body s = plain-again (data_of body) again (body_is_plain body) s
+
+-- ---- what is offered
+
+offers-parts : (c : Capabilities) → (has_float (capabilities_data c) ≡ false) × (depth (capabilities_data c) ≤ max_nesting)
+offers-parts c = plain-parts (capabilities_data c) (capabilities_plain c)
+
+pub offers-float : (c : Capabilities) → has_float (capabilities_data c) ≡ false
+offers-float c = (offers-parts c).0
+
+pub offers-shallow : (c : Capabilities) → depth (capabilities_data c) ≤ max_depth
+offers-shallow c = let shallow_enough = (offers-parts c).1 in omega arith
+
+-- ---- where something is read
+
+pub same-data : {d e : Data} → Some d ≡ Some e → d ≡ e
+same-data h = cc
+
+pub not-none : {d : Data} → None ≡ Some d → ⊥
+not-none h = cc

@@ -1,0 +1,10 @@
+//! Laws of the definitions, each on a function with nothing to run.
+ghost use Rattle.dap_body.specs.PlainBodies.{EventBodiesArePlain, FailureBodiesArePlain, ResponseBodiesArePlain};
+
+/// What the builders of bodies give can stand in a message that is written, however long its lists
+/// and texts are: a message with such a body is plain where its numbers and its command are.
+pub fn bodies_are_plain()
+    ensures responses { ResponseBodiesArePlain }
+    ensures failures { FailureBodiesArePlain }
+    ensures events { EventBodiesArePlain }
+{}
