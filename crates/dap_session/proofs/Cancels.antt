@@ -12,7 +12,7 @@ use Rattle.dap_session.specs.Taking.{after_cancel}
 use Rattle.dap_session.proofs.Kept.{false-left, false-right, all-without, none-parked}
 use Rattle.dap_session.proofs.Interned.{is-eq}
 
-and-false : (b : Bool) → (b && false) ≡ false
+pub and-false : (b : Bool) → (b && false) ≡ false
 and-false true = refl
 and-false false = refl
 

@@ -28,7 +28,7 @@ pub mod TakingRequests
 pub mod Disconnects
 pub mod Fewer
 pub mod GivenNumbers
-pub mod SetLines
+pub mod ChangeResults
 pub mod Refusals
 pub mod Stale
 pub mod Ordered

@@ -1,5 +1,5 @@
 -- Worked examples of a session's life, each shown by computation: what is written call by call, and what is left.
-use Rattle.std.proofs.Common.{◌≡◌, ℕ, List, [], ◌∷◌, ◌++◌, length, true, false, Some, None, codes, refl}
+use Rattle.std.proofs.Common.{◌≡◌, ℕ, List, [], ◌∷◌, ◌++◌, length, map, true, false, Some, None, codes, refl}
 use Rattle.std.specs.Fmt.{digits}
 use Rattle.std.specs.Str.{is_utf8, chars}
 use Rattle.json.specs.Print.{escape_byte}
@@ -31,10 +31,15 @@ unfolding canon tree_of response_members event_members escape_byte digits plan_f
 too_early = refl
 
 what_is_offered : texts_of (run initialized at_first).written
-    ≡ codes "{\"body\":{\"supportsCancelRequest\":true,\"supportsConfigurationDoneRequest\":true,\"supportsLoadedSourcesRequest\":true,\"supportsStepBack\":true,\"supportsTerminateRequest\":true},\"command\":\"initialize\",\"request_seq\":1,\"seq\":1,\"success\":true,\"type\":\"response\"}"
+    ≡ codes "{\"body\":{\"supportsCancelRequest\":true,\"supportsConfigurationDoneRequest\":true,\"supportsLoadedSourcesRequest\":true,\"supportsSetVariable\":true,\"supportsStepBack\":true,\"supportsTerminateRequest\":true},\"command\":\"initialize\",\"request_seq\":1,\"seq\":1,\"success\":true,\"type\":\"response\"}"
     ∷ codes "{\"event\":\"initialized\",\"seq\":2,\"type\":\"event\"}" ∷ []
 unfolding canon tree_of response_members event_members escape_byte digits plan_for initialize_of json_of is_utf8 chars serde_json_on_literals
 what_is_offered = refl
+
+-- 278 bytes of it are the first answer
+bytes_of_the_first_answer : map length (texts_of (run initialized at_first).written) ≡ 278 ∷ 46 ∷ []
+unfolding canon tree_of response_members event_members escape_byte digits plan_for initialize_of json_of is_utf8 chars serde_json_on_literals
+bytes_of_the_first_answer = refl
 
 -- ---- room for two requests: one is parked, one answered `busy`
 

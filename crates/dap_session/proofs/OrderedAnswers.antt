@@ -1,7 +1,7 @@
 -- What a request is answered with is the first failure whose test holds, also once it is served.
 use Rattle.std.proofs.Common.{◌≡◌, ℕ, ◌+◌, ◌-◌, ◌<◌, ◌≤◌, List, [], ◌∷◌, ◌++◌, length, Bool, true, false, not, ◌&&◌, cond, Option, Some, None, Result, Ok, Err, refl, sym, ap, ◌∙◌, subst, arith, length-append, append_assoc, ◌⊎◌, inl, inr, true≢false, map}
 use Rattle.std.specs.List.{AllByRecursion, list_all}
-use Rattle.std.specs.Prelude.{◌==◌, ◌||◌, find, is_none, is_some, nat_lt, nat_le, option_and_then, if◌then◌else◌}
+use Rattle.std.specs.Prelude.{◌==◌, ◌||◌, find, is_none, is_some, nat_lt, nat_le, option_map, option_and_then, if◌then◌else◌}
 use Rattle.std.proofs.lemmas.Bool.Decides.{nat_tests}
 use Rattle.dap_frame.specs.Settings.{Settings}
 use Rattle.serde_json.specs.Data.{Data}
@@ -16,13 +16,15 @@ use Rattle.dap_message.specs.Types.Command.TheVariants as command
 use Rattle.dap_message.specs.Types.Failure.{Failure}
 use Rattle.dap_message.specs.Types.Failure.TheVariants.{NotInitialized, AlreadyInitialized, UnknownCommand, Unsupported, BadArguments, WrongPhase, NotStopped, UnknownThread, StaleReference, UnknownSource, Debuggee, TooManyBreakpoints, TooManyReferences, ReferencesExhausted, TooLarge, Cancelled}
 use Rattle.dap_message.specs.Types.Key.{Key}
+use Rattle.dap_message.specs.Types.SetVariable.{SetVariable}
 use Rattle.dap_message.specs.Types.SourceKey.{SourceKey}
 use Rattle.dap_tables.specs.Outstanding.{Kept, contains_seq, without, parked_ones}
 use Rattle.dap_tables.specs.References.{LiveReferences, place_of, numbered_at}
 use Rattle.dap_tables.specs.declared.entry.Entry.{Entry}
 use Rattle.dap_tables.specs.declared.target.Target.{Target}
 use Rattle.dap_tables.proofs.KeptLemmas.{contains_seq-without}
-use Rattle.dap_debuggee.specs.Shown.{Shown, Reply, done, refused, happened}
+use Rattle.dap_debuggee.specs.Shown.{Shown, to_assign, Reply, done, refused, happened}
+use Rattle.dap_debuggee.specs.declared.answers.Assigned.{Assigned}
 use Rattle.dap_debuggee.specs.declared.answers.How.{How}
 use Rattle.dap_session.specs.declared.effect.Effect.{Effect}
 use Rattle.dap_session.specs.declared.effect.Effect.TheVariants as effect
@@ -31,10 +33,10 @@ use Rattle.dap_session.specs.declared.phase.Phase.TheVariants.{Fresh, Configured
 use Rattle.dap_session.specs.Bodies.{QueryAnswer, QueryResult, query_result, result_without_references, unless_refused, protocol_thread, protocol_sources, frame_objects, scope_objects, variable_objects, value_objects, scopes_result, evaluate_result, window, page, object_of}
 use Rattle.dap_session.specs.Breakpoints.{are_too_many}
 use Rattle.dap_session.specs.Failures.{command_of, call_in, call_refused, first_failure, key_refused, known_refused, name_refused, or_else, phase_refused, read_refused, refusal, waits_for_stop}
-use Rattle.dap_session.specs.Handling.{plan, plan_for, plan_of_call, plan_of_command, plan_unless, after_query, after_initialize, after_launch, after_parked_launch, after_resume, after_disconnect, by_reply, answer_each, fits, lines_asked, breakpoints_body, breakpoints_set, breakpoints_verified}
-use Rattle.dap_session.specs.OrderLaws.{holds_before, holds, of_effect, of_served, refuses, refuses_query, sets_too_many, objects_in, objects_told, live_with, is_past_room, is_past_numbers, names_too_many, exhausts_numbers, is_too_large, is_long_answer, is_long_list, act_in, act_of, answer_to, made_by, IsSuccess, IsByReply, IsDoneOrRefused, IsAnswered, IsServed, IsBadKey, FailuresComeInOrder}
+use Rattle.dap_session.specs.Handling.{plan, plan_for, plan_of_call, plan_of_command, plan_unless, after_query, after_initialize, after_launch, after_parked_launch, after_resume, after_disconnect, by_reply, answer_each, fits, lines_asked, Change, ChangeResult, change_asked, after_change, change_result, lines_change, lines_result, value_change, assigned_result, value_result}
+use Rattle.dap_session.specs.OrderLaws.{holds_before, holds, of_effect, of_served, refuses, refuses_query, sets_too_many, objects_in, objects_told, live_with, is_past_room, is_past_numbers, names_too_many, exhausts_numbers, is_too_large, is_long_answer, is_long_change, act_in, act_of, answer_to, comes_to, IsSuccess, IsByReply, IsDoneOrRefused, IsAnswered, IsServed, IsBadKey, FailuresComeInOrder}
 use Rattle.dap_session.specs.Plan.{Answer, Draft, reply, emit, failure, plain_success, Made, Plan, at_once, after_answering}
-use Rattle.dap_session.specs.PrivateSetting.{Suits}
+use Rattle.dap_session.specs.PrivateChanging.{Suits}
 use Rattle.dap_session.specs.References.{intern_each, and_then, onto_first, targets_named, with_target, with_targets}
 use Rattle.dap_session.specs.Session.{Session}
 use Rattle.dap_session.specs.Table.{rows_of, effect_in, is_phase, is_served}
@@ -44,7 +46,8 @@ use Rattle.dap_session.proofs.Fewer.{middle-contained}
 use Rattle.dap_session.proofs.Kept.{eqb-self, false-left, false-right, same-seq, contains-append, contains-filter}
 use Rattle.dap_session.proofs.Ordered.{refusals_come_in_order}
 use Rattle.dap_session.proofs.ServedRows.{unserved}
-use Rattle.dap_session.proofs.SetLines.{call-suits, found-all}
+use Rattle.dap_session.proofs.Cancels.{and-false}
+use Rattle.dap_session.proofs.ChangeResults.{call-suits, found-all}
 use Rattle.dap_session.proofs.Turns.{unknown-fails, badly-fails, unserved-fails}
 
 -- ---- numbers for the objects of an answer: which failure it is, by counting
@@ -182,7 +185,7 @@ behind-others seq answer (k ∷ ks) ds h = rw (false-left (k.entry.seq == seq) (
 -- what comes of a request that is served
 record DoesWell (e : Effect) (s : Session) (r : Entry) (asked : Call) (p : Plan) : Type 0 where
   asks : act_in p ≡ act_of e s asked
-  answered : (last : Reply) → IsAnswered e s r last (made_by p last)
+  answered : (last : Reply) → IsAnswered e s r last (comes_to p last)
 
 size-fails : (b : Bool) (m : Made) (s : Session) (r : Entry) (Does : Type 0) → (b ≡ true → Does) → Fails (served_first false false false false (not b)) (at_once (let out : Made = (if b then m else after_answering r (failure TooLarge) s) in out)) s r Does
 size-fails true m s r Does d = does-so (at_once m) s r Does (d refl)
@@ -201,15 +204,11 @@ past-room s n a b =
     let fits_first : nat_le (s.references.base + s.limits.references) s.limits.reference ≡ true = grind (arith, nat_tests) in
     rw (more, fits_first) refl
 
-and-no : (b : Bool) → (b && false) ≡ false
-and-no true = refl
-and-no false = refl
-
 past-numbers : (s : Session) (n : ℕ) → s.limits.reference < s.references.base + n → s.limits.reference < s.references.base + s.limits.references → (is_past_room s n ≡ false) × (is_past_numbers s n ≡ true)
 past-numbers s n a b =
     let more : nat_lt s.limits.reference (s.references.base + n) ≡ true = is-lt s.limits.reference (s.references.base + n) a in
     let none : nat_le (s.references.base + s.limits.references) s.limits.reference ≡ false = grind (arith, nat_tests) in
-    (rw none (and-no (nat_lt s.limits.references n)), more)
+    (rw none (and-false (nat_lt s.limits.references n)), more)
 
 -- a query
 
@@ -239,23 +238,36 @@ query-fails : (s : Session) (r : Entry) (refused : Bool) (objects : List (Option
 query-fails s r _ objects _ (is_refused _) few = fails-so Debuggee s r _
 query-fails s r _ objects _ (is_told _ tell) few = told-fails s r objects tell (intern_each s.limits objects s.references) refl few
 
--- breakpoints
+-- a change
 
-abbrev SetsWell : Session → Entry → SourceKey → List ℕ → Plan → Type 0
-SetsWell s r key lines p = DoesWell effect.SetBreakpoints s r (call.SetBreakpoints key lines) p
+abbrev ChangesWell : Session → Entry → Call → ChangeResult → Type 0
+ChangesWell s r asked due = DoesWell effect.Change s r asked (after_change s r due)
 
-list-fails : (few fit : Bool) (set : Plan) (s : Session) (r : Entry) (key : SourceKey) (lines : List ℕ) → SetsWell s r key lines set
-    → (let p : Plan = (if few then at_once (after_answering r (failure TooManyBreakpoints) s) else (if fit then set else at_once (after_answering r (failure TooLarge) s))) in Fails (served_first false few false false (not fit)) p s r (SetsWell s r key lines p))
-list-fails true fit set s r key lines w = fails-so TooManyBreakpoints s r _
-list-fails false true set s r key lines w = does-so set s r _ w
-list-fails false false set s r key lines w = fails-so TooLarge s r _
+fit-fails : (b : Bool) (s : Session) (r : Entry) (asked : Call) (c : Change) → Some c.act ≡ act_of effect.Change s asked
+    → (let p : Plan = (if b then change_asked s r c else at_once (after_answering r (failure TooLarge) s)) in Fails (served_first false false false false (not b)) p s r (DoesWell effect.Change s r asked p))
+fit-fails true s r asked c is = does-so (change_asked s r c) s r _ (record { asks = is; answered = λ last. rw (eqb-self r.seq) tt })
+fit-fails false s r asked c is = fails-so TooLarge s r _
 
-setting-fails : (s : Session) (r : Entry) (key : SourceKey) (lines : List ℕ) (o : Option (List Bool))
-    → Fails (served_first (is_none o) (are_too_many s.limits key lines s.breakpoints) false false (is_long_list s r lines o)) (breakpoints_verified s r key lines o) s r (SetsWell s r key lines (breakpoints_verified s r key lines o))
-setting-fails s r key lines None = fails-so Debuggee s r _
-setting-fails s r key lines (Some verified) =
-    list-fails (are_too_many s.limits key lines s.breakpoints) (fits s r (breakpoints_body s lines verified)) (breakpoints_set s r key (lines_asked s.options lines) (breakpoints_body s lines verified)) s r key lines
-    (record { asks = refl; answered = λ last. rw (eqb-self r.seq) tt })
+lines-by : (b : Bool) (s : Session) (r : Entry) (key : SourceKey) (lines : List ℕ) (verified : List Bool)
+    → (let due : ChangeResult = (if b then Err TooManyBreakpoints else Ok (lines_change s key lines verified)) in Fails (served_first false b false false (is_long_change s r due)) (after_change s r due) s r (ChangesWell s r (call.SetBreakpoints key lines) due))
+lines-by true s r key lines verified = fails-so TooManyBreakpoints s r _
+lines-by false s r key lines verified = fit-fails (fits s r (lines_change s key lines verified).body) s r (call.SetBreakpoints key lines) (lines_change s key lines verified) refl
+
+lines-fail : (s : Session) (r : Entry) (key : SourceKey) (lines : List ℕ) (o : Option (List Bool))
+    → Fails (served_first (is_none o) (are_too_many s.limits key lines s.breakpoints) false false (is_long_change s r (lines_result s key lines o))) (after_change s r (lines_result s key lines o)) s r (ChangesWell s r (call.SetBreakpoints key lines) (lines_result s key lines o))
+lines-fail s r key lines None = fails-so Debuggee s r _
+lines-fail s r key lines (Some verified) = lines-by (are_too_many s.limits key lines s.breakpoints) s r key lines verified
+
+assigned-fails : (s : Session) (r : Entry) (asked : SetVariable) (holder : ℕ) (o : Option Assigned) → object_of s.references asked.variables_reference ≡ Some holder
+    → Fails (served_first (is_none o) false false false (is_long_change s r (assigned_result s asked holder o))) (after_change s r (assigned_result s asked holder o)) s r (ChangesWell s r (call.SetVariable asked) (assigned_result s asked holder o))
+assigned-fails s r asked holder None is = fails-so Debuggee s r _
+assigned-fails s r asked holder (Some a) is =
+    fit-fails (fits s r (value_change s asked holder a).body) s r (call.SetVariable asked) (value_change s asked holder a) (ap (option_map (λ h. to_assign h asked.name asked.value)) (sym is))
+
+value-fails : (view : Shown) (s : Session) (r : Entry) (asked : SetVariable) (o : Option ℕ) → object_of s.references asked.variables_reference ≡ o
+    → Fails (served_first (is_none (option_and_then (λ h. view.assigned h asked.name asked.value) o)) false false false (is_long_change s r (value_result view s asked o))) (after_change s r (value_result view s asked o)) s r (ChangesWell s r (call.SetVariable asked) (value_result view s asked o))
+value-fails view s r asked None is = fails-so Debuggee s r _
+value-fails view s r asked (Some holder) is = assigned-fails s r asked holder (view.assigned holder asked.name asked.value) is
 
 -- each effect
 
@@ -327,7 +339,7 @@ starts-parked-so s r last = (succeeds-first r (answer_each (by_reply None last) 
 abbrev first_of : Shown → Session → Entry → Effect → Call → Option Failure
 first_of view s r e asked = served_first (refuses view s e asked) (sets_too_many s e asked) (names_too_many view s e asked) (exhausts_numbers view s e asked) (is_too_large view s r e asked)
 
-well-so : (e : Effect) (s : Session) (r : Entry) (asked : Call) (p : Plan) → act_in p ≡ act_of e s asked → ((last : Reply) → IsAnswered e s r last (made_by p last)) → Fails None p s r (DoesWell e s r asked p)
+well-so : (e : Effect) (s : Session) (r : Entry) (asked : Call) (p : Plan) → act_in p ≡ act_of e s asked → ((last : Reply) → IsAnswered e s r last (comes_to p last)) → Fails None p s r (DoesWell e s r asked p)
 well-so e s r asked p a d = does-so p s r (DoesWell e s r asked p) (record { asks = a; answered = d })
 
 effect-fails : (view : Shown) (s : Session) (r : Entry) (e : Effect) (asked : Call) → IsWithin s → Suits e asked → (e ≡ effect.Start → s.phase ≡ Configured) → Fails (first_of view s r e asked) (plan_for e view s r asked) s r (DoesWell e s r asked (plan_for e view s r asked))
@@ -335,8 +347,9 @@ unfolding plan_for
 effect-fails view s r effect.Query asked w suits starts =
     let q = query-fails s r (refuses_query view s asked) (objects_told view s asked) (query_result view s asked) (query-told view s asked) (record { references = w.references; numbers = w.numbers }) in
     record { some = q.some; none = λ e. record { asks = refl; answered = λ last. q.none e } }
-effect-fails view s r effect.SetBreakpoints (call.SetBreakpoints key lines) w suits starts = setting-fails s r key lines (view.verify key (lines_asked s.options lines))
-effect-fails view s r effect.SetBreakpoints _ w suits starts = absurd suits
+effect-fails view s r effect.Change (call.SetBreakpoints key lines) w suits starts = lines-fail s r key lines (view.verify key (lines_asked s.options lines))
+effect-fails view s r effect.Change (call.SetVariable asked) w suits starts = value-fails view s r asked (object_of s.references asked.variables_reference) refl
+effect-fails view s r effect.Change _ w suits starts = absurd suits
 effect-fails view s r effect.Initialize asked w suits starts = well-so effect.Initialize s r asked _ refl (λ last. succeeds-initialize s r asked)
 effect-fails view s r effect.Park asked w suits starts = well-so effect.Park s r asked _ refl (λ last. refl)
 effect-fails view s r effect.Start asked w suits starts = well-so effect.Start s r asked _ refl (λ last. starts-so s r last (starts refl))
@@ -434,7 +447,7 @@ record ServesBy (view : Shown) (s : Session) (r : Entry) (c : Command) (p : Plan
   does : Effect
   is : effect_in c s.phase ≡ Some does
   asks : act_in p ≡ act_of does s asked
-  answered : IsAnswered does s r last (made_by p last)
+  answered : IsAnswered does s r last (comes_to p last)
 
 call-serves : (view : Shown) (s : Session) (r : Entry) (c : Command) (o : Option Effect) (read : Read Call) → effect_in c s.phase ≡ o → call_in r c ≡ read → IsWithin s
     → first_failure (name_refused s.phase (Some c) ∷ first_failure (key_refused read ∷ phase_refused s.phase c ∷ read_refused view s.references read ∷ []) ∷ []) ≡ None
@@ -467,7 +480,7 @@ plan-serves view s r w none later last =
       does = by.2.does;
       is = by.2.is;
       asks = ap act_in same ∙ by.2.asks;
-      answered = subst (λ (p : Plan). IsAnswered by.2.does s r last (made_by p last)) (sym same) by.2.answered;
+      answered = subst (λ (p : Plan). IsAnswered by.2.does s r last (comes_to p last)) (sym same) by.2.answered;
     }
 
 pub failures_come_in_order : FailuresComeInOrder

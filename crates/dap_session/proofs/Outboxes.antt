@@ -1,11 +1,12 @@
 -- A message more on an outbox, and that a client reads it.
-use Rattle.std.proofs.Common.{◌≡◌, ℕ, ◌+◌, ◌<◌, ◌≤◌, List, [], ◌∷◌, ◌++◌, Result, Ok, Err, IfOk, length, refl, sym, ap, ◌∙◌, subst, append_assoc, arith, length-append}
+use Rattle.std.proofs.Common.{◌≡◌, ℕ, ◌+◌, ◌<◌, ◌≤◌, List, [], ◌∷◌, ◌++◌, Bool, true, Option, Some, None, Result, Ok, Err, IfOk, length, refl, sym, ap, ◌∙◌, subst, append_assoc, arith, length-append}
 use Rattle.std.specs.List.{AllByRecursion}
 use Rattle.std.proofs.lemmas.List.{append-nil}
 use Rattle.dap_json.specs.Field.{max_seq}
 use Rattle.dap_frame.specs.Written.{frame_of}
+use Rattle.dap_message.specs.Body.{data_in}
 use Rattle.dap_message.specs.Canon.{canon}
-use Rattle.dap_message.specs.AdapterMessages.{failure_response, success_response, FixedBody, body_of}
+use Rattle.dap_message.specs.AdapterMessages.{failure_response, success_response, has_fixed_shape}
 use Rattle.dap_message.specs.Lengths.{max_fixed, FailuresAreShort, FixedResponsesAreShort}
 use Rattle.dap_message.specs.Meaning.{Msg}
 use Rattle.dap_message.specs.ReadBack.{ReadsBack, AllReadBack}
@@ -15,7 +16,9 @@ use Rattle.dap_message.specs.declared.message.Message.{Message}
 use Rattle.dap_tables.specs.declared.entry.Entry.{Entry}
 use Rattle.dap_session.specs.InRange.{IsRequestInRange, IsDraftInRange}
 use Rattle.dap_session.specs.Plan.{Draft, message_of, numbered_messages, bytes_of}
-use Rattle.dap_session.specs.PrivateOutbox.{AppendsDraft}
+use Rattle.dap_session.specs.PrivateOutbox.{AppendsDraft, shape_of}
+use Rattle.dap_session.specs.declared.outbox.Fixed.{Fixed}
+use Rattle.dap_session.specs.declared.outbox.Fixed.TheVariants.{Initialize, Continue}
 use Rattle.dap_session.specs.declared.outbox.Outbox.{Outbox}
 
 numbered_messages-append : (used : ℕ) (ds : List Draft) (d : Draft) → numbered_messages used (ds ++ d ∷ []) ≡ numbered_messages used ds ++ message_of (used + length ds + 1) d ∷ []
@@ -43,9 +46,15 @@ pub reads-failure : FailuresAreShort → (seq : ℕ) (r : Entry) (f : Failure) (
 reads-failure short seq r f text e reads s i = record { fits = short seq r.seq r.command f s i.seq i.command; reads = subst (λ (bs : List ℕ). Msg bs (failure_response seq r.seq r.command f)) e (reads s i.seq i.command) }
 
 -- a success with a body of a fixed shape
-pub reads-success : FixedResponsesAreShort → (seq : ℕ) (r : Entry) (shape : FixedBody) (text : List ℕ) → text ≡ canon (success_response seq r.seq r.command (body_of shape))
-    → (seq ≤ max_seq → r.seq ≤ max_seq → length r.command ≤ max_command → Msg text (success_response seq r.seq r.command (body_of shape))) → seq ≤ max_seq → IsRequestInRange r → ReadsBack max_fixed (success_response seq r.seq r.command (body_of shape))
-reads-success short seq r shape text e reads s i = record { fits = short seq r.seq r.command shape s i.seq i.command; reads = subst (λ (bs : List ℕ). Msg bs (success_response seq r.seq r.command (body_of shape))) e (reads s i.seq i.command) }
+is-fixed : (fixed : Option Fixed) → has_fixed_shape (shape_of fixed) ≡ true
+is-fixed None = refl
+is-fixed (Some (Initialize capabilities)) = refl
+is-fixed (Some Continue) = refl
+
+pub reads-success : FixedResponsesAreShort → (seq : ℕ) (r : Entry) (fixed : Option Fixed) (text : List ℕ) → text ≡ canon (success_response seq r.seq r.command (data_in (shape_of fixed)))
+    → (seq ≤ max_seq → r.seq ≤ max_seq → length r.command ≤ max_command → Msg text (success_response seq r.seq r.command (data_in (shape_of fixed)))) → seq ≤ max_seq → IsRequestInRange r → ReadsBack max_fixed (success_response seq r.seq r.command (data_in (shape_of fixed)))
+reads-success short seq r fixed text e reads s i =
+    record { fits = short seq r.seq r.command (shape_of fixed) (is-fixed fixed) s i.seq i.command; reads = subst (λ (bs : List ℕ). Msg bs (success_response seq r.seq r.command (data_in (shape_of fixed)))) e (reads s i.seq i.command) }
 
 -- two things of what a call returned
 pub both-ok : {T E : Type 0} (r : Result T E) (P Q R : T → Type 0) → ((x : T) → P x → Q x → R x) → IfOk r P → IfOk r Q → IfOk r R

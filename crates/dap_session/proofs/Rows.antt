@@ -8,7 +8,6 @@ use Rattle.dap_frame.specs.Settings.{Settings}
 use Rattle.dap_history.specs.History.{Asked}
 use Rattle.dap_history.specs.Requests.{asked_of, asks}
 use Rattle.dap_message.specs.AdapterMessages.{AdapterEvent, initialized, terminated}
-use Rattle.dap_message.specs.ResponseBody.{set_breakpoints_body}
 use Rattle.dap_message.specs.Types.Call.{Call}
 use Rattle.dap_message.specs.Types.Call.TheVariants as call
 use Rattle.dap_message.specs.Types.Failure.TheVariants.{Cancelled, TooLarge, Debuggee, TooManyBreakpoints}
@@ -21,12 +20,13 @@ use Rattle.dap_debuggee.specs.declared.answers.How.{How}
 use Rattle.dap_session.specs.declared.effect.Effect.{Effect}
 use Rattle.dap_session.specs.declared.effect.Effect.TheVariants as effect
 use Rattle.dap_session.specs.declared.options.Options.{Options}
-use Rattle.dap_session.specs.Bodies.{QueryAnswer, QueryResult, query_result}
+use Rattle.dap_session.specs.Bodies.{QueryAnswer, QueryResult, query_result, object_of}
 use Rattle.dap_session.specs.Breakpoints.{are_too_many}
-use Rattle.dap_session.specs.Handling.{after_initialize, after_park, after_launch, after_configuration_done, after_parked_launch, after_disconnect, after_terminate, after_resume, resume_body, after_query, fits, by_reply, answer_each, answers_to, lines_asked, breakpoints_set, breakpoints_answered, breakpoints_verified, plan_for}
+use Rattle.dap_session.specs.Handling.{after_initialize, after_park, after_launch, after_configuration_done, after_parked_launch, after_disconnect, after_terminate, after_resume, resume_body, after_query, fits, by_reply, answer_each, lines_asked, Change, ChangeResult, change_asked, after_change, change_result, plan_for}
 use Rattle.dap_session.specs.Plan.{Answer, success, failure, plain_success, reply, emit, names_in, at_once, after_answering}
 use Rattle.dap_session.specs.Session.{Session}
-use Rattle.dap_session.specs.PrivateSetting.{Suits}
+use Rattle.dap_session.specs.PrivateChanging.{Suits}
+use Rattle.dap_session.proofs.ChangeResults.{lines-due, value-due}
 use Rattle.dap_session.proofs.Fewer.{IsHandled, fewer-handled, fewer-park, fewer-unparked, fewer-none}
 use Rattle.dap_session.proofs.Interned.{le-not}
 use Rattle.dap_session.proofs.Kept.{Walked, walked-none, walked-event, walked-append, walked-each, walked-kept, walked-one, rejected, IsKept, distinct-without, apart, eqb-self, false-left, false-right}
@@ -159,7 +159,7 @@ after_resume-clean h s k done = refl
 after_resume-clean h s k refused = refl
 after_resume-clean h s k (happened x) = refl
 
--- ---- breakpoints
+-- ---- what is changed
 
 length-asked-if : (b : Bool) (lines : List ℕ) → length (if b then lines else map (λ n. n + 1) lines) ≡ length lines
 length-asked-if true lines = refl
@@ -176,22 +176,24 @@ few-breakpoints_with limits key lines asked b same h =
     let all = count-breakpoints_with key asked b in
     record { breakpoints = omega arith; ids = omega arith }
 
-set-outcome : (s : Session) (k : Kept) (key : SourceKey) (lines : List ℕ) (body : Option Data) → IsHandled s k → StandFew s.limits (breakpoints_with key lines s.breakpoints)
-    → IsOutcome s 1 (record { drafts = reply k.entry (success body []) ∷ []; drops = false; after = record s { kept = without k.entry.seq s.kept; breakpoints = breakpoints_with key lines s.breakpoints; used = s.used + 1 } })
-set-outcome s k key lines body i few = replied s k (success body []) _ i (moves-set s _ refl refl (λ (x : StandFew s.limits s.breakpoints). few) refl) refl refl refl refl
+change-outcome : (s : Session) (k : Kept) (c : Change) → IsHandled s k → (StandFew s.limits s.breakpoints → StandFew s.limits c.breakpoints)
+    → IsOutcome s 1 (record { drafts = reply k.entry (success c.body []) ∷ []; drops = false; after = record s { kept = without k.entry.seq s.kept; breakpoints = c.breakpoints; used = s.used + 1 } })
+change-outcome s k c i few = replied s k (success c.body []) _ i (moves-set s _ refl refl few refl) refl refl refl refl
 
-set-row : (s : Session) (k : Kept) (key : SourceKey) (lines : List ℕ) (body : Option Data) → IsHandled s k → StandFew s.limits (breakpoints_with key lines s.breakpoints) → IsRow s (breakpoints_set s k.entry key lines body)
-set-row s k key lines body i few = asking-row s 1 _ _ (λ (last : Reply). set-outcome s k key lines body i few) (λ (last : Reply). refl)
+change-row : (s : Session) (k : Kept) (due : ChangeResult) → ((c : Change) → due ≡ Ok c → StandFew s.limits s.breakpoints → StandFew s.limits c.breakpoints) → IsHandled s k → IsRow s (after_change s k.entry due)
+change-row s k (Err f) few i = failed-row s k f i
+change-row s k (Ok c) few i =
+    either-row (fits s k.entry c.body) s (change_asked s k.entry c) _ (λ (f : fits s k.entry c.body ≡ true). asking-row s 1 _ _ (λ (last : Reply). change-outcome s k c i (few c refl)) (λ (last : Reply). refl))
+    (λ (f : fits s k.entry c.body ≡ false). failed-row s k TooLarge i)
 
-verified-row : (s : Session) (k : Kept) (key : SourceKey) (lines : List ℕ) (verified : Option (List Bool)) → IsHandled s k → IsRow s (breakpoints_verified s k.entry key lines verified)
-verified-row s k key lines None i = failed-row s k Debuggee i
-verified-row s k key lines (Some verified) i =
-    let asked = lines_asked s.options lines in
-    let body : Option Data = Some (set_breakpoints_body (answers_to s.breakpoints.next_id lines verified)) in
-    either-row (are_too_many s.limits key lines s.breakpoints) s _ (breakpoints_answered s k.entry key asked body) (λ (h : are_too_many s.limits key lines s.breakpoints ≡ true). failed-row s k TooManyBreakpoints i)
-    (λ (h : are_too_many s.limits key lines s.breakpoints ≡ false).
-    either-row (fits s k.entry body) s (breakpoints_set s k.entry key asked body) _ (λ (f : fits s k.entry body ≡ true). set-row s k key asked body i (few-breakpoints_with s.limits key lines asked s.breakpoints (length-asked s.options lines) h))
-    (λ (f : fits s k.entry body ≡ false). failed-row s k TooLarge i))
+change-stands : (view : Shown) (s : Session) (asked : Call) (c : Change) → change_result view s asked ≡ Ok c → StandFew s.limits s.breakpoints → StandFew s.limits c.breakpoints
+change-stands view s (call.SetBreakpoints key lines) c e few =
+    let due = lines-due s key lines (view.verify key (lines_asked s.options lines)) c e in
+    subst (λ (b : SetBreakpoints). StandFew s.limits b) (sym due.breakpoints) (few-breakpoints_with s.limits key lines (lines_asked s.options lines) s.breakpoints (length-asked s.options lines) due.few)
+change-stands view s (call.SetVariable asked) c e few =
+    let due = value-due view s asked (object_of s.references asked.variables_reference) c e in
+    subst (λ (b : SetBreakpoints). StandFew s.limits b) (sym due.breakpoints) few
+change-stands view s _ c e few = absurd (cc e)
 
 -- ---- what is told
 
@@ -221,8 +223,7 @@ plan_for-row effect.StartParked view s k asked i n =
 plan_for-row effect.Disconnect view s k asked i n = once-row s (length (without k.entry.seq s.kept) + 1) _ (after_disconnect-outcome s k i) (after_disconnect-clean s k)
 plan_for-row effect.EndAndDisconnect view s k asked i n = asking-row s (length (without k.entry.seq s.kept) + 1) _ (λ last. after_disconnect s k.entry) (λ (last : Reply). after_disconnect-outcome s k i) (λ (last : Reply). after_disconnect-clean s k)
 plan_for-row effect.Terminate view s k asked i n = asking-row s 2 _ (λ last. after_terminate s k.entry) (λ (last : Reply). after_terminate-outcome s k i) (λ (last : Reply). refl)
-plan_for-row effect.SetBreakpoints view s k (call.SetBreakpoints key lines) i n = verified-row s k key lines (view.verify key (lines_asked s.options lines)) i
-plan_for-row effect.SetBreakpoints view s k _ i n = absurd n
+plan_for-row effect.Change view s k asked i n = change-row s k (change_result view s asked) (change-stands view s asked) i
 plan_for-row (effect.Resume h) view s k asked i n = asking-row s 1 _ (after_resume h s k.entry) (after_resume-outcome h s k i) (after_resume-clean h s k)
 plan_for-row effect.Pause view s k asked i n =
     asking-row s 1 _ (λ last. after_answering k.entry (by_reply None last) s) (λ (last : Reply). after_answering-outcome s k (by_reply None last) i (names-by_reply None last)) (λ (last : Reply). one-clean k (by_reply None last) (reply-clean None last))

@@ -22,7 +22,7 @@ use Rattle.dap_session.proofs.Kept.{kept-found, found-passes}
 use Rattle.dap_session.proofs.Outcomes.{IsRow, failed-row}
 use Rattle.dap_session.proofs.Rows.{plan_for-row}
 use Rattle.dap_session.proofs.ServedRows.{unserved}
-use Rattle.dap_session.proofs.SetLines.{call-suits}
+use Rattle.dap_session.proofs.ChangeResults.{call-suits}
 
 -- ---- where no failure holds
 

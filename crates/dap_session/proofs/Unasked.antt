@@ -3,7 +3,7 @@ use Rattle.std.proofs.Common.{◌≡◌, ◌+◌, ◌≤◌, Bool, true, false, 
 use Rattle.std.specs.Prelude.{nat_le, if◌then◌else◌}
 use Rattle.std.proofs.lemmas.Bool.Decides.{nat_tests}
 use Rattle.dap_tables.specs.Outstanding.{Kept}
-use Rattle.dap_debuggee.specs.Shown.{Shown, to_start, to_resume, to_pause, to_poll, to_set_breakpoints, to_end}
+use Rattle.dap_debuggee.specs.Shown.{Shown, to_start, to_resume, to_pause, to_poll, to_set_breakpoints, to_assign, to_end}
 use Rattle.dap_session.specs.declared.fault.AdapterFault.TheVariants.{SeqExhausted}
 use Rattle.dap_session.specs.Handling.{plan, some_plan, turn_of}
 use Rattle.dap_session.specs.Plan.{Plan, at_once, asking, messages_due, plan_within_numbers}
@@ -18,6 +18,7 @@ same-after true (asking (to_resume how thread) makes) v = tt
 same-after true (asking to_pause makes) v = tt
 same-after true (asking to_poll makes) v = tt
 same-after true (asking (to_set_breakpoints key lines) makes) v = tt
+same-after true (asking (to_assign holder name text) makes) v = tt
 same-after true (asking to_end makes) v = refl
 
 -- it is as it was

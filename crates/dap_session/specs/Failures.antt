@@ -67,6 +67,7 @@ thread_named _ = None
 abbrev pub reference_named : Call → Option (ReferenceKind × ℕ)
 reference_named (call.Scopes number) = Some (Frame, number)
 reference_named (call.Variables asked) = Some (Holder, asked.variables_reference)
+reference_named (call.SetVariable asked) = Some (Holder, asked.variables_reference)
 reference_named (call.Evaluate asked) = option_map (λ number. (Frame, number)) asked.frame_id
 reference_named _ = None
 

@@ -7,7 +7,7 @@ use Rattle.dap_message.specs.Argument.{Read}
 use Rattle.dap_message.specs.Canon.{canon}
 use Rattle.dap_message.specs.Capabilities.{capabilities_data}
 use Rattle.dap_message.specs.AdapterMessages.{initialized, terminated, success_response}
-use Rattle.dap_message.specs.ResponseBody.{continue_body, set_breakpoints_body}
+use Rattle.dap_message.specs.ResponseBody.{continue_body, set_breakpoints_body, set_variable_body}
 use Rattle.dap_message.specs.Types.Breakpoint.{Breakpoint as BreakpointBody}
 use Rattle.dap_message.specs.Types.Call.{Call}
 use Rattle.dap_message.specs.Types.Call.TheVariants as call
@@ -15,10 +15,12 @@ use Rattle.dap_message.specs.Types.Capabilities.{Capabilities}
 use Rattle.dap_message.specs.Types.Command.{Command}
 use Rattle.dap_message.specs.Types.Failure.{Failure}
 use Rattle.dap_message.specs.Types.Failure.TheVariants.{Debuggee, TooManyBreakpoints, TooLarge, Cancelled}
+use Rattle.dap_message.specs.Types.SetVariable.{SetVariable}
 use Rattle.dap_message.specs.Types.SourceKey.{SourceKey}
 use Rattle.dap_tables.specs.Outstanding.{Kept, without, with_mark}
 use Rattle.dap_tables.specs.declared.entry.Entry.{Entry}
-use Rattle.dap_debuggee.specs.Shown.{Shown, to_start, to_resume, to_pause, to_set_breakpoints, to_end, Reply, done}
+use Rattle.dap_debuggee.specs.Shown.{Shown, Act, to_start, to_resume, to_pause, to_set_breakpoints, to_assign, to_end, Reply, done}
+use Rattle.dap_debuggee.specs.declared.answers.Assigned.{Assigned}
 use Rattle.dap_debuggee.specs.declared.answers.How.{How}
 use Rattle.dap_debuggee.specs.declared.answers.How.TheVariants as how
 use Rattle.dap_session.specs.declared.phase.Phase.{Phase}
@@ -27,9 +29,9 @@ use Rattle.dap_session.specs.declared.effect.Effect.{Effect}
 use Rattle.dap_session.specs.declared.effect.Effect.TheVariants as effect
 use Rattle.dap_session.specs.declared.options.Options.{Options}
 use Rattle.dap_session.specs.declared.fault.AdapterFault.{AdapterFault}
-use Rattle.dap_session.specs.Bodies.{QueryResult, query_result}
+use Rattle.dap_session.specs.Bodies.{QueryResult, query_result, object_of}
 use Rattle.dap_session.specs.Breakpoints.{are_too_many}
-use Rattle.dap_tables.specs.Breakpoints.{breakpoints_with}
+use Rattle.dap_tables.specs.Breakpoints.{SetBreakpoints, breakpoints_with}
 use Rattle.dap_session.specs.Failures.{command_of, call_in, refusal, thread_named}
 use Rattle.dap_session.specs.Plan.{Answer, success, failure, plain_success, Draft, reply, emit, Made, Plan, at_once, asking, no_change, after_answering, plan_within_numbers}
 use Rattle.dap_tables.specs.References.{without_references}
@@ -51,7 +53,7 @@ adapter_capabilities = record {
   loaded_sources = true;
   modules = false;
   restart = false;
-  set_variable = false;
+  set_variable = true;
   step_back = true;
   terminate = true;
 }
@@ -147,7 +149,31 @@ after_query s r (Ok t) =
     then record { drafts = reply r (success t.body t.names) ∷ []; drops = false; after = record s { kept = without r.seq s.kept; references = t.references; used = s.used + 1 } }
     else after_answering r (failure TooLarge) s
 
--- ---- breakpoints
+-- ---- what is changed
+
+-- the body of the answer, what the debuggee is asked, and the breakpoints then
+pub record Change : Type 0 where
+  pub body : Option Data
+  pub act : Act
+  pub breakpoints : SetBreakpoints
+
+abbrev pub ChangeResult : Type 0
+ChangeResult = Result Change Failure
+
+abbrev pub change_asked : Session → Entry → Change → Plan
+change_asked s r c = asking c.act
+    (λ last. record {
+      drafts = reply r (success c.body []) ∷ [];
+      drops = false;
+      after = record s { kept = without r.seq s.kept; breakpoints = c.breakpoints; used = s.used + 1 };
+    })
+
+-- the answer is measured before anything changes
+abbrev pub after_change : Session → Entry → ChangeResult → Plan
+after_change s r (Err f) = at_once (after_answering r (failure f) s)
+after_change s r (Ok c) = if fits s r c.body then change_asked s r c else at_once (after_answering r (failure TooLarge) s)
+
+-- ---- lines that are set
 
 -- lines as the debuggee counts them
 abbrev pub lines_asked : Options → List ℕ → List ℕ
@@ -157,32 +183,42 @@ lines_asked options lines = if options.lines_start_at_1 then lines else map (λ 
 abbrev pub answers_to : ℕ → List ℕ → List Bool → List BreakpointBody
 answers_to first lines verified = map (λ p. record { id = p.0; line = p.1.0; verified = p.1.1 }) (zip (range_with_len first (length lines)) (zip lines verified))
 
--- the answer to lines that were asked for
-abbrev pub breakpoints_body : Session → List ℕ → List Bool → Option Data
-breakpoints_body s lines verified = Some (set_breakpoints_body (answers_to s.breakpoints.next_id lines verified))
+abbrev pub lines_change : Session → SourceKey → List ℕ → List Bool → Change
+lines_change s key lines verified = record {
+  body = Some (set_breakpoints_body (answers_to s.breakpoints.next_id lines verified));
+  act = to_set_breakpoints key (lines_asked s.options lines);
+  breakpoints = breakpoints_with key (lines_asked s.options lines) s.breakpoints;
+}
 
-abbrev pub breakpoints_set : Session → Entry → SourceKey → List ℕ → Option Data → Plan
-breakpoints_set s r key lines body = asking (to_set_breakpoints key lines)
-    (λ last. record {
-      drafts = reply r (success body []) ∷ [];
-      drops = false;
-      after = record s { kept = without r.seq s.kept; breakpoints = breakpoints_with key lines s.breakpoints; used = s.used + 1 };
-    })
+-- by what the debuggee tells of the lines
+abbrev pub lines_result : Session → SourceKey → List ℕ → Option (List Bool) → ChangeResult
+lines_result s key lines None = Err Debuggee
+lines_result s key lines (Some verified) = if are_too_many s.limits key lines s.breakpoints then Err TooManyBreakpoints else Ok (lines_change s key lines verified)
 
--- the answer is measured before anything changes
-abbrev pub breakpoints_answered : Session → Entry → SourceKey → List ℕ → Option Data → Plan
-breakpoints_answered s r key lines body = if fits s r body then breakpoints_set s r key lines body else at_once (after_answering r (failure TooLarge) s)
+-- ---- a value that is set
 
-abbrev pub breakpoints_verified : Session → Entry → SourceKey → List ℕ → Option (List Bool) → Plan
-breakpoints_verified s r key lines None = at_once (after_answering r (failure Debuggee) s)
-breakpoints_verified s r key lines (Some verified) =
-    if are_too_many s.limits key lines s.breakpoints
-    then at_once (after_answering r (failure TooManyBreakpoints) s)
-    else breakpoints_answered s r key (lines_asked s.options lines) (breakpoints_body s lines verified)
+abbrev pub value_change : Session → SetVariable → ℕ → Assigned → Change
+value_change s asked holder assigned = record {
+  body = Some (set_variable_body assigned.value);
+  act = to_assign holder asked.name asked.value;
+  breakpoints = s.breakpoints;
+}
 
-abbrev pub breakpoints_plan : Shown → Session → Entry → Call → Plan
-breakpoints_plan view s r (call.SetBreakpoints key lines) = breakpoints_verified s r key lines (view.verify key (lines_asked s.options lines))
-breakpoints_plan view s r _ = at_once (no_change s)
+-- by what the debuggee tells of the variable
+abbrev pub assigned_result : Session → SetVariable → ℕ → Option Assigned → ChangeResult
+assigned_result s asked holder None = Err Debuggee
+assigned_result s asked holder (Some assigned) = Ok (value_change s asked holder assigned)
+
+-- by what its number names
+abbrev pub value_result : Shown → Session → SetVariable → Option ℕ → ChangeResult
+value_result view s asked None = Err Debuggee
+value_result view s asked (Some holder) = assigned_result s asked holder (view.assigned holder asked.name asked.value)
+
+-- what a call changes, or why it is not changed
+abbrev pub change_result : Shown → Session → Call → ChangeResult
+change_result view s (call.SetBreakpoints key lines) = lines_result s key lines (view.verify key (lines_asked s.options lines))
+change_result view s (call.SetVariable asked) = value_result view s asked (object_of s.references asked.variables_reference)
+change_result view s _ = Err Debuggee
 
 -- ---- the effects of the table
 
@@ -199,7 +235,7 @@ plan_for effect.StartParked view s r asked = asking to_start (after_parked_launc
 plan_for effect.Disconnect view s r asked = at_once (after_disconnect s r)
 plan_for effect.EndAndDisconnect view s r asked = asking to_end (λ last. after_disconnect s r)
 plan_for effect.Terminate view s r asked = asking to_end (λ last. after_terminate s r)
-plan_for effect.SetBreakpoints view s r asked = breakpoints_plan view s r asked
+plan_for effect.Change view s r asked = after_change s r (change_result view s asked)
 plan_for (effect.Resume h) view s r asked = asking (to_resume h (thread_of asked)) (after_resume h s r)
 plan_for effect.Pause view s r asked = asking to_pause (λ last. after_answering r (by_reply None last) s)
 plan_for effect.Query view s r asked = at_once (after_query s r (query_result view s asked))

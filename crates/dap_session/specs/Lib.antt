@@ -19,7 +19,7 @@ pub mod PrivateOutbox
 pub mod SessionState
 pub mod PrivateSeveral
 pub mod QueryResults
-pub mod PrivateSetting
+pub mod PrivateChanging
 pub mod RefusalLaws
 pub mod StaleLaws
 pub mod OrderLaws

@@ -1,7 +1,7 @@
 -- The tests of a request, those before it is served and those after, stand in the one order of failures.
 -- That order is this profile's choice. It is of a request that is handled in a turn; a `cancel` is answered where it is taken.
 use Rattle.std.specs.List.{AllByRecursion}
-use Rattle.std.specs.Prelude.{◌≡◌, ◌+◌, ◌-◌, ◌==◌, ◌&&◌, ℕ, nat_lt, nat_le, not, ⊤, Bool, true, false, List, [], ◌∷◌, length, Option, Some, None, is_none, option_and_then, find, Ok, Err, if◌then◌else◌}
+use Rattle.std.specs.Prelude.{◌≡◌, ◌+◌, ◌-◌, ◌==◌, ◌&&◌, ℕ, nat_lt, nat_le, not, ⊤, Bool, true, false, List, [], ◌∷◌, length, Option, Some, None, is_none, option_map, option_and_then, find, Ok, Err, if◌then◌else◌}
 use Rattle.dap_message.specs.Argument.{Read}
 use Rattle.dap_message.specs.Failure.{failures_in_order}
 use Rattle.dap_message.specs.Types.Call.{Call}
@@ -13,7 +13,7 @@ use Rattle.dap_message.specs.Types.Key.{Key}
 use Rattle.dap_tables.specs.Outstanding.{parked_ones, without}
 use Rattle.dap_tables.specs.declared.entry.Entry.{Entry}
 use Rattle.dap_tables.specs.declared.target.Target.{Target}
-use Rattle.dap_debuggee.specs.Shown.{Shown, Act, to_start, to_resume, to_pause, to_set_breakpoints, to_end, Reply, done}
+use Rattle.dap_debuggee.specs.Shown.{Shown, Act, to_start, to_resume, to_pause, to_set_breakpoints, to_assign, to_end, Reply, done}
 use Rattle.dap_session.specs.declared.effect.Effect.{Effect}
 use Rattle.dap_session.specs.declared.effect.Effect.TheVariants as effect
 use Rattle.dap_session.specs.declared.phase.Phase.{Phase}
@@ -21,7 +21,7 @@ use Rattle.dap_session.specs.declared.phase.Phase.TheVariants.{Fresh}
 use Rattle.dap_session.specs.Bodies.{QueryResult, query_result, object_of, window, page, frame_objects, scope_objects, variable_objects, value_objects}
 use Rattle.dap_session.specs.Breakpoints.{are_too_many}
 use Rattle.dap_session.specs.Failures.{command_of, call_in, of_known, is_early, is_initialize, waits_for_stop, lacks_thread, thread_named, lacks_reference, reference_named, lacks_source, source_named, refusal}
-use Rattle.dap_session.specs.Handling.{plan, fits, lines_asked, breakpoints_body, thread_of, after_park}
+use Rattle.dap_session.specs.Handling.{ChangeResult, change_result, plan, fits, lines_asked, thread_of, after_park}
 use Rattle.dap_session.specs.Plan.{Answer, success, failure, Draft, reply, emit, Made, Plan, at_once, asking, after_answering}
 use Rattle.dap_session.specs.References.{targets_named, with_targets}
 use Rattle.dap_session.specs.Session.{Session}
@@ -85,11 +85,12 @@ refuses_query view s _ = false
 
 abbrev pub refuses : Shown → Session → Effect → Call → Bool
 refuses view s effect.Query asked = refuses_query view s asked
-refuses view s effect.SetBreakpoints (call.SetBreakpoints key lines) = is_none (view.verify key (lines_asked s.options lines))
+refuses view s effect.Change (call.SetBreakpoints key lines) = is_none (view.verify key (lines_asked s.options lines))
+refuses view s effect.Change (call.SetVariable asked) = is_none (option_and_then (λ holder. view.assigned holder asked.name asked.value) (object_of s.references asked.variables_reference))
 refuses view s _ asked = false
 
 abbrev pub sets_too_many : Session → Effect → Call → Bool
-sets_too_many s effect.SetBreakpoints (call.SetBreakpoints key lines) = are_too_many s.limits key lines s.breakpoints
+sets_too_many s effect.Change (call.SetBreakpoints key lines) = are_too_many s.limits key lines s.breakpoints
 sets_too_many s _ asked = false
 
 -- the objects that the answer names, in order
@@ -129,13 +130,13 @@ abbrev pub is_long_answer : Session → Entry → QueryResult → Bool
 is_long_answer s r (Ok t) = not (fits s r t.body)
 is_long_answer s r (Err f) = false
 
-abbrev pub is_long_list : Session → Entry → List ℕ → Option (List Bool) → Bool
-is_long_list s r lines None = false
-is_long_list s r lines (Some verified) = not (fits s r (breakpoints_body s lines verified))
+abbrev pub is_long_change : Session → Entry → ChangeResult → Bool
+is_long_change s r (Ok c) = not (fits s r c.body)
+is_long_change s r (Err f) = false
 
 abbrev pub is_too_large : Shown → Session → Entry → Effect → Call → Bool
 is_too_large view s r effect.Query asked = is_long_answer s r (query_result view s asked)
-is_too_large view s r effect.SetBreakpoints (call.SetBreakpoints key lines) = is_long_list s r lines (view.verify key (lines_asked s.options lines))
+is_too_large view s r effect.Change asked = is_long_change s r (change_result view s asked)
 is_too_large view s r _ asked = false
 
 -- the test of each failure of a request that is handled, before it is served and after
@@ -161,13 +162,14 @@ act_of effect.EndAndDisconnect s asked = Some to_end
 act_of effect.Terminate s asked = Some to_end
 act_of (effect.Resume how) s asked = Some (to_resume how (thread_of asked))
 act_of effect.Pause s asked = Some to_pause
-act_of effect.SetBreakpoints s (call.SetBreakpoints key lines) = Some (to_set_breakpoints key (lines_asked s.options lines))
+act_of effect.Change s (call.SetBreakpoints key lines) = Some (to_set_breakpoints key (lines_asked s.options lines))
+act_of effect.Change s (call.SetVariable asked) = option_map (λ holder. to_assign holder asked.name asked.value) (object_of s.references asked.variables_reference)
 act_of _ s asked = None
 
 -- what a plan comes to with this reply of the debuggee, where it is asked
-abbrev pub made_by : Plan → Reply → Made
-made_by (at_once m) last = m
-made_by (asking act makes) last = makes last
+abbrev pub comes_to : Plan → Reply → Made
+comes_to (at_once m) last = m
+comes_to (asking act makes) last = makes last
 
 -- the first answer to the request of this number
 abbrev pub answer_to : ℕ → List Draft → Option Answer
@@ -207,7 +209,7 @@ pub record IsServed (view : Shown) (s : Session) (r : Entry) (last : Reply) : Ty
   pub does : Effect
   pub is : effect_in command s.phase ≡ Some does
   pub asks : act_in (plan view s r) ≡ act_of does s asked
-  pub answered : IsAnswered does s r last (made_by (plan view s r) last)
+  pub answered : IsAnswered does s r last (comes_to (plan view s r) last)
 
 -- of a session within its limits
 pub record FailuresComeInOrder : Type 0 where

@@ -1,27 +1,30 @@
 -- The code's words for what a call is about to write.
 use Rattle.std.specs.Prelude.{◌≡◌, ℕ, ◌+◌, ◌≤◌, List, [], ◌∷◌, ◌++◌, length, Option, Some, None}
 use Rattle.dap_json.specs.Field.{max_seq}
-use Rattle.dap_message.specs.AdapterMessages.{AdapterEvent, initialized, output, stopped, continued, exited, terminated, FixedBody, none, offers, all_go_on, body_of}
+use Rattle.dap_message.specs.AdapterMessages.{AdapterEvent, initialized, output, stopped, continued, exited, terminated}
+use Rattle.dap_message.specs.Body.{data_in}
 use Rattle.dap_message.specs.Lengths.{max_fixed}
 use Rattle.dap_message.specs.ReadBack.{AllReadBack}
+use Rattle.dap_message.specs.Types.Body.{Body}
+use Rattle.dap_message.specs.Types.Body.TheVariants as body
 use Rattle.dap_debuggee.specs.Shown.{category_name}
 use Rattle.dap_session.specs.declared.outbox.Answer.{Answer}
 use Rattle.dap_session.specs.declared.outbox.Answer.TheVariants.{Success, Failure}
 use Rattle.dap_session.specs.declared.outbox.Fixed.{Fixed}
-use Rattle.dap_session.specs.declared.outbox.Fixed.TheVariants.{Offers, AllGoOn}
+use Rattle.dap_session.specs.declared.outbox.Fixed.TheVariants.{Initialize, Continue}
 use Rattle.dap_session.specs.declared.outbox.Event.{Event}
 use Rattle.dap_session.specs.declared.outbox.Event.TheVariants.{Initialized, Output, Stopped, Continued, Exited, Terminated}
 use Rattle.dap_session.specs.declared.outbox.Outbox.{Outbox}
 use Rattle.dap_session.specs.InRange.{AnswersInRange}
 use Rattle.dap_session.specs.Plan.{Answer as AnswerWord, success, failure, Draft, numbered_messages, bytes_of}
 
-abbrev pub shape_of : Option Fixed → FixedBody
-shape_of None = none
-shape_of (Some (Offers capabilities)) = offers capabilities
-shape_of (Some AllGoOn) = all_go_on
+abbrev pub shape_of : Option Fixed → Option Body
+shape_of None = None
+shape_of (Some (Initialize capabilities)) = Some (body.Initialize capabilities)
+shape_of (Some Continue) = Some body.Continue
 
 abbrev pub answer_of : Answer → AnswerWord
-answer_of (Success body) = success (body_of (shape_of body)) []
+answer_of (Success fixed) = success (data_in (shape_of fixed)) []
 answer_of (Failure f) = failure f
 
 abbrev pub event_of : Event → AdapterEvent

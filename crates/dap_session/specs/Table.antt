@@ -8,7 +8,7 @@ use Rattle.dap_debuggee.specs.declared.answers.How.TheVariants as how
 use Rattle.dap_session.specs.declared.phase.Phase.{Phase}
 use Rattle.dap_session.specs.declared.phase.Phase.TheVariants.{Fresh, Ready, Configured, Parked, Running, Stopped, Exited, Ended}
 use Rattle.dap_session.specs.declared.effect.Effect.{Effect}
-use Rattle.dap_session.specs.declared.effect.Effect.TheVariants.{Initialize, Park, Start, ConfigurationDone, StartParked, Disconnect, EndAndDisconnect, Terminate, SetBreakpoints, Resume, Pause, Query}
+use Rattle.dap_session.specs.declared.effect.Effect.TheVariants.{Initialize, Park, Start, ConfigurationDone, StartParked, Disconnect, EndAndDisconnect, Terminate, Change, Resume, Pause, Query}
 
 -- in each of these phases a command does this
 pub record Row : Type 0 where
@@ -43,7 +43,7 @@ rows_of command.Attach = row (Ready ∷ []) Park ∷ row (Configured ∷ []) Sta
 rows_of command.ConfigurationDone = row (Ready ∷ []) ConfigurationDone ∷ row (Parked ∷ []) StartParked ∷ []
 rows_of command.Disconnect = row with_debuggee EndAndDisconnect ∷ row without_debuggee Disconnect ∷ []
 rows_of command.Terminate = row with_debuggee Terminate ∷ []
-rows_of command.SetBreakpoints = row ready_to_stopped SetBreakpoints ∷ []
+rows_of command.SetBreakpoints = row ready_to_stopped Change ∷ []
 rows_of command.SetExceptionBreakpoints = row ready_to_stopped Query ∷ []
 rows_of command.Threads = row ready_to_exited Query ∷ []
 rows_of command.Source = row ready_to_exited Query ∷ []
@@ -59,6 +59,7 @@ rows_of command.StackTrace = row (Stopped ∷ []) Query ∷ []
 rows_of command.Scopes = row (Stopped ∷ []) Query ∷ []
 rows_of command.Variables = row (Stopped ∷ []) Query ∷ []
 rows_of command.Evaluate = row (Stopped ∷ []) Query ∷ []
+rows_of command.SetVariable = row (Stopped ∷ []) Change ∷ []
 rows_of _ = []
 
 -- ---- reading the table

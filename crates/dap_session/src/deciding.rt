@@ -9,7 +9,7 @@ ghost use Rattle.dap_message.specs.Call.{takes_memory};
 ghost use Rattle.dap_message.specs.Types.CallFault.{CallFault};
 ghost use Rattle.dap_tables.specs.References.{is_of_kind};
 ghost use Rattle.dap_session.specs.SessionState.{plan_of_decision};
-ghost use Rattle.dap_session.specs.PrivateSetting.{IsSuitable};
+ghost use Rattle.dap_session.specs.PrivateChanging.{IsSuitable};
 ghost use Rattle.dap_session.specs.Handling.{plan, thread_of};
 ghost use Rattle.dap_session.specs.Table.{is_never_served, effect_in};
 
@@ -89,6 +89,7 @@ fn reference_named(call: &Call) -> Option<(ReferenceKind, u32)>
     match call {
         Call::Scopes { frame_id } => Some((ReferenceKind::Frame, *frame_id)),
         Call::Variables(asked) => Some((ReferenceKind::Holder, asked.variables_reference)),
+        Call::SetVariable(asked) => Some((ReferenceKind::Holder, asked.variables_reference)),
         Call::Evaluate(asked) => match asked.frame_id {
             None => None,
             Some(frame_id) => Some((ReferenceKind::Frame, frame_id)),

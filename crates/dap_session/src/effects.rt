@@ -1,6 +1,6 @@
 //! What requests do in the phases that serve them, an effect of the table each.
 ghost use Rattle.std.specs.Prelude.{◌≡◌, ◌+◌, ◌≤◌, ◌<◌, [], ◌∷◌, IfOk, OnErr, IsTrue, None, Some, true};
-ghost use Rattle.dap_message.specs.AdapterMessages.{body_of};
+ghost use Rattle.dap_message.specs.Body.{data_in};
 ghost use Rattle.dap_message.specs.Lengths.{IsWithin};
 ghost use Rattle.dap_message.specs.Types.Call.{Call};
 ghost use Rattle.dap_tables.specs.Outstanding.{contains_seq};
@@ -33,7 +33,7 @@ fn capabilities() -> Capabilities
         loaded_sources: true,
         modules: false,
         restart: false,
-        set_variable: false,
+        set_variable: true,
         step_back: true,
         terminate: true,
     }
@@ -59,7 +59,7 @@ pub(crate) fn options_of(call: &Call) -> Options
 
 /// A success where the debuggee did what it was asked.
 fn by_reply(ok: bool, body: Option<Fixed>) -> Answer
-    ensures { answer_of result ≡ by_reply (body_of (shape_of body)) (reply_of ok) }
+    ensures { answer_of result ≡ by_reply (data_in (shape_of body)) (reply_of ok) }
 {
     if ok {
         Answer::Success(body)
@@ -79,10 +79,10 @@ pub(crate) fn start_phase(ok: bool) -> Phase
 }
 
 fn resume_body(how: How) -> Option<Fixed>
-    ensures { body_of (shape_of result) ≡ resume_body_word how }
+    ensures { data_in (shape_of result) ≡ resume_body_word how }
 {
     match how {
-        How::Continue => Some(Fixed::AllGoOn),
+        How::Continue => Some(Fixed::Continue),
         _ => None,
     }
 }
@@ -161,7 +161,7 @@ impl<D: Debuggee + Drop> Session<D> {
         ensures debuggee { self.new.debuggee ≡ self.old.debuggee }
         ensures err { OnErr result (self.new.session ≡ self.old.session) }
     {
-        let body = Some(Fixed::Offers(capabilities()));
+        let body = Some(Fixed::Initialize(capabilities()));
         let outbox = self.two(alloc, request, Answer::Success(body), Event::Initialized)?;
         let bytes = self.commit(request.seq, outbox);
         self.set_options(options_of(call));

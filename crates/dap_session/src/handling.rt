@@ -5,7 +5,7 @@ ghost use Rattle.dap_session.specs.SessionState.{Carries, IsRefusedFor, plan_of_
 ghost use Rattle.dap_session.specs.Session.{oldest, to_handle};
 ghost use Rattle.dap_session.specs.Handling.{plan, plan_for};
 ghost use Rattle.dap_session.specs.Plan.{messages_due};
-ghost use Rattle.dap_session.specs.PrivateSetting.{Suits};
+ghost use Rattle.dap_session.specs.PrivateChanging.{Suits};
 
 use crate::deciding::thread_of;
 use crate::decision::Decision;
@@ -93,7 +93,7 @@ impl<D: Debuggee + Drop> Session<D> {
             Effect::StartParked => self.start_parked(alloc, request),
             Effect::Disconnect => self.disconnect(alloc, request),
             Effect::EndAndDisconnect => self.end_and_disconnect(alloc, request),
-            Effect::SetBreakpoints => self.set_breakpoints(alloc, request, call),
+            Effect::Change => self.change(alloc, request, call),
         }
     }
 

@@ -6,6 +6,7 @@
 #![tactic(auto)]
 
 mod bodies;
+mod changing;
 mod deciding;
 mod decision;
 mod disconnecting;
@@ -22,7 +23,6 @@ mod phase;
 mod polling;
 mod querying;
 mod session;
-mod setting;
 mod several;
 mod starting;
 mod table;

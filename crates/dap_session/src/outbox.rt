@@ -7,7 +7,7 @@ ghost use Rattle.dap_session.specs.InRange.{IsRequestInRange};
 ghost use Rattle.dap_session.specs.PrivateOutbox.{answer_of, event_of, shape_of, Holds, AppendsDraft};
 ghost use Rattle.dap_json.specs.Field.{max_seq};
 ghost use Rattle.dap_json.specs.Writable.{is_plain_tree};
-ghost use Rattle.dap_message.specs.AdapterMessages.{event_name, event_body, success_response, body_of};
+ghost use Rattle.dap_message.specs.AdapterMessages.{event_name, event_body, success_response};
 ghost use Rattle.dap_message.specs.Lengths.{max_fixed, IsWithin};
 ghost use Rattle.dap_message.specs.ReadBack.{ReadsBack};
 
@@ -15,8 +15,8 @@ use dap_debuggee::Category;
 use dap_frame::write_frame;
 use dap_message::laws::{bodies_are_plain, fixed_messages_are_short};
 use dap_message::{
-    Body, Capabilities, Failure, Text, Tree, body_continue, body_continued, body_exited,
-    body_output, body_stopped, write_answer, write_event, write_failure, write_success,
+    Body, Capabilities, Failure, Text, Tree, body_continued, body_exited, body_output,
+    body_stopped, write_answer, write_event, write_failure,
 };
 use dap_tables::{Entry, Seq};
 use std::alloc::{AllocError, Global};
@@ -25,9 +25,9 @@ use std::alloc::{AllocError, Global};
 #[derive(Clone, Copy, Debug)]
 pub(crate) enum Fixed {
     /// What an adapter offers.
-    Offers(Capabilities),
+    Initialize(Capabilities),
     /// All threads go on.
-    AllGoOn,
+    Continue,
 }
 
 /// How a request is answered where the answer has no body, or one of a fixed shape.
@@ -55,15 +55,13 @@ pub(crate) struct Outbox {
     pub(crate) numbers: Seq,
 }
 
-fn fixed_body(alloc: Global, body: Option<Fixed>) -> Result<Option<Tree>, AllocError>
-    ensures body { IfOk result (λ tree. tree ≡ body_of (shape_of body)) }
-    ensures plain { IfOk result (λ tree. IsTrue (is_plain_tree tree)) }
+fn body_of(fixed: Option<Fixed>) -> Option<Body>
+    ensures { result ≡ shape_of fixed }
 {
-    bodies_are_plain();
-    match body {
-        None => Ok(None),
-        Some(Fixed::Offers(capabilities)) => Ok(Some(Tree::new(capabilities.write(alloc)?))),
-        Some(Fixed::AllGoOn) => Ok(Some(Tree::new(body_continue(alloc)?))),
+    match fixed {
+        None => None,
+        Some(Fixed::Initialize(capabilities)) => Some(Body::Initialize { capabilities }),
+        Some(Fixed::Continue) => Some(Body::Continue),
     }
 }
 
@@ -76,9 +74,8 @@ fn replied(alloc: Global, seq: u64, request: &Entry, answer: &Answer) -> Result<
     let command = request.command.as_str();
     match answer {
         Answer::Failure(failure) => write_failure(alloc, seq, request.seq, command, *failure),
-        Answer::Success(body) => {
-            let body = fixed_body(alloc, *body)?;
-            write_success(alloc, seq, request.seq, command, &body)
+        Answer::Success(fixed) => {
+            write_answer(alloc, seq, request.seq, command, &body_of(*fixed))
         }
     }
 }

@@ -24,7 +24,7 @@ use std::alloc::{AllocError, Global};
 
 impl<D: Debuggee + Drop> Session<D> {
     /// The object of a live number.
-    fn object(&self, number: u32) -> Option<u64>
+    pub(crate) fn object(&self, number: u32) -> Option<u64>
         ensures { result ≡ object_of self.now.session.references number }
     {
         match self.references.target(number) {

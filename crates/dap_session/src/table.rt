@@ -71,7 +71,7 @@ pub(crate) fn effect_in(command: Command, phase: Phase) -> Option<Effect>
         },
         Command::SetBreakpoints => {
             if is_configuring_or_there(phase) {
-                Some(Effect::SetBreakpoints)
+                Some(Effect::Change)
             } else {
                 None
             }
@@ -103,6 +103,7 @@ pub(crate) fn effect_in(command: Command, phase: Phase) -> Option<Effect>
         Command::Scopes => only_in(Phase::Stopped, phase, Effect::Query),
         Command::Variables => only_in(Phase::Stopped, phase, Effect::Query),
         Command::Evaluate => only_in(Phase::Stopped, phase, Effect::Query),
+        Command::SetVariable => only_in(Phase::Stopped, phase, Effect::Change),
         _ => None,
     }
 }

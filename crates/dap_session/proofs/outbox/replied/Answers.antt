@@ -1,5 +1,4 @@
 use Rattle.dap_session.proofs.Outboxes.{both-ok, reads-failure, reads-success}
-use Rattle.dap_session.specs.PrivateOutbox.{shape_of}
 use Rattle.dap_session.proofs.outbox.replied.Goals as goal
 
 pub returns-in-Failure-clause-reads_back : goal.returns-in-Failure-clause-reads_back
@@ -10,10 +9,10 @@ returns-in-Failure-clause-reads_back c =
     (rw c.as_str-command.ensures at c.write_failure.ensures.canon)
     (rw c.as_str-command.ensures at c.write_failure.ensures.reads_back))
 
-pub returns-in_ok-body-in-Success-clause-reads_back : goal.returns-in_ok-body-in-Success-clause-reads_back
-returns-in_ok-body-in-Success-clause-reads_back c =
+pub returns-in-Success-clause-reads_back : goal.returns-in-Success-clause-reads_back
+returns-in-Success-clause-reads_back c =
     rw c.in-Success.is
-    (both-ok c.write_success.result _ _ _
-    (λ text e reads. reads-success c.fixed_messages_are_short.ensures.responses c.args.seq c.args.request.now (shape_of c.in-Success.body) text.items e reads)
-    (rw (c.as_str-command.ensures, c.in_ok-body-in-Success.ensures.body) at c.write_success.ensures.canon)
-    (rw (c.as_str-command.ensures, c.in_ok-body-in-Success.ensures.body) at c.write_success.ensures.reads_back))
+    (both-ok c.write_answer.result _ _ _
+    (λ text e reads. reads-success c.fixed_messages_are_short.ensures.responses c.args.seq c.args.request.now c.in-Success.fixed text.items e reads)
+    (rw (c.as_str-command.ensures, c.body_of.ensures) at c.write_answer.ensures.canon)
+    (rw (c.as_str-command.ensures, c.body_of.ensures) at c.write_answer.ensures.reads_back))

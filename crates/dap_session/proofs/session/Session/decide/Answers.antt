@@ -1,4 +1,4 @@
-use Rattle.dap_session.proofs.SetLines.{call-suits}
+use Rattle.dap_session.proofs.ChangeResults.{call-suits}
 use Rattle.dap_session.proofs.session.Session.decide.Goals as goal
 
 pub returns-clause-suits : goal.returns-clause-suits

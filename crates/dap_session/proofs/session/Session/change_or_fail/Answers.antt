@@ -1,17 +1,13 @@
 use Rattle.std.proofs.Common.{refl, sym, subst}
 use Rattle.dap_session.specs.Plan.{Plan}
 use Rattle.dap_session.specs.SessionState.{Carries}
-use Rattle.dap_session.proofs.SetLines.{set-carries, all-ok}
+use Rattle.dap_session.proofs.ChangeResults.{change-carries}
 use Rattle.dap_session.proofs.TakingRequests.{at_once_carries, each-ok}
-use Rattle.dap_session.proofs.session.Session.set_or_fail.Goals as goal
+use Rattle.dap_session.proofs.session.Session.change_or_fail.Goals as goal
 
-pub returns-in-Ok-clause-carries : goal.returns-in-Ok-clause-carries
-returns-in-Ok-clause-carries g c =
-    all-ok c.set.result _ _ _ _
-    (λ follows session bytes is. set-carries g.D.Debuggee.follows _ _ _ c.args.request.now c.args.source.now c.args.asked.now c.in-Ok.outbox bytes.items c.in-Ok.ensures.sets follows session (rw is refl))
-    c.set.ensures.follows
-    c.set.ensures.session
-    c.set.ensures.bytes
+pub returns-in_ok-make_change-in-Ok-clause-carries : goal.returns-in_ok-make_change-in-Ok-clause-carries
+returns-in_ok-make_change-in-Ok-clause-carries g c =
+    change-carries g.D.Debuggee.follows _ c.args.self.now c.make_change.new.self c.commit.new.self c.args.request.now c.in-Ok.outbox c.commit.result.items c.in-Ok.ensures.measured c.in_ok-make_change-in-Ok.ensures.changes c.commit.ensures.session (rw c.commit.ensures.bytes refl)
 
 pub returns-in-Err-Fails-clause-carries : goal.returns-in-Err-Fails-clause-carries
 returns-in-Err-Fails-clause-carries g c =

@@ -1,0 +1,272 @@
+//! What a request changes: the lines of a source, or the value of a variable.
+//!
+//! The debuggee is queried and the answer measured; then the debuggee is asked, and the answer given.
+ghost use Rattle.std.specs.Prelude.{◌≡◌, ◌+◌, ◌≤◌, map, length, Ok, Some, IfOk, IfErr, IfSome, IfNone, OnOk, OnErr, IsTrue, false};
+ghost use Rattle.dap_message.specs.Types.Call.{Call};
+ghost use Rattle.dap_tables.specs.Breakpoints.{max_id, breakpoints_with};
+ghost use Rattle.dap_debuggee.specs.Shown.{to_set_breakpoints, to_assign, done};
+ghost use Rattle.dap_session.specs.Bodies.{object_of};
+ghost use Rattle.dap_session.specs.Breakpoints.{are_too_many};
+ghost use Rattle.dap_session.specs.Handling.{after_change, answers_to, change_result, lines_asked, lines_result, value_result};
+ghost use Rattle.dap_session.specs.Plan.{messages_due};
+ghost use Rattle.dap_session.specs.SessionState.{Carries, IsRefusedFor, IsUnasked};
+ghost use Rattle.dap_session.specs.PrivateChanging.{AreLines, CanChange, IsChange, IsChangeBody, IsMeasured, IsToFail, Changes, lines_given};
+
+use crate::fault::AdapterFault;
+use crate::no_answer::NoAnswer;
+use crate::outbox::{Answer, Outbox};
+use crate::session::Session;
+use dap_debuggee::Debuggee;
+use dap_message::{Body, Breakpoint, Call, Failure, SetVariable, SourceKey};
+use dap_tables::{BpFault, Entry};
+use std::alloc::{AllocError, Global};
+
+/// The lines that a call gives.
+fn lines_given(call: &Call) -> &[u32]
+    ensures { result.now ≡ lines_given call.now }
+{
+    match call {
+        Call::SetBreakpoints { lines, .. } => lines.as_slice(),
+        _ => &[],
+    }
+}
+
+/// Lines as the debuggee counts them, where the client counts from 0.
+fn raised(alloc: Global, lines: &[u32]) -> Result<Vec<u32>, AllocError>
+    requires { AreLines lines.now }
+    ensures { IfOk result (λ asked. asked.items ≡ map (λ n. n + 1) lines.now) }
+{
+    lines.iter().map(|line| *line + 1).collect(alloc)
+}
+
+/// An answer to each line that was asked for, with ids from the first on.
+fn answers_to(
+    alloc: Global,
+    first: u64,
+    lines: &[u32],
+    verified: Vec<bool>,
+) -> Result<Vec<Breakpoint>, AllocError>
+    requires { first + length lines.now ≤ max_id + 1 }
+    ensures { IfOk result (λ told. told.items ≡ answers_to first lines.now verified.items) }
+{
+    let past = first + lines.len() as u64;
+    (first..past)
+        .zip(lines.iter().copied().zip(verified))
+        .map(|(id, (line, verified))| Breakpoint { id, line, verified })
+        .collect(alloc)
+}
+
+impl<D: Debuggee + Drop> Session<D> {
+    /// Whether too many breakpoints would stand, or too many ids be given.
+    fn are_too_many(&self, source: &SourceKey, lines: &[u32]) -> bool
+        ensures { result ≡ are_too_many self.now.session.limits source.now lines.now self.now.session.breakpoints }
+    {
+        self.breakpoints.check(source, lines).is_err()
+    }
+
+    // ---- what is answered
+
+    /// Where lines are set. `asked` are the lines as the debuggee counts them.
+    fn lines_body(
+        &self,
+        alloc: Global,
+        source: &SourceKey,
+        lines: &[u32],
+        asked: &[u32],
+    ) -> Result<Body, NoAnswer>
+        requires { asked.now ≡ lines_asked self.now.session.options lines.now }
+        ensures { IsChangeBody result (lines_result self.now.session source.now lines.now ((D.shown self.now.debuggee).verify source.now asked.now)) }
+    {
+        let verified = self.debuggee.verify(alloc, source, asked)?;
+        if self.are_too_many(source, lines) {
+            return Err(NoAnswer::Fails(Failure::TooManyBreakpoints));
+        }
+        let breakpoints = answers_to(alloc, self.breakpoints.next_id(), lines, verified)?;
+        Ok(Body::SetBreakpoints { breakpoints })
+    }
+
+    /// Where a value is set.
+    fn value_body(&self, alloc: Global, wanted: &SetVariable) -> Result<Body, NoAnswer>
+        ensures { IsChangeBody result (value_result (D.shown self.now.debuggee) self.now.session wanted.now (object_of self.now.session.references wanted.now.variables_reference)) }
+    {
+        let Some(holder) = self.object(wanted.variables_reference) else {
+            return Err(NoAnswer::Fails(Failure::Debuggee));
+        };
+        let (name, text) = (wanted.name.as_str(), wanted.value.as_str());
+        let assigned = self.debuggee.assigned(alloc, holder, name, text)?;
+        Ok(Body::SetVariable {
+            value: assigned.value,
+        })
+    }
+
+    fn change_body(&self, alloc: Global, call: &Call, asked: &[u32]) -> Result<Body, NoAnswer>
+        requires { asked.now ≡ lines_asked self.now.session.options (lines_given call.now) }
+        ensures { IsChangeBody result (change_result (D.shown self.now.debuggee) self.now.session call.now) }
+    {
+        match call {
+            Call::SetBreakpoints { source, lines } => {
+                self.lines_body(alloc, source, lines.as_slice(), asked)
+            }
+            Call::SetVariable(wanted) => self.value_body(alloc, wanted),
+            _ => Err(NoAnswer::Fails(Failure::Debuggee)),
+        }
+    }
+
+    /// What is written where the change is made, or why it is not.
+    fn weigh(
+        &self,
+        alloc: Global,
+        request: &Entry,
+        call: &Call,
+        asked: &[u32],
+    ) -> Result<Outbox, NoAnswer>
+        requires room { self.now.session.used + 1 ≤ self.now.session.limits.seq }
+        requires asked { asked.now ≡ lines_asked self.now.session.options (lines_given call.now) }
+        ensures measured { IfOk result (λ outbox. IsMeasured (change_result (D.shown self.now.debuggee) self.now.session call.now) self.now.session request.now outbox) }
+        ensures fails { IfErr result (λ untold. IsToFail untold (after_change self.now.session request.now (change_result (D.shown self.now.debuggee) self.now.session call.now)) self.now.session request.now) }
+    {
+        let body = self.change_body(alloc, call, asked)?;
+        match self.measured(alloc, request, Some(body))? {
+            Some(outbox) => Ok(outbox),
+            None => Err(NoAnswer::Fails(Failure::TooLarge)),
+        }
+    }
+
+    // ---- what is asked
+
+    /// Asks the debuggee to set lines.
+    fn ask_lines(
+        &mut self,
+        alloc: Global,
+        source: &SourceKey,
+        lines: &[u32],
+    ) -> Result<(), AllocError>
+        ensures follows { OnOk result (D.follows self.old.debuggee (to_set_breakpoints source.now lines.now) done self.new.debuggee) }
+        ensures session { self.new.session ≡ self.old.session }
+    {
+        self.debuggee.set_breakpoints(alloc, source, lines)
+    }
+
+    /// Sets lines in the table.
+    fn replace(&mut self, source: SourceKey, lines: &[u32]) -> Result<(), AllocError>
+        requires { are_too_many self.old.session.limits source lines.now self.old.session.breakpoints ≡ false }
+        ensures ok { OnOk result (self.new ≡ record self.old { session = record self.old.session { breakpoints = breakpoints_with source lines.now self.old.session.breakpoints } }) }
+        ensures err { OnErr result (self.new ≡ self.old) }
+    {
+        match self.breakpoints.replace(source, lines) {
+            Ok(_) => Ok(()),
+            Err(BpFault::OutOfMemory) => Err(AllocError),
+            Err(BpFault::Full) => unreachable!(),
+            Err(BpFault::Exhausted) => unreachable!(),
+        }
+    }
+
+    /// Sets lines at the debuggee and in the table.
+    fn set_lines(
+        &mut self,
+        alloc: Global,
+        source: &SourceKey,
+        asked: &[u32],
+    ) -> Result<(), AllocError>
+        requires { are_too_many self.old.session.limits source.now asked.now self.old.session.breakpoints ≡ false }
+        ensures follows { OnOk result (D.follows self.old.debuggee (to_set_breakpoints source.now asked.now) done self.new.debuggee) }
+        ensures session { OnOk result (self.new.session ≡ record self.old.session { breakpoints = breakpoints_with source.now asked.now self.old.session.breakpoints }) }
+        ensures err { OnErr result (self.new.session ≡ self.old.session) }
+    {
+        let name = source.clone()?;
+        self.ask_lines(alloc, source, asked)?;
+        self.replace(name, asked)
+    }
+
+    /// Asks the debuggee to set a value.
+    fn set_value(&mut self, alloc: Global, wanted: &SetVariable) -> Result<(), AllocError>
+        requires { CanChange (value_result (D.shown self.old.debuggee) self.old.session wanted.now (object_of self.old.session.references wanted.now.variables_reference)) }
+        ensures follows { OnOk result (IfSome (object_of self.old.session.references wanted.now.variables_reference) (λ holder. D.follows self.old.debuggee (to_assign holder wanted.now.name wanted.now.value) done self.new.debuggee)) }
+        ensures session { self.new.session ≡ self.old.session }
+    {
+        match self.object(wanted.variables_reference) {
+            None => unreachable!(),
+            Some(holder) => {
+                let (name, text) = (wanted.name.as_str(), wanted.value.as_str());
+                self.debuggee.assign(alloc, holder, name, text)
+            }
+        }
+    }
+
+    /// Asks the debuggee for a change, and keeps it.
+    fn make_change(&mut self, alloc: Global, call: &Call, asked: &[u32]) -> Result<(), AllocError>
+        requires asked { asked.now ≡ lines_asked self.old.session.options (lines_given call.now) }
+        requires due { CanChange (change_result (D.shown self.old.debuggee) self.old.session call.now) }
+        ensures changes { OnOk result (Changes D.follows (change_result (D.shown self.old.debuggee) self.old.session call.now) self.old self.new) }
+        ensures err { OnErr result (self.new.session ≡ self.old.session) }
+    {
+        match call {
+            Call::SetBreakpoints { source, .. } => self.set_lines(alloc, source, asked),
+            Call::SetVariable(wanted) => self.set_value(alloc, wanted),
+            _ => unreachable!(),
+        }
+    }
+
+    // ---- a change
+
+    /// Changes what a call asks for, or answers why not. `asked` are the lines as the debuggee counts them.
+    fn change_or_fail(
+        &mut self,
+        alloc: Global,
+        request: &Entry,
+        call: &Call,
+        asked: &[u32],
+    ) -> Result<Vec<u8>, AllocError>
+        requires room { self.old.session.used + 1 ≤ self.old.session.limits.seq }
+        requires asked { asked.now ≡ lines_asked self.old.session.options (lines_given call.now) }
+        ensures carries { IfOk result (λ bytes. Carries D.follows (after_change self.old.session request.now (change_result (D.shown self.old.debuggee) self.old.session call.now)) self.old self.new bytes.items) }
+        ensures unasked { OnErr result (IsUnasked (Ok (Some (after_change self.old.session request.now (change_result (D.shown self.old.debuggee) self.old.session call.now)))) self.old.debuggee self.new.debuggee) }
+        ensures err { OnErr result (self.new.session ≡ self.old.session) }
+    {
+        match self.weigh(alloc, request, call, asked) {
+            Ok(outbox) => {
+                self.make_change(alloc, call, asked)?;
+                Ok(self.commit(request.seq, outbox))
+            }
+            Err(NoAnswer::Fails(failure)) => self.answer(alloc, request, Answer::Failure(failure)),
+            Err(NoAnswer::OutOfMemory) => Err(AllocError),
+        }
+    }
+
+    fn change_counted(
+        &mut self,
+        alloc: Global,
+        request: &Entry,
+        call: &Call,
+    ) -> Result<Vec<u8>, AllocError>
+        requires room { self.old.session.used + 1 ≤ self.old.session.limits.seq }
+        requires change { IsChange call.now }
+        ensures carries { IfOk result (λ bytes. Carries D.follows (after_change self.old.session request.now (change_result (D.shown self.old.debuggee) self.old.session call.now)) self.old self.new bytes.items) }
+        ensures unasked { OnErr result (IsUnasked (Ok (Some (after_change self.old.session request.now (change_result (D.shown self.old.debuggee) self.old.session call.now)))) self.old.debuggee self.new.debuggee) }
+        ensures err { OnErr result (self.new.session ≡ self.old.session) }
+    {
+        let lines = lines_given(call);
+        if self.options.lines_start_at_1 {
+            return self.change_or_fail(alloc, request, call, lines);
+        }
+        let asked = raised(alloc, lines)?;
+        self.change_or_fail(alloc, request, call, &asked)
+    }
+
+    /// Changes what a call asks for, or answers why not.
+    pub(crate) fn change(
+        &mut self,
+        alloc: Global,
+        request: &Entry,
+        call: &Call,
+    ) -> Result<Vec<u8>, AdapterFault>
+        requires change { IsChange call.now }
+        ensures carries { IfOk result (λ bytes. Carries D.follows (after_change self.old.session request.now (change_result (D.shown self.old.debuggee) self.old.session call.now)) self.old self.new bytes.items) }
+        ensures within { OnOk result (self.old.session.used + messages_due (after_change self.old.session request.now (change_result (D.shown self.old.debuggee) self.old.session call.now)) ≤ self.old.session.limits.seq) }
+        ensures refused { IfErr result (λ fault. IsRefusedFor fault (after_change self.old.session request.now (change_result (D.shown self.old.debuggee) self.old.session call.now)) self.old self.new) }
+        ensures err { OnErr result (self.new.session ≡ self.old.session) }
+    {
+        self.room(1)?;
+        Ok(self.change_counted(alloc, request, call)?)
+    }
+}
