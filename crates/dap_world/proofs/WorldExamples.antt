@@ -75,7 +75,7 @@ module _ {D : Type 0} (shown : D → Shown) (replies : Replies D) (d : D) where
   -- what was written by then, in order
   lines : texts w13 ≡
       codes "{\"arguments\":{\"adapterID\":\"rec\"},\"command\":\"initialize\",\"seq\":1,\"type\":\"request\"}"
-      ∷ codes "{\"body\":{\"supportsCancelRequest\":true,\"supportsConfigurationDoneRequest\":true,\"supportsLoadedSourcesRequest\":true,\"supportsStepBack\":true,\"supportsTerminateRequest\":true},\"command\":\"initialize\",\"request_seq\":1,\"seq\":1,\"success\":true,\"type\":\"response\"}"
+      ∷ codes "{\"body\":{\"supportsCancelRequest\":true,\"supportsConfigurationDoneRequest\":true,\"supportsLoadedSourcesRequest\":true,\"supportsSetVariable\":true,\"supportsStepBack\":true,\"supportsTerminateRequest\":true},\"command\":\"initialize\",\"request_seq\":1,\"seq\":1,\"success\":true,\"type\":\"response\"}"
       ∷ codes "{\"event\":\"initialized\",\"seq\":2,\"type\":\"event\"}"
       ∷ codes "{\"command\":\"launch\",\"seq\":2,\"type\":\"request\"}"
       ∷ codes "{\"command\":\"disconnect\",\"seq\":3,\"type\":\"request\"}"
@@ -178,7 +178,7 @@ module _ (replies : Replies Played) where
 
   nine_lines : texts v15 ≡
       codes "{\"arguments\":{\"adapterID\":\"rec\"},\"command\":\"initialize\",\"seq\":1,\"type\":\"request\"}"
-      ∷ codes "{\"body\":{\"supportsCancelRequest\":true,\"supportsConfigurationDoneRequest\":true,\"supportsLoadedSourcesRequest\":true,\"supportsStepBack\":true,\"supportsTerminateRequest\":true},\"command\":\"initialize\",\"request_seq\":1,\"seq\":1,\"success\":true,\"type\":\"response\"}"
+      ∷ codes "{\"body\":{\"supportsCancelRequest\":true,\"supportsConfigurationDoneRequest\":true,\"supportsLoadedSourcesRequest\":true,\"supportsSetVariable\":true,\"supportsStepBack\":true,\"supportsTerminateRequest\":true},\"command\":\"initialize\",\"request_seq\":1,\"seq\":1,\"success\":true,\"type\":\"response\"}"
       ∷ codes "{\"event\":\"initialized\",\"seq\":2,\"type\":\"event\"}"
       ∷ codes "{\"command\":\"threads\",\"seq\":2,\"type\":\"request\"}"
       ∷ codes "{\"command\":\"threads\",\"seq\":3,\"type\":\"request\"}"
