@@ -41,7 +41,6 @@ MAY_SEND = {
 CALLS = {
     **KEYS,
     "setFunctionBreakpoints": [("breakpoints", True, are(lambda one: isinstance(one, dict) and is_text(one.get("name"))))],
-    "setVariable": [("variablesReference", True, is_count), ("name", True, is_text), ("value", True, is_text)],
     "modules": [("startModule", False, is_count), ("moduleCount", False, is_count)],
     "exceptionInfo": THREAD,
     "breakpointLocations": [("source", True, is_named_source), ("line", True, is_count), ("endLine", False, is_count)],

@@ -1,6 +1,6 @@
 """How scripts/fuzz makes its cases: each from a seed and a number alone, by random choice, and most of them with damage.
 
-Sessions, scripts, transcripts and recordings are those of try_sessions.py and try_transcripts.py.
+Sessions, scripts, transcripts and recordings are those of random_sessions.py and try_transcripts.py.
 """
 import dataclasses
 import json
@@ -10,10 +10,10 @@ import random
 from damage import Raw, Writer, changed_bytes, changed_list, changed_value, noise, odd_value
 from drive_model import CALLS, MAY_SEND, drive_of
 from program_model import read_recording
+from random_sessions import mixed_session, random_recording
 from session_model import frame
 from slow_check import Refused, is_text, read_json
 from trial import FOLDER, HERE, RECORDING, RECORDINGS, recording_of, request, split
-from try_sessions import mixed_session, random_recording
 from try_transcripts import edited, random_script
 
 

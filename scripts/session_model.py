@@ -33,7 +33,7 @@ FAILURES = {
 RESUMING = {"continue", "next", "stepIn", "stepOut", "stepBack", "reverseContinue"}
 # Commands that have a name and are not served.
 UNSERVED = {
-    "setFunctionBreakpoints", "setVariable", "restart", "modules", "exceptionInfo", "breakpointLocations", "completions",
+    "setFunctionBreakpoints", "restart", "modules", "exceptionInfo", "breakpointLocations", "completions",
 }
 TO_STOPPED = {"Ready", "Configured", "Parked", "Running", "Stopped"}
 SERVED_IN = {
@@ -49,12 +49,10 @@ SERVED_IN = {
     "source": TO_STOPPED | {"Exited"},
     "loadedSources": TO_STOPPED | {"Exited"},
     "pause": {"Running", "Stopped"},
-    **{command: {"Stopped"} for command in RESUMING | {"stackTrace", "scopes", "variables", "evaluate"}},
+    **{command: {"Stopped"} for command in RESUMING | {"stackTrace", "scopes", "variables", "evaluate", "setVariable"}},
 }
-CAPABILITIES = {
-    f"supports{name}": True
-    for name in ("CancelRequest", "ConfigurationDoneRequest", "LoadedSourcesRequest", "StepBack", "TerminateRequest")
-}
+OFFERED = ("CancelRequest", "ConfigurationDoneRequest", "LoadedSourcesRequest", "SetVariable", "StepBack", "TerminateRequest")
+CAPABILITIES = {f"supports{name}": True for name in OFFERED}
 GREATEST = 9007199254740991
 
 
@@ -130,6 +128,7 @@ KEYS = {
     "scopes": [("frameId", True, is_count)],
     "variables": [("variablesReference", True, is_count), ("start", False, is_count), ("count", False, is_count)],
     "evaluate": [("expression", True, is_text), ("frameId", False, is_count)],
+    "setVariable": [("variablesReference", True, is_count), ("name", True, is_text), ("value", True, is_text)],
     "source": [("source", False, is_source), ("sourceReference", False, is_count)],
     "pause": THREAD,
     **{command: THREAD for command in RESUMING},
@@ -187,6 +186,8 @@ class Recorded:
         self.held = False
         # The lines last set, by the name of a source.
         self.lines = {}
+        # The values set at this stop: of each holder, by its identity, those of its variables, by their place.
+        self.values = {}
 
     def threads(self):
         return self.moments[self.at]["threads"] if self.at is not None else []
@@ -197,13 +198,30 @@ class Recorded:
     def children(self, holder):
         return holder.get("variables", [])
 
+    def value(self, holder, place):
+        """A value that was set counts before the recorded one."""
+        return self.values.get(id(holder), {}).get(place, self.children(holder)[place]["value"])
+
+    def place(self, holder, name):
+        """Where the first variable of that name stands directly in a holder; None where there is none."""
+        return next((place for place, one in enumerate(self.children(holder)) if one["name"] == name), None)
+
     def evaluate(self, frame, text):
-        """The first variable of that name that stands directly in a scope of the frame."""
+        """The first variable of that name that stands directly in a scope of the frame, and its value."""
         for scope in self.scopes(frame) if frame is not None else []:
-            for variable in self.children(scope):
-                if variable["name"] == text:
-                    return variable
+            place = self.place(scope, text)
+            if place is not None:
+                return self.children(scope)[place], self.value(scope, place)
         raise Failed("debuggee")
+
+    def assigned(self, holder, name, text):
+        """The value that the first variable of that name would have: the text."""
+        if self.place(holder, name) is None:
+            raise Failed("debuggee")
+        return text
+
+    def assign(self, holder, name, text):
+        self.values.setdefault(id(holder), {})[self.place(holder, name)] = text
 
     def names(self, place):
         """The names of a source: its place from 1, and its path, where it has one."""
@@ -252,6 +270,7 @@ class Recorded:
         place, reason = self.target(how)
         self.told = []
         self.held = False
+        self.values = {}
         if how not in ("stepBack", "reverseContinue"):
             waiting = [k for k in range(self.at + 1, place) if self.moments[k].get("waits", False)]
             if waiting:
@@ -436,6 +455,8 @@ class Session:
             self.end("Exited")
         elif command == "setBreakpoints":
             self.set_breakpoints(request, arguments)
+        elif command == "setVariable":
+            self.set_variable(request, arguments)
         elif command in self.bodies:
             self.respond(request, self.bodies[command](arguments or {}))
         elif command in RESUMING:
@@ -486,6 +507,13 @@ class Session:
         self.next_breakpoint += len(lines)
         self.debuggee.lines[name] = lines
 
+    def set_variable(self, request, arguments):
+        """The answer is measured before the debuggee is asked to set the value. Nothing is named in it."""
+        holder = self.references.thing("holder", arguments["variablesReference"])
+        value = self.debuggee.assigned(holder, arguments["name"], arguments["value"])
+        self.respond(request, {"value": value})
+        self.debuggee.assign(holder, arguments["name"], arguments["value"])
+
     def threads(self, _):
         return {"threads": [{"id": thread["id"], "name": thread["name"]} for thread in self.debuggee.threads()]}
 
@@ -523,19 +551,20 @@ class Session:
 
     def variables(self, arguments):
         """A part of them only where the client has said that it asks for parts."""
-        there = self.debuggee.children(self.references.thing("holder", arguments["variablesReference"]))
+        holder = self.references.thing("holder", arguments["variablesReference"])
+        there = [(one, self.debuggee.value(holder, place)) for place, one in enumerate(self.debuggee.children(holder))]
         if self.paging:
             there = window(there, arguments.get("start"), arguments.get("count"))
         rows = [
-            {"name": one["name"], "value": one["value"], "variablesReference": self.holder(one)} for one in there
+            {"name": one["name"], "value": value, "variablesReference": self.holder(one)} for one, value in there
         ]
         return {"variables": rows}
 
     def evaluate(self, arguments):
         number = arguments.get("frameId")
         frame = None if number is None else self.references.thing("frame", number)
-        found = self.debuggee.evaluate(frame, arguments["expression"])
-        return {"result": found["value"], "variablesReference": self.holder(found)}
+        found, value = self.debuggee.evaluate(frame, arguments["expression"])
+        return {"result": value, "variablesReference": self.holder(found)}
 
     def content(self, arguments):
         inner = (arguments.get("source") or {}).get("sourceReference")

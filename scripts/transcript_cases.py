@@ -669,6 +669,7 @@ BEGIN = 'send initialize {"adapterID":"rec"}\nrun\n'
 STOP = BEGIN + 'send launch\nsend configurationDone\nrun\nsend stackTrace {"threadId":1}\nrun\n'
 SCOPES = 'send scopes {"frameId":1}'
 NEXT = 'send next {"threadId":1}'
+SET_X = 'send setVariable {"variablesReference":2,"name":"x","value":"9"}'
 
 
 def drive(script, *words):
@@ -731,6 +732,8 @@ def drive_faults():
         ("no number left for the adapter", "send initialize\nrun", ("--max-seq", "1"), "Adapter"),
         ("a stop is left", STOP + f"{NEXT}\n{SCOPES}", (), "NotStopped at line 9"),
         ("a stop is gone", STOP + f"{NEXT}\nrun\n{SCOPES}", (), "UnknownReference at line 10"),
+        ("a frame in place of a holder", STOP + SET_X, (), "UnknownReference at line 8"),
+        ("a value that is missing", STOP + f"{SCOPES}\nrun\nsend setVariable {{}}", (), "Call at line 10"),
         ("a frame in place of variables", STOP + 'send variables {"variablesReference":1}', (), "UnknownReference at line 8"),
     ]:
         expect(f"drive: {name}", drive(script, *words), refused(line))
@@ -738,7 +741,9 @@ def drive_faults():
 
 def drive_stopped(checks):
     """Each message of a session with a stop, as the model has it; what its first lines are is written out above."""
-    script = (STOP + f"{SCOPES}\nrun\n{NEXT}\nrun\nsend continue {{\"threadId\":1}}\nrun\nsend disconnect\nrun\n").encode()
+    looks = [SCOPES, SET_X, 'send variables {"variablesReference":2}', NEXT]
+    looks += ['send continue {"threadId":1}', "send disconnect"]
+    script = (STOP + "".join(f"{line}\nrun\n" for line in looks)).encode()
     wanted = drive_of(recording_of(RECORDING), script)
     expect("drive: a session with a stop", drive(script), wanted)
     expect("drive: its first lines", wanted[1][: len(BEGUN)], BEGUN)

@@ -12,7 +12,8 @@ RECORDINGS = [os.path.join(HERE, "examples", "recordings", name + ".json") for n
 RECORDING = RECORDINGS[0]
 CAPABILITIES = (
     b'{"body":{"supportsCancelRequest":true,"supportsConfigurationDoneRequest":true,'
-    b'"supportsLoadedSourcesRequest":true,"supportsStepBack":true,"supportsTerminateRequest":true},'
+    b'"supportsLoadedSourcesRequest":true,"supportsSetVariable":true,"supportsStepBack":true,'
+    b'"supportsTerminateRequest":true},'
     b'"command":"initialize","request_seq":1,"seq":1,"success":true,"type":"response"}'
 )
 failures = []

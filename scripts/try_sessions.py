@@ -1,4 +1,4 @@
-"""Groups of scripts/try-program: sessions with breakpoints, stacks, scopes, variables, values and sources.
+"""Groups of scripts/try-program: sessions with breakpoints, stacks, scopes, variables, values, set ones too, and sources.
 
 Rows are a command, its arguments and all the messages that come for it, written out by hand. Longer sessions, and random
 ones, are compared with scripts/session_model.py to the byte.
@@ -8,9 +8,10 @@ import os
 import random
 import subprocess
 
-from session_model import FAILURES, RESUMING, Session
-from trial import CAPABILITIES, DAP, FOLDER, HERE, RECORDING, RECORDINGS, expect, frame, frames_of, recording_of, request
-from trial import run, split, words_of
+from random_sessions import Guided, mixed_session, random_recording
+from session_model import FAILURES
+from trial import CAPABILITIES, DAP, FOLDER, HERE, RECORDING, RECORDINGS, expect, frame, frames_of, recording_of
+from trial import request, run
 
 # The messages that come for a request, each by the request's number and command: a success, a failure, an event.
 def ok(body=None):
@@ -65,6 +66,10 @@ def same(name, path, requests, answers, words):
     expect(name, (status, out[at:], err), (0, b"", b""))
 
 
+def compare(guided, name):
+    same(name, guided.path, guided.requests, guided.answers, guided.words)
+
+
 # Rows over examples/recordings/a.json. Its first moment has `x`, and `p` with `a`; the second has two frames; the last waits.
 FLAGS = json.loads(CAPABILITIES)["body"]
 THREAD = {"threadId": 1}
@@ -108,6 +113,10 @@ def in_frame(n, text):
     return {"expression": text, "frameId": n}
 
 
+def assigning(n, name, text):
+    return {"variablesReference": n, "name": name, "value": text}
+
+
 def set_lines(source, lines, *told):
     return ("setBreakpoints", {"source": source, "breakpoints": [{"line": line} for line in lines]}, *told)
 
@@ -121,6 +130,13 @@ LOOK = [("stackTrace", THREAD, stack((1, "main", 1))), ("scopes", {"frameId": 1}
 X, P = ("x", "1", 0), ("p", "P", 3)
 ASKED_IN_A_STOP = [("stackTrace", THREAD), ("scopes", {"frameId": 1}), ("variables", number(1))]
 ASKED_IN_A_STOP += [("evaluate", {"expression": "x"})]
+NOT_IN_A_STOP = [
+    ("before initialize", [], "notInitialized", []),
+    ("before the start", INITIALIZED, "wrongPhase", []),
+    ("while it runs", [*STOPPED, HELD], "notStopped", [PAUSE]),
+    ("after the exit", [*STOPPED, HELD, PAUSE, EXIT], "wrongPhase", []),
+    ("after the end", [*STOPPED, TERMINATE], "wrongPhase", []),
+]
 
 
 def references():
@@ -163,13 +179,7 @@ def references():
         "references: not stopped",
         [*STOPPED, HELD, ("stackTrace", THREAD, fails("notStopped")), PAUSE, EXIT],
     )
-    for name, before, refusal, after in [
-        ("before initialize", [], "notInitialized", []),
-        ("before the start", INITIALIZED, "wrongPhase", []),
-        ("while it runs", [*STOPPED, HELD], "notStopped", [PAUSE]),
-        ("after the exit", [*STOPPED, HELD, PAUSE, EXIT], "wrongPhase", []),
-        ("after the end", [*STOPPED, TERMINATE], "wrongPhase", []),
-    ]:
+    for name, before, refusal, after in NOT_IN_A_STOP:
         rows(f"references: {name}", [*before, *[(*one, fails(refusal)) for one in ASKED_IN_A_STOP], *after])
     bad = ("scopes", {"frameId": -1}, fails("badArguments", "frameId"))
     rows("references: bad arguments come before the phase", [*INITIALIZED, bad])
@@ -266,6 +276,84 @@ def names():
             ("variables", number(2), variables(("c", "4", 0))),
         ],
         made_recording("names", [{"name": "a", "text": "a"}], there),
+    )
+
+
+def values():
+    """A value that is set is shown until a move succeeds; the first variable of the name is set, in that holder alone."""
+    set_x, is_set = [("setVariable", assigning(2, "x", "9"), ok({"value": "9"}))], variables(("x", "9", 0), P)
+    there = [*STOPPED, *LOOK, ("variables", number(2), variables(X, P)), ("variables", number(3), variables(("a", "7", 0)))]
+    bad = [
+        (None, "arguments"),
+        ({"name": 1, "value": 1}, "variablesReference"),
+        ({"variablesReference": 2, "value": 1}, "name"),
+        ({"variablesReference": 2, "name": "x", "value": None}, "value"),
+    ]
+    rows(
+        "values: set, seen, and lost by a step there and back",
+        [
+            *there,
+            *set_x,
+            ("setVariable", assigning(2, "p", "Q"), ok({"value": "Q"})),
+            ("setVariable", assigning(2, "y", "9"), fails("debuggee")),
+            ("variables", number(2), variables(("x", "9", 0), ("p", "Q", 3))),
+            ("evaluate", in_frame(1, "x"), value("9")),
+            ("evaluate", in_frame(1, "p"), value("Q", 3)),
+            NEXT,
+            *[("stepBack", THREAD, ok(), stopped("step"))] * 2,
+            ("stackTrace", THREAD, stack((4, "main", 1))),
+            ("evaluate", in_frame(4, "x"), value("1")),
+            ("setVariable", assigning(2, "x", "9"), STALE),
+            ("scopes", {"frameId": 4}, scopes(("Locals", 5))),
+            ("variables", number(5), variables(X, ("p", "P", 6))),
+        ],
+    )
+    rows(
+        "values: kept by what is refused, set again, set in a variable, and lost where it stops at once",
+        [
+            *there,
+            *set_x,
+            ("next", {"threadId": 2}, fails("unknownThread")),
+            ("variables", number(2), is_set),
+            *[("setVariable", arguments, fails("badArguments", key)) for arguments, key in bad],
+            *[("setVariable", assigning(n, "x", "8"), STALE) for n in (0, 1, 4, 2147483647)],
+            ("setVariable", assigning(3, "x", "8"), fails("debuggee")),
+            ("variables", number(2), is_set),
+            ("setVariable", assigning(2, "x", ""), ok({"value": ""})),
+            ("setVariable", assigning(3, "a", "\u0001\u00e9"), ok({"value": "\u0001\u00e9"})),
+            ("variables", number(2), variables(("x", "", 0), P)),
+            ("variables", number(3), variables(("a", "\u0001\u00e9", 0))),
+            ("stepBack", THREAD, ok(), stopped("step")),
+            ("stackTrace", THREAD, stack((4, "main", 1))),
+            ("evaluate", in_frame(4, "x"), value("1")),
+        ],
+    )
+    for name, before, refusal, after in NOT_IN_A_STOP:
+        rows(f"values: {name}", [*before, ("setVariable", assigning(2, "x", "9"), fails(refusal)), *after])
+    bad = ("setVariable", None, fails("badArguments", "arguments"))
+    rows("values: bad arguments come before the phase", [*INITIALIZED, bad])
+    two = [{"name": "v", "value": "1"}, {"name": "w", "value": "2"}, {"name": "v", "value": "3"}]
+    rows(
+        "values: of a name that stands twice in one scope and once in the next",
+        [
+            *INITIALIZED,
+            ("launch", None),
+            ("configurationDone", None, ok(), launched(2), stopped("entry")),
+            ("stackTrace", THREAD, stack((1, "main", 1), source={"name": "a", "sourceReference": 1})),
+            ("scopes", {"frameId": 1}, scopes(("A", 2), ("B", 3), ("C", 4))),
+            ("setVariable", assigning(3, "v", "5"), ok({"value": "5"})),
+            ("evaluate", in_frame(1, "v"), value("1")),
+            ("setVariable", assigning(2, "v", "4"), ok({"value": "4"})),
+            ("evaluate", in_frame(1, "v"), value("4")),
+            ("variables", number(2), variables(("v", "4", 0), ("w", "2", 0), ("v", "3", 0))),
+            ("variables", number(3), variables(("v", "5", 0))),
+            ("setVariable", assigning(4, "v", "5"), fails("debuggee")),
+        ],
+        made_recording(
+            "twice",
+            [{"name": "a", "text": "a"}],
+            [{"name": "A", "variables": two}, {"name": "B", "variables": two[:1]}, {"name": "C"}],
+        ),
     )
 
 
@@ -545,32 +633,6 @@ def too_large():
     rows("too large: the sources", [*INITIALIZED, ("loadedSources", None, large)], path, small)
 
 
-class Guided:
-    """A session whose requests are chosen by what the model answers."""
-
-    def __init__(self, path, **limits):
-        self.path = path
-        self.limits = limits
-        self.words = words_of(limits)
-        self.session = Session(recording_of(path), **limits)
-        self.requests = []
-        self.answers = []
-
-    def ask(self, command, arguments=None):
-        """The body of the response; none where it fails."""
-        one = request(len(self.requests) + 1, command, arguments)
-        self.requests.append(one)
-        self.answers.append(self.session.handle(one))
-        for _, body in split(self.answers[-1]):
-            told = json.loads(body)
-            if told.get("request_seq") == one["seq"]:
-                return told.get("body") if told["success"] else None
-        return None
-
-    def compare(self, name):
-        same(name, self.path, self.requests, self.answers, self.words)
-
-
 def look_around(guided):
     """Asks for all that is shown, down to the last variable."""
     for thread in guided.ask("threads")["threads"]:
@@ -599,137 +661,7 @@ def walks():
             guided.ask(move, thread)
         guided.ask("loadedSources")
         guided.ask("disconnect")
-        guided.compare(f"walks: {os.path.basename(path)}, {len(guided.requests)} requests")
-
-
-TEXTS = ["", "a", "b", "\u00e9" * 100, "\u0001\n\t\"\\/", "\U0001f333", "x" * 300, "\x7f\u2028", "\u001f" * 120]
-
-
-def random_recording(choice):
-    """A recording with whatever may stand in one."""
-    lines = ["a", "a\n", "\n\n", "a\n\u00e9\nb", "one\ntwo\nthree\nfour\n"]
-    sources = [{"name": choice.choice(TEXTS), "text": choice.choice(lines)} for _ in range(choice.randrange(1, 5))]
-    for source in sources:
-        if choice.randrange(3):
-            source["path"] = choice.choice(["/a", "/b", ""])
-
-    def variable(depth):
-        told = {"name": choice.choice(TEXTS[:5]), "value": choice.choice(TEXTS)}
-        if depth and choice.randrange(2):
-            told["variables"] = [variable(depth - 1) for _ in range(choice.randrange(4))]
-        return told
-
-    def scope():
-        told = {"name": choice.choice(TEXTS)}
-        return {**told, "variables": [variable(3) for _ in range(choice.randrange(5))]} if choice.randrange(5) else told
-
-    def shown():
-        place = choice.randrange(len(sources))
-        text = sources[place]["text"]
-        line = choice.randrange(text.count("\n") + (text[-1] != "\n")) + 1
-        told = {"name": choice.choice(TEXTS), "source": place, "line": line}
-        return {**told, "scopes": [scope() for _ in range(choice.randrange(3))]} if choice.randrange(4) else told
-
-    def moment():
-        ids = choice.sample([-9007199254740991, -5, 0, 1, 7, 9007199254740991], choice.randrange(1, 4))
-        stacks = [[shown() for _ in range(choice.randrange(1, 5))] for _ in ids]
-        threads = [{"id": n, "name": choice.choice(TEXTS), "frames": frames} for n, frames in zip(ids, stacks)]
-        told = {"threads": threads, "thread": choice.choice(ids), "waits": choice.randrange(4) == 0}
-        return {**told, "output": choice.choice(TEXTS)} if choice.randrange(2) else told
-
-    return {"exit": choice.randrange(-9, 9), "sources": sources, "moments": [moment() for _ in range(choice.randrange(1, 13))]}
-
-
-BAD_VALUES = [None, True, -1, 1.5, 1.0, "1", [], [None], {}, {"path": 1}, 2147483648, 9007199254740992, -9007199254740992]
-MIXED = ["stackTrace"] * 8 + ["scopes"] * 8 + ["variables"] * 12 + ["evaluate"] * 7 + ["setBreakpoints"] * 5 + ["source"] * 3
-MIXED += ["loadedSources", "threads", "pause", "pause", "stepIn", "stepBack", "reverseContinue"] + sorted(RESUMING)
-RARE = ["initialize", "launch", "attach", "configurationDone", "terminate", "disconnect", "cancel"]
-RARE += ["setVariable", "restart", "goto"]
-
-
-class Mixed(Guided):
-    """Requests as they come to mind: mostly what fits, also what is dead, of the other kind, unknown or malformed."""
-
-    def __init__(self, choice, path, **limits):
-        super().__init__(path, **limits)
-        self.choice = choice
-        recording = recording_of(path)
-        self.paths = [source["path"] for source in recording["sources"] if "path" in source] + ["/none", ""]
-        self.ids = sorted({thread["id"] for moment in recording["moments"] for thread in moment["threads"]} | {5})
-
-    def some(self):
-        return self.choice.choice([None, None, 0, 0, 0, 0, 1, 1, 2, 3, 2147483647])
-
-    def live(self, kind):
-        """The numbers of this kind that can be asked for, each with its thing."""
-        given = self.session.references
-        return [(given.dead + place, thing) for place, (its_kind, thing) in enumerate(given.live, 1) if its_kind == kind]
-
-    def number(self, kind):
-        given = self.session.references
-        live = [number for number, _ in self.live(kind)]
-        if live and self.choice.randrange(8):
-            return self.choice.choice(live)
-        return self.choice.choice([*range(given.dead + len(given.live) + 2), 2147483647])
-
-    def thread(self):
-        there = [thread["id"] for thread in self.session.debuggee.threads()]
-        return self.choice.choice(there if there and self.choice.randrange(8) else self.ids)
-
-    def source(self):
-        told = {"path": self.choice.choice(self.paths)} if self.choice.randrange(3) else {}
-        return {**told, "sourceReference": self.some()} if self.choice.randrange(2) else told
-
-    def watched(self):
-        """A frame and a name, mostly of a variable that stands in one of its scopes."""
-        frames = self.live("frame")
-        there = [
-            (number, variable["name"])
-            for number, thing in frames
-            for scope in thing.get("scopes", [])
-            for variable in scope.get("variables", [])
-        ]
-        if there and self.choice.randrange(4):
-            return self.choice.choice(there)
-        return self.choice.choice([self.number("frame")] * 4 + [None]), self.choice.choice(["", "a", "none"])
-
-    def arguments(self, command):
-        pick = self.choice.choice
-        if command == "scopes":
-            return {"frameId": self.number("frame")}
-        if command == "variables":
-            return {"variablesReference": self.number("holder"), "start": self.some(), "count": self.some()}
-        if command == "evaluate":
-            return dict(zip(("frameId", "expression"), self.watched()))
-        if command == "setBreakpoints":
-            lines = [pick([0, 1, 2, 3, 4, 2147483647]) for _ in range(pick([0, 1, 1, 2, 2, 3, 25]))]
-            told = {"breakpoints": [{"line": line} for line in lines]} if self.choice.randrange(3) else {"lines": lines}
-            return {"source": self.source(), **told}
-        if command == "source":
-            return {"source": pick([None, self.source()]), "sourceReference": self.some()}
-        if command == "cancel":
-            return {"requestId": self.choice.randrange(9)}
-        window = {"startFrame": self.some(), "levels": self.some()} if command == "stackTrace" else {}
-        return {"threadId": self.thread(), **window}
-
-    def damaged(self, arguments):
-        key = self.choice.choice(sorted(arguments))
-        value = self.choice.choice(BAD_VALUES)
-        return self.choice.choice([{**arguments, key: value}] * 6 + [{}, None, [], "x", 1])
-
-    def fitting(self):
-        """What leads to a stop, and there from frames to variables."""
-        if self.session.phase == "Stopped":
-            known = "variables" if self.live("holder") else "scopes" if self.live("frame") else "stackTrace"
-            return self.choice.choice([known, "evaluate"]) if self.live("frame") else known
-        ahead = {"Fresh": "initialize", "Ready": "launch", "Configured": "launch", "Parked": "configurationDone"}
-        return {**ahead, "Running": "pause"}.get(self.session.phase, "source")
-
-    def step(self):
-        kinds = [RARE] + [MIXED] * 24 + [[self.fitting()]] * 12
-        command = self.choice.choice(self.choice.choice(kinds))
-        arguments = self.arguments(command)
-        self.ask(command, self.damaged(arguments) if self.choice.randrange(12) == 0 else arguments)
+        compare(guided, f"walks: {os.path.basename(path)}, {len(guided.requests)} requests")
 
 
 def mixed():
@@ -742,26 +674,7 @@ def mixed():
     for seed in range(12 * len(paths)):
         path = paths[seed % len(paths)]
         guided = mixed_session(random.Random(seed), path)
-        guided.compare(f"mixed: {seed}, over {os.path.basename(path)}, {' '.join(guided.words)}")
-
-
-def mixed_session(choice, path, most=120):
-    """A random session over the recording of a file, of fewer requests than `most` and the first, under random limits."""
-    limits = {
-        "max_references": choice.choice([None, None, None, 2, 5, 9]),
-        "max_reference": choice.choice([None, None, None, None, 9, 30]),
-        "max_breakpoints": choice.choice([None, 1, 2, 5]),
-        "max_body": choice.choice([None, None, 1024]),
-    }
-    guided = Mixed(choice, path, **{name: value for name, value in limits.items() if value is not None})
-    flags = ("linesStartAt1", "columnsStartAt1", "supportsVariablePaging")
-    if choice.randrange(8):
-        guided.ask("initialize", {flag: choice.choice([None, True, False]) for flag in flags})
-    for _ in range(choice.randrange(most)):
-        guided.step()
-        if guided.session.phase == "Exited" and choice.randrange(4) == 0:
-            break
-    return guided
+        compare(guided, f"mixed: {seed}, over {os.path.basename(path)}, {' '.join(guided.words)}")
 
 
 def follow():
@@ -774,6 +687,7 @@ def follow():
 
 GROUPS = {
     "references": references,
+    "values": values,
     "breakpoints": breakpoints,
     "sources": sources,
     "too_large": too_large,

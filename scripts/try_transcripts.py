@@ -85,6 +85,10 @@ class Scripted:
         if command in USED_AT:
             key, kind = USED_AT[command]
             told = {key: self.number(kind), "expression": pick(["x", "p", "q"])}
+            if command == "setVariable":
+                live = [thing for its_kind, thing in self.drive.adapter.references.live if its_kind == "holder"]
+                names = [variable["name"] for thing in live for variable in thing.get("variables", [])]
+                return {**told, "name": pick(names + ["none"]), "value": pick(["", "9", "\u00e9" * 90])}
             return told if command != "evaluate" or self.choice.randrange(6) else {"expression": "x"}
         if command == "setBreakpoints":
             source = pick([{"path": pick(self.names)}, {"sourceReference": 1}])
@@ -104,6 +108,8 @@ class Scripted:
         lead = {"Fresh": ["initialize"], "Configuring": ["launch", "configurationDone", "setBreakpoints"]}
         resuming = self.choice.choice(sorted(RESUMING))
         lead["Stopped"] = [resuming] * 2 + ["stackTrace", "scopes", "variables", "evaluate"] * 3
+        if any(kind == "variables" for kind, _ in self.drive.client.known):
+            lead["Stopped"] += ["variables", "setVariable", "setVariable"] * 4
         lead["Running"] = ["pause"]
         client = self.drive.client
         if len(client.waiting) >= client.max_requests and self.choice.randrange(8):

@@ -79,6 +79,8 @@ type debuggee struct {
 	held   bool
 	// set has the lines last set, by the name of a source.
 	set map[sourceName][]int
+	// values has those that were set at this stop.
+	values map[*holder]string
 }
 
 func openRecording(path string) (*debuggee, error) {
@@ -112,7 +114,7 @@ func openRecording(path string) (*debuggee, error) {
 	if len(read.Moments) == 0 {
 		return nil, errors.New("the recording has no moments")
 	}
-	return &debuggee{recording: read, shown: -1, set: map[sourceName][]int{}}, nil
+	return &debuggee{recording: read, shown: -1, set: map[sourceName][]int{}, values: map[*holder]string{}}, nil
 }
 
 func (r *recording) check(thread *thread) error {
@@ -149,13 +151,29 @@ func (d *debuggee) thread(id int) *thread {
 // evaluate is the first variable of that name that stands directly in a scope of the frame.
 func (f *frame) evaluate(text string) *holder {
 	for _, scope := range f.Scopes {
-		for _, variable := range scope.Variables {
-			if variable.Name == text {
-				return variable
-			}
+		if variable := scope.variable(text); variable != nil {
+			return variable
 		}
 	}
 	return nil
+}
+
+// variable is the first one of that name that stands directly in a holder.
+func (h *holder) variable(name string) *holder {
+	for _, variable := range h.Variables {
+		if variable.Name == name {
+			return variable
+		}
+	}
+	return nil
+}
+
+// value is the one that was set, else the recorded one.
+func (d *debuggee) value(variable *holder) string {
+	if value, ok := d.values[variable]; ok {
+		return value
+	}
+	return variable.Value
 }
 
 // linesOf is how many lines the longest source of that name has.
@@ -209,6 +227,7 @@ func (d *debuggee) resume(command string) {
 	at := d.shown
 	d.goal = d.target(command, at)
 	d.held = false
+	d.values = map[*holder]string{}
 	if command == "stepBack" || command == "reverseContinue" {
 		return
 	}

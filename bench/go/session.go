@@ -185,7 +185,7 @@ func (s *session) test(message dap.RequestMessage, bad string) *failure {
 		return s.fits(bad, ready, configured, parked, running, stopped)
 	case *dap.StackTraceRequest:
 		return s.whileStopped(badThread(bad, message.Arguments.ThreadId))
-	case *dap.ScopesRequest, *dap.VariablesRequest, *dap.EvaluateRequest:
+	case *dap.ScopesRequest, *dap.VariablesRequest, *dap.EvaluateRequest, *dap.SetVariableRequest:
 		return s.whileStopped(bad)
 	case *dap.ContinueRequest:
 		return s.whileStopped(badThread(bad, message.Arguments.ThreadId))
@@ -201,8 +201,8 @@ func (s *session) test(message dap.RequestMessage, bad string) *failure {
 		return s.whileStopped(badThread(bad, message.Arguments.ThreadId))
 	case *dap.PauseRequest:
 		return s.fits(badThread(bad, message.Arguments.ThreadId), running, stopped)
-	case *dap.SetFunctionBreakpointsRequest, *dap.SetVariableRequest, *dap.RestartRequest, *dap.ModulesRequest,
-		*dap.ExceptionInfoRequest, *dap.BreakpointLocationsRequest, *dap.CompletionsRequest:
+	case *dap.SetFunctionBreakpointsRequest, *dap.RestartRequest, *dap.ModulesRequest, *dap.ExceptionInfoRequest,
+		*dap.BreakpointLocationsRequest, *dap.CompletionsRequest:
 		return unsupported
 	}
 	return unknownCommand
@@ -276,6 +276,8 @@ func (s *session) answer(message dap.RequestMessage) (*failure, error) {
 		return s.variables(message)
 	case *dap.EvaluateRequest:
 		return s.evaluate(message)
+	case *dap.SetVariableRequest:
+		return s.setVariable(message)
 	case *dap.SourceRequest:
 		return s.source(message)
 	case *dap.LoadedSourcesRequest:
@@ -321,6 +323,7 @@ func (s *session) initialize(message *dap.InitializeRequest) error {
 		SupportsCancelRequest:            true,
 		SupportsConfigurationDoneRequest: true,
 		SupportsLoadedSourcesRequest:     true,
+		SupportsSetVariable:              true,
 		SupportsStepBack:                 true,
 		SupportsTerminateRequest:         true,
 	}}
@@ -504,7 +507,7 @@ func (s *session) variables(message *dap.VariablesRequest) (*failure, error) {
 		if why != nil {
 			return why, nil
 		}
-		told = append(told, dap.Variable{Name: child.Name, Value: child.Value, VariablesReference: number})
+		told = append(told, dap.Variable{Name: child.Name, Value: s.debuggee.value(child), VariablesReference: number})
 	}
 	response := &dap.VariablesResponse{Response: s.success(message.GetRequest())}
 	response.Body.Variables = told
@@ -529,7 +532,22 @@ func (s *session) evaluate(message *dap.EvaluateRequest) (*failure, error) {
 		return why, nil
 	}
 	response := &dap.EvaluateResponse{Response: s.success(message.GetRequest())}
-	response.Body = dap.EvaluateResponseBody{Result: found.Value, VariablesReference: number}
+	response.Body = dap.EvaluateResponseBody{Result: s.debuggee.value(found), VariablesReference: number}
+	return nil, s.send(response)
+}
+
+func (s *session) setVariable(message *dap.SetVariableRequest) (*failure, error) {
+	there, ok := s.references.thing(message.Arguments.VariablesReference).(*holder)
+	if !ok {
+		return staleReference, nil
+	}
+	found := there.variable(message.Arguments.Name)
+	if found == nil {
+		return refused, nil
+	}
+	s.debuggee.values[found] = message.Arguments.Value
+	response := &dap.SetVariableResponse{Response: s.success(message.GetRequest())}
+	response.Body.Value = message.Arguments.Value
 	return nil, s.send(response)
 }
 

@@ -44,6 +44,7 @@ pub struct Capabilities {
     pub supports_cancel_request: bool,
     pub supports_configuration_done_request: bool,
     pub supports_loaded_sources_request: bool,
+    pub supports_set_variable: bool,
     pub supports_step_back: bool,
     pub supports_terminate_request: bool,
 }
@@ -127,6 +128,11 @@ pub struct Variable<'a> {
 pub struct Evaluated<'a> {
     pub result: &'a str,
     pub variables_reference: u32,
+}
+
+#[derive(Serialize)]
+pub struct Assigned<'a> {
+    pub value: &'a str,
 }
 
 #[derive(Serialize)]

@@ -35,6 +35,11 @@ pub enum Call<'a> {
         expression: &'a str,
         frame: Option<u32>,
     },
+    SetVariable {
+        reference: u32,
+        name: &'a str,
+        value: &'a str,
+    },
     Source {
         reference: u32,
     },
@@ -132,11 +137,20 @@ impl<'a> Call<'a> {
             }
             "evaluate" => {
                 let given = given()?;
-                let expression = given
-                    .text("expression")?
-                    .ok_or(Failure::BadArguments("expression"))?;
+                let expression = given.required_text("expression")?;
                 let frame = given.count("frameId")?;
                 Ok(Call::Evaluate { expression, frame })
+            }
+            "setVariable" => {
+                let given = given()?;
+                let reference = given.required_count("variablesReference")?;
+                let name = given.required_text("name")?;
+                let value = given.required_text("value")?;
+                Ok(Call::SetVariable {
+                    reference,
+                    name,
+                    value,
+                })
             }
             "source" => {
                 let reference = Arguments::optional(arguments)?.source_number()?;
@@ -151,7 +165,6 @@ impl<'a> Call<'a> {
             "stepBack" => resume(Move::StepBack),
             "reverseContinue" => resume(Move::ReverseContinue),
             "setFunctionBreakpoints"
-            | "setVariable"
             | "restart"
             | "modules"
             | "exceptionInfo"
@@ -195,6 +208,10 @@ impl<'a> Arguments<'a> {
 
     fn text(self, key: &'static str) -> Result<Option<&'a str>, Failure> {
         self.read(key, Value::as_str)
+    }
+
+    fn required_text(self, key: &'static str) -> Result<&'a str, Failure> {
+        self.text(key)?.ok_or(Failure::BadArguments(key))
     }
 
     fn truth(self, key: &'static str) -> Result<Option<bool>, Failure> {

@@ -20,6 +20,8 @@ pub struct Recorded {
     moments: Vec<Moment>,
     frames: Vec<Frame>,
     holders: Vec<Vec<Variable>>,
+    /// The variables of the holders in which a value was set at this stop.
+    changed: HashMap<HolderId, Vec<Variable>>,
     /// The lines last set, by the name of a source.
     lines: HashMap<SourceName, Vec<u64>>,
     shown: Option<usize>,
@@ -61,6 +63,7 @@ pub struct Scope {
     pub holder: HolderId,
 }
 
+#[derive(Clone)]
 pub struct Variable {
     pub name: String,
     pub value: String,
@@ -82,6 +85,7 @@ impl Recorded {
             moments: Vec::with_capacity(read.moments.len()),
             frames: Vec::new(),
             holders: Vec::new(),
+            changed: HashMap::new(),
             lines: HashMap::new(),
             shown: None,
             untold: VecDeque::new(),
@@ -191,7 +195,7 @@ impl Recorded {
     }
 
     pub fn children(&self, holder: HolderId) -> &[Variable] {
-        &self.holders[holder]
+        self.changed.get(&holder).unwrap_or(&self.holders[holder])
     }
 
     /// The first variable of that name that stands directly in a scope of the frame.
@@ -200,6 +204,19 @@ impl Recorded {
         scopes
             .flat_map(|scope| self.children(scope.holder))
             .find(|variable| variable.name == text)
+    }
+
+    /// Where the first variable of that name stands directly in a holder.
+    pub fn place_of(&self, holder: HolderId, name: &str) -> Option<usize> {
+        let mut children = self.children(holder).iter();
+        children.position(|variable| variable.name == name)
+    }
+
+    /// Sets a value, until the next move.
+    pub fn assign(&mut self, holder: HolderId, place: usize, value: &str) {
+        let recorded = &self.holders[holder];
+        let changed = self.changed.entry(holder);
+        changed.or_insert_with(|| recorded.clone())[place].value = value.to_owned();
     }
 
     pub fn sources(&self) -> &[Source] {
@@ -266,6 +283,7 @@ impl Recorded {
         let at = self.shown.unwrap_or(0);
         let (mut place, mut reason) = self.target(how, at);
         self.held = false;
+        self.changed.clear();
         if !matches!(how, Move::StepBack | Move::ReverseContinue) {
             if let Some(waiting) = (at + 1..place).find(|&k| self.moments[k].waits) {
                 (place, reason) = (waiting, "pause");

@@ -171,6 +171,7 @@ impl Session {
             | Call::Scopes { .. }
             | Call::Variables { .. }
             | Call::Evaluate { .. }
+            | Call::SetVariable { .. }
             | Call::Resume { .. } => match phase {
                 Phase::Running => return Err(Failure::NotStopped),
                 phase => phase == Phase::Stopped,
@@ -226,6 +227,11 @@ impl Session {
                 self.variables(request, reference, &window, out)
             }
             Call::Evaluate { expression, frame } => self.evaluate(request, expression, frame, out),
+            Call::SetVariable {
+                reference,
+                name,
+                value,
+            } => self.set_variable(request, reference, name, value, out),
             Call::Source { reference } => self.source(request, reference, out),
             Call::LoadedSources => self.loaded_sources(request, out),
             Call::Pause => {
@@ -250,6 +256,7 @@ impl Session {
             supports_cancel_request: true,
             supports_configuration_done_request: true,
             supports_loaded_sources_request: true,
+            supports_set_variable: true,
             supports_step_back: true,
             supports_terminate_request: true,
         };
@@ -453,6 +460,23 @@ impl Session {
             },
             out,
         )
+    }
+
+    /// Nothing changes before the answer has been measured.
+    fn set_variable(
+        &mut self,
+        request: &Request,
+        reference: u32,
+        name: &str,
+        value: &str,
+        out: &mut Vec<u8>,
+    ) -> Result<(), Failure> {
+        let holder = self.references.holder(reference)?;
+        let place = self.recorded.place_of(holder, name);
+        let place = place.ok_or(Failure::Debuggee)?;
+        self.writer.answer(request, Assigned { value }, out)?;
+        self.recorded.assign(holder, place, value);
+        Ok(())
     }
 
     fn source(
