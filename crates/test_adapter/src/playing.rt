@@ -12,12 +12,16 @@
 //! | `phase P`, `kept N`, `references N`, `breakpoints N`, `held N` | what is seen, until the row says otherwise |
 //! | `free of memory` | from here on no call takes memory, so that one which is refused any is wrong |
 //! | `recording JSON` | the debuggee is of this recording; of the shared one if left out |
+//! | `debuggee willing` | of a stubborn debuggee: it does not refuse its first start |
 //!
 //! At each call all that the last one handed out has to be named, and as many requests are kept as were taken and not
 //! answered. A call that is refused memory closes the adapter too.
 
+ghost use Rattle.std.specs.Prelude.{◌≡◌};
+ghost use Rattle.dap_debuggee.specs.declared.answers.State.{State};
+
 use dap_adapter::{Adapter, AdapterFault, Phase, Turned};
-use dap_debuggee::{Debuggee, Recorded, Stubborn};
+use dap_debuggee::{Debuggee, Recorded};
 use std::alloc::Global;
 use std::marker::Model;
 use test_kit::bodies::{frame_with_next, is_request};
@@ -29,6 +33,7 @@ use test_kit::player::{Player, Setting};
 use test_kit::rows::heading;
 use test_kit::samples::{RECORDING, debuggee_of};
 use test_kit::served::phase_named;
+use test_kit::stubborn::Stubborn;
 use test_kit::words::{Counted, Word, parts, word_named};
 
 /// A call of an adapter.
@@ -457,14 +462,28 @@ impl Player for Playing<Recorded> {
     }
 }
 
-/// Over a debuggee that refuses to start when it is asked first.
+/// The debuggee of a recording that refuses its first start, unless the row says that it is willing.
+fn stubborn_of(setting: &Setting<'_>, recorded: Recorded) -> Stubborn
+    requires { recorded.state ≡ State.NotStarted }
+    ensures { result.inner.state ≡ State.NotStarted }
+{
+    match heading(setting.row, "debuggee ") {
+        Some("willing") => Stubborn::willing(recorded),
+        _ => Stubborn::new(recorded),
+    }
+}
+
+/// Over a debuggee that may refuse to start when it is asked first, and whose variables take one long value.
 impl Player for Playing<Stubborn> {
     fn open(alloc: Global, setting: &Setting<'_>, _came: &mut String) -> Result<Self, Outcome> {
         match debuggee_of(alloc, recording_of(setting)) {
-            Ok(debuggee) => match Adapter::open(alloc, setting.limits, Stubborn::new(debuggee)) {
-                Ok(adapter) => Ok(Playing::new(alloc, adapter, setting.size)),
-                Err(_) => Err(Outcome::Refused),
-            },
+            Ok(recorded) => {
+                let debuggee = stubborn_of(setting, recorded);
+                match Adapter::open(alloc, setting.limits, debuggee) {
+                    Ok(adapter) => Ok(Playing::new(alloc, adapter, setting.size)),
+                    Err(_) => Err(Outcome::Refused),
+                }
+            }
             Err(outcome) => Err(outcome),
         }
     }

@@ -54,7 +54,7 @@ send threads
 row a body that is no object
 after initializes
 < []
-! Body { cause: NotObject, offset: 342 }
+! Body { cause: NotObject, offset: 369 }
 phase Configuring
 references 0
 "#,

@@ -1,7 +1,17 @@
 //! What the other files share: a recording, and what a debuggee answers to a list of words.
 //!
 //! What is answered is appended to a text; `false` or nothing comes where memory was refused, or where there is no answer.
+//!
+//! | a word | asks |
+//! |---|---|
+//! | `start`, `pause`, `poll`, `end`, `next` and the other five by which it goes on | that act |
+//! | `line`, `clear` | sets line 1 of `/a.c`, or none |
+//! | `assigned:HOLDER:NAME:TEXT` | what a variable would be set to |
+//! | `assign:HOLDER:NAME:TEXT` | the same, and sets it if that is told |
+//! | `children:HOLDER`, `value:FRAME:NAME` | the variables of a holder; what a name is worth in a frame |
+//! | `all` | all that can be told of the first frame of the thread 1 |
 
+use crate::telling::{add_all, add_children, add_value};
 use dap_call::SourceKey;
 use dap_debuggee::{Debuggee, DebuggeeFault, Frame, Happening, How, Recorded};
 use dap_json::Text;
@@ -57,9 +67,13 @@ fn add_number(told: &mut String, word: &str, number: i64) -> bool {
     write!(told, "{word} {number}").is_ok()
 }
 
+/// A text, if it is short.
+pub(crate) fn in_short(text: &str) -> &str {
+    if text.len() > 20 { "long" } else { text }
+}
+
 fn add_output(told: &mut String, category: &str, text: &str) -> bool {
-    let length = text.len();
-    let text = if length > 20 { "long" } else { text };
+    let (length, text) = (text.len(), in_short(text));
     write!(told, "{category} {length} {text}").is_ok()
 }
 
@@ -150,7 +164,92 @@ fn add_set<D: Debuggee>(alloc: Global, debuggee: &mut D, lines: &[u32], told: &m
     }
 }
 
+/// A variable of a holder, and the text that it is to be set to.
+#[derive(Clone, Copy)]
+struct Setting<'a> {
+    holder: u64,
+    name: &'a str,
+    text: &'a str,
+}
+
+/// `HOLDER:NAME:TEXT`.
+fn setting_of(words: &str) -> Option<Setting<'_>> {
+    let (holder, rest) = words.split_once(":")?;
+    let (name, text) = rest.split_once(":")?;
+    let holder = holder.parse::<u64>().ok()?;
+    Some(Setting { holder, name, text })
+}
+
+/// The value that a variable would be set to.
+fn add_assigned<D: Debuggee>(
+    alloc: Global,
+    debuggee: &D,
+    set: Setting<'_>,
+    told: &mut String,
+) -> bool {
+    match debuggee.assigned(alloc, set.holder, set.name, set.text) {
+        Ok(assigned) => told.push_str(in_short(assigned.value.as_str())).is_ok(),
+        Err(fault) => told.push_str(faulted(fault)).is_ok(),
+    }
+}
+
+/// A variable is set, where there is one.
+fn add_assign<D: Debuggee>(
+    alloc: Global,
+    debuggee: &mut D,
+    set: Setting<'_>,
+    told: &mut String,
+) -> bool {
+    match debuggee.assigned(alloc, set.holder, set.name, set.text) {
+        Ok(_) => {
+            debuggee
+                .assign(alloc, set.holder, set.name, set.text)
+                .is_ok()
+                && told.push_str("set").is_ok()
+        }
+        Err(fault) => told.push_str(faulted(fault)).is_ok(),
+    }
+}
+
+/// What a word with a colon is answered.
+fn add_of<D: Debuggee>(
+    alloc: Global,
+    debuggee: &mut D,
+    word: &str,
+    rest: &str,
+    told: &mut String,
+) -> bool {
+    match word {
+        "assigned" => match setting_of(rest) {
+            Some(set) => add_assigned(alloc, debuggee, set, told),
+            None => false,
+        },
+        "assign" => match setting_of(rest) {
+            Some(set) => add_assign(alloc, debuggee, set, told),
+            None => false,
+        },
+        "children" => match rest.parse::<u64>() {
+            Ok(holder) => add_children(alloc, debuggee, holder, told),
+            Err(_) => false,
+        },
+        "value" => match rest.split_once(":") {
+            Some((frame, name)) => add_value(
+                alloc,
+                debuggee,
+                frame.parse::<u64>().ok(),
+                name,
+                told,
+            ),
+            None => false,
+        },
+        _ => false,
+    }
+}
+
 fn add_answer<D: Debuggee>(alloc: Global, debuggee: &mut D, word: &str, told: &mut String) -> bool {
+    if let Some((word, rest)) = word.split_once(":") {
+        return add_of(alloc, debuggee, word, rest, told);
+    }
     match word {
         "start" => told.push_str(answered(debuggee.start(alloc))).is_ok(),
         "pause" => told.push_str(answered(debuggee.pause(alloc))).is_ok(),
@@ -158,6 +257,7 @@ fn add_answer<D: Debuggee>(alloc: Global, debuggee: &mut D, word: &str, told: &m
         "line" => add_set(alloc, debuggee, &[1], told),
         "clear" => add_set(alloc, debuggee, &[], told),
         "poll" => add_poll(alloc, debuggee, told),
+        "all" => add_all(alloc, debuggee, told),
         _ => add_resumed(alloc, debuggee, word, told),
     }
 }

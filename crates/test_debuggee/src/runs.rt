@@ -2,9 +2,10 @@
 
 use crate::playing::{THREE_MOMENTS, is_moved, is_played, three_moments};
 use crate::telling::{Query, is_told};
-use dap_debuggee::{Category, Recorded, Stubborn};
+use dap_debuggee::{Category, Recorded};
 use std::alloc::Global;
 use std::test::Fail;
+use test_kit::stubborn::Stubborn;
 
 static MOVES: [(&str, &str); 11] = [
     (
@@ -220,27 +221,182 @@ fn names(rt: HostRuntime) {
     assert!(rt; are_names());
 }
 
-/// Whether a debuggee that refuses once answers so to some words.
-fn is_stubborn(alloc: Global, words: &str, wanted: &str) -> bool {
+/// Sets of values, over the three moments: the object number of `Locals` is 1, and that of what `p` has is 0.
+static SETS: [(&str, &str); 17] = [
+    // What it would be is told, and nothing is set.
+    (
+        "start poll poll assigned:1:x:9 children:1",
+        "done; stdout 3 go\n; entry 1 line 1; 9; x=1; p=P+; ; ",
+    ),
+    // It is seen among the variables, and as an expression.
+    (
+        "start poll poll assign:1:x:9 children:1 value:0:x",
+        "done; stdout 3 go\n; entry 1 line 1; set; x=9; p=P+; ; 9; ",
+    ),
+    // What holds its children stays, and so do they.
+    (
+        "start poll poll assign:1:p:Q children:1 value:0:p children:0",
+        "done; stdout 3 go\n; entry 1 line 1; set; x=1; p=Q+; ; Q of a=7; ; a=7; ; ",
+    ),
+    // Nothing else changes.
+    (
+        "start poll poll all assign:1:x:9 all",
+        "done; stdout 3 go\n; entry 1 line 1; 1 main; : 0 main 0 1; : Locals: x=1; p=P+; : a=7; : x=1; p=P+; : 1: P of a=7; : a.c: one\ntwo\nthree\n: yyn: ; set; 1 main; : 0 main 0 1; : Locals: x=9; p=P+; : a=7; : x=9; p=P+; : 9: P of a=7; : a.c: one\ntwo\nthree\n: yyn: ; ",
+    ),
+    // Twice the same one; two of a holder; two holders.
+    (
+        "start poll poll assign:1:x:9 assign:1:x:10 children:1 value:0:x",
+        "done; stdout 3 go\n; entry 1 line 1; set; set; x=10; p=P+; ; 10; ",
+    ),
+    (
+        "start poll poll assign:1:x:9 assign:1:p:Q children:1",
+        "done; stdout 3 go\n; entry 1 line 1; set; set; x=9; p=Q+; ; ",
+    ),
+    (
+        "start poll poll assign:1:x:9 assign:0:a:8 children:1 children:0 value:0:p",
+        "done; stdout 3 go\n; entry 1 line 1; set; set; x=9; p=P+; ; a=8; ; P of a=8; ; ",
+    ),
+    // A nested holder alone.
+    (
+        "start poll poll assigned:0:a:8 assign:0:a:8 children:0 children:1 value:0:a",
+        "done; stdout 3 go\n; entry 1 line 1; 8; set; a=8; ; x=1; p=P+; ; refused; ",
+    ),
+    // No text is a value, too.
+    (
+        "start poll poll assign:1:x: children:1",
+        "done; stdout 3 go\n; entry 1 line 1; set; x=; p=P+; ; ",
+    ),
+    // It is lost where it goes on, be it to the same moment.
+    (
+        "start poll poll assign:1:x:9 next poll stepBack poll stepBack poll children:1 value:0:x",
+        "done; stdout 3 go\n; entry 1 line 1; set; done; step 1 line 2; done; step 1 line 3; done; step 1 line 1; x=1; p=P+; ; 1; ",
+    ),
+    (
+        "start poll poll assign:1:x:9 assign:0:a:8 stepBack children:1 poll children:1 children:0",
+        "done; stdout 3 go\n; entry 1 line 1; set; set; done; x=1; p=P+; ; step 1 line 1; x=1; p=P+; ; a=7; ; ",
+    ),
+    // It is kept where going on is refused, as of what runs; polls and lines take nothing away.
+    (
+        "start assign:1:x:9 next children:1 poll poll children:1 value:0:x",
+        "done; set; refused; x=9; p=P+; ; stdout 3 go\n; entry 1 line 1; x=9; p=P+; ; 9; ",
+    ),
+    (
+        "start poll poll assign:1:x:9 start pause line clear poll children:1",
+        "done; stdout 3 go\n; entry 1 line 1; set; refused; refused; set; set; nothing; x=9; p=P+; ; ",
+    ),
+    // No such variable directly in the holder.
+    (
+        "start poll poll assigned:1:q:9 assigned:1:X:9 assigned:1::9 assigned:1:a:9 assigned:0:x:9 assign:1:q:9 children:1",
+        "done; stdout 3 go\n; entry 1 line 1; refused; refused; refused; refused; refused; refused; x=1; p=P+; ; ",
+    ),
+    // No such holder.
+    (
+        "start poll poll assigned:2:x:9 assigned:18446744073709551615:x:9 assign:2:x:9 stepIn poll assigned:1:x:9 assign:1:x:9",
+        "done; stdout 3 go\n; entry 1 line 1; refused; refused; refused; done; step 1 line 3; refused; refused; ",
+    ),
+    // Not before the start, nor once it is gone.
+    (
+        "assigned:1:x:9 assign:1:x:9 start assigned:1:x:9",
+        "refused; refused; done; 9; ",
+    ),
+    (
+        "start poll poll assign:1:x:9 end assigned:1:x:9 assign:1:x:9 children:1",
+        "done; stdout 3 go\n; entry 1 line 1; set; ended; refused; refused; refused; ",
+    ),
+];
+
+#[test]
+fn sets(rt: HostRuntime) {
+    for (words, wanted) in &SETS {
+        assert!(rt;
+            is_moved(rt.alloc(), THREE_MOMENTS, words, wanted),
+            "{words}"
+        );
+    }
+}
+
+/// A moment with names that repeat: `x` stands twice in the scope `A`, whose object number is 1, and there the first has an `x`
+/// of its own, in the holder 0; it stands once more in the scope `B`, which has the number 2.
+const REPEATED: &str =
+    r#"{"exit":0,"sources":[{"name":"a","text":"x"}],"moments":[{"thread":1,"threads":[{"id":1,"name":"m","frames":[{"name":"f","source":0,"line":1,"scopes":[{"name":"A","variables":[{"name":"y","value":"0"},{"name":"x","value":"1","variables":[{"name":"x","value":"2"}]},{"name":"x","value":"3"}]},{"name":"B","variables":[{"name":"x","value":"4"},{"name":"z","value":"5"}]}]}]}]}]}"#;
+
+static REPEATS: [(&str, &str); 5] = [
+    // The first of two of one name.
+    (
+        "start poll assign:1:x:9 children:0 children:1 children:2 value:0:x",
+        "done; entry 1 line 1; set; x=2; ; y=0; x=9+; x=3; ; x=4; z=5; ; 9 of x=2; ; ",
+    ),
+    (
+        "start poll assign:1:x:9 assign:1:x:8 children:1",
+        "done; entry 1 line 1; set; set; y=0; x=8+; x=3; ; ",
+    ),
+    // That of a nested holder, and that of a later scope, which an expression does not name.
+    (
+        "start poll assign:0:x:9 children:0 children:1 value:0:x",
+        "done; entry 1 line 1; set; x=9; ; y=0; x=1+; x=3; ; 1 of x=9; ; ",
+    ),
+    (
+        "start poll assign:2:x:9 children:1 children:2 value:0:x",
+        "done; entry 1 line 1; set; y=0; x=1+; x=3; ; x=9; z=5; ; 1 of x=2; ; ",
+    ),
+    // Expressions name the scopes in order.
+    (
+        "start poll assign:2:z:9 value:0:z assign:1:y:8 value:0:y stepBack poll value:0:z value:0:y",
+        "done; entry 1 line 1; set; 9; set; 8; done; step 1 line 1; 5; 0; ",
+    ),
+];
+
+#[test]
+fn sets_where_names_repeat(rt: HostRuntime) {
+    for (words, wanted) in &REPEATS {
+        assert!(rt; is_moved(rt.alloc(), REPEATED, words, wanted), "{words}");
+    }
+}
+
+/// Whether a debuggee answers so to some words.
+fn is_answered(alloc: Global, stubborn: Stubborn, words: &str, wanted: &str) -> bool {
+    let mut stubborn = stubborn;
+    let is_so = is_played(alloc, &mut stubborn, words, wanted);
+    drop(stubborn);
+    is_so
+}
+
+/// Whether a debuggee of the three moments answers so, one that refuses its first start or one that does not.
+fn is_stubborn(alloc: Global, refuses: bool, words: &str, wanted: &str) -> bool {
     match three_moments(alloc) {
-        Some(recorded) => {
-            let mut stubborn = Stubborn::new(recorded);
-            let is_so = is_played(alloc, &mut stubborn, words, wanted);
-            drop(stubborn);
-            is_so
-        }
+        Some(recorded) if refuses => is_answered(alloc, Stubborn::new(recorded), words, wanted),
+        Some(recorded) => is_answered(alloc, Stubborn::willing(recorded), words, wanted),
         None => false,
     }
 }
 
-/// A second debuggee keeps the laws: it refuses once, and then is as the recording.
+/// A second debuggee keeps the laws: it may refuse once, and what is set gets a long value; else it is as the recording.
+static STUBBORN: [(bool, &str, &str); 4] = [
+    (
+        true,
+        "start poll line start poll poll next poll end",
+        "refused; nothing; set; done; stdout 3 go\n; entry 1 line 1; done; step 1 line 2; ended; ",
+    ),
+    (
+        true,
+        "start start start poll poll children:1",
+        "refused; done; refused; stdout 3 go\n; entry 1 line 1; x=1; p=P+; ; ",
+    ),
+    (
+        false,
+        "start poll poll assigned:1:x:9 assigned:1:y:9 assign:1:x:9 children:1 value:0:x",
+        "done; stdout 3 go\n; entry 1 line 1; long; refused; set; x=long; p=P+; ; long; ",
+    ),
+    (
+        false,
+        "start poll poll assign:1:x:9 stepBack poll children:1",
+        "done; stdout 3 go\n; entry 1 line 1; set; done; step 1 line 1; x=1; p=P+; ; ",
+    ),
+];
+
 #[test]
-fn refuses_its_first_start(rt: HostRuntime) {
-    assert!(rt;
-        is_stubborn(
-            rt.alloc(),
-            "start poll line start poll poll next poll end",
-            "refused; nothing; set; done; stdout 3 go\n; entry 1 line 1; done; step 1 line 2; ended; "
-        )
-    );
+fn a_stubborn_debuggee(rt: HostRuntime) {
+    for (refuses, words, wanted) in &STUBBORN {
+        assert!(rt; is_stubborn(rt.alloc(), *refuses, words, wanted), "{words}");
+    }
 }

@@ -1,6 +1,6 @@
 //! What a recording tells of its threads, frames, variables and sources, as text.
 
-use crate::playing::{faulted, source};
+use crate::playing::{faulted, in_short, source};
 use dap_call::SourceKey;
 use dap_debuggee::{Debuggee, Evaluation, Frame, Recorded, Scope, Source, Thread, Variable};
 use std::alloc::Global;
@@ -53,7 +53,7 @@ fn add_frames(told: &mut String, frames: &[Frame]) -> bool {
 /// Variables as names and values, with a `+` where there are children.
 fn add_variables(told: &mut String, variables: &[Variable]) -> bool {
     for variable in variables {
-        let (name, value) = (variable.name.as_str(), variable.value.as_str());
+        let (name, value) = (variable.name.as_str(), in_short(variable.value.as_str()));
         let more = if variable.holder.is_some() { "+" } else { "" };
         if write!(told, "{name}={value}{more}; ").is_err() {
             return false;
@@ -63,29 +63,62 @@ fn add_variables(told: &mut String, variables: &[Variable]) -> bool {
 }
 
 /// The children of a holder.
-fn add_children(alloc: Global, recorded: &Recorded, holder: u64, told: &mut String) -> bool {
-    match recorded.children(alloc, holder) {
+pub(crate) fn add_children<D: Debuggee>(
+    alloc: Global,
+    debuggee: &D,
+    holder: u64,
+    told: &mut String,
+) -> bool {
+    match debuggee.children(alloc, holder) {
         Ok(variables) => add_variables(told, &variables),
         Err(fault) => told.push_str(faulted(fault)).is_ok(),
     }
 }
 
 /// Scopes as names and variables.
-fn add_scopes(alloc: Global, recorded: &Recorded, scopes: &[Scope], told: &mut String) -> bool {
+fn add_scopes<D: Debuggee>(
+    alloc: Global,
+    debuggee: &D,
+    scopes: &[Scope],
+    told: &mut String,
+) -> bool {
     for scope in scopes {
         let name = scope.name.as_str();
-        if write!(told, "{name}: ").is_err() || !add_children(alloc, recorded, scope.holder, told) {
+        if write!(told, "{name}: ").is_err() || !add_children(alloc, debuggee, scope.holder, told) {
             return false;
         }
     }
     true
 }
 
-/// A value as text, and its children.
-fn add_value(alloc: Global, recorded: &Recorded, value: &Evaluation, told: &mut String) -> bool {
-    let text = value.value.as_str();
-    write!(told, "{text} of ").is_ok()
-        && add_children(alloc, recorded, value.holder.unwrap_or(9), told)
+/// A value as text, and its children if it has any.
+fn add_evaluation<D: Debuggee>(
+    alloc: Global,
+    debuggee: &D,
+    value: &Evaluation,
+    told: &mut String,
+) -> bool {
+    let text = in_short(value.value.as_str());
+    match value.holder {
+        Some(holder) => {
+            write!(told, "{text} of ").is_ok() && add_children(alloc, debuggee, holder, told)
+        }
+        None => told.push_str(text).is_ok(),
+    }
+}
+
+/// What a text is worth in a frame, or in none.
+pub(crate) fn add_value<D: Debuggee>(
+    alloc: Global,
+    debuggee: &D,
+    frame: Option<u64>,
+    text: &str,
+    told: &mut String,
+) -> bool {
+    match debuggee.evaluate(alloc, frame, text) {
+        Ok(value) => add_evaluation(alloc, debuggee, &value, told),
+        Err(fault) => told.push_str(faulted(fault)).is_ok(),
+    }
 }
 
 /// The names of all sources.
@@ -99,14 +132,14 @@ fn add_sources(told: &mut String, sources: &[Source]) -> bool {
 }
 
 /// Which lines of a source are verified, `y` or `n` for each.
-fn add_lines(
+fn add_lines<D: Debuggee>(
     alloc: Global,
-    recorded: &Recorded,
+    debuggee: &D,
     source: &SourceKey,
     lines: &[u32],
     told: &mut String,
 ) -> bool {
-    match recorded.verify(alloc, source, lines) {
+    match debuggee.verify(alloc, source, lines) {
         Ok(answers) => add_verified(told, &answers),
         Err(_) => false,
     }
@@ -121,48 +154,69 @@ fn add_verified(told: &mut String, answers: &[bool]) -> bool {
     true
 }
 
-/// What a recording tells, as text.
-fn add_told(alloc: Global, recorded: &Recorded, query: Query, told: &mut String) -> bool {
+/// What a debuggee tells, as text.
+fn add_told<D: Debuggee>(alloc: Global, debuggee: &D, query: Query, told: &mut String) -> bool {
     match query {
-        Query::Threads => match recorded.threads(alloc) {
+        Query::Threads => match debuggee.threads(alloc) {
             Ok(threads) => add_threads(told, &threads),
             Err(_) => false,
         },
-        Query::Frames(thread) => match recorded.frames(alloc, thread) {
+        Query::Frames(thread) => match debuggee.frames(alloc, thread) {
             Ok(frames) => add_frames(told, &frames),
             Err(fault) => told.push_str(faulted(fault)).is_ok(),
         },
-        Query::Scopes(frame) => match recorded.scopes(alloc, frame) {
-            Ok(scopes) => add_scopes(alloc, recorded, &scopes, told),
+        Query::Scopes(frame) => match debuggee.scopes(alloc, frame) {
+            Ok(scopes) => add_scopes(alloc, debuggee, &scopes, told),
             Err(fault) => told.push_str(faulted(fault)).is_ok(),
         },
-        Query::Children(holder) => add_children(alloc, recorded, holder, told),
-        Query::Value(frame, text) => match recorded.evaluate(alloc, frame, text) {
-            Ok(value) => add_value(alloc, recorded, &value, told),
-            Err(fault) => told.push_str(faulted(fault)).is_ok(),
-        },
-        Query::Sources => match recorded.sources(alloc) {
+        Query::Children(holder) => add_children(alloc, debuggee, holder, told),
+        Query::Value(frame, text) => add_value(alloc, debuggee, frame, text, told),
+        Query::Sources => match debuggee.sources(alloc) {
             Ok(sources) => add_sources(told, &sources),
             Err(_) => false,
         },
-        Query::Content(source) => match recorded.content(alloc, source) {
+        Query::Content(source) => match debuggee.content(alloc, source) {
             Ok(text) => told.push_str(text.as_str()).is_ok(),
             Err(fault) => told.push_str(faulted(fault)).is_ok(),
         },
         Query::LinesByPath(lines) => match source(alloc) {
-            Some(source) => add_lines(alloc, recorded, &source, lines, told),
+            Some(source) => add_lines(alloc, debuggee, &source, lines, told),
             None => false,
         },
         Query::LinesByReference(reference, lines) => {
             add_lines(
                 alloc,
-                recorded,
+                debuggee,
                 &SourceKey::Reference(reference),
                 lines,
                 told,
             )
         }
     }
+}
+
+/// What can be told of the first frame of the thread 1, each with a colon behind it.
+static ALL: [Query; 10] = [
+    Query::Threads,
+    Query::Frames(1),
+    Query::Scopes(0),
+    Query::Children(0),
+    Query::Children(1),
+    Query::Value(Some(0), "x"),
+    Query::Value(Some(0), "p"),
+    Query::Sources,
+    Query::Content(0),
+    Query::LinesByPath(&[1, 3, 4]),
+];
+
+/// All that can be told there.
+pub(crate) fn add_all<D: Debuggee>(alloc: Global, debuggee: &D, told: &mut String) -> bool {
+    for query in &ALL {
+        if !add_told(alloc, debuggee, *query, told) || told.push_str(": ").is_err() {
+            return false;
+        }
+    }
+    true
 }
 
 /// Whether a recording tells this.

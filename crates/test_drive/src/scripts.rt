@@ -8,7 +8,7 @@ use std::alloc::Global;
 use std::test::Fail;
 use test_kit::rows::play_rows;
 
-pub(crate) static ROWS: [&str; 9] = [
+pub(crate) static ROWS: [&str; 11] = [
     r#"
 row no line
 "#,
@@ -65,6 +65,60 @@ limits 8192 4194304 64 65536 4096 1 2147483647
 send initialize
 run
 ! Adapter
+"#,
+    r#"
+# The client may send it, since it is offered.
+row a variable is set
+send initialize {"adapterID":"rec"}
+> {"arguments":{"adapterID":"rec"},"command":"initialize","seq":1,"type":"request"}
+run
+< capabilities seq 1 to 1
+< {"event":"initialized","seq":2,"type":"event"}
+send configurationDone
+> {"command":"configurationDone","seq":2,"type":"request"}
+run
+< {"command":"configurationDone","request_seq":2,"seq":3,"success":true,"type":"response"}
+send launch
+> {"command":"launch","seq":3,"type":"request"}
+run
+< {"command":"launch","request_seq":3,"seq":4,"success":true,"type":"response"}
+< {"body":{"category":"stdout","output":"go\n"},"event":"output","seq":5,"type":"event"}
+< {"body":{"allThreadsStopped":true,"reason":"entry","threadId":1},"event":"stopped","seq":6,"type":"event"}
+send stackTrace {"threadId":1}
+> {"arguments":{"threadId":1},"command":"stackTrace","seq":4,"type":"request"}
+run
+< {"body":{"stackFrames":[{"column":1,"id":1,"line":1,"name":"main","source":{"name":"a.c","path":"/a.c","sourceReference":1}}],"totalFrames":1},"command":"stackTrace","request_seq":4,"seq":7,"success":true,"type":"response"}
+send scopes {"frameId":1}
+> {"arguments":{"frameId":1},"command":"scopes","seq":5,"type":"request"}
+run
+< {"body":{"scopes":[{"expensive":false,"name":"Locals","variablesReference":2}]},"command":"scopes","request_seq":5,"seq":8,"success":true,"type":"response"}
+send setVariable {"variablesReference":2,"name":"x","value":"9"}
+> {"arguments":{"name":"x","value":"9","variablesReference":2},"command":"setVariable","seq":6,"type":"request"}
+run
+< {"body":{"value":"9"},"command":"setVariable","request_seq":6,"seq":9,"success":true,"type":"response"}
+send setVariable {"variablesReference":2,"name":"y","value":"9"}
+> {"arguments":{"name":"y","value":"9","variablesReference":2},"command":"setVariable","seq":7,"type":"request"}
+run
+< debuggee seq 10 to 7 setVariable
+send evaluate {"expression":"x","frameId":1}
+> {"arguments":{"expression":"x","frameId":1},"command":"evaluate","seq":8,"type":"request"}
+run
+< {"body":{"result":"9","variablesReference":0},"command":"evaluate","request_seq":8,"seq":11,"success":true,"type":"response"}
+"#,
+    r#"
+# The number 3 is given by `variables` alone.
+row a variable of a number that was not given
+send initialize {"adapterID":"rec"}
+run
+send launch
+send configurationDone
+run
+send stackTrace {"threadId":1}
+run
+send scopes {"frameId":1}
+run
+send setVariable {"variablesReference":3,"name":"a","value":"9"}
+! Send { line: 10, cause: UnknownReference }
 "#,
     r#"
 row a stop that is left

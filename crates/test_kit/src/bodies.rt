@@ -13,7 +13,7 @@ use std::alloc::{AllocError, Global};
 
 /// What the adapter offers.
 const OFFERED: &str =
-    r#"{"supportsCancelRequest":true,"supportsConfigurationDoneRequest":true,"supportsLoadedSourcesRequest":true,"supportsStepBack":true,"supportsTerminateRequest":true}"#;
+    r#"{"supportsCancelRequest":true,"supportsConfigurationDoneRequest":true,"supportsLoadedSourcesRequest":true,"supportsSetVariable":true,"supportsStepBack":true,"supportsTerminateRequest":true}"#;
 
 /// Each failure: its name, its number, and its sentence, in two parts where the key of an argument stands between them.
 static FAILURES: [(&str, &str, &str, &str); 17] = [

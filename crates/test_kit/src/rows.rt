@@ -5,7 +5,7 @@
 //! | `row NAME` | how the row is called |
 //! | `limits H B N R K S M` | the limits, in the order of `Limits::new`; the usual ones if left out |
 //! | `after NAME` | first the lines of that row, of the same list, are followed |
-//! | `recording JSON` | for those who follow rows over a recording |
+//! | `recording JSON`, `debuggee WORD` | for those who follow rows over a recording, and over one of several debuggees |
 //! | `# ..`, none | nothing |
 //!
 //! What other lines say stands with each kind of row.
@@ -42,6 +42,7 @@ pub fn is_heading(line: &str) -> bool {
         || line.starts_with("limits ")
         || line.starts_with("after ")
         || line.starts_with("recording ")
+        || line.starts_with("debuggee ")
 }
 
 /// The name of a row.

@@ -16,8 +16,8 @@ pub static RECORDING: &[u8; 569] =
 pub static INITIALIZE: &[u8; 81] =
     br#"{"seq":1,"type":"request","command":"initialize","arguments":{"adapterID":"rec"}}"#;
 
-pub static CAPABILITIES: &[u8; 251] =
-    br#"{"body":{"supportsCancelRequest":true,"supportsConfigurationDoneRequest":true,"supportsLoadedSourcesRequest":true,"supportsStepBack":true,"supportsTerminateRequest":true},"command":"initialize","request_seq":1,"seq":1,"success":true,"type":"response"}"#;
+pub static CAPABILITIES: &[u8; 278] =
+    br#"{"body":{"supportsCancelRequest":true,"supportsConfigurationDoneRequest":true,"supportsLoadedSourcesRequest":true,"supportsSetVariable":true,"supportsStepBack":true,"supportsTerminateRequest":true},"command":"initialize","request_seq":1,"seq":1,"success":true,"type":"response"}"#;
 
 pub static INITIALIZED: &[u8; 46] = br#"{"event":"initialized","seq":2,"type":"event"}"#;
 

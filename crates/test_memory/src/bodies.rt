@@ -4,10 +4,10 @@ use crate::calls::is_written;
 use crate::outcomes::{both, judge, refused};
 use dap_call::Key;
 use dap_message::{
-    BodyFault, Breakpoint, Failure, Message, Scope, Source, StackFrame, Text, Thread, Variable,
-    body_evaluate, body_failure, body_loaded_sources, body_output, body_scopes,
-    body_set_breakpoints, body_source, body_stack_trace, body_stopped, body_threads,
-    body_variables, read_message, write_message,
+    Body, BodyFault, Breakpoint, Capabilities, Failure, Message, Scope, Source, StackFrame, Text,
+    Thread, Variable, body_continue, body_evaluate, body_failure, body_loaded_sources, body_output,
+    body_scopes, body_set_breakpoints, body_set_variable, body_source, body_stack_trace,
+    body_stopped, body_threads, body_variables, read_message, write_answer, write_message,
 };
 use serde_json::Value;
 use std::alloc::{AllocError, Global};
@@ -144,6 +144,22 @@ fn output_body(alloc: Global) -> Result<Value, AllocError> {
     body_output(alloc, category, output)
 }
 
+/// What an adapter offers that serves each command.
+const ALL: Capabilities = Capabilities {
+    breakpoint_locations: true,
+    cancel: true,
+    completions: true,
+    configuration_done: true,
+    exception_info: true,
+    function_breakpoints: true,
+    loaded_sources: true,
+    modules: true,
+    restart: true,
+    set_variable: true,
+    step_back: true,
+    terminate: true,
+};
+
 /// A body with one element or text, by its place among the texts below.
 fn body(alloc: Global, place: usize) -> Result<Value, AllocError> {
     match place {
@@ -157,11 +173,14 @@ fn body(alloc: Global, place: usize) -> Result<Value, AllocError> {
         7 => sources_body(alloc),
         8 => output_body(alloc),
         9 => body_stopped(alloc, Text::copied(alloc, "step")?, 1),
+        10 => body_set_variable(alloc, Text::copied(alloc, "9")?),
+        11 => body_continue(alloc),
+        12 => Body::Initialize { capabilities: ALL }.value(alloc),
         _ => body_failure(alloc, Failure::BadArguments { key: Key::ThreadId }),
     }
 }
 
-static BODIES: [&[u8]; 11] = [
+static BODIES: [&[u8]; 14] = [
     b"{\"breakpoints\":[{\"id\":1,\"line\":2,\"verified\":true}]}",
     b"{\"threads\":[{\"id\":1,\"name\":\"main\"}]}",
     b"{\"stackFrames\":[{\"column\":1,\"id\":1,\"line\":3,\"name\":\"f\",\"source\":{\"name\":\"a.c\",\"path\":\"/a.c\",\"sourceReference\":1}}],\"totalFrames\":5}",
@@ -172,6 +191,9 @@ static BODIES: [&[u8]; 11] = [
     b"{\"sources\":[{\"name\":\"a.c\",\"path\":\"/a.c\",\"sourceReference\":1}]}",
     b"{\"category\":\"stdout\",\"output\":\"go\\n\"}",
     b"{\"allThreadsStopped\":true,\"reason\":\"step\",\"threadId\":1}",
+    b"{\"value\":\"9\"}",
+    b"{\"allThreadsContinued\":true}",
+    b"{\"supportsBreakpointLocationsRequest\":true,\"supportsCancelRequest\":true,\"supportsCompletionsRequest\":true,\"supportsConfigurationDoneRequest\":true,\"supportsExceptionInfoRequest\":true,\"supportsFunctionBreakpoints\":true,\"supportsLoadedSourcesRequest\":true,\"supportsModulesRequest\":true,\"supportsRestartRequest\":true,\"supportsSetVariable\":true,\"supportsStepBack\":true,\"supportsTerminateRequest\":true}",
     b"{\"error\":{\"format\":\"The argument threadId is missing or malformed.\",\"id\":1005}}",
 ];
 
@@ -194,4 +216,59 @@ fn builds_all(alloc: Global) -> Option<bool> {
 #[test]
 fn building_bodies(rt: HostRuntime) -> Result<(), Fail> {
     judge(&rt, builds_all(rt.alloc()))
+}
+
+/// What is answered to a request, by its place among the texts below.
+fn answer(alloc: Global, place: usize) -> Result<Option<Body>, AllocError> {
+    match place {
+        0 => Ok(Some(Body::SetVariable {
+            value: Text::copied(alloc, "9")?,
+        })),
+        1 => Ok(Some(Body::Continue)),
+        2 => Ok(Some(Body::Initialize { capabilities: ALL })),
+        3 => Ok(Some(Body::Initialize {
+            capabilities: Capabilities::read(None),
+        })),
+        _ => Ok(None),
+    }
+}
+
+static ANSWERS: [&[u8]; 5] = [
+    b"{\"body\":{\"value\":\"9\"},\"command\":\"c\",\"request_seq\":4,\"seq\":7,\"success\":true,\"type\":\"response\"}",
+    b"{\"body\":{\"allThreadsContinued\":true},\"command\":\"c\",\"request_seq\":4,\"seq\":7,\"success\":true,\"type\":\"response\"}",
+    b"{\"body\":{\"supportsBreakpointLocationsRequest\":true,\"supportsCancelRequest\":true,\"supportsCompletionsRequest\":true,\"supportsConfigurationDoneRequest\":true,\"supportsExceptionInfoRequest\":true,\"supportsFunctionBreakpoints\":true,\"supportsLoadedSourcesRequest\":true,\"supportsModulesRequest\":true,\"supportsRestartRequest\":true,\"supportsSetVariable\":true,\"supportsStepBack\":true,\"supportsTerminateRequest\":true},\"command\":\"c\",\"request_seq\":4,\"seq\":7,\"success\":true,\"type\":\"response\"}",
+    b"{\"body\":{},\"command\":\"c\",\"request_seq\":4,\"seq\":7,\"success\":true,\"type\":\"response\"}",
+    b"{\"command\":\"c\",\"request_seq\":4,\"seq\":7,\"success\":true,\"type\":\"response\"}",
+];
+
+fn is_answer(alloc: Global, body: &Option<Body>, text: &[u8]) -> Option<bool> {
+    match write_answer(alloc, 7, 4, "c", body) {
+        Ok(written) => Some(written.as_slice() == text),
+        Err(_) => None,
+    }
+}
+
+fn answers(alloc: Global, place: usize, text: &[u8]) -> Option<bool> {
+    match answer(alloc, place) {
+        Ok(body) => {
+            let outcome = is_answer(alloc, &body, text);
+            drop(body);
+            outcome
+        }
+        Err(_) => None,
+    }
+}
+
+fn answers_all(alloc: Global) -> Option<bool> {
+    let mut outcome = Some(true);
+    for (place, text) in ANSWERS.iter().enumerate() {
+        outcome = both(outcome, answers(alloc, place, *text));
+    }
+    outcome
+}
+
+/// A response with a body by its parts, or none, is written whole, or not at all.
+#[test]
+fn writing_answers(rt: HostRuntime) -> Result<(), Fail> {
+    judge(&rt, answers_all(rt.alloc()))
 }

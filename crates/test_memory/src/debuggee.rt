@@ -199,3 +199,86 @@ static THREADS: [Query; 2] = [Query::Threads, Query::Frames];
 fn asking_for_threads(rt: HostRuntime) -> Result<(), Fail> {
     judge(&rt, asks(rt.alloc(), &THREADS))
 }
+
+/// Whether the variable `p` has this value, both among the children and as an expression.
+fn has_value(alloc: Global, debuggee: &Recorded, wanted: &str) -> Option<bool> {
+    let told = match debuggee.children(alloc, 1) {
+        Ok(variables) => match variables.as_slice() {
+            [p] => Some(p.value.as_str() == wanted && p.holder == Some(0)),
+            _ => Some(false),
+        },
+        Err(fault) => unanswered(fault),
+    };
+    both(told, is_worth(alloc, debuggee, wanted))
+}
+
+fn is_worth(alloc: Global, debuggee: &Recorded, wanted: &str) -> Option<bool> {
+    match debuggee.evaluate(alloc, Some(0), "p") {
+        Ok(value) => Some(value.value.as_str() == wanted && value.holder == Some(0)),
+        Err(fault) => unanswered(fault),
+    }
+}
+
+/// What came of setting a value.
+#[derive(Clone, Copy, PartialEq, Eq)]
+enum Came {
+    Done,
+    /// Memory was refused.
+    Refused,
+    Wrong,
+}
+
+/// Sets a variable to a text, where the text is what it would be set to.
+fn put(alloc: Global, debuggee: &mut Recorded, holder: u64, name: &str, text: &str) -> Came {
+    match debuggee.assigned(alloc, holder, name, text) {
+        Ok(assigned) if assigned.value.as_str() == text => {
+            match debuggee.assign(alloc, holder, name, text) {
+                Ok(()) => Came::Done,
+                Err(_) => Came::Refused,
+            }
+        }
+        Err(DebuggeeFault::OutOfMemory) => Came::Refused,
+        _ => Came::Wrong,
+    }
+}
+
+/// `p` twice, and then its child. Holder, name and text.
+static SETS: [(u64, &str, &str); 3] = [(1, "p", "Q"), (1, "p", "R"), (0, "a", "8")];
+
+/// Each is set, also after one that was refused memory, and where memory is refused the value of `p` is as it was.
+fn puts_all(alloc: Global, debuggee: &mut Recorded) -> Option<bool> {
+    if debuggee.start(alloc) != Ok(()) {
+        return Some(false);
+    }
+    let mut value = "P";
+    let mut outcome = Some(true);
+    for (holder, name, text) in &SETS {
+        let is_set = match put(alloc, debuggee, *holder, name, text) {
+            Came::Done => Some(true),
+            Came::Refused => None,
+            Came::Wrong => Some(false),
+        };
+        if is_set == Some(true) && *holder == 1 {
+            value = *text;
+        }
+        outcome = both(outcome, both(is_set, has_value(alloc, debuggee, value)));
+    }
+    outcome
+}
+
+fn sets_values(alloc: Global) -> Option<bool> {
+    match Recorded::read(alloc, RECORDING) {
+        Ok(mut debuggee) => {
+            let outcome = puts_all(alloc, &mut debuggee);
+            drop(debuggee);
+            outcome
+        }
+        Err(fault) => refused(fault == RecordingFault::OutOfMemory),
+    }
+}
+
+/// A value is set, or all is as it was.
+#[test]
+fn setting_values(rt: HostRuntime) -> Result<(), Fail> {
+    judge(&rt, sets_values(rt.alloc()))
+}

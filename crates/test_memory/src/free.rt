@@ -12,7 +12,7 @@ use crate::outcomes::{judge, refused};
 use dap_call::{
     Call, CallFault, Capabilities, Command, Gate, frames_given, holders_given, read_call,
 };
-use dap_debuggee::{Debuggee, Recorded, RecordingFault};
+use dap_debuggee::{Debuggee, DebuggeeFault, How, Recorded, RecordingFault};
 use dap_frame::{End, Fed, FrameFault, Frames, LimitFault, Limits, Refusal, write_frame};
 use dap_json::{ParseFault, parse};
 use dap_message::{BodyFault, read_message};
@@ -66,9 +66,13 @@ enum Deed {
     ReadsAHundred,
     /// A debuggee that was started ends.
     EndsDebuggee,
+    /// One of which a variable was set goes on.
+    GoesOn,
+    /// A holder and a name with which nothing can be set in a debuggee that was started.
+    RefusesToSet(u64, &'static str),
 }
 
-static DEEDS: [Deed; 27] = [
+static DEEDS: [Deed; 30] = [
     Deed::Limits([32, 1024, 2, 1, 1, 1, 1], None),
     Deed::Limits([32, 1023, 1, 1, 1, 1, 1], Some(LimitFault::Body)),
     Deed::UsualLimits,
@@ -155,6 +159,9 @@ static DEEDS: [Deed; 27] = [
     ]),
     Deed::ReadsAHundred,
     Deed::EndsDebuggee,
+    Deed::GoesOn,
+    Deed::RefusesToSet(1, "q"),
+    Deed::RefusesToSet(7, "x"),
 ];
 
 fn limits_are(seven: [u64; 7], fault: Option<LimitFault>) -> bool {
@@ -442,6 +449,66 @@ fn ends_debuggee(alloc: Global) -> Option<bool> {
     }
 }
 
+/// Whether it goes on once the variable `x` was set; nothing where memory for that is refused.
+fn sets_and_goes_on(alloc: Global, debuggee: &mut Recorded) -> Option<bool> {
+    if debuggee.start(alloc).is_err() || polls(alloc, debuggee).is_none() {
+        return None;
+    }
+    match debuggee.assigned(alloc, 1, "x", "9") {
+        Ok(_) => match debuggee.assign(alloc, 1, "x", "9") {
+            Ok(()) => Some(debuggee.resume(alloc, How::Next, 1) == Ok(())),
+            Err(_) => None,
+        },
+        Err(fault) => refused(fault == DebuggeeFault::OutOfMemory),
+    }
+}
+
+/// Polls up to the entry; nothing where memory for that is refused.
+fn polls(alloc: Global, debuggee: &mut Recorded) -> Option<()> {
+    for _ in 0..2 {
+        if debuggee.poll(alloc).is_err() {
+            return None;
+        }
+    }
+    Some(())
+}
+
+fn goes_on(alloc: Global) -> Option<bool> {
+    match Recorded::read(alloc, RECORDING) {
+        Ok(mut debuggee) => {
+            let outcome = sets_and_goes_on(alloc, &mut debuggee);
+            drop(debuggee);
+            outcome
+        }
+        Err(fault) => refused(fault == RecordingFault::OutOfMemory),
+    }
+}
+
+/// Whether nothing is told that a variable could be set to.
+fn is_refused(alloc: Global, debuggee: &mut Recorded, holder: u64, name: &str) -> bool {
+    if debuggee.start(alloc).is_err() {
+        return false;
+    }
+    match debuggee.assigned(alloc, holder, name, "9") {
+        Ok(assigned) => {
+            drop(assigned);
+            false
+        }
+        Err(fault) => fault == DebuggeeFault::Refused,
+    }
+}
+
+fn refuses_to_set(alloc: Global, holder: u64, name: &str) -> Option<bool> {
+    match Recorded::read(alloc, RECORDING) {
+        Ok(mut debuggee) => {
+            let is_so = is_refused(alloc, &mut debuggee, holder, name);
+            drop(debuggee);
+            Some(is_so)
+        }
+        Err(fault) => refused(fault == RecordingFault::OutOfMemory),
+    }
+}
+
 /// What comes of a row.
 fn is_done(alloc: Global, deed: Deed) -> Option<bool> {
     match deed {
@@ -459,6 +526,8 @@ fn is_done(alloc: Global, deed: Deed) -> Option<bool> {
         Deed::Reads(acts) => reads(alloc, acts),
         Deed::ReadsAHundred => reads_a_hundred(alloc),
         Deed::EndsDebuggee => ends_debuggee(alloc),
+        Deed::GoesOn => goes_on(alloc),
+        Deed::RefusesToSet(holder, name) => refuses_to_set(alloc, holder, name),
     }
 }
 

@@ -33,7 +33,7 @@ row a session
 phase Ended
 "#;
 
-/// A session that sets a breakpoint and looks into a stop.
+/// A session that sets a breakpoint, looks into a stop and sets a variable there.
 static LOOKS: &str = r#"
 row a session that looks into a stop
 > {"seq":1,"type":"request","command":"initialize","arguments":{"adapterID":"rec"}}
@@ -55,12 +55,16 @@ row a session that looks into a stop
 < {"body":{"variables":[{"name":"p","value":"P","variablesReference":3}]},"command":"variables","request_seq":7,"seq":10,"success":true,"type":"response"}
 > {"seq":8,"type":"request","command":"evaluate","arguments":{"expression":"p","frameId":1}}
 < {"body":{"result":"P","variablesReference":3},"command":"evaluate","request_seq":8,"seq":11,"success":true,"type":"response"}
-> {"seq":9,"type":"request","command":"loadedSources"}
-< {"body":{"sources":[{"name":"a.c","path":"/a.c","sourceReference":1}]},"command":"loadedSources","request_seq":9,"seq":12,"success":true,"type":"response"}
-> {"seq":10,"type":"request","command":"source","arguments":{"sourceReference":1}}
-< {"body":{"content":"one\ntwo\n"},"command":"source","request_seq":10,"seq":13,"success":true,"type":"response"}
-> {"seq":11,"type":"request","command":"disconnect"}
-< {"command":"disconnect","request_seq":11,"seq":14,"success":true,"type":"response"}
+> {"seq":9,"type":"request","command":"setVariable","arguments":{"variablesReference":2,"name":"p","value":"Q"}}
+< {"body":{"value":"Q"},"command":"setVariable","request_seq":9,"seq":12,"success":true,"type":"response"}
+> {"seq":10,"type":"request","command":"variables","arguments":{"variablesReference":2}}
+< {"body":{"variables":[{"name":"p","value":"Q","variablesReference":3}]},"command":"variables","request_seq":10,"seq":13,"success":true,"type":"response"}
+> {"seq":11,"type":"request","command":"loadedSources"}
+< {"body":{"sources":[{"name":"a.c","path":"/a.c","sourceReference":1}]},"command":"loadedSources","request_seq":11,"seq":14,"success":true,"type":"response"}
+> {"seq":12,"type":"request","command":"source","arguments":{"sourceReference":1}}
+< {"body":{"content":"one\ntwo\n"},"command":"source","request_seq":12,"seq":15,"success":true,"type":"response"}
+> {"seq":13,"type":"request","command":"disconnect"}
+< {"command":"disconnect","request_seq":13,"seq":16,"success":true,"type":"response"}
 phase Ended
 "#;
 

@@ -207,7 +207,7 @@ fn is_served_first(alloc: Global, stream: (&[u8], Terms)) -> bool {
         offset: 103,
     })));
     match frames_of(alloc, &[CAPABILITIES, INITIALIZED]) {
-        Some(answer) => answer.len() == 342
+        Some(answer) => answer.len() == 369
             && is_served(alloc, Limits::usual(), stream, end, &answer),
         None => false,
     }

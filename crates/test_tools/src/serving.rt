@@ -180,7 +180,7 @@ pub(crate) fn is_served_in(
 
 /// The size of pieces in which `initialize` is served otherwise; 0 where its frame or its answer has another length.
 fn other_initialize(alloc: Global, input: &[u8], answer: &[u8]) -> Option<usize> {
-    if (input.len(), answer.len()) != (103, 342) {
+    if (input.len(), answer.len()) != (103, 369) {
         return Some(0);
     }
     other_size(alloc, input, answer, Phase::Ready, 104)

@@ -118,7 +118,7 @@ fn is_over(alloc: Global, whole: &Stream, later: &[u8]) -> bool {
 
 /// Whether bytes behind a session of this length change nothing.
 fn is_over_behind(alloc: Global, whole: &Stream) -> bool {
-    (whole.input.len(), whole.answers.len()) == (861, 2155)
+    (whole.input.len(), whole.answers.len()) == (861, 2182)
         && is_over(alloc, whole, b"Content-Length: 46")
         && is_over(alloc, whole, b"\r\n\r\n")
         && is_over(alloc, whole, b"Content-Length: 0\r\n\r\n")

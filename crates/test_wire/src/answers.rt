@@ -3,8 +3,24 @@
 use crate::checks::check;
 use crate::lists::{breakpoints, frames, scopes, threads, variables};
 use dap_json::Text;
-use dap_message::{Body, write_answer, write_request};
+use dap_message::{Body, Capabilities, write_answer, write_request};
 use std::alloc::{AllocError, Global};
+
+/// What an adapter offers that serves every command.
+const ALL: Capabilities = Capabilities {
+    breakpoint_locations: true,
+    cancel: true,
+    completions: true,
+    configuration_done: true,
+    exception_info: true,
+    function_breakpoints: true,
+    loaded_sources: true,
+    modules: true,
+    restart: true,
+    set_variable: true,
+    step_back: true,
+    terminate: true,
+};
 
 /// The body with this place in `ANSWERS`.
 fn body(alloc: Global, place: usize) -> Result<Option<Body>, AllocError> {
@@ -35,11 +51,19 @@ fn body(alloc: Global, place: usize) -> Result<Option<Body>, AllocError> {
             result: Text::copied(alloc, "1")?,
             variables_reference: 6,
         },
+        8 => Body::Continue,
+        9 => Body::SetVariable {
+            value: Text::copied(alloc, "9")?,
+        },
+        10 => Body::Initialize { capabilities: ALL },
+        11 => Body::Initialize {
+            capabilities: Capabilities::read(None),
+        },
         _ => return Ok(None),
     }))
 }
 
-static ANSWERS: [&[u8]; 9] = [
+static ANSWERS: [&[u8]; 13] = [
     b"{\"body\":{\"threads\":[{\"id\":-1,\"name\":\"t\\\"\"},{\"id\":2,\"name\":\"t\\\"\"}]},\"command\":\"c\",\"request_seq\":4,\"seq\":7,\"success\":true,\"type\":\"response\"}",
     b"{\"body\":{\"breakpoints\":[{\"id\":1,\"line\":2,\"verified\":false}]},\"command\":\"c\",\"request_seq\":4,\"seq\":7,\"success\":true,\"type\":\"response\"}",
     b"{\"body\":{\"scopes\":[{\"expensive\":false,\"name\":\"s\",\"variablesReference\":3}]},\"command\":\"c\",\"request_seq\":4,\"seq\":7,\"success\":true,\"type\":\"response\"}",
@@ -48,6 +72,10 @@ static ANSWERS: [&[u8]; 9] = [
     b"{\"body\":{\"sources\":[]},\"command\":\"c\",\"request_seq\":4,\"seq\":7,\"success\":true,\"type\":\"response\"}",
     b"{\"body\":{\"content\":\"x\\n\"},\"command\":\"c\",\"request_seq\":4,\"seq\":7,\"success\":true,\"type\":\"response\"}",
     b"{\"body\":{\"result\":\"1\",\"variablesReference\":6},\"command\":\"c\",\"request_seq\":4,\"seq\":7,\"success\":true,\"type\":\"response\"}",
+    b"{\"body\":{\"allThreadsContinued\":true},\"command\":\"c\",\"request_seq\":4,\"seq\":7,\"success\":true,\"type\":\"response\"}",
+    b"{\"body\":{\"value\":\"9\"},\"command\":\"c\",\"request_seq\":4,\"seq\":7,\"success\":true,\"type\":\"response\"}",
+    b"{\"body\":{\"supportsBreakpointLocationsRequest\":true,\"supportsCancelRequest\":true,\"supportsCompletionsRequest\":true,\"supportsConfigurationDoneRequest\":true,\"supportsExceptionInfoRequest\":true,\"supportsFunctionBreakpoints\":true,\"supportsLoadedSourcesRequest\":true,\"supportsModulesRequest\":true,\"supportsRestartRequest\":true,\"supportsSetVariable\":true,\"supportsStepBack\":true,\"supportsTerminateRequest\":true},\"command\":\"c\",\"request_seq\":4,\"seq\":7,\"success\":true,\"type\":\"response\"}",
+    b"{\"body\":{},\"command\":\"c\",\"request_seq\":4,\"seq\":7,\"success\":true,\"type\":\"response\"}",
     b"{\"command\":\"c\",\"request_seq\":4,\"seq\":7,\"success\":true,\"type\":\"response\"}",
 ];
 

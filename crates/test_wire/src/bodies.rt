@@ -4,8 +4,8 @@ use crate::checks::check;
 use crate::lists::{FrameRow, SourceRow, breakpoints, frames, scopes, sources, threads, variables};
 use dap_body::{
     Failure, body_continue, body_continued, body_evaluate, body_exited, body_failure,
-    body_loaded_sources, body_output, body_scopes, body_set_breakpoints, body_source,
-    body_stack_trace, body_stopped, body_threads, body_variables,
+    body_loaded_sources, body_output, body_scopes, body_set_breakpoints, body_set_variable,
+    body_source, body_stack_trace, body_stopped, body_threads, body_variables,
 };
 use dap_call::Key;
 use dap_json::Text;
@@ -168,6 +168,8 @@ enum Response {
     Frames(&'static [FrameRow], u64),
     Scopes(&'static [(&'static str, u32)]),
     Variables(&'static [(&'static str, &'static str, u32)]),
+    /// The value that was set.
+    SetVariable(&'static str),
     Evaluate(&'static str, u32),
 }
 
@@ -181,13 +183,14 @@ fn built_response(alloc: Global, of: Response) -> Result<Value, AllocError> {
         Response::Frames(rows, total) => body_stack_trace(alloc, frames(alloc, rows)?, total),
         Response::Scopes(rows) => body_scopes(alloc, scopes(alloc, rows)?),
         Response::Variables(rows) => body_variables(alloc, variables(alloc, rows)?),
+        Response::SetVariable(value) => body_set_variable(alloc, Text::copied(alloc, value)?),
         Response::Evaluate(result, reference) => {
             body_evaluate(alloc, Text::copied(alloc, result)?, reference)
         }
     }
 }
 
-static RESPONSES: [(Response, &str); 9] = [
+static RESPONSES: [(Response, &str); 12] = [
     (
         Response::Breakpoints(&[(1, 1, true), (2, 3, true), (3, 9, false)]),
         "{\"breakpoints\":[{\"id\":1,\"line\":1,\"verified\":true},{\"id\":2,\"line\":3,\"verified\":true},{\"id\":3,\"line\":9,\"verified\":false}]}",
@@ -223,6 +226,9 @@ static RESPONSES: [(Response, &str); 9] = [
         Response::Variables(&[("x", "1", 0), ("p", "P", 3)]),
         "{\"variables\":[{\"name\":\"x\",\"value\":\"1\",\"variablesReference\":0},{\"name\":\"p\",\"value\":\"P\",\"variablesReference\":3}]}",
     ),
+    (Response::SetVariable("9"), "{\"value\":\"9\"}"),
+    (Response::SetVariable(""), "{\"value\":\"\"}"),
+    (Response::SetVariable("a\"b\n"), "{\"value\":\"a\\\"b\\n\"}"),
     (
         Response::Evaluate("P", 3),
         "{\"result\":\"P\",\"variablesReference\":3}",
