@@ -1,9 +1,9 @@
 -- Worked examples of the laws' tables and of what holds of recordings, each shown by computation.
-use Rattle.std.proofs.Common.{◌≡◌, List, ℕ, [], ◌∷◌, codes, replicate, true, false, Some, pos, negsuc, refl, arith}
+use Rattle.std.proofs.Common.{◌≡◌, List, ℕ, [], ◌∷◌, codes, replicate, true, false, Option, None, Some, pos, negsuc, refl, arith}
 use Rattle.dap_call.specs.declared.call.SourceKey.{SourceKey}
 use Rattle.dap_call.specs.declared.call.SourceKey.TheVariants.{Path, Reference}
-use Rattle.dap_debuggee.specs.Shown.{Reply, to_start, to_resume, to_pause, to_poll, to_set_breakpoints, to_end, done, refused, happened, category_name, asked_of_act}
-use Rattle.dap_debuggee.specs.Laws.{may_answer, state_after, lines_after, keeps_answers, keeps_frames, is_code, is_short, is_frame}
+use Rattle.dap_debuggee.specs.Shown.{Act, Reply, to_start, to_resume, to_pause, to_poll, to_set_breakpoints, to_assign, to_end, done, refused, happened, category_name, asked_of_act}
+use Rattle.dap_debuggee.specs.Laws.{may_answer, state_after, lines_after, keeps_answers, keeps_frames, with_value, children_after, is_code, is_short, is_frame}
 use Rattle.dap_call.specs.SameSource.{is_source}
 use Rattle.dap_debuggee.specs.Recording.{line_count, is_rising, are_distinct, is_moment, depth, top, id_at, objects, holders_of, HasOwnNumbers}
 use Rattle.dap_debuggee.specs.declared.answers.State.TheVariants.{NotStarted, Running, Stopped, Gone}
@@ -73,6 +73,27 @@ frames_stay = (refl, refl, refl, refl, refl, refl, refl, refl)
 
 memory_of_acts : (asked_of_act (to_resume Next (pos 7)) ≡ remembers.Resume Next (pos 7)) × (asked_of_act (to_set_breakpoints (Reference 1) (2 ∷ [])) ≡ remembers.SetBreakpoints) × (asked_of_act to_end ≡ remembers.End)
 memory_of_acts = (refl, refl, refl)
+
+-- ---- a value that is set
+
+abbrev assign : Act
+assign = to_assign 1 (codes "x") (codes "9")
+
+acts_of_setting : (may_answer Stopped assign done ≡ true) × (may_answer Running assign done ≡ true) × (may_answer Stopped assign refused ≡ false) × (state_after Stopped assign done ≡ Stopped) × (lines_after assign line_1_of_all (Reference 1) ≡ 1 ∷ []) × (keeps_answers assign done ≡ false) × (keeps_frames assign done ≡ false) × (asked_of_act assign ≡ remembers.Assign)
+acts_of_setting = (refl, refl, refl, refl, refl, refl, refl, refl)
+
+abbrev one : List ℕ → List ℕ → Variable
+one name value = record { name = name; value = value; holder = Some 7 }
+
+-- none, another name, and of one name the first; what holds its children stays
+with_values : (with_value (codes "x") (codes "9") [] ≡ []) × (with_value (codes "x") (codes "9") (one (codes "y") (codes "1") ∷ []) ≡ one (codes "y") (codes "1") ∷ []) × (with_value (codes "x") (codes "9") (one (codes "x") (codes "1") ∷ one (codes "x") (codes "2") ∷ []) ≡ one (codes "x") (codes "9") ∷ one (codes "x") (codes "2") ∷ []) × (with_value [] (codes "9") (one [] (codes "1") ∷ []) ≡ one [] (codes "9") ∷ [])
+with_values = (refl, refl, refl, refl)
+
+abbrev children_of_all : ℕ → Option (List Variable)
+children_of_all holder = Some (one (codes "x") (codes "1") ∷ [])
+
+of_one_holder : (children_after 1 (codes "x") (codes "9") children_of_all 1 ≡ Some (one (codes "x") (codes "9") ∷ [])) × (children_after 1 (codes "x") (codes "9") children_of_all 2 ≡ Some (one (codes "x") (codes "1") ∷ [])) × (children_after 1 (codes "x") (codes "9") (λ h. None) 1 ≡ None)
+of_one_holder = (refl, refl, refl)
 
 -- ---- ranges
 

@@ -5,8 +5,8 @@ use Rattle.dap_call.specs.declared.call.SourceKey.TheVariants.{Path, Reference}
 use Rattle.dap_debuggee.proofs.ReadingExamples.{three_moments_is_recording}
 use Rattle.dap_debuggee.proofs.ThreeMoments.{three_moments}
 use Rattle.dap_debuggee.proofs.Told.{told_can_be_asked}
-use Rattle.dap_debuggee.specs.Shown.{Act, to_start, to_resume, to_pause, to_poll, to_set_breakpoints, to_end, Reply, done, refused, happened}
-use Rattle.dap_debuggee.specs.Played.{Played, fresh_played, act_on, with_ask, shown_of, piece_length, first_piece, output_of}
+use Rattle.dap_debuggee.specs.Shown.{Act, to_start, to_resume, to_pause, to_poll, to_set_breakpoints, to_assign, to_end, Reply, done, refused, happened}
+use Rattle.dap_debuggee.specs.Played.{Played, with_variables, fresh_played, act_on, with_ask, shown_of, piece_length, first_piece, output_of}
 use Rattle.dap_debuggee.specs.ShownNumbers.{ShownCanBeAsked}
 use Rattle.dap_debuggee.specs.declared.answers.State.TheVariants.{NotStarted, Running, Stopped, Gone}
 use Rattle.dap_debuggee.specs.declared.answers.How.{How}
@@ -198,6 +198,53 @@ two_scopes = view_after (with_scopes (record { name = codes "Locals"; holder = 0
 -- of one name the first variable in the first scope
 one_name : ((shown_of two_scopes).evaluate (Some 0) (codes "x") ≡ Some (record { value = codes "1"; holder = None })) × ((shown_of two_scopes).evaluate (Some 0) (codes "y") ≡ Some (record { value = codes "4"; holder = None })) × ((shown_of two_scopes).evaluate (Some 0) [] ≡ None)
 one_name = (refl, refl, refl)
+
+-- ---- values that are set
+
+abbrev put : ℕ → List ℕ → List ℕ → Act
+put holder name text = to_assign holder name text
+
+abbrev x_is_9 : Played
+x_is_9 = view_after at_first (put 1 (codes "x") (codes "9") ∷ [])
+
+abbrev of_main : List ℕ → List ℕ → List Variable
+of_main x p = record { name = codes "x"; value = x; holder = None } ∷ record { name = codes "p"; value = p; holder = Some 0 } ∷ []
+
+-- a text is the value of each variable that is there
+told_before : ((shown_of at_first).assigned 1 (codes "x") (codes "9") ≡ Some (record { value = codes "9" })) × ((shown_of at_first).assigned 1 (codes "y") (codes "9") ≡ None) × ((shown_of at_first).assigned 2 (codes "x") (codes "9") ≡ None) × ((shown_of at_first).assigned 0 (codes "x") (codes "9") ≡ None) × ((shown_of fresh).assigned 1 (codes "x") (codes "9") ≡ None)
+told_before = (refl, refl, refl, refl, refl)
+
+-- seen among the variables and by its name; set twice, and back
+set_and_seen : ((shown_of x_is_9).children 1 ≡ Some (of_main (codes "9") (codes "P"))) × ((shown_of x_is_9).evaluate (Some 0) (codes "x") ≡ Some (record { value = codes "9"; holder = None }))
+    × ((shown_of (view_after x_is_9 (put 1 (codes "p") (codes "Q") ∷ []))).children 1 ≡ Some (of_main (codes "9") (codes "Q"))) × ((shown_of (view_after x_is_9 (put 1 (codes "x") (codes "") ∷ []))).children 1 ≡ Some (of_main [] (codes "P")))
+    × ((shown_of (view_after x_is_9 (put 1 (codes "x") (codes "1") ∷ []))).children 1 ≡ Some (of_main (codes "1") (codes "P")))
+set_and_seen = (refl, refl, refl, refl, refl)
+
+-- at a holder inside another one, which keeps its variables
+set_inside : ((shown_of (view_after x_is_9 (put 0 (codes "a") (codes "8") ∷ []))).children 0 ≡ Some (record { name = codes "a"; value = codes "8"; holder = None } ∷ [])) × ((shown_of (view_after x_is_9 (put 0 (codes "a") (codes "8") ∷ []))).children 1 ≡ Some (of_main (codes "9") (codes "P")))
+set_inside = (refl, refl)
+
+-- lost where the debuggee goes on, also where it comes back to the moment; kept where it refuses
+lost_and_kept : ((shown_of (view_after x_is_9 (go StepIn ∷ to_poll ∷ go StepBack ∷ to_poll ∷ []))).evaluate (Some 0) (codes "x") ≡ Some (record { value = codes "1"; holder = None })) × ((shown_of (view_after x_is_9 (go StepBack ∷ []))).evaluate (Some 0) (codes "x") ≡ Some (record { value = codes "1"; holder = None }))
+    × ((shown_of (view_after at_first (go Next ∷ put 1 (codes "x") (codes "9") ∷ go Next ∷ []))).evaluate (Some 0) (codes "x") ≡ Some (record { value = codes "9"; holder = None })) × ((view_after at_first (go Next ∷ put 1 (codes "x") (codes "9") ∷ go Next ∷ [])).last ≡ Some (record { asked = remembers.Resume Next (pos 1); reply = refused }))
+lost_and_kept = (refl, refl, refl, refl)
+
+abbrev twice : Played
+twice = view_after two_scopes (put 0 (codes "x") (codes "9") ∷ [])
+
+-- of one name the first variable alone, and of one holder alone
+first_of_a_name : ((shown_of twice).children 0 ≡ Some (valued (codes "x") (codes "9") ∷ valued (codes "x") (codes "2") ∷ [])) × ((shown_of twice).children 1 ≡ (shown_of two_scopes).children 1)
+first_of_a_name = (refl, refl)
+
+-- before another holder, in its place, and behind it
+kept_by_number : with_variables 1 [] (record { holder = 2; variables = [] } ∷ []) ≡ record { holder = 1; variables = [] } ∷ record { holder = 2; variables = [] } ∷ []
+kept_by_number = refl
+
+kept_in_place : with_variables 2 (of_main [] []) (record { holder = 2; variables = [] } ∷ []) ≡ record { holder = 2; variables = of_main [] [] } ∷ []
+kept_in_place = refl
+
+kept_behind : with_variables 3 [] (record { holder = 2; variables = [] } ∷ []) ≡ record { holder = 2; variables = [] } ∷ record { holder = 3; variables = [] } ∷ []
+kept_behind = refl
 
 abbrev named : ℕ → RecordedSource
 named lines = record { name = codes "a.c"; path = Some (codes "/a.c"); text = replicate lines 10; lines = lines }

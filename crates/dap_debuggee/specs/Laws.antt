@@ -1,5 +1,5 @@
 -- The laws that every debuggee keeps, over what it shows in a view and over the views that an act may leave.
--- The states, and what each act does to them, are this profile's choice; what a stop, an exit and output are, and that the frames and variables of a stop last until the debuggee goes on, is told by the Overview, "Lifetime of Objects References", and the Specification, "StoppedEvent", "ContinuedEvent", "ExitedEvent", "OutputEvent".
+-- The states, what each act does to them, and that a value that is set changes one variable alone, are this profile's choice; what a stop, an exit and output are, and that the frames and variables of a stop last until the debuggee goes on, is told by the Overview, "Lifetime of Objects References", and the Specification, "StoppedEvent", "ContinuedEvent", "ExitedEvent", "OutputEvent".
 use Rattle.std.specs.Prelude.{◌≡◌, ℕ, ◌+◌, ◌%◌, ◌^◌, ◌≤◌, ℤ, pos, negsuc, int_le, Bool, true, false, ◌&&◌, nat_le, nat_lt, nat_eq, bytes_eq, List, [], ◌∷◌, length, Option, Some, None, IsTrue, if◌then◌else◌, option_map, option_and_then, Result, Ok, Err}
 use Rattle.std.specs.List.{list_all, slice_get, find}
 use Rattle.std.specs.Option.{IsSome}
@@ -128,7 +128,7 @@ with_value name value (x ∷ xs) = if bytes_eq name x.name then record { name = 
 abbrev pub children_after : ℕ → List ℕ → List ℕ → (ℕ → Option (List Variable)) → ℕ → Option (List Variable)
 children_after holder name value before h = if nat_eq h holder then option_map (with_value name value) (before h) else before h
 
--- the first variable of the name directly in the holder has the value; nothing else changes, but the count of acts, the last one and what texts evaluate to
+-- The first variable of the name directly in the holder has the value. State and lines are as `Moves` and `SetsLines` tell; nothing else changes, but the count of acts, the last one and what texts evaluate to
 pub record SetsOneValue (holder : ℕ) (name value : List ℕ) (v w : Shown) : Type 0 where
   pub threads : w.threads ≡ v.threads
   pub frames : (thread : ℤ) → w.frames thread ≡ v.frames thread
@@ -182,9 +182,14 @@ KeepsAnswers {View} shown follows = (v w : View) (a : Act) (r : Reply) → follo
 abbrev pub KeepsFrames : {View : Type 0} → (View → Shown) → Follows View → Type 0
 KeepsFrames {View} shown follows = (v w : View) (a : Act) (r : Reply) → follows v a r w → IsTrue (keeps_frames a r) → SameFrames (shown v) (shown w)
 
--- a variable gets the value that was told of it before
+-- only what is told of a variable is set, and the variable has that value then
+pub record SetsWhatIsTold (v w : Shown) (holder : ℕ) (name text : List ℕ) : Type 0 where
+  pub value : List ℕ
+  pub told : v.assigned holder name text ≡ Some (record { value = value })
+  pub set : SetsOneValue holder name value v w
+
 abbrev pub SetsValues : {View : Type 0} → (View → Shown) → Follows View → Type 0
-SetsValues {View} shown follows = (v w : View) (holder : ℕ) (name text : List ℕ) (r : Reply) (a : Assigned) → follows v (to_assign holder name text) r w → (shown v).assigned holder name text ≡ Some a → SetsOneValue holder name a.value (shown v) (shown w)
+SetsValues {View} shown follows = (v w : View) (holder : ℕ) (name text : List ℕ) (r : Reply) → follows v (to_assign holder name text) r w → SetsWhatIsTold (shown v) (shown w) holder name text
 
 -- sources and their texts never change
 abbrev pub KeepsSources : {View : Type 0} → (View → Shown) → Follows View → Type 0

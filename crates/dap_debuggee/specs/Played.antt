@@ -2,6 +2,7 @@
 -- This profile's choice.
 use Rattle.std.specs.Prelude.{◌≡◌, ℕ, zero, suc, ◌+◌, ◌-◌, ◌%◌, ◌^◌, ℤ, pos, Bool, true, false, ◌&&◌, ◌||◌, not, nat_le, nat_lt, nat_eq, bytes_eq, slice_index, List, [], ◌∷◌, length, map, take, drop, Option, Some, None, option_map, option_and_then, unwrap_or, if◌then◌else◌}
 use Rattle.std.specs.List.{list_any, slice_get, find}
+use Rattle.std.specs.Option.{IsSome}
 use Rattle.std.specs.Ordering.{int_eq}
 use Rattle.dap_call.specs.declared.call.SourceKey.{SourceKey}
 use Rattle.dap_call.specs.declared.call.SourceKey.TheVariants.{Path, Reference}
@@ -39,7 +40,7 @@ pub record Run : Type 0 where
   pub move : Move
   pub paused : Bool
 
--- the variables of a holder
+-- all variables of a holder
 pub record OfHolder : Type 0 where
   pub holder : ℕ
   pub variables : List Variable
@@ -52,7 +53,7 @@ pub record Played : Type 0 where
   pub run : Option Run
   -- the lines of each source that has some, in the order of the sources' names
   pub set : List (OfSource ℕ)
-  -- of each holder in which a variable was set since the debuggee went on, in the order of their numbers
+  -- all variables of each holder in which one was set since the debuggee went on, in the order of the holders' numbers
   pub changed : List OfHolder
   pub acts : ℕ
   pub last : Option Last
@@ -197,11 +198,6 @@ act_on (to_set_breakpoints source lines) v = (done, with_lines (with_source_line
 act_on (to_assign holder name text) v = (done, after_assign holder name text v)
 act_on to_end v = (done, at_rest Gone v.at v)
 
--- the view that an act with an answer leaves
-pub record FollowsPlayed (v : Played) (a : Act) (r : Reply) (w : Played) : Type 0 where
-  pub reply : r ≡ (act_on a v).0
-  pub view : w ≡ with_ask a r (act_on a v).1
-
 -- ---- queries
 
 abbrev pub is_there : State → Bool
@@ -237,7 +233,7 @@ thread_shown thread = record { id = thread.id; name = thread.name }
 abbrev pub frames_of : Played → ℤ → Option (List Frame)
 frames_of v id = option_map (λ thread. thread.frames) (find (λ thread. int_eq id thread.id) (threads_at v))
 
--- a value of the first scope that has one, where the holders have these variables
+-- the first variable of a name, in the first scope that has one, where `held` tells the variables of a holder
 abbrev pub value_in : (ℕ → Option (List Variable)) → List ℕ → List Scope → Option Variable
 value_in held name [] = None
 value_in held name (scope ∷ scopes) = first_of (variable_named name (unwrap_or (held scope.holder) [])) (value_in held name scopes)
@@ -285,6 +281,19 @@ shown_of v = record {
   content = λ index. option_map (λ source. source.text) (slice_get v.recording.sources index);
   verify = λ source lines. Some (map (has_source_line v.recording.sources source) lines);
 }
+
+-- ---- the views that an act may leave
+
+-- only a variable that is there is set
+abbrev pub IsAllowed : Played → Act → Type 0
+IsAllowed v (to_assign holder name text) = IsSome (assigned_in v holder name text)
+IsAllowed v _ = Unit {0}
+
+-- the view that an act with an answer leaves
+pub record FollowsPlayed (v : Played) (a : Act) (r : Reply) (w : Played) : Type 0 where
+  pub allowed : IsAllowed v a
+  pub reply : r ≡ (act_on a v).0
+  pub view : w ≡ with_ask a r (act_on a v).1
 
 -- ---- as it begins
 

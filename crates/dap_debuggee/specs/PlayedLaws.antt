@@ -6,7 +6,7 @@ use Rattle.std.specs.Prelude.{option_and_then}
 use Rattle.std.proofs.lemmas.Bool.Decides.{nat_tests}
 use Rattle.dap_call.specs.declared.call.SourceKey.{SourceKey}
 use Rattle.dap_debuggee.specs.Shown.{Act, to_start, to_resume, to_pause, to_poll, to_set_breakpoints, to_assign, to_end, Reply, done, refused, happened}
-use Rattle.dap_debuggee.specs.Laws.{may_answer, state_after, keeps_answers, keeps_frames, lines_after, Counts, Remembers, Answers, Moves, SetsLines, SetsValues, SetsOneValue, KeepsAnswers, KeepsFrames, KeepsSources, SameFrames, SameSources, NoThreads, VerifiesEach, AssignsVariables, variable_named, with_value}
+use Rattle.dap_debuggee.specs.Laws.{may_answer, state_after, keeps_answers, keeps_frames, lines_after, Counts, Remembers, Answers, Moves, SetsLines, SetsValues, SetsWhatIsTold, KeepsAnswers, KeepsFrames, KeepsSources, SameFrames, SameSources, NoThreads, VerifiesEach, AssignsVariables, variable_named, with_value}
 use Rattle.dap_debuggee.specs.Played.{Played, Run, OfHolder, changed_at, with_variables, variables_held, first_of, if_within, is_in, moment_shown, children_shown, after_assign, act_on, with_ask, after_start, after_resume, start_in, resume_in, pause_in, poll_result, step_of_run, end_of_run, with_run, with_pause, with_lines, at_rest, with_source_lines, lines_in, first_piece, shown_of, has_source_line, source_shown, FollowsPlayed}
 use Rattle.dap_debuggee.specs.declared.answers.Assigned.{Assigned}
 use Rattle.dap_debuggee.specs.declared.answers.Variable.{Variable}
@@ -513,23 +513,31 @@ assigned-by : (b : Bool) (o : Option (List Variable)) (name value n text : List 
 assigned-by true o name value n text = assigned-map o name value n text
 assigned-by false o name value n text = refl
 
-sets-one : (v : Played) (holder : ℕ) (name text : List ℕ) (a : Assigned) (r : Reply) → (shown_of v).assigned holder name text ≡ Some a → SetsOneValue holder name a.value (shown_of v) (shown_of (with_ask (to_assign holder name text) r (after_assign holder name text v)))
+sets-one : (v : Played) (holder : ℕ) (name text : List ℕ) (a : Assigned) (r : Reply) → (shown_of v).assigned holder name text ≡ Some a → SetsWhatIsTold (shown_of v) (shown_of (with_ask (to_assign holder name text) r (after_assign holder name text v))) holder name text
 sets-one v holder name text a r is =
     let named = named-in (children_shown v holder) name text a is in
     let held = found-within (λ m. m.holders) (moment_shown v) holder (variables_held v holder) named.0 named.1 in
-    subst (λ (value : List ℕ). SetsOneValue holder name value (shown_of v) (shown_of (with_ask (to_assign holder name text) r (after_assign holder name text v)))) (sym named.2)
-    (record {
-      threads = refl;
-      frames = λ t. refl;
-      scopes = λ n. refl;
-      children = λ h. children-by (nat_eq h holder) v holder h name text named.0 refl held;
-      assigned = λ h n t. ap (set_in n t) (children-by (nat_eq h holder) v holder h name text named.0 refl held) ∙ assigned-by (nat_eq h holder) (children_shown v h) name text n t;
-      sources = record { sources = refl; content = λ n. refl };
-      verify = λ source lines. refl;
-    })
+    record {
+      value = text;
+      told = is ∙ ap (λ (value : List ℕ). Some (record { value = value })) named.2;
+      set = record {
+        threads = refl;
+        frames = λ t. refl;
+        scopes = λ n. refl;
+        children = λ h. children-by (nat_eq h holder) v holder h name text named.0 refl held;
+        assigned = λ h n t. ap (set_in n t) (children-by (nat_eq h holder) v holder h name text named.0 refl held) ∙ assigned-by (nat_eq h holder) (children_shown v h) name text n t;
+        sources = record { sources = refl; content = λ n. refl };
+        verify = λ source lines. refl;
+      };
+    }
+
+sets-some : (v : Played) (holder : ℕ) (name text : List ℕ) (o : Option Assigned) (r : Reply) → (shown_of v).assigned holder name text ≡ o → IsSome o → SetsWhatIsTold (shown_of v) (shown_of (with_ask (to_assign holder name text) r (after_assign holder name text v))) holder name text
+sets-some v holder name text None r is there = absurd (cc there)
+sets-some v holder name text (Some a) r is there = sets-one v holder name text a r is
 
 pub sets_values-played : SetsValues shown_of FollowsPlayed
-sets_values-played v w holder name text r a f is = subst (λ p. SetsOneValue holder name a.value (shown_of v) (shown_of p)) (sym f.view) (sets-one v holder name text a r is)
+sets_values-played v w holder name text r f =
+    subst (λ p. SetsWhatIsTold (shown_of v) (shown_of p) holder name text) (sym f.view) (sets-some v holder name text ((shown_of v).assigned holder name text) r refl f.allowed)
 
 some-before : {A B : Type 0} (f : A → B) (o : Option A) → IsSome (option_map f o) → IsSome o
 some-before f None h = h

@@ -1,4 +1,4 @@
--- How the code holds a run and the last act, and what that amounts to.
+-- How the code holds a run, the last act and the values that were set, and what that amounts to.
 -- Only private clauses, invariants and proofs cite this file.
 use Rattle.std.specs.Prelude.{ℤ, Bool, zero, max, false, bytes_eq, if◌then◌else◌, Vec, ◌≡◌, ◌⊎◌, ◌≤◌, ◌+◌, ◌%◌, ◌^◌, ℕ, suc, ◌-◌, ◌<◌, length, List, [], ◌∷◌, String, map, take, drop, Option, Some, None, option_map, unwrap_or, pos}
 use Rattle.std.specs.List.{slice_get, find}

@@ -28,7 +28,7 @@ pub data Act : Type 0 where
   to_pause : Act
   to_poll : Act
   to_set_breakpoints : SourceKey → List ℕ → Act
-  -- the first variable of a name directly in a holder, to a text
+  -- by the holder's object number, a name and a text: the first variable of that name directly in the holder gets the value that `assigned` tells
   to_assign : ℕ → List ℕ → List ℕ → Act
   to_end : Act
 
@@ -70,7 +70,7 @@ pub record Shown : Type 0 where
   pub children : ℕ → Option (List Variable)
   -- in a frame or in none
   pub evaluate : Option ℕ → List ℕ → Option Evaluation
-  -- what a variable is set to by a text: by its holder's object number and its name
+  -- the value that a variable gets by a text: by its holder's object number, its name and the text
   pub assigned : ℕ → List ℕ → List ℕ → Option Assigned
   pub sources : List Source
   -- the text of a source, by its index

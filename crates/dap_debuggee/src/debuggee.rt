@@ -55,6 +55,7 @@ pub trait Debuggee {
         ensures { OnOk result (follows self.old (to_set_breakpoints source.now lines.now) done self.new) };
 
     /// Sets the first variable of a name directly in a holder, by its object number, to the value that `assigned` tells of it.
+    /// No other variable changes, nor what `assigned` tells of any text: a debuggee for which that is not so refuses in `assigned`.
     ///
     /// # Errors
     /// `AllocError` where memory is refused. All is then as it was, but the count of acts and the last one.
@@ -102,7 +103,7 @@ pub trait Debuggee {
         ensures { AnswersQuery result (λ value. value) ((shown self.now).evaluate frame text.now) };
 
     /// The value that `assign` gives the first variable of a name directly in a holder, by its object number. `Refused` where
-    /// there is no such variable, or the text is no value of it.
+    /// there is no such variable, and wherever the debuggee does not take the text for it.
     fn assigned(
         &self,
         alloc: Global,
@@ -145,7 +146,7 @@ pub trait Debuggee {
     /// Lines change by being set.
     ghost sets_lines: { SetsLines shown follows };
 
-    /// A value that is set is that of one variable.
+    /// Only what `assigned` tells is set, and it is the value of that variable then.
     ghost sets_values: { SetsValues shown follows };
 
     /// A refused act, a pause and the setting of breakpoints change no answer.

@@ -169,7 +169,7 @@ impl Recorded {
     }
 
     /// The variables of a holder in which one was set.
-    fn changed_of(&self, holder: u64) -> Option<&[Variable]>
+    fn changed_at(&self, holder: u64) -> Option<&[Variable]>
         ensures { option_map (λ v. v.now) result ≡ changed_at holder self.now.changed }
     {
         match self.changed.get(&holder) {
@@ -190,7 +190,7 @@ impl Recorded {
     pub(crate) fn variables_of(&self, holder: u64) -> Option<&[Variable]>
         ensures { option_map (λ v. v.now) result ≡ variables_held self.now holder }
     {
-        match self.changed_of(holder) {
+        match self.changed_at(holder) {
             None => self.recorded_of(holder),
             Some(variables) => Some(variables),
         }

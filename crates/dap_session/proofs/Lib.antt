@@ -34,3 +34,4 @@ pub mod Stale
 pub mod Ordered
 pub mod OrderedAnswers
 pub mod ProtocolLists
+pub mod Offers

@@ -22,4 +22,5 @@ pub mod QueryResults
 pub mod PrivateChanging
 pub mod RefusalLaws
 pub mod StaleLaws
+pub mod OfferLaws
 pub mod OrderLaws

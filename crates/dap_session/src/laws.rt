@@ -2,6 +2,7 @@
 ghost use Rattle.dap_session.specs.Answering.{EachStepGoesWell};
 ghost use Rattle.dap_session.specs.Laws.{EachStepGoesOn};
 ghost use Rattle.dap_session.specs.OrderLaws.{FailuresComeInOrder, RefusalsComeInOrder};
+ghost use Rattle.dap_session.specs.OfferLaws.{OffersAreServed};
 ghost use Rattle.dap_session.specs.ReferenceLaws.{ReferencesAreApart};
 ghost use Rattle.dap_session.specs.RefusalLaws.{RefusalsChangeNothing};
 ghost use Rattle.dap_session.specs.StaleLaws.{DeadNumbersAreStale};
@@ -33,6 +34,12 @@ pub fn each_step_stays_within()
 /// the objects in their places.
 pub fn references_are_apart()
     ensures { ReferencesAreApart }
+{}
+
+/// What `initialize` offers is what is served: the flags allow a command just where the table has a row for it, or it is `cancel`,
+/// which is answered where it is taken.
+pub fn offers_are_served()
+    ensures { OffersAreServed }
 {}
 
 /// A served request with good arguments whose number died, or names nothing of its kind, is answered `staleReference` where

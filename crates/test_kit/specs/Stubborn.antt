@@ -187,8 +187,10 @@ one_value v w holder name value s = record {
 }
 
 pub sets_values-stubborn : SetsValues shown_stubborn FollowsStubborn
-sets_values-stubborn v w holder name text r a (inl f) is = absurd (cc f.act)
-sets_values-stubborn v w holder name text r a (inr f) is = one_value v w holder name a.value (sets_values-played v.inner w.inner holder name long_value r a f.inner is)
+sets_values-stubborn v w holder name text r (inl f) = absurd (cc f.act)
+sets_values-stubborn v w holder name text r (inr f) =
+    let inner = sets_values-played v.inner w.inner holder name long_value r f.inner in
+    record { value = inner.value; told = inner.told; set = one_value v w holder name inner.value inner.set }
 
 -- a view of the same recording
 itself : (v : Played) → SameAnswers (shown_of v) (shown_of v)

@@ -2,7 +2,7 @@ use Rattle.std.proofs.Common.{Global, Vec, Some, option_map, ap, ◌∙◌}
 use Rattle.dap_debuggee.specs.Played.{Played, changed_at}
 use Rattle.dap_debuggee.specs.declared.answers.Variable.{Variable}
 use Rattle.dap_debuggee.proofs.Changed.{looked_up}
-use Rattle.dap_debuggee.proofs.recorded.Recorded.changed_of.Goals as goal
+use Rattle.dap_debuggee.proofs.recorded.Recorded.changed_at.Goals as goal
 
 pub returns-in-None : goal.returns-in-None
 returns-in-None c =
