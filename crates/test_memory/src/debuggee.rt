@@ -219,51 +219,46 @@ fn is_worth(alloc: Global, debuggee: &Recorded, wanted: &str) -> Option<bool> {
     }
 }
 
-/// What came of setting a value.
-#[derive(Clone, Copy, PartialEq, Eq)]
-enum Came {
-    Done,
-    /// Memory was refused.
-    Refused,
-    Wrong,
-}
-
-/// Sets a variable to a text, where the text is what it would be set to.
-fn put(alloc: Global, debuggee: &mut Recorded, holder: u64, name: &str, text: &str) -> Came {
+/// Whether a variable is set to a text, which is what it was told to be set to; nothing where memory was refused.
+fn puts(
+    alloc: Global,
+    debuggee: &mut Recorded,
+    holder: u64,
+    name: &str,
+    text: &str,
+) -> Option<bool> {
     match debuggee.assigned(alloc, holder, name, text) {
         Ok(assigned) if assigned.value.as_str() == text => {
             match debuggee.assign(alloc, holder, name, text) {
-                Ok(()) => Came::Done,
-                Err(_) => Came::Refused,
+                Ok(()) => Some(true),
+                Err(_) => None,
             }
         }
-        Err(DebuggeeFault::OutOfMemory) => Came::Refused,
-        _ => Came::Wrong,
+        Ok(_) => Some(false),
+        Err(fault) => unanswered(fault),
     }
 }
 
-/// `p` twice, and then its child. Holder, name and text.
-static SETS: [(u64, &str, &str); 3] = [(1, "p", "Q"), (1, "p", "R"), (0, "a", "8")];
+/// The value of what was to be set to a text.
+fn value_after(is_set: Option<bool>, text: &'static str, before: &'static str) -> &'static str {
+    if is_set == Some(true) { text } else { before }
+}
 
-/// Each is set, also after one that was refused memory, and where memory is refused the value of `p` is as it was.
+/// `p` is set twice and its child once, each also after one that was refused memory. Where it was, `p` has the value that it
+/// had.
 fn puts_all(alloc: Global, debuggee: &mut Recorded) -> Option<bool> {
     if debuggee.start(alloc) != Ok(()) {
         return Some(false);
     }
-    let mut value = "P";
-    let mut outcome = Some(true);
-    for (holder, name, text) in &SETS {
-        let is_set = match put(alloc, debuggee, *holder, name, text) {
-            Came::Done => Some(true),
-            Came::Refused => None,
-            Came::Wrong => Some(false),
-        };
-        if is_set == Some(true) && *holder == 1 {
-            value = *text;
-        }
-        outcome = both(outcome, both(is_set, has_value(alloc, debuggee, value)));
-    }
-    outcome
+    let first = puts(alloc, debuggee, 1, "p", "Q");
+    let value = value_after(first, "Q", "P");
+    let told = has_value(alloc, debuggee, value);
+    let second = puts(alloc, debuggee, 1, "p", "R");
+    let value = value_after(second, "R", value);
+    let told = both(told, has_value(alloc, debuggee, value));
+    let third = puts(alloc, debuggee, 0, "a", "8");
+    let told = both(told, has_value(alloc, debuggee, value));
+    both(both(first, second), both(third, told))
 }
 
 fn sets_values(alloc: Global) -> Option<bool> {
