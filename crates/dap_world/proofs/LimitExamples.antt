@@ -11,7 +11,7 @@ use Rattle.dap_message.specs.CallTree.{initialize_members, stack_trace_members}
 use Rattle.dap_message.specs.Canon.{canon, tree_of, request_members, response_members, event_members}
 use Rattle.dap_message.specs.Types.Call.{Call}
 use Rattle.dap_message.specs.Types.Call.TheVariants as call
-use Rattle.dap_debuggee.specs.Shown.{Shown, Act, to_start, to_resume, to_pause, to_poll, to_set_breakpoints, to_end, Reply, done, happened}
+use Rattle.dap_debuggee.specs.Shown.{Shown, Act, to_start, to_resume, to_pause, to_poll, to_set_breakpoints, to_assign, to_end, Reply, done, happened}
 use Rattle.dap_debuggee.specs.declared.answers.Happening.TheVariants as happening
 use Rattle.dap_debuggee.specs.declared.answers.State.{State}
 use Rattle.dap_debuggee.specs.declared.answers.State.TheVariants.{NotStarted, Running, Stopped, Gone}
@@ -31,6 +31,7 @@ replies (to_resume how thread) v = (done, Running)
 replies to_pause v = (done, v)
 replies to_poll v = (happened (happening.Stopped (codes "step") (pos 1)), Stopped)
 replies (to_set_breakpoints source lines) v = (done, v)
+replies (to_assign holder name text) v = (done, v)
 replies to_end v = (done, Gone)
 
 shows : State → Shown
@@ -44,6 +45,7 @@ shows v = record {
   scopes = λ frame. None;
   children = λ holder. None;
   evaluate = λ frame text. None;
+  assigned = λ holder name text. None;
   sources = record { name = codes "a.c"; path = Some (codes "/a.c") } ∷ [];
   content = λ index. None;
   verify = λ source lines. None;
