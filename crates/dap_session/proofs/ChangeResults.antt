@@ -1,5 +1,5 @@
 -- What is changed: that the lines were asked for in range, and what the plan takes.
-use Rattle.std.proofs.Common.{◌≡◌, ◌⊎◌, inl, inr, ◌∙◌, ap, ℕ, ◌+◌, ◌<◌, ◌≤◌, List, [], ◌∷◌, Bool, true, false, cond, Option, Some, None, Result, Ok, Err, IfOk, OnOk, refl, sym, subst, arith, true≢false}
+use Rattle.std.proofs.Common.{◌≡◌, ◌⊎◌, inl, inr, ◌∙◌, ap, ℕ, ◌+◌, ◌<◌, ◌≤◌, List, [], ◌∷◌, Bool, true, false, cond, Option, Some, None, Result, Ok, Err, refl, sym, subst, arith, true≢false}
 use Rattle.std.specs.Prelude.{◌&&◌, nat_le, option_and_then, option_map, unwrap_or, if◌then◌else◌}
 use Rattle.std.specs.List.{list_all, find}
 use Rattle.std.proofs.lemmas.List.Elements.{All-cons}
@@ -27,17 +27,15 @@ use Rattle.dap_tables.specs.Outstanding.{without}
 use Rattle.dap_debuggee.specs.Shown.{Shown, to_set_breakpoints, to_assign, done}
 use Rattle.dap_debuggee.specs.declared.answers.Assigned.{Assigned}
 use Rattle.std.specs.Option.{IsSome}
-use Rattle.dap_session.specs.Bodies.{object_of}
 use Rattle.dap_session.specs.Breakpoints.{are_too_many}
 use Rattle.dap_session.specs.Carried.{Goes}
-use Rattle.dap_session.specs.Handling.{Change, ChangeResult, after_change, answers_to, lines_asked, lines_change, lines_result, value_change, assigned_result, value_result, change_result}
+use Rattle.dap_session.specs.Handling.{Change, ChangeResult, after_change, answers_to, lines_asked, lines_change, lines_result, value_change, assigned_result, value_result}
 use Rattle.dap_session.specs.Session.{Session}
 use Rattle.dap_session.specs.SessionState.{SessionState, Carries}
 use Rattle.dap_session.specs.declared.outbox.Outbox.{Outbox}
 use Rattle.dap_session.specs.declared.effect.Effect.{Effect}
 use Rattle.dap_session.specs.declared.effect.Effect.TheVariants as effect
 use Rattle.dap_session.specs.declared.phase.Phase.{Phase}
-use Rattle.dap_session.specs.Plan.{Plan}
 use Rattle.dap_session.specs.PrivateChanging.{AreLines, IsChange, Suits, IsMeasured, Changes}
 use Rattle.dap_session.specs.Table.{Row, rows_of, effect_in, is_among}
 

@@ -32,6 +32,8 @@ pub mod ChangeResults
 pub mod Refusals
 pub mod Stale
 pub mod Ordered
+pub mod ServedInOrder
+pub mod EffectRows
 pub mod OrderedAnswers
 pub mod ProtocolLists
 pub mod Offers

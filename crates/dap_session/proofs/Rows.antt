@@ -1,4 +1,4 @@
--- Each row of the table, and what its parts are shown by: a new effect is one row more of `plan_for-row`, by its outcome.
+-- What each row of the table is shown by: the outcome of its effect.
 use Rattle.std.proofs.Common.{◌≡◌, ℕ, ◌+◌, List, [], ◌∷◌, ◌++◌, Bool, true, false, Option, Some, None, Ok, Err, length, refl, sym, ap, ◌∙◌, subst, arith, length-append, filter, map}
 use Rattle.std.specs.Prelude.{◌==◌, not, if◌then◌else◌, nat_lt}
 use Rattle.std.proofs.lemmas.List.Elements.{filter-append}
@@ -10,29 +10,26 @@ use Rattle.dap_history.specs.Requests.{asked_of, asks}
 use Rattle.dap_message.specs.AdapterMessages.{AdapterEvent, initialized, terminated}
 use Rattle.dap_message.specs.Types.Call.{Call}
 use Rattle.dap_message.specs.Types.Call.TheVariants as call
-use Rattle.dap_message.specs.Types.Failure.TheVariants.{Cancelled, TooLarge, Debuggee, TooManyBreakpoints}
+use Rattle.dap_message.specs.Types.Failure.TheVariants.{Cancelled, TooLarge, Debuggee}
 use Rattle.dap_message.specs.Types.SourceKey.{SourceKey}
 use Rattle.dap_tables.specs.Breakpoints.{SetBreakpoints, count_with, breakpoints_with, max_id}
 use Rattle.dap_tables.specs.Outstanding.{Kept, contains_seq, without, with_mark, kept_with_mark, parked_ones, unparked_ones, HasDistinctSeqs}
 use Rattle.dap_tables.proofs.SetLemmas.{count-breakpoints_with}
 use Rattle.dap_debuggee.specs.Shown.{Shown, Reply, done, refused, happened}
 use Rattle.dap_debuggee.specs.declared.answers.How.{How}
-use Rattle.dap_session.specs.declared.effect.Effect.{Effect}
-use Rattle.dap_session.specs.declared.effect.Effect.TheVariants as effect
 use Rattle.dap_session.specs.declared.options.Options.{Options}
-use Rattle.dap_session.specs.Bodies.{QueryAnswer, QueryResult, query_result, object_of}
+use Rattle.dap_session.specs.Bodies.{QueryAnswer, QueryResult, object_of}
 use Rattle.dap_session.specs.Breakpoints.{are_too_many}
-use Rattle.dap_session.specs.Handling.{after_initialize, after_park, after_launch, after_configuration_done, after_parked_launch, after_disconnect, after_terminate, after_resume, resume_body, after_query, fits, by_reply, answer_each, lines_asked, Change, ChangeResult, change_asked, after_change, change_result, plan_for}
+use Rattle.dap_session.specs.Handling.{after_initialize, after_park, after_launch, after_configuration_done, after_parked_launch, after_disconnect, after_terminate, after_resume, resume_body, after_query, fits, by_reply, answer_each, lines_asked, Change, ChangeResult, change_asked, after_change, change_result}
 use Rattle.dap_session.specs.Plan.{Answer, success, failure, plain_success, reply, emit, names_in, at_once, after_answering}
 use Rattle.dap_session.specs.Session.{Session}
-use Rattle.dap_session.specs.PrivateChanging.{Suits}
 use Rattle.dap_session.proofs.ChangeResults.{lines-due, value-due}
 use Rattle.dap_session.proofs.Fewer.{IsHandled, fewer-handled, fewer-park, fewer-unparked, fewer-none}
 use Rattle.dap_session.proofs.Interned.{le-not}
 use Rattle.dap_session.proofs.Kept.{Walked, walked-none, walked-event, walked-append, walked-each, walked-kept, walked-one, rejected, IsKept, distinct-without, apart, eqb-self, false-left, false-right}
 use Rattle.dap_session.proofs.Moves.{StandFew, moves-grown, moves-set, is-plain}
 use Rattle.dap_session.proofs.Outcomes.{IsOutcome, replied, plain-reply, plain-outcome, after_answering-outcome, each-names-none, append-names-none, is_refused, AreClean, each-clean, append-clean, IsRow, once-row, failed-row, asking-row, either-row}
-use Rattle.dap_session.proofs.QueryResults.{TellsWell, query_result-well}
+use Rattle.dap_session.proofs.QueryResults.{TellsWell}
 
 -- ---- forms
 
@@ -54,7 +51,7 @@ walked-all p answer ks d =
 
 -- ---- initialize
 
-after_initialize-outcome : (s : Session) (k : Kept) (asked : Call) → IsHandled s k → IsOutcome s 2 (after_initialize s k.entry asked)
+pub after_initialize-outcome : (s : Session) (k : Kept) (asked : Call) → IsHandled s k → IsOutcome s 2 (after_initialize s k.entry asked)
 after_initialize-outcome s k asked i =
     plain-outcome s 2 (after_initialize s k.entry asked) (is-plain s _ refl refl refl) (refl, (refl, tt)) refl refl (λ (d : HasDistinctSeqs s.kept). replied-and-after_query s.kept k (success (Some _) []) initialized d i.kept) (λ (d : HasDistinctSeqs s.kept). fewer-handled s k d i)
 
@@ -68,7 +65,7 @@ asks-kept_with_mark : (seq : ℕ) (mark : Bool) (kept : List Kept) → asks (wit
 asks-kept_with_mark seq mark [] = refl
 asks-kept_with_mark seq mark (k ∷ kept) = rw (asked-kept_with_mark (k.entry.seq == seq) mark k) (ap (λ (xs : List Asked). asked_of k.entry ∷ xs) (asks-kept_with_mark seq mark kept))
 
-after_park-outcome : (s : Session) (k : Kept) → IsHandled s k → IsOutcome s 0 (after_park s k.entry)
+pub after_park-outcome : (s : Session) (k : Kept) → IsHandled s k → IsOutcome s 0 (after_park s k.entry)
 after_park-outcome s k i =
     plain-outcome s 0 (after_park s k.entry) (is-plain s _ refl refl refl) tt (omega arith) refl
     (λ (d : HasDistinctSeqs s.kept). subst (λ (qs : List Asked). Walked [] (asks s.kept) qs) (sym (asks-kept_with_mark k.entry.seq true s.kept)) (walked-none (asks s.kept)))
@@ -79,18 +76,18 @@ names-by_reply body done = refl
 names-by_reply body refused = refl
 names-by_reply body (happened h) = refl
 
-reply-clean : (body : Option Data) (last : Reply) → is_refused (by_reply body last) ≡ false
+pub reply-clean : (body : Option Data) (last : Reply) → is_refused (by_reply body last) ≡ false
 reply-clean body done = refl
 reply-clean body refused = refl
 reply-clean body (happened h) = refl
 
-one-clean : (k : Kept) (answer : Answer) → is_refused answer ≡ false → AreClean (reply k.entry answer ∷ [])
+pub one-clean : (k : Kept) (answer : Answer) → is_refused answer ≡ false → AreClean (reply k.entry answer ∷ [])
 one-clean k answer h = rw h refl
 
-after_launch-outcome : (s : Session) (k : Kept) → IsHandled s k → (last : Reply) → IsOutcome s 1 (after_launch s k.entry last)
+pub after_launch-outcome : (s : Session) (k : Kept) → IsHandled s k → (last : Reply) → IsOutcome s 1 (after_launch s k.entry last)
 after_launch-outcome s k i last = plain-reply s k (by_reply None last) (after_launch s k.entry last) i (names-by_reply None last) refl refl refl (is-plain s _ refl refl refl)
 
-after_configuration_done-outcome : (s : Session) (k : Kept) → IsHandled s k → IsOutcome s 1 (after_configuration_done s k.entry)
+pub after_configuration_done-outcome : (s : Session) (k : Kept) → IsHandled s k → IsOutcome s 1 (after_configuration_done s k.entry)
 after_configuration_done-outcome s k i = plain-reply s k plain_success (after_configuration_done s k.entry) i refl refl refl refl (is-plain s _ refl refl refl)
 
 after_parked_launch-walked : (s : Session) (k : Kept) (last : Reply) → IsHandled s k → HasDistinctSeqs s.kept → Walked (after_parked_launch s k.entry last).drafts (asks s.kept) (asks (unparked_ones (without k.entry.seq s.kept)))
@@ -100,7 +97,7 @@ after_parked_launch-walked s k last i d =
     let rest = walked-all (λ (x : Kept). x.parked) (by_reply None last) others (distinct-without s.kept k d i.kept) in
     walked-append (reply k.entry plain_success ∷ []) (answer_each (by_reply None last) (parked_ones others)) (asks s.kept) (asks others) (asks (unparked_ones others)) first rest
 
-after_parked_launch-outcome : (s : Session) (k : Kept) → IsHandled s k → (last : Reply) → IsOutcome s (length (parked_ones (without k.entry.seq s.kept)) + 1) (after_parked_launch s k.entry last)
+pub after_parked_launch-outcome : (s : Session) (k : Kept) → IsHandled s k → (last : Reply) → IsOutcome s (length (parked_ones (without k.entry.seq s.kept)) + 1) (after_parked_launch s k.entry last)
 after_parked_launch-outcome s k i last =
     let others = parked_ones (without k.entry.seq s.kept) in
     let count = length-each (by_reply None last) others in
@@ -131,7 +128,7 @@ after_disconnect-walked s k i d =
     let last : Walked (reply k.entry plain_success ∷ []) (asks (k ∷ [])) [] = walked-one plain_success [] k [] (refl, tt) in
     walked-append (answer_each (failure Cancelled) others) (reply k.entry plain_success ∷ []) (asks s.kept) (asks (k ∷ [])) [] mid last
 
-after_disconnect-outcome : (s : Session) (k : Kept) → IsHandled s k → IsOutcome s (length (without k.entry.seq s.kept) + 1) (after_disconnect s k.entry)
+pub after_disconnect-outcome : (s : Session) (k : Kept) → IsHandled s k → IsOutcome s (length (without k.entry.seq s.kept) + 1) (after_disconnect s k.entry)
 after_disconnect-outcome s k i =
     let others = without k.entry.seq s.kept in
     let count = length-each (failure Cancelled) others in
@@ -140,21 +137,21 @@ after_disconnect-outcome s k i =
     (λ (d : HasDistinctSeqs s.kept). after_disconnect-walked s k i d)
     (λ (d : HasDistinctSeqs s.kept). fewer-none s k d i)
 
-after_disconnect-clean : (s : Session) (k : Kept) → AreClean (after_disconnect s k.entry).drafts
+pub after_disconnect-clean : (s : Session) (k : Kept) → AreClean (after_disconnect s k.entry).drafts
 after_disconnect-clean s k = append-clean (answer_each (failure Cancelled) (without k.entry.seq s.kept)) (reply k.entry plain_success ∷ []) (each-clean (failure Cancelled) (without k.entry.seq s.kept) refl) refl
 
-after_terminate-outcome : (s : Session) (k : Kept) → IsHandled s k → IsOutcome s 2 (after_terminate s k.entry)
+pub after_terminate-outcome : (s : Session) (k : Kept) → IsHandled s k → IsOutcome s 2 (after_terminate s k.entry)
 after_terminate-outcome s k i =
     plain-outcome s 2 (after_terminate s k.entry) (is-plain s _ refl refl refl) (refl, (refl, tt)) refl refl (λ (d : HasDistinctSeqs s.kept). replied-and-after_query s.kept k plain_success terminated d i.kept) (λ (d : HasDistinctSeqs s.kept). fewer-handled s k d i)
 
 -- ---- the six ways to go on
 
-after_resume-outcome : (h : How) (s : Session) (k : Kept) → IsHandled s k → (last : Reply) → IsOutcome s 1 (after_resume h s k.entry last)
+pub after_resume-outcome : (h : How) (s : Session) (k : Kept) → IsHandled s k → (last : Reply) → IsOutcome s 1 (after_resume h s k.entry last)
 after_resume-outcome h s k i done = plain-reply s k (success (resume_body h) []) (after_resume h s k.entry done) i refl refl refl refl (is-plain s _ refl refl refl)
 after_resume-outcome h s k i refused = after_answering-outcome s k (failure Debuggee) i refl
 after_resume-outcome h s k i (happened x) = after_answering-outcome s k (failure Debuggee) i refl
 
-after_resume-clean : (h : How) (s : Session) (k : Kept) (last : Reply) → AreClean (after_resume h s k.entry last).drafts
+pub after_resume-clean : (h : How) (s : Session) (k : Kept) (last : Reply) → AreClean (after_resume h s k.entry last).drafts
 after_resume-clean h s k done = refl
 after_resume-clean h s k refused = refl
 after_resume-clean h s k (happened x) = refl
@@ -180,13 +177,13 @@ change-outcome : (s : Session) (k : Kept) (c : Change) → IsHandled s k → (St
     → IsOutcome s 1 (record { drafts = reply k.entry (success c.body []) ∷ []; drops = false; after = record s { kept = without k.entry.seq s.kept; breakpoints = c.breakpoints; used = s.used + 1 } })
 change-outcome s k c i few = replied s k (success c.body []) _ i (moves-set s _ refl refl few refl) refl refl refl refl
 
-change-row : (s : Session) (k : Kept) (due : ChangeResult) → ((c : Change) → due ≡ Ok c → StandFew s.limits s.breakpoints → StandFew s.limits c.breakpoints) → IsHandled s k → IsRow s (after_change s k.entry due)
+pub change-row : (s : Session) (k : Kept) (due : ChangeResult) → ((c : Change) → due ≡ Ok c → StandFew s.limits s.breakpoints → StandFew s.limits c.breakpoints) → IsHandled s k → IsRow s (after_change s k.entry due)
 change-row s k (Err f) few i = failed-row s k f i
 change-row s k (Ok c) few i =
     either-row (fits s k.entry c.body) s (change_asked s k.entry c) _ (λ (f : fits s k.entry c.body ≡ true). asking-row s 1 _ _ (λ (last : Reply). change-outcome s k c i (few c refl)) (λ (last : Reply). refl))
     (λ (f : fits s k.entry c.body ≡ false). failed-row s k TooLarge i)
 
-change-stands : (view : Shown) (s : Session) (asked : Call) (c : Change) → change_result view s asked ≡ Ok c → StandFew s.limits s.breakpoints → StandFew s.limits c.breakpoints
+pub change-stands : (view : Shown) (s : Session) (asked : Call) (c : Change) → change_result view s asked ≡ Ok c → StandFew s.limits s.breakpoints → StandFew s.limits c.breakpoints
 change-stands view s (call.SetBreakpoints key lines) c e few =
     let due = lines-due s key lines (view.verify key (lines_asked s.options lines)) c e in
     subst (λ (b : SetBreakpoints). StandFew s.limits b) (sym due.breakpoints) (few-breakpoints_with s.limits key lines (lines_asked s.options lines) s.breakpoints (length-asked s.options lines) due.few)
@@ -206,25 +203,6 @@ after_query-if : (b : Bool) (s : Session) (k : Kept) (t : QueryAnswer) → Tells
 after_query-if true s k t w i = once-row s 1 _ (after_query-once s k t w i) refl
 after_query-if false s k t w i = failed-row s k TooLarge i
 
-after_query-row : (s : Session) (k : Kept) (given : QueryResult) → ((t : QueryAnswer) → given ≡ Ok t → TellsWell s t) → IsHandled s k → IsRow s (at_once (after_query s k.entry given))
+pub after_query-row : (s : Session) (k : Kept) (given : QueryResult) → ((t : QueryAnswer) → given ≡ Ok t → TellsWell s t) → IsHandled s k → IsRow s (at_once (after_query s k.entry given))
 after_query-row s k (Err f) w i = failed-row s k f i
 after_query-row s k (Ok t) w i = after_query-if (fits s k.entry t.body) s k t (w t refl) i
-
--- ---- the effects of the table
-
-pub plan_for-row : (e : Effect) (view : Shown) (s : Session) (k : Kept) (asked : Call) → IsHandled s k → Suits e asked → IsRow s (plan_for e view s k.entry asked)
-unfolding plan_for
-plan_for-row effect.Initialize view s k asked i n = once-row s 2 _ (after_initialize-outcome s k asked i) refl
-plan_for-row effect.Park view s k asked i n = once-row s 0 _ (after_park-outcome s k i) refl
-plan_for-row effect.Start view s k asked i n = asking-row s 1 _ (after_launch s k.entry) (after_launch-outcome s k i) (λ (last : Reply). one-clean k (by_reply None last) (reply-clean None last))
-plan_for-row effect.ConfigurationDone view s k asked i n = once-row s 1 _ (after_configuration_done-outcome s k i) refl
-plan_for-row effect.StartParked view s k asked i n =
-    asking-row s (length (parked_ones (without k.entry.seq s.kept)) + 1) _ (after_parked_launch s k.entry) (after_parked_launch-outcome s k i) (λ (last : Reply). each-clean (by_reply None last) (parked_ones (without k.entry.seq s.kept)) (reply-clean None last))
-plan_for-row effect.Disconnect view s k asked i n = once-row s (length (without k.entry.seq s.kept) + 1) _ (after_disconnect-outcome s k i) (after_disconnect-clean s k)
-plan_for-row effect.EndAndDisconnect view s k asked i n = asking-row s (length (without k.entry.seq s.kept) + 1) _ (λ last. after_disconnect s k.entry) (λ (last : Reply). after_disconnect-outcome s k i) (λ (last : Reply). after_disconnect-clean s k)
-plan_for-row effect.Terminate view s k asked i n = asking-row s 2 _ (λ last. after_terminate s k.entry) (λ (last : Reply). after_terminate-outcome s k i) (λ (last : Reply). refl)
-plan_for-row effect.Change view s k asked i n = change-row s k (change_result view s asked) (change-stands view s asked) i
-plan_for-row (effect.Resume h) view s k asked i n = asking-row s 1 _ (after_resume h s k.entry) (after_resume-outcome h s k i) (after_resume-clean h s k)
-plan_for-row effect.Pause view s k asked i n =
-    asking-row s 1 _ (λ last. after_answering k.entry (by_reply None last) s) (λ (last : Reply). after_answering-outcome s k (by_reply None last) i (names-by_reply None last)) (λ (last : Reply). one-clean k (by_reply None last) (reply-clean None last))
-plan_for-row effect.Query view s k asked i n = after_query-row s k (query_result view s asked) (query_result-well view s asked) i

@@ -20,7 +20,7 @@ use Rattle.dap_session.specs.Table.{effect_in, is_served, is_phase}
 use Rattle.dap_session.proofs.Fewer.{IsHandled}
 use Rattle.dap_session.proofs.Kept.{kept-found, found-passes}
 use Rattle.dap_session.proofs.Outcomes.{IsRow, failed-row}
-use Rattle.dap_session.proofs.Rows.{plan_for-row}
+use Rattle.dap_session.proofs.EffectRows.{effect-row}
 use Rattle.dap_session.proofs.ServedRows.{unserved}
 use Rattle.dap_session.proofs.ChangeResults.{call-suits}
 
@@ -46,7 +46,7 @@ unserved-fails None false call h = cc
 
 served-row : (view : Shown) (s : Session) (k : Kept) (c : Command) (o : Option Effect) (read : Read Call) → IsHandled s k → effect_in c s.phase ≡ o → call_in k.entry c ≡ read
     → first_failure (name_refused s.phase (Some c) ∷ first_failure (key_refused read ∷ phase_refused s.phase c ∷ read_refused view s.references read ∷ []) ∷ []) ≡ None → IsRow s (plan_of_call view s k.entry o read)
-served-row view s k c (Some e) (Ok asked) i h r none = plan_for-row e view s k asked i (call-suits c s.phase k.entry.arguments e asked h r)
+served-row view s k c (Some e) (Ok asked) i h r none = (effect-row e view s asked (call-suits c s.phase k.entry.arguments e asked h r)).outcome k i
 served-row view s k c o (Err key) i h r none = absurd (badly-fails (name_refused s.phase (Some c)) (BadArguments key) None none)
 served-row view s k c None (Ok asked) i h r none =
     let not_served : is_served c s.phase ≡ false = unserved s.phase c h in

@@ -1,5 +1,5 @@
 -- The code's words for what is changed: lines, or a value.
-use Rattle.std.specs.Prelude.{◌≡◌, ℕ, ◌<◌, ⊤, List, [], ◌∷◌, All, true, Option, Some, Result, Ok, Err}
+use Rattle.std.specs.Prelude.{◌≡◌, ℕ, ◌<◌, ⊤, List, [], ◌∷◌, All, true, Some, Result, Ok, Err}
 use Rattle.dap_message.specs.Body.{data_of}
 use Rattle.dap_message.specs.Types.Body.{Body}
 use Rattle.dap_message.specs.Types.Call.{Call}
