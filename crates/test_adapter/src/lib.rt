@@ -11,3 +11,5 @@ mod greatest;
 mod playing;
 #[cfg(test)]
 mod sessions;
+#[cfg(test)]
+mod values;
