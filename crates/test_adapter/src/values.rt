@@ -5,7 +5,27 @@ use dap_debuggee::Recorded;
 use std::test::Fail;
 use test_kit::rows::play_rows;
 
-pub(crate) static VALUES: [&str; 9] = [
+/// The first ones, those after which the others come, stand in `sessions.rt` too.
+pub(crate) static VALUES: [&str; 10] = [
+    r#"
+row stops at its entry
+> {"seq":1,"type":"request","command":"initialize","arguments":{"adapterID":"rec"}}
+turn
+< capabilities seq 1 to 1
+< {"event":"initialized","seq":2,"type":"event"}
+> {"seq":2,"type":"request","command":"launch"}
+turn
+> {"seq":3,"type":"request","command":"configurationDone"}
+turn
+< {"command":"configurationDone","request_seq":3,"seq":3,"success":true,"type":"response"}
+< {"command":"launch","request_seq":2,"seq":4,"success":true,"type":"response"}
+poll
+< {"body":{"category":"stdout","output":"go\n"},"event":"output","seq":5,"type":"event"}
+poll
+< {"body":{"allThreadsStopped":true,"reason":"entry","threadId":1},"event":"stopped","seq":6,"type":"event"}
+phase Stopped
+references 0
+"#,
     r#"
 # The value lies on top of what was told until the debuggee goes on. No number is given, and none dies.
 row a variable is set
