@@ -12,4 +12,6 @@ mod playing;
 #[cfg(test)]
 mod sessions;
 #[cfg(test)]
+mod stubborn;
+#[cfg(test)]
 mod values;
