@@ -1,10 +1,10 @@
 -- Values that were set: how they are stored, and that they leave what holds children as it is recorded.
 use Rattle.std.proofs.Common.{◌≡◌, ℕ, zero, suc, Bool, true, false, cond, List, [], ◌∷◌, map, Option, Some, None, option_map, if◌then◌else◌, nat_eq, nat_lt, bytes_eq, Vec, refl, sym, ap, subst, ◌∙◌, arith}
+use Rattle.std.proofs.lemmas.Bool.{eqb-true}
 use Rattle.std.proofs.lemmas.Bool.Decides.{nat_tests}
 use Rattle.std.specs.BTreeMap.{insert_entry, is_at}
 use Rattle.std.specs.List.{slice_get}
 use Rattle.std.specs.Map.{lookup}
-use Rattle.std.specs.Option.{IsSome}
 use Rattle.std.specs.Ordering.{is_eq, match_ordering, nat_cmp}
 use Rattle.std.specs.declared.cmp.Ordering.TheVariants.{Less, Equal, Greater}
 use Rattle.dap_debuggee.specs.Laws.{with_value}
@@ -17,9 +17,6 @@ use Rattle.dap_debuggee.proofs.Ranges.{some_same}
 
 less-apart : (m n : ℕ) → nat_lt m n ≡ true → nat_eq m n ≡ false
 less-apart m n h = grind (arith, nat_tests)
-
-same-number : (m n : ℕ) → nat_eq m n ≡ true → m ≡ n
-same-number m n h = grind (arith, nat_tests)
 
 eq-by : (b c : Bool) → (b ≡ true → c ≡ false) → is_eq (cond b Less (cond c Equal Greater)) ≡ c
 eq-by true c h = sym (h refl)
@@ -68,7 +65,7 @@ AreRecorded recorded h xs = option_map holders_in (slice_get recorded h) ≡ Som
 keep-by : (b e : Bool) (recorded : List (List Variable)) (holder : ℕ) (xs : List Variable) (c : OfHolder) (changed : List OfHolder) → nat_eq holder c.holder ≡ e → AreRecorded recorded holder xs → KeepHolders recorded (c ∷ changed) → KeepHolders recorded (with_variables holder xs changed)
     → KeepHolders recorded (if b then record { holder = holder; variables = xs } ∷ c ∷ changed else (if e then record { holder = c.holder; variables = xs } ∷ changed else c ∷ with_variables holder xs changed))
 keep-by true e recorded holder xs c changed is new old rest = (new, old)
-keep-by false true recorded holder xs c changed is new old rest = (subst (λ n. AreRecorded recorded n xs) (same-number holder c.holder is) new, old.1)
+keep-by false true recorded holder xs c changed is new old rest = (subst (λ n. AreRecorded recorded n xs) (eqb-true holder c.holder is) new, old.1)
 keep-by false false recorded holder xs c changed is new old rest = (old.0, rest)
 
 keep : (recorded : List (List Variable)) (holder : ℕ) (xs : List Variable) (changed : List OfHolder) → AreRecorded recorded holder xs → KeepHolders recorded changed → KeepHolders recorded (with_variables holder xs changed)
@@ -76,7 +73,7 @@ keep recorded holder xs [] new old = (new, tt)
 keep recorded holder xs (c ∷ changed) new old = keep-by (nat_lt holder c.holder) (nat_eq holder c.holder) recorded holder xs c changed refl new old (keep recorded holder xs changed new old.1)
 
 at-by : (b : Bool) (recorded : List (List Variable)) (h : ℕ) (ys : List Variable) (c : OfHolder) (rest : Option (List Variable)) → nat_eq h c.holder ≡ b → AreRecorded recorded c.holder c.variables → (rest ≡ Some ys → AreRecorded recorded h ys) → (if b then Some c.variables else rest) ≡ Some ys → AreRecorded recorded h ys
-at-by true recorded h ys c rest is old later e = subst (λ n. AreRecorded recorded n ys) (sym (same-number h c.holder is)) (subst (λ (zs : List Variable). AreRecorded recorded c.holder zs) (some_same c.variables ys e) old)
+at-by true recorded h ys c rest is old later e = subst (λ n. AreRecorded recorded n ys) (sym (eqb-true h c.holder is)) (subst (λ (zs : List Variable). AreRecorded recorded c.holder zs) (some_same c.variables ys e) old)
 at-by false recorded h ys c rest is old later e = later e
 
 changed-recorded : (recorded : List (List Variable)) (h : ℕ) (ys : List Variable) (changed : List OfHolder) → KeepHolders recorded changed → changed_at h changed ≡ Some ys → AreRecorded recorded h ys

@@ -1,15 +1,14 @@
 -- Each number of a holder is that of one scope or of one variable of what a recording shows.
-use Rattle.std.proofs.Common.{◌≡◌, ◌≤◌, ◌+◌, ◌⊎◌, inl, inr, arith, map, Bool, true, false, if◌then◌else◌, cond, ℕ, zero, suc, nat_eq, List, [], ◌∷◌, Option, Some, None, eq-eqb, refl, sym, ap, ◌∙◌, subst}
+use Rattle.std.proofs.Common.{◌≡◌, ◌≤◌, ◌+◌, ◌⊎◌, inl, inr, arith, map, cond, ℕ, zero, suc, nat_eq, List, [], ◌∷◌, Option, Some, eq-eqb, refl, sym, ap, ◌∙◌, subst}
 use Rattle.std.proofs.lemmas.List.Sums.{sum_by-cons, sum_by-append}
 use Rattle.std.specs.List.{slice_get, flat_map, sum_by, count_by}
 use Rattle.std.specs.Option.{option_to_list}
 use Rattle.dap_debuggee.specs.declared.answers.Scope.{Scope}
 use Rattle.dap_debuggee.specs.declared.answers.Variable.{Variable}
 use Rattle.dap_debuggee.specs.ShownNumbers.{NamesOneHolder}
-use Rattle.dap_debuggee.specs.Played.{Played, shown_of, moment_shown, is_in, if_within, variables_held}
-use Rattle.dap_debuggee.specs.declared.recording.Moment.{Moment}
-use Rattle.dap_debuggee.specs.declared.recording.Span.{Span}
+use Rattle.dap_debuggee.specs.Played.{Played, shown_of, moment_shown, variables_held}
 use Rattle.dap_debuggee.specs.Recording.{IsRecording, holders_of_scopes, holders_of_variables}
+use Rattle.dap_debuggee.specs.PlayedLaws.{found-within}
 use Rattle.dap_debuggee.specs.PrivateHeld.{KeepHolders}
 use Rattle.dap_debuggee.proofs.Changed.{RecordedAt, recorded-at}
 use Rattle.dap_debuggee.proofs.Ranges.{some_same}
@@ -96,20 +95,11 @@ one_place {A} g w n xss f k i j xs ys x y weighs once at_xs at_ys at_x at_y of_x
 count_both : (n : ℕ) (v : Played) → IsRecording v.recording → count_by (nat_eq n) (flat_map holders_of_scopes v.recording.scopes) + count_by (nat_eq n) (flat_map holders_of_variables v.recording.variables) ≤ 1
 count_both n v good = omega (arith, sum_by-append (is_it n) (flat_map holders_of_scopes v.recording.scopes) (flat_map holders_of_variables v.recording.variables), good.holders n)
 
-in_recording_by : {A : Type 0} (b : Bool) (found : Option A) (x : A) → (if b then found else None) ≡ Some x → found ≡ Some x
-in_recording_by true found x e = e
-in_recording_by false found x e = absurd (cc e)
-
--- what is shown by a number stands in the recording by it
-in_recording : {A : Type 0} (span : Moment → Span) (m : Option Moment) (n : ℕ) (found : Option A) (x : A) → if_within span m n found ≡ Some x → found ≡ Some x
-in_recording span None n found x e = absurd (cc e)
-in_recording span (Some m) n found x e = in_recording_by (is_in (span m) n) found x e
-
 scopes_recorded : (v : Played) (f : ℕ) (ss : List Scope) → (shown_of v).scopes f ≡ Some ss → slice_get v.recording.scopes f ≡ Some ss
-scopes_recorded v f ss e = in_recording (λ m. m.frames) (moment_shown v) f (slice_get v.recording.scopes f) ss e
+scopes_recorded v f ss e = found-within (λ m. m.frames) (moment_shown v) f (slice_get v.recording.scopes f) ss e
 
 child_recorded : (v : Played) → KeepHolders v.recording.variables v.changed → (h i : ℕ) (xs : List Variable) (x : Variable) → (shown_of v).children h ≡ Some xs → slice_get xs i ≡ Some x → RecordedAt v.recording.variables h i x
-child_recorded v keeps h i xs x e at = recorded-at v keeps h i xs x (in_recording (λ m. m.holders) (moment_shown v) h (variables_held v h) xs e) at
+child_recorded v keeps h i xs x e at = recorded-at v keeps h i xs x (found-within (λ m. m.holders) (moment_shown v) h (variables_held v h) xs e) at
 
 pub names_one_holder : (v : Played) → IsRecording v.recording → KeepHolders v.recording.variables v.changed → NamesOneHolder (shown_of v)
 names_one_holder v good keeps = record {

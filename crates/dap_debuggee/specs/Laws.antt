@@ -14,7 +14,6 @@ use Rattle.dap_debuggee.specs.declared.answers.Happening.{Happening}
 use Rattle.dap_debuggee.specs.declared.answers.Happening.TheVariants as happening
 use Rattle.dap_debuggee.specs.declared.answers.DebuggeeFault.{DebuggeeFault}
 use Rattle.dap_debuggee.specs.declared.answers.DebuggeeFault.TheVariants.{Refused, OutOfMemory}
-use Rattle.dap_debuggee.specs.declared.answers.Assigned.{Assigned}
 use Rattle.dap_debuggee.specs.declared.answers.Frame.{Frame}
 use Rattle.dap_debuggee.specs.declared.answers.Variable.{Variable}
 

@@ -1,9 +1,9 @@
 -- A recorded debuggee keeps the laws of every debuggee.
-use Rattle.std.proofs.Common.{◌≡◌, ℕ, ◌+◌, ◌%◌, ◌^◌, ℤ, Bool, true, false, ◌&&◌, not, nat_lt, nat_eq, bytes_eq, arith, if◌then◌else◌, List, [], ◌∷◌, length, map, Option, Some, None, IsTrue, refl, sym, ap, subst, suc, option_map, unwrap_or, ◌∙◌, true≢false}
+use Rattle.std.proofs.Common.{◌≡◌, ℕ, ◌+◌, ◌%◌, ◌^◌, ℤ, Bool, true, false, ◌&&◌, not, nat_lt, nat_eq, bytes_eq, if◌then◌else◌, List, [], ◌∷◌, length, map, Option, Some, None, IsTrue, refl, sym, ap, subst, suc, option_map, unwrap_or, ◌∙◌, true≢false, eq-eqb}
+use Rattle.std.proofs.lemmas.Bool.{eqb-true}
 use Rattle.std.specs.List.{slice_get, find}
 use Rattle.std.specs.Option.{IsSome}
 use Rattle.std.specs.Prelude.{option_and_then}
-use Rattle.std.proofs.lemmas.Bool.Decides.{nat_tests}
 use Rattle.dap_call.specs.declared.call.SourceKey.{SourceKey}
 use Rattle.dap_debuggee.specs.Shown.{Act, to_start, to_resume, to_pause, to_poll, to_set_breakpoints, to_assign, to_end, Reply, done, refused, happened}
 use Rattle.dap_debuggee.specs.Laws.{may_answer, state_after, keeps_answers, keeps_frames, lines_after, Counts, Remembers, Answers, Moves, SetsLines, SetsValues, SetsWhatIsTold, KeepsAnswers, KeepsFrames, KeepsSources, SameFrames, SameSources, NoThreads, VerifiesEach, AssignsVariables, variable_named, with_value}
@@ -418,28 +418,22 @@ sets_lines-played v w a r f key = ap (λ (p : Played). lines_in p.set key) f.vie
 
 -- ---- a value that is set
 
-own-number : (n : ℕ) → nat_eq n n ≡ true
-own-number n = grind (arith, nat_tests)
-
-same-number : (m n : ℕ) → nat_eq m n ≡ true → m ≡ n
-same-number m n h = grind (arith, nat_tests)
-
 -- of the holder that is named
 here-by : (b e : Bool) (holder : ℕ) (xs : List Variable) (c : OfHolder) (changed : List OfHolder) → nat_eq holder c.holder ≡ e → changed_at holder (with_variables holder xs changed) ≡ Some xs
     → changed_at holder (if b then record { holder = holder; variables = xs } ∷ c ∷ changed else (if e then record { holder = c.holder; variables = xs } ∷ changed else c ∷ with_variables holder xs changed)) ≡ Some xs
-here-by true e holder xs c changed is rest = rw (own-number holder) refl
+here-by true e holder xs c changed is rest = rw (eq-eqb holder holder refl) refl
 here-by false true holder xs c changed is rest = rw is refl
 here-by false false holder xs c changed is rest = rw is rest
 
 changed-here : (holder : ℕ) (xs : List Variable) (changed : List OfHolder) → changed_at holder (with_variables holder xs changed) ≡ Some xs
-changed-here holder xs [] = rw (own-number holder) refl
+changed-here holder xs [] = rw (eq-eqb holder holder refl) refl
 changed-here holder xs (c ∷ changed) = here-by (nat_lt holder c.holder) (nat_eq holder c.holder) holder xs c changed refl (changed-here holder xs changed)
 
 -- and of any other
 else-by : (b e : Bool) (holder h : ℕ) (xs : List Variable) (c : OfHolder) (changed : List OfHolder) → nat_eq holder c.holder ≡ e → nat_eq h holder ≡ false → changed_at h (with_variables holder xs changed) ≡ changed_at h changed
     → changed_at h (if b then record { holder = holder; variables = xs } ∷ c ∷ changed else (if e then record { holder = c.holder; variables = xs } ∷ changed else c ∷ with_variables holder xs changed)) ≡ changed_at h (c ∷ changed)
 else-by true e holder h xs c changed is other rest = rw other refl
-else-by false true holder h xs c changed is other rest = let apart : nat_eq h c.holder ≡ false = subst (λ n. nat_eq h n ≡ false) (same-number holder c.holder is) other in rw apart refl
+else-by false true holder h xs c changed is other rest = let apart : nat_eq h c.holder ≡ false = subst (λ n. nat_eq h n ≡ false) (eqb-true holder c.holder is) other in rw apart refl
 else-by false false holder h xs c changed is other rest = ap (λ (o : Option (List Variable)). if nat_eq h c.holder then Some c.variables else o) rest
 
 changed-elsewhere : (holder h : ℕ) (xs : List Variable) (changed : List OfHolder) → nat_eq h holder ≡ false → changed_at h (with_variables holder xs changed) ≡ changed_at h changed
@@ -459,6 +453,7 @@ found-if : {A : Type 0} (b : Bool) (found : Option A) (x : A) → (if b then fou
 found-if true found x e = e
 found-if false found x e = absurd (cc e)
 
+-- what is shown by a number stands in the recording by it
 pub found-within : {A : Type 0} (span : Moment → Span) (o : Option Moment) (n : ℕ) (found : Option A) (x : A) → if_within span o n found ≡ Some x → found ≡ Some x
 found-within span None n found x e = absurd (cc e)
 found-within span (Some m) n found x e = found-if (is_in (span m) n) found x e
@@ -475,7 +470,7 @@ named-in (Some xs) name text a e = (xs, refl, value-is (variable_named name xs) 
 children-by : (b : Bool) (v : Played) (holder h : ℕ) (name text : List ℕ) (xs : List Variable) → nat_eq h holder ≡ b → variables_held v holder ≡ Some xs
     → children_shown (after_assign holder name text v) h ≡ (if b then option_map (with_value name text) (children_shown v h) else children_shown v h)
 children-by true v holder h name text xs is held =
-    let same : h ≡ holder = same-number h holder is in
+    let same : h ≡ holder = eqb-true h holder is in
     let set : changed_at h (after_assign holder name text v).changed ≡ Some (with_value name text xs) =
     subst (λ n. changed_at n (after_assign holder name text v).changed ≡ Some (with_value name text xs)) (sym same)
     (changed-here holder (with_value name text (unwrap_or (variables_held v holder) [])) v.changed ∙ ap (λ (o : Option (List Variable)). Some (with_value name text (unwrap_or o []))) held) in

@@ -163,7 +163,7 @@ impl Recorded {
         ensures memory { OnErr result (self.new ≡ self.old) }
     {
         let Some(variables) = self.variables_of(holder) else {
-            return Ok(());
+            unreachable!()
         };
         let changed = with_value(alloc, variables, name, text)?;
         self.changed.insert(holder, changed)?;

@@ -64,7 +64,7 @@ fn scopes(alloc: Global, scopes: &[Scope]) -> Result<Vec<Scope>, AllocError>
     Ok(copy)
 }
 
-pub(crate) fn variables(alloc: Global, variables: &[Variable]) -> Result<Vec<Variable>, AllocError>
+fn variables(alloc: Global, variables: &[Variable]) -> Result<Vec<Variable>, AllocError>
     ensures { IfOk result (λ copy. copy.items ≡ variables.now) }
 {
     let mut copy = Vec::with_capacity(alloc, variables.len())?;

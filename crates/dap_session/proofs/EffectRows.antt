@@ -1,6 +1,6 @@
 -- Each effect of the table, a row each: what comes of it, and that its failures come in their order. A new effect is one row more.
 use Rattle.std.proofs.Common.{◌≡◌, ◌+◌, [], ◌∷◌, None, length, refl}
-use Rattle.dap_message.specs.AdapterMessages.{terminated}
+use Rattle.dap_message.specs.MessageParts.{terminated}
 use Rattle.dap_message.specs.Types.Call.{Call}
 use Rattle.dap_tables.specs.Outstanding.{Kept, without, parked_ones}
 use Rattle.dap_debuggee.specs.Shown.{Shown, Reply}
@@ -14,7 +14,7 @@ use Rattle.dap_session.specs.PrivateChanging.{Suits}
 use Rattle.dap_session.proofs.Fewer.{IsHandled}
 use Rattle.dap_session.proofs.Outcomes.{after_answering-outcome, each-clean, IsRow, once-row, asking-row}
 use Rattle.dap_session.proofs.QueryResults.{query_result-well}
-use Rattle.dap_message.specs.AdapterMessages.{terminated}
+use Rattle.dap_message.specs.MessageParts.{terminated}
 use Rattle.dap_tables.specs.declared.entry.Entry.{Entry}
 use Rattle.dap_session.specs.OrderLaws.{refuses_query, objects_told}
 use Rattle.dap_session.specs.Within.{IsWithin}

@@ -12,7 +12,7 @@ use Rattle.dap_session.specs.Answering.{answered_by, with_seq, AnswersEach, open
 use Rattle.dap_session.specs.Handling.{answer_each}
 use Rattle.dap_session.specs.Plan.{Answer, Draft, reply, emit}
 use Rattle.dap_history.specs.Requests.{asked_of, asks}
-use Rattle.dap_message.specs.AdapterMessages.{AdapterEvent}
+use Rattle.dap_message.specs.MessageParts.{AdapterEvent}
 use Rattle.std.proofs.lemmas.List.Sums.{length-filter, count_by-le-length}
 
 pub same-seq : (a b : ℕ) → (a == b) ≡ false → (b == a) ≡ false

@@ -8,7 +8,7 @@ use Rattle.dap_json.specs.Read.{json_of}
 use Rattle.dap_frame.specs.Settings.{usual_settings, settings}
 use Rattle.dap_message.specs.Call.{initialize_of, thread_of, stack_trace_of, cancel_of}
 use Rattle.dap_message.specs.Canon.{canon, tree_of, response_members, event_members}
-use Rattle.dap_message.specs.AdapterMessages.{success_response, failure_response}
+use Rattle.dap_message.specs.MessageParts.{success_response, failure_response}
 use Rattle.dap_message.specs.Types.Failure.TheVariants.{NotInitialized, AlreadyInitialized, UnknownCommand, Unsupported, BadArguments, WrongPhase, Debuggee, Cancelled}
 use Rattle.dap_message.specs.Types.Key.TheVariants.{ThreadId, RequestId}
 use Rattle.dap_message.specs.declared.message.Kind.TheVariants.{Response, Event}

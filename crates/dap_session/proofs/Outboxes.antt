@@ -6,7 +6,7 @@ use Rattle.dap_json.specs.Field.{max_seq}
 use Rattle.dap_frame.specs.Written.{frame_of}
 use Rattle.dap_message.specs.Body.{data_in}
 use Rattle.dap_message.specs.Canon.{canon}
-use Rattle.dap_message.specs.AdapterMessages.{failure_response, success_response, has_fixed_shape}
+use Rattle.dap_message.specs.MessageParts.{failure_response, success_response, has_fixed_shape}
 use Rattle.dap_message.specs.Lengths.{max_fixed, FailuresAreShort, FixedResponsesAreShort}
 use Rattle.dap_message.specs.Meaning.{Msg}
 use Rattle.dap_message.specs.ReadBack.{ReadsBack, AllReadBack}

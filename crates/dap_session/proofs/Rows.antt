@@ -7,7 +7,7 @@ use Rattle.serde_json.specs.Data.{Data}
 use Rattle.dap_frame.specs.Settings.{Settings}
 use Rattle.dap_history.specs.History.{Asked}
 use Rattle.dap_history.specs.Requests.{asked_of, asks}
-use Rattle.dap_message.specs.AdapterMessages.{AdapterEvent, initialized, terminated}
+use Rattle.dap_message.specs.MessageParts.{AdapterEvent, initialized, terminated}
 use Rattle.dap_message.specs.Types.Call.{Call}
 use Rattle.dap_message.specs.Types.Call.TheVariants as call
 use Rattle.dap_message.specs.Types.Failure.TheVariants.{Cancelled, TooLarge, Debuggee}

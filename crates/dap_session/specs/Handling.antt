@@ -6,7 +6,7 @@ use Rattle.serde_json.specs.Data.{Data}
 use Rattle.dap_message.specs.Argument.{Read}
 use Rattle.dap_message.specs.Canon.{canon}
 use Rattle.dap_message.specs.Capabilities.{capabilities_data}
-use Rattle.dap_message.specs.AdapterMessages.{initialized, terminated, success_response}
+use Rattle.dap_message.specs.MessageParts.{initialized, terminated, success_response}
 use Rattle.dap_message.specs.ResponseBody.{continue_body, set_breakpoints_body, set_variable_body}
 use Rattle.dap_message.specs.Types.Breakpoint.{Breakpoint as BreakpointBody}
 use Rattle.dap_message.specs.Types.Call.{Call}

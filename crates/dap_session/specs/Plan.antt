@@ -7,7 +7,7 @@ use Rattle.dap_frame.specs.Written.{frame_of}
 use Rattle.dap_message.specs.Canon.{canon}
 use Rattle.dap_history.specs.History.{Entry, Out, ReferencesEnd}
 use Rattle.dap_tables.specs.declared.target.Target.{Target}
-use Rattle.dap_message.specs.AdapterMessages.{AdapterEvent, event_name, event_body, success_response, failure_response, event_message}
+use Rattle.dap_message.specs.MessageParts.{AdapterEvent, event_name, event_body, success_response, failure_response, event_message}
 use Rattle.dap_message.specs.Types.Failure.{Failure}
 use Rattle.dap_message.specs.declared.message.Message.{Message}
 use Rattle.dap_tables.specs.Outstanding.{without}

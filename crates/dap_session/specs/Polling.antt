@@ -1,7 +1,7 @@
 -- What happened to the debuggee, told to the client.
 -- Specification, "OutputEvent", "StoppedEvent", "ContinuedEvent", "ExitedEvent", "TerminatedEvent". That all threads stop and go on together is this profile's choice.
 use Rattle.std.specs.Prelude.{◌+◌, [], ◌∷◌, ◌||◌, Bool, true, false, if◌then◌else◌}
-use Rattle.dap_message.specs.AdapterMessages.{output, stopped, continued, exited, terminated}
+use Rattle.dap_message.specs.MessageParts.{output, stopped, continued, exited, terminated}
 use Rattle.dap_debuggee.specs.Shown.{to_poll, Reply, done, refused, happened, category_name}
 use Rattle.dap_debuggee.specs.declared.answers.Happening.{Happening}
 use Rattle.dap_debuggee.specs.declared.answers.Happening.TheVariants as happening

@@ -1,7 +1,7 @@
 -- The code's words for what a call is about to write.
 use Rattle.std.specs.Prelude.{◌≡◌, ℕ, ◌+◌, ◌≤◌, List, [], ◌∷◌, ◌++◌, length, Option, Some, None}
 use Rattle.dap_json.specs.Field.{max_seq}
-use Rattle.dap_message.specs.AdapterMessages.{AdapterEvent, initialized, output, stopped, continued, exited, terminated}
+use Rattle.dap_message.specs.MessageParts.{AdapterEvent, initialized, output, stopped, continued, exited, terminated}
 use Rattle.dap_message.specs.Body.{data_in}
 use Rattle.dap_message.specs.Lengths.{max_fixed}
 use Rattle.dap_message.specs.ReadBack.{AllReadBack}

@@ -7,7 +7,7 @@ ghost use Rattle.dap_session.specs.InRange.{IsRequestInRange};
 ghost use Rattle.dap_session.specs.PrivateOutbox.{answer_of, event_of, shape_of, Holds, AppendsDraft};
 ghost use Rattle.dap_json.specs.Field.{max_seq};
 ghost use Rattle.dap_json.specs.Writable.{is_plain_tree};
-ghost use Rattle.dap_message.specs.AdapterMessages.{event_name, event_body, success_response};
+ghost use Rattle.dap_message.specs.MessageParts.{event_name, event_body, success_response};
 ghost use Rattle.dap_message.specs.Lengths.{max_fixed, IsWithin};
 ghost use Rattle.dap_message.specs.ReadBack.{ReadsBack};
 

@@ -1,8 +1,8 @@
 -- What a map from sources to lists has once the list of a source is put in place: that source has the list, and each other one what it had.
-use Rattle.std.proofs.Common.{◌≡◌, ℕ, List, [], ◌∷◌, Bool, true, false, not, refl, sym, ap, subst, ◌∙◌, arith, true≢false}
+use Rattle.std.proofs.Common.{◌≡◌, ℕ, List, [], ◌∷◌, Bool, true, false, not, refl, sym, ap, subst, ◌∙◌, true≢false, eq-eqb}
+use Rattle.std.proofs.lemmas.Bool.{eqb-true}
 use Rattle.std.specs.Prelude.{◌==◌, ◌||◌, if◌then◌else◌}
 use Rattle.std.specs.List.{list_any}
-use Rattle.std.proofs.lemmas.Bool.Decides.{nat_tests}
 use Rattle.std.proofs.lemmas.Slice.Eq.{bytes_eq-Decides}
 use Rattle.dap_call.specs.declared.call.SourceKey.{SourceKey}
 use Rattle.dap_call.specs.declared.call.SourceKey.TheVariants.{Path, Reference}
@@ -12,21 +12,15 @@ use Rattle.dap_tables.specs.Ors.{or-false, or-left, or-right}
 
 -- ---- names
 
-same-number : (m n : ℕ) → (m == n) ≡ true → m ≡ n
-same-number m n h = grind (arith, nat_tests)
-
-own-number : (n : ℕ) → (n == n) ≡ true
-own-number n = grind (arith, nat_tests)
-
 pub same-source : (a b : SourceKey) → is_source a b ≡ true → a ≡ b
 same-source (Path p) (Path q) h = ap (λ (x : List ℕ). Path x) ((bytes_eq-Decides p q).0 h)
-same-source (Reference m) (Reference n) h = ap (λ (x : ℕ). Reference x) (same-number m n h)
+same-source (Reference m) (Reference n) h = ap (λ (x : ℕ). Reference x) (eqb-true m n h)
 same-source (Path p) (Reference n) h = absurd (true≢false (sym h))
 same-source (Reference m) (Path q) h = absurd (true≢false (sym h))
 
 own-source : (a : SourceKey) → is_source a a ≡ true
 own-source (Path p) = (bytes_eq-Decides p p).1 refl
-own-source (Reference n) = own-number n
+own-source (Reference n) = eq-eqb n n refl
 
 turned-by : (b c : Bool) → (b ≡ true → c ≡ true) → (c ≡ true → b ≡ true) → b ≡ c
 turned-by true c f g = sym (f refl)

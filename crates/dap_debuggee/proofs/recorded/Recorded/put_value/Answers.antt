@@ -1,4 +1,4 @@
-use Rattle.std.proofs.Common.{◌≡◌, List, [], map, Option, Some, sym, ap, subst, unwrap_or, ◌∙◌}
+use Rattle.std.proofs.Common.{◌≡◌, List, [], map, Option, sym, ap, subst, unwrap_or, ◌∙◌}
 use Rattle.dap_debuggee.specs.Laws.{with_value}
 use Rattle.dap_debuggee.specs.Played.{Played, OfHolder, with_variables, with_changed}
 use Rattle.dap_debuggee.specs.PrivateHeld.{of_holder, changed_of, KeepHolders}

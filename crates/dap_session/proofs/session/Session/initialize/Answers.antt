@@ -1,5 +1,5 @@
 use Rattle.std.proofs.Common.{[], ◌∷◌, Some, refl, subst}
-use Rattle.dap_message.specs.AdapterMessages.{initialized}
+use Rattle.dap_message.specs.MessageParts.{initialized}
 use Rattle.dap_message.specs.Capabilities.{capabilities_data}
 use Rattle.dap_message.specs.Types.Capabilities.{Capabilities}
 use Rattle.dap_session.specs.Plan.{reply, emit, success}
