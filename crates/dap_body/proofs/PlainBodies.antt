@@ -1,5 +1,5 @@
 -- What the builders give has no floats, and nests four deep at most.
-use Rattle.std.proofs.Common.{◌≡◌, ℕ, suc, ◌≤◌, ◌&&◌, ◌||◌, ℤ, pos, negsuc, List, [], ◌∷◌, map, codes, Bool, true, false, not, nat_le, Option, Some, None, IsTrue, Ordering, Less, Equal, Greater, nat_cmp, refl, sym, true≢false, arith}
+use Rattle.std.proofs.Common.{◌≡◌, ℕ, suc, ◌≤◌, ◌&&◌, ◌||◌, ℤ, pos, negsuc, List, [], ◌∷◌, map, codes, Bool, true, false, not, nat_le, Option, Some, None, Ordering, Less, Equal, Greater, nat_cmp, refl, sym, true≢false, arith}
 use Rattle.std.proofs.lemmas.Bool.{le-leb, leb-true, and_parts}
 use Rattle.std.specs.Ordering.{match_ordering}
 use Rattle.std.specs.Cmp.Lexicographic.{slice_cmp}
@@ -18,12 +18,12 @@ use Rattle.dap_json.specs.Field.{is_null}
 use Rattle.serde_json.specs.Read.{max_depth}
 use Rattle.dap_json.specs.Read.{json_of, IsReadAgain}
 use Rattle.dap_json.specs.Sound.{IsSound}
-use Rattle.dap_json.specs.Writable.{is_plain_tree, max_nesting}
+use Rattle.dap_json.specs.Writable.{max_nesting}
 use Rattle.dap_body.specs.Body.{data_of}
 use Rattle.dap_body.specs.declared.body.Body.{Body}
-use Rattle.dap_body.specs.declared.body.Body.TheVariants.{Initialize, SetBreakpoints, Threads, Continue, StackTrace, Scopes, Variables, SetVariable, Evaluate, Source as SourceText, LoadedSources}
+use Rattle.dap_body.specs.declared.body.Body.TheVariants.{Initialize, SetBreakpoints, Threads, Continue, StackTrace, Scopes, Variables, SetVariable, Evaluate, Source as SourceText, LoadedSources, RunInTerminal}
 use Rattle.dap_body.specs.EventBody.{stopped_body, continued_body, exited_body}
-use Rattle.dap_body.specs.ResponseBody.{breakpoint, thread, source, stack_frame, scope, variable, list_of, only_member, stack_trace_body}
+use Rattle.dap_body.specs.ResponseBody.{breakpoint, thread, source, stack_frame, scope, variable, list_of, only_member, stack_trace_body, run_in_terminal_body}
 use Rattle.dap_body.specs.PlainBodies.{IsPlain, ResponseBodiesArePlain, FailureBodiesArePlain, EventBodiesArePlain}
 use Rattle.dap_body.specs.declared.response.Source.{Source}
 use Rattle.dap_body.specs.declared.response.StackFrame.{StackFrame}
@@ -176,6 +176,12 @@ exited_plain : (code : ℤ) → IsPlain (exited_body code)
 exited_plain (pos n) = refl
 exited_plain (negsuc n) = refl
 
+processes_plain : (process shell : Option ℕ) → IsPlain (run_in_terminal_body process shell)
+processes_plain None None = refl
+processes_plain None (Some n) = refl
+processes_plain (Some m) None = refl
+processes_plain (Some m) (Some n) = refl
+
 pub response_bodies_are_plain : ResponseBodiesArePlain
 response_bodies_are_plain = record {
   initialize = capabilities_plain;
@@ -189,6 +195,7 @@ response_bodies_are_plain = record {
   evaluate = λ result reference. refl;
   source = λ content. refl;
   loaded_sources = plain_list (codes "sources") source source_float (λ s. omega (arith, source_depth s));
+  run_in_terminal = processes_plain;
 }
 
 pub failure_bodies_are_plain : FailureBodiesArePlain
@@ -214,6 +221,7 @@ body_is_plain (SetVariable value) = response_bodies_are_plain.set_variable value
 body_is_plain (Evaluate result reference) = response_bodies_are_plain.evaluate result reference
 body_is_plain (SourceText content) = response_bodies_are_plain.source content
 body_is_plain (LoadedSources sources) = response_bodies_are_plain.loaded_sources sources.items
+body_is_plain (RunInTerminal process shell) = response_bodies_are_plain.run_in_terminal process shell
 
 -- ---- a body's text is read again
 

@@ -5,11 +5,11 @@ use Rattle.json.proofs.Printed.Utf8.{IsUtf8-are_ascii}
 use Rattle.serde_json.specs.Data.{Data}
 use Rattle.serde_json.specs.Find.{of_integer}
 use Rattle.dap_json.specs.Sound.{IsSound, IsSoundNumber}
-use Rattle.dap_body.specs.ResponseBody.{breakpoint, thread, source, stack_frame, scope, variable, list_of, only_member, stack_trace_body, evaluate_body, source_body}
+use Rattle.dap_body.specs.ResponseBody.{breakpoint, thread, source, stack_frame, scope, variable, list_of, only_member, stack_trace_body, evaluate_body, source_body, run_in_terminal_body}
 use Rattle.dap_body.specs.Failure.{failure_body, row_of}
-use Rattle.dap_body.specs.PrivateText.{HasSoundPath}
+use Rattle.dap_body.specs.PrivateText.{HasSoundPath, IsSoundOptional}
 use Rattle.dap_body.specs.declared.failure.Failure.{Failure}
-use Rattle.dap_body.specs.declared.failure.Failure.TheVariants.{NotInitialized, AlreadyInitialized, UnknownCommand, Unsupported, BadArguments, WrongPhase, NotStopped, UnknownThread, StaleReference, UnknownSource, Debuggee, TooManyBreakpoints, TooManyReferences, ReferencesExhausted, TooLarge, Busy, Cancelled}
+use Rattle.dap_body.specs.declared.failure.Failure.TheVariants.{NotInitialized, AlreadyInitialized, UnknownCommand, Unsupported, BadArguments, WrongPhase, NotStopped, UnknownThread, StaleReference, UnknownSource, Debuggee, TooManyBreakpoints, TooManyReferences, ReferencesExhausted, TooLarge, Busy, Cancelled, TerminalRefused}
 use Rattle.dap_body.specs.declared.response.Breakpoint.{Breakpoint}
 use Rattle.dap_body.specs.declared.response.Scope.{Scope}
 use Rattle.dap_body.specs.declared.response.Source.{Source}
@@ -59,6 +59,14 @@ value-sound value reference v r = (IsUtf8-are_ascii (codes "result") refl, (refl
 pub content-sound : (content : List ℕ) → IsUtf8 content → IsSound (source_body content)
 content-sound content u = (IsUtf8-are_ascii (codes "content") refl, tt, u, tt)
 
+-- ---- a client's
+
+pub processes-sound : (process shell : Option ℕ) → IsSoundOptional process → IsSoundOptional shell → IsSound (run_in_terminal_body process shell)
+processes-sound None None p s = tt
+processes-sound None (Some n) p s = (IsUtf8-are_ascii (codes "shellProcessId") refl, tt, s, tt)
+processes-sound (Some m) None p s = (IsUtf8-are_ascii (codes "processId") refl, tt, p, tt)
+processes-sound (Some m) (Some n) p s = (IsUtf8-are_ascii (codes "processId") refl, (refl, tt), p, (IsUtf8-are_ascii (codes "shellProcessId") refl, tt, s, tt))
+
 -- ---- failures
 
 -- its number
@@ -80,6 +88,7 @@ fits ReferencesExhausted = lit< tt
 fits TooLarge = lit< tt
 fits Busy = lit< tt
 fits Cancelled = lit< tt
+fits TerminalRefused = lit< tt
 
 pub failure-sound : (failure : Failure) → IsUtf8 (row_of failure).format → IsSound (failure_body failure)
 failure-sound failure format =

@@ -7,8 +7,8 @@ use Rattle.json.specs.Written.{Written, Writes}
 use Rattle.serde_json.specs.Data.{Data, Members}
 use Rattle.serde_json.specs.View.{items_of}
 use Rattle.serde_json.specs.Written.{items_outline, members_outline}
-use Rattle.dap_body.specs.ResponseBody.{with_path}
-use Rattle.dap_body.specs.PrivateText.{Adds, path_tokens, tokens_of}
+use Rattle.dap_body.specs.ResponseBody.{with_path, with_optional_number}
+use Rattle.dap_body.specs.PrivateText.{Adds, optional_number_tokens, path_tokens, tokens_of}
 
 pub one : {E : Type 0} {r : Result (Unit {0}) E} {old new : Written} {t : Token} → Writes r old new t → new.tokens ≡ old.tokens ++ t ∷ [] → Adds old new (t ∷ [])
 one w tokens = record { before = w.room.0; tokens = tokens }
@@ -24,3 +24,7 @@ tokens-of-items written (x ∷ xs) = ap (λ ts. tokens_of (written x) ++ ts) (to
 pub tokens-of-path : (path : Option (List ℕ)) (rest : Members) → path_tokens path ++ members_tokens (members_outline rest) ≡ members_tokens (members_outline (with_path path rest))
 tokens-of-path None rest = refl
 tokens-of-path (Some path) rest = refl
+
+pub tokens-of-optional-number : (key : List ℕ) (n : Option ℕ) (rest : Members) → optional_number_tokens key n ++ members_tokens (members_outline rest) ≡ members_tokens (members_outline (with_optional_number key n rest))
+tokens-of-optional-number key None rest = refl
+tokens-of-optional-number key (Some n) rest = refl

@@ -3,8 +3,8 @@ use Rattle.std.specs.Prelude.{Option, option_map}
 use Rattle.serde_json.specs.Data.{Data}
 use Rattle.dap_call.specs.Capabilities.{capabilities_data}
 use Rattle.dap_body.specs.declared.body.Body.{Body}
-use Rattle.dap_body.specs.declared.body.Body.TheVariants.{Initialize, SetBreakpoints, Threads, Continue, StackTrace, Scopes, Variables, SetVariable, Evaluate, Source, LoadedSources}
-use Rattle.dap_body.specs.ResponseBody.{set_breakpoints_body, threads_body, continue_body, stack_trace_body, scopes_body, variables_body, set_variable_body, evaluate_body, source_body, loaded_sources_body}
+use Rattle.dap_body.specs.declared.body.Body.TheVariants.{Initialize, SetBreakpoints, Threads, Continue, StackTrace, Scopes, Variables, SetVariable, Evaluate, Source, LoadedSources, RunInTerminal}
+use Rattle.dap_body.specs.ResponseBody.{set_breakpoints_body, threads_body, continue_body, stack_trace_body, scopes_body, variables_body, set_variable_body, evaluate_body, source_body, loaded_sources_body, run_in_terminal_body}
 
 abbrev pub data_of : Body → Data
 data_of (Initialize capabilities) = capabilities_data capabilities
@@ -18,6 +18,7 @@ data_of (SetVariable value) = set_variable_body value
 data_of (Evaluate result variables_reference) = evaluate_body result variables_reference
 data_of (Source content) = source_body content
 data_of (LoadedSources sources) = loaded_sources_body sources.items
+data_of (RunInTerminal process_id shell_process_id) = run_in_terminal_body process_id shell_process_id
 
 -- where there is a body
 abbrev pub data_in : Option Body → Option Data

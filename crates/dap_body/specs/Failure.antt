@@ -6,7 +6,7 @@ use Rattle.dap_json.specs.Put.{whole_number}
 use Rattle.dap_call.specs.Key.{text_of}
 use Rattle.dap_call.specs.declared.key.Key.{Key}
 use Rattle.dap_body.specs.declared.failure.Failure.{Failure}
-use Rattle.dap_body.specs.declared.failure.Failure.TheVariants.{NotInitialized, AlreadyInitialized, UnknownCommand, Unsupported, BadArguments, WrongPhase, NotStopped, UnknownThread, StaleReference, UnknownSource, Debuggee, TooManyBreakpoints, TooManyReferences, ReferencesExhausted, TooLarge, Busy, Cancelled}
+use Rattle.dap_body.specs.declared.failure.Failure.TheVariants.{NotInitialized, AlreadyInitialized, UnknownCommand, Unsupported, BadArguments, WrongPhase, NotStopped, UnknownThread, StaleReference, UnknownSource, Debuggee, TooManyBreakpoints, TooManyReferences, ReferencesExhausted, TooLarge, Busy, Cancelled, TerminalRefused}
 
 -- a failure's number, its short name and its text
 pub record Row : Type 0 where
@@ -38,8 +38,9 @@ row_of ReferencesExhausted = failure_row 1017 (codes "referencesExhausted") (cod
 row_of TooLarge = failure_row 1016 (codes "tooLarge") (codes "The response would be too large.")
 row_of Busy = failure_row 1011 (codes "busy") (codes "Too many requests are waiting.")
 row_of Cancelled = failure_row 1012 (codes "cancelled") (codes "The request was cancelled.")
+row_of TerminalRefused = failure_row 1018 (codes "terminalRefused") (codes "The terminal refused.")
 
--- The order in which an adapter tests a request, where `key` is the first bad one: the first of these that holds is answered. Busy and Cancelled come outside it.
+-- The order in which an adapter tests a request, where `key` is the first bad one: the first of these that holds is answered. Busy and Cancelled come outside it, and TerminalRefused is the client's.
 abbrev pub failures_in_order : Key → List Failure
 failures_in_order key =
     NotInitialized ∷ AlreadyInitialized ∷ UnknownCommand ∷ Unsupported ∷ BadArguments key ∷ WrongPhase ∷ NotStopped ∷ UnknownThread ∷ StaleReference ∷ UnknownSource

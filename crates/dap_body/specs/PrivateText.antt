@@ -1,6 +1,6 @@
 -- What a writer is given for a body.
-use Rattle.std.specs.Prelude.{◌≡◌, ℕ, Bool, true, false, List, [], ◌∷◌, ◌++◌, codes, Option, Some, None, IsUtf8, ⊤}
-use Rattle.json.specs.Token.{Token, key, string}
+use Rattle.std.specs.Prelude.{◌≡◌, ◌<◌, ◌^◌, ℕ, decimal, Bool, true, false, List, [], ◌∷◌, ◌++◌, codes, Option, Some, None, IsUtf8, ⊤}
+use Rattle.json.specs.Token.{Token, key, number, string}
 use Rattle.json.specs.Tree.{json_tokens}
 use Rattle.json.specs.Written.{Written}
 use Rattle.serde_json.specs.Data.{Data, string as text_data}
@@ -16,6 +16,15 @@ tokens_of d = json_tokens (outline d)
 abbrev pub path_tokens : Option (List ℕ) → List Token
 path_tokens None = []
 path_tokens (Some path) = key (codes "path") ∷ string path ∷ []
+
+-- the member of a number, where there is one
+abbrev pub optional_number_tokens : List ℕ → Option ℕ → List Token
+optional_number_tokens k None = []
+optional_number_tokens k (Some n) = key k ∷ number (decimal n) ∷ []
+
+abbrev pub IsSoundOptional : Option ℕ → Type 0
+IsSoundOptional None = ⊤
+IsSoundOptional (Some n) = n < 2 ^ 64
 
 -- these tokens more
 pub record Adds (old new : Written) (ts : List Token) : Type 0 where

@@ -1,4 +1,4 @@
--- The bodies of an adapter's responses, their members in the byte order of their keys: Specification, the types whose names end in "Response", and "Types".
+-- The bodies of responses, their members in the byte order of their keys: Specification, the types whose names end in "Response", and "Types".
 -- Which of the optional members are written is this profile's choice.
 use Rattle.std.specs.Prelude.{ℕ, List, true, false, Option, Some, None, codes, map}
 use Rattle.serde_json.specs.Data.{Data, boolean, number, string, array, object, Members, no_members, member}
@@ -106,3 +106,12 @@ loaded_sources_body sources = only_member (codes "sources") (list_of source sour
 
 abbrev pub set_variable_body : List ℕ → Data
 set_variable_body value = only_member (codes "value") (string value)
+
+-- a number, where there is one, before what follows
+abbrev pub with_optional_number : List ℕ → Option ℕ → Members → Members
+with_optional_number key None rest = rest
+with_optional_number key (Some n) rest = member key (whole_number n) rest
+
+-- a client's
+abbrev pub run_in_terminal_body : Option ℕ → Option ℕ → Data
+run_in_terminal_body process shell = object (with_optional_number (codes "processId") process (with_optional_number (codes "shellProcessId") shell no_members))

@@ -1,4 +1,4 @@
-//! The bodies of an adapter's responses as their parts, and their texts, written with no tree: Specification, the types
+//! The bodies of responses as their parts, and their texts, written with no tree: Specification, the types
 //! whose names end in "Response", and "Types".
 ghost use Rattle.std.specs.Prelude.{◌≡◌, ◌<◌, ◌^◌, [], ◌∷◌, ◌++◌, decimal, IfOk, OnOk, IsUtf8, IsTrue};
 ghost use Rattle.std.specs.Fmt.{signed_decimal};
@@ -10,8 +10,8 @@ ghost use Rattle.serde_json.specs.View.{view};
 ghost use Rattle.dap_json.specs.Sound.{IsSound, IsSoundNumber};
 ghost use Rattle.dap_body.specs.Body.{data_of};
 ghost use Rattle.dap_call.specs.Capabilities.{capabilities_data};
-ghost use Rattle.dap_body.specs.ResponseBody.{list_of, only_member, stack_trace_body, evaluate_body};
-ghost use Rattle.dap_body.specs.PrivateText.{Adds, HasSoundPath, is_of_parts, path_tokens, text_member, tokens_of};
+ghost use Rattle.dap_body.specs.ResponseBody.{list_of, only_member, stack_trace_body, evaluate_body, run_in_terminal_body};
+ghost use Rattle.dap_body.specs.PrivateText.{Adds, HasSoundPath, IsSoundOptional, is_of_parts, optional_number_tokens, path_tokens, text_member, tokens_of};
 
 use crate::response::{Breakpoint, Scope, Source, StackFrame, Thread, Variable};
 use dap_call::Capabilities;
@@ -63,6 +63,11 @@ pub enum Body {
     },
     LoadedSources {
         sources: Vec<Source>,
+    },
+    /// What a client has started in a terminal, each 0 to 2147483647, where it is known.
+    RunInTerminal {
+        process_id: Option<u32>,
+        shell_process_id: Option<u32>,
     },
 }
 
@@ -282,6 +287,31 @@ fn write_flag(out: &mut Writer, key: &str, on: bool) -> Result<(), AllocError>
     out.end_object()
 }
 
+/// The member of a number, where there is one.
+fn number_if_any(out: &mut Writer, key: &str, n: Option<u32>) -> Result<(), AllocError>
+    ensures adds { OnOk result (Adds out.old out.new (optional_number_tokens key.now n)) }
+    ensures range { IsSoundOptional n }
+{
+    match n {
+        None => Ok(()),
+        Some(n) => short(out, key, n),
+    }
+}
+
+fn write_processes(
+    out: &mut Writer,
+    process_id: Option<u32>,
+    shell_process_id: Option<u32>,
+) -> Result<(), AllocError>
+    ensures adds { OnOk result (Adds out.old out.new (tokens_of (run_in_terminal_body process_id shell_process_id))) }
+    ensures sound { OnOk result (IsSound (run_in_terminal_body process_id shell_process_id)) }
+{
+    out.begin_object()?;
+    number_if_any(out, "processId", process_id)?;
+    number_if_any(out, "shellProcessId", shell_process_id)?;
+    out.end_object()
+}
+
 /// What is offered is written by way of its tree, in `offers_text`.
 fn write(out: &mut Writer, body: &Body) -> Result<(), AllocError>
     requires { IsTrue (is_of_parts body.now) }
@@ -308,6 +338,10 @@ fn write(out: &mut Writer, body: &Body) -> Result<(), AllocError>
         } => write_value(out, result, *variables_reference),
         Body::Source { content } => write_text(out, "content", content),
         Body::LoadedSources { sources } => write_only(out, "sources", sources.as_slice()),
+        Body::RunInTerminal {
+            process_id,
+            shell_process_id,
+        } => write_processes(out, *process_id, *shell_process_id),
     }
 }
 

@@ -13,7 +13,7 @@ use json::Writer;
 use serde_json::{Map, Value, put};
 use std::alloc::{AllocError, Global};
 
-/// Why a request failed, in the order in which an adapter tests: the first that holds is answered. The last two come
+/// Why a request failed, in the order in which an adapter tests: the first that holds is answered. The last three come
 /// outside this order.
 #[derive(Clone, Copy, Debug, PartialEq, Eq)]
 pub enum Failure {
@@ -36,6 +36,8 @@ pub enum Failure {
     TooLarge,
     Busy,
     Cancelled,
+    /// The client's alone: the terminal that an adapter asked for is refused.
+    TerminalRefused,
 }
 
 fn bad_argument(alloc: Global, key: Key) -> Result<String, AllocError>
@@ -69,6 +71,7 @@ impl Failure {
             Failure::TooLarge => "tooLarge",
             Failure::Busy => "busy",
             Failure::Cancelled => "cancelled",
+            Failure::TerminalRefused => "terminalRefused",
         }
     }
 
@@ -94,6 +97,7 @@ impl Failure {
             Failure::TooLarge => 1016,
             Failure::Busy => 1011,
             Failure::Cancelled => 1012,
+            Failure::TerminalRefused => 1018,
         }
     }
 
@@ -131,6 +135,7 @@ impl Failure {
             Failure::TooLarge => String::from_str(alloc, "The response would be too large."),
             Failure::Busy => String::from_str(alloc, "Too many requests are waiting."),
             Failure::Cancelled => String::from_str(alloc, "The request was cancelled."),
+            Failure::TerminalRefused => String::from_str(alloc, "The terminal refused."),
         }
     }
 }

@@ -1,4 +1,4 @@
-//! The bodies that an adapter writes: those of its responses, of its events and of its failures.
+//! The bodies that are written: those of responses, of an adapter's events and of failures.
 //!
 //! Specification, "Responses" under "Requests", "Events", "ErrorResponse" and "Types". This crate must not know the
 //! envelope of a message, nor header fields.
@@ -16,5 +16,5 @@ pub use failure::{Failure, body_failure, failure_text};
 pub use response::{
     Breakpoint, Scope, Source, StackFrame, Thread, Variable, body_continue, body_evaluate,
     body_loaded_sources, body_scopes, body_set_breakpoints, body_set_variable, body_source,
-    body_stack_trace, body_threads, body_variables,
+    body_stack_trace, body_terminal, body_threads, body_variables,
 };

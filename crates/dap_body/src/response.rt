@@ -1,10 +1,10 @@
-//! What the bodies of an adapter's responses are made of, and these bodies as trees: Specification, the types whose names
+//! What the bodies of responses are made of, and these bodies as trees: Specification, the types whose names
 //! end in "Response", and "Types".
 //!
 //! Lines and columns are written as they stand: whether they count from 0 or 1 is the caller's part.
 ghost use Rattle.std.specs.Prelude.{◌≡◌, IfOk};
 ghost use Rattle.serde_json.specs.View.{view};
-ghost use Rattle.dap_body.specs.ResponseBody.{set_breakpoints_body, threads_body, continue_body, stack_trace_body, scopes_body, variables_body, set_variable_body, evaluate_body, source_body, loaded_sources_body};
+ghost use Rattle.dap_body.specs.ResponseBody.{set_breakpoints_body, threads_body, continue_body, stack_trace_body, scopes_body, variables_body, set_variable_body, evaluate_body, source_body, loaded_sources_body, run_in_terminal_body};
 
 use crate::body::Body;
 use dap_json::Text;
@@ -152,4 +152,20 @@ pub fn body_loaded_sources(alloc: Global, sources: Vec<Source>) -> Result<Value,
     ensures { IfOk result (λ v. view v ≡ loaded_sources_body sources.items) }
 {
     Body::LoadedSources { sources }.value(alloc)
+}
+
+/// The body of a client's response to `runInTerminal`: the process that runs in the terminal and its shell, each 0 to
+/// 2147483647, where it is known.
+pub fn body_terminal(
+    alloc: Global,
+    process_id: Option<u32>,
+    shell_process_id: Option<u32>,
+) -> Result<Value, AllocError>
+    ensures { IfOk result (λ v. view v ≡ run_in_terminal_body process_id shell_process_id) }
+{
+    Body::RunInTerminal {
+        process_id,
+        shell_process_id,
+    }
+    .value(alloc)
 }

@@ -15,7 +15,7 @@ use Rattle.dap_call.specs.declared.call.SourceKey.TheVariants.{Path, Reference}
 -- ---- lists
 
 -- the items have no float, and nest at most 1 deep
-abbrev HasSmall : Items → Type 0
+abbrev pub HasSmall : Items → Type 0
 HasSmall ds = (items_have_float ds ≡ false) × (items_depth ds ≤ 1)
 
 small_breakpoints : (ns : List ℕ) → HasSmall (breakpoint_items ns)
@@ -26,7 +26,7 @@ small_functions : (names : List (List ℕ)) → HasSmall (function_items names)
 small_functions [] = (refl, omega arith)
 small_functions (n ∷ ns) = let p = small_functions ns in (p.0, omega (arith, p.1))
 
-small_texts : (texts : List (List ℕ)) → HasSmall (text_items texts)
+pub small_texts : (texts : List (List ℕ)) → HasSmall (text_items texts)
 small_texts [] = (refl, omega arith)
 small_texts (t ∷ ts) = let p = small_texts ts in (p.0, omega (arith, p.1))
 

@@ -41,7 +41,7 @@ names_again : (names : List (List ℕ)) → each name_in (function_items names) 
 names_again [] = refl
 names_again (name ∷ names) = rw (names_again names)
 
-texts_again : (texts : List (List ℕ)) → each as_str (text_items texts) ≡ Some texts
+pub texts_again : (texts : List (List ℕ)) → each as_str (text_items texts) ≡ Some texts
 texts_again [] = refl
 texts_again (text ∷ texts) = rw (texts_again texts)
 

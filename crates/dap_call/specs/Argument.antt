@@ -6,7 +6,7 @@ use Rattle.std.specs.Prelude.{ℕ, ◌&&◌, ℤ, pos, negsuc, Bool, nat_le, int
 use Rattle.serde_json.specs.Data.{Data, null, object}
 use Rattle.serde_json.specs.Find.{as_number, as_u64, as_i64}
 use Rattle.std.specs.Prelude.{◌≡◌}
-use Rattle.dap_json.specs.Field.{if_passes, max_seq, tree_at}
+use Rattle.dap_json.specs.Field.{if_passes, is_object, max_seq, tree_at}
 use Rattle.dap_json.specs.Steps.{◌>>=◌, Returns}
 use Rattle.dap_call.specs.Key.{text_of}
 use Rattle.dap_call.specs.declared.key.Key.{Key}
@@ -53,6 +53,10 @@ number_of d = if_passes (λ n. nat_le n max_number) (option_and_then as_u64 (as_
 -- a sequence number
 abbrev pub seq_of : Data → Option ℕ
 seq_of d = if_passes (λ n. nat_le n max_seq) (option_and_then as_u64 (as_number d))
+
+-- an object, whatever is in it
+abbrev pub object_of : Data → Option Data
+object_of d = if_passes is_object (Some d)
 
 -- ---- keys
 

@@ -39,8 +39,8 @@ name_in d = option_and_then as_str (value_at key.Name (Some d))
 abbrev pub names_of : Data → Option (List (List ℕ))
 names_of d = option_and_then (each name_in) (as_array d)
 
-abbrev pub filters_of : Data → Option (List (List ℕ))
-filters_of d = option_and_then (each as_str) (as_array d)
+abbrev pub texts_of : Data → Option (List (List ℕ))
+texts_of d = option_and_then (each as_str) (as_array d)
 
 -- by its path where it has one, else by its reference
 abbrev pub source_named : Option (List ℕ) → ℕ → Option SourceKey
@@ -114,7 +114,7 @@ set_function_breakpoints_of given = do
 unfoldable pub set_exception_breakpoints_of : Option Data → Read Call
 set_exception_breakpoints_of given = do
   arguments ← must_be_there given
-  filters ← required_at filters_of key.Filters arguments
+  filters ← required_at texts_of key.Filters arguments
   Ok (call.SetExceptionBreakpoints filters)
 
 unfoldable pub stack_trace_of : Option Data → Read Call

@@ -47,6 +47,10 @@ with_true k false ms = ms
 abbrev pub with_optional : Key → Option ℕ → Members → Members
 with_optional k n ms = put_if (text_of k) (option_map whole_number n) ms
 
+-- a text that may be absent
+abbrev pub with_optional_text : Key → Option (List ℕ) → Members → Members
+with_optional_text k text ms = put_if (text_of k) (option_map string text) ms
+
 abbrev pub int : ℤ → Data
 int z = number (of_integer z)
 

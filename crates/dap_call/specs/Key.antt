@@ -1,7 +1,7 @@
 -- The keys of arguments, by their names in the Specification.
 use Rattle.std.specs.Prelude.{List, ℕ, codes}
 use Rattle.dap_call.specs.declared.key.Key.{Key}
-use Rattle.dap_call.specs.declared.key.Key.TheVariants.{Arguments, AdapterId, LinesStartAt1, ColumnsStartAt1, SupportsVariablePaging, SupportsRunInTerminalRequest, RequestId, Source, Breakpoints, Lines, Line, Filters, ThreadId, StartFrame, Levels, FrameId, VariablesReference, Start, Count, Expression, SourceReference, Name, Value, StartModule, ModuleCount, EndLine, Text, Column, Path}
+use Rattle.dap_call.specs.declared.key.Key.TheVariants.{Arguments, AdapterId, LinesStartAt1, ColumnsStartAt1, SupportsVariablePaging, SupportsRunInTerminalRequest, RequestId, Source, Breakpoints, Lines, Line, Filters, ThreadId, StartFrame, Levels, FrameId, VariablesReference, Start, Count, Expression, SourceReference, Name, Value, StartModule, ModuleCount, EndLine, Text, Column, Path, Kind, Title, Cwd, Args, Env}
 
 abbrev pub text_of : Key → List ℕ
 text_of Arguments = codes "arguments"
@@ -33,3 +33,8 @@ text_of EndLine = codes "endLine"
 text_of Text = codes "text"
 text_of Column = codes "column"
 text_of Path = codes "path"
+text_of Kind = codes "kind"
+text_of Title = codes "title"
+text_of Cwd = codes "cwd"
+text_of Args = codes "args"
+text_of Env = codes "env"

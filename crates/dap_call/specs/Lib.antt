@@ -8,4 +8,5 @@ pub mod Argument
 pub mod Call
 pub mod CallTree
 pub mod PlainCall
+pub mod Terminal
 pub mod SameSource

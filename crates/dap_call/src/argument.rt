@@ -3,7 +3,7 @@ ghost use Rattle.std.specs.Prelude.{◌≡◌, [], option_map};
 ghost use Rattle.serde_json.specs.View.{view};
 ghost use Rattle.serde_json.specs.Find.{as_str, as_bool};
 ghost use Rattle.dap_call.specs.Lent.{lent_data};
-ghost use Rattle.dap_call.specs.Argument.{Gives, is_int as is_int_number, read_map, value_at, required_at, optional_at, optional_or, int_of, number_of, seq_of, may_be_absent, must_be_there};
+ghost use Rattle.dap_call.specs.Argument.{Gives, is_int as is_int_number, read_map, value_at, required_at, optional_at, optional_or, int_of, number_of, seq_of, object_of, may_be_absent, must_be_there};
 
 use crate::call::CallFault;
 use crate::key::Key;
@@ -154,6 +154,15 @@ impl<'v> Arguments<'v> {
         Ok(Text::copied(alloc, self.required_str(key)?)?)
     }
 
+    pub(crate) fn optional_text(&self, alloc: Global, key: Key) -> Result<Option<Text>, CallFault>
+        ensures { Gives result (optional_at as_str key self.now) }
+    {
+        match self.optional_str(key)? {
+            None => Ok(None),
+            Some(text) => Ok(Some(Text::copied(alloc, text)?)),
+        }
+    }
+
     pub(crate) fn optional_number(&self, key: Key) -> Result<Option<u32>, Key>
         ensures { result ≡ optional_at number_of key self.now }
     {
@@ -187,6 +196,16 @@ impl<'v> Arguments<'v> {
         match self.value(key) {
             None => Ok(default),
             Some(value) => value.as_bool().ok_or(key),
+        }
+    }
+
+    /// Refuses a key whose value is there, but is no object.
+    pub(crate) fn test_object(&self, key: Key) -> Result<(), Key>
+        ensures { result ≡ read_map (λ _. tt) (optional_at object_of key self.now) }
+    {
+        match self.value(key) {
+            Some(value) if !value.is_object() => Err(key),
+            _ => Ok(()),
         }
     }
 

@@ -3,7 +3,7 @@ ghost use Rattle.std.specs.Prelude.{◌≡◌, IfOk, IsErrOf, OnErr, Some, true,
 ghost use Rattle.serde_json.specs.View.{view};
 ghost use Rattle.dap_call.specs.Lent.{lent_data};
 ghost use Rattle.dap_call.specs.Argument.{Gives, read_map, must_be_there};
-ghost use Rattle.dap_call.specs.Call.{lines_of, line_in, breakpoint_lines_of, name_in, names_of, filters_of, source_key_of, source_reference_of, source_parts as source_parts_of, initialize_of, cancel_of, given_lines, set_breakpoints_of, set_function_breakpoints_of, set_exception_breakpoints_of, stack_trace_of, scopes_of, variables_of, evaluate_of, source_of, set_variable_of, modules_of, breakpoint_locations_of, completions_of, thread_of, tree_of, call_of, takes_memory};
+ghost use Rattle.dap_call.specs.Call.{lines_of, line_in, breakpoint_lines_of, name_in, names_of, texts_of, source_key_of, source_reference_of, source_parts as source_parts_of, initialize_of, cancel_of, given_lines, set_breakpoints_of, set_function_breakpoints_of, set_exception_breakpoints_of, stack_trace_of, scopes_of, variables_of, evaluate_of, source_of, set_variable_of, modules_of, breakpoint_locations_of, completions_of, thread_of, tree_of, call_of, takes_memory};
 ghost use Rattle.dap_call.specs.declared.call.CallFault.TheVariants.{OutOfMemory};
 
 use crate::argument;
@@ -126,18 +126,18 @@ fn names(alloc: Global, breakpoints: &Value) -> Result<Option<List<Text>>, Alloc
     Ok(Some(List::new(found)))
 }
 
-fn filters(alloc: Global, filters: &Value) -> Result<Option<List<Text>>, AllocError>
-    ensures { IfOk result (λ o. o ≡ filters_of (view filters.now)) }
+fn text_list(alloc: Global, texts: &Value) -> Result<Option<List<Text>>, AllocError>
+    ensures { IfOk result (λ o. o ≡ texts_of (view texts.now)) }
 {
-    let Some(items) = filters.as_array() else {
+    let Some(items) = texts.as_array() else {
         return Ok(None);
     };
     let mut found = Vec::new(alloc);
     for item in items {
-        let Some(filter) = item.as_str() else {
+        let Some(text) = item.as_str() else {
             return Ok(None);
         };
-        found.push(Text::copied(alloc, filter)?)?;
+        found.push(Text::copied(alloc, text)?)?;
     }
     Ok(Some(List::new(found)))
 }
@@ -197,7 +197,7 @@ fn set_exception_breakpoints(alloc: Global, given: Option<&Value>) -> Result<Cal
     ensures { Gives result (set_exception_breakpoints_of (lent_data given.entry)) }
 {
     let arguments = Arguments::required(given)?;
-    let filters = arguments.required_filters(alloc, Key::Filters)?;
+    let filters = arguments.required_texts(alloc, Key::Filters)?;
     Ok(Call::SetExceptionBreakpoints { filters })
 }
 
@@ -228,11 +228,11 @@ impl Arguments<'_> {
         Ok(names(alloc, value)?.ok_or(key)?)
     }
 
-    fn required_filters(&self, alloc: Global, key: Key) -> Result<List<Text>, CallFault>
-        ensures { Gives result (required_at filters_of key self.now) }
+    pub(crate) fn required_texts(&self, alloc: Global, key: Key) -> Result<List<Text>, CallFault>
+        ensures { Gives result (required_at texts_of key self.now) }
     {
         let value = self.value(key).ok_or(key)?;
-        Ok(filters(alloc, value)?.ok_or(key)?)
+        Ok(text_list(alloc, value)?.ok_or(key)?)
     }
 
     fn optional_lines(&self, alloc: Global, key: Key) -> Result<Option<List<u32>>, CallFault>

@@ -1,7 +1,7 @@
 //! The keys of arguments: Specification, the types whose names end in "Arguments".
 ghost use Rattle.std.specs.Prelude.{◌≡◌};
 
-/// A key of a command's arguments, or `arguments` for the whole.
+/// A key of the arguments of a command, or of `runInTerminal`; or `arguments` for the whole.
 #[derive(Clone, Copy, Debug, PartialEq, Eq)]
 pub enum Key {
     Arguments,
@@ -33,6 +33,11 @@ pub enum Key {
     Text,
     Column,
     Path,
+    Kind,
+    Title,
+    Cwd,
+    Args,
+    Env,
 }
 
 impl Key {
@@ -72,6 +77,11 @@ impl Key {
             Key::Text => "text",
             Key::Column => "column",
             Key::Path => "path",
+            Key::Kind => "kind",
+            Key::Title => "title",
+            Key::Cwd => "cwd",
+            Key::Args => "args",
+            Key::Env => "env",
         }
     }
 }

@@ -1,5 +1,6 @@
 //! Laws of the definitions, each on a function with nothing to run.
 ghost use Rattle.dap_call.specs.PlainCall.{WrittenCallIsReadAgain, WrittenCallIsPlain};
+ghost use Rattle.dap_call.specs.Terminal.{WrittenTerminalIsReadAgain, WrittenTerminalIsPlain};
 
 /// A plain call, once written, is read again as itself.
 pub fn written_call_is_read_again()
@@ -9,4 +10,14 @@ pub fn written_call_is_read_again()
 /// What a plain call is written as can be the arguments of a message that is written.
 pub fn written_call_is_plain()
     ensures { WrittenCallIsPlain }
+{}
+
+/// What an adapter asks of a terminal, once written, is read again as itself.
+pub fn written_terminal_is_read_again()
+    ensures { WrittenTerminalIsReadAgain }
+{}
+
+/// What it is written as can be the arguments of a message that is written.
+pub fn written_terminal_is_plain()
+    ensures { WrittenTerminalIsPlain }
 {}

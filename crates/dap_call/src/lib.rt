@@ -1,5 +1,5 @@
 //! What a client asks and what an adapter offers: the thirty commands of this profile and the capabilities that gate
-//! some of them.
+//! some of them; and the one request of an adapter, `runInTerminal`.
 //!
 //! Specification, "Requests" and "Capabilities". This crate knows names of commands and flags; it must not know the
 //! envelope of a message, nor header fields.
@@ -16,6 +16,7 @@ mod key;
 pub mod laws;
 mod members;
 mod plain;
+mod terminal;
 mod writing;
 
 pub use call::{
@@ -29,4 +30,5 @@ pub use gathering::GatheredReferences;
 pub use given_references::{FramesGiven, HoldersGiven, frames_given, holders_given};
 pub use key::Key;
 pub use plain::MAX_ARGUMENTS;
+pub use terminal::{RUN_IN_TERMINAL, TerminalCall, read_terminal, write_terminal};
 pub use writing::write_call;

@@ -2,7 +2,7 @@
 ghost use Rattle.std.specs.Prelude.{◌≡◌, ◌≢◌, OnOk, OnErr};
 ghost use Rattle.serde_json.specs.Data.{string};
 ghost use Rattle.serde_json.specs.View.{view, members_view};
-ghost use Rattle.dap_call.specs.CallTree.{with, with_number, with_false, with_true, with_optional};
+ghost use Rattle.dap_call.specs.CallTree.{with, with_number, with_false, with_true, with_optional, with_optional_text};
 
 use crate::key::Key;
 use dap_json::Text;
@@ -98,5 +98,21 @@ pub(crate) fn add_optional(
     match number {
         None => Ok(()),
         Some(number) => add(alloc, members, key, Value::from(number)),
+    }
+}
+
+/// Adds a text that is there.
+pub(crate) fn add_optional_text(
+    alloc: Global,
+    members: &mut Members,
+    key: Key,
+    text: &Option<Text>,
+) -> Result<(), AllocError>
+    ensures { OnOk result (members_view members.new.entries
+        ≡ with_optional_text key text.now (members_view members.old.entries)) }
+{
+    match text {
+        None => Ok(()),
+        Some(text) => add_text(alloc, members, key, text),
     }
 }

@@ -75,7 +75,7 @@ fn functions(alloc: Global, names: &[Text]) -> Result<Vec<Value>, AllocError>
     Ok(functions)
 }
 
-fn texts(alloc: Global, texts: &[Text]) -> Result<Vec<Value>, AllocError>
+pub(crate) fn texts(alloc: Global, texts: &[Text]) -> Result<Vec<Value>, AllocError>
     ensures { IfOk result (λ v. items_view v.items ≡ text_items texts.now) }
 {
     let mut values = Vec::new(alloc);

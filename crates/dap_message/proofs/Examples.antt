@@ -13,7 +13,7 @@ use Rattle.dap_call.specs.declared.capabilities.Capabilities.{Capabilities}
 use Rattle.dap_call.specs.declared.key.Key.TheVariants.{SupportsRunInTerminalRequest}
 use Rattle.dap_body.specs.declared.failure.Failure.TheVariants.{NotInitialized, Unsupported, BadArguments, Cancelled}
 use Rattle.dap_message.specs.Canon.{tree_of, canon, request_members, response_members, event_members}
-use Rattle.dap_message.specs.AdapterMessages.{failure_response, success_response, event_message, initialized, output, stopped, continued, exited, event_name, event_body}
+use Rattle.dap_message.specs.MessageParts.{failure_response, success_response, event_message, initialized, output, stopped, continued, exited, event_name, event_body}
 use Rattle.dap_message.specs.Lengths.{is_exit_code, IsWithin}
 use Rattle.dap_message.specs.Meaning.{Msg}
 use Rattle.dap_json.specs.Writable.{is_plain_tree}

@@ -1,5 +1,5 @@
 -- What an adapter writes of a fixed shape has 1024 bytes at most.
-use Rattle.std.proofs.Common.{◌≡◌, ℕ, suc, ◌+◌, ◌≤◌, ℤ, pos, negsuc, List, length, Bool, true, false, nat_le, IsTrue, Option, Some, None, decimal, sym, true≢false, arith}
+use Rattle.std.proofs.Common.{◌≡◌, ℕ, suc, ◌+◌, ◌≤◌, ◌&&◌, ℤ, pos, negsuc, List, length, Bool, true, false, nat_le, IsTrue, Option, Some, None, decimal, sym, true≢false, arith}
 use Rattle.std.proofs.lemmas.Bool.{leb-true, and_parts}
 use Rattle.std.proofs.lemmas.Fmt.{length-decimal-le}
 use Rattle.std.specs.Fmt.{digits}
@@ -18,13 +18,15 @@ use Rattle.dap_call.specs.declared.command.Gate.TheVariants as gate
 use Rattle.dap_call.specs.declared.key.Key.{Key}
 use Rattle.dap_call.specs.declared.key.Key.TheVariants as key
 use Rattle.dap_body.specs.Failure.{row_of, bad_argument_format, failure_body}
+use Rattle.dap_call.specs.PlainCall.{is_number, is_none_or}
 use Rattle.dap_body.specs.Body.{data_in}
+use Rattle.dap_body.specs.ResponseBody.{run_in_terminal_body}
 use Rattle.dap_body.specs.declared.body.Body.{Body}
-use Rattle.dap_body.specs.declared.body.Body.TheVariants.{Initialize, Continue}
+use Rattle.dap_body.specs.declared.body.Body.TheVariants.{Initialize, Continue, RunInTerminal}
 use Rattle.dap_body.specs.declared.failure.Failure.{Failure}
 use Rattle.dap_body.specs.declared.failure.Failure.TheVariants.{NotInitialized, BadArguments}
 use Rattle.dap_message.specs.Canon.{canon, tree_of, members_of, response_members, event_members}
-use Rattle.dap_message.specs.AdapterMessages.{failure_response, success_response, event_message, has_fixed_shape, AdapterEvent, initialized, output, stopped, continued, exited, terminated, event_name, event_body}
+use Rattle.dap_message.specs.MessageParts.{failure_response, success_response, event_message, has_fixed_shape, AdapterEvent, initialized, output, stopped, continued, exited, terminated, event_name, event_body}
 use Rattle.dap_message.specs.Lengths.{is_exit_code, IsWithin, FailuresAreShort, FixedResponsesAreShort, EventsAreShort}
 use Rattle.dap_message.specs.Refusals.{max_command}
 use Rattle.dap_message.specs.declared.message.Message.{Message}
@@ -134,11 +136,23 @@ capabilities_size c =
     let s12 = flag_size gate.Terminate c.terminate m11 in
     omega arith
 
+-- one process or two
+number_size : (n : ℕ) → is_number n ≡ true → length (decimal n) ≤ 16
+number_size n h = let small : n ≤ 2147483647 = leb-true n 2147483647 h in seq_size n (omega arith)
+
+processes_size : (process shell : Option ℕ) → (is_none_or is_number process && is_none_or is_number shell) ≡ true → size (run_in_terminal_body process shell) ≤ 100
+unfolding escape_byte
+processes_size None None h = omega arith
+processes_size None (Some n) h = omega (arith, number_size n h)
+processes_size (Some m) None h = omega (arith, number_size m (and_parts (is_number m) true h).0)
+processes_size (Some m) (Some n) h = let both = and_parts (is_number m) (is_number n) h in omega (arith, number_size m both.0, number_size n both.1)
+
 fixed_size : (b : Option Body) → has_fixed_shape b ≡ true → body_size (data_in b) ≤ 410
 unfolding escape_byte
 fixed_size None h = omega arith
 fixed_size (Some (Initialize c)) h = omega (arith, capabilities_size c)
 fixed_size (Some Continue) h = omega arith
+fixed_size (Some (RunInTerminal process shell)) h = omega (arith, processes_size process shell h)
 fixed_size (Some _) h = absurd (true≢false (sym h))
 
 pub fixed_responses_are_short : FixedResponsesAreShort

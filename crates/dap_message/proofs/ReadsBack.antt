@@ -9,10 +9,10 @@ use Rattle.dap_body.specs.Body.{data_in}
 use Rattle.dap_body.specs.Failure.{failure_body, row_of}
 use Rattle.dap_body.specs.declared.body.Body.{Body}
 use Rattle.dap_body.specs.declared.failure.Failure.{Failure}
-use Rattle.dap_body.specs.declared.failure.Failure.TheVariants.{NotInitialized, AlreadyInitialized, UnknownCommand, Unsupported, BadArguments, WrongPhase, NotStopped, UnknownThread, StaleReference, UnknownSource, Debuggee, TooManyBreakpoints, TooManyReferences, ReferencesExhausted, TooLarge, Busy, Cancelled}
+use Rattle.dap_body.specs.declared.failure.Failure.TheVariants.{NotInitialized, AlreadyInitialized, UnknownCommand, Unsupported, BadArguments, WrongPhase, NotStopped, UnknownThread, StaleReference, UnknownSource, Debuggee, TooManyBreakpoints, TooManyReferences, ReferencesExhausted, TooLarge, Busy, Cancelled, TerminalRefused}
 use Rattle.dap_message.specs.Canon.{canon}
 use Rattle.dap_message.specs.Laws.{WrittenIsReadAgain}
-use Rattle.dap_message.specs.AdapterMessages.{failure_response, success_response, event_message}
+use Rattle.dap_message.specs.MessageParts.{failure_response, success_response, event_message}
 use Rattle.dap_message.specs.Meaning.{Msg}
 use Rattle.dap_message.specs.Refusals.{max_command}
 use Rattle.dap_message.specs.SoundMessage.{IsSoundTree}
@@ -46,6 +46,7 @@ name-text ReferencesExhausted = IsUtf8-are_ascii (codes "referencesExhausted") r
 name-text TooLarge = IsUtf8-are_ascii (codes "tooLarge") refl
 name-text Busy = IsUtf8-are_ascii (codes "busy") refl
 name-text Cancelled = IsUtf8-are_ascii (codes "cancelled") refl
+name-text TerminalRefused = IsUtf8-are_ascii (codes "terminalRefused") refl
 
 module _ (again : WrittenIsReadAgain) where
   pub happened-back : (seq : ℕ) (event : List ℕ) (body : Option Data) → IsTrue (is_plain_tree body) → IsUtf8 event → IsSoundTree body → seq ≤ max_seq

@@ -1,12 +1,12 @@
--- How long what an adapter writes can become, where its shape is fixed: each failure, each event, and each response whose body is none or one of a fixed shape.
--- Specification, "ErrorResponse", "InitializeResponse", "ContinueResponse" and "Events". The limits, and that 1024 bytes are enough, are this profile's choice.
+-- How long what is written can become, where its shape is fixed: each failure, each event, and each response whose body is none or one of a fixed shape.
+-- Specification, "ErrorResponse", "InitializeResponse", "ContinueResponse", "RunInTerminalResponse" and "Events". The limits, and that 1024 bytes are enough, are this profile's choice.
 use Rattle.std.specs.Prelude.{ℕ, ◌≤◌, ◌&&◌, ℤ, pos, negsuc, int_le, List, length, Bool, Option, IsTrue, ⊤}
 use Rattle.dap_json.specs.Field.{max_seq}
 use Rattle.dap_call.specs.Argument.{is_int}
 use Rattle.dap_body.specs.Body.{data_in}
 use Rattle.dap_body.specs.declared.body.Body.{Body}
 use Rattle.dap_body.specs.declared.failure.Failure.{Failure}
-use Rattle.dap_message.specs.AdapterMessages.{failure_response, success_response, event_message, has_fixed_shape, AdapterEvent, initialized, output, stopped, continued, exited, terminated, event_name, event_body}
+use Rattle.dap_message.specs.MessageParts.{failure_response, success_response, event_message, has_fixed_shape, AdapterEvent, initialized, output, stopped, continued, exited, terminated, event_name, event_body}
 use Rattle.dap_message.specs.Canon.{canon}
 use Rattle.dap_message.specs.Refusals.{max_command}
 use Rattle.dap_message.specs.declared.message.Message.{Message}

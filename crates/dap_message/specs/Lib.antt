@@ -16,6 +16,7 @@ pub use Rattle.dap_call.specs.Key
 pub use Rattle.dap_call.specs.Lent
 pub use Rattle.dap_call.specs.CallTree
 pub use Rattle.dap_call.specs.PlainCall
+pub use Rattle.dap_call.specs.Terminal
 pub use Rattle.dap_body.specs.Body
 pub use Rattle.dap_body.specs.EventBody
 pub use Rattle.dap_body.specs.Failure
@@ -35,6 +36,6 @@ pub mod ReadBack
 pub mod OneLine
 pub mod SoundMessage
 pub mod Laws
-pub mod AdapterMessages
+pub mod MessageParts
 pub mod Lengths
 pub use Rattle.dap_body.specs.PlainBodies

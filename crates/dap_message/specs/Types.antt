@@ -15,6 +15,7 @@ pub use Rattle.dap_call.specs.declared.command.Command
 pub use Rattle.dap_call.specs.declared.command.Gate
 pub use Rattle.dap_call.specs.declared.gathering.GatheredReferences
 pub use Rattle.dap_call.specs.declared.key.Key
+pub use Rattle.dap_call.specs.declared.terminal.TerminalCall
 pub use Rattle.dap_body.specs.declared.body.Body
 pub use Rattle.dap_body.specs.declared.failure.Failure
 pub use Rattle.dap_body.specs.declared.response.Breakpoint

@@ -11,7 +11,7 @@ ghost use Rattle.dap_body.specs.Body.{data_in};
 ghost use Rattle.dap_body.specs.Failure.{failure_body};
 ghost use Rattle.dap_message.specs.PrivateAnswering.{with_body, with_arguments, response_end};
 ghost use Rattle.dap_message.specs.Canon.{canon, request_members, event_members, response_members};
-ghost use Rattle.dap_message.specs.AdapterMessages.{failure_response, success_response, event_message};
+ghost use Rattle.dap_message.specs.MessageParts.{failure_response, success_response, event_message};
 ghost use Rattle.dap_message.specs.Meaning.{Msg};
 ghost use Rattle.dap_message.specs.Refusals.{max_command};
 ghost use Rattle.dap_message.specs.SoundMessage.{IsSoundTree};
@@ -37,6 +37,7 @@ fn room_for(body: &Body) -> usize {
         Body::SetBreakpoints { breakpoints } => (breakpoints.len(), 48),
         Body::Threads { threads } => (threads.len(), 64),
         Body::Continue => (1, 32),
+        Body::RunInTerminal { .. } => (2, 32),
         Body::StackTrace { stack_frames, .. } => (stack_frames.len(), 224),
         Body::Scopes { scopes } => (scopes.len(), 96),
         Body::Variables { variables } => (variables.len(), 96),

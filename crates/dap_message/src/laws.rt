@@ -5,7 +5,10 @@ ghost use Rattle.dap_message.specs.OneLine.{CanonIsOneLine};
 ghost use Rattle.dap_message.specs.Lengths.{EventsAreShort, FailuresAreShort, FixedResponsesAreShort};
 
 pub use dap_body::laws::bodies_are_plain;
-pub use dap_call::laws::{written_call_is_plain, written_call_is_read_again};
+pub use dap_call::laws::{
+    written_call_is_plain, written_call_is_read_again, written_terminal_is_plain,
+    written_terminal_is_read_again,
+};
 use dap_json::laws::{put_is_sound, text_is_read_again, what_is_read_is_sound};
 
 /// Each body is one message, or has one first refusal: never both, never two.
@@ -34,7 +37,7 @@ pub fn read_is_in_range()
     ensures { ReadIsInRange }
 {}
 
-/// What an adapter writes of a fixed shape has at most 1024 bytes: each failure, each response
+/// What is written of a fixed shape has at most 1024 bytes: each failure, each response
 /// without a body or with one of a fixed shape, and each event.
 pub fn fixed_messages_are_short()
     ensures failures { FailuresAreShort }

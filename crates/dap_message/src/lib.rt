@@ -20,13 +20,13 @@ pub use dap_body::{
     Body, Breakpoint, Failure, Scope, Source, StackFrame, Thread, Variable, body_continue,
     body_continued, body_evaluate, body_exited, body_failure, body_loaded_sources, body_output,
     body_scopes, body_set_breakpoints, body_set_variable, body_source, body_stack_trace,
-    body_stopped, body_threads, body_variables,
+    body_stopped, body_terminal, body_threads, body_variables,
 };
 pub use dap_call::{
     BreakpointLocations, Call, CallFault, Capabilities, Command, Completions, Evaluate,
     FramesGiven, Gate, GatheredReferences, HoldersGiven, Initialize, Key, MAX_ARGUMENTS, Modules,
-    SetVariable, SourceKey, StackTrace, Variables, frames_given, holders_given, read_call,
-    write_call,
+    RUN_IN_TERMINAL, SetVariable, SourceKey, StackTrace, TerminalCall, Variables, frames_given,
+    holders_given, read_call, read_terminal, write_call, write_terminal,
 };
 pub use dap_json::object_reader::Scratch;
 pub use dap_json::{List, Text, Tree};

@@ -2,7 +2,7 @@ use Rattle.std.proofs.Common.{◌∙◌, None, true, ℕ, List, subst, sym}
 use Rattle.std.proofs.lemmas.Result.{IfOk-weaker}
 use Rattle.dap_body.specs.Body.{data_in}
 use Rattle.dap_message.proofs.AnswerTexts.{canon-response}
-use Rattle.dap_message.specs.AdapterMessages.{success_response}
+use Rattle.dap_message.specs.MessageParts.{success_response}
 use Rattle.dap_message.specs.Meaning.{Msg}
 use Rattle.dap_message.proofs.ReadsBack.{parts-plain, succeeded-back}
 use Rattle.dap_message.proofs.answering.write_answer.Goals as goal

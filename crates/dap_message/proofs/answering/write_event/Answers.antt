@@ -1,7 +1,7 @@
 use Rattle.std.proofs.Common.{◌∙◌, ℕ, List, subst, sym}
 use Rattle.std.proofs.lemmas.Result.{IfOk-weaker}
 use Rattle.dap_message.proofs.AnswerTexts.{canon-event}
-use Rattle.dap_message.specs.AdapterMessages.{event_message}
+use Rattle.dap_message.specs.MessageParts.{event_message}
 use Rattle.dap_message.specs.Meaning.{Msg}
 use Rattle.dap_message.proofs.ReadsBack.{happened-back}
 use Rattle.dap_message.proofs.answering.write_event.Goals as goal

@@ -5,7 +5,7 @@ use Rattle.serde_json.specs.Written.{members_outline}
 use Rattle.dap_body.specs.Failure.{row_of, failure_body}
 use Rattle.dap_message.specs.PrivateAnswering.{with_body, response_end}
 use Rattle.dap_message.specs.Canon.{response_members}
-use Rattle.dap_message.specs.AdapterMessages.{failure_response}
+use Rattle.dap_message.specs.MessageParts.{failure_response}
 use Rattle.dap_message.specs.Meaning.{Msg}
 use Rattle.dap_message.proofs.ReadsBack.{failed-back, name-text}
 use Rattle.dap_message.proofs.AnswerTexts.{print-members, canon-response}

@@ -1,5 +1,4 @@
-use Rattle.std.proofs.Common.{◌∙◌, ◌++◌, ap, refl, sym, Err, Option, Some, None}
-use Rattle.serde_json.specs.Data.{Data}
+use Rattle.std.proofs.Common.{◌∙◌, ◌++◌, ap, sym, Err}
 use Rattle.serde_json.specs.Written.{compact_text}
 use Rattle.dap_json.specs.Read.{json_of}
 use Rattle.dap_body.specs.Body.{data_of}

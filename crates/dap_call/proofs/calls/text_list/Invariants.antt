@@ -2,7 +2,7 @@ use Rattle.std.proofs.Common.{◌≡◌, ◌++◌, drop, option_map}
 use Rattle.serde_json.specs.View.{items_view}
 use Rattle.serde_json.specs.Find.{as_str}
 use Rattle.dap_call.specs.Call.{each}
-use Rattle.dap_call.proofs.calls.filters.Given as goal
+use Rattle.dap_call.proofs.calls.text_list.Given as goal
 
 -- the texts so far, and those of what is left, are all texts
 abbrev pub invariant-loop-item : goal.invariant-loop-item
