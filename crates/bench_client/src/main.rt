@@ -4,7 +4,7 @@
 //! A request is sent once fewer than two are outstanding and the client accepts it; what it writes goes nowhere.
 #![tactic(auto)]
 
-use dap_client::{Client, ClientFault, Phase, SendFault};
+use dap_client::{AnswerFault, Client, ClientFault, Phase, SendFault, Terminal};
 use dap_frame::Limits;
 use dap_message::{Call, Command, Kind, Message, read_call};
 use dap_reader::{MessageReader, ReadFault};
@@ -104,7 +104,7 @@ fn next_message(alloc: Global, requests: &mut Requests<'_>) -> Result<Message, F
     }
 }
 
-/// The next request of the file. What is none is passed over: the client answers the adapter itself.
+/// The next request of the file. What is none is passed over: what the adapter asks is answered by `answer`.
 fn next_call(alloc: Global, requests: &mut Requests<'_>) -> Result<Option<Call>, Failure> {
     for _message in 0..requests.rest.len() {
         if requests.rest.is_empty() {
@@ -146,7 +146,23 @@ fn send(alloc: Global, replay: &mut Replay<'_>) -> Result<(), Failure> {
     Ok(())
 }
 
-/// Takes a piece, and sends after each message what can be sent then.
+/// Answers the adapter where it asks for a terminal: it started.
+fn answer(alloc: Global, replay: &mut Replay<'_>) -> Result<(), Failure> {
+    let Some(seq) = replay.client.oldest_incoming() else {
+        return Ok(());
+    };
+    let started = Terminal::Started {
+        process_id: None,
+        shell_process_id: None,
+    };
+    match replay.client.answer(alloc, seq, started) {
+        Ok(_) => Ok(()),
+        Err(AnswerFault::OutOfMemory) => Err(Failure::Memory),
+        Err(_) => Ok(()),
+    }
+}
+
+/// Takes a piece; after each message it answers what the adapter asks, and sends what can be sent then.
 fn take(alloc: Global, replay: &mut Replay<'_>, piece: &[u8]) -> Result<(), Failure> {
     let mut rest = piece;
     // Each `take` uses a byte at least.
@@ -159,6 +175,7 @@ fn take(alloc: Global, replay: &mut Replay<'_>, piece: &[u8]) -> Result<(), Fail
         rest = later;
         if got.delivered.is_some() {
             replay.delivered = replay.delivered.saturating_add(1);
+            answer(alloc, replay)?;
             send(alloc, replay)?;
         }
     }

@@ -1,13 +1,15 @@
 -- A response that answers a request, and one that does not.
-use Rattle.std.proofs.Common.{◌≡◌, ℕ, ◌+◌, ◌≤◌, ◌<◌, List, [], ◌∷◌, length, Bool, true, false, Option, Some, None, Result, Ok, Err, refl, sym, ap, ◌∙◌, subst, arith, true≢false}
+use Rattle.std.proofs.Common.{◌≡◌, ℕ, ◌+◌, ◌≤◌, ◌<◌, List, [], ◌∷◌, ◌++◌, length, Bool, true, false, Option, Some, None, Result, Ok, Err, refl, sym, ap, ◌∙◌, subst, arith, true≢false}
 use Rattle.std.specs.Prelude.{bytes_eq, nat_le, nat_lt, cond, ◌==◌, not, if◌then◌else◌}
 use Rattle.std.proofs.lemmas.Bool.Decides.{nat_tests}
 use Rattle.serde_json.specs.Data.{Data}
 use Rattle.dap_frame.specs.Settings.{Settings}
+use Rattle.dap_json.specs.Field.{max_seq}
 use Rattle.dap_message.specs.Command.{command_named}
 use Rattle.dap_message.specs.Types.Command.{Command}
+use Rattle.dap_message.specs.Terminal.{run_in_terminal}
 use Rattle.dap_tables.specs.Known.{KnownReferences}
-use Rattle.dap_tables.specs.Outstanding.{Kept, KeptRequests, IsOrderlyRequests, without}
+use Rattle.dap_tables.specs.Outstanding.{Kept, KeptRequests, IsOrderlyRequests, kept_unparked, without}
 use Rattle.dap_tables.specs.Seq.{Numbers, after_next}
 use Rattle.dap_tables.specs.declared.entry.Entry.{Entry as Waiting}
 use Rattle.dap_client.specs.declared.fault.ClientFault.{ClientFault}
@@ -16,8 +18,9 @@ use Rattle.dap_client.specs.Changes.{change_in}
 use Rattle.dap_client.specs.Keeping.{IsSession, IsMade, IsWhyClosed, IsWhyUnlearned, match_result}
 use Rattle.dap_client.specs.Seen.{known_after, capabilities_after, cause_of, after_change, after_response}
 use Rattle.dap_client.specs.Session.{Session}
-use Rattle.dap_client.specs.Within.{AreSent}
+use Rattle.dap_client.specs.Within.{AreSent, AreTerminalRequests}
 use Rattle.dap_client.specs.Taking.{Made, made_by_answer, answered_within, takes_answer}
+use Rattle.dap_client.proofs.TerminalRequests.{terminals-more, terminals-fewer}
 
 -- ---- the table without a request
 
@@ -29,14 +32,17 @@ pub sent-fewer : (used seq : ℕ) (kept : List Kept) → AreSent used kept → A
 sent-fewer used seq [] all = tt
 sent-fewer used seq (k ∷ kept) all = fewer-if (not (k.entry.seq == seq)) used k (without seq kept) all.0 (sent-fewer used seq kept all.1)
 
-pub session-fewer : (limits : Settings) (known : KnownReferences) (table next : KeptRequests) (numbers : Numbers) (seq : ℕ) → IsSession limits known table numbers
-    → next ≡ record table { kept = without seq table.kept } → IsOrderlyRequests next → IsSession limits known next numbers
-session-fewer limits known table next numbers seq l fewer orderly =
+pub session-fewer : (limits : Settings) (known : KnownReferences) (table next incoming : KeptRequests) (numbers : Numbers) (seq : ℕ) → IsSession limits known table incoming numbers
+    → next ≡ record table { kept = without seq table.kept } → IsOrderlyRequests next → IsSession limits known next incoming numbers
+session-fewer limits known table next incoming numbers seq l fewer orderly =
     let kept : next.kept ≡ without seq table.kept = ap (λ (t : KeptRequests). t.kept) fewer in
     record {
       known_room = l.known_room;
       room = ap (λ (t : KeptRequests). t.room) fewer ∙ l.room;
       orderly = orderly;
+      incoming_room = l.incoming_room;
+      incoming_orderly = l.incoming_orderly;
+      terminals = l.terminals;
       last = l.last;
       used = l.used;
       greatest = l.greatest;
@@ -117,8 +123,8 @@ next-if : (b : Bool) (n : Numbers) → (n.used ≤ (if b then record n { used = 
 next-if true n = (omega arith, refl)
 next-if false n = (omega arith, refl)
 
-pub session-later : (limits : Settings) (known : KnownReferences) (table : KeptRequests) (numbers later : Numbers) → IsSession limits known table numbers → later ≡ after_next numbers → later.used ≤ later.last → IsSession limits known table later
-session-later limits known table numbers later l moved bound =
+pub session-later : (limits : Settings) (known : KnownReferences) (table incoming : KeptRequests) (numbers later : Numbers) → IsSession limits known table incoming numbers → later ≡ after_next numbers → later.used ≤ later.last → IsSession limits known table incoming later
+session-later limits known table incoming numbers later l moved bound =
     let both = next-if (nat_lt numbers.used numbers.last) numbers in
     let rising = both.0 in
     let now = ap (λ (n : Numbers). n.used) moved in
@@ -127,8 +133,45 @@ session-later limits known table numbers later l moved bound =
       known_room = l.known_room;
       room = l.room;
       orderly = l.orderly;
+      incoming_room = l.incoming_room;
+      incoming_orderly = l.incoming_orderly;
+      terminals = l.terminals;
       last = ap (λ (n : Numbers). n.last) moved ∙ (both.1 ∙ l.last);
       used = bound;
       greatest = l.greatest;
       sent = sent-later numbers.used later.used table.kept up l.sent;
+    }
+
+-- ---- a request of the adapter is kept, or kept no longer
+
+pub session-kept : (limits : Settings) (known : KnownReferences) (table incoming next : KeptRequests) (numbers : Numbers) (entry : Waiting) → IsSession limits known table incoming numbers
+    → next ≡ record incoming { kept = incoming.kept ++ kept_unparked entry ∷ [] } → IsOrderlyRequests next → entry.command ≡ run_in_terminal → entry.seq ≤ max_seq → IsSession limits known table next numbers
+session-kept limits known table incoming next numbers entry l more orderly command small =
+    record {
+      known_room = l.known_room;
+      room = l.room;
+      orderly = l.orderly;
+      incoming_room = ap (λ (t : KeptRequests). t.room) more ∙ l.incoming_room;
+      incoming_orderly = orderly;
+      terminals = subst (λ (ks : List Kept). AreTerminalRequests ks) (sym (ap (λ (t : KeptRequests). t.kept) more)) (terminals-more incoming.kept entry l.terminals command small);
+      last = l.last;
+      used = l.used;
+      greatest = l.greatest;
+      sent = l.sent;
+    }
+
+pub session-settled : (limits : Settings) (known : KnownReferences) (table incoming next : KeptRequests) (numbers : Numbers) (seq : ℕ) → IsSession limits known table incoming numbers
+    → next ≡ record incoming { kept = without seq incoming.kept } → IsOrderlyRequests next → IsSession limits known table next numbers
+session-settled limits known table incoming next numbers seq l fewer orderly =
+    record {
+      known_room = l.known_room;
+      room = l.room;
+      orderly = l.orderly;
+      incoming_room = ap (λ (t : KeptRequests). t.room) fewer ∙ l.incoming_room;
+      incoming_orderly = orderly;
+      terminals = subst (λ (ks : List Kept). AreTerminalRequests ks) (sym (ap (λ (t : KeptRequests). t.kept) fewer)) (terminals-fewer seq incoming.kept l.terminals);
+      last = l.last;
+      used = l.used;
+      greatest = l.greatest;
+      sent = l.sent;
     }

@@ -326,6 +326,10 @@ same-resumer : (o : Option Change) (t : Seen) → (after_change o t).resumer ≡
 same-resumer None t = refl
 same-resumer (Some c) t = refl
 
+same-announced : (o : Option Change) (t : Seen) → (after_change o t).announced ≡ t.announced
+same-announced None t = refl
+same-announced (Some c) t = refl
+
 pub each-answered : (s : Session) (n : ℕ) (ok : Bool) (c : Command) (body : Option Data) → abstraction_of (answered_by n (after_response n ok (Some c) body s.seen) s).after ≡ abstraction_after_answer n (class_of c) ok (references_given_in (Some c) body) (abstraction_of s)
 each-answered s n ok c body =
     let p : Phase = s.seen.phase in
@@ -337,4 +341,4 @@ each-answered s n ok c body =
     let learned = taken-in p (is_inspect (class_of c)) ok (references_given_in (Some c) body) s.seen.known (none-in c body) in
     let known : (after_change o t).known ≡ given_answered p b (class_of c) ok (references_given_in (Some c) body) s.seen.known =
     each-keeps c p b ok t ∙ ap (λ (xs : List (ReferenceKind × ℕ)). if (is_resuming p && b) && ok then [] else xs) learned in
-    rw (is, phase, same-ready o t, same-resumer o t, known) refl
+    rw (is, phase, same-ready o t, same-resumer o t, same-announced o t, known) refl

@@ -22,11 +22,11 @@ pub record Going (s : Session) (came : List Asked) (h : List Entry) : Type 0 whe
   pub used : s.used ≡ length (outs_of h)
   pub numbered : AreNumberedAfter 0 (outs_of h)
 
-pub going : (s : Session) (h : List Entry) → Follows s h → Going s [] h
-going s h f = record { outstanding = f.outstanding; accepted = f.accepted; incoming = f.incoming; written = f.written; seen = f.seen; used = f.used; numbered = f.numbered }
+pub going : (s : Session) (h : List Entry) → Follows s h → Going s (asks s.incoming) h
+going s h f = record { outstanding = f.outstanding; accepted = f.accepted; incoming = sym f.incoming; written = f.written; seen = f.seen; used = f.used; numbered = f.numbered }
 
-pub follows : (s : Session) (h : List Entry) → Going s [] h → Follows s h
-follows s h g = record { outstanding = g.outstanding; accepted = g.accepted; incoming = g.incoming; written = g.written; seen = g.seen; used = g.used; numbered = g.numbered }
+pub follows : (s : Session) (came : List Asked) (h : List Entry) → Going s came h → came ≡ asks s.incoming → Follows s h
+follows s came h g is = record { outstanding = g.outstanding; accepted = g.accepted; incoming = sym is ∙ sym g.incoming; written = g.written; seen = g.seen; used = g.used; numbered = g.numbered }
 
 -- ---- lists
 
@@ -42,19 +42,18 @@ AreNumberedAfter-append n (x ∷ xs) ys p q =
 
 -- ---- a message came
 
-pub then_in : (laws : HistoriesGrow) (s next : Session) (came : List Asked) (m : Message) (h : List Entry) → Going s [] h
+pub then_in : (laws : HistoriesGrow) (s next : Session) (came : List Asked) (m : Message) (h : List Entry) → Going s came h
     → asks next.outstanding ≡ without_answered (response_at Went (In m)) (asks s.outstanding)
     → AnswersOne (asks s.outstanding) (response_at Went (In m))
-    → option_to_list (request_at Came (In m)) ≡ came
     → next.seen ≡ after_in m.kind s.seen
     → next.used ≡ s.used
-    → Going next came (h ++ In m ∷ [])
-then_in laws s next came m h g left one asked seen used =
+    → Going next (came ++ option_to_list (request_at Came (In m))) (h ++ In m ∷ [])
+then_in laws s next came m h g left one seen used =
     let same : outs_of (h ++ In m ∷ []) ≡ outs_of h = laws.outs_append h (In m ∷ []) ∙ append-nil (outs_of h) in
     record {
       outstanding = left ∙ (ap (without_answered (response_at Went (In m))) g.outstanding ∙ sym (laws.waiting_then Went h (In m) ∙ append-nil (without_answered (response_at Went (In m)) (waiting Went h))));
       accepted = laws.answers_then Went h (In m) g.accepted (subst (λ (qs : List Asked). AnswersOne qs (response_at Went (In m))) g.outstanding one);
-      incoming = laws.waiting_then Came h (In m) ∙ (ap (λ (qs : List Asked). qs ++ option_to_list (request_at Came (In m))) (all_left (waiting Came h) ∙ g.incoming) ∙ asked);
+      incoming = laws.waiting_then Came h (In m) ∙ (ap (λ (qs : List Asked). qs ++ option_to_list (request_at Came (In m))) (all_left (waiting Came h) ∙ g.incoming));
       written = laws.answers_then Came h (In m) g.written tt;
       seen = seen ∙ (ap (after_in m.kind) g.seen ∙ sym (seen_after-append nothing_seen h (In m ∷ [])));
       used = used ∙ (g.used ∙ ap length (sym same));
@@ -66,12 +65,11 @@ then_in laws s next came m h g left one asked seen used =
 pub then_out : (laws : HistoriesGrow) (s next : Session) (came : List Asked) (m : Message) (h : List Entry) → Going s came h
     → asks next.outstanding ≡ asks s.outstanding ++ option_to_list (request_at Went (Out m []))
     → AnswersOne came (response_at Came (Out m []))
-    → without_answered (response_at Came (Out m [])) came ≡ []
     → next.seen ≡ after_out m.seq m.kind s.seen
     → m.seq ≡ s.used + 1
     → next.used ≡ s.used + 1
-    → Going next [] (h ++ Out m [] ∷ [])
-then_out laws s next came m h g more one none seen number used =
+    → Going next (without_answered (response_at Came (Out m [])) came) (h ++ Out m [] ∷ [])
+then_out laws s next came m h g more one seen number used =
     let e : Entry = Out m [] in
     let joined : outs_of (h ++ e ∷ []) ≡ outs_of h ++ m ∷ [] = laws.outs_append h (e ∷ []) in
     let long = ap length joined in
@@ -81,7 +79,7 @@ then_out laws s next came m h g more one none seen number used =
     record {
       outstanding = more ∙ (ap (λ (qs : List Asked). qs ++ option_to_list (request_at Went e)) (g.outstanding ∙ sym (all_left (waiting Went h))) ∙ sym (laws.waiting_then Went h e));
       accepted = laws.answers_then Went h e g.accepted tt;
-      incoming = laws.waiting_then Came h e ∙ (append-nil (without_answered (response_at Came e) (waiting Came h)) ∙ (ap (without_answered (response_at Came e)) g.incoming ∙ none));
+      incoming = laws.waiting_then Came h e ∙ (append-nil (without_answered (response_at Came e) (waiting Came h)) ∙ (ap (without_answered (response_at Came e)) g.incoming));
       written = laws.answers_then Came h e g.written (subst (λ (qs : List Asked). AnswersOne qs (response_at Came e)) (sym g.incoming) one);
       seen = seen ∙ (ap (after_out m.seq m.kind) g.seen ∙ sym (seen_after-append nothing_seen h (e ∷ [])));
       used = omega arith;

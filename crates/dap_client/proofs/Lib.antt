@@ -1,4 +1,5 @@
 pub mod Waiting
+pub mod TerminalRequests
 pub mod Growing
 pub mod Going
 pub mod Refusals
@@ -11,6 +12,7 @@ pub mod Ends
 pub mod Refusing
 pub mod Played
 mod LifeExamples
+mod TerminalExamples
 mod ReferencesExamples
 mod SeatExamples
 mod Names

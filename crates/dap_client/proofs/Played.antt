@@ -10,23 +10,28 @@ use Rattle.dap_message.specs.Types.Call.TheVariants as call
 use Rattle.dap_message.specs.declared.message.Message.{Message}
 use Rattle.dap_message.specs.declared.message.Kind.TheVariants.{Response, Event}
 use Rattle.dap_client.specs.declared.fault.ClientFault.{ClientFault}
+use Rattle.dap_client.specs.declared.fault.AnswerFault.{AnswerFault}
 use Rattle.dap_client.specs.declared.fault.SendFault.{SendFault}
-use Rattle.dap_client.specs.Calls.{refusal_of}
+use Rattle.dap_client.specs.declared.terminal.Terminal.{Terminal}
+use Rattle.dap_client.specs.Calls.{refusal_of, answer_refusal_of}
 use Rattle.dap_client.specs.ClientState.{ClientState}
 use Rattle.dap_client.specs.Sending.{next_message, after_send}
 use Rattle.dap_client.specs.Session.{fresh_session}
 use Rattle.dap_client.specs.Taking.{Made, takes}
+use Rattle.dap_client.specs.TerminalResponse.{next_terminal_response, after_terminal_response}
 
 -- ---- states and steps
 
--- the client, all that it wrote, and why the last call was not sent
+-- the client, all that it wrote, and why the last call was not sent or the last request of the adapter not answered
 pub record At : Type 0 where
   pub end : ClientState
   pub written : List Message
   pub refused : Option SendFault
+  pub unanswered : Option AnswerFault
 
 pub data Step : Type 0 where
   sends : Call → Step
+  answers : ℕ → Terminal → Step
   comes : Message → Step
 
 abbrev pub sent_unless : Option SendFault → Call → At → At
@@ -35,10 +40,20 @@ sent_unless None c at = record {
   end = record at.end { session = after_send c at.end.session };
   written = at.written ++ next_message at.end.session c ∷ [];
   refused = None;
+  unanswered = None;
+}
+
+abbrev pub answered_unless : Option AnswerFault → ℕ → Terminal → At → At
+answered_unless (Some f) request_seq terminal at = record at { unanswered = Some f }
+answered_unless None request_seq terminal at = record {
+  end = record at.end { session = after_terminal_response request_seq at.end.session };
+  written = at.written ++ next_terminal_response at.end.session request_seq terminal ∷ [];
+  refused = None;
+  unanswered = None;
 }
 
 abbrev pub made_of : Result Made ClientFault → At → At
-made_of (Ok m) at = record { end = record at.end { session = m.after }; written = at.written ++ m.written; refused = None }
+made_of (Ok m) at = record { end = record at.end { session = m.after }; written = at.written ++ m.written; refused = None; unanswered = None }
 made_of (Err fault) at = record at { end = record at.end { fault = Some fault } }
 
 -- a fault stays
@@ -48,6 +63,7 @@ unless_closed (Some fault) m at = at
 
 abbrev pub step : Step → At → At
 step (sends c) at = sent_unless (refusal_of c at.end) c at
+step (answers request_seq terminal) at = answered_unless (answer_refusal_of request_seq at.end) request_seq terminal at
 step (comes m) at = unless_closed at.end.fault m at
 
 abbrev pub run : List Step → At → At
@@ -60,7 +76,7 @@ abbrev pub fresh_intake : Settings → Intake
 fresh_intake limits = record { bounds = bounds_of limits; stage = Header; held = []; start = 0; used = 0 }
 
 abbrev pub fresh_at : Settings → At
-fresh_at limits = record { end = record { session = fresh_session limits; intake = fresh_intake limits; fault = None }; written = []; refused = None }
+fresh_at limits = record { end = record { session = fresh_session limits; intake = fresh_intake limits; fault = None }; written = []; refused = None; unanswered = None }
 
 abbrev pub initialize : Call
 initialize = call.Initialize (record { adapter_id = codes "rec"; lines_start_at_1 = true; columns_start_at_1 = true; supports_variable_paging = false; supports_run_in_terminal_request = false })

@@ -9,21 +9,22 @@ use Rattle.dap_message.specs.declared.message.Kind.TheVariants.{Request, Respons
 use Rattle.dap_message.specs.Types.Call.{Call}
 use Rattle.dap_message.specs.Types.Call.TheVariants as call
 use Rattle.dap_message.specs.Types.Command.{Command}
-use Rattle.dap_tables.specs.Outstanding.{entry_with}
+use Rattle.dap_message.specs.Types.Failure.{Failure}
+use Rattle.dap_tables.specs.Outstanding.{contains_seq, entry_with}
 use Rattle.dap_tables.specs.declared.entry.Entry.{Entry}
 use Rattle.dap_client.specs.declared.fault.ClientFault.{ClientFault}
-use Rattle.dap_client.specs.declared.fault.ClientFault.TheVariants.{CommandMismatch, ReferenceLimit, SeqExhausted}
+use Rattle.dap_client.specs.declared.fault.ClientFault.TheVariants.{CommandMismatch, RepeatedSeq, ReferenceLimit, SeqExhausted}
 use Rattle.dap_client.specs.declared.phase.Phase.{Phase}
 use Rattle.dap_client.specs.declared.phase.Phase.TheVariants.{Fresh, Initializing, Configuring, Running, Stopped, Resuming, Exited, Ended}
 use Rattle.dap_client.specs.declared.signal.Signal.{Signal}
 use Rattle.dap_client.specs.declared.signal.Signal.TheVariants as signal
 use Rattle.dap_client.specs.Changes.{signal_named}
 use Rattle.dap_client.specs.References.{references_used_by}
-use Rattle.dap_client.specs.ClientAbstraction.{class_of, is_inspect, ClientAbstraction, abstraction_of, abstraction_after_event, abstraction_after_response, abstraction_after_signal, abstraction_after_message, abstraction_answers, abstraction_takes, abstraction_of_result, EachStepProjects}
+use Rattle.dap_client.specs.ClientAbstraction.{class_of, is_inspect, ClientAbstraction, abstraction_of, abstraction_after_event, abstraction_after_response, abstraction_after_signal, abstraction_keeps_or_declines, abstraction_answers, abstraction_takes, abstraction_of_result, EachStepProjects}
 use Rattle.dap_client.specs.Seen.{known_after, after_response, after_signal, after_event}
 use Rattle.dap_client.specs.Sending.{request_of}
 use Rattle.dap_client.specs.Session.{Session}
-use Rattle.dap_client.specs.Taking.{Made, made_without_writing, made_by_refusing, made_by_answer as answered_by, answered_within, takes_answer, takes_as}
+use Rattle.dap_client.specs.Taking.{Made, made_without_writing, failure_in, keeps_or_declines, request_from, made_by_declining, made_by_answer as answered_by, answered_within, takes_answer, takes_as}
 use Rattle.dap_client.proofs.AnswersProject.{each-answered, none-given}
 use Rattle.dap_client.proofs.Refusals.{none-holds}
 use Rattle.dap_client.proofs.SendsProject.{at, each-allowed, each-sent}
@@ -118,9 +119,16 @@ answer-taken (Some r) n ok name body s =
     made-if (bytes_eq name r.command) (answered_within n ok name body s) (if fits then Ok e else Err ReferenceLimit) (CommandMismatch n)
     (made-if fits (Ok whole) (Ok e) ReferenceLimit (made-ok whole e (each-responded s n ok (command_named name) body)))
 
-kind-taken : (seq : ℕ) (kind : Kind) (s : Session) → abstraction_of_result (takes_as seq kind s) ≡ abstraction_takes s.limits kind (abstraction_of s)
-kind-taken seq (Request name arguments) s =
-    made-if (nat_lt s.used s.limits.seq) (Ok (made_by_refusing seq name s)) (Ok (abstraction_after_message (Request name arguments) (abstraction_of s))) SeqExhausted refl
+request-kept : (o : Option Failure) (r : Entry) (s : Session) → abstraction_of_result (keeps_or_declines o r s) ≡ abstraction_keeps_or_declines o s.limits r (abstraction_of s)
+request-kept None r s = refl
+request-kept (Some failure) r s = made-if (nat_lt s.used s.limits.seq) (Ok (made_by_declining r.seq r.command failure s)) (Ok (let e = abstraction_of s in record e { last = e.last + 1 })) SeqExhausted refl
+
+request-taken : (b : Bool) (r : Entry) (s : Session) → abstraction_of_result (if b then Err (RepeatedSeq r.seq) else keeps_or_declines (failure_in r s) r s) ≡ (if b then Err (RepeatedSeq r.seq) else abstraction_keeps_or_declines (failure_in r s) s.limits r (abstraction_of s))
+request-taken true r s = refl
+request-taken false r s = request-kept (failure_in r s) r s
+
+kind-taken : (seq : ℕ) (kind : Kind) (s : Session) → abstraction_of_result (takes_as seq kind s) ≡ abstraction_takes s.limits seq kind (abstraction_of s)
+kind-taken seq (Request name arguments) s = request-taken (contains_seq seq s.incoming) (request_from seq name arguments) s
 kind-taken seq (Response n ok name message body) s = answer-taken (entry_with n s.outstanding) n ok name body s
 kind-taken seq (Event event body) s = made-ok (made_without_writing (record s { seen = after_event (signal_named event) body s.seen })) (abstraction_after_signal (signal_named event) (abstraction_of s)) (each-signalled s (signal_named event) body)
 kind-taken seq (Other tag) s = refl
@@ -130,6 +138,7 @@ each_step_projects = record {
   allowed = each-allowed;
   sent = λ s c e. each-sent (command_of c) s.seen.phase s (request_of (s.used + 1) c) e;
   taken = λ s m. kind-taken m.seq m.kind s;
+  terminal = λ s request_seq. refl;
   free = none-holds;
   gives = none-given;
   names = none-named;

@@ -149,7 +149,7 @@ pub sent-more : (used : ℕ) (entry : Entry) (kept : List Kept) → entry.seq �
 sent-more used entry [] e all = (omega (arith, e), tt)
 sent-more used entry (k ∷ kept) e all = let small = all.0 in (omega arith, sent-more used entry kept e all.1)
 
-after-given : (numbers : Numbers) → numbers.used < numbers.last → after_next numbers ≡ record numbers { used = numbers.used + 1 }
+pub after-given : (numbers : Numbers) → numbers.used < numbers.last → after_next numbers ≡ record numbers { used = numbers.used + 1 }
 after-given numbers h = after-if (nat_lt numbers.used numbers.last) numbers (ltb-of numbers.used numbers.last h)
   where
     after-if : (b : Bool) (n : Numbers) → b ≡ true → (if b then record n { used = n.used + 1 } else n) ≡ record n { used = n.used + 1 }
@@ -160,10 +160,10 @@ after-given numbers h = after-if (nat_lt numbers.used numbers.last) numbers (ltb
     ltb-of a b h = grind (arith, nat_tests)
 
 -- a request more, with the next number
-pub session-more : (limits : Settings) (known : KnownReferences) (table next : KeptRequests) (numbers later : Numbers) (entry : Entry) → IsSession limits known table numbers
+pub session-more : (limits : Settings) (known : KnownReferences) (table next incoming : KeptRequests) (numbers later : Numbers) (entry : Entry) → IsSession limits known table incoming numbers
     → next ≡ record table { kept = table.kept ++ kept_unparked entry ∷ [] } → IsOrderlyRequests next → later ≡ after_next numbers
-    → entry.seq ≡ numbers.used + 1 → numbers.used < limits.seq → IsSession limits known next later
-session-more limits known table next numbers later entry l more orderly moved number left =
+    → entry.seq ≡ numbers.used + 1 → numbers.used < limits.seq → IsSession limits known next incoming later
+session-more limits known table next incoming numbers later entry l more orderly moved number left =
     let last = l.last in
     let room : numbers.used < numbers.last = omega arith in
     let given : later ≡ record numbers { used = numbers.used + 1 } = moved ∙ after-given numbers room in
@@ -175,6 +175,9 @@ session-more limits known table next numbers later entry l more orderly moved nu
       known_room = l.known_room;
       room = ap (λ (t : KeptRequests). t.room) more ∙ l.room;
       orderly = orderly;
+      incoming_room = l.incoming_room;
+      incoming_orderly = l.incoming_orderly;
+      terminals = l.terminals;
       last = end ∙ l.last;
       used = omega arith;
       greatest = l.greatest;

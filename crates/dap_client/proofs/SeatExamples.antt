@@ -16,7 +16,7 @@ few = settings 8192 4194304 64 1 4096 2 2147483647
 
 -- `threads` waits, with the number 2
 abbrev waiting : ClientAbstraction
-waiting = record { phase = Configuring; ready = true; last = 2; asked = kept_unparked (record { seq = 2; command = codes "threads"; arguments = None }) ∷ []; resumer = 0; given = [] }
+waiting = record { phase = Configuring; ready = true; last = 2; asked = kept_unparked (record { seq = 2; command = codes "threads"; arguments = None }) ∷ []; resumer = 0; given = []; announced = false; incoming = [] }
 
 restart_is_apart : class_of command.Restart ≡ Restart
 restart_is_apart = refl
@@ -39,26 +39,26 @@ failure_of_another = refl
 references_end : ends_stop Stopped signal.Continued ≡ true
 references_end = refl
 
-answered_once : abstraction_takes few (Response 2 true (codes "threads") None None) waiting ≡ Ok (record waiting { asked = [] })
+answered_once : abstraction_takes few 3 (Response 2 true (codes "threads") None None) waiting ≡ Ok (record waiting { asked = [] })
 answered_once = refl
 
-other_command : abstraction_takes few (Response 2 true (codes "launch") None None) waiting ≡ Err (CommandMismatch 2)
+other_command : abstraction_takes few 3 (Response 2 true (codes "launch") None None) waiting ≡ Err (CommandMismatch 2)
 other_command = refl
 
-not_asked : abstraction_takes few (Response 99 true (codes "threads") None None) waiting ≡ Err (Unmatched 99)
+not_asked : abstraction_takes few 3 (Response 99 true (codes "threads") None None) waiting ≡ Err (Unmatched 99)
 not_asked = refl
 
-no_number : abstraction_takes few (Request (codes "runInTerminal") None) waiting ≡ Err SeqExhausted
+no_number : abstraction_takes few 3 (Request (codes "runInTerminal") None) waiting ≡ Err SeqExhausted
 no_number = refl
 
-too_many : abstraction_takes few (Response 2 true (codes "threads") None None) (record waiting { given = (Frame, 1) ∷ (Frame, 2) ∷ [] }) ≡ Err ReferenceLimit
+too_many : abstraction_takes few 3 (Response 2 true (codes "threads") None None) (record waiting { given = (Frame, 1) ∷ (Frame, 2) ∷ [] }) ≡ Err ReferenceLimit
 too_many = refl
 
-stops : abstraction_takes few (Event (codes "stopped") None) waiting ≡ Ok (record waiting { phase = Stopped })
+stops : abstraction_takes few 3 (Event (codes "stopped") None) waiting ≡ Ok (record waiting { phase = Stopped })
 stops = refl
 
-exits : abstraction_takes few (Event (codes "terminated") None) waiting ≡ Ok (record waiting { phase = Exited })
+exits : abstraction_takes few 3 (Event (codes "terminated") None) waiting ≡ Ok (record waiting { phase = Exited })
 exits = refl
 
-unknown_kind : abstraction_takes few (Other (codes "heartbeat")) waiting ≡ Ok waiting
+unknown_kind : abstraction_takes few 3 (Other (codes "heartbeat")) waiting ≡ Ok waiting
 unknown_kind = refl

@@ -261,7 +261,7 @@ abbrev pub at : Phase → Session → Session
 at p s = record s { seen = record s.seen { phase = p } }
 
 abbrev after : Command → Entry → Session → Session
-after c r s = record s { seen = after_sent (s.used + 1) c s.seen; outstanding = s.outstanding ++ kept_unparked r ∷ []; used = s.used + 1 }
+after c r s = record s { seen = after_sent (s.used + 1) c r.arguments s.seen; outstanding = s.outstanding ++ kept_unparked r ∷ []; used = s.used + 1 }
 
 abbrev Sent : Command → Phase → Type 0
 Sent c p = (s : Session) (r : Entry) → is_sent_in c p s.seen.ready ≡ true → abstraction_of (after c r (at p s)) ≡ abstraction_after_request (class_of c) r (abstraction_of (at p s))

@@ -5,9 +5,11 @@ use Rattle.std.proofs.lemmas.Bool.{leb-true}
 use Rattle.std.proofs.lemmas.Bool.Decides.{nat_tests}
 use Rattle.serde_json.specs.Data.{Data}
 use Rattle.dap_frame.specs.Settings.{Settings}
+use Rattle.dap_json.specs.Field.{max_seq}
 use Rattle.dap_message.specs.Command.{command_named}
 use Rattle.dap_message.specs.Types.Call.{Call}
 use Rattle.dap_message.specs.Types.Command.{Command}
+use Rattle.dap_message.specs.Types.Failure.{Failure}
 use Rattle.dap_message.specs.declared.message.Kind.{Kind}
 use Rattle.dap_message.specs.declared.message.Kind.TheVariants.{Request, Response, Event, Other}
 use Rattle.dap_tables.specs.Known.{HasDistinctPairs}
@@ -17,23 +19,28 @@ use Rattle.dap_tables.specs.declared.entry.Entry.{Entry}
 use Rattle.dap_tables.specs.declared.reference_kind.ReferenceKind.{ReferenceKind}
 use Rattle.dap_client.specs.declared.change.Change.{Change}
 use Rattle.dap_client.specs.declared.fault.ClientFault.{ClientFault}
-use Rattle.dap_client.specs.declared.fault.ClientFault.TheVariants.{CommandMismatch, ReferenceLimit, SeqExhausted as NoSeq}
+use Rattle.dap_client.specs.declared.fault.ClientFault.TheVariants.{CommandMismatch, RepeatedSeq, ReferenceLimit, SeqExhausted as NoSeq}
 use Rattle.dap_client.specs.declared.fault.SendFault.{SendFault}
 use Rattle.dap_client.specs.declared.fault.SendFault.TheVariants as fault
 use Rattle.dap_client.specs.Changes.{sent, signalled, change_in, signal_named}
 use Rattle.dap_client.specs.Seen.{Seen, kept_unless, after_change, references_of_success, known_after, cause_of, after_body, after_response, after_event}
 use Rattle.dap_client.specs.Sending.{holds, first_of, late_refusals, refusals_in_order, request_of, after_send}
 use Rattle.dap_client.specs.Session.{Session, fresh_session}
-use Rattle.dap_client.specs.Taking.{Made, made_without_writing, made_by_refusing, made_by_answer, answered_within, takes_answer, takes_as}
-use Rattle.dap_client.specs.Within.{AreSent, IsWithin, EachStepStaysWithin}
+use Rattle.dap_client.specs.TerminalResponse.{first_terminal_refusal, after_terminal_response}
+use Rattle.dap_client.specs.Taking.{Made, made_without_writing, failure_in, made_by_declining, request_from, made_by_keeping, keeps_or_declines, made_by_answer, answered_within, takes_answer, takes_as}
+use Rattle.dap_client.specs.Within.{AreSent, IsWithin, IsRequestSeqInRange, EachStepStaysWithin}
 use Rattle.dap_client.proofs.Answered.{sent-fewer, sent-later}
 use Rattle.dap_client.proofs.Refusals.{none-or, sent-more}
 use Rattle.dap_client.proofs.Waiting.{false-left, false-right}
+use Rattle.dap_client.proofs.TerminalRequests.{IsRoom, room-of, answered-has-number, terminals-more, terminals-fewer}
 
 -- ---- tables of requests
 
 apart-from : (a b : ℕ) → a < b → (b == a) ≡ false
 apart-from a b h = grind (arith, nat_tests)
+
+turned : (a b : ℕ) → (b == a) ≡ false → (a == b) ≡ false
+turned a b h = grind (arith, nat_tests)
 
 contains-more : (seq : ℕ) (kept : List Kept) (e : Entry) → contains_seq seq kept ≡ false → (e.seq == seq) ≡ false → contains_seq seq (kept ++ kept_unparked e ∷ []) ≡ false
 contains-more seq [] e h n = none-or (e.seq == seq) false n refl
@@ -47,6 +54,13 @@ distinct-more used (k ∷ kept) e all h d =
     let small = all.0 in
     let less : k.entry.seq < e.seq = omega arith in
     (contains-more k.entry.seq kept e d.0 (apart-from k.entry.seq e.seq less), distinct-more used kept e all.1 h d.1)
+
+-- of a number that no request has
+distinct-new : (kept : List Kept) (e : Entry) → contains_seq e.seq kept ≡ false → HasDistinctSeqs kept → HasDistinctSeqs (kept ++ kept_unparked e ∷ [])
+distinct-new [] e h d = (refl, tt)
+distinct-new (k ∷ kept) e h d =
+    let apart : (e.seq == k.entry.seq) ≡ false = turned e.seq k.entry.seq (false-left (k.entry.seq == e.seq) (contains_seq e.seq kept) h) in
+    (contains-more k.entry.seq kept e d.0 apart, distinct-new kept e (false-right (k.entry.seq == e.seq) (contains_seq e.seq kept) h) d.1)
 
 contains-if : (b : Bool) (seq : ℕ) (k : Kept) (kept : List Kept) → (k.entry.seq == seq) ≡ false → contains_seq seq kept ≡ false → contains_seq seq (cond b (k ∷ kept) kept) ≡ false
 contains-if true seq k kept n h = none-or (k.entry.seq == seq) (contains_seq seq kept) n h
@@ -154,6 +168,9 @@ send-stays s c closed w e =
       distinct = distinct-more s.used s.outstanding r w.sent next w.distinct;
       outstanding = omega arith;
       sent = sent-more s.used r s.outstanding refl w.sent;
+      incoming_distinct = w.incoming_distinct;
+      incoming = w.incoming;
+      terminals = w.terminals;
       used = omega arith;
       apart = apart-after_change o s.seen w.apart;
       known = known-after_change o s.seen s.limits.references w.known;
@@ -170,18 +187,47 @@ later n = omega arith
 abbrev Stays : Session → Made → Type 0
 Stays s made = IsWithin s → IsWithin made.after
 
-request-stays : (b : Bool) (seq : ℕ) (name : List ℕ) (s : Session) (made : Made) → nat_lt s.used s.limits.seq ≡ b → (if b then Ok (made_by_refusing seq name s) else Err NoSeq) ≡ Ok made → Stays s made
-request-stays true seq name s made is e w =
-    let same : made_by_refusing seq name s ≡ made = cc in
+-- it is answered at once
+declines-stays : (b : Bool) (seq : ℕ) (name : List ℕ) (failure : Failure) (s : Session) (made : Made) → nat_lt s.used s.limits.seq ≡ b → (if b then Ok (made_by_declining seq name failure s) else Err NoSeq) ≡ Ok made → Stays s made
+declines-stays true seq name failure s made is e w =
+    let same : made_by_declining seq name failure s ≡ made = cc in
     subst (λ (x : Made). IsWithin x.after) same (record {
       distinct = w.distinct;
       outstanding = w.outstanding;
       sent = sent-later s.used (s.used + 1) s.outstanding (later s.used) w.sent;
+      incoming_distinct = w.incoming_distinct;
+      incoming = w.incoming;
+      terminals = w.terminals;
       used = below s.used s.limits.seq is;
       apart = w.apart;
       known = w.known;
     })
-request-stays false seq name s made is e w = cc
+declines-stays false seq name failure s made is e w = cc
+
+-- or kept
+keeping-stays : (r : Entry) (s : Session) → contains_seq r.seq s.incoming ≡ false → IsRoom r s → r.seq ≤ max_seq → Stays s (made_by_keeping r s)
+keeping-stays r s new room small w =
+    let less = room.room in
+    let long = length-append s.incoming (kept_unparked r ∷ []) in
+    record {
+      distinct = w.distinct;
+      outstanding = w.outstanding;
+      sent = w.sent;
+      incoming_distinct = distinct-new s.incoming r new w.incoming_distinct;
+      incoming = omega arith;
+      terminals = terminals-more s.incoming r w.terminals room.command small;
+      used = w.used;
+      apart = w.apart;
+      known = w.known;
+    }
+
+keeps-stays : (o : Option Failure) (r : Entry) (s : Session) (made : Made) → failure_in r s ≡ o → contains_seq r.seq s.incoming ≡ false → r.seq ≤ max_seq → keeps_or_declines o r s ≡ Ok made → Stays s made
+keeps-stays None r s made is new small e w = let same : made_by_keeping r s ≡ made = cc in subst (λ (x : Made). IsWithin x.after) same (keeping-stays r s new (room-of r s is) small w)
+keeps-stays (Some failure) r s made is new small e w = declines-stays (nat_lt s.used s.limits.seq) r.seq r.command failure s made refl e w
+
+request-stays : (b : Bool) (r : Entry) (s : Session) (made : Made) → contains_seq r.seq s.incoming ≡ b → r.seq ≤ max_seq → (if b then Err (RepeatedSeq r.seq) else keeps_or_declines (failure_in r s) r s) ≡ Ok made → Stays s made
+request-stays true r s made is small e w = cc
+request-stays false r s made is small e w = keeps-stays (failure_in r s) r s made refl is small e w
 
 made_by_answer-stays : KnownIsASet → (b : Bool) (n : ℕ) (ok : Bool) (name : List ℕ) (body : Option Data) (s : Session) (made : Made)
     → nat_le (length (known_after ok (command_named name) body s.seen)) s.limits.references ≡ b
@@ -194,6 +240,9 @@ made_by_answer-stays sets true n ok name body s made is e w =
       distinct = distinct-fewer n s.outstanding w.distinct;
       outstanding = omega arith;
       sent = sent-fewer s.used n s.outstanding w.sent;
+      incoming_distinct = w.incoming_distinct;
+      incoming = w.incoming;
+      terminals = w.terminals;
       used = w.used;
       apart = apart-made_by_answer sets (command_named name) n ok body s.seen w.apart;
       known = known-made_by_answer (command_named name) n ok body s.seen s.limits.references (leb-true (length (known_after ok (command_named name) body s.seen)) s.limits.references is) w.known;
@@ -212,14 +261,33 @@ quiet-stays : (s : Session) (seen : Seen) (made : Made) → (let given : Result 
     → HasDistinctPairs seen.known → length seen.known ≤ s.limits.references → Stays s made
 quiet-stays s seen made e apart known w =
     let same : made_without_writing (record s { seen = seen }) ≡ made = cc in
-    subst (λ (x : Made). IsWithin x.after) same (record { distinct = w.distinct; outstanding = w.outstanding; sent = w.sent; used = w.used; apart = apart; known = known })
+    subst (λ (x : Made). IsWithin x.after) same (record { distinct = w.distinct; outstanding = w.outstanding; sent = w.sent; incoming_distinct = w.incoming_distinct; incoming = w.incoming; terminals = w.terminals; used = w.used; apart = apart; known = known })
 
-kind-stays : KnownIsASet → (seq : ℕ) (kind : Kind) (s : Session) (made : Made) → takes_as seq kind s ≡ Ok made → Stays s made
-kind-stays sets seq (Request name arguments) s made e w = request-stays (nat_lt s.used s.limits.seq) seq name s made refl e w
-kind-stays sets seq (Response n ok name message body) s made e w = response-stays sets (entry_with n s.outstanding) n ok name body s made e w
-kind-stays sets seq (Event event body) s made e w =
+kind-stays : KnownIsASet → (seq : ℕ) (kind : Kind) (s : Session) (made : Made) → IsRequestSeqInRange seq kind → takes_as seq kind s ≡ Ok made → Stays s made
+kind-stays sets seq (Request name arguments) s made small e w = request-stays (contains_seq seq s.incoming) (request_from seq name arguments) s made refl small e w
+kind-stays sets seq (Response n ok name message body) s made small e w = response-stays sets (entry_with n s.outstanding) n ok name body s made e w
+kind-stays sets seq (Event event body) s made small e w =
     quiet-stays s (after_event (signal_named event) body s.seen) made e (apart-event (signal_named event) body s.seen w.apart) (known-event (signal_named event) body s.seen s.limits.references w.known) w
-kind-stays sets seq (Other tag) s made e w = quiet-stays s s.seen made e w.apart w.known w
+kind-stays sets seq (Other tag) s made small e w = quiet-stays s s.seen made e w.apart w.known w
+
+-- ---- answer
+
+answer-stays : (s : Session) (request_seq : ℕ) (closed : Bool) → IsWithin s → first_terminal_refusal request_seq closed s ≡ None → IsWithin (after_terminal_response request_seq s)
+answer-stays s request_seq closed w none =
+    let left = answered-has-number request_seq closed s none in
+    let fewer = length-fewer request_seq s.incoming in
+    let room = w.incoming in
+    record {
+      distinct = w.distinct;
+      outstanding = w.outstanding;
+      sent = sent-later s.used (s.used + 1) s.outstanding (later s.used) w.sent;
+      incoming_distinct = distinct-fewer request_seq s.incoming w.incoming_distinct;
+      incoming = omega arith;
+      terminals = terminals-fewer request_seq s.incoming w.terminals;
+      used = omega arith;
+      apart = w.apart;
+      known = w.known;
+    }
 
 -- ---- limits
 
@@ -241,8 +309,16 @@ keeps-answer (Some r) n ok name body s made e =
     (keeps-ok s (made_by_answer n (after_response n ok (command_named name) body s.seen) s) refl))
     made e
 
+keeps-failure : (o : Option Failure) (r : Entry) (s : Session) → Keeps s (keeps_or_declines o r s)
+keeps-failure None r s = keeps-ok s (made_by_keeping r s) refl
+keeps-failure (Some failure) r s = keeps-if (nat_lt s.used s.limits.seq) s (Ok (made_by_declining r.seq r.command failure s)) NoSeq (keeps-ok s (made_by_declining r.seq r.command failure s) refl)
+
+keeps-request : (b : Bool) (r : Entry) (s : Session) → Keeps s (if b then Err (RepeatedSeq r.seq) else keeps_or_declines (failure_in r s) r s)
+keeps-request true r s made e = cc
+keeps-request false r s made e = keeps-failure (failure_in r s) r s made e
+
 keeps-kind : (seq : ℕ) (kind : Kind) (s : Session) → Keeps s (takes_as seq kind s)
-keeps-kind seq (Request name arguments) s = keeps-if (nat_lt s.used s.limits.seq) s (Ok (made_by_refusing seq name s)) NoSeq (keeps-ok s (made_by_refusing seq name s) refl)
+keeps-kind seq (Request name arguments) s = keeps-request (contains_seq seq s.incoming) (request_from seq name arguments) s
 keeps-kind seq (Response n ok name message body) s = keeps-answer (entry_with n s.outstanding) n ok name body s
 keeps-kind seq (Event event body) s = keeps-ok s (made_without_writing (record s { seen = after_event (signal_named event) body s.seen })) refl
 keeps-kind seq (Other tag) s = keeps-ok s (made_without_writing s) refl
@@ -250,12 +326,13 @@ keeps-kind seq (Other tag) s = keeps-ok s (made_without_writing s) refl
 -- ---- the law
 
 pub fresh-stays : (limits : Settings) → IsWithin (fresh_session limits)
-fresh-stays limits = record { distinct = tt; outstanding = omega arith; sent = tt; used = omega arith; apart = tt; known = omega arith }
+fresh-stays limits = record { distinct = tt; outstanding = omega arith; sent = tt; incoming_distinct = tt; incoming = omega arith; terminals = tt; used = omega arith; apart = tt; known = omega arith }
 
 pub each_step_stays_within : KnownIsASet → EachStepStaysWithin
 each_step_stays_within sets = record {
   fresh = fresh-stays;
   send = send-stays;
-  take = λ s m made w e. kind-stays sets m.seq m.kind s made e w;
+  take = λ s m made range w e. kind-stays sets m.seq m.kind s made range e w;
+  answer = answer-stays;
   take_keeps_limits = λ s m made e. keeps-kind m.seq m.kind s made e;
 }

@@ -12,9 +12,11 @@ use Rattle.dap_message.specs.declared.message.Message.{Message}
 use Rattle.dap_client.specs.declared.fault.ClientFault.{ClientFault}
 use Rattle.dap_client.specs.declared.fault.ClientFault.TheVariants.{Frame, Body, OutOfMemory}
 use Rattle.dap_client.specs.declared.fault.SendFault.{SendFault}
+use Rattle.dap_client.specs.declared.fault.AnswerFault.{AnswerFault}
 use Rattle.dap_client.specs.declared.got.Got.{Got}
+use Rattle.dap_client.specs.TerminalResponse.{first_terminal_refusal}
 use Rattle.dap_client.specs.ClientState.{ClientState}
-use Rattle.dap_client.specs.Keeping.{IsWhyNotSent}
+use Rattle.dap_client.specs.Keeping.{IsWhyNotSent, IsWhyNotAnswered}
 use Rattle.dap_client.specs.Sending.{first_of, refusals_in_order}
 use Rattle.dap_client.specs.Session.{Session}
 use Rattle.dap_client.specs.StandsFor.{GoesOn}
@@ -30,6 +32,16 @@ refusal_of c e = first_of refusals_in_order c (is_some e.fault) e.session
 -- why a call was not sent
 abbrev pub NotSent : SendFault → Call → ClientState → Type 0
 NotSent f c e = IsWhyNotSent f c (is_some e.fault) e.session
+
+-- ---- answer
+
+-- the first refusal that holds of an answer to a request of that number
+abbrev pub answer_refusal_of : ℕ → ClientState → Option AnswerFault
+answer_refusal_of request_seq e = first_terminal_refusal request_seq (is_some e.fault) e.session
+
+-- why a request was not answered: the first refusal that holds; or memory was refused, and none holds
+abbrev pub NotAnswered : AnswerFault → ℕ → ClientState → Type 0
+NotAnswered f request_seq e = IsWhyNotAnswered f request_seq (is_some e.fault) e.session
 
 -- ---- take
 

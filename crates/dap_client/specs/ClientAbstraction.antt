@@ -1,4 +1,4 @@
--- A smaller client: its commands in classes, and of its state only what a law over both ends goes by. Capabilities, arguments and bytes are left out.
+-- A smaller client: its commands in classes, and of its state only what a law over both ends goes by. What the adapter offers, the arguments of calls and bytes are left out.
 use Rattle.std.specs.Prelude.{◌≡◌, ℕ, ◌+◌, ◌==◌, ◌&&◌, List, [], ◌∷◌, ◌++◌, length, nat_le, nat_lt, bytes_eq, Bool, true, false, if◌then◌else◌, Option, Some, None, Result, Ok, Err}
 use Rattle.serde_json.specs.Data.{Data}
 use Rattle.dap_frame.specs.Settings.{Settings}
@@ -7,15 +7,16 @@ use Rattle.dap_message.specs.Command.{command_named}
 use Rattle.dap_message.specs.Types.Call.{Call}
 use Rattle.dap_message.specs.Types.Command.{Command}
 use Rattle.dap_message.specs.Types.Command.TheVariants as command
+use Rattle.dap_message.specs.Types.Failure.{Failure}
 use Rattle.dap_message.specs.declared.message.Kind.{Kind}
 use Rattle.dap_message.specs.declared.message.Kind.TheVariants.{Request, Response, Event, Other}
 use Rattle.dap_message.specs.declared.message.Message.{Message}
 use Rattle.dap_tables.specs.Known.{with_pairs}
-use Rattle.dap_tables.specs.Outstanding.{Kept, entry_with, kept_unparked, without}
+use Rattle.dap_tables.specs.Outstanding.{Kept, contains_seq, entry_with, kept_unparked, without}
 use Rattle.dap_tables.specs.declared.entry.Entry.{Entry}
 use Rattle.dap_tables.specs.declared.reference_kind.ReferenceKind.{ReferenceKind}
 use Rattle.dap_client.specs.declared.fault.ClientFault.{ClientFault}
-use Rattle.dap_client.specs.declared.fault.ClientFault.TheVariants.{Unmatched, CommandMismatch, ReferenceLimit, SeqExhausted}
+use Rattle.dap_client.specs.declared.fault.ClientFault.TheVariants.{Unmatched, CommandMismatch, RepeatedSeq, ReferenceLimit, SeqExhausted}
 use Rattle.dap_client.specs.declared.fault.SendFault.{SendFault}
 use Rattle.dap_client.specs.declared.phase.Phase.{Phase}
 use Rattle.dap_client.specs.declared.phase.Phase.TheVariants.{Fresh, Initializing, Configuring, Running, Stopped, Resuming, Exited, Ended}
@@ -24,10 +25,11 @@ use Rattle.dap_client.specs.declared.signal.Signal.TheVariants as signal
 use Rattle.dap_client.specs.Changes.{signal_named}
 use Rattle.dap_client.specs.References.{references_used_by, references_given_by, references_given_in}
 use Rattle.dap_client.specs.Sending.{holds, first_of, refusals_in_order, request_of, after_send}
-use Rattle.dap_client.specs.Seen.{references_of_success}
+use Rattle.dap_client.specs.Seen.{references_of_success, runs_terminals}
 use Rattle.dap_client.specs.Session.{Session}
 use Rattle.dap_client.specs.Table.{is_sent_in}
-use Rattle.dap_client.specs.Taking.{Made, takes}
+use Rattle.dap_client.specs.TerminalResponse.{after_terminal_response}
+use Rattle.dap_client.specs.Taking.{Made, failure_at_once, request_from, takes}
 
 -- commands that a client treats alike
 pub data Class : Type 0 where
@@ -92,9 +94,13 @@ pub record ClientAbstraction : Type 0 where
   pub resumer : ℕ
   -- the references that are known
   pub given : List (ReferenceKind × ℕ)
+  -- the last `initialize` that was sent says that the client runs terminals
+  pub announced : Bool
+  -- the requests of the adapter that are kept
+  pub incoming : List Kept
 
 abbrev pub abstraction_of : Session → ClientAbstraction
-abstraction_of s = record { phase = s.seen.phase; ready = s.seen.ready; last = s.used; asked = s.outstanding; resumer = s.seen.resumer; given = s.seen.known }
+abstraction_of s = record { phase = s.seen.phase; ready = s.seen.ready; last = s.used; asked = s.outstanding; resumer = s.seen.resumer; given = s.seen.known; announced = s.seen.announced; incoming = s.incoming }
 
 -- ---- a request is sent
 
@@ -158,6 +164,10 @@ abbrev pub given_sent : Class → List (ReferenceKind × ℕ) → List (Referenc
 given_sent Disconnect given = []
 given_sent _ given = given
 
+abbrev pub announced_after_class : Class → Option Data → Bool → Bool
+announced_after_class Initialize arguments before = runs_terminals arguments
+announced_after_class _ arguments before = before
+
 abbrev pub abstraction_after_request : Class → Entry → ClientAbstraction → ClientAbstraction
 abstraction_after_request class r e = record {
   phase = phase_sent e.phase class;
@@ -166,7 +176,14 @@ abstraction_after_request class r e = record {
   asked = e.asked ++ kept_unparked r ∷ [];
   resumer = resumer_sent e.phase class (e.last + 1) e.resumer;
   given = given_sent class e.given;
+  announced = announced_after_class class r.arguments e.announced;
+  incoming = e.incoming;
 }
+
+-- ---- a request of the adapter is answered
+
+abbrev pub abstraction_after_terminal_response : ℕ → ClientAbstraction → ClientAbstraction
+abstraction_after_terminal_response request_seq e = record e { last = e.last + 1; incoming = without request_seq e.incoming }
 
 -- ---- a response comes
 
@@ -258,12 +275,16 @@ abbrev pub abstraction_after_signal : Option Signal → ClientAbstraction → Cl
 abstraction_after_signal None e = e
 abstraction_after_signal (Some x) e = abstraction_after_event x e
 
--- a request of the adapter takes a number
-abbrev pub abstraction_after_message : Kind → ClientAbstraction → ClientAbstraction
-abstraction_after_message (Request name arguments) e = record e { last = e.last + 1 }
-abstraction_after_message (Response request_seq ok name message body) e = abstraction_after_response request_seq ok (command_named name) body e
-abstraction_after_message (Event name body) e = abstraction_after_signal (signal_named name) e
-abstraction_after_message (Other tag) e = e
+-- a request of the adapter is kept, or it is answered at once and takes a number
+abbrev pub abstraction_keeps_or_declines : Option Failure → Settings → Entry → ClientAbstraction → Result ClientAbstraction ClientFault
+abstraction_keeps_or_declines None limits r e = Ok (record e { incoming = e.incoming ++ kept_unparked r ∷ [] })
+abstraction_keeps_or_declines (Some failure) limits r e = if nat_lt e.last limits.seq then Ok (record e { last = e.last + 1 }) else Err SeqExhausted
+
+abbrev pub abstraction_takes_request : Settings → Entry → ClientAbstraction → Result ClientAbstraction ClientFault
+abstraction_takes_request limits r e =
+    if contains_seq r.seq e.incoming
+    then Err (RepeatedSeq r.seq)
+    else abstraction_keeps_or_declines (failure_at_once r.command r.arguments e.announced (nat_le limits.requests (length e.incoming))) limits r e
 
 -- the references known with those of an answer
 abbrev pub abstraction_known : Bool → Option Command → Option Data → ClientAbstraction → List (ReferenceKind × ℕ)
@@ -280,11 +301,11 @@ abstraction_answers (Some r) limits request_seq ok name body e =
     else Err (CommandMismatch request_seq)
 
 -- why a message closes a client, or the abstraction afterwards
-abbrev pub abstraction_takes : Settings → Kind → ClientAbstraction → Result ClientAbstraction ClientFault
-abstraction_takes limits (Request name arguments) e = if nat_lt e.last limits.seq then Ok (abstraction_after_message (Request name arguments) e) else Err SeqExhausted
-abstraction_takes limits (Response request_seq ok name message body) e = abstraction_answers (entry_with request_seq e.asked) limits request_seq ok name body e
-abstraction_takes limits (Event name body) e = Ok (abstraction_after_message (Event name body) e)
-abstraction_takes limits (Other tag) e = Ok (abstraction_after_message (Other tag) e)
+abbrev pub abstraction_takes : Settings → ℕ → Kind → ClientAbstraction → Result ClientAbstraction ClientFault
+abstraction_takes limits seq (Request name arguments) e = abstraction_takes_request limits (request_from seq name arguments) e
+abstraction_takes limits seq (Response request_seq ok name message body) e = abstraction_answers (entry_with request_seq e.asked) limits request_seq ok name body e
+abstraction_takes limits seq (Event name body) e = Ok (abstraction_after_signal (signal_named name) e)
+abstraction_takes limits seq (Other tag) e = Ok e
 
 -- the same of what a client makes of it
 abbrev pub abstraction_of_result : Result Made ClientFault → Result ClientAbstraction ClientFault
@@ -299,7 +320,9 @@ pub record EachStepProjects : Type 0 where
   -- a call that the phase lets it send
   pub sent : (s : Session) (c : Call) → is_sent_in (command_of c) s.seen.phase s.seen.ready ≡ true → abstraction_of (after_send c s) ≡ abstraction_after_request (class_of (command_of c)) (request_of (s.used + 1) c) (abstraction_of s)
   -- a message that comes, or why it closes the client
-  pub taken : (s : Session) (m : Message) → abstraction_of_result (takes m s) ≡ abstraction_takes s.limits m.kind (abstraction_of s)
+  pub taken : (s : Session) (m : Message) → abstraction_of_result (takes m s) ≡ abstraction_takes s.limits m.seq m.kind (abstraction_of s)
+  -- a request of the adapter that is answered
+  pub terminal : (s : Session) (request_seq : ℕ) → abstraction_of (after_terminal_response request_seq s) ≡ abstraction_after_terminal_response request_seq (abstraction_of s)
   -- of a call that is not refused no refusal holds
   pub free : (c : Call) (closed : Bool) (s : Session) → first_of refusals_in_order c closed s ≡ None → (f : SendFault) → holds f c closed s ≡ false
   -- only inspections give references, and only they name some

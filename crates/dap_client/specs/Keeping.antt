@@ -10,18 +10,24 @@ use Rattle.dap_tables.specs.Seq.{Numbers}
 use Rattle.dap_tables.specs.declared.entry.Entry.{Entry as Waiting}
 use Rattle.dap_client.specs.declared.fault.ClientFault.{ClientFault}
 use Rattle.dap_client.specs.declared.fault.ClientFault.TheVariants.{Unmatched, CommandMismatch, ReferenceLimit, OutOfMemory as NoMemory}
+use Rattle.dap_client.specs.declared.fault.AnswerFault.{AnswerFault}
+use Rattle.dap_client.specs.declared.fault.AnswerFault.TheVariants.{OutOfMemory as NoRoom}
 use Rattle.dap_client.specs.declared.fault.SendFault.{SendFault}
 use Rattle.dap_client.specs.declared.fault.SendFault.TheVariants.{OutOfMemory}
+use Rattle.dap_client.specs.TerminalResponse.{first_terminal_refusal}
 use Rattle.dap_client.specs.Sending.{first_of, early_refusals, late_refusals, refusals_in_order}
 use Rattle.dap_client.specs.Session.{Session}
 use Rattle.dap_client.specs.Taking.{Made, bytes_of}
-use Rattle.dap_client.specs.Within.{AreSent}
+use Rattle.dap_client.specs.Within.{AreSent, AreTerminalRequests}
 
 -- what holds of every session
-pub record IsSession (limits : Settings) (known : KnownReferences) (table : KeptRequests) (numbers : Numbers) : Type 0 where
+pub record IsSession (limits : Settings) (known : KnownReferences) (table incoming : KeptRequests) (numbers : Numbers) : Type 0 where
   pub known_room : known.room ≡ limits.references
   pub room : table.room ≡ limits.requests
   pub orderly : IsOrderlyRequests table
+  pub incoming_room : incoming.room ≡ limits.requests
+  pub incoming_orderly : IsOrderlyRequests incoming
+  pub terminals : AreTerminalRequests incoming.kept
   pub last : numbers.last ≡ limits.seq
   pub used : numbers.used ≤ numbers.last
   pub greatest : limits.seq ≤ max_seq
@@ -38,6 +44,13 @@ IsWhyLate f c s = first_of late_refusals c false s ≡ Some f
 abbrev pub IsWhyNotSent : SendFault → Call → Bool → Session → Type 0
 IsWhyNotSent OutOfMemory c closed s = first_of early_refusals c closed s ≡ None
 IsWhyNotSent f c closed s = first_of refusals_in_order c closed s ≡ Some f
+
+-- ---- answering
+
+-- why a request was not answered: the first refusal that holds; or memory was refused, and none holds
+abbrev pub IsWhyNotAnswered : AnswerFault → ℕ → Bool → Session → Type 0
+IsWhyNotAnswered NoRoom request_seq closed s = first_terminal_refusal request_seq closed s ≡ None
+IsWhyNotAnswered f request_seq closed s = first_terminal_refusal request_seq closed s ≡ Some f
 
 -- ---- taking
 

@@ -6,6 +6,7 @@ pub mod Seen
 pub mod Session
 pub mod Sending
 pub mod Taking
+pub mod TerminalResponse
 pub mod Follows
 pub mod Within
 pub mod ClientState

@@ -1,8 +1,11 @@
--- What a client has seen of a session, from what came and what it sent: the phase, whether the adapter is ready, what it offers, and the references that it gave.
+-- What a client has seen of a session, from what came and what it sent: the phase, whether the adapter is ready, what it offers, the references that it gave, and whether the client said that it runs terminals.
 -- It goes by the table of changes, entry by entry. The phases are this profile's choice.
-use Rattle.std.specs.Prelude.{ℕ, List, [], ◌∷◌, Bool, true, false, ◌==◌, ◌&&◌, Option, Some, None, if◌then◌else◌, codes, option_and_then}
+use Rattle.std.specs.Prelude.{ℕ, List, [], ◌∷◌, Bool, true, false, ◌==◌, ◌&&◌, Option, Some, None, if◌then◌else◌, codes, option_and_then, unwrap_or}
 use Rattle.serde_json.specs.Data.{Data}
+use Rattle.serde_json.specs.Find.{as_bool}
 use Rattle.dap_json.specs.Field.{tree_at}
+use Rattle.dap_message.specs.Argument.{value_at}
+use Rattle.dap_message.specs.Types.Key.TheVariants.{SupportsRunInTerminalRequest}
 use Rattle.dap_message.specs.Capabilities.{offered_by, updated_by}
 use Rattle.dap_message.specs.Command.{command_named}
 use Rattle.dap_history.specs.History.{Entry, In, Out, ReferencesEnd}
@@ -31,10 +34,12 @@ pub record Seen : Type 0 where
   pub resumer : ℕ
   -- the references that the adapter gave, each once
   pub known : List (ReferenceKind × ℕ)
+  -- the last `initialize` that was sent says that the client runs terminals
+  pub announced : Bool
 
 -- nothing was sent, and nothing came
 abbrev pub nothing_seen : Seen
-nothing_seen = record { phase = Fresh; ready = false; capabilities = offered_by None; resumer = 0; known = [] }
+nothing_seen = record { phase = Fresh; ready = false; capabilities = offered_by None; resumer = 0; known = []; announced = false }
 
 -- ---- by a row of the table
 
@@ -54,12 +59,20 @@ resumer_by (Some c) seq before = if is_phase Resuming c.to then seq else before
 
 -- ---- a request was sent
 
-abbrev pub after_sent : ℕ → Command → Seen → Seen
-after_sent seq c s = record (after_change (change_in (sent c) s.phase) s) { resumer = resumer_by (change_in (sent c) s.phase) seq s.resumer }
+-- the arguments of `initialize` say that the client runs terminals
+abbrev pub runs_terminals : Option Data → Bool
+runs_terminals arguments = unwrap_or (option_and_then as_bool (value_at SupportsRunInTerminalRequest arguments)) false
 
-abbrev pub after_request : ℕ → Option Command → Seen → Seen
-after_request seq None s = s
-after_request seq (Some c) s = after_sent seq c s
+abbrev pub announced_after : Command → Option Data → Bool → Bool
+announced_after command.Initialize arguments before = runs_terminals arguments
+announced_after _ arguments before = before
+
+abbrev pub after_sent : ℕ → Command → Option Data → Seen → Seen
+after_sent seq c arguments s = record (after_change (change_in (sent c) s.phase) s) { resumer = resumer_by (change_in (sent c) s.phase) seq s.resumer; announced = announced_after c arguments s.announced }
+
+abbrev pub after_request : ℕ → Option Command → Option Data → Seen → Seen
+after_request seq None arguments s = s
+after_request seq (Some c) arguments s = after_sent seq c arguments s
 
 -- ---- a response came
 
@@ -126,7 +139,7 @@ after_in (Event event body) s = after_event (signal_named event) body s
 after_in (Other tag) s = s
 
 abbrev pub after_out : ℕ → Kind → Seen → Seen
-after_out seq (Request command arguments) s = after_request seq (command_named command) s
+after_out seq (Request command arguments) s = after_request seq (command_named command) arguments s
 after_out seq (Response request_seq ok command message body) s = s
 after_out seq (Event event body) s = s
 after_out seq (Other tag) s = s

@@ -67,4 +67,4 @@ first_of faults c closed s = find (λ f. holds f c closed s) faults
 -- ---- the session afterwards
 
 abbrev pub after_send : Call → Session → Session
-after_send c s = record s { seen = after_sent (s.used + 1) (command_of c) s.seen; outstanding = s.outstanding ++ kept_unparked (request_of (s.used + 1) c) ∷ []; used = s.used + 1 }
+after_send c s = record s { seen = after_sent (s.used + 1) (command_of c) (call_tree c) s.seen; outstanding = s.outstanding ++ kept_unparked (request_of (s.used + 1) c) ∷ []; used = s.used + 1 }

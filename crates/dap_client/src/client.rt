@@ -1,21 +1,24 @@
 //! A client, call by call.
-ghost use Rattle.std.specs.Prelude.{◌≡◌, ◌≢◌, ℕ, ◌+◌, ◌<◌, ◌≤◌, List, [], ◌∷◌, length, max, IfOk, IfErr, OnOk, OnErr, IfSome, IsTrue, None, Some, Err};
-ghost use Rattle.dap_history.specs.History.{Entry, Out, Went, waiting};
+ghost use Rattle.std.specs.Prelude.{◌≡◌, ◌≢◌, ℕ, ◌+◌, ◌<◌, ◌≤◌, List, [], ◌∷◌, length, max, IfOk, IfErr, OnOk, OnErr, IfSome, IsTrue, None, Some, Err, option_map};
+ghost use Rattle.std.specs.List.{slice_get};
+ghost use Rattle.dap_history.specs.History.{Entry, Out, Came, Went, waiting};
 ghost use Rattle.dap_message.specs.PlainCall.{is_plain_call};
 ghost use Rattle.dap_message.specs.ReadBack.{ReadsBack};
-ghost use Rattle.dap_client.specs.Calls.{refusal_of, NotSent, Takes, TakeRefused};
+ghost use Rattle.dap_client.specs.Calls.{refusal_of, answer_refusal_of, NotSent, NotAnswered, Takes, TakeRefused};
 ghost use Rattle.dap_client.specs.PrivateReceives.{HasReceived, IsBy};
 ghost use Rattle.dap_reader.specs.declared.fault.ReadFault.{ReadFault};
 ghost use Rattle.dap_client.specs.Seen.{phase_in, ready_in, capabilities_in, references_in};
 ghost use Rattle.dap_client.specs.Sending.{next_message, sent_bytes, after_send};
-ghost use Rattle.dap_client.specs.Session.{fresh_session};
+ghost use Rattle.dap_client.specs.Session.{fresh_session, oldest_of};
+ghost use Rattle.dap_client.specs.TerminalResponse.{is_plain_terminal, next_terminal_response, terminal_response_bytes, after_terminal_response};
 ghost use Rattle.dap_client.specs.StandsFor.{StandsFor, GoesOn};
 
-use crate::fault::{ClientFault, SendFault};
+use crate::fault::{AnswerFault, ClientFault, SendFault};
 use crate::got::{Got, Sent};
 use crate::laws::{each_step_goes_on, each_step_stays_within};
 use crate::phase::Phase;
 use crate::session::Session;
+use crate::terminal::Terminal;
 use dap_frame::Limits;
 use dap_history::laws::histories_grow;
 use dap_message::laws::read_is_in_range;
@@ -72,6 +75,23 @@ impl Client {
         ensures waiting { (s : List ℕ) (h : List Entry) → StandsFor self.now s h → result ≡ length (waiting Went h) }
     {
         self.session.outstanding()
+    }
+
+    /// How many requests of the adapter are kept, which wait for `answer`.
+    pub fn incoming(&self) -> usize
+        ensures count { result ≡ length self.now.session.incoming }
+        ensures bound { result ≤ self.now.session.limits.requests }
+        ensures waiting { (s : List ℕ) (h : List Entry) → StandsFor self.now s h → result ≡ length (waiting Came h) }
+    {
+        self.session.incoming()
+    }
+
+    /// The number of the oldest one, if one is kept; `answer` takes any of them.
+    pub fn oldest_incoming(&self) -> Option<u64>
+        ensures oldest { result ≡ oldest_of self.now.session.incoming }
+        ensures waiting { (s : List ℕ) (h : List Entry) → StandsFor self.now s h → result ≡ option_map (λ q. q.seq) (slice_get (waiting Came h) 0) }
+    {
+        self.session.oldest_incoming()
     }
 
     /// How many references are known: those that the adapter gave in this stop, each counted once by kind and number.
@@ -147,18 +167,52 @@ impl Client {
         self.session.send(alloc, closed, call)
     }
 
+    /// Answers a request of the adapter that is kept: the framed response, with the next own number. It is kept no longer. A
+    /// refused answer changes nothing, and the client goes on. What it asks is told by [`Terminal::plain`].
+    ///
+    /// # Errors
+    /// The first of these that holds: `Ended` after a fault closed the client (not after `disconnect` was sent); `NotKept`
+    /// where no request of the adapter with that number is kept; `SeqExhausted` where no own number is left.
+    /// `OutOfMemory` where memory for the response is refused: never where one of the others holds.
+    pub fn answer(
+        &mut self,
+        alloc: Global,
+        request_seq: u64,
+        terminal: Terminal,
+    ) -> Result<Vec<u8>, AnswerFault>
+        requires plain { IsTrue (is_plain_terminal terminal) }
+        ensures answered { OnOk result (answer_refusal_of request_seq self.old ≡ None) }
+        ensures bytes { IfOk result (λ bytes. bytes.items ≡ terminal_response_bytes self.old.session request_seq terminal) }
+        ensures session { OnOk result (self.new ≡ record self.old { session = after_terminal_response request_seq self.old.session }) }
+        ensures reads_back { OnOk result (ReadsBack self.old.session.limits.body (next_terminal_response self.old.session request_seq terminal)) }
+        ensures goes_on { OnOk result (GoesOn self.old self.new [] (Out (next_terminal_response self.old.session request_seq terminal) [] ∷ [])) }
+
+        // Why it is refused; then nothing has changed.
+        ensures refused { IfErr result (λ fault. NotAnswered fault request_seq self.old) }
+        ensures unchanged { OnErr result (self.new ≡ self.old) }
+    {
+        histories_grow();
+        each_step_goes_on();
+        each_step_stays_within();
+        let closed = self.fault.is_some();
+        self.session.answer(alloc, closed, request_seq, terminal)
+    }
+
     /// Uses the bytes of a piece up to the end of one frame at most, and delivers the message that becomes whole.
     ///
     /// A response ends the waiting of the request that it answers, and a success in a stop makes its references known. A
-    /// request of the adapter is answered `unsupported` at once. An event changes what it says. Any other message has no
-    /// effect.
+    /// request of the adapter is kept for `answer`, in every phase, where it asks for a terminal, the last `initialize` that
+    /// was sent says that the client runs terminals, its arguments are good, and fewer are kept than may be. Else it is
+    /// answered at once, by the first of `unsupported`, `badArguments` and `busy` that holds. An event changes what it says.
+    /// Any other message has no effect.
     ///
     /// # Errors
     /// `Frame` and `Body` where the framing or a body is refused, at the offset of the refused frame; `Unmatched` for a
     /// response to a number that no outstanding request has; `CommandMismatch` where that request has another command;
-    /// `ReferenceLimit` where more references would be known than may be; `SeqExhausted` where a request of the adapter is
-    /// to be answered and no own number is left; `OutOfMemory` where memory is refused once a body is whole: a piece that
-    /// makes no frame whole takes none. Then the tables are as they were, every later `take` answers it again, and `send` answers `Ended`.
+    /// `ReferenceLimit` where more references would be known than may be; `RepeatedSeq` for a request of the adapter with the
+    /// number of one that is kept; `SeqExhausted` where one is to be answered at once and no own number is left; `OutOfMemory` where memory is refused once a body is whole: a piece that
+    /// makes no frame whole takes none. Then the tables are as they were, every later `take` answers it again, and `send`
+    /// and `answer` answer `Ended`.
     pub fn take(&mut self, alloc: Global, piece: &[u8]) -> Result<Got, ClientFault>
         ensures takes { IfOk result (λ got. Takes self.old piece.now got got.delivered self.new) }
         ensures progress { IfOk result (λ got. 0 < length piece.now → 0 < got.used) }
@@ -179,6 +233,7 @@ impl Client {
         histories_grow();
         each_step_goes_on();
         each_step_stays_within();
+        read_is_in_range();
         match receive(alloc, &mut self.reader, &mut self.session, piece) {
             Ok(got) => Ok(got),
             Err(fault) => {

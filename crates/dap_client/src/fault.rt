@@ -38,7 +38,31 @@ impl From<AllocError> for SendFault {
     }
 }
 
-/// Why a client is closed. It is answered by every later `take`, `send` answers `Ended`, and nothing more is written.
+/// Why a request of the adapter is not answered: the first of these that holds, in this order. Nothing changes then.
+#[derive(Clone, Copy, Debug, PartialEq, Eq)]
+pub enum AnswerFault {
+    /// The client is closed by a fault.
+    Ended,
+    /// No request of the adapter with this seq is kept.
+    NotKept,
+    /// No own sequence number is left.
+    SeqExhausted,
+    /// Memory was refused.
+    OutOfMemory,
+}
+
+impl From<AllocError> for AnswerFault {
+    ghost use Rattle.std.specs.Prelude.{◌≡◌};
+    ghost use Rattle.dap_client.specs.declared.fault.AnswerFault.{AnswerFault};
+
+    ghost from_gives = { λ _ fault. fault ≡ AnswerFault.OutOfMemory };
+
+    fn from(_: AllocError) -> Self {
+        AnswerFault::OutOfMemory
+    }
+}
+
+/// Why a client is closed. Every later `take` answers it again, every `send` and `answer` answers `Ended`, and nothing more is written.
 #[derive(Clone, Copy, Debug, PartialEq, Eq)]
 pub enum ClientFault {
     /// The stream is no frame at this offset, in bytes.
@@ -49,7 +73,7 @@ pub enum ClientFault {
     Unmatched { request_seq: u64 },
     /// The request with this seq has another command.
     CommandMismatch { request_seq: u64 },
-    /// A request of the adapter with this seq is not answered yet. As long as each is answered when it comes, there is none.
+    /// A request of the adapter with this seq is kept, and not answered yet.
     RepeatedSeq { seq: u64 },
     /// More references would be known than there may be.
     ReferenceLimit,

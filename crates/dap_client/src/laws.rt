@@ -6,17 +6,17 @@ ghost use Rattle.dap_client.specs.Within.{EachStepStaysWithin};
 use dap_history::laws::histories_grow;
 use dap_tables::laws::known_is_a_set;
 
-/// Each step goes on as its history does: a request is outstanding exactly while it is unanswered, each response that is
-/// accepted or written answers exactly one request that was unanswered, and the phase, the capabilities and the references
-/// are those of the history.
+/// Each step goes on as its history does: a request is outstanding, or kept, exactly while it is unanswered, each response
+/// that is accepted or written answers exactly one request that was unanswered, and the phase, the capabilities, the
+/// references and what was announced are those of the history.
 pub fn each_step_goes_on()
     ensures { EachStepGoesOn }
 {
     histories_grow();
 }
 
-/// What is true of every session stays true: no two outstanding requests have the same number, no more are outstanding and
-/// no more references are known than there is room for, each reference is known once, and no number is given past the
+/// What is true of every session stays true: no two outstanding requests have the same number, nor have two that are kept; no
+/// more of either are there, and no more references are known, than there is room for, each reference is known once, and no number is given past the
 /// greatest.
 pub fn each_step_stays_within()
     ensures { EachStepStaysWithin }
@@ -25,7 +25,8 @@ pub fn each_step_stays_within()
 }
 
 /// Each step is one of the smaller client, `ClientAbstraction`, which sees classes of commands in place of commands, and of the state
-/// the phase, `ready`, the numbers, the outstanding requests and the references alone; a message closes both or neither, and
+/// the phase, `ready`, the numbers, the requests of both directions, the references and what was announced alone; a message
+/// closes both or neither, and
 /// of a call that is not refused no refusal holds. A law over both ends goes by that.
 pub fn each_step_projects()
     ensures { EachStepProjects }

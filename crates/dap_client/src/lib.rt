@@ -8,16 +8,21 @@
 //!   user, or try again once the phase has changed.
 //! - **Bytes came**: give them to `take`. It uses those up to the end of one frame at most, so call it again with what is
 //!   left of the piece until none is left. Write its `bytes` before anything else is sent: they answer a request of the
-//!   adapter.
+//!   adapter that the client refuses by itself.
 //! - **A message was delivered**: the client has counted it already, so that `phase`, `ready` and `capabilities` are those
-//!   after it. A response is looked up by its `request_seq`; an event is shown; a request of the adapter was answered
-//!   `unsupported`.
+//!   after it. A response is looked up by its `request_seq`; an event is shown.
+//! - **The adapter asks for a terminal**: a request `runInTerminal` was delivered, and `bytes` is empty. So it is kept, and
+//!   waits for `answer`. Read its arguments by `dap_message::read_terminal`, run `args` in `cwd`, and give the message's
+//!   `seq` and what became of it to `answer`; write the bytes. Adapters answer `launch` only after that. It is kept where the
+//!   last `initialize` that was sent says `supports_run_in_terminal_request`, its arguments are good, and fewer are kept than
+//!   may be. Any other request of the adapter was answered by the failure that `bytes` holds.
 //! - **`take` refuses**: the adapter broke the protocol, or memory ran out. Show the fault and close the stream. Every later
-//!   `take` answers the same fault, and every `send` answers `Ended`.
+//!   `take` answers the same fault, and every `send` and `answer` answers `Ended`, also where requests are kept.
 //! - **To end**: `send` `Disconnect`, go on with `take` until its response came or the stream ended, then close it. The
 //!   stream ended on a border of two messages where `held` is 0.
 #![tactic(auto)]
 
+mod answering;
 mod change;
 mod changes;
 mod client;
@@ -31,8 +36,10 @@ mod session;
 mod signal;
 mod table;
 mod taking;
+mod terminal;
 
 pub use client::Client;
-pub use fault::{ClientFault, SendFault};
+pub use fault::{AnswerFault, ClientFault, SendFault};
 pub use got::{Got, Sent};
 pub use phase::Phase;
+pub use terminal::Terminal;

@@ -9,7 +9,8 @@ ghost use Rattle.dap_message.specs.Types.Call.{Call};
 ghost use Rattle.dap_tables.specs.Known.{has_pair};
 ghost use Rattle.dap_client.specs.References.{are_known, optional_frame};
 ghost use Rattle.dap_client.specs.Sending.{first_of, early_refusals, late_refusals, refusals_in_order, next_message, request_of, sent_bytes, after_send};
-ghost use Rattle.dap_client.specs.Seen.{resumer_by, after_sent};
+ghost use Rattle.dap_message.specs.CallTree.{call_tree, command_of};
+ghost use Rattle.dap_client.specs.Seen.{resumer_by, announced_after as announced_after_call, after_sent};
 ghost use Rattle.dap_client.specs.Keeping.{IsWhyNotSent, IsWhyLate};
 
 use crate::change::Change;
@@ -21,7 +22,7 @@ use crate::session::Session;
 use crate::{changes, table};
 use dap_frame::write_frame;
 use dap_message::laws::written_call_is_plain;
-use dap_message::{Call, Command, Text, Tree, write_call, write_request};
+use dap_message::{Call, Text, Tree, write_call, write_request};
 use dap_tables::{Entry, ReferenceKind};
 use std::alloc::{AllocError, Global};
 
@@ -38,6 +39,16 @@ fn resumer_after(change: Option<Change>, seq: u64, before: u64) -> u64
             Phase::Resuming => seq,
             _ => before,
         },
+    }
+}
+
+/// Whether the client runs terminals, once a call was sent.
+fn announced_after(call: &Call, before: bool) -> bool
+    ensures { result ≡ announced_after_call (command_of call.now) (call_tree call.now) before }
+{
+    match call {
+        Call::Initialize(asked) => asked.supports_run_in_terminal_request,
+        _ => before,
     }
 }
 
@@ -129,11 +140,12 @@ impl Session {
         None
     }
 
-    /// What the sending of a request changes.
-    fn note_sent(&mut self, seq: u64, command: Command)
-        ensures { self.new ≡ record self.old { seen = after_sent seq command self.old.seen } }
+    /// What the sending of a call changes.
+    fn note_sent(&mut self, seq: u64, call: &Call)
+        ensures { self.new ≡ record self.old { seen = after_sent seq (command_of call.now) (call_tree call.now) self.old.seen } }
     {
-        let change = changes::by_sending(command, self.phase);
+        let change = changes::by_sending(call.command(), self.phase);
+        self.announced = announced_after(call, self.announced);
         self.resumer = resumer_after(change, seq, self.resumer);
         self.change(change);
     }
@@ -189,7 +201,7 @@ impl Session {
         };
         let seq = entry.seq;
         self.keep(entry);
-        self.note_sent(seq, call.command());
+        self.note_sent(seq, call);
         Ok(Sent { seq, bytes })
     }
 }

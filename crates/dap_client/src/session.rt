@@ -4,7 +4,8 @@ ghost use Rattle.std.specs.Option.{option_copied};
 ghost use Rattle.dap_json.specs.Field.{max_seq};
 ghost use Rattle.dap_tables.specs.Outstanding.{contains_seq, entry_with, kept_unparked, without, IsOrderlyRequests};
 ghost use Rattle.dap_client.specs.Seen.{after_change};
-ghost use Rattle.dap_client.specs.Session.{fresh_session};
+ghost use Rattle.dap_client.specs.Session.{fresh_session, oldest_of};
+ghost use Rattle.dap_message.specs.Terminal.{run_in_terminal};
 
 use crate::change::Change;
 use crate::phase::Phase;
@@ -23,7 +24,9 @@ pub(crate) struct Session {
     pub(crate) capabilities: Capabilities,
     pub(crate) resumer: u64,
     pub(crate) known: Known,
+    pub(crate) announced: bool,
     pub(crate) outstanding: Outstanding,
+    pub(crate) incoming: Outstanding,
     pub(crate) numbers: Seq,
 }
 
@@ -39,12 +42,13 @@ impl Model for Session {
 
     ghost view = { λ s. record {
       limits = s.limits;
-      seen = record { phase = s.phase; ready = s.ready; capabilities = s.capabilities; resumer = s.resumer; known = s.known.pairs };
+      seen = record { phase = s.phase; ready = s.ready; capabilities = s.capabilities; resumer = s.resumer; known = s.known.pairs; announced = s.announced };
       outstanding = s.outstanding.kept;
+      incoming = s.incoming.kept;
       used = s.numbers.used;
     } };
 
-    ghost invariant = { λ s. IsSession s.limits s.known s.outstanding s.numbers };
+    ghost invariant = { λ s. IsSession s.limits s.known s.outstanding s.incoming s.numbers };
 }
 
 impl Session {
@@ -54,6 +58,7 @@ impl Session {
     {
         let known = Known::open(alloc, limits.references())?;
         let outstanding = Outstanding::open(alloc, limits.requests())?;
+        let incoming = Outstanding::open(alloc, limits.requests())?;
         let numbers = Seq::open(limits.seq());
         Ok(Session {
             limits,
@@ -62,7 +67,9 @@ impl Session {
             capabilities: Capabilities::read(None),
             resumer: 0,
             known,
+            announced: false,
             outstanding,
+            incoming,
             numbers,
         })
     }
@@ -74,6 +81,22 @@ impl Session {
     {
         let _ = &self.limits;
         self.outstanding.len()
+    }
+
+    /// How many requests of the adapter are kept.
+    pub(crate) fn incoming(&self) -> usize
+        ensures count { result ≡ length self.now.incoming }
+        ensures bound { result ≤ self.now.limits.requests }
+    {
+        let _ = &self.limits;
+        self.incoming.len()
+    }
+
+    /// The number of the oldest one.
+    pub(crate) fn oldest_incoming(&self) -> Option<u64>
+        ensures { result ≡ oldest_of self.now.incoming }
+    {
+        self.incoming.oldest_unparked()
     }
 
     /// How many references are known.
@@ -140,6 +163,17 @@ impl Session {
     {
         put_in(&mut self.outstanding, entry);
         let _ = self.numbers.next();
+    }
+
+    /// Keeps a request of the adapter, which asks for a terminal.
+    pub(crate) fn keep_incoming(&mut self, request: Entry)
+        requires new { contains_seq request.seq self.old.incoming ≡ false }
+        requires room { length self.old.incoming < self.old.limits.requests }
+        requires terminal { request.command ≡ run_in_terminal }
+        requires range { request.seq ≤ max_seq }
+        ensures { self.new ≡ record self.old { incoming = self.old.incoming ++ kept_unparked request ∷ [] } }
+    {
+        put_in(&mut self.incoming, request);
     }
 
     /// Ends the waiting of the request with a number.

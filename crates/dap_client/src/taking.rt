@@ -1,13 +1,12 @@
 //! What comes of a message that is delivered.
-ghost use Rattle.std.specs.Prelude.{◌≡◌, ◌+◌, ◌≤◌, ◌<◌, [], ◌∷◌, ◌++◌, length, if◌then◌else◌, ◌&&◌, IfOk, IfErr, OnOk, OnErr, IsTrue, Some, None, codes, option_and_then};
+ghost use Rattle.std.specs.Prelude.{◌≡◌, ◌+◌, ◌≤◌, ◌<◌, [], ◌∷◌, ◌++◌, length, if◌then◌else◌, ◌&&◌, IfOk, IfErr, OnOk, OnErr, IsTrue, nat_le, Some, None, codes, option_and_then};
 ghost use Rattle.dap_json.specs.Field.{max_seq, tree_at};
 ghost use Rattle.dap_frame.specs.Written.{frame_of};
 ghost use Rattle.dap_message.specs.Canon.{canon};
 ghost use Rattle.dap_message.specs.InRange.{IsInRange};
-ghost use Rattle.dap_message.specs.AdapterMessages.{failure_response};
+ghost use Rattle.dap_message.specs.MessageParts.{failure_response};
 ghost use Rattle.dap_message.specs.Meaning.{Msg};
 ghost use Rattle.dap_message.specs.Refusals.{max_command};
-ghost use Rattle.dap_message.specs.Types.Failure.{Failure};
 ghost use Rattle.dap_tables.specs.Outstanding.{entry_with};
 ghost use Rattle.dap_client.specs.Changes.{change_in, signal_named};
 ghost use Rattle.dap_client.specs.Keeping.{match_result, AreReadBack, IsMade, IsWhyClosed, IsWhyUnlearned};
@@ -15,7 +14,8 @@ ghost use Rattle.dap_client.specs.declared.phase.Phase.TheVariants.{Initializing
 ghost use Rattle.dap_message.specs.Capabilities.{offered_by};
 ghost use Rattle.dap_client.specs.Phases.{is_phase, is_among, phases_in_a_stop};
 ghost use Rattle.dap_client.specs.Seen.{is_initialize, references_of_success, known_after, capabilities_after, cause_of, after_change, after_body, after_answer, after_signal, after_event, updated_from, is_ready_after};
-ghost use Rattle.dap_client.specs.Taking.{takes, takes_answer, takes_request};
+ghost use Rattle.dap_message.specs.Terminal.{run_in_terminal};
+ghost use Rattle.dap_client.specs.Taking.{declines, failure_at_once as failure_by, request_from, takes, takes_answer, takes_request};
 
 use crate::changes;
 use crate::fault::ClientFault;
@@ -25,8 +25,11 @@ use crate::session::Session;
 use crate::signal::Signal;
 use dap_frame::write_frame;
 use dap_message::laws::fixed_messages_are_short;
-use dap_message::{Capabilities, Command, Failure, Kind, Message, Text, Tree, write_failure};
-use dap_tables::{KnownFault, ReferenceKind};
+use dap_message::{
+    CallFault, Capabilities, Command, Failure, Kind, Message, RUN_IN_TERMINAL, Text, Tree,
+    read_terminal, write_failure,
+};
+use dap_tables::{Entry, KnownFault, ReferenceKind};
 use std::alloc::{AllocError, Global};
 
 /// Whether references are known in a phase.
@@ -187,12 +190,20 @@ impl Session {
         Ok(())
     }
 
-    /// Answers a request of the adapter that it is not supported.
-    fn decline(&mut self, alloc: Global, seq: u64, command: &Text) -> Result<Vec<u8>, ClientFault>
+    /// Answers a request of the adapter by a failure.
+    fn decline(
+        &mut self,
+        alloc: Global,
+        seq: u64,
+        command: &Text,
+        failure: Failure,
+    ) -> Result<Vec<u8>, ClientFault>
+        requires seq { seq ≤ max_seq }
+        requires command { length command.now ≤ max_command }
         ensures limits { self.new.limits ≡ self.old.limits }
-        ensures ok { IfOk result (λ bytes. IsMade (takes_request seq command.now self.old) self.new bytes.items) }
-        ensures reads_back { OnOk result (seq ≤ max_seq → length command.now ≤ max_command → AreReadBack self.old.limits.body (takes_request seq command.now self.old)) }
-        ensures refused { IfErr result (λ fault. IsWhyClosed fault (takes_request seq command.now self.old)) }
+        ensures ok { IfOk result (λ bytes. IsMade (declines seq command.now failure self.old) self.new bytes.items) }
+        ensures reads_back { OnOk result (AreReadBack self.old.limits.body (declines seq command.now failure self.old)) }
+        ensures refused { IfErr result (λ fault. IsWhyClosed fault (declines seq command.now failure self.old)) }
         ensures err { OnErr result (self.new ≡ self.old) }
     {
         // A law for the proof: a failure is short.
@@ -203,22 +214,78 @@ impl Session {
             Some(number) => number,
             None => return Err(ClientFault::SeqExhausted),
         };
-        let bytes = declined(alloc, number, seq, command)?;
+        let bytes = failure_bytes(alloc, number, seq, command, failure)?;
         self.numbers = numbers;
         Ok(bytes)
     }
 
+    /// The failure with which a request of the adapter is answered at once, if it is.
+    fn failure_at_once(
+        &self,
+        alloc: Global,
+        command: &Text,
+        arguments: &Option<Tree>,
+    ) -> Result<Option<Failure>, AllocError>
+        ensures failure { IfOk result (λ failure. failure ≡ failure_by command.now arguments.now self.now.seen.announced (nat_le self.now.limits.requests (length self.now.incoming))) }
+        ensures terminal { IfOk result (λ failure. failure ≡ None → command.now ≡ run_in_terminal) }
+        ensures room { IfOk result (λ failure. failure ≡ None → length self.now.incoming < self.now.limits.requests) }
+    {
+        if command.as_str() != RUN_IN_TERMINAL || !self.announced {
+            return Ok(Some(Failure::Unsupported));
+        }
+        match read_terminal(alloc, arguments.as_ref().map(Tree::value)) {
+            Err(CallFault::OutOfMemory) => Err(AllocError),
+            Err(CallFault::BadArguments { key }) => Ok(Some(Failure::BadArguments { key })),
+            Ok(_) if self.incoming.is_full() => Ok(Some(Failure::Busy)),
+            Ok(_) => Ok(None),
+        }
+    }
+
+    /// Takes a request of the adapter, or refuses it: it is kept, or answered at once.
+    fn take_request(
+        &mut self,
+        alloc: Global,
+        seq: u64,
+        command: &Text,
+        arguments: &Option<Tree>,
+    ) -> Result<Vec<u8>, ClientFault>
+        requires seq { seq ≤ max_seq }
+        requires command { length command.now ≤ max_command }
+        ensures limits { self.new.limits ≡ self.old.limits }
+        ensures ok { IfOk result (λ bytes. IsMade (takes_request (request_from seq command.now arguments.now) self.old) self.new bytes.items) }
+        ensures reads_back { OnOk result (AreReadBack self.old.limits.body (takes_request (request_from seq command.now arguments.now) self.old)) }
+        ensures refused { IfErr result (λ fault. IsWhyClosed fault (takes_request (request_from seq command.now arguments.now) self.old)) }
+        ensures err { OnErr result (self.new ≡ self.old) }
+    {
+        if self.incoming.contains(seq) {
+            return Err(ClientFault::RepeatedSeq { seq });
+        }
+        if let Some(failure) = self.failure_at_once(alloc, command, arguments)? {
+            return self.decline(alloc, seq, command, failure);
+        }
+        let request = Entry {
+            seq,
+            command: command.clone()?,
+            arguments: arguments.clone()?,
+        };
+        self.keep_incoming(request);
+        Ok(Vec::new(alloc))
+    }
+
     /// Takes a message, or refuses it: what is to be written.
     pub(crate) fn take(&mut self, alloc: Global, message: &Message) -> Result<Vec<u8>, ClientFault>
+        requires { IsInRange message.now }
         ensures limits { self.new.limits ≡ self.old.limits }
         ensures ok { IfOk result (λ bytes. IsMade (takes message.now self.old) self.new bytes.items) }
-        ensures reads_back { OnOk result (IsInRange message.now → AreReadBack self.old.limits.body (takes message.now self.old)) }
+        ensures reads_back { OnOk result (AreReadBack self.old.limits.body (takes message.now self.old)) }
         ensures refused { IfErr result (λ fault. IsWhyClosed fault (takes message.now self.old)) }
         ensures err { OnErr result (self.new ≡ self.old) }
     {
         let _ = &self.limits;
         match &message.kind {
-            Kind::Request { command, .. } => self.decline(alloc, message.seq, command),
+            Kind::Request { command, arguments } => {
+                self.take_request(alloc, message.seq, command, arguments)
+            }
             Kind::Response {
                 request_seq,
                 success,
@@ -238,12 +305,18 @@ impl Session {
     }
 }
 
-/// The answer to a request of the adapter, as it is written.
-fn declined(alloc: Global, number: u64, seq: u64, command: &Text) -> Result<Vec<u8>, AllocError>
-    ensures bytes { IfOk result (λ bytes. bytes.items ≡ frame_of (canon (failure_response number seq command.now Failure.Unsupported))) }
-    ensures reads_back { OnOk result (number ≤ max_seq → seq ≤ max_seq → length command.now ≤ max_command → Msg (canon (failure_response number seq command.now Failure.Unsupported)) (failure_response number seq command.now Failure.Unsupported)) }
+/// The failure of a request of the adapter, as it is written.
+fn failure_bytes(
+    alloc: Global,
+    number: u64,
+    seq: u64,
+    command: &Text,
+    failure: Failure,
+) -> Result<Vec<u8>, AllocError>
+    ensures bytes { IfOk result (λ bytes. bytes.items ≡ frame_of (canon (failure_response number seq command.now failure))) }
+    ensures reads_back { OnOk result (number ≤ max_seq → seq ≤ max_seq → length command.now ≤ max_command → Msg (canon (failure_response number seq command.now failure)) (failure_response number seq command.now failure)) }
 {
-    let text = write_failure(alloc, number, seq, command.as_str(), Failure::Unsupported)?;
+    let text = write_failure(alloc, number, seq, command.as_str(), failure)?;
     let mut bytes = Vec::new(alloc);
     write_frame(&mut bytes, &text)?;
     Ok(bytes)

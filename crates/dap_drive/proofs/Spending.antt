@@ -12,7 +12,8 @@ use Rattle.dap_message.specs.Command.{command_named}
 use Rattle.dap_message.specs.declared.message.Kind.{Kind}
 use Rattle.dap_message.specs.declared.message.Kind.TheVariants.{Request, Response, Event, Other}
 use Rattle.dap_message.specs.declared.message.Message.{Message}
-use Rattle.dap_tables.specs.Outstanding.{entry_with}
+use Rattle.dap_message.specs.Types.Failure.{Failure}
+use Rattle.dap_tables.specs.Outstanding.{contains_seq, entry_with}
 use Rattle.dap_tables.specs.declared.entry.Entry.{Entry}
 use Rattle.dap_client.specs.Calls.{Takes}
 use Rattle.dap_client.specs.Changes.{signal_named}
@@ -20,9 +21,9 @@ use Rattle.dap_client.specs.ClientState.{ClientState}
 use Rattle.dap_client.specs.declared.got.Got.{Got}
 use Rattle.dap_client.specs.Seen.{known_after, after_response, after_event}
 use Rattle.dap_client.specs.Session.{Session}
-use Rattle.dap_client.specs.Taking.{Made, takes, takes_as, takes_answer, answered_within, made_by_answer, made_by_refusing, made_without_writing, bytes_of}
+use Rattle.dap_client.specs.Taking.{Made, takes, takes_as, takes_answer, failure_in, request_from, keeps_or_declines, answered_within, made_by_answer, made_by_declining, made_by_keeping, made_without_writing, bytes_of}
 use Rattle.dap_client.specs.declared.fault.ClientFault.{ClientFault}
-use Rattle.dap_client.specs.declared.fault.ClientFault.TheVariants.{ReferenceLimit, CommandMismatch, SeqExhausted}
+use Rattle.dap_client.specs.declared.fault.ClientFault.TheVariants.{ReferenceLimit, CommandMismatch, RepeatedSeq, SeqExhausted}
 use Rattle.dap_drive.specs.PrivateHeld.{Spends}
 
 -- nothing is written
@@ -36,12 +37,22 @@ told_spends s made other none limits used given is_other is =
     let after : other ≡ made = cc (is_other, is) in
     subst (λ (z : Made). Spends s z.after 0 (length (bytes_of z))) after (silent s other none limits used)
 
-request_spends : (seq : ℕ) (command : List ℕ) (s : Session) (made : Made) (b : Bool) → nat_lt s.used s.limits.seq ≡ b → (if b then Ok (made_by_refusing seq command s) else Err SeqExhausted) ≡ Ok made → Spends s made.after 0 (length (bytes_of made))
-request_spends seq command s made true e is =
+-- a request of the adapter that is declined
+declined_spends : (seq : ℕ) (command : List ℕ) (failure : Failure) (s : Session) (made : Made) (b : Bool) → nat_lt s.used s.limits.seq ≡ b → (if b then Ok (made_by_declining seq command failure s) else Err SeqExhausted) ≡ Ok made → Spends s made.after 0 (length (bytes_of made))
+declined_spends seq command failure s made true e is =
     let below = ltb-true s.used s.limits.seq e in
-    let after : made_by_refusing seq command s ≡ made = cc is in
+    let after : made_by_declining seq command failure s ≡ made = cc is in
     subst (λ (z : Made). Spends s z.after 0 (length (bytes_of z))) after (record { limits = refl; more = omega (arith); some = λ h. omega (arith); within = λ h. omega (arith, below) })
-request_spends seq command s made false e is = absurd (cc is)
+declined_spends seq command failure s made false e is = absurd (cc is)
+
+-- or kept
+kept_spends : (failure : Option Failure) (request : Entry) (s : Session) (made : Made) → keeps_or_declines failure request s ≡ Ok made → Spends s made.after 0 (length (bytes_of made))
+kept_spends None request s made is = told_spends s made (made_by_keeping request s) refl refl refl (keeps_or_declines None request s) refl is
+kept_spends (Some failure) request s made is = declined_spends request.seq request.command failure s made (nat_lt s.used s.limits.seq) refl is
+
+request_spends : (b : Bool) (request : Entry) (s : Session) (made : Made) → (if b then Err (RepeatedSeq request.seq) else keeps_or_declines (failure_in request s) request s) ≡ Ok made → Spends s made.after 0 (length (bytes_of made))
+request_spends true request s made is = absurd (cc is)
+request_spends false request s made is = kept_spends (failure_in request s) request s made is
 
 within_spends : (request_seq : ℕ) (ok : Bool) (command : List ℕ) (body : Option Data) (s : Session) (made : Made) (b : Bool) → (if b then Ok (made_by_answer request_seq (after_response request_seq ok (command_named command) body s.seen) s) else Err ReferenceLimit) ≡ Ok made → Spends s made.after 0 (length (bytes_of made))
 within_spends request_seq ok command body s made true is =
@@ -58,7 +69,7 @@ answer_spends None request_seq ok command body s made is = absurd (cc is)
 answer_spends (Some r) request_seq ok command body s made is = match_spends request_seq ok command body s made (bytes_eq command r.command) is
 
 kind_spends : (seq : ℕ) (kind : Kind) (s : Session) (made : Made) → takes_as seq kind s ≡ Ok made → Spends s made.after 0 (length (bytes_of made))
-kind_spends seq (Request command arguments) s made is = request_spends seq command s made (nat_lt s.used s.limits.seq) refl is
+kind_spends seq (Request command arguments) s made is = request_spends (contains_seq seq s.incoming) (request_from seq command arguments) s made is
 kind_spends seq (Response request_seq ok command message body) s made is = answer_spends (entry_with request_seq s.outstanding) request_seq ok command body s made is
 kind_spends seq (Event event body) s made is = told_spends s made (made_without_writing (record s { seen = after_event (signal_named event) body s.seen })) refl refl refl (takes_as seq (Event event body) s) refl is
 kind_spends seq (Other tag) s made is = told_spends s made (made_without_writing s) refl refl refl (takes_as seq (Other tag) s) refl is

@@ -9,7 +9,7 @@ returns-in-Ok-clause-takes c =
     let new : ClientState = record { session = c.receive.new.session; intake = c.receive.new.reader.intake; fault = c.self.inside.fault } in
     let old : ClientState = record { session = c.self.inside.session; intake = c.self.inside.reader.intake; fault = c.self.inside.fault } in
     subst (λ (x : ClientState). Takes x c.args.piece.now c.in-Ok.got c.in-Ok.got.delivered new) c.self.view_is
-    (received c.histories_grow.ensures c.each_step_goes_on.ensures c.each_step_stays_within.ensures old new c.args.piece.now c.in-Ok.got c.in-Ok.got.delivered
+    (received c.read_is_in_range.ensures c.histories_grow.ensures c.each_step_goes_on.ensures c.each_step_stays_within.ensures old new c.args.piece.now c.in-Ok.got c.in-Ok.got.delivered
     c.in-Ok.ensures.bounds c.in-Ok.ensures.limits (none-met c.self.inside.fault c.in_default.not-Some) c.in-Ok.ensures.received)
 
 pub returns-in-Err-clause-refused : goal.returns-in-Err-clause-refused

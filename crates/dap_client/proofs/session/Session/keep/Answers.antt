@@ -17,5 +17,5 @@ invariant_of-self c =
     let bound = ap (λ (s : Session). s.limits.seq) c.self.view_is in
     let number = c.requires.number in
     let left = c.requires.left in
-    session-more inside.limits inside.known inside.outstanding c.put_in.new.outstanding inside.numbers c.next.new.self c.args.entry c.self.invariant
+    session-more inside.limits inside.known inside.outstanding c.put_in.new.outstanding inside.incoming inside.numbers c.next.new.self c.args.entry c.self.invariant
     c.put_in.ensures.kept c.put_in.ensures.orderly c.next.ensures.moves (number ∙ sym (ap (λ n. n + 1) was)) (omega arith)
