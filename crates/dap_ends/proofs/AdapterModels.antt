@@ -5,7 +5,7 @@ use Rattle.std.specs.List.{list_any}
 use Rattle.std.proofs.lemmas.List.{append-nil}
 use Rattle.std.proofs.lemmas.List.Elements.{filter-append}
 use Rattle.dap_ends.specs.Messages.{Command, Initialize, Launch, ConfigurationDone, Disconnect, Terminate, Cancel, Setter, Lookup, Resume, Pause, Inspect, Unserved, Ask, Response, code, is_disconnect, has_seq, one_if, count, answered_in, NoRequests, answer_each}
-use Rattle.dap_ends.specs.AdapterModel.{AdapterPhase, AdapterFresh, AdapterReady, AdapterConfigured, AdapterParked, AdapterRunning, AdapterStopped, AdapterExited, AdapterEnded, AdapterModel, Kept, Made, Answer, Fails, Succeeds, Tries, Parks, Starts_parked, Leaves, Happening, Stops, Continues, Exits, is_ended, is_parked_phase, asks, oldest, but_oldest, park_oldest, parked_of, unparked_of, is_named, requests_named, requests_not_named, answer_of, phase_after, events_after, phase_after_start, handled_as, after_turn, adapter_model_turns, keeps, cancels, takes_request, phase_after_happening, events_after_happening, adapter_model_polls}
+use Rattle.dap_ends.specs.AdapterModel.{AdapterPhase, AdapterFresh, AdapterReady, AdapterConfigured, AdapterParked, AdapterAsked, AdapterRunning, AdapterStopped, AdapterExited, AdapterEnded, AdapterModel, Kept, Made, Answer, Fails, Succeeds, Tries, Parks, Starts_parked, Leaves, Happening, Stops, Continues, Exits, is_ended, is_parked_phase, asks, oldest, but_oldest, park_oldest, parked_of, unparked_of, is_named, requests_named, requests_not_named, answer_of, phase_after, events_after, phase_after_start, handled_as, after_turn, adapter_model_turns, asks_terminal_as, after_asking_turn, ends_wait, keeps, cancels, takes_request, phase_after_happening, events_after_happening, adapter_model_polls}
 use Rattle.dap_ends.proofs.Counts.{count-append, answered_in-append, answered-each, answered-events, NoRequests-append, NoRequests-each, NoRequests-events}
 
 pub asks-append : (xs ys : List Kept) → asks (xs ++ ys) ≡ asks xs ++ asks ys
@@ -24,7 +24,7 @@ park-cases : (k : Kept) (ks : List Kept) (b : Bool) → asks (park_oldest ks) �
 park-cases k ks true h = ap (λ xs. k.ask ∷ xs) h
 park-cases k ks false h = refl
 
-park-asks : (ks : List Kept) → asks (park_oldest ks) ≡ asks ks
+pub park-asks : (ks : List Kept) → asks (park_oldest ks) ≡ asks ks
 park-asks [] = refl
 park-asks (k ∷ ks) = park-cases k ks k.parked (park-asks ks)
 
@@ -78,6 +78,7 @@ after-ended AdapterConfigured Launch true = refl
 after-ended AdapterConfigured Launch false = refl
 after-ended AdapterConfigured _ ok = refl
 after-ended AdapterParked c ok = refl
+after-ended AdapterAsked c ok = refl
 after-ended AdapterRunning Terminate ok = refl
 after-ended AdapterRunning _ ok = refl
 after-ended AdapterStopped Terminate ok = refl
@@ -96,6 +97,7 @@ after-parked AdapterConfigured Launch true = refl
 after-parked AdapterConfigured Launch false = refl
 after-parked AdapterConfigured _ ok = refl
 after-parked AdapterParked c ok = refl
+after-parked AdapterAsked c ok = refl
 after-parked AdapterRunning Terminate ok = refl
 after-parked AdapterRunning _ ok = refl
 after-parked AdapterStopped Terminate ok = refl
@@ -134,8 +136,13 @@ parks-parked : (c : Command) → Parks ≡ answer_of AdapterParked c → is_park
 parks-parked Launch e = cc
 parks-parked _ e = cc
 
+parks-asked : (c : Command) → Parks ≡ answer_of AdapterAsked c → is_parked_phase AdapterAsked ≡ false
+parks-asked Launch e = cc
+parks-asked _ e = cc
+
 parks-phase : (p : AdapterPhase) (c : Command) → Parks ≡ answer_of p c → is_parked_phase p ≡ false
 parks-phase AdapterParked c e = parks-parked c e
+parks-phase AdapterAsked c e = parks-asked c e
 parks-phase _ c e = refl
 
 pub phase_after_happening-ended : (p : AdapterPhase) (x : Happening) → is_ended (phase_after_happening p x) ≡ is_ended p
@@ -149,6 +156,7 @@ phase_after_happening-ended AdapterFresh x = refl
 phase_after_happening-ended AdapterReady x = refl
 phase_after_happening-ended AdapterConfigured x = refl
 phase_after_happening-ended AdapterParked x = refl
+phase_after_happening-ended AdapterAsked x = refl
 phase_after_happening-ended AdapterExited x = refl
 phase_after_happening-ended AdapterEnded x = refl
 
@@ -163,10 +171,11 @@ phase_after_happening-parked AdapterFresh x = refl
 phase_after_happening-parked AdapterReady x = refl
 phase_after_happening-parked AdapterConfigured x = refl
 phase_after_happening-parked AdapterParked x = refl
+phase_after_happening-parked AdapterAsked x = refl
 phase_after_happening-parked AdapterExited x = refl
 phase_after_happening-parked AdapterEnded x = refl
 
--- one parked request in the phase Parked, and none in another
+-- one parked request in the phases Parked and Asked, and none in another
 abbrev pub IsParkedRight : AdapterModel → Type 0
 IsParkedRight d = length (parked_of d.kept) ≡ one_if (is_parked_phase d.phase)
 
@@ -252,6 +261,58 @@ steady-poll d x f k =
       parked = rw (phase_after_happening-parked d.phase x) k;
       leaving = λ l. inl (sym (phase_after_happening-ended d.phase x) ∙ l);
     }
+
+steady-nothing : (d : AdapterModel) → d.fault ≡ None → IsParkedRight d → Steady d [] (record { desk = d; outs = [] })
+steady-nothing d f k = record { balance = λ p. omega arith; down = tt; fine = f; parked = k; leaving = λ l. inl l }
+
+-- a launch that asks for a terminal is parked
+steady-launch-asks : (d : AdapterModel) (a : Ask) → is_parked_phase d.phase ≡ false → oldest d.kept ≡ Some a → d.fault ≡ None → IsParkedRight d → Steady d [] (record { desk = record d { kept = park_oldest d.kept; phase = AdapterAsked }; outs = [] })
+steady-launch-asks d a n o f k =
+    record {
+      balance = λ p. rw (park-asks d.kept) (omega arith);
+      down = tt;
+      fine = f;
+      parked = let none : length (parked_of d.kept) ≡ 0 = k ∙ ap one_if n in let h = park-parked d.kept a o in omega arith;
+      leaving = λ l. absurd (let z : false ≡ true = l in cc);
+    }
+
+-- configurationDone behind such a launch is answered
+steady-done-asks : (d : AdapterModel) (a : Ask) → is_parked_phase d.phase ≡ true → oldest d.kept ≡ Some a → d.fault ≡ None → IsParkedRight d → Steady d [] (record { desk = record d { kept = but_oldest d.kept; phase = AdapterAsked }; outs = Response a true ∷ [] })
+steady-done-asks d a n o f k =
+    record {
+      balance = λ p. let h = oldest-balance p d.kept a o in omega arith;
+      down = (tt, tt);
+      fine = f;
+      parked = rw (but-parked d.kept) (k ∙ ap one_if n);
+      leaving = λ l. absurd (let z : false ≡ true = l in cc);
+    }
+
+steady-asks_terminal_as : (p : AdapterPhase) (c : Command) (d : AdapterModel) (a : Ask) → d.phase ≡ p → oldest d.kept ≡ Some a → d.fault ≡ None → IsParkedRight d → Steady d [] (asks_terminal_as p c d a)
+steady-asks_terminal_as AdapterConfigured Launch d a e o f k = steady-launch-asks d a (ap is_parked_phase e) o f k
+steady-asks_terminal_as AdapterParked ConfigurationDone d a e o f k = steady-done-asks d a (ap is_parked_phase e) o f k
+steady-asks_terminal_as AdapterConfigured _ d a e o f k = steady-nothing d f k
+steady-asks_terminal_as AdapterParked _ d a e o f k = steady-nothing d f k
+steady-asks_terminal_as _ c d a e o f k = steady-nothing d f k
+
+steady-after_asking_turn : (o : Option Ask) (d : AdapterModel) → oldest d.kept ≡ o → d.fault ≡ None → IsParkedRight d → Steady d [] (after_asking_turn o d)
+steady-after_asking_turn None d o f k = steady-nothing d f k
+steady-after_asking_turn (Some a) d o f k = steady-asks_terminal_as d.phase a.command d a refl o f k
+
+-- a turn that asks for a terminal
+pub steady-asks : (d : AdapterModel) → d.fault ≡ None → IsParkedRight d → Steady d [] (after_asking_turn (oldest d.kept) d)
+steady-asks d f k = steady-after_asking_turn (oldest d.kept) d refl f k
+
+-- the terminal is answered
+pub steady-ends_wait : (p : AdapterPhase) (d : AdapterModel) (ok : Bool) → d.fault ≡ None → IsParkedRight d → Steady d [] (ends_wait p d ok)
+steady-ends_wait AdapterAsked d ok f k =
+    record {
+      balance = λ p. let g = part p (λ x. x.parked) d.kept in rw (answered-each ok (asks (parked_of d.kept))) (omega arith);
+      down = NoRequests-each ok (asks (parked_of d.kept));
+      fine = f;
+      parked = rw (unparked-none d.kept, phase_after_start-parked ok) refl;
+      leaving = λ l. absurd (let z : false ≡ true = sym (phase_after_start-ended ok) ∙ l in cc);
+    }
+steady-ends_wait _ d ok f k = steady-nothing d f k
 
 keeps-cases : (b : Bool) (d : AdapterModel) (a : Ask) → d.fault ≡ None → IsParkedRight d → Steady d (a ∷ []) (if b then record { desk = record d { kept = d.kept ++ record { ask = a; parked = false } ∷ [] }; outs = [] } else record { desk = d; outs = Response a false ∷ [] })
 keeps-cases true d a f k =

@@ -1,8 +1,8 @@
 -- What both ends write keeps the rules of a transcript: what a call of the adapter writes.
 use Rattle.std.proofs.Common.{◌≡◌, ℕ, ◌+◌, ◌<◌, ◌≤◌, List, [], ◌∷◌, ◌++◌, Bool, true, false, refl, sym, ◌∙◌, arith}
 use Rattle.std.specs.Prelude.{◌==◌, ◌&&◌, ◌||◌}
-use Rattle.dap_ends.specs.Messages.{Command, Initialize, Launch, ConfigurationDone, Disconnect, Terminate, Cancel, Setter, Lookup, Resume, Pause, Inspect, Unserved, Ask, Kind, Message, Request, Response, Event, one_if, code, count, has_seq, is_same, is_disconnect, answered_in, NoRequests, answer_each, events_of}
-use Rattle.dap_ends.specs.AdapterModel.{AdapterModel, Made, Kept, Answer, Fails, Succeeds, Tries, Parks, Starts_parked, Leaves, Happening, Nothing, Output, Stops, Continues, Exits, asks, but_oldest, parked_of, answer_of, events_after, handled_as, is_ended, events_after_happening, AdapterPhase, AdapterFresh, AdapterReady, AdapterConfigured, AdapterParked, AdapterRunning, AdapterStopped, AdapterExited, AdapterEnded}
+use Rattle.dap_ends.specs.Messages.{Command, Initialize, Disconnect, Terminate, Ask, Kind, Message, Request, Response, Event, one_if, code, count, has_seq, is_same, is_disconnect, answered_in, NoRequests, answer_each, events_of}
+use Rattle.dap_ends.specs.AdapterModel.{AdapterModel, Made, Kept, Answer, Fails, Succeeds, Tries, Parks, Starts_parked, Leaves, Happening, Nothing, Output, Stops, Continues, Exits, asks, but_oldest, parked_of, answer_of, events_after, handled_as, is_ended, events_after_happening, AdapterPhase, AdapterFresh, AdapterReady, AdapterConfigured, AdapterParked, AdapterAsked, AdapterRunning, AdapterStopped, AdapterExited, AdapterEnded}
 use Rattle.dap_ends.specs.ClientModel.{requests_without}
 use Rattle.dap_ends.specs.Standing.{is_initialize, AllLaunch}
 use Rattle.dap_ends.specs.Transcript.{open_after, AnswersOpen, begun_next, begun_after, BegunFirst, closed_next, closed_after, NothingAfter}
@@ -109,11 +109,13 @@ no-disconnect x p a e n = by (is_disconnect a) refl
     by true k = absurd (n (e ∙ leaves p a.command k))
     by false k = refl
 
-launch-disconnects : (ks : List Kept) → AllLaunch ks → count is_disconnect (asks ks) ≡ 0
+-- no parked request is a disconnect
+pub launch-disconnects : (ks : List Kept) → AllLaunch ks → count is_disconnect (asks ks) ≡ 0
 launch-disconnects [] h = refl
 launch-disconnects (k ∷ ks) h = let z = launch-disconnects ks h.1 in rw (h.0, z) refl
 
-one-response : (ok : Bool) (a : Ask) (d : AdapterModel) → is_disconnect a ≡ false → Settles (record { desk = d; outs = Response a ok ∷ [] })
+-- one response that is no disconnect's
+pub one-response : (ok : Bool) (a : Ask) (d : AdapterModel) → is_disconnect a ≡ false → Settles (record { desk = d; outs = Response a ok ∷ [] })
 one-response ok a d e =
     let z = closed-one ok a e in
     record { nothing = (refl, tt); closed = λ k. absurd (true-false (sym k ∙ z)); begun = λ b. (tt, tt) }
@@ -170,5 +172,6 @@ settles-poll p d x =
     polled AdapterReady x b = tt
     polled AdapterConfigured x b = tt
     polled AdapterParked x b = tt
+    polled AdapterAsked x b = tt
     polled AdapterExited x b = tt
     polled AdapterEnded x b = tt

@@ -1,21 +1,22 @@
 -- Each step keeps the rules of a transcript.
-use Rattle.std.proofs.Common.{◌≡◌, ℕ, ◌+◌, List, [], ◌∷◌, ◌++◌, Bool, true, false, refl, sym, ap, ◌∙◌, subst, arith, length, inl, inr, Option, Some, None}
+use Rattle.std.proofs.Common.{◌≡◌, ℕ, ◌+◌, ◌≤◌, List, [], ◌∷◌, ◌++◌, Bool, true, false, refl, sym, ap, ◌∙◌, subst, arith, length, inl, inr, Option, Some, None}
 use Rattle.std.specs.Prelude.{◌⊎◌, ◌==◌, ◌&&◌, ◌||◌, if◌then◌else◌, nat_lt}
 use Rattle.std.specs.List.{list_any}
 use Rattle.std.proofs.lemmas.List.{append-nil}
 use Rattle.std.proofs.lemmas.List.Elements.{filter-append}
-use Rattle.dap_ends.specs.Messages.{Ask, Kind, Message, Request, Response, Event, one_if, code, count, has_seq, is_same, is_disconnect, requests_in, answered_in, AllRequests, NoRequests, answer_each}
-use Rattle.dap_ends.specs.AdapterModel.{AdapterModel, Made, Kept, Happening, asks, oldest, parked_of, requests_named, requests_not_named, answer_of, after_turn, adapter_model_turns, adapter_model_polls, takes_request, cancels, keeps, is_ended as has_left, AdapterPhase, AdapterFresh, AdapterReady, AdapterConfigured, AdapterParked, AdapterRunning, AdapterStopped, AdapterExited, AdapterEnded}
-use Rattle.dap_ends.specs.ClientModel.{ClientModel, Phase, Fresh, Initializing, Configuring, Running, Stopped, Resuming, Exited, Ended, answered_phase, event_phase, takes_response, client_model_takes}
-use Rattle.dap_ends.specs.World.{comes_up, Turn, Poll, after_adapter, Agree}
+use Rattle.dap_ends.specs.Messages.{Command, Launch, ConfigurationDone, Ask, Kind, Message, Request, Response, Event, one_if, code, count, has_seq, is_same, is_disconnect, requests_in, answered_in, AllRequests, NoRequests, answer_each}
+use Rattle.dap_ends.specs.AdapterModel.{AdapterModel, Made, Kept, Happening, asks, oldest, parked_of, requests_named, requests_not_named, answer_of, after_turn, adapter_model_turns, adapter_model_polls, but_oldest, park_oldest, asks_terminal_as, after_asking_turn, ends_wait, takes_request, cancels, keeps, is_ended as has_left, AdapterPhase, AdapterFresh, AdapterReady, AdapterConfigured, AdapterParked, AdapterAsked, AdapterRunning, AdapterStopped, AdapterExited, AdapterEnded}
+use Rattle.dap_ends.specs.ClientModel.{ClientModel, Phase, Fresh, Initializing, Configuring, answered_phase, event_phase, takes_response, client_model_takes}
+use Rattle.dap_ends.specs.World.{comes_up, Turn, Poll, AskTerminal, EndWait, after_adapter, Agree}
 use Rattle.dap_ends.specs.Standing.{is_initialize, AllLaunch}
 use Rattle.dap_ends.specs.Transcript.{messages_of_delivery, WorldWithTranscript, transcript_step, open_next, open_after, AnswersOpen, begun_after, BegunFirst, closed_after, NothingAfter, sent_next, sent_after, heard_next, heard_after, AllInOrder}
 use Rattle.dap_ends.proofs.Counts.{count-append, answered_in-append, none-counted, eqb-self, eqb-same, not-true}
-use Rattle.dap_ends.proofs.AdapterModels.{Steady, steady-turn, steady-poll, steady-take, requests_not_named-parked}
+use Rattle.dap_ends.proofs.AdapterModels.{Steady, steady-turn, steady-asks, steady-ends_wait, steady-poll, steady-take, requests_not_named-parked, but-parked, unparked-none}
 use Rattle.dap_ends.proofs.Agrees.{after-step}
+use Rattle.dap_ends.proofs.Queues.{launch-parks}
 use Rattle.dap_ends.proofs.TurnKeeps.{launches-after, parks-code}
 use Rattle.dap_ends.proofs.DownKeeps.{took, answered}
-use Rattle.dap_ends.proofs.TranscriptMessages.{Settles, answers, nothing-append, closed-append, begun-append, first-append, each-nothing, each-begun, settles-handled, settles-poll}
+use Rattle.dap_ends.proofs.TranscriptMessages.{Settles, answers, nothing-append, closed-append, begun-append, first-append, each-nothing, each-begun, settles-handled, settles-poll, one-response, launch-disconnects}
 
 true-false : true ≡ false → ⊥
 true-false e = cc
@@ -47,9 +48,9 @@ pub record Tells (n : ℕ) (t : WorldWithTranscript) : Type 0 where
   pub first : BegunFirst false t.written
   pub closed : closed_after false t.written ≡ true → (has_left t.world.desk.phase ≡ true) × (t.world.desk.kept ≡ [])
   pub nothing : NothingAfter false t.written
-  pub fresh : t.world.seat.last ≡ 0 → t.world.seat.phase ≡ Fresh
-  pub sent : sent_after 0 t.written ≡ t.world.seat.last
-  pub heard : heard_after false t.written ≡ false → (count (λ a. true) (answered_in t.world.down) ≡ 0) × (((t.world.seat.phase ≡ Fresh) × (t.world.seat.last ≡ 0)) ⊎ ((t.world.seat.phase ≡ Initializing) × (t.world.seat.last ≡ 1)))
+  pub sent : sent_after 0 t.written ≤ t.world.seat.last
+  pub fresh : sent_after 0 t.written ≡ 0 → t.world.seat.phase ≡ Fresh
+  pub heard : heard_after false t.written ≡ false → (count (λ a. true) (answered_in t.world.down) ≡ 0) × (((t.world.seat.phase ≡ Fresh) × (sent_after 0 t.written ≡ 0)) ⊎ ((t.world.seat.phase ≡ Initializing) × (sent_after 0 t.written ≡ 1)))
   pub order : AllInOrder 0 false t.written
 
 -- unanswered after two lists
@@ -132,6 +133,7 @@ told-after_adapter n t came up m g a s u e l c =
     let ms = t.written in
     let ns = m.outs in
     let b = closed_after false ms in
+    let same : sent_after 0 (ms ++ ns) ≡ sent_after 0 ms = sent-append 0 ms ns ∙ sent-same (sent_after 0 ms) ns s.down in
     let told = answers ns (open_after [] ms) (λ p. count p (requests_in up) + count p (asks m.desk.kept)) s.down
     (λ p. let h = g.unanswered p in let k = s.balance p in let j = u p in omega arith)
     (λ q. let h = g.unanswered (has_seq q) in let k = g.agree.place (has_seq q) in let o = g.agree.once q in omega arith) in
@@ -152,12 +154,12 @@ told-after_adapter n t came up m g a s u e l c =
       nothing =
           nothing-append false ms ns g.nothing
           (by-flag b (λ y. subst (λ (xs : List Message). NothingAfter b xs) (sym (c y).0) tt) (λ y. subst (λ (x : Bool). NothingAfter x ns) (sym y) e.nothing));
-      fresh = g.fresh;
-      sent = sent-append 0 ms ns ∙ sent-same (sent_after 0 ms) ns s.down ∙ g.sent;
+      sent = let h = g.sent in omega arith;
+      fresh = λ z. g.fresh (sym same ∙ z);
       heard =
           λ k.
           let z = heard-none (heard_after false ms) ns (sym (heard-append false ms ns) ∙ k) in
-          let h = g.heard z.0 in let q = answered-append w.down ns in let i = h.0 in let j = z.1 in (omega arith, h.1);
+          let h = g.heard z.0 in let q = answered-append w.down ns in let i = h.0 in let j = z.1 in (omega arith, elim h.1 [ inl x ↦ inl (x.0, same ∙ x.1) | inr x ↦ inr (x.0, same ∙ x.1) ]);
       order = order-append 0 false ms ns g.order (order-same (sent_after 0 ms) (heard_after false ms) ns s.down);
     }
 
@@ -173,7 +175,8 @@ turn-settles None d ok o l = (settles-none d, l)
 turn-settles (Some a) d ok o l =
     (settles-handled (answer_of d.phase a.command) d a ok refl l, launches-after (answer_of d.phase a.command) d a ok o (parks-code a.command d.phase) l)
 
-quiet-turn : (d : AdapterModel) (ok : Bool) → d.kept ≡ [] → adapter_model_turns d ok ≡ record { desk = d; outs = [] }
+-- a turn with nothing kept
+pub quiet-turn : (d : AdapterModel) (ok : Bool) → d.kept ≡ [] → adapter_model_turns d ok ≡ record { desk = d; outs = [] }
 quiet-turn d ok e = ap (λ (ks : List Kept). after_turn (oldest ks) d ok) e
 
 -- a turn keeps the rules
@@ -191,6 +194,7 @@ left-polls d x AdapterFresh e h = absurd (true-false (sym h))
 left-polls d x AdapterReady e h = absurd (true-false (sym h))
 left-polls d x AdapterConfigured e h = absurd (true-false (sym h))
 left-polls d x AdapterParked e h = absurd (true-false (sym h))
+left-polls d x AdapterAsked e h = absurd (true-false (sym h))
 left-polls d x AdapterRunning e h = absurd (true-false (sym h))
 left-polls d x AdapterStopped e h = absurd (true-false (sym h))
 left-polls d x AdapterExited e h = absurd (true-false (sym h))
@@ -201,6 +205,54 @@ told-poll n t x g =
     let d = t.world.desk in
     told-after_adapter n t [] t.world.up (adapter_model_polls d x) g (after-step n t.world (Poll x) g.agree) (steady-poll d x g.agree.desk_fine g.agree.parked) (λ p. omega arith) (settles-poll d.phase (adapter_model_polls d x).desk x) g.launches
     (λ c. let k = g.closed c in let e = left-polls d x d.phase refl k.0 in (ap (λ (m : Made). m.outs) e, ap (λ (m : Made). has_left m.desk.phase) e ∙ k.0, k.1))
+
+-- a turn that asks for a terminal
+asks_terminal_as-settles : (p : AdapterPhase) (c : Command) (d : AdapterModel) (a : Ask) → a.command ≡ c → oldest d.kept ≡ Some a → AllLaunch (parked_of d.kept) → Settles (asks_terminal_as p c d a) × AllLaunch (parked_of (asks_terminal_as p c d a).desk.kept)
+asks_terminal_as-settles AdapterConfigured Launch d a e o l = (settles-none (record d { kept = park_oldest d.kept; phase = AdapterAsked }), launch-parks d.kept a (ap code e) o l)
+asks_terminal_as-settles AdapterParked ConfigurationDone d a e o l = (
+  one-response true a (record d { kept = but_oldest d.kept; phase = AdapterAsked }) (ap (λ (c : Command). code c == 3) e),
+  rw (but-parked d.kept) l,
+)
+asks_terminal_as-settles AdapterConfigured _ d a e o l = (settles-none d, l)
+asks_terminal_as-settles AdapterParked _ d a e o l = (settles-none d, l)
+asks_terminal_as-settles _ c d a e o l = (settles-none d, l)
+
+after_asking_turn-settles : (o : Option Ask) (d : AdapterModel) → oldest d.kept ≡ o → AllLaunch (parked_of d.kept) → Settles (after_asking_turn o d) × AllLaunch (parked_of (after_asking_turn o d).desk.kept)
+after_asking_turn-settles None d o l = (settles-none d, l)
+after_asking_turn-settles (Some a) d o l = asks_terminal_as-settles d.phase a.command d a refl o l
+
+-- the same where it asks
+pub quiet-asks : (d : AdapterModel) → d.kept ≡ [] → after_asking_turn (oldest d.kept) d ≡ record { desk = d; outs = [] }
+quiet-asks d e = ap (λ (ks : List Kept). after_asking_turn (oldest ks) d) e
+
+-- it keeps the rules
+pub told-asks : (n : ℕ) (t : WorldWithTranscript) → Tells n t → Tells n (transcript_step n t AskTerminal)
+told-asks n t g =
+    let d = t.world.desk in
+    let h = after_asking_turn-settles (oldest d.kept) d refl g.launches in
+    told-after_adapter n t [] t.world.up (after_asking_turn (oldest d.kept) d) g (after-step n t.world AskTerminal g.agree) (steady-asks d g.agree.desk_fine g.agree.parked) (λ p. omega arith) h.0 h.1
+    (λ c. let k = g.closed c in let e = quiet-asks d k.1 in (ap (λ (m : Made). m.outs) e, ap (λ (m : Made). has_left m.desk.phase) e ∙ k.0, ap (λ (m : Made). m.desk.kept) e ∙ k.1))
+
+-- the terminal is answered
+ends_wait-settles : (p : AdapterPhase) (d : AdapterModel) (ok : Bool) → AllLaunch (parked_of d.kept) → Settles (ends_wait p d ok) × AllLaunch (parked_of (ends_wait p d ok).desk.kept)
+ends_wait-settles AdapterAsked d ok l =
+    let h = each-nothing ok (asks (parked_of d.kept)) (λ y. launch-disconnects (parked_of d.kept) l) in (
+      record { nothing = h.0; closed = λ k. absurd (true-false (sym k ∙ h.1)); begun = λ b. each-begun b ok (asks (parked_of d.kept)) },
+      rw (unparked-none d.kept) tt,
+    )
+ends_wait-settles _ d ok l = (settles-none d, l)
+
+left-ends_wait : (d : AdapterModel) (ok : Bool) (p : AdapterPhase) → d.phase ≡ p → has_left p ≡ true → ends_wait d.phase d ok ≡ record { desk = d; outs = [] }
+left-ends_wait d ok AdapterEnded e h = rw e refl
+left-ends_wait d ok _ e h = absurd (true-false (sym h))
+
+-- it keeps the rules
+pub told-ends_wait : (n : ℕ) (t : WorldWithTranscript) (ok : Bool) → Tells n t → Tells n (transcript_step n t (EndWait ok))
+told-ends_wait n t ok g =
+    let d = t.world.desk in
+    let h = ends_wait-settles d.phase d ok g.launches in
+    told-after_adapter n t [] t.world.up (ends_wait d.phase d ok) g (after-step n t.world (EndWait ok) g.agree) (steady-ends_wait d.phase d ok g.agree.desk_fine g.agree.parked) (λ p. omega arith) h.0 h.1
+    (λ c. let k = g.closed c in let e = left-ends_wait d ok d.phase refl k.0 in (ap (λ (m : Made). m.outs) e, ap (λ (m : Made). has_left m.desk.phase) e ∙ k.0, ap (λ (m : Made). m.desk.kept) e ∙ k.1))
 
 -- a request comes
 abbrev UpSettles : Made → Type 0
@@ -266,7 +318,8 @@ next-before Initializing q a ok e h = fails (is_initialize a) ok e
 next-before Configuring q a ok e h = absurd (true-false (sym h))
 next-before _ q a ok e h = absurd (true-false (sym h))
 
-event-before : (p : Phase) (k : Kind) → is_before p ≡ true → event_phase p k ≡ p
+-- before an initialize has succeeded no event changes the phase
+pub event-before : (p : Phase) (k : Kind) → is_before p ≡ true → event_phase p k ≡ p
 event-before Fresh k h = refl
 event-before Initializing k h = refl
 event-before _ k h = absurd (true-false (sym h))
@@ -283,14 +336,14 @@ told-takes n t m ms s e g a l b f h =
       first = g.first;
       closed = g.closed;
       nothing = g.nothing;
-      fresh = λ z. f (g.fresh (sym l ∙ z));
-      sent = g.sent ∙ sym l;
+      sent = let h = g.sent in omega arith;
+      fresh = λ z. f (g.fresh z);
       heard =
           λ k.
           let z = g.heard k in
           let none : count (λ a. true) (answered_in (m ∷ ms)) ≡ 0 = subst (λ (xs : List Message). count (λ a. true) (answered_in xs) ≡ 0) e z.0 in
           let y = h none in
-          (y.0, elim z.1 [ inl x ↦ inl (y.1 (ap is_before x.0) ∙ x.0, l ∙ x.1) | inr x ↦ inr (y.1 (ap is_before x.0) ∙ x.0, l ∙ x.1) ]);
+          (y.0, elim z.1 [ inl x ↦ inl (y.1 (ap is_before x.0) ∙ x.0, x.1) | inr x ↦ inr (y.1 (ap is_before x.0) ∙ x.0, x.1) ]);
       order = g.order;
     }
 

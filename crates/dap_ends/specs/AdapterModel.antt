@@ -9,6 +9,7 @@ pub data AdapterPhase : Type 0 where
   AdapterReady : AdapterPhase
   AdapterConfigured : AdapterPhase
   AdapterParked : AdapterPhase
+  AdapterAsked : AdapterPhase
   AdapterRunning : AdapterPhase
   AdapterStopped : AdapterPhase
   AdapterExited : AdapterPhase
@@ -18,6 +19,7 @@ pub data AdapterPhase : Type 0 where
 pub data DeskFault : Type 0 where
   RepeatedSeq : DeskFault
   UnmatchedResponse : DeskFault
+  MismatchedResponse : DeskFault
   RequestAfterEnd : DeskFault
 
 -- a kept request, and whether it is parked
@@ -45,9 +47,10 @@ abbrev pub is_ended : AdapterPhase → Bool
 is_ended AdapterEnded = true
 is_ended _ = false
 
--- whether it waits for configurationDone with a launch parked
+-- whether a launch is parked: it waits for configurationDone, or for a terminal
 abbrev pub is_parked_phase : AdapterPhase → Bool
 is_parked_phase AdapterParked = true
+is_parked_phase AdapterAsked = true
 is_parked_phase _ = false
 
 -- the requests without their marks
@@ -165,6 +168,28 @@ after_turn (Some a) d ok = handled_as (answer_of d.phase a.command) d a ok
 -- a turn of an end without a fault
 abbrev pub adapter_model_turns : AdapterModel → Bool → Made
 adapter_model_turns d ok = after_turn (oldest d.kept) d ok
+
+-- whether the oldest that waits would start the debuggee in this phase: a launch, or configurationDone behind one
+abbrev pub would_start : AdapterPhase → Command → Bool
+would_start AdapterConfigured Launch = true
+would_start AdapterParked ConfigurationDone = true
+would_start _ _ = false
+
+-- a turn in which that launch asks for a terminal instead: it is parked, configurationDone is answered
+abbrev pub asks_terminal_as : AdapterPhase → Command → AdapterModel → Ask → Made
+asks_terminal_as AdapterConfigured Launch d a = record { desk = record d { kept = park_oldest d.kept; phase = AdapterAsked }; outs = [] }
+asks_terminal_as AdapterParked ConfigurationDone d a = record { desk = record d { kept = but_oldest d.kept; phase = AdapterAsked }; outs = Response a true ∷ [] }
+asks_terminal_as _ _ d a = record { desk = d; outs = [] }
+
+-- the same by the oldest that waits
+abbrev pub after_asking_turn : Option Ask → AdapterModel → Made
+after_asking_turn None d = record { desk = d; outs = [] }
+after_asking_turn (Some a) d = asks_terminal_as d.phase a.command d a
+
+-- the terminal is answered: the debuggee starts, or does not, and the parked launch is answered
+abbrev pub ends_wait : AdapterPhase → AdapterModel → Bool → Made
+ends_wait AdapterAsked d ok = record { desk = record d { kept = unparked_of d.kept; phase = phase_after_start ok }; outs = answer_each ok (asks (parked_of d.kept)) }
+ends_wait _ d ok = record { desk = d; outs = [] }
 
 -- how a request is taken
 abbrev pub fails_with : AdapterModel → DeskFault → Made

@@ -19,6 +19,7 @@ pub data SeatFault : Type 0 where
   Unmatched : SeatFault
   CommandMismatch : SeatFault
   UnexpectedRequest : SeatFault
+  RepeatedRequest : SeatFault
   ReferenceLimit : SeatFault
 
 -- `resumer` is the number of the request that made the phase Resuming
