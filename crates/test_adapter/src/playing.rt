@@ -72,6 +72,7 @@ impl Seen {
         Seen {
             counts: Counts {
                 waiting: adapter.kept(),
+                reverse: 0,
                 references: adapter.references(),
                 breakpoints: adapter.breakpoints(),
                 held: adapter.held(),

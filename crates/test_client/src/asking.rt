@@ -3,22 +3,24 @@
 //! | a line | says |
 //! |---|---|
 //! | `send COMMAND`, `send COMMAND JSON` | this call is sent, with the arguments that the JSON is |
+//! | `answer N no`, `answer N ok`, `answer N ok P`, `answer N ok P S` | the request N of the adapter is answered: the terminal refused; or it started, with the numbers of the process and of the shell |
 //! | `< BODY` | this message comes, and is delivered |
 //! | `> BODY` | the client writes this message next, for the last of those |
-//! | `! FAULT` | the last of those was refused with this fault: a call, and nothing has changed; a message, and the client is closed, so that it answers this fault to any piece, and `Ended` to any call; nothing is held then, and all else is as it was right before that piece |
+//! | `! FAULT` | the last of those was refused with this fault: a call or an answer, and nothing has changed; a message, and the client is closed, so that it answers this fault to any piece, and `Ended` to any call and answer; nothing is held then, and all else is as it was right before that piece |
 //! | `bytes N TEXT` | the bytes of this JSON text come, and so many messages are delivered |
-//! | `phase P`, `outstanding N`, `references N`, `held N`, `ready`, `not ready` | what the client knows, until the row says otherwise |
+//! | `phase P`, `outstanding N`, `incoming N`, `references N`, `held N`, `ready`, `not ready` | what the client knows, until the row says otherwise |
+//! | `oldest N`, `oldest none` | the oldest request of the adapter that is kept |
 //! | `free of memory` | from here on no call takes memory, so that one which is refused any is wrong |
 //!
 //! At each call all that the last one wrote has to be named, and as many requests are outstanding as were sent and not
 //! answered. A call that is refused memory changes nothing, and a piece that is closes the client too.
 
-use dap_client::{Client, ClientFault, Phase, SendFault};
+use dap_client::{AnswerFault, Client, ClientFault, Phase, SendFault, Terminal};
 use dap_message::{Call, CallFault, Capabilities, Command, read_call};
 use serde_json::Value;
 use std::alloc::{AllocError, Global};
 use std::marker::Model;
-use test_kit::bodies::{body_of, frame_with_next, is_response};
+use test_kit::bodies::{body_of, frame_with_next, is_response, word_at};
 use test_kit::facts::{Counts, Facts, is_printed, tell};
 use test_kit::given::{Given, note, wrong};
 use test_kit::json::{text_of, value_of};
@@ -30,6 +32,7 @@ use test_kit::words::{Counted, Word, parts, word_named};
 #[derive(Clone, Copy, Debug, PartialEq, Eq)]
 enum Refusal {
     Send(SendFault),
+    Answer(AnswerFault),
     Take(ClientFault),
 }
 
@@ -47,6 +50,7 @@ impl Seen {
         Seen {
             counts: Counts {
                 waiting: client.outstanding(),
+                reverse: client.incoming(),
                 references: client.references(),
                 breakpoints: 0,
                 held: client.held(),
@@ -108,6 +112,18 @@ fn phase_named(name: &str) -> Option<Phase> {
     match PHASES.iter().find(|phase| phase.0 == name) {
         Some(phase) => Some(phase.1),
         None => None,
+    }
+}
+
+/// The terminal that the words behind a number are.
+fn terminal_of(words: &str) -> Option<Terminal> {
+    match word_at(words, 1) {
+        "ok" => Some(Terminal::Started {
+            process_id: word_at(words, 2).parse::<u32>().ok(),
+            shell_process_id: word_at(words, 3).parse::<u32>().ok(),
+        }),
+        "no" => Some(Terminal::Refused),
+        _ => None,
     }
 }
 
@@ -235,6 +251,53 @@ impl Asking {
         }
     }
 
+    /// Answers a request of the adapter.
+    fn answer_with(
+        &mut self,
+        alloc: Global,
+        seq: u64,
+        terminal: Terminal,
+    ) -> Result<Outcome, AnswerFault> {
+        if !terminal.plain() {
+            return Ok(Outcome::Wrong);
+        }
+        self.before = self.seen();
+        match self.client.answer(alloc, seq, terminal) {
+            Ok(bytes) => {
+                let added = self.given.add(&bytes);
+                // The proof of a call is shorter than that of a value that goes out of scope.
+                drop(bytes);
+                Ok(Outcome::of_added(added))
+            }
+            Err(fault) => Err(fault),
+        }
+    }
+
+    /// Answers the request that these words name.
+    fn answer(&mut self, alloc: Global, words: &str) -> Result<Outcome, AnswerFault> {
+        match (word_at(words, 0).parse::<u64>(), terminal_of(words)) {
+            (Ok(seq), Some(terminal)) => self.answer_with(alloc, seq, terminal),
+            _ => Ok(Outcome::Wrong),
+        }
+    }
+
+    /// What comes of it. A refusal is kept for the line that names it.
+    fn answers(&mut self, alloc: Global, words: &str, came: &mut String) -> Outcome {
+        match self.answer(alloc, words) {
+            Ok(Outcome::Wrong) => wrong(came, "these words are no answer"),
+            Ok(outcome) => outcome,
+            Err(fault) if self.seen() != self.before => {
+                tell(came, &fault);
+                wrong(came, ", and something has changed")
+            }
+            Err(AnswerFault::OutOfMemory) => self.is_short(came),
+            Err(fault) => {
+                self.refusal = Some(Refusal::Answer(fault));
+                Outcome::Right
+            }
+        }
+    }
+
     /// Memory was refused, and nothing else has happened.
     fn is_short(&self, came: &mut String) -> Outcome {
         note(came, "memory was refused where none is taken");
@@ -345,10 +408,11 @@ impl Asking {
         }
     }
 
-    /// Whether the client answers a fault to a piece, and `Ended` to a call.
+    /// Whether the client answers a fault to a piece, and `Ended` to a call and to an answer.
     fn answers_only(&mut self, alloc: Global, fault: ClientFault) -> bool {
         self.fault_of_take(alloc) == Some(fault)
             && self.send_plain(alloc, &Call::Threads) == Err(SendFault::Ended)
+            && self.answer_with(alloc, 1, Terminal::Refused) == Err(AnswerFault::Ended)
     }
 
     /// Whether it answers the fault of the last piece, nothing is held, and all else is as it was right before that.
@@ -421,6 +485,7 @@ impl Asking {
     ) -> Result<bool, AllocError> {
         match refusal {
             Refusal::Send(fault) => is_printed(alloc, &fault, name),
+            Refusal::Answer(fault) => is_printed(alloc, &fault, name),
             Refusal::Take(fault) => {
                 let is_named = is_printed(alloc, &fault, name)?;
                 Ok(is_named && self.is_closed(alloc, fault))
@@ -464,6 +529,15 @@ impl Asking {
         self.shows(came)
     }
 
+    fn is_oldest(&mut self, number: &str, came: &mut String) -> Outcome {
+        let oldest = self.client.oldest_incoming();
+        if oldest == number.parse::<u64>().ok() {
+            return self.shows(came);
+        }
+        tell(came, &oldest);
+        Outcome::Wrong
+    }
+
     fn is_ready(&mut self, ready: bool, came: &mut String) -> Outcome {
         self.ready = Some(ready);
         self.shows(came)
@@ -474,6 +548,7 @@ impl Asking {
         match self.settle(came) {
             Outcome::Right => match word {
                 Word::Send => self.sends(alloc, rest, came),
+                Word::Answer => self.answers(alloc, rest, came),
                 Word::Bytes => self.takes_text(alloc, rest, came),
                 _ => self.takes(alloc, rest, came),
             },
@@ -493,6 +568,7 @@ impl Asking {
             Word::Fault => self.is_refused(alloc, rest, came),
             Word::Phase => self.is_in(rest, came),
             Word::Ready => self.is_ready(true, came),
+            Word::Oldest => self.is_oldest(rest, came),
             Word::Not => self.is_ready(false, came),
             Word::Count(counted) => self.counts_so(counted, rest, came),
             Word::Free => self.is_free_from_here(),
@@ -502,7 +578,9 @@ impl Asking {
 
     fn follow_word(&mut self, alloc: Global, word: Word, rest: &str, came: &mut String) -> Outcome {
         match word {
-            Word::Send | Word::Bytes | Word::Adapter => self.act(alloc, word, rest, came),
+            Word::Send | Word::Answer | Word::Bytes | Word::Adapter => self.act(
+                alloc, word, rest, came,
+            ),
             _ => self.compare(alloc, word, rest, came),
         }
     }

@@ -9,3 +9,5 @@ mod calls;
 mod greatest;
 #[cfg(test)]
 mod library;
+#[cfg(test)]
+mod terminals;

@@ -16,7 +16,7 @@ const OFFERED: &str =
     r#"{"supportsCancelRequest":true,"supportsConfigurationDoneRequest":true,"supportsLoadedSourcesRequest":true,"supportsSetVariable":true,"supportsStepBack":true,"supportsTerminateRequest":true}"#;
 
 /// Each failure: its name, its number, and its sentence, in two parts where the key of an argument stands between them.
-static FAILURES: [(&str, &str, &str, &str); 17] = [
+static FAILURES: [(&str, &str, &str, &str); 18] = [
     (
         "notInitialized",
         "1001",
@@ -74,6 +74,7 @@ static FAILURES: [(&str, &str, &str, &str); 17] = [
         "No reference numbers are left.",
         "",
     ),
+    ("terminalRefused", "1018", "The terminal refused.", ""),
 ];
 
 /// The word in a place, counted from 0; no text where there are fewer.

@@ -9,6 +9,8 @@ use std::fmt::{Debug, Write};
 pub struct Counts {
     /// Requests that wait for an answer: `kept` of an adapter, `outstanding` of a client.
     pub waiting: usize,
+    /// Requests of the adapter that wait for an answer: `incoming` of a client.
+    pub reverse: usize,
     pub references: usize,
     pub breakpoints: usize,
     pub held: usize,
@@ -18,6 +20,7 @@ pub struct Counts {
 #[derive(Clone, Copy, Debug, PartialEq, Eq)]
 pub struct Facts {
     waiting: usize,
+    reverse: Option<usize>,
     references: Option<usize>,
     breakpoints: Option<usize>,
     held: Option<usize>,
@@ -36,6 +39,7 @@ impl Facts {
     pub fn none() -> Facts {
         Facts {
             waiting: 0,
+            reverse: None,
             references: None,
             breakpoints: None,
             held: None,
@@ -72,6 +76,7 @@ impl Facts {
     /// Whether all that was said is so.
     pub fn are_so(&self, counts: &Counts) -> bool {
         self.waiting == counts.waiting
+            && holds(self.reverse, counts.reverse)
             && holds(self.references, counts.references)
             && holds(self.breakpoints, counts.breakpoints)
             && holds(self.held, counts.held)
@@ -81,6 +86,7 @@ impl Facts {
     pub fn note(&mut self, counted: Counted, count: usize) -> bool {
         match counted {
             Counted::Waiting => return self.waiting == count,
+            Counted::Reverse => self.reverse = Some(count),
             Counted::References => self.references = Some(count),
             Counted::Breakpoints => self.breakpoints = Some(count),
             Counted::Held => self.held = Some(count),

@@ -13,6 +13,10 @@ pub enum Word {
     Idle,
     Poll,
     Send,
+    /// `answer`: a request of the other side is answered.
+    Answer,
+    /// `oldest`: the oldest of those that wait.
+    Oldest,
     Bytes,
     Phase,
     Ready,
@@ -26,12 +30,13 @@ pub enum Word {
 #[derive(Clone, Copy, PartialEq, Eq)]
 pub enum Counted {
     Waiting,
+    Reverse,
     References,
     Breakpoints,
     Held,
 }
 
-static WORDS: [(&str, Word); 17] = [
+static WORDS: [(&str, Word); 20] = [
     (">", Word::Client),
     ("<", Word::Adapter),
     ("!", Word::Fault),
@@ -39,6 +44,8 @@ static WORDS: [(&str, Word); 17] = [
     ("idle", Word::Idle),
     ("poll", Word::Poll),
     ("send", Word::Send),
+    ("answer", Word::Answer),
+    ("oldest", Word::Oldest),
     ("bytes", Word::Bytes),
     ("phase", Word::Phase),
     ("ready", Word::Ready),
@@ -46,6 +53,7 @@ static WORDS: [(&str, Word); 17] = [
     ("free", Word::Free),
     ("kept", Word::Count(Counted::Waiting)),
     ("outstanding", Word::Count(Counted::Waiting)),
+    ("incoming", Word::Count(Counted::Reverse)),
     ("references", Word::Count(Counted::References)),
     ("breakpoints", Word::Count(Counted::Breakpoints)),
     ("held", Word::Count(Counted::Held)),

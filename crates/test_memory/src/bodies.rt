@@ -7,7 +7,8 @@ use dap_message::{
     Body, BodyFault, Breakpoint, Capabilities, Failure, Message, Scope, Source, StackFrame, Text,
     Thread, Variable, body_continue, body_evaluate, body_failure, body_loaded_sources, body_output,
     body_scopes, body_set_breakpoints, body_set_variable, body_source, body_stack_trace,
-    body_stopped, body_threads, body_variables, read_message, write_answer, write_message,
+    body_stopped, body_terminal, body_threads, body_variables, read_message, write_answer,
+    write_message,
 };
 use serde_json::Value;
 use std::alloc::{AllocError, Global};
@@ -176,11 +177,12 @@ fn body(alloc: Global, place: usize) -> Result<Value, AllocError> {
         10 => body_set_variable(alloc, Text::copied(alloc, "9")?),
         11 => body_continue(alloc),
         12 => Body::Initialize { capabilities: ALL }.value(alloc),
+        13 => body_terminal(alloc, Some(7), Some(8)),
         _ => body_failure(alloc, Failure::BadArguments { key: Key::ThreadId }),
     }
 }
 
-static BODIES: [&[u8]; 14] = [
+static BODIES: [&[u8]; 15] = [
     b"{\"breakpoints\":[{\"id\":1,\"line\":2,\"verified\":true}]}",
     b"{\"threads\":[{\"id\":1,\"name\":\"main\"}]}",
     b"{\"stackFrames\":[{\"column\":1,\"id\":1,\"line\":3,\"name\":\"f\",\"source\":{\"name\":\"a.c\",\"path\":\"/a.c\",\"sourceReference\":1}}],\"totalFrames\":5}",
@@ -194,6 +196,7 @@ static BODIES: [&[u8]; 14] = [
     b"{\"value\":\"9\"}",
     b"{\"allThreadsContinued\":true}",
     b"{\"supportsBreakpointLocationsRequest\":true,\"supportsCancelRequest\":true,\"supportsCompletionsRequest\":true,\"supportsConfigurationDoneRequest\":true,\"supportsExceptionInfoRequest\":true,\"supportsFunctionBreakpoints\":true,\"supportsLoadedSourcesRequest\":true,\"supportsModulesRequest\":true,\"supportsRestartRequest\":true,\"supportsSetVariable\":true,\"supportsStepBack\":true,\"supportsTerminateRequest\":true}",
+    b"{\"processId\":7,\"shellProcessId\":8}",
     b"{\"error\":{\"format\":\"The argument threadId is missing or malformed.\",\"id\":1005}}",
 ];
 

@@ -1,7 +1,10 @@
 //! Calls and capabilities that are read and written, or want of memory.
 
 use crate::outcomes::{both, judge, refused};
-use dap_call::{Call, CallFault, Capabilities, Command, SourceKey, read_call, write_call};
+use dap_call::{
+    Call, CallFault, Capabilities, Command, SourceKey, read_call, read_terminal, write_call,
+    write_terminal,
+};
 use dap_json::{ParseFault, parse, write};
 use serde_json::Value;
 use std::alloc::Global;
@@ -74,6 +77,8 @@ enum Deed {
     ReadTwice(Command),
     /// It is read as a call of this command, which is written.
     ReadAndWrite(Command),
+    /// It is read as what an adapter asks of a terminal, which is written, and once more.
+    AskTwice,
     /// It is read as capabilities, which are written, and once more.
     WriteTwice,
 }
@@ -105,6 +110,21 @@ fn reads_and_writes(
     }
 }
 
+/// Whether what an adapter asks of a terminal is read, and written again as this text.
+fn asks(alloc: Global, arguments: &Value, text: &[u8]) -> Option<bool> {
+    match read_terminal(alloc, Some(arguments)) {
+        Ok(call) => {
+            let outcome = match write_terminal(alloc, &call) {
+                Ok(object) => is_written(alloc, object, text),
+                Err(_) => None,
+            };
+            drop(call);
+            outcome
+        }
+        Err(fault) => refused(fault == CallFault::OutOfMemory),
+    }
+}
+
 fn writes_flags(alloc: Global, offered: &Capabilities, text: &[u8]) -> Option<bool> {
     match offered.write(alloc) {
         Ok(object) => is_written(alloc, object, text),
@@ -119,6 +139,10 @@ fn does(alloc: Global, deed: Deed, tree: &Value, text: &[u8]) -> Option<bool> {
             both(first, reads(alloc, tree, command, text))
         }
         Deed::ReadAndWrite(command) => reads_and_writes(alloc, tree, command, text),
+        Deed::AskTwice => {
+            let first = asks(alloc, tree, text);
+            both(first, asks(alloc, tree, text))
+        }
         Deed::WriteTwice => {
             let offered = Capabilities::read(Some(tree));
             let first = writes_flags(alloc, &offered, text);
@@ -164,6 +188,13 @@ fn reading_a_launch(rt: HostRuntime) -> Result<(), Fail> {
     let deed = Deed::ReadTwice(Command::Launch);
     let text = b"{\"args\":[\"-v\",7],\"env\":{\"A\":\"b\"},\"program\":\"/a\"}";
     judge(&rt, is_done(rt.alloc(), deed, text))
+}
+
+/// Likewise what an adapter asks of a terminal.
+#[test]
+fn asking_for_a_terminal(rt: HostRuntime) -> Result<(), Fail> {
+    let text = b"{\"args\":[\"a\",\"b\"],\"cwd\":\"/\",\"kind\":\"integrated\",\"title\":\"t\"}";
+    judge(&rt, is_done(rt.alloc(), Deed::AskTwice, text))
 }
 
 /// The object of the flags that are set, or none.

@@ -20,4 +20,6 @@ mod requests;
 #[cfg(test)]
 mod telling;
 #[cfg(test)]
+mod terminals;
+#[cfg(test)]
 mod writing;

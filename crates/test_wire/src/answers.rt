@@ -59,11 +59,15 @@ fn body(alloc: Global, place: usize) -> Result<Option<Body>, AllocError> {
         11 => Body::Initialize {
             capabilities: Capabilities::read(None),
         },
+        12 => Body::RunInTerminal {
+            process_id: Some(7),
+            shell_process_id: Some(8),
+        },
         _ => return Ok(None),
     }))
 }
 
-static ANSWERS: [&[u8]; 13] = [
+static ANSWERS: [&[u8]; 14] = [
     b"{\"body\":{\"threads\":[{\"id\":-1,\"name\":\"t\\\"\"},{\"id\":2,\"name\":\"t\\\"\"}]},\"command\":\"c\",\"request_seq\":4,\"seq\":7,\"success\":true,\"type\":\"response\"}",
     b"{\"body\":{\"breakpoints\":[{\"id\":1,\"line\":2,\"verified\":false}]},\"command\":\"c\",\"request_seq\":4,\"seq\":7,\"success\":true,\"type\":\"response\"}",
     b"{\"body\":{\"scopes\":[{\"expensive\":false,\"name\":\"s\",\"variablesReference\":3}]},\"command\":\"c\",\"request_seq\":4,\"seq\":7,\"success\":true,\"type\":\"response\"}",
@@ -76,6 +80,7 @@ static ANSWERS: [&[u8]; 13] = [
     b"{\"body\":{\"value\":\"9\"},\"command\":\"c\",\"request_seq\":4,\"seq\":7,\"success\":true,\"type\":\"response\"}",
     b"{\"body\":{\"supportsBreakpointLocationsRequest\":true,\"supportsCancelRequest\":true,\"supportsCompletionsRequest\":true,\"supportsConfigurationDoneRequest\":true,\"supportsExceptionInfoRequest\":true,\"supportsFunctionBreakpoints\":true,\"supportsLoadedSourcesRequest\":true,\"supportsModulesRequest\":true,\"supportsRestartRequest\":true,\"supportsSetVariable\":true,\"supportsStepBack\":true,\"supportsTerminateRequest\":true},\"command\":\"c\",\"request_seq\":4,\"seq\":7,\"success\":true,\"type\":\"response\"}",
     b"{\"body\":{},\"command\":\"c\",\"request_seq\":4,\"seq\":7,\"success\":true,\"type\":\"response\"}",
+    b"{\"body\":{\"processId\":7,\"shellProcessId\":8},\"command\":\"c\",\"request_seq\":4,\"seq\":7,\"success\":true,\"type\":\"response\"}",
     b"{\"command\":\"c\",\"request_seq\":4,\"seq\":7,\"success\":true,\"type\":\"response\"}",
 ];
 

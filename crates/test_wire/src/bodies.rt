@@ -5,7 +5,7 @@ use crate::lists::{FrameRow, SourceRow, breakpoints, frames, scopes, sources, th
 use dap_body::{
     Failure, body_continue, body_continued, body_evaluate, body_exited, body_failure,
     body_loaded_sources, body_output, body_scopes, body_set_breakpoints, body_set_variable,
-    body_source, body_stack_trace, body_stopped, body_threads, body_variables,
+    body_source, body_stack_trace, body_stopped, body_terminal, body_threads, body_variables,
 };
 use dap_call::Key;
 use dap_json::Text;
@@ -31,7 +31,7 @@ fn is_text(alloc: Global, body: &Value, wanted: &str) -> bool {
     }
 }
 
-static FAILURES: [(Failure, u32, &str, &str); 18] = [
+static FAILURES: [(Failure, u32, &str, &str); 19] = [
     (
         Failure::NotInitialized,
         1001,
@@ -144,6 +144,12 @@ static FAILURES: [(Failure, u32, &str, &str); 18] = [
         "cancelled",
         "{\"error\":{\"format\":\"The request was cancelled.\",\"id\":1012}}",
     ),
+    (
+        Failure::TerminalRefused,
+        1018,
+        "terminalRefused",
+        "{\"error\":{\"format\":\"The terminal refused.\",\"id\":1018}}",
+    ),
 ];
 
 /// Each failure's number, short name and body.
@@ -171,6 +177,8 @@ enum Response {
     /// The value that was set.
     SetVariable(&'static str),
     Evaluate(&'static str, u32),
+    /// The process in a terminal, and its shell.
+    Terminal(Option<u32>, Option<u32>),
 }
 
 fn built_response(alloc: Global, of: Response) -> Result<Value, AllocError> {
@@ -187,10 +195,11 @@ fn built_response(alloc: Global, of: Response) -> Result<Value, AllocError> {
         Response::Evaluate(result, reference) => {
             body_evaluate(alloc, Text::copied(alloc, result)?, reference)
         }
+        Response::Terminal(process, shell) => body_terminal(alloc, process, shell),
     }
 }
 
-static RESPONSES: [(Response, &str); 12] = [
+static RESPONSES: [(Response, &str); 16] = [
     (
         Response::Breakpoints(&[(1, 1, true), (2, 3, true), (3, 9, false)]),
         "{\"breakpoints\":[{\"id\":1,\"line\":1,\"verified\":true},{\"id\":2,\"line\":3,\"verified\":true},{\"id\":3,\"line\":9,\"verified\":false}]}",
@@ -232,6 +241,13 @@ static RESPONSES: [(Response, &str); 12] = [
     (
         Response::Evaluate("P", 3),
         "{\"result\":\"P\",\"variablesReference\":3}",
+    ),
+    (Response::Terminal(None, None), "{}"),
+    (Response::Terminal(Some(7), None), "{\"processId\":7}"),
+    (Response::Terminal(None, Some(0)), "{\"shellProcessId\":0}"),
+    (
+        Response::Terminal(Some(2147483647), Some(8)),
+        "{\"processId\":2147483647,\"shellProcessId\":8}",
     ),
 ];
 
