@@ -4,10 +4,10 @@ use Rattle.std.proofs.lemmas.List.{length-map}
 use Rattle.std.specs.Prelude.{◌==◌, not}
 use Rattle.dap_message.specs.Lengths.{max_fixed}
 use Rattle.dap_message.specs.Types.Failure.TheVariants.{Cancelled}
-use Rattle.dap_tables.specs.Outstanding.{Kept, entries, contains_seq, is_parked, parked_ones, without, HasDistinctSeqs}
+use Rattle.dap_tables.specs.Outstanding.{Kept, entries, contains_seq, is_parked, parked_ones, unparked_ones, without, HasDistinctSeqs}
 use Rattle.dap_tables.specs.declared.entry.Entry.{Entry}
 use Rattle.dap_debuggee.specs.Shown.{Reply}
-use Rattle.dap_session.specs.Handling.{answer_each, by_reply, after_disconnect, after_parked_launch}
+use Rattle.dap_session.specs.Handling.{answer_each, by_reply, start_phase, after_disconnect, after_parked_launch}
 use Rattle.dap_tables.specs.References.{without_references}
 use Rattle.dap_session.specs.declared.phase.Phase.TheVariants.{Ended}
 use Rattle.dap_session.specs.declared.fault.AdapterFault.{AdapterFault}
@@ -15,6 +15,7 @@ use Rattle.dap_session.specs.declared.fault.AdapterFault.TheVariants.{SeqExhaust
 use Rattle.dap_session.specs.SessionState.{SessionState, MadeBy, IsRefusedFor}
 use Rattle.dap_session.specs.Plan.{Plan, messages_due, Answer, Draft, failure, plain_success, reply}
 use Rattle.dap_session.specs.Session.{Session}
+use Rattle.dap_session.specs.Taking.{after_terminal}
 use Rattle.dap_session.specs.PrivateSeveral.{answer_where, WritesAll}
 use Rattle.dap_session.specs.PrivateOutbox.{Holds, AppendsDraft}
 use Rattle.dap_session.specs.declared.outbox.Outbox.{Outbox}
@@ -70,6 +71,16 @@ holds-started s r last answer one all limit d h o w =
 pub count-started : (s : Session) (r : Entry) (last : Reply) → length (after_parked_launch s r last).drafts ≡ 1 + length (parked_ones (without r.seq s.kept))
 count-started s r last = let each = length-each (by_reply None last) (parked_ones (without r.seq s.kept)) in omega arith
 
+-- how many an answer of the terminal takes
+pub count-terminal : (s : Session) (last : Reply) → length (after_terminal s last).drafts ≡ length (parked_ones s.kept)
+count-terminal s last = length-each (by_reply None last) (parked_ones s.kept)
+
+pub room-terminal : (kept : List Kept) (fresh : Outbox) (limit used last : ℕ) → HasDistinctSeqs kept → Holds fresh limit used [] → fresh.numbers.last ≡ last → used + length (parked_ones kept) ≤ last → fresh.numbers.used + length (filter (λ (x : Entry). is_parked x.seq kept) (entries kept)) ≤ fresh.numbers.last
+room-terminal kept fresh limit used last d h l room = let others = count-parked kept d in let count = h.count in omega arith
+
+pub holds-terminal : (s : Session) (answer : Answer) (fresh all : Outbox) (limit : ℕ) → HasDistinctSeqs s.kept → Holds fresh limit s.used [] → WritesAll fresh all (answer_where (λ seq. is_parked seq s.kept) answer (entries s.kept)) → Holds all limit s.used (answer_each answer (parked_ones s.kept))
+holds-terminal s answer fresh all limit d o w = subst (λ (ds : List Draft). Holds all limit s.used ds) (answers-parked answer s.kept d) (w.holds limit s.used [] o)
+
 -- ---- more messages than own numbers
 
 pub refused-for : {D : Type 0} (fault : AdapterFault) (plan : Plan) (old : SessionState D) (n : ℕ) → fault ≡ SeqExhausted → old.session.limits.seq < old.session.used + n → messages_due plan ≡ n → IsRefusedFor fault plan old old
@@ -85,5 +96,13 @@ pub disconnect-made : (s : Session) (r : Entry) (outbox : Outbox) (new : Session
 disconnect-made s r outbox new bytes h n b =
     record {
       session = n ∙ ap (λ (u : ℕ). let x : Session = record s { phase = Ended; kept = []; references = without_references s.references; used = u } in x) (h.count ∙ ap (λ (k : ℕ). s.used + k) (count-disconnected s r));
+      tells = record { bytes_are = b ∙ h.bytes; reads_back = h.reads_back };
+    }
+
+pub terminal-made : (s : Session) (last : Reply) (outbox : Outbox) (new : Session) (bytes : List ℕ) → Holds outbox s.limits.body s.used (after_terminal s last).drafts
+    → new ≡ record s { phase = start_phase last; kept = unparked_ones s.kept; asked = None; used = outbox.numbers.used } → bytes ≡ outbox.bytes.items → MadeBy (after_terminal s last) s new bytes
+terminal-made s last outbox new bytes h n b =
+    record {
+      session = n ∙ ap (λ (u : ℕ). let x : Session = record s { phase = start_phase last; kept = unparked_ones s.kept; asked = None; used = u } in x) (h.count ∙ ap (λ (k : ℕ). s.used + k) (count-terminal s last));
       tells = record { bytes_are = b ∙ h.bytes; reads_back = h.reads_back };
     }

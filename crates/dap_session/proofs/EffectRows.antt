@@ -1,5 +1,5 @@
 -- Each effect of the table, a row each: what comes of it, and that its failures come in their order. A new effect is one row more.
-use Rattle.std.proofs.Common.{◌≡◌, ◌+◌, [], ◌∷◌, None, length, refl}
+use Rattle.std.proofs.Common.{◌≡◌, ◌+◌, [], ◌∷◌, true, None, length, refl}
 use Rattle.dap_message.specs.MessageParts.{terminated}
 use Rattle.dap_message.specs.Types.Call.{Call}
 use Rattle.dap_tables.specs.Outstanding.{Kept, without, parked_ones}
@@ -12,74 +12,88 @@ use Rattle.dap_session.specs.Plan.{emit, at_once, after_answering}
 use Rattle.dap_session.specs.Session.{Session}
 use Rattle.dap_session.specs.PrivateChanging.{Suits}
 use Rattle.dap_session.proofs.Fewer.{IsHandled}
+use Rattle.dap_session.proofs.OwnRequests.{asks_none, IsIn}
 use Rattle.dap_session.proofs.Outcomes.{after_answering-outcome, each-clean, IsRow, once-row, asking-row}
 use Rattle.dap_session.proofs.QueryResults.{query_result-well}
 use Rattle.dap_message.specs.MessageParts.{terminated}
 use Rattle.dap_tables.specs.declared.entry.Entry.{Entry}
 use Rattle.dap_session.specs.OrderLaws.{refuses_query, objects_told}
 use Rattle.dap_session.specs.Within.{IsWithin}
+use Rattle.dap_session.specs.declared.phase.Phase.{Phase}
 use Rattle.dap_session.specs.declared.phase.Phase.TheVariants.{Configured}
-use Rattle.dap_session.proofs.Rows.{after_initialize-outcome, after_park-outcome, after_launch-outcome, after_configuration_done-outcome, after_parked_launch-outcome, after_disconnect-outcome, after_disconnect-clean, after_terminate-outcome, after_resume-outcome, after_resume-clean, change-row, change-stands, after_query-row, one-clean, reply-clean, names-by_reply}
+use Rattle.dap_session.proofs.Rows.{after_initialize-outcome, after_park-outcome, after_asking-outcome, after_asking_parked-outcome, after_launch-outcome, after_configuration_done-outcome, after_parked_launch-outcome, after_disconnect-outcome, after_disconnect-clean, after_terminate-outcome, after_resume-outcome, after_resume-clean, change-row, change-stands, after_query-row, one-clean, reply-clean, names-by_reply}
 use Rattle.dap_session.proofs.ServedInOrder.{Fails, DoesWell, first_of, query-told, query-fails, change-fails, well-so, succeeds-first, succeeds-initialize, starts-so, starts-parked-so, disconnects-so, resumes-so, pauses-so}
 
 pub record EffectRow (e : Effect) (view : Shown) (s : Session) (asked : Call) : Type 0 where
   -- of a request that is kept: what is answered and kept, numbers and references, limits, and that what is refused changes nothing
   pub outcome : (k : Kept) → IsHandled s k → IsRow s (plan_for e view s k.entry asked)
   -- it fails with the first failure whose test holds, or asks and answers what the effect says
-  pub order : (r : Entry) → IsWithin s → (e ≡ effect.Start → s.phase ≡ Configured) → Fails (first_of view s r e asked) (plan_for e view s r asked) s r (DoesWell e s r asked (plan_for e view s r asked))
+  pub order : (r : Entry) → IsWithin s → Fails (first_of view s r e asked) (plan_for e view s r asked) s r (DoesWell e s r asked (plan_for e view s r asked))
 
 query-order : (view : Shown) (s : Session) (r : Entry) (asked : Call) → IsWithin s → Fails (first_of view s r effect.Query asked) (at_once (after_query s r (query_result view s asked))) s r (DoesWell effect.Query s r asked (at_once (after_query s r (query_result view s asked))))
 query-order view s r asked w =
     let q = query-fails s r (refuses_query view s asked) (objects_told view s asked) (query_result view s asked) (query-told view s asked) (record { references = w.references; numbers = w.numbers }) in
     record { some = q.some; none = λ e. record { asks = refl; answered = λ last. q.none e } }
 
-pub effect-row : (e : Effect) (view : Shown) (s : Session) (asked : Call) → Suits e asked → EffectRow e view s asked
+-- no own request waits in Configured
+asks_none-start : (phase : Phase) → phase ≡ Configured → asks_none phase ≡ true
+asks_none-start phase h = rw h refl
+
+pub effect-row : (e : Effect) (view : Shown) (s : Session) (asked : Call) → Suits e asked → IsIn e s.phase → EffectRow e view s asked
 unfolding plan_for
-effect-row effect.Initialize view s asked n = record {
-  outcome = λ k i. once-row s 2 _ (after_initialize-outcome s k asked i) refl;
-  order = λ r w starts. well-so effect.Initialize s r asked _ refl (λ last. succeeds-initialize s r asked);
+effect-row effect.Initialize view s asked n p = record {
+  outcome = λ k i. once-row s 2 _ (after_initialize-outcome s k asked p i) refl;
+  order = λ r w. well-so effect.Initialize s r asked _ refl (λ last. succeeds-initialize s r asked);
 }
-effect-row effect.Park view s asked n = record {
-  outcome = λ k i. once-row s 0 _ (after_park-outcome s k i) refl;
-  order = λ r w starts. well-so effect.Park s r asked _ refl (λ last. refl);
+effect-row effect.Park view s asked n p = record {
+  outcome = λ k i. once-row s 0 _ (after_park-outcome s k p i) refl;
+  order = λ r w. well-so effect.Park s r asked _ refl (λ last. refl);
 }
-effect-row effect.Start view s asked n = record {
-  outcome = λ k i. asking-row s 1 _ (after_launch s k.entry) (after_launch-outcome s k i) (λ (last : Reply). one-clean k (by_reply None last) (reply-clean None last));
-  order = λ r w starts. well-so effect.Start s r asked _ refl (λ last. starts-so s r last (starts refl));
+effect-row effect.Start view s asked n p = record {
+  outcome = λ k i. asking-row s 1 _ (after_launch s k.entry) (after_launch-outcome s k (asks_none-start s.phase p) i) (λ (last : Reply). one-clean k (by_reply None last) (reply-clean None last));
+  order = λ r w. well-so effect.Start s r asked _ refl (λ last. starts-so s r last p);
 }
-effect-row effect.ConfigurationDone view s asked n = record {
-  outcome = λ k i. once-row s 1 _ (after_configuration_done-outcome s k i) refl;
-  order = λ r w starts. well-so effect.ConfigurationDone s r asked _ refl (λ last. succeeds-first r []);
+effect-row effect.Ask view s asked n p = record {
+  outcome = λ k i. once-row s 1 _ (after_asking-outcome s k p i) refl;
+  order = λ r w. well-so effect.Ask s r asked _ refl (λ last. refl);
 }
-effect-row effect.StartParked view s asked n = record {
-  outcome = λ k i. asking-row s (length (parked_ones (without k.entry.seq s.kept)) + 1) _ (after_parked_launch s k.entry) (after_parked_launch-outcome s k i) (λ (last : Reply). each-clean (by_reply None last) (parked_ones (without k.entry.seq s.kept)) (reply-clean None last));
-  order = λ r w starts. well-so effect.StartParked s r asked _ refl (λ last. starts-parked-so s r last);
+effect-row effect.AskParked view s asked n p = record {
+  outcome = λ k i. once-row s 2 _ (after_asking_parked-outcome s k p i) refl;
+  order = λ r w. well-so effect.AskParked s r asked _ refl (λ last. refl);
 }
-effect-row effect.Disconnect view s asked n = record {
+effect-row effect.ConfigurationDone view s asked n p = record {
+  outcome = λ k i. once-row s 1 _ (after_configuration_done-outcome s k p i) refl;
+  order = λ r w. well-so effect.ConfigurationDone s r asked _ refl (λ last. succeeds-first r []);
+}
+effect-row effect.StartParked view s asked n p = record {
+  outcome = λ k i. asking-row s (length (parked_ones (without k.entry.seq s.kept)) + 1) _ (after_parked_launch s k.entry) (after_parked_launch-outcome s k p i) (λ (last : Reply). each-clean (by_reply None last) (parked_ones (without k.entry.seq s.kept)) (reply-clean None last));
+  order = λ r w. well-so effect.StartParked s r asked _ refl (λ last. starts-parked-so s r last);
+}
+effect-row effect.Disconnect view s asked n p = record {
   outcome = λ k i. once-row s (length (without k.entry.seq s.kept) + 1) _ (after_disconnect-outcome s k i) (after_disconnect-clean s k);
-  order = λ r w starts. well-so effect.Disconnect s r asked _ refl (λ last. disconnects-so s r);
+  order = λ r w. well-so effect.Disconnect s r asked _ refl (λ last. disconnects-so s r);
 }
-effect-row effect.EndAndDisconnect view s asked n = record {
+effect-row effect.EndAndDisconnect view s asked n p = record {
   outcome = λ k i. asking-row s (length (without k.entry.seq s.kept) + 1) _ (λ last. after_disconnect s k.entry) (λ (last : Reply). after_disconnect-outcome s k i) (λ (last : Reply). after_disconnect-clean s k);
-  order = λ r w starts. well-so effect.EndAndDisconnect s r asked _ refl (λ last. disconnects-so s r);
+  order = λ r w. well-so effect.EndAndDisconnect s r asked _ refl (λ last. disconnects-so s r);
 }
-effect-row effect.Terminate view s asked n = record {
-  outcome = λ k i. asking-row s 2 _ (λ last. after_terminate s k.entry) (λ (last : Reply). after_terminate-outcome s k i) (λ (last : Reply). refl);
-  order = λ r w starts. well-so effect.Terminate s r asked _ refl (λ last. succeeds-first r (emit terminated ∷ []));
+effect-row effect.Terminate view s asked n p = record {
+  outcome = λ k i. asking-row s 2 _ (λ last. after_terminate s k.entry) (λ (last : Reply). after_terminate-outcome s k p i) (λ (last : Reply). refl);
+  order = λ r w. well-so effect.Terminate s r asked _ refl (λ last. succeeds-first r (emit terminated ∷ []));
 }
-effect-row effect.Change view s asked n = record {
+effect-row effect.Change view s asked n p = record {
   outcome = λ k i. change-row s k (change_result view s asked) (change-stands view s asked) i;
-  order = λ r w starts. change-fails view s r asked n;
+  order = λ r w. change-fails view s r asked n;
 }
-effect-row (effect.Resume h) view s asked n = record {
-  outcome = λ k i. asking-row s 1 _ (after_resume h s k.entry) (after_resume-outcome h s k i) (after_resume-clean h s k);
-  order = λ r w starts. well-so (effect.Resume h) s r asked _ refl (λ last. resumes-so h s r last);
+effect-row (effect.Resume h) view s asked n p = record {
+  outcome = λ k i. asking-row s 1 _ (after_resume h s k.entry) (after_resume-outcome h s k p i) (after_resume-clean h s k);
+  order = λ r w. well-so (effect.Resume h) s r asked _ refl (λ last. resumes-so h s r last);
 }
-effect-row effect.Pause view s asked n = record {
+effect-row effect.Pause view s asked n p = record {
   outcome = λ k i. asking-row s 1 _ (λ last. after_answering k.entry (by_reply None last) s) (λ (last : Reply). after_answering-outcome s k (by_reply None last) i (names-by_reply None last)) (λ (last : Reply). one-clean k (by_reply None last) (reply-clean None last));
-  order = λ r w starts. well-so effect.Pause s r asked _ refl (λ last. pauses-so s r last);
+  order = λ r w. well-so effect.Pause s r asked _ refl (λ last. pauses-so s r last);
 }
-effect-row effect.Query view s asked n = record {
+effect-row effect.Query view s asked n p = record {
   outcome = λ k i. after_query-row s k (query_result view s asked) (query_result-well view s asked) i;
-  order = λ r w starts. query-order view s r asked w;
+  order = λ r w. query-order view s r asked w;
 }

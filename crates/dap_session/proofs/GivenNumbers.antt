@@ -9,7 +9,9 @@ use Rattle.dap_session.specs.Bodies.{result_with_references}
 use Rattle.dap_session.specs.References.{intern_each, number_of, targets_named, onto_first}
 use Rattle.dap_session.specs.SessionState.{SessionState}
 use Rattle.dap_session.specs.Session.{Session}
-use Rattle.dap_session.specs.QueryResults.{OnlyGives, AnswersWith}
+use Rattle.dap_session.specs.QueryResults.{OnlyGives, AnswersWith, Says}
+use Rattle.dap_session.specs.declared.no_answer.NoAnswer.{NoAnswer}
+use Rattle.dap_session.specs.declared.no_answer.NoAnswer.TheVariants.{Fails, OutOfMemory}
 use Rattle.dap_session.proofs.Interned.{grows-twice}
 
 -- ---- nothing else happens
@@ -42,6 +44,14 @@ number-more limits objects i ns later refs new n all h is l so_far =
     let here : onto_all ns (intern_each limits (get_or objects i None ∷ drop (i + 1) objects) refs) ≡ all = subst (λ (os : List (Option Target)). onto_all ns (intern_each limits os refs) ≡ all) (object-at objects i h) so_far in
     let next : onto_all ns (onto_first n (intern_each limits (drop (i + 1) objects) new)) ≡ all = rw is at here in
     rw l (sym (onto-more ns n (intern_each limits (drop (i + 1) objects) new)) ∙ next)
+
+-- the first that has none refuses them all
+pub number-fails : (limits : Settings) (objects : List (Option Target)) (i : ℕ) (ns : List ℕ) (refs : LiveReferences) (fault : NoAnswer) (all : Result (List ℕ × LiveReferences) Failure) → i < length objects
+    → Says fault (number_of limits (get_or objects i None) refs) → onto_all ns (intern_each limits (drop i objects) refs) ≡ all → Says fault all
+number-fails limits objects i ns refs (Fails f) all h is so_far =
+    let here : onto_all ns (intern_each limits (get_or objects i None ∷ drop (i + 1) objects) refs) ≡ all = subst (λ (os : List (Option Target)). onto_all ns (intern_each limits os refs) ≡ all) (object-at objects i h) so_far in
+    sym (rw is at here)
+number-fails limits objects i ns refs OutOfMemory all h is so_far = tt
 
 -- ---- what is told
 

@@ -18,7 +18,7 @@ each_step_goes_well = record {
 pub each_step_goes_on : HistoriesGrow → EachStepGoesOn
 each_step_goes_on laws = record {
   none_come = ins_of-entries laws;
-  take = λ s m plan made h d e is f. goes_on-delivered laws s m made h ((delivery-is s m plan made e is).sound.well d) (delivery-is s m plan made e is).no_response f;
+  take = λ s m plan made h d e is f. goes_on-delivered laws s m made h ((delivery-is s m plan made e is).sound.well d) f;
   turn = λ view s plan made h d e is f. goes_on-alone laws s made h (((turn-is view s plan e).row.outcomes made is).sound.well d) f;
   poll = λ s made h is f. goes_on-alone laws s made h ((poll-is s made is).well tt) f;
 }

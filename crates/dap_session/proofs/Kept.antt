@@ -10,7 +10,7 @@ use Rattle.dap_tables.specs.Outstanding.{Kept, contains_seq, without, HasDistinc
 use Rattle.dap_tables.specs.declared.entry.Entry.{Entry as Request}
 use Rattle.dap_session.specs.Answering.{answered_by, with_seq, AnswersEach, open_after}
 use Rattle.dap_session.specs.Handling.{answer_each}
-use Rattle.dap_session.specs.Plan.{Answer, Draft, reply, emit}
+use Rattle.dap_session.specs.Plan.{Answer, Draft, reply, emit, ask}
 use Rattle.dap_history.specs.Requests.{asked_of, asks}
 use Rattle.dap_message.specs.MessageParts.{AdapterEvent}
 use Rattle.std.proofs.lemmas.List.Sums.{length-filter, count_by-le-length}
@@ -119,6 +119,7 @@ each-append : (ds es : List Draft) (open_requests : List Asked) → AnswersEach 
 each-append [] es open_requests e f = f
 each-append (reply r answer ∷ ds) es open_requests e f = (e.0, each-append ds es (without_answered (answered_by (reply r answer)) open_requests) e.1 f)
 each-append (emit event ∷ ds) es open_requests e f = each-append ds es (without_answered None open_requests) e f
+each-append (ask ∷ ds) es open_requests e f = each-append ds es (without_answered None open_requests) e f
 
 after-append : (ds es : List Draft) (open_requests : List Asked) → open_after (ds ++ es) open_requests ≡ open_after es (open_after ds open_requests)
 after-append [] es open_requests = refl
@@ -138,6 +139,10 @@ all-open (q ∷ qs) = ap (λ (xs : List Asked). q ∷ xs) (all-open qs)
 -- an event answers none
 pub walked-event : (event : AdapterEvent) (qs : List Asked) → Walked (emit event ∷ []) qs qs
 walked-event event qs = record { each = tt; left_is = all-open qs }
+
+-- nor does an own request
+pub walked-ask : (qs : List Asked) → Walked (ask ∷ []) qs qs
+walked-ask qs = record { each = tt; left_is = all-open qs }
 
 pub walked-one : (answer : Answer) (before : List Kept) (k : Kept) (after : List Kept) → HasDistinctSeqs (before ++ k ∷ after) → Walked (reply k.entry answer ∷ []) (asks (before ++ k ∷ after)) (asks (before ++ after))
 walked-one answer before k after d =

@@ -33,6 +33,8 @@ pub mod Refusals
 pub mod Stale
 pub mod Ordered
 pub mod ServedInOrder
+pub mod Starts
+pub mod OwnRequests
 pub mod EffectRows
 pub mod OrderedAnswers
 pub mod ProtocolLists

@@ -1,62 +1,31 @@
 -- What a request is answered with is the first failure whose test holds, also once it is served.
-use Rattle.std.proofs.Common.{◌≡◌, [], ◌∷◌, Bool, true, false, ◌&&◌, cond, Option, Some, None, Ok, Err, refl, sym, ap, ◌∙◌, subst, ◌⊎◌, inl, inr, true≢false}
-use Rattle.std.specs.List.{list_all}
+use Rattle.std.proofs.Common.{◌≡◌, [], ◌∷◌, Bool, true, false, ◌&&◌, cond, Option, Some, None, Ok, Err, refl, sym, ap, ◌∙◌, subst}
 use Rattle.std.specs.Prelude.{find}
 use Rattle.dap_message.specs.Argument.{Read}
 use Rattle.dap_message.specs.Failure.{failures_in_order}
 use Rattle.dap_message.specs.Types.Call.{Call}
 use Rattle.dap_message.specs.Types.Command.{Command}
-use Rattle.dap_message.specs.Types.Command.TheVariants as command
 use Rattle.dap_message.specs.Types.Failure.{Failure}
 use Rattle.dap_message.specs.Types.Failure.TheVariants.{NotInitialized, AlreadyInitialized, UnknownCommand, Unsupported, BadArguments, WrongPhase, NotStopped, UnknownThread, StaleReference, UnknownSource}
 use Rattle.dap_message.specs.Types.Key.{Key}
 use Rattle.dap_tables.specs.declared.entry.Entry.{Entry}
 use Rattle.dap_debuggee.specs.Shown.{Shown, Reply}
 use Rattle.dap_session.specs.declared.effect.Effect.{Effect}
-use Rattle.dap_session.specs.declared.effect.Effect.TheVariants as effect
-use Rattle.dap_session.specs.declared.phase.Phase.{Phase}
-use Rattle.dap_session.specs.declared.phase.Phase.TheVariants.{Fresh, Configured}
+use Rattle.dap_session.specs.declared.phase.Phase.TheVariants.{Fresh}
 use Rattle.dap_session.specs.Failures.{command_of, call_in, call_refused, first_failure, key_refused, known_refused, name_refused, or_else, phase_refused, read_refused, refusal, waits_for_stop}
-use Rattle.dap_session.specs.Handling.{plan, plan_of_call, plan_of_command, plan_unless}
+use Rattle.dap_session.specs.Handling.{effect_of, plan, plan_of_call, plan_of_command, plan_unless}
 use Rattle.dap_session.specs.OrderLaws.{holds_before, holds, of_effect, of_served, refuses, sets_too_many, names_too_many, exhausts_numbers, is_too_large, act_in, act_of, comes_to, IsAnswered, IsServed, IsBadKey, FailuresComeInOrder}
 use Rattle.dap_session.specs.Plan.{failure, Plan, at_once, after_answering}
 use Rattle.dap_session.specs.Session.{Session}
-use Rattle.dap_session.specs.Table.{rows_of, effect_in, is_phase, is_served}
+use Rattle.dap_session.specs.Table.{effect_in, is_phase, is_served}
 use Rattle.dap_session.specs.Within.{IsWithin}
 use Rattle.dap_session.proofs.Ordered.{refusals_come_in_order}
 use Rattle.dap_session.proofs.ServedRows.{unserved}
-use Rattle.dap_session.proofs.ChangeResults.{call-suits, found-all}
+use Rattle.dap_session.proofs.ChangeResults.{call-suits}
+use Rattle.dap_session.proofs.OwnRequests.{is-in, still-in, still-suits, still-first}
 use Rattle.dap_session.proofs.EffectRows.{effect-row}
 use Rattle.dap_session.proofs.ServedInOrder.{served_first}
 use Rattle.dap_session.proofs.Turns.{unknown-fails, badly-fails, unserved-fails}
-
--- what starts the debuggee is served in one phase
-
-abbrev starts_none : Effect → Bool
-starts_none effect.Start = false
-starts_none _ = true
-
--- of the rows of each other command none starts it
-starts-alone : (c : Command) → (list_all (λ r. starts_none r.effect) (rows_of c) ≡ true) ⊎ (((c ≡ command.Launch) ⊎ (c ≡ command.Attach)))
-starts-alone command.Launch = inr (inl refl)
-starts-alone command.Attach = inr (inr refl)
-starts-alone _ = inl refl
-
-launch-starts : (phase : Phase) → effect_in command.Launch phase ≡ Some effect.Start → phase ≡ Configured
-launch-starts Configured h = refl
-launch-starts _ h = cc
-
-attach-starts : (phase : Phase) → effect_in command.Attach phase ≡ Some effect.Start → phase ≡ Configured
-attach-starts Configured h = refl
-attach-starts _ h = cc
-
-starts-where : (c : Command) (phase : Phase) → (list_all (λ r. starts_none r.effect) (rows_of c) ≡ true) ⊎ (((c ≡ command.Launch) ⊎ (c ≡ command.Attach))) → effect_in c phase ≡ Some effect.Start → phase ≡ Configured
-starts-where c phase (inl none) h = absurd (true≢false (sym (found-all starts_none phase (rows_of c) effect.Start none h)))
-starts-where c phase (inr (inl is)) h = launch-starts phase (subst (λ (x : Command). effect_in x phase ≡ Some effect.Start) is h)
-starts-where c phase (inr (inr is)) h = attach-starts phase (subst (λ (x : Command). effect_in x phase ≡ Some effect.Start) is h)
-
-starts-configured : (c : Command) (phase : Phase) (e : Effect) → effect_in c phase ≡ Some e → e ≡ effect.Start → phase ≡ Configured
-starts-configured c phase e h is = starts-where c phase (starts-alone c) (h ∙ ap Some is)
 
 -- ---- all tests
 
@@ -91,7 +60,9 @@ all-tests view s r key same =
 
 call-first : (view : Shown) (s : Session) (r : Entry) (c : Command) (o : Option Effect) (read : Read Call) → effect_in c s.phase ≡ o → call_in r c ≡ read → IsWithin s
     → (f : Failure) → served_first (of_effect (refuses view s) o read) (of_effect (sets_too_many s) o read) (of_effect (names_too_many view s) o read) (of_effect (exhausts_numbers view s) o read) (of_effect (is_too_large view s r) o read) ≡ Some f → plan_of_call view s r o read ≡ at_once (after_answering r (failure f) s)
-call-first view s r c (Some e) (Ok asked) h i w f is = ((effect-row e view s asked (call-suits c s.phase r.arguments e asked h i)).order r w (starts-configured c s.phase e h)).some f is
+call-first view s r c (Some e) (Ok asked) h i w f is =
+    let row = effect-row (effect_of s r e) view s asked (still-suits s r e asked (call-suits c s.phase r.arguments e asked h i)) (still-in s r e (is-in c s.phase e h)) in
+    (row.order r w).some f (still-first view s r e asked ∙ is)
 call-first view s r c (Some e) (Err key) h i w f is = absurd cc
 call-first view s r c None read h i w f is = absurd cc
 
@@ -115,15 +86,16 @@ record ServesBy (view : Shown) (s : Session) (r : Entry) (c : Command) (p : Plan
   read : call_in r c ≡ Ok asked
   does : Effect
   is : effect_in c s.phase ≡ Some does
-  asks : act_in p ≡ act_of does s asked
-  answered : IsAnswered does s r last (comes_to p last)
+  asks : act_in p ≡ act_of (effect_of s r does) s asked
+  answered : IsAnswered (effect_of s r does) s r last (comes_to p last)
 
 call-serves : (view : Shown) (s : Session) (r : Entry) (c : Command) (o : Option Effect) (read : Read Call) → effect_in c s.phase ≡ o → call_in r c ≡ read → IsWithin s
     → first_failure (name_refused s.phase (Some c) ∷ first_failure (key_refused read ∷ phase_refused s.phase c ∷ read_refused view s.references read ∷ []) ∷ []) ≡ None
     → served_first (of_effect (refuses view s) o read) (of_effect (sets_too_many s) o read) (of_effect (names_too_many view s) o read) (of_effect (exhausts_numbers view s) o read) (of_effect (is_too_large view s r) o read) ≡ None
     → (last : Reply) → ServesBy view s r c (plan_of_call view s r o read) last
 call-serves view s r c (Some e) (Ok asked) h i w none later last =
-    let well = ((effect-row e view s asked (call-suits c s.phase r.arguments e asked h i)).order r w (starts-configured c s.phase e h)).none later in
+    let row = effect-row (effect_of s r e) view s asked (still-suits s r e asked (call-suits c s.phase r.arguments e asked h i)) (still-in s r e (is-in c s.phase e h)) in
+    let well = (row.order r w).none (still-first view s r e asked ∙ later) in
     record { asked = asked; read = i; does = e; is = h; asks = well.asks; answered = well.answered last }
 call-serves view s r c o (Err key) h i w none later last = absurd (badly-fails (name_refused s.phase (Some c)) (BadArguments key) None none)
 call-serves view s r c None (Ok asked) h i w none later last =
@@ -149,7 +121,7 @@ plan-serves view s r w none later last =
       does = by.2.does;
       is = by.2.is;
       asks = ap act_in same ∙ by.2.asks;
-      answered = subst (λ (p : Plan). IsAnswered by.2.does s r last (comes_to p last)) (sym same) by.2.answered;
+      answered = subst (λ (p : Plan). IsAnswered (effect_of s r by.2.does) s r last (comes_to p last)) (sym same) by.2.answered;
     }
 
 pub failures_come_in_order : FailuresComeInOrder

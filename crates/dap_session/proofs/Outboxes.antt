@@ -1,11 +1,17 @@
 -- A message more on an outbox, and that a client reads it.
-use Rattle.std.proofs.Common.{◌≡◌, ℕ, ◌+◌, ◌<◌, ◌≤◌, List, [], ◌∷◌, ◌++◌, true, Option, Some, None, Result, Ok, Err, IfOk, length, refl, sym, ap, ◌∙◌, subst, append_assoc, arith, length-append}
+use Rattle.std.proofs.Common.{◌≡◌, ℕ, ◌+◌, ◌<◌, ◌≤◌, List, [], ◌∷◌, ◌++◌, true, Option, Some, None, Result, Ok, Err, IfOk, OnOk, length, decimal, refl, sym, ap, ◌∙◌, subst, append_assoc, arith, length-append}
 use Rattle.std.specs.List.{AllByRecursion}
 use Rattle.std.proofs.lemmas.List.{append-nil}
 use Rattle.dap_json.specs.Field.{max_seq}
 use Rattle.dap_frame.specs.Written.{frame_of}
 use Rattle.dap_message.specs.Body.{data_in}
-use Rattle.dap_message.specs.Canon.{canon}
+use Rattle.json.specs.Print.{escape_byte}
+use Rattle.serde_json.specs.Data.{object}
+use Rattle.std.specs.Fmt.{digits}
+use Rattle.std.proofs.lemmas.Fmt.{length-decimal-le}
+use Rattle.dap_message.specs.Canon.{canon, tree_of, members_of, request_members}
+use Rattle.dap_message.specs.Terminal.{run_in_terminal, terminal_members}
+use Rattle.dap_message.proofs.Sizes.{length-compact_text}
 use Rattle.dap_message.specs.MessageParts.{failure_response, success_response, has_fixed_shape}
 use Rattle.dap_message.specs.Lengths.{max_fixed, FailuresAreShort, FixedResponsesAreShort}
 use Rattle.dap_message.specs.Meaning.{Msg}
@@ -15,7 +21,7 @@ use Rattle.dap_message.specs.Types.Failure.{Failure}
 use Rattle.dap_message.specs.declared.message.Message.{Message}
 use Rattle.dap_tables.specs.declared.entry.Entry.{Entry}
 use Rattle.dap_session.specs.InRange.{IsRequestInRange, IsDraftInRange}
-use Rattle.dap_session.specs.Plan.{Draft, message_of, numbered_messages, bytes_of}
+use Rattle.dap_session.specs.Plan.{Draft, ask, message_of, numbered_messages, bytes_of}
 use Rattle.dap_session.specs.PrivateOutbox.{AppendsDraft, shape_of}
 use Rattle.dap_session.specs.declared.outbox.Fixed.{Fixed}
 use Rattle.dap_session.specs.declared.outbox.Fixed.TheVariants.{Initialize, Continue}
@@ -56,10 +62,25 @@ pub reads-success : FixedResponsesAreShort → (seq : ℕ) (r : Entry) (fixed : 
 reads-success short seq r fixed text e reads s i =
     record { fits = short seq r.seq r.command (shape_of fixed) (is-fixed fixed) s i.seq i.command; reads = subst (λ (bs : List ℕ). Msg bs (success_response seq r.seq r.command (data_in (shape_of fixed)))) e (reads s i.seq i.command) }
 
+-- the request for a terminal, which is short too
+ask-short : (seq : ℕ) → seq ≤ max_seq → length (canon (message_of seq ask)) ≤ max_fixed
+unfolding canon tree_of request_members terminal_members escape_byte digits
+ask-short seq s =
+    let number : length (decimal seq) ≤ 16 = length-decimal-le 16 seq (omega arith) (omega arith) (omega arith) in
+    let all = length-compact_text (object (members_of seq (message_of seq ask).kind)) in
+    omega arith
+
+pub reads-asked : (seq : ℕ) (text : List ℕ) → text ≡ canon (message_of seq ask) → (seq ≤ max_seq → length run_in_terminal ≤ max_command → Msg text (message_of seq ask)) → seq ≤ max_seq → ReadsBack max_fixed (message_of seq ask)
+reads-asked seq text e reads s = record { fits = ask-short seq s; reads = subst (λ (bs : List ℕ). Msg bs (message_of seq ask)) e (reads s (omega arith)) }
+
 -- two things of what a call returned
 pub both-ok : {T E : Type 0} (r : Result T E) (P Q R : T → Type 0) → ((x : T) → P x → Q x → R x) → IfOk r P → IfOk r Q → IfOk r R
 both-ok (Ok x) P Q R f p q = f x p q
 both-ok (Err e) P Q R f p q = tt
+
+pub asked-ok : {T E : Type 0} (r : Result T E) (P Q : T → Type 0) (W : Type 0) → ((x : T) → P x → Q x → W) → IfOk r P → IfOk r Q → OnOk r W
+asked-ok (Ok x) P Q W f p q = f x p q
+asked-ok (Err e) P Q W f p q = tt
 
 -- ---- all of a list
 

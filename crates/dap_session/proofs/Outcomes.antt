@@ -1,10 +1,10 @@
 -- All that is proved of a step that was made, in one place: what answers it gives, what it keeps, what it does to the tables, how many messages it takes, how many requests are left to handle, and what failures it may write.
 -- A row of the table is shown to be one of these (Rows); the laws on steps are read off it.
-use Rattle.std.proofs.Common.{◌≡◌, ◌⊎◌, inl, inr, ℕ, ◌+◌, ◌<◌, List, [], ◌∷◌, ◌++◌, Bool, true, false, length, refl, sym, ap, ◌∙◌, subst, arith}
+use Rattle.std.proofs.Common.{◌≡◌, ◌⊎◌, inl, inr, ℕ, ◌+◌, ◌<◌, List, [], ◌∷◌, ◌++◌, Bool, true, false, Option, None, length, refl, sym, ap, ◌∙◌, subst, arith}
 use Rattle.std.specs.Prelude.{◌||◌, if◌then◌else◌}
 use Rattle.std.specs.List.{list_any}
 use Rattle.std.proofs.lemmas.List.{append-nil}
-use Rattle.dap_history.specs.History.{Asked}
+use Rattle.dap_history.specs.History.{Asked, Answered, without_answered}
 use Rattle.dap_history.specs.Requests.{asks}
 use Rattle.dap_message.specs.Types.Failure.{Failure}
 use Rattle.dap_tables.specs.Outstanding.{Kept, without, HasDistinctSeqs}
@@ -14,25 +14,30 @@ use Rattle.dap_debuggee.specs.Shown.{Act, Reply, done}
 use Rattle.dap_session.specs.Answering.{GoesWell}
 use Rattle.dap_session.specs.Handling.{answer_each}
 use Rattle.dap_session.specs.Laws.{CanMake}
-use Rattle.dap_session.specs.Plan.{Answer, success, failure, Draft, reply, emit, names_in, names_of, outs, Made, Plan, at_once, asking, after_answering, messages_due, entries_of, references_end_if}
+use Rattle.dap_session.specs.Plan.{Answer, success, failure, Draft, reply, emit, ask, requests_in, names_in, names_of, outs, Made, Plan, at_once, asking, after_answering, messages_due, entries_of, references_end_if}
 use Rattle.dap_session.specs.References.{references_after}
 use Rattle.dap_session.specs.RefusalLaws.{is_for_room}
-use Rattle.dap_session.specs.Session.{Session, to_handle}
+use Rattle.dap_session.specs.Session.{Session, own_requests, IsAskedIn, IsOrderly, to_handle}
 use Rattle.dap_session.proofs.Fewer.{IsHandled, fewer-handled}
-use Rattle.dap_session.proofs.Kept.{Walked, walked-kept}
+use Rattle.dap_session.proofs.Kept.{Walked, walked-kept, all-open}
 use Rattle.dap_session.proofs.Moves.{Moves, IsPlain, is-plain, moves-plain}
 use Rattle.dap_session.proofs.Steps.{references_after-append}
 
 -- ---- one step
 
--- over requests that came just before it; that it goes well may need a premise, as that the kept requests have distinct numbers
-pub record IsSound (premise : Type 0) (s : Session) (came : List Asked) (m : Made) : Type 0 where
-  pub well : premise → GoesWell s came m
+-- whether an own request waits suits the phase, then as before
+abbrev pub Stays : Session → Made → Type 0
+Stays s m = IsAskedIn s.phase s.asked → IsAskedIn m.after.phase m.after.asked
+
+-- over requests and a response that came just before it; that it goes well may need a premise, as that the session is orderly
+pub record IsSound (premise : Type 0) (s : Session) (came : List Asked) (response : Option Answered) (m : Made) : Type 0 where
+  pub well : premise → GoesWell s came response m
   pub moves : Moves s m
+  pub stays : Stays s m
 
 -- what a request that is handled comes to, in so many messages
 pub record IsOutcome (s : Session) (n : ℕ) (m : Made) : Type 0 where
-  pub sound : IsSound (HasDistinctSeqs s.kept) s [] m
+  pub sound : IsSound (IsOrderly s) s [] None m
   pub count : length m.drafts ≡ n
   pub fewer : HasDistinctSeqs s.kept → to_handle m.after.kept < to_handle s.kept
 
@@ -60,28 +65,70 @@ pub append-names-none : (ds es : List Draft) → NameNone ds → NameNone es →
 append-names-none [] es n o = o
 append-names-none (d ∷ ds) es n o = (n.0, append-names-none ds es n.1 o)
 
+-- ---- drafts that ask for nothing
+
+abbrev pub AskNone : List Draft → Type 0
+AskNone [] = Unit {0}
+AskNone (reply r answer ∷ ds) = AskNone ds
+AskNone (emit event ∷ ds) = AskNone ds
+AskNone (ask ∷ ds) = ⊥
+
+pub none-asked : (used : ℕ) (ds : List Draft) → AskNone ds → requests_in used ds ≡ []
+none-asked used [] n = refl
+none-asked used (reply r answer ∷ ds) n = none-asked (used + 1) ds n
+none-asked used (emit event ∷ ds) n = none-asked (used + 1) ds n
+none-asked used (ask ∷ ds) n = absurd n
+
+pub each-asks-none : (answer : Answer) (ks : List Kept) → AskNone (answer_each answer ks)
+each-asks-none answer [] = tt
+each-asks-none answer (k ∷ ks) = each-asks-none answer ks
+
+pub append-asks-none : (ds es : List Draft) → AskNone ds → AskNone es → AskNone (ds ++ es)
+append-asks-none [] es n o = o
+append-asks-none (reply r answer ∷ ds) es n o = append-asks-none ds es n o
+append-asks-none (emit event ∷ ds) es n o = append-asks-none ds es n o
+append-asks-none (ask ∷ ds) es n o = absurd n
+
+-- what waits then is what waited, and what is asked
+abbrev pub AsksWell : Session → Made → Type 0
+AsksWell s m = own_requests m.after.asked ≡ without_answered None (own_requests s.asked) ++ requests_in s.used m.drafts
+
+-- nothing is asked, and nothing answered
+pub record AsksNothing (s : Session) (m : Made) : Type 0 where
+  pub same : m.after.asked ≡ s.asked
+  pub none : AskNone m.drafts
+  pub stays : Stays s m
+
+pub asks-nothing : (s : Session) (m : Made) → m.after.asked ≡ s.asked → AskNone m.drafts → Stays s m → AsksNothing s m
+asks-nothing s m e n t = record { same = e; none = n; stays = t }
+
+pub asks-well : (s : Session) (m : Made) → AsksNothing s m → AsksWell s m
+asks-well s m a =
+    ap own_requests a.same
+    ∙ (sym (append-nil (own_requests s.asked)) ∙ (ap (λ (qs : List Asked). qs ++ []) (sym (all-open (own_requests s.asked))) ∙ ap (λ (qs : List Asked). without_answered None (own_requests s.asked) ++ qs) (sym (none-asked s.used m.drafts a.none))))
+
 -- ---- outcomes by their parts
 
 -- the drafts walk the kept requests, and nothing came
-pub walked-well : (s : Session) (m : Made) → Moves s m → Walked m.drafts (asks s.kept) (asks m.after.kept) → m.after.used ≡ s.used + length m.drafts → m.after.references ≡ references_after s.references (entries_of s.used m) → GoesWell s [] m
-walked-well s m v w u r =
+pub walked-well : (s : Session) (m : Made) → Moves s m → Walked m.drafts (asks s.kept) (asks m.after.kept) → m.after.used ≡ s.used + length m.drafts → m.after.references ≡ references_after s.references (entries_of s.used m) → AsksWell s m → GoesWell s [] None m
+walked-well s m v w u r a =
     let same : asks s.kept ++ [] ≡ asks s.kept = append-nil (asks s.kept) in
     let moved : Walked m.drafts (asks s.kept ++ []) (asks m.after.kept) = subst (λ (qs : List Asked). Walked m.drafts qs (asks m.after.kept)) (sym same) w in
-    record { each = moved.each; kept = sym moved.left_is; used = u; references = r; limits = v.limits }
+    record { each = moved.each; kept = sym moved.left_is; accepted = tt; asked = a; used = u; references = r; limits = v.limits }
 
 pub outcome : (s : Session) (n : ℕ) (m : Made) → Moves s m → m.after.references ≡ references_after s.references (entries_of s.used m) → m.after.used ≡ s.used + length m.drafts → length m.drafts ≡ n
-    → (HasDistinctSeqs s.kept → Walked m.drafts (asks s.kept) (asks m.after.kept)) → (HasDistinctSeqs s.kept → to_handle m.after.kept < to_handle s.kept) → IsOutcome s n m
-outcome s n m v r u c w f =
+    → (HasDistinctSeqs s.kept → Walked m.drafts (asks s.kept) (asks m.after.kept)) → (HasDistinctSeqs s.kept → to_handle m.after.kept < to_handle s.kept) → (IsAskedIn s.phase s.asked → AsksWell s m) → Stays s m → IsOutcome s n m
+outcome s n m v r u c w f a t =
     record {
-      sound = record { well = λ (d : HasDistinctSeqs s.kept). walked-well s m v (w d) u r; moves = v };
+      sound = record { well = λ (o : IsOrderly s). walked-well s m v (w o.distinct) u r (a o.asked); moves = v; stays = t };
       count = c;
       fewer = f;
     }
 
 -- no references are given, and no breakpoints set
 pub plain-outcome : (s : Session) (n : ℕ) (m : Made) → IsPlain s m → NameNone m.drafts → m.after.used ≡ s.used + length m.drafts → length m.drafts ≡ n
-    → (HasDistinctSeqs s.kept → Walked m.drafts (asks s.kept) (asks m.after.kept)) → (HasDistinctSeqs s.kept → to_handle m.after.kept < to_handle s.kept) → IsOutcome s n m
-plain-outcome s n m p names u c w f = outcome s n m (moves-plain s m p) (references-plain s m names p) u c w f
+    → (HasDistinctSeqs s.kept → Walked m.drafts (asks s.kept) (asks m.after.kept)) → (HasDistinctSeqs s.kept → to_handle m.after.kept < to_handle s.kept) → AsksNothing s m → IsOutcome s n m
+plain-outcome s n m p names u c w f a = outcome s n m (moves-plain s m p) (references-plain s m names p) u c w f (λ suits. asks-well s m a) a.stays
 
 walked-by : (s : Session) (k : Kept) (answer : Answer) (m : Made) → IsHandled s k → m.drafts ≡ reply k.entry answer ∷ [] → m.after.kept ≡ without k.entry.seq s.kept → HasDistinctSeqs s.kept → Walked m.drafts (asks s.kept) (asks m.after.kept)
 walked-by s k answer m i ds ks d = rw (ds, ks) (walked-kept answer s.kept k d i.kept)
@@ -91,18 +138,19 @@ fewer-by s k m i ks d = rw ks (fewer-handled s k d i)
 
 -- one answer, and the request is kept no more
 pub replied : (s : Session) (k : Kept) (answer : Answer) (m : Made) → IsHandled s k → Moves s m → m.after.references ≡ references_after s.references (entries_of s.used m) → m.drafts ≡ reply k.entry answer ∷ [] → m.after.kept ≡ without k.entry.seq s.kept
-    → m.after.used ≡ s.used + 1 → IsOutcome s 1 m
-replied s k answer m i v r ds ks u =
+    → m.after.used ≡ s.used + 1 → m.after.asked ≡ s.asked → Stays s m → IsOutcome s 1 m
+replied s k answer m i v r ds ks u same t =
     let one : length m.drafts ≡ 1 = ap length ds in
-    outcome s 1 m v r (omega arith) one (walked-by s k answer m i ds ks) (fewer-by s k m i ks)
+    let none : AskNone m.drafts = subst (λ (xs : List Draft). AskNone xs) (sym ds) tt in
+    outcome s 1 m v r (omega arith) one (walked-by s k answer m i ds ks) (fewer-by s k m i ks) (λ suits. asks-well s m (asks-nothing s m same none t)) t
 
 -- and it names no references
-pub plain-reply : (s : Session) (k : Kept) (answer : Answer) (m : Made) → IsHandled s k → names_in answer ≡ [] → m.drafts ≡ reply k.entry answer ∷ [] → m.after.kept ≡ without k.entry.seq s.kept → m.after.used ≡ s.used + 1 → IsPlain s m → IsOutcome s 1 m
-plain-reply s k answer m i e ds ks u p =
-    replied s k answer m i (moves-plain s m p) (references-plain s m (subst (λ (xs : List Draft). NameNone xs) (sym ds) (e, tt)) p) ds ks u
+pub plain-reply : (s : Session) (k : Kept) (answer : Answer) (m : Made) → IsHandled s k → names_in answer ≡ [] → m.drafts ≡ reply k.entry answer ∷ [] → m.after.kept ≡ without k.entry.seq s.kept → m.after.used ≡ s.used + 1 → IsPlain s m → m.after.asked ≡ s.asked → Stays s m → IsOutcome s 1 m
+plain-reply s k answer m i e ds ks u p same t =
+    replied s k answer m i (moves-plain s m p) (references-plain s m (subst (λ (xs : List Draft). NameNone xs) (sym ds) (e, tt)) p) ds ks u same t
 
 pub after_answering-outcome : (s : Session) (k : Kept) (answer : Answer) → IsHandled s k → names_in answer ≡ [] → IsOutcome s 1 (after_answering k.entry answer s)
-after_answering-outcome s k answer i e = plain-reply s k answer (after_answering k.entry answer s) i e refl refl refl (is-plain s _ refl refl refl)
+after_answering-outcome s k answer i e = plain-reply s k answer (after_answering k.entry answer s) i e refl refl refl (is-plain s _ refl refl refl) refl (λ suits. suits)
 
 -- ---- failures for size or room
 
@@ -113,6 +161,7 @@ is_refused (failure f) = is_for_room f
 abbrev pub refuses : Draft → Bool
 refuses (reply r answer) = is_refused answer
 refuses (emit event) = false
+refuses ask = false
 
 -- none of these drafts is such a failure
 abbrev pub AreClean : List Draft → Type 0

@@ -45,6 +45,10 @@ session-pushed refs points limits old new numbers r d e o =
 pub session-spent : (refs : ReferenceTable) (points : BreakpointTable) (limits : Settings) (table : KeptRequests) (numbers later : Numbers) → IsSession limits table refs points numbers → later.last ≡ limits.seq → later.used ≤ later.last → IsSession limits table refs points later
 session-spent refs points limits table numbers later d l u = record { room = d.room; orderly = d.orderly; others = d.others; last = l; used = u }
 
+-- those that were parked less
+pub session-unparked : (refs : ReferenceTable) (points : BreakpointTable) (limits : Settings) (old new : KeptRequests) (numbers later : Numbers) → IsSession limits old refs points numbers → new ≡ record old { kept = unparked_ones old.kept } → IsOrderlyRequests new → later.last ≡ limits.seq → later.used ≤ later.last → IsSession limits new refs points later
+session-unparked refs points limits old new numbers later d e o l u = record { room = rw e d.room; orderly = o; others = d.others; last = l; used = u }
+
 -- a request less, and those that were parked
 pub session-settled : (refs : ReferenceTable) (points : BreakpointTable) (limits : Settings) (old mid new : KeptRequests) (numbers later : Numbers) (seq : ℕ) → IsSession limits old refs points numbers → mid ≡ record old { kept = without seq old.kept } → IsOrderlyRequests mid → new ≡ record mid { kept = unparked_ones mid.kept } → IsOrderlyRequests new → later.last ≡ limits.seq → later.used ≤ later.last → IsSession limits new refs points later
 session-settled refs points limits old mid new numbers later seq d e m f o l u =

@@ -1,6 +1,7 @@
 -- Answers to several kept requests on an outbox, one by one.
 use Rattle.std.proofs.Common.{◌≡◌, ℕ, ◌+◌, ◌≤◌, List, [], ◌∷◌, ◌++◌, Bool, true, false, length, refl, sym, ap, ◌∙◌, subst, append_assoc, arith, filter, true≢false}
 use Rattle.std.specs.Prelude.{◌==◌, ◌||◌, ◌&&◌, not, if◌then◌else◌, map}
+use Rattle.std.specs.List.{list_any}
 use Rattle.std.proofs.lemmas.Bool.Decides.{nat_tests}
 use Rattle.std.proofs.lemmas.List.{append-nil}
 use Rattle.std.proofs.lemmas.List.Folds.{list_any-append}
@@ -105,6 +106,14 @@ answers-parked answer kept d = parked-where (λ seq. is_parked seq kept) answer 
 
 pub count-parked : (kept : List Kept) → HasDistinctSeqs kept → length (filter (λ (r : Entry). is_parked r.seq kept) (entries kept)) ≡ length (parked_ones kept)
 count-parked kept d = length-parked (λ seq. is_parked seq kept) kept (tells-from [] kept d)
+
+any-marked : (passes : ℕ → Bool) (test : Entry → Bool) (ks : List Kept) → TellsMarks passes ks → list_any (λ (r : Entry). passes r.seq && test r) (entries ks) ≡ list_any (λ (k : Kept). k.parked && test k.entry) ks
+any-marked passes test [] t = refl
+any-marked passes test (k ∷ ks) t = rw t.0 (ap (λ (b : Bool). (k.parked && test k.entry) || b) (any-marked passes test ks t.1))
+
+-- one of those that are parked passes a test
+pub any-parked : (test : Entry → Bool) (kept : List Kept) → HasDistinctSeqs kept → list_any (λ (r : Entry). is_parked r.seq kept && test r) (entries kept) ≡ list_any (λ (k : Kept). k.parked && test k.entry) kept
+any-parked test kept d = any-marked (λ seq. is_parked seq kept) test kept (tells-from [] kept d)
 
 parked-drop : (b p : Bool) (k : Kept) (ks : List Kept) → (b && p) ≡ false → k.parked ≡ p → parked_ones (if not b then k ∷ ks else ks) ≡ (if p then k ∷ parked_ones ks else parked_ones ks)
 parked-drop true true k ks h e = absurd (true≢false h)

@@ -1,8 +1,8 @@
 -- What is true of a session stays true.
-use Rattle.std.proofs.Common.{◌≡◌, ◌≤◌, List, [], ◌++◌, Some, Ok, length, ap, arith}
+use Rattle.std.proofs.Common.{◌≡◌, ◌≤◌, List, [], ◌++◌, Option, Some, None, Ok, length, refl, ap, arith}
 use Rattle.std.proofs.lemmas.List.{append-nil}
 use Rattle.dap_frame.specs.Settings.{Settings}
-use Rattle.dap_history.specs.History.{Asked}
+use Rattle.dap_history.specs.History.{Asked, Answered}
 use Rattle.dap_history.specs.Requests.{asks}
 use Rattle.dap_message.specs.declared.message.Message.{Message}
 use Rattle.dap_debuggee.specs.Shown.{Shown}
@@ -11,23 +11,28 @@ use Rattle.dap_session.specs.Handling.{turns}
 use Rattle.dap_session.specs.Laws.{CanMake}
 use Rattle.dap_session.specs.Plan.{Made, Plan}
 use Rattle.dap_session.specs.Polling.{polls}
-use Rattle.dap_session.specs.Session.{Session, fresh_session}
+use Rattle.dap_session.specs.Session.{Session, IsOrderly, fresh_session}
 use Rattle.dap_session.specs.Taking.{takes}
 use Rattle.dap_session.specs.Within.{IsWithin, EachStepStaysWithin}
 use Rattle.dap_session.proofs.Deliveries.{delivery-is}
 use Rattle.dap_session.proofs.Distinct.{AreDistinct, asks-distinct, distinct-asks, distinct-open, length-open, length-asks}
 use Rattle.dap_session.proofs.Happenings.{poll-is}
 use Rattle.dap_session.proofs.Moves.{Moves}
+use Rattle.dap_session.proofs.Outcomes.{Stays}
 use Rattle.dap_session.proofs.Turns.{turn-is}
 
+orderly : (s : Session) → IsWithin s → IsOrderly s
+orderly s i = record { distinct = i.distinct; asked = i.asked }
+
 -- what a step leaves, where it keeps few enough requests, and there are own numbers enough
-step-within : (s : Session) (came : List Asked) (m : Made) → IsWithin s → Moves s m → GoesWell s came m → AreDistinct (asks s.kept ++ came) → length m.after.kept ≤ s.limits.requests → m.after.used ≤ s.limits.seq → IsWithin m.after
-step-within s came m i v w d k u =
+step-within : (s : Session) (came : List Asked) (response : Option Answered) (m : Made) → IsWithin s → Moves s m → Stays s m → GoesWell s came response m → AreDistinct (asks s.kept ++ came) → length m.after.kept ≤ s.limits.requests → m.after.used ≤ s.limits.seq → IsWithin m.after
+step-within s came response m i v t w d k u =
     let few = v.few (record { references = i.references; numbers = i.numbers }) in
     let stand = v.stand (record { breakpoints = i.breakpoints; ids = i.ids }) in
     record {
       distinct = distinct-asks m.after.kept (rw w.kept (distinct-open m.drafts (asks s.kept ++ came) d));
       kept = rw v.limits k;
+      asked = t i.asked;
       used = rw v.limits u;
       references = rw v.limits few.references;
       numbers = rw v.limits few.numbers;
@@ -36,8 +41,8 @@ step-within s came m i v w d k u =
     }
 
 -- none came: no more are kept than were
-none-came : (s : Session) (m : Made) → IsWithin s → Moves s m → GoesWell s [] m → m.after.used ≤ s.limits.seq → IsWithin m.after
-none-came s m i v w u =
+none-came : (s : Session) (m : Made) → IsWithin s → Moves s m → Stays s m → GoesWell s [] None m → m.after.used ≤ s.limits.seq → IsWithin m.after
+none-came s m i v t w u =
     let same : asks s.kept ++ [] ≡ asks s.kept = append-nil (asks s.kept) in
     let fewer = length-open m.drafts (asks s.kept ++ []) in
     let all = ap length same in
@@ -45,31 +50,31 @@ none-came s m i v w u =
     let b = length-asks m.after.kept in
     let c = ap length w.kept in
     let most = i.kept in
-    step-within s [] m i v w (rw same (asks-distinct s.kept i.distinct)) (omega arith) u
+    step-within s [] None m i v t w (rw same (asks-distinct s.kept i.distinct)) (omega arith) u
 
 take-stays : (s : Session) (m : Message) (plan : Plan) (made : Made) → IsWithin s → takes m s ≡ Ok plan → CanMake plan made → IsWithin made.after
 take-stays s m plan made i e is =
     let t = delivery-is s m plan made e is in
-    let well = t.sound.well i.distinct in
+    let well = t.sound.well (orderly s i) in
     let room = t.room i.used in
     let now = well.used in
-    step-within s _ made i t.sound.moves well (t.distinct i.distinct) (t.few i.kept) (omega arith)
+    step-within s _ _ made i t.sound.moves t.sound.stays well (t.distinct i.distinct) (t.few i.kept) (omega arith)
 
 turn-stays : (view : Shown) (s : Session) (plan : Plan) (made : Made) → IsWithin s → turns view s ≡ Ok (Some plan) → CanMake plan made → IsWithin made.after
 turn-stays view s plan made i e is =
     let t = turn-is view s plan e in
     let o = t.row.outcomes made is in
-    let well = o.sound.well i.distinct in
+    let well = o.sound.well (orderly s i) in
     let many = o.count in
     let room = t.room in
     let now = well.used in
-    none-came s made i o.sound.moves well (omega arith)
+    none-came s made i o.sound.moves o.sound.stays well (omega arith)
 
 poll-stays : (s : Session) (made : Made) → IsWithin s → CanMake (polls s) made → made.after.used ≤ s.limits.seq → IsWithin made.after
-poll-stays s made i is u = let p = poll-is s made is in none-came s made i p.moves (p.well tt) u
+poll-stays s made i is u = let p = poll-is s made is in none-came s made i p.moves p.stays (p.well tt) u
 
 fresh-within : (limits : Settings) → IsWithin (fresh_session limits)
-fresh-within limits = record { distinct = tt; kept = omega arith; used = omega arith; references = omega arith; numbers = omega arith; breakpoints = omega arith; ids = omega arith }
+fresh-within limits = record { distinct = tt; kept = omega arith; asked = refl; used = omega arith; references = omega arith; numbers = omega arith; breakpoints = omega arith; ids = omega arith }
 
 pub each_step_stays_within : EachStepStaysWithin
 each_step_stays_within = record {

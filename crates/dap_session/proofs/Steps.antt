@@ -7,10 +7,10 @@ use Rattle.dap_history.specs.History.{Entry, In, Out, ReferencesEnd, Came, Asked
 use Rattle.dap_history.specs.HistoryLaws.{HistoriesGrow}
 use Rattle.dap_message.specs.declared.message.Message.{Message}
 use Rattle.dap_session.specs.Answering.{answered_by, AnswersEach, open_after, GoesWell}
-use Rattle.dap_session.specs.Plan.{success, failure, Draft, reply, emit, message_of, names_of, numbered_messages, outs, Made, entries_of, references_end_if}
+use Rattle.dap_session.specs.Plan.{success, failure, Draft, reply, emit, ask, request_of, requests_in, message_of, names_of, numbered_messages, outs, Made, entries_of, references_end_if}
 use Rattle.dap_session.specs.References.{references_then, references_after, references_of}
 use Rattle.dap_tables.specs.References.{LiveReferences, no_references}
-use Rattle.dap_session.specs.Session.{Session}
+use Rattle.dap_session.specs.Session.{Session, own_requests}
 use Rattle.dap_history.specs.Requests.{asked_of, asks}
 use Rattle.dap_session.specs.Follows.{Follows}
 use Rattle.dap_session.proofs.Kept.{all-open}
@@ -37,6 +37,7 @@ seq-of-message : (n : ℕ) (d : Draft) → (message_of n d).seq ≡ n
 seq-of-message n (reply r (success body names)) = refl
 seq-of-message n (reply r (failure f)) = refl
 seq-of-message n (emit event) = refl
+seq-of-message n ask = refl
 
 numbered_messages-are : (used : ℕ) (ds : List Draft) → AreNumberedAfter used (numbered_messages used ds)
 numbered_messages-are used [] = tt
@@ -52,6 +53,13 @@ response-of-message : (n : ℕ) (d : Draft) → response_as (message_of n d).kin
 response-of-message n (reply r (success body names)) = refl
 response-of-message n (reply r (failure f)) = refl
 response-of-message n (emit event) = refl
+response-of-message n ask = refl
+
+request-of-message : (n : ℕ) (d : Draft) → option_to_list (request_as (message_of n d).seq (message_of n d).kind) ≡ request_of n d
+request-of-message n (reply r (success body names)) = refl
+request-of-message n (reply r (failure f)) = refl
+request-of-message n (emit event) = refl
+request-of-message n ask = refl
 
 -- ---- drafts that are handed out
 
@@ -62,6 +70,7 @@ pub record After (h k : List Entry) (left : List Asked) : Type 0 where
 one-answered : (d : Draft) (ds : List Draft) (open_requests : List Asked) → AnswersEach (d ∷ ds) open_requests → AnswersOne open_requests (answered_by d) × AnswersEach ds (without_answered (answered_by d) open_requests)
 one-answered (reply r answer) ds open_requests each = ((asked_of r, each.0, refl), each.1)
 one-answered (emit event) ds open_requests each = (tt, each)
+one-answered ask ds open_requests each = (tt, each)
 
 pub after-outs : (laws : HistoriesGrow) (used : ℕ) (ds : List Draft) (h : List Entry) (open_requests : List Asked) → waiting Came h ≡ open_requests → Answers Came h → AnswersEach ds open_requests → After h (h ++ outs used ds) (open_after ds open_requests)
 after-outs laws used [] h open_requests w all each = rw (append-nil h) (record { waits = w; answers = all })
@@ -120,9 +129,25 @@ went-entries : (laws : HistoriesGrow) (used : ℕ) (m : Made) (h : List Entry) �
 went-entries laws used m h all =
     subst (λ (k : List Entry). Answers Went k) (append_assoc h (references_end_if m.drops) (outs used m.drafts)) (went-outs laws used m.drafts (h ++ references_end_if m.drops) (went-drop laws m.drops h all))
 
--- a message that is no response
-went-in : (laws : HistoriesGrow) (h : List Entry) (x : Message) → response_as x.kind ≡ None → Answers Went h → Answers Went (h ++ In x ∷ [])
-went-in laws h x e all = laws.answers_then Went h (In x) all (rw e tt)
+-- ---- own requests: those that are written wait
+
+asked-outs : (laws : HistoriesGrow) (used : ℕ) (ds : List Draft) (h : List Entry) (open_requests : List Asked) → waiting Went h ≡ open_requests → waiting Went (h ++ outs used ds) ≡ open_requests ++ requests_in used ds
+asked-outs laws used [] h open_requests w = ap (waiting Went) (append-nil h) ∙ (w ∙ sym (append-nil open_requests))
+asked-outs laws used (d ∷ ds) h open_requests w =
+    let e : Entry = Out (message_of (used + 1) d) (names_of d) in
+    let now : waiting Went (h ++ e ∷ []) ≡ open_requests ++ request_of (used + 1) d =
+    laws.waiting_then Went h e ∙ (ap (λ (qs : List Asked). qs ++ option_to_list (request_as (message_of (used + 1) d).seq (message_of (used + 1) d).kind)) (all-open (waiting Went h) ∙ w) ∙ ap (λ (qs : List Asked). open_requests ++ qs) (request-of-message (used + 1) d)) in
+    let rest = asked-outs laws (used + 1) ds (h ++ e ∷ []) (open_requests ++ request_of (used + 1) d) now in
+    let moved : waiting Went ((h ++ e ∷ []) ++ outs (used + 1) ds) ≡ open_requests ++ requests_in used (d ∷ ds) = rest ∙ append_assoc open_requests (request_of (used + 1) d) (requests_in (used + 1) ds) in
+    subst (λ (k : List Entry). waiting Went k ≡ open_requests ++ requests_in used (d ∷ ds)) (append_assoc h (e ∷ []) (outs (used + 1) ds)) moved
+
+asked-drop : (laws : HistoriesGrow) (drops : Bool) (h : List Entry) → waiting Went (h ++ references_end_if drops) ≡ waiting Went h
+asked-drop laws true h = laws.waiting_then Went h ReferencesEnd ∙ (append-nil (without_answered None (waiting Went h)) ∙ all-open (waiting Went h))
+asked-drop laws false h = ap (waiting Went) (append-nil h)
+
+asked-entries : (laws : HistoriesGrow) (used : ℕ) (m : Made) (h : List Entry) (open_requests : List Asked) → waiting Went h ≡ open_requests → waiting Went (h ++ entries_of used m) ≡ open_requests ++ requests_in used m.drafts
+asked-entries laws used m h open_requests w =
+    subst (λ (k : List Entry). waiting Went k ≡ open_requests ++ requests_in used m.drafts) (append_assoc h (references_end_if m.drops) (outs used m.drafts)) (asked-outs laws used m.drafts (h ++ references_end_if m.drops) open_requests (asked-drop laws m.drops h ∙ w))
 
 -- ---- the step
 
@@ -132,8 +157,8 @@ pub record Counted (s : Session) (h : List Entry) : Type 0 where
   pub used : s.used ≡ length (outs_of h)
   pub numbered_so : AreNumberedAfter 0 (outs_of h)
 
-counted-then : (laws : HistoriesGrow) (s : Session) (came : List Asked) (m : Made) (h : List Entry) → GoesWell s came m → Counted s h → Counted m.after (h ++ entries_of s.used m)
-counted-then laws s came m h well c =
+counted-then : (laws : HistoriesGrow) (s : Session) (came : List Asked) (response : Option Answered) (m : Made) (h : List Entry) → GoesWell s came response m → Counted s h → Counted m.after (h ++ entries_of s.used m)
+counted-then laws s came response m h well c =
     let all_outs : outs_of (h ++ entries_of s.used m) ≡ outs_of h ++ numbered_messages s.used m.drafts =
     laws.outs_append h (entries_of s.used m) ∙ ap (λ (ms : List Message). outs_of h ++ ms) (outs_of-entries laws s.used m) in
     let more = length-append (outs_of h) (numbered_messages s.used m.drafts) in
@@ -148,35 +173,39 @@ counted-then laws s came m h well c =
       numbered_so = rw all_outs (AreNumberedAfter-append 0 (outs_of h) (numbered_messages s.used m.drafts) c.numbered_so (rw from (numbered_messages-are s.used m.drafts)));
     }
 
--- a step over a history h that the requests `came` have just joined
-pub goes_on : (laws : HistoriesGrow) (s : Session) (came : List Asked) (m : Made) (h : List Entry) → GoesWell s came m → waiting Came h ≡ asks s.kept ++ came → Answers Came h → Answers Went h → Counted s h → Follows m.after (h ++ entries_of s.used m)
-goes_on laws s came m h well w all went c =
+-- a step over a history h that the requests `came` and the response have just joined
+pub goes_on : (laws : HistoriesGrow) (s : Session) (came : List Asked) (response : Option Answered) (m : Made) (h : List Entry) → GoesWell s came response m → waiting Came h ≡ asks s.kept ++ came → Answers Came h → waiting Went h ≡ without_answered response (own_requests s.asked) → Answers Went h → Counted s h → Follows m.after (h ++ entries_of s.used m)
+goes_on laws s came response m h well w all own went c =
     let dropped = after-drop laws m.drops h (asks s.kept ++ came) w all in
     let done = after-outs laws s.used m.drafts (h ++ references_end_if m.drops) (asks s.kept ++ came) dropped.waits dropped.answers well.each in
     let whole : (h ++ references_end_if m.drops) ++ outs s.used m.drafts ≡ h ++ entries_of s.used m = append_assoc h (references_end_if m.drops) (outs s.used m.drafts) in
     let moved = subst (λ (k : List Entry). After (h ++ references_end_if m.drops) k (open_after m.drafts (asks s.kept ++ came))) whole done in
-    let count = counted-then laws s came m h well c in
+    let count = counted-then laws s came response m h well c in
     record {
       kept = well.kept ∙ sym moved.waits;
       answers = moved.answers;
       accepted = went-entries laws s.used m h went;
+      asked = well.asked ∙ sym (asked-entries laws s.used m h (without_answered response (own_requests s.asked)) own);
       references = count.references;
       used = count.used;
       numbered = count.numbered_so;
     }
 
 -- without a request that came
-pub goes_on-alone : (laws : HistoriesGrow) (s : Session) (m : Made) (h : List Entry) → GoesWell s [] m → Follows s h → Follows m.after (h ++ entries_of s.used m)
+pub goes_on-alone : (laws : HistoriesGrow) (s : Session) (m : Made) (h : List Entry) → GoesWell s [] None m → Follows s h → Follows m.after (h ++ entries_of s.used m)
 goes_on-alone laws s m h well f =
-    goes_on laws s [] m h well (sym f.kept ∙ sym (append-nil (asks s.kept))) f.answers f.accepted (record { references = f.references; used = f.used; numbered_so = f.numbered })
+    goes_on laws s [] None m h well (sym f.kept ∙ sym (append-nil (asks s.kept))) f.answers (sym f.asked ∙ sym (all-open (own_requests s.asked))) f.accepted (record { references = f.references; used = f.used; numbered_so = f.numbered })
 
 -- with a message that came
-pub goes_on-delivered : (laws : HistoriesGrow) (s : Session) (x : Message) (m : Made) (h : List Entry) → GoesWell s (option_to_list (request_as x.seq x.kind)) m → response_as x.kind ≡ None → Follows s h → Follows m.after (h ++ In x ∷ entries_of s.used m)
-goes_on-delivered laws s x m h well e f =
+pub goes_on-delivered : (laws : HistoriesGrow) (s : Session) (x : Message) (m : Made) (h : List Entry) → GoesWell s (option_to_list (request_as x.seq x.kind)) (response_as x.kind) m → Follows s h → Follows m.after (h ++ In x ∷ entries_of s.used m)
+goes_on-delivered laws s x m h well f =
     let w : waiting Came (h ++ In x ∷ []) ≡ asks s.kept ++ option_to_list (request_as x.seq x.kind) =
     laws.waiting_then Came h (In x) ∙ ap (λ (qs : List Asked). qs ++ option_to_list (request_as x.seq x.kind)) (all-open (waiting Came h) ∙ sym f.kept) in
     let all : Answers Came (h ++ In x ∷ []) = laws.answers_then Came h (In x) f.answers tt in
+    let own : waiting Went (h ++ In x ∷ []) ≡ without_answered (response_as x.kind) (own_requests s.asked) =
+    laws.waiting_then Went h (In x) ∙ (append-nil (without_answered (response_as x.kind) (waiting Went h)) ∙ ap (without_answered (response_as x.kind)) (sym f.asked)) in
+    let went : Answers Went (h ++ In x ∷ []) = laws.answers_then Went h (In x) f.accepted (subst (λ (qs : List Asked). AnswersOne qs (response_as x.kind)) f.asked well.accepted) in
     let same : outs_of (h ++ In x ∷ []) ≡ outs_of h = laws.outs_append h (In x ∷ []) ∙ append-nil (outs_of h) in
     let refs : references_of (h ++ In x ∷ []) ≡ references_of h = references_after-append no_references h (In x ∷ []) in
-    let told = goes_on laws s (option_to_list (request_as x.seq x.kind)) m (h ++ In x ∷ []) well w all (went-in laws h x e f.accepted) (record { references = f.references ∙ sym refs; used = f.used ∙ ap length (sym same); numbered_so = rw same f.numbered }) in
+    let told = goes_on laws s (option_to_list (request_as x.seq x.kind)) (response_as x.kind) m (h ++ In x ∷ []) well w all own went (record { references = f.references ∙ sym refs; used = f.used ∙ ap length (sym same); numbered_so = rw same f.numbered }) in
     subst (λ (k : List Entry). Follows m.after k) (append_assoc h (In x ∷ []) (entries_of s.used m)) told

@@ -1,9 +1,9 @@
 -- What a request comes to when it is taken.
-use Rattle.std.proofs.Common.{◌≡◌, ℕ, ◌+◌, ◌≤◌, List, [], true, false, Result, Ok, Err, IfOk, OnOk, refl, ◌∙◌, length}
+use Rattle.std.proofs.Common.{◌≡◌, ℕ, ◌+◌, ◌≤◌, List, [], Bool, true, false, None, Result, Ok, Err, IfOk, OnOk, refl, ap, ◌∙◌, length}
 use Rattle.dap_session.proofs.Turning.{within}
 use Rattle.dap_tables.specs.Outstanding.{contains_seq}
 use Rattle.dap_tables.specs.declared.entry.Entry.{Entry}
-use Rattle.dap_session.specs.declared.phase.Phase.TheVariants.{Ended}
+use Rattle.dap_session.specs.declared.phase.Phase.TheVariants.{Asked, Ended}
 use Rattle.dap_debuggee.specs.Shown.{Act, Reply}
 use Rattle.dap_session.specs.Carried.{Goes}
 use Rattle.dap_session.specs.Failures.{of_known, command_of}
@@ -11,7 +11,7 @@ use Rattle.dap_session.specs.Plan.{Made, at_once, asking, no_change, plan_within
 use Rattle.dap_session.specs.SessionState.{SessionState, MadeBy, Carries, HasTaken}
 use Rattle.dap_session.specs.Session.{Session}
 use Rattle.dap_session.specs.Table.{is_phase}
-use Rattle.dap_session.specs.Taking.{takes_request, after_taking, after_cancel_request, after_keeping, is_cancel}
+use Rattle.dap_session.specs.Taking.{takes_request, after_taking, after_cancel_request, after_keeping, after_late_terminal, plan_of_response, plan_of_terminal, is_cancel}
 
 -- a request that no name refuses
 pub record IsOpenTo (r : Entry) (s : Session) : Type 0 where
@@ -33,6 +33,17 @@ asking-carries follows act makes last old new bytes f by = record { step = recor
 -- nothing is made, and nothing is written
 pub no-step : {D : Type 0} (follows : Goes D) (old : SessionState D) (bytes : List ℕ) → bytes ≡ [] → Carries follows (at_once (no_change old.session)) old old bytes
 no-step follows old bytes b = at_once_carries follows (no_change old.session) old old bytes (record { session = refl; tells = record { bytes_are = b; reads_back = λ _. tt } }) refl
+
+-- ---- a response to the own request
+
+-- it comes too late
+pub late-carries : {D : Type 0} (follows : Goes D) (ok : Bool) (old new : SessionState D) (bytes : List ℕ) → is_phase Asked old.session.phase ≡ false → new ≡ record old { session = record old.session { asked = None } } → bytes ≡ [] → Carries follows (plan_of_response ok old.session) old new bytes
+late-carries follows ok old new bytes late n b =
+    rw late (at_once_carries follows (after_late_terminal old.session) old new bytes (record { session = ap (λ (x : SessionState _). x.session) n; tells = record { bytes_are = b; reads_back = λ _. tt } }) (ap (λ (x : SessionState _). x.debuggee) n))
+
+-- or a terminal is waited for
+pub waiting-carries : {D : Type 0} (follows : Goes D) (ok : Bool) (old new : SessionState D) (bytes : List ℕ) → is_phase Asked old.session.phase ≡ true → Carries follows (plan_of_terminal ok old.session) old new bytes → Carries follows (plan_of_response ok old.session) old new bytes
+waiting-carries follows ok old new bytes h c = rw h c
 
 pub takes-made : {D : Type 0} (follows : Goes D) (r : Entry) (old new : SessionState D) (m : Made) (bytes : List ℕ) → IsOpenTo r old.session → after_taking r old.session ≡ m → old.session.used + length m.drafts ≤ old.session.limits.seq
     → MadeBy m old.session new.session bytes → new.debuggee ≡ old.debuggee → HasTaken follows (takes_request r old.session) old new bytes

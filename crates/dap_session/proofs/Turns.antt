@@ -13,13 +13,14 @@ use Rattle.dap_session.specs.declared.effect.Effect.{Effect}
 use Rattle.dap_session.specs.declared.fault.AdapterFault.{AdapterFault}
 use Rattle.dap_session.specs.declared.phase.Phase.TheVariants.{Fresh}
 use Rattle.dap_session.specs.Failures.{command_of, call_in, first_failure, or_else, when, name_refused, key_refused, phase_refused, call_refused, read_refused, known_refused, refusal, waits_for_stop}
-use Rattle.dap_session.specs.Handling.{plan_of_call, plan_of_command, plan_unless, plan as plan_at, some_plan, turn_of, turns}
+use Rattle.dap_session.specs.Handling.{effect_of, plan_of_call, plan_of_command, plan_unless, plan as plan_at, some_plan, turn_of, turns}
 use Rattle.dap_session.specs.Plan.{Plan, messages_due, plan_within_numbers}
 use Rattle.dap_session.specs.Session.{Session, oldest}
 use Rattle.dap_session.specs.Table.{effect_in, is_served, is_phase}
 use Rattle.dap_session.proofs.Fewer.{IsHandled}
 use Rattle.dap_session.proofs.Kept.{kept-found, found-passes}
 use Rattle.dap_session.proofs.Outcomes.{IsRow, failed-row}
+use Rattle.dap_session.proofs.OwnRequests.{is-in, still-in, still-suits}
 use Rattle.dap_session.proofs.EffectRows.{effect-row}
 use Rattle.dap_session.proofs.ServedRows.{unserved}
 use Rattle.dap_session.proofs.ChangeResults.{call-suits}
@@ -46,7 +47,7 @@ unserved-fails None false call h = cc
 
 served-row : (view : Shown) (s : Session) (k : Kept) (c : Command) (o : Option Effect) (read : Read Call) → IsHandled s k → effect_in c s.phase ≡ o → call_in k.entry c ≡ read
     → first_failure (name_refused s.phase (Some c) ∷ first_failure (key_refused read ∷ phase_refused s.phase c ∷ read_refused view s.references read ∷ []) ∷ []) ≡ None → IsRow s (plan_of_call view s k.entry o read)
-served-row view s k c (Some e) (Ok asked) i h r none = (effect-row e view s asked (call-suits c s.phase k.entry.arguments e asked h r)).outcome k i
+served-row view s k c (Some e) (Ok asked) i h r none = (effect-row (effect_of s k.entry e) view s asked (still-suits s k.entry e asked (call-suits c s.phase k.entry.arguments e asked h r)) (still-in s k.entry e (is-in c s.phase e h))).outcome k i
 served-row view s k c o (Err key) i h r none = absurd (badly-fails (name_refused s.phase (Some c)) (BadArguments key) None none)
 served-row view s k c None (Ok asked) i h r none =
     let not_served : is_served c s.phase ≡ false = unserved s.phase c h in

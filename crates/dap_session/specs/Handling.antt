@@ -1,8 +1,9 @@
 -- How a kept request is handled: what the debuggee is asked, what is written, what is left.
 -- Overview, "Initialization" to "Debug session end"; the responses of the Specification. What of this the protocol leaves open is this profile's choice.
-use Rattle.std.specs.Prelude.{ℕ, ℤ, pos, ◌+◌, List, [], ◌∷◌, ◌++◌, length, map, Bool, true, false, nat_le, Option, Some, None, unwrap_or, Result, Ok, Err, if◌then◌else◌}
-use Rattle.std.specs.List.{zip, range_with_len}
+use Rattle.std.specs.Prelude.{ℕ, ℤ, pos, ◌+◌, List, [], ◌∷◌, ◌++◌, length, map, Bool, true, false, nat_le, Option, Some, None, option_map, option_and_then, unwrap_or, codes, bytes_eq, ◌&&◌, Result, Ok, Err, if◌then◌else◌}
+use Rattle.std.specs.List.{zip, range_with_len, list_any}
 use Rattle.serde_json.specs.Data.{Data}
+use Rattle.dap_json.specs.Field.{text_at}
 use Rattle.dap_message.specs.Argument.{Read}
 use Rattle.dap_message.specs.Canon.{canon}
 use Rattle.dap_message.specs.Capabilities.{capabilities_data}
@@ -13,6 +14,7 @@ use Rattle.dap_message.specs.Types.Call.{Call}
 use Rattle.dap_message.specs.Types.Call.TheVariants as call
 use Rattle.dap_message.specs.Types.Capabilities.{Capabilities}
 use Rattle.dap_message.specs.Types.Command.{Command}
+use Rattle.dap_message.specs.Types.Command.TheVariants as command
 use Rattle.dap_message.specs.Types.Failure.{Failure}
 use Rattle.dap_message.specs.Types.Failure.TheVariants.{Debuggee, TooManyBreakpoints, TooLarge, Cancelled}
 use Rattle.dap_message.specs.Types.SetVariable.{SetVariable}
@@ -24,7 +26,7 @@ use Rattle.dap_debuggee.specs.declared.answers.Assigned.{Assigned}
 use Rattle.dap_debuggee.specs.declared.answers.How.{How}
 use Rattle.dap_debuggee.specs.declared.answers.How.TheVariants as how
 use Rattle.dap_session.specs.declared.phase.Phase.{Phase}
-use Rattle.dap_session.specs.declared.phase.Phase.TheVariants.{Ready, Configured, Parked, Running, Exited, Ended}
+use Rattle.dap_session.specs.declared.phase.Phase.TheVariants.{Ready, Configured, Parked, Asked, Running, Exited, Ended}
 use Rattle.dap_session.specs.declared.effect.Effect.{Effect}
 use Rattle.dap_session.specs.declared.effect.Effect.TheVariants as effect
 use Rattle.dap_session.specs.declared.options.Options.{Options}
@@ -33,7 +35,7 @@ use Rattle.dap_session.specs.Bodies.{QueryResult, query_result, object_of}
 use Rattle.dap_session.specs.Breakpoints.{are_too_many}
 use Rattle.dap_tables.specs.Breakpoints.{SetBreakpoints, breakpoints_with}
 use Rattle.dap_session.specs.Failures.{command_of, call_in, refusal, thread_named}
-use Rattle.dap_session.specs.Plan.{Answer, success, failure, plain_success, Draft, reply, emit, Made, Plan, at_once, asking, no_change, after_answering, plan_within_numbers}
+use Rattle.dap_session.specs.Plan.{Answer, success, failure, plain_success, Draft, reply, emit, ask, Made, Plan, at_once, asking, no_change, after_answering, plan_within_numbers}
 use Rattle.dap_tables.specs.References.{without_references}
 use Rattle.dap_session.specs.Session.{Session, usual_options, oldest}
 use Rattle.dap_tables.specs.Outstanding.{parked_ones, unparked_ones}
@@ -59,7 +61,7 @@ adapter_capabilities = record {
 }
 
 abbrev pub options_of : Call → Options
-options_of (call.Initialize asked) = record { lines_start_at_1 = asked.lines_start_at_1; columns_start_at_1 = asked.columns_start_at_1; supports_variable_paging = asked.supports_variable_paging }
+options_of (call.Initialize asked) = record { lines_start_at_1 = asked.lines_start_at_1; columns_start_at_1 = asked.columns_start_at_1; supports_variable_paging = asked.supports_variable_paging; supports_run_in_terminal_request = asked.supports_run_in_terminal_request }
 options_of _ = usual_options
 
 abbrev pub after_initialize : Session → Entry → Call → Made
@@ -103,6 +105,42 @@ after_parked_launch s r last = record {
   drops = false;
   after = record s { phase = start_phase last; kept = unparked_ones (without r.seq s.kept); used = s.used + (1 + length (parked_ones (without r.seq s.kept))) };
 }
+
+-- ---- a terminal
+
+-- the text at `console` is `terminal`
+abbrev pub names_terminal : Option Data → Bool
+names_terminal arguments = unwrap_or (option_map (bytes_eq (codes "terminal")) (option_and_then (text_at (codes "console")) arguments)) false
+
+abbrev pub is_launch : Option Command → Bool
+is_launch (Some command.Launch) = true
+is_launch _ = false
+
+-- `launch` wants a terminal, and the client runs some
+abbrev pub wants_terminal : Options → Entry → Bool
+wants_terminal options r = options.supports_run_in_terminal_request && (is_launch (command_of r) && names_terminal r.arguments)
+
+-- one that is parked does
+abbrev pub parked_wants_terminal : Options → List Kept → Bool
+parked_wants_terminal options kept = list_any (λ k. k.parked && wants_terminal options k.entry) kept
+
+-- the request is parked
+abbrev pub after_asking : Session → Entry → Made
+after_asking s r = record { drafts = ask ∷ []; drops = false; after = record s { phase = Asked; kept = with_mark r.seq true s.kept; asked = Some (s.used + 1); used = s.used + 1 } }
+
+-- the request is answered, and what was parked stays so
+abbrev pub after_asking_parked : Session → Entry → Made
+after_asking_parked s r = record {
+  drafts = reply r plain_success ∷ ask ∷ [];
+  drops = false;
+  after = record s { phase = Asked; kept = without r.seq s.kept; asked = Some (s.used + 2); used = s.used + 2 };
+}
+
+-- what the table says, unless a terminal is asked for first
+abbrev pub effect_of : Session → Entry → Effect → Effect
+effect_of s r effect.Start = if wants_terminal s.options r then effect.Ask else effect.Start
+effect_of s r effect.StartParked = if parked_wants_terminal s.options s.kept then effect.AskParked else effect.StartParked
+effect_of s r e = e
 
 -- ---- disconnect and terminate
 
@@ -232,6 +270,8 @@ plan_for effect.Park view s r asked = at_once (after_park s r)
 plan_for effect.Start view s r asked = asking to_start (after_launch s r)
 plan_for effect.ConfigurationDone view s r asked = at_once (after_configuration_done s r)
 plan_for effect.StartParked view s r asked = asking to_start (after_parked_launch s r)
+plan_for effect.Ask view s r asked = at_once (after_asking s r)
+plan_for effect.AskParked view s r asked = at_once (after_asking_parked s r)
 plan_for effect.Disconnect view s r asked = at_once (after_disconnect s r)
 plan_for effect.EndAndDisconnect view s r asked = asking to_end (λ last. after_disconnect s r)
 plan_for effect.Terminate view s r asked = asking to_end (λ last. after_terminate s r)
@@ -243,7 +283,7 @@ plan_for effect.Query view s r asked = at_once (after_query s r (query_result vi
 -- ---- a request, and a turn
 
 abbrev pub plan_of_call : Shown → Session → Entry → Option Effect → Read Call → Plan
-plan_of_call view s r (Some e) (Ok asked) = plan_for e view s r asked
+plan_of_call view s r (Some e) (Ok asked) = plan_for (effect_of s r e) view s r asked
 plan_of_call view s r _ _ = at_once (no_change s)
 
 abbrev pub plan_of_command : Shown → Session → Entry → Option Command → Plan

@@ -5,7 +5,7 @@ use Rattle.std.specs.List.{AllByRecursion}
 use Rattle.dap_json.specs.Field.{max_seq}
 use Rattle.dap_message.specs.Refusals.{max_command}
 use Rattle.dap_tables.specs.declared.entry.Entry.{Entry as Request}
-use Rattle.dap_session.specs.Plan.{Draft, reply, emit}
+use Rattle.dap_session.specs.Plan.{Draft, reply, emit, ask}
 
 -- its number is at most 9007199254740991, and its command has at most 64 bytes, as in every request that was read
 pub record IsRequestInRange (r : Request) : Type 0 where
@@ -16,6 +16,7 @@ pub record IsRequestInRange (r : Request) : Type 0 where
 abbrev pub IsDraftInRange : Draft → Type 0
 IsDraftInRange (reply r answer) = IsRequestInRange r
 IsDraftInRange (emit event) = Unit {0}
+IsDraftInRange ask = Unit {0}
 
 -- each response among them answers a request in range
 abbrev pub AnswersInRange : List Draft → Type 0

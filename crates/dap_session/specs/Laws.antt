@@ -2,13 +2,12 @@
 use Rattle.std.specs.Prelude.{◌≡◌, ℕ, List, [], ◌∷◌, ◌++◌, Some, Ok}
 use Rattle.dap_history.specs.History.{Entry, In, ins_of}
 use Rattle.dap_message.specs.declared.message.Message.{Message}
-use Rattle.dap_tables.specs.Outstanding.{HasDistinctSeqs}
 use Rattle.dap_debuggee.specs.Shown.{Shown, Reply}
 use Rattle.dap_session.specs.Carried.{Goes, CarriedOut}
 use Rattle.dap_session.specs.Handling.{turns}
 use Rattle.dap_session.specs.Plan.{Made, Plan, at_once, asking, entries_of}
 use Rattle.dap_session.specs.Polling.{polls}
-use Rattle.dap_session.specs.Session.{Session}
+use Rattle.dap_session.specs.Session.{Session, IsOrderly}
 use Rattle.dap_session.specs.Follows.{Follows}
 use Rattle.dap_session.specs.Taking.{takes}
 
@@ -25,9 +24,9 @@ can_make follows (asking act makes) v w made c = (c.0, c.2)
 pub record EachStepGoesOn : Type 0 where
   -- what is made is written, and nothing comes by it
   pub none_come : (used : ℕ) (m : Made) → ins_of (entries_of used m) ≡ []
-  pub take : (s : Session) (m : Message) (plan : Plan) (made : Made) (h : List Entry) → HasDistinctSeqs s.kept → takes m s ≡ Ok plan → CanMake plan made
+  pub take : (s : Session) (m : Message) (plan : Plan) (made : Made) (h : List Entry) → IsOrderly s → takes m s ≡ Ok plan → CanMake plan made
       → Follows s h → Follows made.after (h ++ In m ∷ entries_of s.used made)
-  pub turn : (view : Shown) (s : Session) (plan : Plan) (made : Made) (h : List Entry) → HasDistinctSeqs s.kept → turns view s ≡ Ok (Some plan) → CanMake plan made
+  pub turn : (view : Shown) (s : Session) (plan : Plan) (made : Made) (h : List Entry) → IsOrderly s → turns view s ≡ Ok (Some plan) → CanMake plan made
       → Follows s h → Follows made.after (h ++ entries_of s.used made)
   pub poll : (s : Session) (made : Made) (h : List Entry) → CanMake (polls s) made
       → Follows s h → Follows made.after (h ++ entries_of s.used made)

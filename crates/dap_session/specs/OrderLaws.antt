@@ -21,8 +21,8 @@ use Rattle.dap_session.specs.declared.phase.Phase.TheVariants.{Fresh}
 use Rattle.dap_session.specs.Bodies.{QueryResult, query_result, object_of, window, page, frame_objects, scope_objects, variable_objects, value_objects}
 use Rattle.dap_session.specs.Breakpoints.{are_too_many}
 use Rattle.dap_session.specs.Failures.{command_of, call_in, of_known, is_early, is_initialize, waits_for_stop, lacks_thread, thread_named, lacks_reference, reference_named, lacks_source, source_named, refusal}
-use Rattle.dap_session.specs.Handling.{ChangeResult, change_result, plan, fits, lines_asked, thread_of, after_park}
-use Rattle.dap_session.specs.Plan.{Answer, success, failure, Draft, reply, emit, Made, Plan, at_once, asking, after_answering}
+use Rattle.dap_session.specs.Handling.{ChangeResult, change_result, plan, fits, lines_asked, thread_of, after_park, after_asking, after_asking_parked, effect_of}
+use Rattle.dap_session.specs.Plan.{Answer, success, failure, Draft, reply, emit, ask, Made, Plan, at_once, asking, after_answering}
 use Rattle.dap_session.specs.References.{targets_named, with_targets}
 use Rattle.dap_session.specs.Session.{Session}
 use Rattle.dap_session.specs.Table.{effect_in, is_phase, is_served, is_never_served}
@@ -176,6 +176,7 @@ abbrev pub answer_to : ℕ → List Draft → Option Answer
 answer_to seq [] = None
 answer_to seq (reply r answer ∷ ds) = if r.seq == seq then Some answer else answer_to seq ds
 answer_to seq (emit event ∷ ds) = answer_to seq ds
+answer_to seq (ask ∷ ds) = answer_to seq ds
 
 abbrev pub IsSuccess : Option Answer → Type 0
 IsSuccess (Some (success body names)) = ⊤
@@ -191,16 +192,18 @@ abbrev pub IsDoneOrRefused : Session → Entry → Reply → Made → Type 0
 IsDoneOrRefused s r done m = IsSuccess (answer_to r.seq m.drafts)
 IsDoneOrRefused s r _ m = m ≡ after_answering r (failure Debuggee) s
 
--- A request that is parked is not answered yet. One that starts, resumes or pauses the debuggee is answered by its reply, and so are those that are parked where the debuggee is started for them. Each other one succeeds.
+-- A request that is parked is not answered yet, nor is one for which a terminal is asked. One that starts, resumes or pauses the debuggee is answered by its reply, and so are those that are parked where the debuggee is started for them. Each other one succeeds.
 abbrev pub IsAnswered : Effect → Session → Entry → Reply → Made → Type 0
 IsAnswered effect.Park s r last m = m ≡ after_park s r
+IsAnswered effect.Ask s r last m = m ≡ after_asking s r
+IsAnswered effect.AskParked s r last m = m ≡ after_asking_parked s r
 IsAnswered effect.Start s r last m = IsDoneOrRefused s r last m
 IsAnswered (effect.Resume how) s r last m = IsDoneOrRefused s r last m
 IsAnswered effect.Pause s r last m = IsDoneOrRefused s r last m
 IsAnswered effect.StartParked s r last m = IsSuccess (answer_to r.seq m.drafts) × AllByRecursion (λ k. IsByReply last (answer_to k.entry.seq m.drafts)) (parked_ones (without r.seq s.kept))
 IsAnswered _ s r last m = IsSuccess (answer_to r.seq m.drafts)
 
--- the command is served by an effect of the table: the debuggee is asked what that effect asks, and this comes of it
+-- the command is served by an effect of the table, unless a terminal is asked for first: the debuggee is asked what that effect asks, and this comes of it
 pub record IsServed (view : Shown) (s : Session) (r : Entry) (last : Reply) : Type 0 where
   pub command : Command
   pub known : command_of r ≡ Some command
@@ -208,8 +211,8 @@ pub record IsServed (view : Shown) (s : Session) (r : Entry) (last : Reply) : Ty
   pub read : call_in r command ≡ Ok asked
   pub does : Effect
   pub is : effect_in command s.phase ≡ Some does
-  pub asks : act_in (plan view s r) ≡ act_of does s asked
-  pub answered : IsAnswered does s r last (comes_to (plan view s r) last)
+  pub asks : act_in (plan view s r) ≡ act_of (effect_of s r does) s asked
+  pub answered : IsAnswered (effect_of s r does) s r last (comes_to (plan view s r) last)
 
 -- of a session within its limits
 pub record FailuresComeInOrder : Type 0 where

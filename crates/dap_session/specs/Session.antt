@@ -1,9 +1,12 @@
 -- The state of a session at the adapter, without the bytes that come and without the debuggee.
-use Rattle.std.specs.Prelude.{ℕ, ◌==◌, ◌&&◌, not, List, [], length, filter, find, true, false, Option}
+use Rattle.std.specs.Prelude.{◌≡◌, ℕ, ◌==◌, ◌&&◌, not, ⊤, IsTrue, List, [], ◌∷◌, length, filter, find, codes, Bool, true, false, Option, Some, None, is_some}
 use Rattle.dap_frame.specs.Settings.{Settings}
-use Rattle.dap_tables.specs.Outstanding.{Kept, unparked_ones}
+use Rattle.dap_history.specs.History.{Asked}
+use Rattle.dap_message.specs.Terminal.{run_in_terminal, terminal_tree}
+use Rattle.dap_message.specs.Types.TerminalCall.{TerminalCall}
+use Rattle.dap_tables.specs.Outstanding.{Kept, unparked_ones, HasDistinctSeqs}
 use Rattle.dap_session.specs.declared.phase.Phase.{Phase}
-use Rattle.dap_session.specs.declared.phase.Phase.TheVariants.{Fresh}
+use Rattle.dap_session.specs.declared.phase.Phase.TheVariants.{Fresh, Asked as AskedPhase, Ended}
 use Rattle.dap_session.specs.declared.options.Options.{Options}
 use Rattle.dap_tables.specs.References.{LiveReferences, no_references}
 use Rattle.dap_tables.specs.Breakpoints.{SetBreakpoints, no_breakpoints}
@@ -16,12 +19,14 @@ pub record Session : Type 0 where
   pub kept : List Kept
   pub references : LiveReferences
   pub breakpoints : SetBreakpoints
+  -- the number of the own request that is not answered: it asks for a terminal
+  pub asked : Option ℕ
   -- own sequence numbers that were given
   pub used : ℕ
 
 -- what holds before `initialize` said anything else
 abbrev pub usual_options : Options
-usual_options = record { lines_start_at_1 = true; columns_start_at_1 = true; supports_variable_paging = false }
+usual_options = record { lines_start_at_1 = true; columns_start_at_1 = true; supports_variable_paging = false; supports_run_in_terminal_request = false }
 
 abbrev pub fresh_session : Settings → Session
 fresh_session limits = record {
@@ -31,6 +36,7 @@ fresh_session limits = record {
   kept = [];
   references = no_references;
   breakpoints = no_breakpoints;
+  asked = None;
   used = 0;
 }
 
@@ -51,3 +57,33 @@ oldest kept = find (λ k. not k.parked) kept
 -- how many wait to be handled: those that are not parked
 abbrev pub to_handle : List Kept → ℕ
 to_handle kept = length (unparked_ones kept)
+
+-- ---- own requests
+
+-- what the client's terminal is to run
+abbrev pub recorded_terminal : TerminalCall
+recorded_terminal = record { kind = Some (codes "integrated"); title = Some (codes "recorded"); cwd = codes "/"; args = codes "recorded" ∷ [] }
+
+-- the own request of a number, as a history has it
+abbrev pub own_request : ℕ → Asked
+own_request seq = record { seq = seq; command = run_in_terminal; arguments = Some (terminal_tree recorded_terminal) }
+
+abbrev pub own_requests : Option ℕ → List Asked
+own_requests None = []
+own_requests (Some seq) = own_request seq ∷ []
+
+-- that number is the one of the own request that is not answered
+abbrev pub is_asked : ℕ → Option ℕ → Bool
+is_asked request_seq None = false
+is_asked request_seq (Some seq) = seq == request_seq
+
+-- An own request is not answered while a terminal is waited for; one that never was may stay so after the end, and there is none else.
+abbrev pub IsAskedIn : Phase → Option ℕ → Type 0
+IsAskedIn AskedPhase asked = IsTrue (is_some asked)
+IsAskedIn Ended asked = ⊤
+IsAskedIn _ asked = asked ≡ None
+
+-- no two kept requests have the same number, and what is asked suits the phase
+pub record IsOrderly (s : Session) : Type 0 where
+  pub distinct : HasDistinctSeqs s.kept
+  pub asked : IsAskedIn s.phase s.asked

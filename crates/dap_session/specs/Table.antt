@@ -6,7 +6,7 @@ use Rattle.dap_message.specs.Types.Command.{Command}
 use Rattle.dap_message.specs.Types.Command.TheVariants as command
 use Rattle.dap_debuggee.specs.declared.answers.How.TheVariants as how
 use Rattle.dap_session.specs.declared.phase.Phase.{Phase}
-use Rattle.dap_session.specs.declared.phase.Phase.TheVariants.{Fresh, Ready, Configured, Parked, Running, Stopped, Exited, Ended}
+use Rattle.dap_session.specs.declared.phase.Phase.TheVariants.{Fresh, Ready, Configured, Parked, Asked, Running, Stopped, Exited, Ended}
 use Rattle.dap_session.specs.declared.effect.Effect.{Effect}
 use Rattle.dap_session.specs.declared.effect.Effect.TheVariants.{Initialize, Park, Start, ConfigurationDone, StartParked, Disconnect, EndAndDisconnect, Terminate, Change, Resume, Pause, Query}
 
@@ -21,7 +21,7 @@ row phases effect = record { phases = phases; effect = effect }
 -- ---- sets of phases
 
 abbrev pub ready_to_stopped : List Phase
-ready_to_stopped = Ready ∷ Configured ∷ Parked ∷ Running ∷ Stopped ∷ []
+ready_to_stopped = Ready ∷ Configured ∷ Parked ∷ Asked ∷ Running ∷ Stopped ∷ []
 
 abbrev pub ready_to_exited : List Phase
 ready_to_exited = ready_to_stopped ++ Exited ∷ []
@@ -31,7 +31,7 @@ abbrev pub with_debuggee : List Phase
 with_debuggee = Running ∷ Stopped ∷ []
 
 abbrev pub without_debuggee : List Phase
-without_debuggee = Fresh ∷ Ready ∷ Configured ∷ Parked ∷ Exited ∷ []
+without_debuggee = Fresh ∷ Ready ∷ Configured ∷ Parked ∷ Asked ∷ Exited ∷ []
 
 -- ---- the table
 
@@ -69,10 +69,11 @@ rank Fresh = 0
 rank Ready = 1
 rank Configured = 2
 rank Parked = 3
-rank Running = 4
-rank Stopped = 5
-rank Exited = 6
-rank Ended = 7
+rank Asked = 4
+rank Running = 5
+rank Stopped = 6
+rank Exited = 7
+rank Ended = 8
 
 abbrev pub is_phase : Phase → Phase → Bool
 is_phase p q = rank p == rank q

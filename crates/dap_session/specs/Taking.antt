@@ -1,6 +1,8 @@
 -- What comes of a message that is delivered.
 -- Specification, "CancelRequest", "Request.seq". What is refused, and in which order, is this profile's choice.
-use Rattle.std.specs.Prelude.{ℕ, ◌+◌, List, [], ◌∷◌, ◌++◌, length, Bool, true, false, nat_lt, Option, Some, None, Result, Ok, Err, if◌then◌else◌}
+use Rattle.std.specs.Prelude.{ℕ, ◌+◌, List, [], ◌∷◌, ◌++◌, length, Bool, true, false, bytes_eq, not, nat_lt, Option, Some, None, Result, Ok, Err, if◌then◌else◌}
+use Rattle.dap_debuggee.specs.Shown.{Reply, refused, to_start}
+use Rattle.dap_message.specs.Terminal.{run_in_terminal}
 use Rattle.dap_message.specs.Argument.{Read}
 use Rattle.dap_message.specs.Call.{call_of}
 use Rattle.dap_message.specs.Types.Call.{Call}
@@ -11,15 +13,16 @@ use Rattle.dap_message.specs.Types.Failure.TheVariants.{NotInitialized, BadArgum
 use Rattle.dap_message.specs.declared.message.Message.{Message}
 use Rattle.dap_message.specs.declared.message.Kind.{Kind}
 use Rattle.dap_message.specs.declared.message.Kind.TheVariants.{Request, Response, Event, Other}
-use Rattle.dap_tables.specs.Outstanding.{Kept, kept_unparked, contains_seq}
+use Rattle.dap_tables.specs.Outstanding.{Kept, kept_unparked, contains_seq, parked_ones, unparked_ones}
 use Rattle.dap_tables.specs.declared.entry.Entry.{Entry}
-use Rattle.dap_session.specs.declared.phase.Phase.TheVariants.{Fresh, Ended}
+use Rattle.dap_session.specs.declared.phase.Phase.{Phase}
+use Rattle.dap_session.specs.declared.phase.Phase.TheVariants.{Fresh, Asked, Ended}
 use Rattle.dap_session.specs.declared.fault.AdapterFault.{AdapterFault}
-use Rattle.dap_session.specs.declared.fault.AdapterFault.TheVariants.{RepeatedSeq, Unmatched, Ended as EndedFault}
+use Rattle.dap_session.specs.declared.fault.AdapterFault.TheVariants.{RepeatedSeq, Unmatched, CommandMismatch, Ended as EndedFault}
 use Rattle.dap_session.specs.Failures.{command_of, of_known}
-use Rattle.dap_session.specs.Handling.{answer_each}
-use Rattle.dap_session.specs.Plan.{Answer, failure, plain_success, reply, Made, Plan, at_once, no_change, plan_within_numbers}
-use Rattle.dap_session.specs.Session.{Session, cancelled_by, not_cancelled_by}
+use Rattle.dap_session.specs.Handling.{answer_each, by_reply, start_phase}
+use Rattle.dap_session.specs.Plan.{Answer, failure, plain_success, reply, Made, Plan, at_once, asking, no_change, plan_within_numbers}
+use Rattle.dap_session.specs.Session.{Session, cancelled_by, not_cancelled_by, is_asked}
 use Rattle.dap_session.specs.Table.{is_phase}
 
 -- ---- a request that is answered when it is taken, and never kept
@@ -83,16 +86,45 @@ takes_request r s =
     else (if contains_seq r.seq s.kept then Err (RepeatedSeq r.seq)
     else plan_within_numbers s (at_once (after_taking r s)))
 
+-- ---- responses
+
+-- what was parked is answered, as the debuggee started or not
+abbrev pub after_terminal : Session → Reply → Made
+after_terminal s last = record {
+  drafts = answer_each (by_reply None last) (parked_ones s.kept);
+  drops = false;
+  after = record s { phase = start_phase last; kept = unparked_ones s.kept; asked = None; used = s.used + length (parked_ones s.kept) };
+}
+
+-- it comes too late to have an effect
+abbrev pub after_late_terminal : Session → Made
+after_late_terminal s = record { drafts = []; drops = false; after = record s { asked = None } }
+
+-- a success lets the debuggee start
+abbrev pub plan_of_terminal : Bool → Session → Plan
+plan_of_terminal true s = asking to_start (after_terminal s)
+plan_of_terminal false s = at_once (after_terminal s refused)
+
+abbrev pub plan_of_response : Bool → Session → Plan
+plan_of_response ok s = if is_phase Asked s.phase then plan_of_terminal ok s else at_once (after_late_terminal s)
+
+abbrev pub takes_response : ℕ → Bool → List ℕ → Session → Result Plan AdapterFault
+takes_response request_seq ok command s =
+    if not (is_asked request_seq s.asked) then Err (Unmatched request_seq)
+    else (if not (bytes_eq command run_in_terminal) then Err (CommandMismatch request_seq)
+    else plan_within_numbers s (plan_of_response ok s))
+
 -- ---- messages
 
--- the only message that takes memory
-abbrev pub is_request : Kind → Bool
-is_request (Request command arguments) = true
-is_request _ = false
+-- the messages that may take memory: a response where a terminal is waited for
+abbrev pub may_take_memory : Kind → Phase → Bool
+may_take_memory (Request command arguments) phase = true
+may_take_memory (Response request_seq ok command message body) phase = is_phase Asked phase
+may_take_memory _ phase = false
 
 abbrev pub takes_as : ℕ → Kind → Session → Result Plan AdapterFault
 takes_as seq (Request command arguments) s = takes_request (record { seq = seq; command = command; arguments = arguments }) s
-takes_as seq (Response request_seq success command message body) s = Err (Unmatched request_seq)
+takes_as seq (Response request_seq ok command message body) s = takes_response request_seq ok command s
 takes_as seq (Event event body) s = Ok (at_once (no_change s))
 takes_as seq (Other tag) s = Ok (at_once (no_change s))
 

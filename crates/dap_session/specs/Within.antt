@@ -10,7 +10,7 @@ use Rattle.dap_session.specs.Handling.{turns}
 use Rattle.dap_session.specs.Laws.{CanMake}
 use Rattle.dap_session.specs.Plan.{Made, Plan, messages_due}
 use Rattle.dap_session.specs.Polling.{polls}
-use Rattle.dap_session.specs.Session.{Session, fresh_session}
+use Rattle.dap_session.specs.Session.{Session, IsAskedIn, fresh_session}
 use Rattle.dap_session.specs.Taking.{takes}
 
 -- a session keeps to its limits
@@ -18,6 +18,8 @@ pub record IsWithin (s : Session) : Type 0 where
   -- no two kept requests have the same number
   pub distinct : HasDistinctSeqs s.kept
   pub kept : length s.kept ≤ s.limits.requests
+  -- whether an own request waits suits the phase
+  pub asked : IsAskedIn s.phase s.asked
   -- own sequence numbers
   pub used : s.used ≤ s.limits.seq
   -- as many as are live

@@ -185,13 +185,24 @@ impl<D: Debuggee + Drop> Session<D> {
             Ok(call) => call,
         };
         let effect = match by_phase(self.phase, command) {
-            Err(failure) => return Ok(Decision::Refuses(failure)),
+            Err(failure) => {
+                // The proof of a call is shorter than that of a value that goes out of scope.
+                drop(call);
+                return Ok(Decision::Refuses(failure));
+            }
             Ok(effect) => effect,
         };
-        if let Some(failure) = self.by_call(alloc, &call)? {
-            return Ok(Decision::Refuses(failure));
+        match self.by_call(alloc, &call) {
+            Err(fault) => {
+                drop(call);
+                Err(fault)
+            }
+            Ok(Some(failure)) => {
+                drop(call);
+                Ok(Decision::Refuses(failure))
+            }
+            Ok(None) => Ok(Decision::Serves(self.effect_of(request, effect), call)),
         }
-        Ok(Decision::Serves(effect, call))
     }
 }
 

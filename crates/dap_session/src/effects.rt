@@ -48,11 +48,13 @@ pub(crate) fn options_of(call: &Call) -> Options
             lines_start_at_1: asked.lines_start_at_1,
             columns_start_at_1: asked.columns_start_at_1,
             supports_variable_paging: asked.supports_variable_paging,
+            supports_run_in_terminal_request: asked.supports_run_in_terminal_request,
         },
         _ => Options {
             lines_start_at_1: true,
             columns_start_at_1: true,
             supports_variable_paging: false,
+            supports_run_in_terminal_request: false,
         },
     }
 }

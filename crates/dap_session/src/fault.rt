@@ -13,8 +13,10 @@ pub enum AdapterFault {
     Body { cause: BodyRefusal, offset: u64 },
     /// A request with this seq is not answered yet.
     RepeatedSeq { seq: u64 },
-    /// No request of this end waits for a response.
+    /// No request of this end with this seq waits for a response.
     Unmatched { request_seq: u64 },
+    /// The request of this end with this seq has another command than the response.
+    CommandMismatch { request_seq: u64 },
     /// A request came after `disconnect` was answered.
     Ended,
     /// More messages were due than own sequence numbers are left.

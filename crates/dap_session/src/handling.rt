@@ -74,6 +74,14 @@ impl<D: Debuggee + Drop> Session<D> {
                 self.room(1)?;
                 Ok(self.configuration_done(alloc, request)?)
             }
+            Effect::Ask => {
+                self.room(1)?;
+                Ok(self.ask_terminal(alloc, request)?)
+            }
+            Effect::AskParked => {
+                self.room(2)?;
+                Ok(self.ask_terminal_parked(alloc, request)?)
+            }
             Effect::Terminate => {
                 self.room(2)?;
                 Ok(self.terminate(alloc, request)?)

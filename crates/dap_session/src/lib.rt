@@ -5,6 +5,7 @@
 //! debuggee's reply. Bytes of a client and frames stand above, in the adapter.
 #![tactic(auto)]
 
+mod asking;
 mod bodies;
 mod changing;
 mod deciding;

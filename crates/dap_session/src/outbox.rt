@@ -2,7 +2,8 @@
 ghost use Rattle.std.specs.Prelude.{nat_le, ◌≡◌, ℕ, ◌+◌, ◌<◌, ◌≤◌, [], length, IfOk, OnOk, IsTrue};
 ghost use Rattle.dap_message.specs.Body.{data_in};
 ghost use Rattle.dap_message.specs.Canon.{canon};
-ghost use Rattle.dap_session.specs.Plan.{reply, emit, message_of, success as success_word};
+ghost use Rattle.dap_session.specs.Plan.{reply, emit, ask, message_of, success as success_word};
+ghost use Rattle.dap_session.specs.Session.{recorded_terminal};
 ghost use Rattle.dap_session.specs.InRange.{IsRequestInRange};
 ghost use Rattle.dap_session.specs.PrivateOutbox.{answer_of, event_of, shape_of, Holds, AppendsDraft};
 ghost use Rattle.dap_json.specs.Field.{max_seq};
@@ -10,13 +11,15 @@ ghost use Rattle.dap_json.specs.Writable.{is_plain_tree};
 ghost use Rattle.dap_message.specs.MessageParts.{event_name, event_body, success_response};
 ghost use Rattle.dap_message.specs.Lengths.{max_fixed, IsWithin};
 ghost use Rattle.dap_message.specs.ReadBack.{ReadsBack};
+ghost use Rattle.dap_message.specs.Terminal.{terminal_tree};
 
 use dap_debuggee::Category;
 use dap_frame::write_frame;
 use dap_message::laws::{bodies_are_plain, fixed_messages_are_short};
 use dap_message::{
-    Body, Capabilities, Failure, Text, Tree, body_continued, body_exited, body_output,
-    body_stopped, write_answer, write_event, write_failure,
+    Body, Capabilities, Failure, List, RUN_IN_TERMINAL, TerminalCall, Text, Tree, body_continued,
+    body_exited, body_output, body_stopped, write_answer, write_event, write_failure, write_request,
+    write_terminal,
 };
 use dap_tables::{Entry, Seq};
 use std::alloc::{AllocError, Global};
@@ -125,6 +128,30 @@ fn told(alloc: Global, seq: u64, event: Event) -> Result<Vec<u8>, AllocError>
     write_event(alloc, seq, name, &body)
 }
 
+/// What the client's terminal is to run.
+fn recorded_terminal(alloc: Global) -> Result<TerminalCall, AllocError>
+    ensures { IfOk result (λ call. call ≡ recorded_terminal) }
+{
+    let mut args = Vec::new(alloc);
+    args.push(Text::copied(alloc, "recorded")?)?;
+    Ok(TerminalCall {
+        kind: Some(Text::copied(alloc, "integrated")?),
+        title: Some(Text::copied(alloc, "recorded")?),
+        cwd: Text::copied(alloc, "/")?,
+        args: List::new(args),
+    })
+}
+
+/// The text of the request for a terminal.
+fn asked(alloc: Global, seq: u64) -> Result<Vec<u8>, AllocError>
+    ensures canon { IfOk result (λ text. text.items ≡ canon (message_of seq ask)) }
+    ensures reads_back { OnOk result (seq ≤ max_seq → ReadsBack max_fixed (message_of seq ask)) }
+{
+    let call = recorded_terminal(alloc)?;
+    let arguments = Some(Tree::new(write_terminal(alloc, &call)?));
+    write_request(alloc, seq, RUN_IN_TERMINAL, &arguments)
+}
+
 impl Outbox {
     /// Nothing yet, with the numbers that are left.
     pub(crate) fn open(alloc: Global, numbers: Seq) -> Outbox
@@ -201,5 +228,17 @@ impl Outbox {
         write_frame(&mut self.bytes, &text)?;
         self.numbers = numbers;
         Ok(())
+    }
+    /// Asks for a terminal: the number of the request.
+    pub(crate) fn ask(&mut self, alloc: Global) -> Result<u64, AllocError>
+        requires { self.old.numbers.used < self.old.numbers.last }
+        ensures number { IfOk result (λ seq. seq ≡ self.old.numbers.used + 1) }
+        ensures writes { OnOk result (AppendsDraft max_fixed self.old self.new ask) }
+    {
+        let (seq, numbers) = self.next();
+        let text = asked(alloc, seq)?;
+        write_frame(&mut self.bytes, &text)?;
+        self.numbers = numbers;
+        Ok(seq)
     }
 }

@@ -27,6 +27,7 @@ fn has_debuggee(phase: Phase) -> bool
         Phase::Ready => false,
         Phase::Configured => false,
         Phase::Parked => false,
+        Phase::Asked => false,
         Phase::Exited => false,
         Phase::Ended => false,
     }

@@ -1,8 +1,8 @@
 //! A session with its debuggee: what is kept, and how it changes.
-ghost use Rattle.std.specs.Prelude.{◌≡◌, ◌+◌, ◌≤◌, ◌<◌, [], ◌∷◌, ◌++◌, length, IfOk, OnOk, OnErr, IsTrue, true, false, not, nat_lt};
+ghost use Rattle.std.specs.Prelude.{◌≡◌, ◌+◌, ◌≤◌, ◌<◌, [], ◌∷◌, ◌++◌, length, IfOk, OnOk, OnErr, IsTrue, true, false, not, nat_lt, None};
 ghost use Rattle.dap_tables.specs.Outstanding.{without, with_mark, contains_seq, kept_unparked, unparked_ones, IsOrderlyRequests};
 ghost use Rattle.dap_tables.specs.SourceMap.{count};
-ghost use Rattle.dap_session.specs.Session.{fresh_session};
+ghost use Rattle.dap_session.specs.Session.{fresh_session, own_requests};
 ghost use Rattle.dap_debuggee.specs.Laws.{is_short};
 ghost use Rattle.dap_debuggee.specs.Shown.{to_start, to_resume, to_pause, to_poll, to_end, done, happened};
 
@@ -24,6 +24,8 @@ pub struct Session<D: Debuggee + Drop> {
     pub(crate) kept: Outstanding,
     pub(crate) references: References,
     pub(crate) breakpoints: Breakpoints,
+    /// The number of the own request that is not answered.
+    pub(crate) asked: Option<u64>,
     pub(crate) numbers: Seq,
     pub(crate) debuggee: D,
 }
@@ -45,6 +47,7 @@ impl<D: Debuggee + Drop> Model for Session<D> {
         kept = a.kept.kept;
         references = a.references.references;
         breakpoints = a.breakpoints.breakpoints;
+        asked = a.asked;
         used = a.numbers.used;
       };
       debuggee = a.debuggee;
@@ -72,10 +75,12 @@ impl<D: Debuggee + Drop> Session<D> {
                 lines_start_at_1: true,
                 columns_start_at_1: true,
                 supports_variable_paging: false,
+                supports_run_in_terminal_request: false,
             },
             kept,
             references,
             breakpoints,
+            asked: None,
             numbers,
             debuggee,
         })
@@ -109,6 +114,16 @@ impl<D: Debuggee + Drop> Session<D> {
         ensures bound { result ≤ self.now.session.limits.breakpoints }
     {
         self.breakpoints.len()
+    }
+
+    /// How many own requests are not answered.
+    pub fn asked(&self) -> usize
+        ensures { result ≡ length (own_requests self.now.session.asked) }
+    {
+        match self.asked {
+            None => 0,
+            Some(_) => 1,
+        }
     }
 
     /// Whether there is no room for one more request.
@@ -173,6 +188,20 @@ impl<D: Debuggee + Drop> Session<D> {
         bytes
     }
 
+    /// Ends with those that are parked, and with what was written.
+    pub(crate) fn commit_asked(&mut self, outbox: Outbox) -> Vec<u8>
+        requires last { outbox.numbers.last ≡ self.old.session.limits.seq }
+        requires used { outbox.numbers.used ≤ outbox.numbers.last }
+        ensures session { self.new ≡ record self.old { session = record self.old.session { kept = unparked_ones self.old.session.kept; asked = None; used = outbox.numbers.used } } }
+        ensures bytes { result ≡ outbox.bytes }
+    {
+        let Outbox { bytes, numbers } = outbox;
+        self.kept.clear_parked();
+        self.asked = None;
+        self.numbers = numbers;
+        bytes
+    }
+
     /// Ends with a request and with those that are parked, and with what was written.
     pub(crate) fn commit_parked(&mut self, seq: u64, outbox: Outbox) -> Vec<u8>
         requires last { outbox.numbers.last ≡ self.old.session.limits.seq }
@@ -191,6 +220,12 @@ impl<D: Debuggee + Drop> Session<D> {
         ensures { self.new ≡ record self.old { session = record self.old.session { phase = phase } } }
     {
         self.phase = phase;
+    }
+
+    pub(crate) fn set_asked(&mut self, asked: Option<u64>)
+        ensures { self.new ≡ record self.old { session = record self.old.session { asked = asked } } }
+    {
+        self.asked = asked;
     }
 
     pub(crate) fn set_options(&mut self, options: Options)

@@ -19,7 +19,7 @@ use dap_tables::Entry;
 use std::alloc::{AllocError, Global};
 
 /// Why a start fails, if it does.
-fn start_failure(ok: bool) -> Option<Failure>
+pub(crate) fn start_failure(ok: bool) -> Option<Failure>
     ensures { answer_by result ≡ by_reply None (reply_of ok) }
 {
     if ok { None } else { Some(Failure::Debuggee) }

@@ -5,11 +5,12 @@ ghost use Rattle.dap_tables.specs.Outstanding.{contains_seq, HasDistinctSeqs};
 ghost use Rattle.dap_session.specs.Failures.{of_known};
 ghost use Rattle.dap_session.specs.Plan.{reply, failure, plain_success};
 ghost use Rattle.dap_message.specs.Types.Failure.TheVariants.{Cancelled};
-ghost use Rattle.dap_session.specs.SessionState.{MadeBy, HasTaken, NotTaken, LacksRoom, NamesNone, NamesOne};
+ghost use Rattle.dap_session.specs.Handling.{some_plan};
+ghost use Rattle.dap_session.specs.SessionState.{IsUnasked, MadeBy, HasTaken, NotTaken, LacksRoom, NamesNone, NamesOne};
 ghost use Rattle.dap_session.specs.PrivateOutbox.{Holds, answer_of};
 ghost use Rattle.dap_session.specs.Table.{is_phase};
 ghost use Rattle.dap_session.specs.declared.phase.Phase.TheVariants.{Ended};
-ghost use Rattle.dap_session.specs.Taking.{after_answering_at_once, after_keeping, after_cancel_request, after_cancel, id_in, is_cancel, is_request, takes, takes_request};
+ghost use Rattle.dap_session.specs.Taking.{after_answering_at_once, after_keeping, after_cancel_request, after_cancel, id_in, is_cancel, may_take_memory, takes, takes_request};
 
 use crate::deciding::call_in;
 use crate::fault::AdapterFault;
@@ -214,14 +215,14 @@ impl<D: Debuggee + Drop> Session<D> {
         self.keep(alloc, request)
     }
 
-    /// Takes a message that was delivered: a request is kept, or answered at once. A response is refused, since no request
-    /// of this end waits for one. Any other message has no effect.
+    /// Takes a message that was delivered: a request is kept, or answered at once. A response to the own request that waits
+    /// for a terminal starts the debuggee, or fails what is parked. Any other message has no effect.
     pub fn take(&mut self, alloc: Global, message: &Message) -> Result<Vec<u8>, AdapterFault>
         ensures taken { IfOk result (λ bytes. HasTaken D.follows (takes message.now self.old.session) self.old self.new bytes.items) }
         ensures refused { IfErr result (λ fault. NotTaken fault (takes message.now self.old.session)) }
-        ensures memory { IsErrOf result AdapterFault.OutOfMemory → is_request message.now.kind ≡ true }
-        ensures err { OnErr result (self.new ≡ self.old) }
-        ensures debuggee { self.new.debuggee ≡ self.old.debuggee }
+        ensures unasked { OnErr result (IsUnasked (some_plan (takes message.now self.old.session)) self.old.debuggee self.new.debuggee) }
+        ensures memory { IsErrOf result AdapterFault.OutOfMemory → may_take_memory message.now.kind self.old.session.phase ≡ true }
+        ensures err { OnErr result (self.new.session ≡ self.old.session) }
         ensures distinct { HasDistinctSeqs self.old.session.kept }
         ensures limits { self.new.session.limits ≡ self.old.session.limits }
     {
@@ -230,9 +231,12 @@ impl<D: Debuggee + Drop> Session<D> {
             Kind::Request { command, arguments } => {
                 self.take_request(alloc, message.seq, command, arguments)
             }
-            Kind::Response { request_seq, .. } => Err(AdapterFault::Unmatched {
-                request_seq: *request_seq,
-            }),
+            Kind::Response {
+                request_seq,
+                success,
+                command,
+                ..
+            } => self.take_response(alloc, *request_seq, *success, command),
             Kind::Event { .. } => Ok(Vec::new(alloc)),
             Kind::Other { .. } => Ok(Vec::new(alloc)),
         }

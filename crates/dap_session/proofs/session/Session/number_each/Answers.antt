@@ -1,7 +1,19 @@
-use Rattle.std.proofs.Common.{rules, tests, ◌≡◌, [], ◌∷◌, ◌++◌, ap}
+use Rattle.std.proofs.Common.{rules, tests, ◌≡◌, [], ◌∷◌, ◌++◌, Err, ap}
 use Rattle.dap_session.specs.Session.{Session}
-use Rattle.dap_session.proofs.GivenNumbers.{number-more, gives-twice}
+use Rattle.dap_session.proofs.GivenNumbers.{number-more, number-fails, gives-twice}
 use Rattle.dap_session.proofs.session.Session.number_each.Goals as goal
+
+pub returns-in_err-number-clause-given : goal.returns-in_err-number-clause-given
+returns-in_err-number-clause-given g c =
+    let limits = ap (λ (s : Session). s.limits) c.loop-object.invariant.only.session in
+    let is : c.from_residual-in_err-number.result ≡ Err c.in_err-number.field-0.0 = search rules in
+    rw is (number-fails c.args.self.now.session.limits c.args.objects.now c.loop-object.object-index _ _ c.in_err-number.field-0.0 _ c.loop-object-test.true (rw limits at c.in_err-number.ensures.given) c.loop-object.invariant.so_far)
+
+pub returns-in_err-number-clause-only : goal.returns-in_err-number-clause-only
+returns-in_err-number-clause-only g c = gives-twice c.args.self.now c.loop-object.self c.number.new.self c.loop-object.invariant.only c.in_err-number.ensures.only
+
+pub returns-then-is_err-clause-only : goal.returns-then-is_err-clause-only
+returns-then-is_err-clause-only g c = gives-twice c.args.self.now c.loop-object.self c.number.new.self c.loop-object.invariant.only c.in_ok-number.ensures.only
 
 pub loop-object-preserved : goal.loop-object-preserved
 loop-object-preserved g c =

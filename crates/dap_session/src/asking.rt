@@ -1,0 +1,283 @@
+//! A terminal of the client: when it is asked for, and what its answer does.
+ghost use Rattle.std.specs.Prelude.{◌≡◌, ◌+◌, ◌≤◌, ◌&&◌, [], ◌∷◌, length, IfOk, IfErr, IsErrOf, OnOk, OnErr, IsTrue, Ok, Some, true, false};
+ghost use Rattle.std.specs.List.{list_any};
+ghost use Rattle.dap_message.specs.Command.{command_named};
+ghost use Rattle.dap_tables.specs.Outstanding.{contains_seq, is_parked, parked_ones};
+ghost use Rattle.dap_debuggee.specs.Shown.{to_start};
+ghost use Rattle.dap_session.specs.Handling.{after_asking, after_asking_parked, effect_of, is_launch, names_terminal, parked_wants_terminal, some_plan, wants_terminal};
+ghost use Rattle.dap_session.specs.Plan.{ask, asking, messages_due, plain_success, reply};
+ghost use Rattle.dap_session.specs.PrivateOutbox.{Holds};
+ghost use Rattle.dap_session.specs.Session.{is_asked};
+ghost use Rattle.dap_session.specs.Table.{is_phase};
+ghost use Rattle.dap_session.specs.declared.phase.Phase.TheVariants.{Asked};
+ghost use Rattle.dap_session.specs.SessionState.{MadeBy, Carries, HasTaken, IsRefusedFor, IsUnasked, NotTaken, reply_of};
+ghost use Rattle.dap_session.specs.Taking.{after_terminal, plan_of_response, plan_of_terminal, takes_response};
+
+use crate::effect::Effect;
+use crate::effects::start_phase;
+use crate::fault::AdapterFault;
+use crate::options::Options;
+use crate::outbox::{Answer, Outbox};
+use crate::phase::Phase;
+use crate::session::Session;
+use crate::several::{Chosen, answer_chosen};
+use crate::starting::start_failure;
+use dap_debuggee::Debuggee;
+use dap_json::field;
+use dap_message::{Command, RUN_IN_TERMINAL, Text, Tree};
+use dap_tables::{Entry, InOrder, Outstanding};
+use std::alloc::{AllocError, Global};
+
+fn is_launch(name: &str) -> bool
+    ensures { result ≡ is_launch (command_named name.now) }
+{
+    match Command::of_name(name) {
+        Some(Command::Launch) => true,
+        _ => false,
+    }
+}
+
+/// Whether the text at `console` is `terminal`.
+fn names_terminal(arguments: &Option<Tree>) -> bool
+    ensures { result ≡ names_terminal arguments.now }
+{
+    match arguments {
+        None => false,
+        Some(tree) => match field::text(tree.value(), "console") {
+            None => false,
+            Some(console) => console == "terminal",
+        },
+    }
+}
+
+/// Whether a request is a `launch` in a terminal that the client announced.
+fn wants_terminal(options: Options, request: &Entry) -> bool
+    ensures { result ≡ wants_terminal options request.now }
+{
+    options.supports_run_in_terminal_request
+        && is_launch(request.command.as_str())
+        && names_terminal(&request.arguments)
+}
+
+/// Whether one of the requests that are still to come is parked and wants a terminal.
+fn are_wanting(kept: &Outstanding, mut requests: InOrder<'_>, options: Options) -> bool
+    ensures { result ≡ list_any (λ r. is_parked r.seq kept.now.kept && wants_terminal options r) requests.entry }
+{
+    while let Some(request) = requests.next() {
+        if kept.is_parked(request.seq) && wants_terminal(options, request) {
+            return true;
+        }
+    }
+    false
+}
+
+fn is_asked(asked: Option<u64>, request_seq: u64) -> bool
+    ensures { result ≡ is_asked request_seq asked }
+{
+    match asked {
+        None => false,
+        Some(seq) => seq == request_seq,
+    }
+}
+
+/// Whether a terminal is waited for.
+fn is_waiting(phase: Phase) -> bool
+    ensures { result ≡ is_phase Asked phase }
+{
+    phase == Phase::Asked
+}
+
+impl<D: Debuggee + Drop> Session<D> {
+    ghost use Rattle.dap_session.specs.declared.fault.AdapterFault.{AdapterFault};
+
+    fn parked_wants_terminal(&self) -> bool
+        ensures { result ≡ parked_wants_terminal self.now.session.options self.now.session.kept }
+    {
+        are_wanting(&self.kept, self.kept.in_order(), self.options)
+    }
+
+    /// What the table says, unless a terminal is asked for first.
+    pub(crate) fn effect_of(&self, request: &Entry, effect: Effect) -> Effect
+        ensures { result ≡ effect_of self.now.session request.now effect }
+    {
+        match effect {
+            Effect::Start => {
+                if wants_terminal(self.options, request) {
+                    Effect::Ask
+                } else {
+                    Effect::Start
+                }
+            }
+            Effect::StartParked => {
+                if self.parked_wants_terminal() {
+                    Effect::AskParked
+                } else {
+                    Effect::StartParked
+                }
+            }
+            other => other,
+        }
+    }
+
+    // ---- the request
+
+    /// An outbox with a request for a terminal, and its number.
+    fn request_alone(&self, alloc: Global) -> Result<(Outbox, u64), AllocError>
+        requires { self.now.session.used + 1 ≤ self.now.session.limits.seq }
+        ensures last { IfOk result (λ made. made.0.numbers.last ≡ self.now.session.limits.seq) }
+        ensures holds { IfOk result (λ made. Holds made.0 self.now.session.limits.body self.now.session.used (ask ∷ [])) }
+        ensures number { IfOk result (λ made. made.1 ≡ self.now.session.used + 1) }
+    {
+        let mut outbox = self.fresh_outbox(alloc);
+        let seq = outbox.ask(alloc)?;
+        Ok((outbox, seq))
+    }
+
+    /// An outbox with a response, and a request for a terminal behind it, and its number.
+    fn request_behind(
+        &self,
+        alloc: Global,
+        request: &Entry,
+    ) -> Result<(Outbox, u64), AllocError>
+        requires { self.now.session.used + 2 ≤ self.now.session.limits.seq }
+        ensures last { IfOk result (λ made. made.0.numbers.last ≡ self.now.session.limits.seq) }
+        ensures holds { IfOk result (λ made. Holds made.0 self.now.session.limits.body self.now.session.used (reply request.now plain_success ∷ ask ∷ [])) }
+        ensures number { IfOk result (λ made. made.1 ≡ self.now.session.used + 2) }
+    {
+        let mut outbox = self.one(alloc, request, Answer::Success(None))?;
+        let seq = outbox.ask(alloc)?;
+        Ok((outbox, seq))
+    }
+
+    /// Parks the request, and asks for a terminal.
+    pub(crate) fn ask_terminal(
+        &mut self,
+        alloc: Global,
+        request: &Entry,
+    ) -> Result<Vec<u8>, AllocError>
+        requires kept { IsTrue (contains_seq request.now.seq self.old.session.kept) }
+        requires room { self.old.session.used + 1 ≤ self.old.session.limits.seq }
+        ensures made { IfOk result (λ bytes. MadeBy (after_asking self.old.session request.now) self.old.session self.new.session bytes.items) }
+        ensures debuggee { self.new.debuggee ≡ self.old.debuggee }
+        ensures err { OnErr result (self.new.session ≡ self.old.session) }
+    {
+        let (outbox, seq) = self.request_alone(alloc)?;
+        let bytes = self.spend(outbox);
+        self.park(request.seq);
+        self.set_asked(Some(seq));
+        self.set_phase(Phase::Asked);
+        Ok(bytes)
+    }
+
+    /// Answers the request, and asks for a terminal for what is parked.
+    pub(crate) fn ask_terminal_parked(
+        &mut self,
+        alloc: Global,
+        request: &Entry,
+    ) -> Result<Vec<u8>, AllocError>
+        requires room { self.old.session.used + 2 ≤ self.old.session.limits.seq }
+        ensures made { IfOk result (λ bytes. MadeBy (after_asking_parked self.old.session request.now) self.old.session self.new.session bytes.items) }
+        ensures debuggee { self.new.debuggee ≡ self.old.debuggee }
+        ensures err { OnErr result (self.new.session ≡ self.old.session) }
+    {
+        let (outbox, seq) = self.request_behind(alloc, request)?;
+        let bytes = self.commit(request.seq, outbox);
+        self.set_asked(Some(seq));
+        self.set_phase(Phase::Asked);
+        Ok(bytes)
+    }
+
+    // ---- the response
+
+    /// What is parked is answered.
+    fn terminal_responses(&self, alloc: Global, ok: bool) -> Result<Outbox, AllocError>
+        requires { self.now.session.used + length (parked_ones self.now.session.kept) ≤ self.now.session.limits.seq }
+        ensures last { IfOk result (λ outbox. outbox.numbers.last ≡ self.now.session.limits.seq) }
+        ensures holds { IfOk result (λ outbox. Holds outbox self.now.session.limits.body self.now.session.used (after_terminal self.now.session (reply_of ok)).drafts) }
+    {
+        let mut outbox = self.fresh_outbox(alloc);
+        answer_chosen(
+            alloc,
+            &mut outbox,
+            &self.kept,
+            Chosen::Parked,
+            start_failure(ok),
+        )?;
+        Ok(outbox)
+    }
+
+    /// Ends the waiting for a terminal, where the debuggee started or not.
+    fn end_waiting(&mut self, alloc: Global, ok: bool) -> Result<Vec<u8>, AllocError>
+        requires { self.old.session.used + length (parked_ones self.old.session.kept) ≤ self.old.session.limits.seq }
+        ensures made { IfOk result (λ bytes. MadeBy (after_terminal self.old.session (reply_of ok)) self.old.session self.new.session bytes.items) }
+        ensures debuggee { self.new.debuggee ≡ self.old.debuggee }
+        ensures err { OnErr result (self.new ≡ self.old) }
+    {
+        let outbox = self.terminal_responses(alloc, ok)?;
+        let bytes = self.commit_asked(outbox);
+        self.set_phase(start_phase(ok));
+        Ok(bytes)
+    }
+
+    /// Starts the debuggee in the terminal that there is.
+    fn start_in_terminal(&mut self, alloc: Global) -> Result<Vec<u8>, AllocError>
+        requires { self.old.session.used + length (parked_ones self.old.session.kept) ≤ self.old.session.limits.seq }
+        ensures carries { IfOk result (λ bytes. Carries D.follows (asking to_start (after_terminal self.old.session)) self.old self.new bytes.items) }
+        ensures err { OnErr result (self.new.session ≡ self.old.session) }
+    {
+        let ok = self.ask_start(alloc)?;
+        self.end_waiting(alloc, ok)
+    }
+
+    fn take_terminal(&mut self, alloc: Global, success: bool) -> Result<Vec<u8>, AllocError>
+        requires { self.old.session.used + length (parked_ones self.old.session.kept) ≤ self.old.session.limits.seq }
+        ensures carries { IfOk result (λ bytes. Carries D.follows (plan_of_terminal success self.old.session) self.old self.new bytes.items) }
+        ensures unasked { OnErr result (IsUnasked (Ok (Some (plan_of_terminal success self.old.session))) self.old.debuggee self.new.debuggee) }
+        ensures err { OnErr result (self.new.session ≡ self.old.session) }
+    {
+        if success {
+            return self.start_in_terminal(alloc);
+        }
+        self.end_waiting(alloc, false)
+    }
+
+    /// Does what a response to the own request says.
+    fn take_answer(&mut self, alloc: Global, success: bool) -> Result<Vec<u8>, AdapterFault>
+        ensures carries { IfOk result (λ bytes. Carries D.follows (plan_of_response success self.old.session) self.old self.new bytes.items) }
+        ensures within { OnOk result (self.old.session.used + messages_due (plan_of_response success self.old.session) ≤ self.old.session.limits.seq) }
+        ensures refused { IfErr result (λ fault. IsRefusedFor fault (plan_of_response success self.old.session) self.old self.new) }
+        ensures memory { IsErrOf result AdapterFault.OutOfMemory → is_phase Asked self.old.session.phase ≡ true }
+        ensures err { OnErr result (self.new.session ≡ self.old.session) }
+    {
+        if is_waiting(self.phase) {
+            self.room(self.kept.parked() as u64)?;
+            return Ok(self.take_terminal(alloc, success)?);
+        }
+        let _ = self.numbers();
+        self.set_asked(None);
+        Ok(Vec::new(alloc))
+    }
+
+    /// Takes a response.
+    pub(crate) fn take_response(
+        &mut self,
+        alloc: Global,
+        request_seq: u64,
+        success: bool,
+        command: &Text,
+    ) -> Result<Vec<u8>, AdapterFault>
+        ensures taken { IfOk result (λ bytes. HasTaken D.follows (takes_response request_seq success command.now self.old.session) self.old self.new bytes.items) }
+        ensures refused { IfErr result (λ fault. NotTaken fault (takes_response request_seq success command.now self.old.session)) }
+        ensures unasked { OnErr result (IsUnasked (some_plan (takes_response request_seq success command.now self.old.session)) self.old.debuggee self.new.debuggee) }
+        ensures memory { IsErrOf result AdapterFault.OutOfMemory → is_phase Asked self.old.session.phase ≡ true }
+        ensures err { OnErr result (self.new.session ≡ self.old.session) }
+    {
+        if !is_asked(self.asked, request_seq) {
+            return Err(AdapterFault::Unmatched { request_seq });
+        }
+        if command.as_str() != RUN_IN_TERMINAL {
+            return Err(AdapterFault::CommandMismatch { request_seq });
+        }
+        self.take_answer(alloc, success)
+    }
+}
