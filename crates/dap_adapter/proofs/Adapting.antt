@@ -16,7 +16,7 @@ use Rattle.dap_session.specs.Laws.{CanMake, can_make, EachStepGoesOn}
 use Rattle.dap_session.specs.Plan.{Made, Plan, entries_of}
 use Rattle.dap_session.specs.Polling.{polls}
 use Rattle.dap_session.specs.SessionState.{SessionState, Carries, HasTurned}
-use Rattle.dap_session.specs.Session.{Session, fresh_session}
+use Rattle.dap_session.specs.Session.{Session, IsOrderly, fresh_session}
 use Rattle.dap_session.specs.Within.{IsWithin, EachStepStaysWithin}
 use Rattle.dap_adapter.specs.Calls.{Step, Handled, Saw}
 use Rattle.dap_adapter.specs.AdapterState.{AdapterState, state_of}
@@ -37,6 +37,10 @@ received-more laws i s h k e r =
 -- bounds stay where the limits and the bounds do
 bounds-stay : {D : Type 0} (old new : AdapterState D) → new.intake.bounds ≡ old.intake.bounds → new.session.limits ≡ old.session.limits → old.intake.bounds ≡ bounds_of old.session.limits → new.intake.bounds ≡ bounds_of new.session.limits
 bounds-stay old new i l b = i ∙ (b ∙ ap bounds_of (sym l))
+
+-- what the laws of a step ask
+pub orderly : (s : Session) → IsWithin s → IsOrderly s
+orderly s w = record { distinct = w.distinct; asked = w.asked }
 
 -- a step without bytes of the client
 pub stepped : {D : Type 0} (grow : HistoriesGrow) (ranges : ReadIsInRange) (laws : EachStepGoesOn) (follows : Goes D) (plan : Plan) (old new : AdapterState D) (bytes : List ℕ) (from to : SessionState D)
@@ -77,15 +81,15 @@ handled grow ranges laws within shown follows old new bytes from to a b i fault 
       is = due;
       intake = i;
       step = stepped grow ranges laws follows t.plan old new bytes from to a b i fault limits t.carries
-          (λ made h can w f. laws.turn (shown old.debuggee) old.session t.plan made h w.distinct due can f)
+          (λ made h can w f. laws.turn (shown old.debuggee) old.session t.plan made h (orderly old.session w) due can f)
           (λ made can is w. within.turn (shown old.debuggee) old.session t.plan made w due can);
     }
 
 pub fresh-follows : HistoriesGrow → (limits : Settings) → Follows (fresh_session limits) []
-fresh-follows laws limits = record { kept = refl; answers = laws.answers_none Came; accepted = laws.answers_none Went; references = refl; used = refl; numbered = tt }
+fresh-follows laws limits = record { kept = refl; answers = laws.answers_none Came; accepted = laws.answers_none Went; asked = refl; references = refl; used = refl; numbered = tt }
 
 pub fresh-within : (limits : Settings) → IsWithin (fresh_session limits)
-fresh-within limits = record { distinct = tt; kept = omega arith; used = omega arith; references = omega arith; numbers = omega arith; breakpoints = omega arith; ids = omega arith }
+fresh-within limits = record { distinct = tt; kept = omega arith; asked = refl; used = omega arith; references = omega arith; numbers = omega arith; breakpoints = omega arith; ids = omega arith }
 
 pub sees : {D : Type 0} (grow : HistoriesGrow) (ranges : ReadIsInRange) (laws : EachStepGoesOn) (within : EachStepStaysWithin) (follows : Goes D) (old new : AdapterState D) (bytes : List ℕ) (from to : SessionState D)
     → from ≡ state_of old → to ≡ state_of new → new.intake ≡ old.intake

@@ -15,7 +15,7 @@ use Rattle.dap_message.specs.declared.message.Kind.{Kind}
 use Rattle.dap_message.specs.declared.message.Kind.TheVariants.{Request, Response, Event, Other}
 use Rattle.dap_tables.specs.declared.entry.Entry.{Entry as Kept}
 use Rattle.dap_session.specs.InRange.{IsRequestInRange, AnswersInRange}
-use Rattle.dap_session.specs.Plan.{Answer, success, failure, Draft, reply, emit, Made, message_of, names_of, numbered_messages, outs, references_end_if, entries_of}
+use Rattle.dap_session.specs.Plan.{Answer, success, failure, Draft, reply, emit, ask, Made, message_of, names_of, numbered_messages, outs, references_end_if, entries_of}
 use Rattle.dap_adapter.specs.AdapterState.{AdapterState}
 use Rattle.dap_adapter.specs.StandsFor.{StandsFor, GoesOn}
 
@@ -107,6 +107,9 @@ drafts-in-range all came answers before used (reply r answer ∷ ds) is =
     )
 drafts-in-range all came answers before used (emit event ∷ ds) is =
     let e : Entry = Out (message_of (used + 1) (emit event)) (names_of (emit event)) in
+    (tt, drafts-in-range all came answers (before ++ e ∷ []) (used + 1) ds (moved before e (outs (used + 1) ds) all is))
+drafts-in-range all came answers before used (ask ∷ ds) is =
+    let e : Entry = Out (message_of (used + 1) ask) (names_of ask) in
     (tt, drafts-in-range all came answers (before ++ e ∷ []) (used + 1) ds (moved before e (outs (used + 1) ds) all is))
 
 parts : (h came drops entries : List Entry) → (h ++ (came ++ drops)) ++ entries ≡ h ++ (came ++ (drops ++ entries))

@@ -20,6 +20,7 @@ use Rattle.dap_adapter.specs.AdapterState.{AdapterState, state_of}
 use Rattle.dap_adapter.specs.PrivateReceives.{HasReceived}
 use Rattle.dap_adapter.specs.StandsFor.{GoesOn}
 use Rattle.dap_adapter.specs.declared.taken.Taken.{Taken}
+use Rattle.dap_adapter.proofs.Adapting.{orderly}
 use Rattle.dap_adapter.proofs.Readable.{step-reads}
 
 -- the frame is still under way
@@ -62,7 +63,7 @@ delivers-goes_on grow laws within old new ready piece n m plan made c read gathe
             stream = released (s ++ take n piece) (r.bodies ++ ready.held ∷ []) [] (c.stands s r.bodies r.rest r.stream);
             read = rw ins (grow.read_then r.bodies (ins_of h) ready.held m r.read read);
           };
-      session = rw same (laws.take old.session m plan made h st.within.distinct is can st.session);
+      session = rw same (laws.take old.session m plan made h (orderly old.session st.within) is can st.session);
       within = rw same (within.take old.session m plan made st.within is can);
       bounds = bounds ∙ (st.bounds ∙ ap bounds_of (sym limits));
     }

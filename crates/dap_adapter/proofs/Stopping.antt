@@ -9,13 +9,13 @@ use Rattle.dap_frame.specs.declared.limits.Bounds.{Bounds}
 use Rattle.dap_tables.specs.Outstanding.{Kept}
 use Rattle.dap_debuggee.specs.Shown.{Shown}
 use Rattle.dap_session.specs.declared.fault.AdapterFault.{AdapterFault}
-use Rattle.dap_session.specs.declared.fault.AdapterFault.TheVariants.{SeqExhausted, OutOfMemory, Frame, Body, RepeatedSeq, Unmatched, Ended}
+use Rattle.dap_session.specs.declared.fault.AdapterFault.TheVariants.{SeqExhausted, OutOfMemory, Frame, Body, RepeatedSeq, Unmatched, CommandMismatch, Ended}
 use Rattle.dap_session.specs.Handling.{turns, turn_of, some_plan, plan}
 use Rattle.dap_session.specs.Plan.{Plan, messages_due}
 use Rattle.dap_session.specs.Session.{Session, oldest}
 use Rattle.dap_history.specs.Pieces.{FrameClosed, BodyRefused}
 use Rattle.dap_adapter.specs.Calls.{TakeRefused, TurnRefused, PollRefused, ClosedBy}
-use Rattle.dap_adapter.specs.AdapterState.{AdapterState}
+use Rattle.dap_adapter.specs.AdapterState.{AdapterState, state_of}
 use Rattle.dap_adapter.specs.Run.{Next, to_take, to_turn, to_poll, has_ended}
 use Rattle.dap_adapter.specs.Served.{FrameRefused, BodyRefused as RunBodyRefused, IsRefused, in_take, in_turn, in_poll}
 use Rattle.dap_adapter.specs.PrivateServing.{Serving, Progress, Place, place_at, input_of, Reaches, Pends, Halts, serve_fault_of}
@@ -54,6 +54,7 @@ module _ {C D : Type 0} (b : Serving C D) (v : Progress C D) (n : ℕ) where
   turn_stops f used later (Body cause offset) r t = absurd (not_body cause offset (turn_refused (b.shown v.end.debuggee) v.end.session (oldest v.end.session.kept) (Body cause offset) t.0))
   turn_stops f used later (RepeatedSeq seq) r t = record { pends = pends_of (place_at n used later []) to_turn r; used = used; later = later; read_are = refl; stops = turn_is_in used later (RepeatedSeq seq) r t.0 }
   turn_stops f used later (Unmatched seq) r t = record { pends = pends_of (place_at n used later []) to_turn r; used = used; later = later; read_are = refl; stops = turn_is_in used later (Unmatched seq) r t.0 }
+  turn_stops f used later (CommandMismatch seq) r t = record { pends = pends_of (place_at n used later []) to_turn r; used = used; later = later; read_are = refl; stops = turn_is_in used later (CommandMismatch seq) r t.0 }
   turn_stops f used later Ended r t = record { pends = pends_of (place_at n used later []) to_turn r; used = used; later = later; read_are = refl; stops = turn_is_in used later Ended r t.0 }
   turn_stops f used later SeqExhausted r t = record { pends = pends_of (place_at n used later []) to_turn r; used = used; later = later; read_are = refl; stops = turn_is_in used later SeqExhausted r t.0 }
   turn_stops f used later OutOfMemory r t = pends_of (place_at n used later []) to_turn r
@@ -63,6 +64,7 @@ module _ {C D : Type 0} (b : Serving C D) (v : Progress C D) (n : ℕ) where
   poll_stops f made used later (Body cause offset) r t = absurd t
   poll_stops f made used later (RepeatedSeq seq) r t = absurd t
   poll_stops f made used later (Unmatched seq) r t = absurd t
+  poll_stops f made used later (CommandMismatch seq) r t = absurd t
   poll_stops f made used later Ended r t = absurd t
   poll_stops f made used later SeqExhausted r t =
       record {
@@ -147,23 +149,24 @@ module _ {C D : Type 0} (b : Serving C D) (v : Progress C D) (n : ℕ) where
         refused = x.closes;
       })
 
-  pub take_stops : (used piece rest : List ℕ) (fault : AdapterFault) → Reaches b v (place_at n used piece rest) to_take → has_ended v.end.session ≡ false → TakeRefused v.end.intake v.end.session piece fault → Halts b v.sink (record { count = n; bytes = used ++ piece }) (serve_fault_of fault)
-  take_stops used piece rest (Frame f) r going x = record {
+  pub take_stops : (used piece rest : List ℕ) (fault : AdapterFault) (after : D) → Reaches b v (place_at n used piece rest) to_take → has_ended v.end.session ≡ false → TakeRefused v.end.intake (state_of v.end) piece fault after → Halts b v.sink (record { count = n; bytes = used ++ piece }) (serve_fault_of fault)
+  take_stops used piece rest (Frame f) after r going x = record {
     pends = pends_of (place_at n used piece rest) to_take r;
     used = used ++ take x.closes.n piece;
     later = drop x.closes.n piece;
     read_are = halves used piece x.closes.n;
     stops = frame_stops used piece rest r going f x;
   }
-  take_stops used piece rest (Body cause offset) r going x = record {
+  take_stops used piece rest (Body cause offset) after r going x = record {
     pends = pends_of (place_at n used piece rest) to_take r;
     used = used ++ take x.n piece;
     later = drop x.n piece;
     read_are = halves used piece x.n;
     stops = body_stops used piece rest r going cause offset x;
   }
-  take_stops used piece rest (RepeatedSeq seq) r going x = record { pends = pends_of (place_at n used piece rest) to_take r; used = used ++ take x.n piece; later = drop x.n piece; read_are = halves used piece x.n; stops = message_stops used piece rest r going (RepeatedSeq seq) x }
-  take_stops used piece rest (Unmatched seq) r going x = record { pends = pends_of (place_at n used piece rest) to_take r; used = used ++ take x.n piece; later = drop x.n piece; read_are = halves used piece x.n; stops = message_stops used piece rest r going (Unmatched seq) x }
-  take_stops used piece rest Ended r going x = record { pends = pends_of (place_at n used piece rest) to_take r; used = used ++ take x.n piece; later = drop x.n piece; read_are = halves used piece x.n; stops = message_stops used piece rest r going Ended x }
-  take_stops used piece rest SeqExhausted r going x = record { pends = pends_of (place_at n used piece rest) to_take r; used = used ++ take x.n piece; later = drop x.n piece; read_are = halves used piece x.n; stops = message_stops used piece rest r going SeqExhausted x }
-  take_stops used piece rest OutOfMemory r going x = pends_of (place_at n used piece rest) to_take r
+  take_stops used piece rest (RepeatedSeq seq) after r going x = record { pends = pends_of (place_at n used piece rest) to_take r; used = used ++ take x.n piece; later = drop x.n piece; read_are = halves used piece x.n; stops = message_stops used piece rest r going (RepeatedSeq seq) x }
+  take_stops used piece rest (Unmatched seq) after r going x = record { pends = pends_of (place_at n used piece rest) to_take r; used = used ++ take x.n piece; later = drop x.n piece; read_are = halves used piece x.n; stops = message_stops used piece rest r going (Unmatched seq) x }
+  take_stops used piece rest (CommandMismatch seq) after r going x = record { pends = pends_of (place_at n used piece rest) to_take r; used = used ++ take x.n piece; later = drop x.n piece; read_are = halves used piece x.n; stops = message_stops used piece rest r going (CommandMismatch seq) x }
+  take_stops used piece rest Ended after r going x = record { pends = pends_of (place_at n used piece rest) to_take r; used = used ++ take x.n piece; later = drop x.n piece; read_are = halves used piece x.n; stops = message_stops used piece rest r going Ended x }
+  take_stops used piece rest SeqExhausted after r going x = record { pends = pends_of (place_at n used piece rest) to_take r; used = used ++ take x.n piece; later = drop x.n piece; read_are = halves used piece x.n; stops = message_stops used piece rest r going SeqExhausted x }
+  take_stops used piece rest OutOfMemory after r going x = pends_of (place_at n used piece rest) to_take r

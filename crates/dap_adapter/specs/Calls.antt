@@ -4,7 +4,7 @@ use Rattle.dap_frame.specs.Feeds.{Gathers}
 use Rattle.dap_frame.specs.Intake.{Intake}
 use Rattle.dap_frame.specs.Settings.{Settings, bounds_of}
 use Rattle.dap_history.specs.History.{Entry, In}
-use Rattle.dap_history.specs.Pieces.{Whole, FrameClosed, BodyRefused, NeedsMemory}
+use Rattle.dap_history.specs.Pieces.{Whole, FrameClosed, BodyRefused}
 use Rattle.dap_message.specs.Meaning.{Msg}
 use Rattle.dap_message.specs.ReadBack.{AllReadBack}
 use Rattle.dap_message.specs.declared.message.Message.{Message}
@@ -16,10 +16,10 @@ use Rattle.dap_adapter.specs.declared.taken.Taken.{Taken}
 use Rattle.dap_adapter.specs.declared.taken.Turned.{Turned}
 use Rattle.dap_adapter.specs.declared.taken.Turned.TheVariants.{Idle, Done}
 use Rattle.dap_session.specs.Carried.{Goes}
-use Rattle.dap_session.specs.Handling.{turns}
+use Rattle.dap_session.specs.Handling.{some_plan, turns}
 use Rattle.dap_session.specs.Plan.{Plan, written_by, bytes_of, entries_of}
 use Rattle.dap_session.specs.Polling.{polls, has_debuggee}
-use Rattle.dap_session.specs.SessionState.{SessionStep, IsUnasked, HasTooMany}
+use Rattle.dap_session.specs.SessionState.{SessionState, SessionStep, IsUnasked, HasTooMany}
 use Rattle.dap_session.specs.Session.{Session, to_handle}
 use Rattle.dap_reader.specs.Reader.{Reader}
 use Rattle.dap_adapter.specs.AdapterState.{AdapterState, state_of}
@@ -63,12 +63,18 @@ pub record ClosedBy (old : Intake) (s : Session) (piece : List ℕ) (fault : Ada
   pub read : Msg whole.ready.held message
   pub closes : takes message s ≡ Err fault
 
--- why a call on a piece was refused
-abbrev pub TakeRefused : Intake → Session → List ℕ → AdapterFault → Type 0
-TakeRefused old s piece (Frame fault) = FrameClosed old piece fault
-TakeRefused old s piece (Body cause offset) = BodyRefused old piece cause offset
-TakeRefused old s piece OutOfMemory = NeedsMemory old piece
-TakeRefused old s piece fault = ClosedBy old s piece fault
+-- memory was refused once a body was whole: the debuggee was not asked where its message asks it nothing
+pub record MemoryRefused {D : Type 0} (old : Intake) (p : SessionState D) (piece : List ℕ) (after : D) : Type 0 where
+  pub n : ℕ
+  pub whole : Whole old piece n
+  pub unasked : (m : Message) → Msg whole.ready.held m → IsUnasked (some_plan (takes m p.session)) p.debuggee after
+
+-- why a call on a piece was refused, with the debuggee as it is then
+abbrev pub TakeRefused : {D : Type 0} → Intake → SessionState D → List ℕ → AdapterFault → D → Type 0
+TakeRefused old p piece (Frame fault) after = FrameClosed old piece fault
+TakeRefused old p piece (Body cause offset) after = BodyRefused old piece cause offset
+TakeRefused old p piece OutOfMemory after = MemoryRefused old p piece after
+TakeRefused old p piece fault after = ClosedBy old p.session piece fault
 
 -- ---- turn
 

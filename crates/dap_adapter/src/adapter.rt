@@ -4,17 +4,20 @@ ghost use Rattle.dap_debuggee.specs.declared.answers.State.{State};
 ghost use Rattle.dap_frame.specs.Ends.{EndsWith};
 ghost use Rattle.dap_frame.specs.Intake.{StandsFor as StandsForStream};
 ghost use Rattle.dap_frame.specs.declared.frames.End.{End};
+ghost use Rattle.dap_session.specs.declared.fault.AdapterFault.{AdapterFault};
 ghost use Rattle.dap_adapter.specs.Calls.{TakeRefused};
 ghost use Rattle.dap_adapter.specs.PrivateReceives.{HasReceived, IsBy};
 ghost use Rattle.dap_reader.specs.declared.fault.ReadFault.{ReadFault};
 ghost use Rattle.dap_tables.specs.SourceMap.{count};
-ghost use Rattle.dap_session.specs.Session.{fresh_session, oldest};
+ghost use Rattle.dap_session.specs.Session.{fresh_session, oldest, own_requests};
+ghost use Rattle.dap_session.specs.Table.{is_phase};
+ghost use Rattle.dap_session.specs.declared.phase.Phase.TheVariants.{Asked};
 
 use crate::taken::{Taken, Turned};
 use dap_debuggee::Debuggee;
 use dap_frame::{End, Limits};
 use dap_history::laws::histories_grow;
-use dap_message::laws::read_is_in_range;
+use dap_message::laws::{each_body_is_one, read_is_in_range};
 use dap_reader::{MessageReader, Next, ReadFault};
 use dap_session::laws::{each_step_goes_on, each_step_stays_within};
 use dap_session::{AdapterFault, Phase, Session};
@@ -45,6 +48,7 @@ impl<D: Debuggee + Drop> Model for Adapter<D> {
 }
 
 impl<D: Debuggee + Drop> Adapter<D> {
+    ghost use Rattle.dap_adapter.specs.AdapterState.{state_of};
     ghost use Rattle.dap_adapter.specs.Calls.{Takes, TurnGives, TurnRefused, AreFewer, Saw, PollRefused};
     ghost use Rattle.dap_session.specs.Polling.{has_debuggee};
     ghost use Rattle.dap_adapter.specs.StandsFor.{StandsFor};
@@ -99,6 +103,14 @@ impl<D: Debuggee + Drop> Adapter<D> {
         self.session.breakpoints()
     }
 
+    /// How many own requests are not answered: at most one, which asks for a terminal.
+    pub fn asked(&self) -> usize
+        ensures asked { result ≡ length (own_requests self.now.session.asked) }
+        ensures bound { result ≤ 1 }
+    {
+        self.session.asked()
+    }
+
     /// The bytes held of the frame under way. After a fault there are none.
     pub fn held(&self) -> usize
         ensures held { result ≡ length self.now.intake.held }
@@ -112,13 +124,16 @@ impl<D: Debuggee + Drop> Adapter<D> {
     /// Uses the bytes of a piece up to the end of one frame at most, and delivers the message that becomes whole.
     ///
     /// A request is kept, or answered at once: a `cancel`, with what it cancels, and `busy` where as many requests are kept
-    /// as may be. A response is refused, since no request of this end waits for one. Any other message has no effect.
+    /// as may be. A response to the own request for a terminal starts the debuggee, or fails the `launch` that waits for it.
+    /// Where none waits any more, it has no effect, as any other message.
     ///
     /// # Errors
     /// `Frame` and `Body` where the framing or a body is refused, at the offset of the refused frame; `Ended` for a request
     /// after `disconnect` was answered; `RepeatedSeq` for a request with the number of one that is kept; `Unmatched` for a
-    /// response; `SeqExhausted` where more answers are due at once than own numbers are left; `OutOfMemory` where memory is
-    /// refused once a body is whole: a piece that makes no frame whole takes none.
+    /// response that answers no own request, or one that is answered; `CommandMismatch` for one to another command;
+    /// `SeqExhausted` where more answers are due at once than own numbers are left; `OutOfMemory` where memory is refused once
+    /// a body is whole: a piece that makes no frame whole takes none. The debuggee is as it was, unless memory is refused to a
+    /// response that lets it start.
     pub fn take(&mut self, alloc: Global, piece: &[u8]) -> Result<Taken, AdapterFault>
         ensures takes { IfOk result (λ taken. Takes D.follows self.old piece.now taken taken.delivered self.new) }
         ensures progress { IfOk result (λ taken. 0 < length piece.now → 0 < taken.used) }
@@ -127,9 +142,10 @@ impl<D: Debuggee + Drop> Adapter<D> {
         ensures limits { self.new.session.limits ≡ self.old.session.limits }
 
         // Why it is refused; then the tables are as they were, and nothing is held.
-        ensures refused { IfErr result (λ fault. self.old.fault ≡ None → TakeRefused self.old.intake self.old.session piece.now fault) }
+        ensures refused { IfErr result (λ fault. self.old.fault ≡ None → TakeRefused self.old.intake (state_of self.old) piece.now fault self.new.debuggee) }
         ensures tables { OnErr result (self.new.session ≡ self.old.session) }
-        ensures debuggee { OnErr result (self.new.debuggee ≡ self.old.debuggee) }
+        ensures debuggee { IfErr result (λ fault. fault ≢ AdapterFault.OutOfMemory → self.new.debuggee ≡ self.old.debuggee) }
+        ensures unasked { is_phase Asked self.old.session.phase ≡ false → OnErr result (self.new.debuggee ≡ self.old.debuggee) }
         ensures held { OnErr result (self.new.intake.held ≡ []) }
         ensures latches { IfErr result (λ fault. self.new.fault ≡ Some fault) }
         ensures latched { IfSome self.old.fault (λ fault. (result ≡ Err fault) × (self.new ≡ self.old)) }
@@ -277,10 +293,13 @@ fn receive<D: Debuggee + Drop>(
     ensures received { IfOk result (λ taken. HasReceived D.follows reader.old.intake reader.new.intake session.old session.new piece.now taken taken.delivered) }
     ensures progress { IfOk result (λ taken. 0 < length piece.now → 0 < taken.used) }
     ensures within { IfOk result (λ taken. taken.used ≤ length piece.now) }
-    ensures refused { IfErr result (λ fault. TakeRefused reader.old.intake session.old.session piece.now fault) }
-    ensures err { OnErr result (session.new ≡ session.old) }
+    ensures refused { IfErr result (λ fault. TakeRefused reader.old.intake session.old piece.now fault session.new.debuggee) }
+    ensures err { OnErr result (session.new.session ≡ session.old.session) }
+    ensures debuggee { IfErr result (λ fault. fault ≢ AdapterFault.OutOfMemory → session.new.debuggee ≡ session.old.debuggee) }
+    ensures unasked { is_phase Asked session.old.session.phase ≡ false → OnErr result (session.new.debuggee ≡ session.old.debuggee) }
     ensures limits { session.new.session.limits ≡ session.old.session.limits }
 {
+    each_body_is_one();
     let Next { used, message } = match reader.next(alloc, piece) {
         Ok(next) => next,
         Err(fault) => return Err(refused_by(fault)),

@@ -6,7 +6,7 @@ use Rattle.dap_adapter.proofs.serving.serve_frame.Goals as goal
 
 pub returns-in-Err-clause-halts : goal.returns-in-Err-clause-halts
 returns-in-Err-clause-halts g c = λ b n used rest going r.
-    rw c.serve_fault.ensures (take_stops (served_by g.C.Channel.goes g.D.Debuggee.shown g.D.Debuggee.follows b) (progress_of c.args.channel.now c.args.adapter.now c.args.outlet.now) n used c.args.piece.now rest c.in-Err.fault r going (c.in-Err.ensures.refused r.handles.stands.no_fault))
+    rw c.serve_fault.ensures (take_stops (served_by g.C.Channel.goes g.D.Debuggee.shown g.D.Debuggee.follows b) (progress_of c.args.channel.now c.args.adapter.now c.args.outlet.now) n used c.args.piece.now rest c.in-Err.fault _ r going (c.in-Err.ensures.refused r.handles.stands.no_fault))
 
 pub returns-in-None-clause-uses : goal.returns-in-None-clause-uses
 returns-in-None-clause-uses g c = λ b n used rest going r.

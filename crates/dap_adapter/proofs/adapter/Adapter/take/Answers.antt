@@ -1,6 +1,6 @@
 use Rattle.std.proofs.Common.{refl, subst}
 use Rattle.dap_adapter.specs.Calls.{Takes, TakeRefused}
-use Rattle.dap_adapter.specs.AdapterState.{AdapterState}
+use Rattle.dap_adapter.specs.AdapterState.{AdapterState, state_of}
 use Rattle.dap_adapter.proofs.Adapting.{none-met}
 use Rattle.dap_adapter.proofs.Receiving.{received}
 use Rattle.dap_adapter.proofs.adapter.Adapter.take.Goals as goal
@@ -14,4 +14,4 @@ returns-in-Ok-clause-takes g c =
     c.in-Ok.ensures.bounds c.in-Ok.ensures.limits (none-met c.self.inside.fault c.in_default.not-Some) c.in-Ok.ensures.received)
 
 pub returns-in-Err-clause-refused : goal.returns-in-Err-clause-refused
-returns-in-Err-clause-refused g c = λ _. subst (λ (x : AdapterState _). TakeRefused x.intake x.session c.args.piece.now c.in-Err.fault) c.self.view_is c.in-Err.ensures.refused
+returns-in-Err-clause-refused g c = λ _. subst (λ (x : AdapterState _). TakeRefused x.intake (state_of x) c.args.piece.now c.in-Err.fault c.receive.new.session.debuggee) c.self.view_is c.in-Err.ensures.refused
