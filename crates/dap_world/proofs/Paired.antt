@@ -88,6 +88,16 @@ inspection-same (Some a) ok = either-same (is_inspect a) ok
 
 table-none : (p : AdapterPhase) (c : small.Command) (ok : Bool) → table_turned p c ok (record { base = 0; live = [] }) [] ≡ (let t : Table = record { base = 0; live = [] } in t)
 table-none desk.AdapterFresh small.Disconnect ok = refl
+table-none desk.AdapterReady small.Disconnect ok = refl
+table-none desk.AdapterConfigured small.Disconnect ok = refl
+table-none desk.AdapterParked small.Disconnect ok = refl
+table-none desk.AdapterAsked small.Disconnect ok = refl
+table-none desk.AdapterRunning small.Disconnect ok = refl
+table-none desk.AdapterStopped small.Disconnect ok = refl
+table-none desk.AdapterExited small.Disconnect ok = refl
+table-none desk.AdapterEnded small.Disconnect ok = refl
+table-none desk.AdapterStopped small.Resume true = refl
+table-none desk.AdapterStopped small.Inspect true = refl
 table-none _ _ _ = refl
 
 pub table-stays : (o : Option Ask) (p : AdapterPhase) (ok : Bool) → table_after o p ok (record { base = 0; live = [] }) [] ≡ (let t : Table = record { base = 0; live = [] } in t)
@@ -96,6 +106,14 @@ table-stays (Some a) p ok = table-none p a.command ok
 
 pub table-polls : (p : AdapterPhase) (x : Happening) → table_polled p x (record { base = 0; live = [] }) ≡ (let t : Table = record { base = 0; live = [] } in t)
 table-polls desk.AdapterFresh desk.Nothing = refl
+table-polls desk.AdapterReady desk.Nothing = refl
+table-polls desk.AdapterConfigured desk.Nothing = refl
+table-polls desk.AdapterParked desk.Nothing = refl
+table-polls desk.AdapterAsked desk.Nothing = refl
+table-polls desk.AdapterRunning desk.Nothing = refl
+table-polls desk.AdapterStopped desk.Nothing = refl
+table-polls desk.AdapterExited desk.Nothing = refl
+table-polls desk.AdapterEnded desk.Nothing = refl
 table-polls _ _ = refl
 
 -- ---- what the adapter makes

@@ -74,7 +74,7 @@ launch-head false k ks l e = cc
 
 module _ (options : Options) (wants : ℕ → Bool) (used : ℕ) where
   abbrev any_wants : List Ask → Bool
-  any_wants as = list_any (λ (a : Ask). wants a.seq) as
+  any_wants xs = list_any (λ (a : Ask). wants a.seq) xs
 
   parked-here : (b w : Bool) (k : SmallKept) (ks : List SmallKept) (rest : Bool) → (b ≡ true → w ≡ (options.supports_run_in_terminal_request && wants k.ask.seq))
       → rest ≡ (options.supports_run_in_terminal_request && any_wants (small_asks ks)) → ((b && w) || rest) ≡ (options.supports_run_in_terminal_request && any_wants (small_asks (if b then k ∷ ks else ks)))
