@@ -13,10 +13,10 @@ use Rattle.dap_ends.specs.Pair.{NumberedNote, WrittenNote, Pair, PairTurn, termi
 use Rattle.dap_ends.specs.Standing.{AllLaunch}
 use Rattle.dap_ends.specs.Messages.{one_if}
 use Rattle.dap_message.specs.Argument.{Read}
-use Rattle.dap_message.specs.Call.{call_of}
+use Rattle.dap_message.specs.Call.{call_of, cancel_of}
 use Rattle.dap_message.specs.CallTree.{command_of as command_in}
 use Rattle.dap_message.specs.Command.{command_named}
-use Rattle.dap_message.specs.Terminal.{run_in_terminal}
+use Rattle.dap_message.specs.Terminal.{terminal_members}
 use Rattle.dap_message.specs.Types.Call.{Call}
 use Rattle.dap_message.specs.Types.Call.TheVariants as call
 use Rattle.dap_message.specs.Types.Command.{Command}
@@ -103,39 +103,39 @@ length-asks (k ∷ ks) = let ih = length-asks ks in omega arith
 abbrev would : AdapterPhase → small.Command → Bool → (ℕ → Bool) → Ask → List Ask → Bool
 would p c announced wants a ls = would_start p c && (announced && wants (launch_seq c a ls))
 
-would-is : (c : Command) (p : Phase) (s : Session) (r : Entry) (wants : ℕ → Bool) (used : ℕ) → command_named r.command ≡ Some c → wants r.seq ≡ wanted_of r → AllOwn wants used (all_asks s.kept) → AllLaunch (parked_of (all_kept s.kept))
+would-is : (p : Phase) (c : Command) (s : Session) (r : Entry) (wants : ℕ → Bool) (used : ℕ) → command_named r.command ≡ Some c → wants r.seq ≡ wanted_of r → AllOwn wants used (all_asks s.kept) → AllLaunch (parked_of (all_kept s.kept))
     → length (parked_of (all_kept s.kept)) ≡ one_if (is_parked_phase (adapter_model_phase p))
-    → would (adapter_model_phase p) (class_of c) s.options.supports_run_in_terminal_request wants (entry_ask r) (small_asks (parked_of (all_kept s.kept))) ≡ asks_by c p s r
-would-is command.Launch adapter.Configured s r wants used named w o l n =
+    → would (adapter_model_phase p) (class_of c) s.options.supports_run_in_terminal_request wants (entry_ask r) (small_asks (parked_of (all_kept s.kept))) ≡ asks_by p c s r
+would-is adapter.Configured command.Launch s r wants used named w o l n =
     ap (λ (x : Bool). s.options.supports_run_in_terminal_request && x) (w ∙ launch-wants (command_named r.command) r.arguments (ap (λ (x : Option Command). code (class_if x)) named))
-would-is command.Attach adapter.Configured s r wants used named w o l n =
+would-is adapter.Configured command.Attach s r wants used named w o l n =
     ap (λ (x : Bool). s.options.supports_run_in_terminal_request && x) (w ∙ ap (λ (x : Option Command). wanted_by x r.arguments) named) ∙ and-false s.options.supports_run_in_terminal_request
-would-is command.ConfigurationDone adapter.Parked s r wants used named w o l n =
+would-is adapter.Parked command.ConfigurationDone s r wants used named w o l n =
     let many = length-asks (parked_of (all_kept s.kept)) in
     ap (λ (x : Bool). s.options.supports_run_in_terminal_request && x) (sym (one-wants s.options wants used (entry_ask r) (small_asks (parked_of (all_kept s.kept))) (many ∙ n))) ∙ sym (parked-wants s.options wants used s.kept o l)
 would-is _ _ s r wants used named w o l n = refl
 
 pub turn-asks : {D : Type 0} (w : World D) (uses : ℕ → List Ref) (wants : ℕ → Bool) (used : ℕ) (h : Handled w.adapter.session) → wants h.k.entry.seq ≡ wanted_of h.k.entry → AllOwn wants used (all_asks w.adapter.session.kept)
     → AllLaunch (parked_of (all_kept w.adapter.session.kept)) → length (parked_of (all_kept w.adapter.session.kept)) ≡ one_if (is_parked_phase (adapter_model_phase w.adapter.session.phase))
-    → turn_asks (pair_of w uses wants) (small_oldest (all_kept w.adapter.session.kept)) ≡ asks_by (command_in h.call) w.adapter.session.phase w.adapter.session h.k.entry
+    → turn_asks (pair_of w uses wants) (small_oldest (all_kept w.adapter.session.kept)) ≡ asks_by w.adapter.session.phase (command_in h.call) w.adapter.session h.k.entry
 turn-asks w uses wants used h k o l n =
     let s : Session = w.adapter.session in
     let ls = small_asks (parked_of (all_kept s.kept)) in
     ap (λ (x : Option Ask). turn_asks (pair_of w uses wants) x) h.first
     ∙ (ap (λ (x : Option Command). would (adapter_model_phase s.phase) (class_if x) s.options.supports_run_in_terminal_request wants (entry_ask h.k.entry) ls) h.named
-    ∙ would-is (command_in h.call) s.phase s h.k.entry wants used h.named k o l n)
+    ∙ would-is s.phase (command_in h.call) s h.k.entry wants used h.named k o l n)
 
 -- ---- what was announced
 
 read-announces : (a : Option Data) (r : Read Call) (c : Call) → r ≡ Ok c → announces r ≡ announces (Ok c)
 read-announces a r c e = ap announces e
 
-announced-by : (asked : Call) (p : Phase) (s : Session) (wanted : Bool) (arguments : Option Data) → call_of (command_in asked) arguments ≡ Ok asked → wanted ≡ wanted_by (Some (command_in asked)) arguments
-    → terminal_after_command (adapter_model_phase p) (class_of (command_in asked)) wanted s.options.supports_run_in_terminal_request ≡ (options_by asked p s).supports_run_in_terminal_request
-announced-by (call.Initialize a) adapter.Fresh s wanted arguments r w = w ∙ ap announces r
+announced-by : (p : Phase) (asked : Call) (s : Session) (wanted : Bool) (arguments : Option Data) → call_of (command_in asked) arguments ≡ Ok asked → wanted ≡ wanted_by (Some (command_in asked)) arguments
+    → terminal_after_command (adapter_model_phase p) (class_of (command_in asked)) wanted s.options.supports_run_in_terminal_request ≡ (options_by p asked s).supports_run_in_terminal_request
+announced-by adapter.Fresh (call.Initialize a) s wanted arguments r w = w ∙ ap announces r
 announced-by _ _ s wanted arguments r w = refl
 
-pub turn-announced : {D : Type 0} (w : World D) (wants : ℕ → Bool) (h : Handled w.adapter.session) (options : Options) → wants h.k.entry.seq ≡ wanted_of h.k.entry → options ≡ options_by h.call w.adapter.session.phase w.adapter.session
+pub turn-announced : {D : Type 0} (w : World D) (wants : ℕ → Bool) (h : Handled w.adapter.session) (options : Options) → wants h.k.entry.seq ≡ wanted_of h.k.entry → options ≡ options_by w.adapter.session.phase h.call w.adapter.session
     → terminal_after_turn (adapter_model_phase w.adapter.session.phase) (small_oldest (all_kept w.adapter.session.kept)) wants w.adapter.session.options.supports_run_in_terminal_request ≡ options.supports_run_in_terminal_request
 turn-announced w wants h options k e =
     let s : Session = w.adapter.session in
@@ -143,7 +143,7 @@ turn-announced w wants h options k e =
     let old = s.options.supports_run_in_terminal_request in
     ap (λ (x : Option Ask). terminal_after_turn p x wants old) h.first
     ∙ (ap (λ (x : Option Command). terminal_after_command p (class_if x) (wants h.k.entry.seq) old) h.named
-    ∙ (announced-by h.call s.phase s (wants h.k.entry.seq) h.k.entry.arguments h.read (k ∙ ap (λ (x : Option Command). wanted_by x h.k.entry.arguments) h.named)
+    ∙ (announced-by s.phase h.call s (wants h.k.entry.seq) h.k.entry.arguments h.read (k ∙ ap (λ (x : Option Command). wanted_by x h.k.entry.arguments) h.named)
     ∙ ap (λ (x : Options). x.supports_run_in_terminal_request) (sym e)))
 
 -- ---- a turn
@@ -172,13 +172,14 @@ turn-pair n w uses wants made v t none k g =
 -- ---- a turn that asks for a terminal
 
 request-note : (q : ℕ) → note_seen (message_of q ask) ≡ (let m : NumberedNote = record { seq = q; note = record { message = Request (terminal_ask q) 0; refs = [] } } in m)
+unfolding cancel_of terminal_members
 request-note q = refl
 
 abbrev note_asking : ℕ → NumberedNote
 note_asking q = record { seq = q; note = record { message = Request (terminal_ask q) 0; refs = [] } }
 
 numbered-asking : (used : ℕ) (ds : List Draft) → AllHarmless ds → notes_seen (numbered_messages used (ds ++ ask ∷ [])) ≡ numbered_notes used [] (all_told ds) ++ note_asking (used + length ds + 1) ∷ []
-numbered-asking used [] h = let e : used + 1 ≡ used + 0 + 1 = omega arith in ap (λ (n : ℕ). note_asking n ∷ []) e
+numbered-asking used [] h = let e : used + 1 ≡ used + 0 + 1 = omega arith in ap (λ (m : NumberedNote). m ∷ []) (request-note (used + 1)) ∙ ap (λ (n : ℕ). note_asking n ∷ []) e
 numbered-asking used (d ∷ ds) h =
     let e : used + 1 + length ds + 1 ≡ used + length (d ∷ ds) + 1 = omega arith in
     ap (λ (m : NumberedNote). m ∷ notes_seen (numbered_messages (used + 1) (ds ++ ask ∷ []))) (note-told (used + 1) d h.0)
