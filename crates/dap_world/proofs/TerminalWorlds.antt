@@ -9,6 +9,7 @@ use Rattle.dap_frame.specs.Settings.{usual_settings}
 use Rattle.dap_message.specs.Call.{initialize_of, cancel_of}
 use Rattle.dap_message.specs.CallTree.{initialize_members}
 use Rattle.dap_message.specs.Canon.{canon, tree_of, request_members, response_members, event_members}
+use Rattle.dap_message.specs.Terminal.{terminal_of, terminal_members}
 use Rattle.dap_message.specs.Types.Call.{Call}
 use Rattle.dap_message.specs.Types.Call.TheVariants as call
 use Rattle.dap_debuggee.specs.Shown.{Shown}
@@ -67,7 +68,7 @@ module _ {D : Type 0} (shown : D → Shown) (replies : Replies D) (d : D) where
       ∷ codes "{\"body\":{\"error\":{\"format\":\"The terminal refused.\",\"id\":1018}},\"command\":\"runInTerminal\",\"message\":\"terminalRefused\",\"request_seq\":4,\"seq\":4,\"success\":false,\"type\":\"response\"}"
       ∷ codes "{\"body\":{\"error\":{\"format\":\"The debuggee refused.\",\"id\":1013}},\"command\":\"launch\",\"message\":\"debuggee\",\"request_seq\":2,\"seq\":5,\"success\":false,\"type\":\"response\"}"
       ∷ []
-  unfolding canon tree_of request_members response_members event_members initialize_members escape_byte digits plan_for initialize_of cancel_of query_result json_of is_utf8 chars serde_json_on_literals
+  unfolding canon tree_of request_members response_members event_members initialize_members escape_byte digits plan_for initialize_of cancel_of query_result json_of is_utf8 chars serde_json_on_literals terminal_of terminal_members
   nine_lines = refl
 
   -- the request is in one place: under way down, kept by the client, and answered under way up
@@ -75,11 +76,11 @@ module _ {D : Type 0} (shown : D → Shown) (replies : Replies D) (d : D) where
       (w11.adapter.session.phase ≡ Asked) × (length (own_names w11.adapter.session.asked) ≡ 1) × (asked_in w11.down ≡ own_names w11.adapter.session.asked)
       × (names_of w13.client.incoming ≡ own_names w13.adapter.session.asked) × (asked_in w13.down ≡ []) × (w14.client.incoming ≡ []) × (answered_in w14.up ≡ own_names w14.adapter.session.asked)
       × (w16.adapter.session.asked ≡ None) × (w16.adapter.session.phase ≡ Configured) × (w16.client.outstanding ≡ [])
-  unfolding canon tree_of request_members response_members event_members initialize_members escape_byte digits plan_for initialize_of cancel_of query_result json_of is_utf8 chars serde_json_on_literals
+  unfolding canon tree_of request_members response_members event_members initialize_members escape_byte digits plan_for initialize_of cancel_of query_result json_of is_utf8 chars serde_json_on_literals terminal_of terminal_members
   each_place = (refl, refl, refl, refl, refl, refl, refl, refl, refl, refl)
 
   whole_schedule : Leads shown replies usual_settings d w16
-  unfolding canon tree_of request_members response_members event_members initialize_members escape_byte digits plan_for initialize_of cancel_of query_result json_of is_utf8 chars serde_json_on_literals
+  unfolding canon tree_of request_members response_members event_members initialize_members escape_byte digits plan_for initialize_of cancel_of query_result json_of is_utf8 chars serde_json_on_literals terminal_of terminal_members
   whole_schedule =
       comes_down shown replies usual_settings d (up replies w14) _ _ _ refl refl refl
       (comes_up shown replies usual_settings d w14 _ _ _ refl refl refl
@@ -111,5 +112,5 @@ module _ {D : Type 0} (shown : D → Shown) (replies : Replies D) (d : D) where
   comes_late :
       (x17.adapter.session.phase ≡ Ended) × (length (own_names x17.adapter.session.asked) ≡ 1) × (length (answered_in x17.down) ≡ 2)
       × (x19.adapter.session.asked ≡ None) × (x19.adapter.session.used ≡ 6) × (x19.down ≡ x17.down) × (takes (first_message x18.up) x19.adapter.session ≡ Err (Unmatched 4))
-  unfolding canon tree_of request_members response_members event_members initialize_members escape_byte digits plan_for initialize_of cancel_of query_result json_of is_utf8 chars serde_json_on_literals
+  unfolding canon tree_of request_members response_members event_members initialize_members escape_byte digits plan_for initialize_of cancel_of query_result json_of is_utf8 chars serde_json_on_literals terminal_of terminal_members
   comes_late = (refl, refl, refl, refl, refl, refl, refl)
