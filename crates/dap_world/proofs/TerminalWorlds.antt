@@ -19,7 +19,7 @@ use Rattle.dap_session.specs.Bodies.{query_result}
 use Rattle.dap_session.specs.Handling.{plan_for}
 use Rattle.dap_session.specs.Taking.{takes}
 use Rattle.dap_client.specs.declared.terminal.Terminal.TheVariants.{Refused}
-use Rattle.dap_world.specs.Agreement.{names_of, own_names, asked_in, answered_in}
+use Rattle.dap_world.specs.Agreement.{Name, names_of, own_names, asked_in, answered_in}
 use Rattle.dap_world.specs.World.{World, messages_of, fresh_world, starts}
 use Rattle.dap_world.proofs.PlayedWorlds.{first_message, Replies, sent, answered, up, down, turned, Leads, sends, answers, comes_up, comes_down, turns_once}
 
@@ -72,10 +72,12 @@ module _ {D : Type 0} (shown : D → Shown) (replies : Replies D) (d : D) where
   nine_lines = refl
 
   -- the request is in one place: under way down, kept by the client, and answered under way up
+  abbrev request : Name
+  request = record { seq = 4; command = codes "runInTerminal" }
+
   each_place :
-      (w11.adapter.session.phase ≡ Asked) × (length (own_names w11.adapter.session.asked) ≡ 1) × (asked_in w11.down ≡ own_names w11.adapter.session.asked)
-      × (names_of w13.client.incoming ≡ own_names w13.adapter.session.asked) × (asked_in w13.down ≡ []) × (w14.client.incoming ≡ []) × (answered_in w14.up ≡ own_names w14.adapter.session.asked)
-      × (w16.adapter.session.asked ≡ None) × (w16.adapter.session.phase ≡ Configured) × (w16.client.outstanding ≡ [])
+      (w11.adapter.session.phase ≡ Asked) × (own_names w11.adapter.session.asked ≡ request ∷ []) × (asked_in w11.down ≡ request ∷ []) × (names_of w13.client.incoming ≡ request ∷ []) × (asked_in w13.down ≡ [])
+      × (w14.client.incoming ≡ []) × (answered_in w14.up ≡ request ∷ []) × (w16.adapter.session.asked ≡ None) × (w16.adapter.session.phase ≡ Configured) × (w16.client.outstanding ≡ [])
   unfolding canon tree_of request_members response_members event_members initialize_members escape_byte digits plan_for initialize_of cancel_of query_result json_of is_utf8 chars serde_json_on_literals terminal_of terminal_members
   each_place = (refl, refl, refl, refl, refl, refl, refl, refl, refl, refl)
 
@@ -111,6 +113,6 @@ module _ {D : Type 0} (shown : D → Shown) (replies : Replies D) (d : D) where
 
   comes_late :
       (x17.adapter.session.phase ≡ Ended) × (length (own_names x17.adapter.session.asked) ≡ 1) × (length (answered_in x17.down) ≡ 2)
-      × (x19.adapter.session.asked ≡ None) × (x19.adapter.session.used ≡ 6) × (x19.down ≡ x17.down) × (takes (first_message x18.up) x19.adapter.session ≡ Err (Unmatched 4))
+      × (x19.adapter.session.asked ≡ None) × (x19.adapter.session.used ≡ 6) × (length x19.down ≡ 2) × (takes (first_message x18.up) x19.adapter.session ≡ Err (Unmatched 4))
   unfolding canon tree_of request_members response_members event_members initialize_members escape_byte digits plan_for initialize_of cancel_of query_result json_of is_utf8 chars serde_json_on_literals terminal_of terminal_members
   comes_late = (refl, refl, refl, refl, refl, refl, refl)
