@@ -164,24 +164,24 @@ launch_is_parked_then = (refl, refl, refl, refl, refl)
 
 -- ---- where none is asked for
 
--- written with so many numbers used, and the phase
-abbrev starts_without : List Calls → Type 0
-starts_without calls = (phase_after calls at_first ≡ Running) × (asked_after calls at_first ≡ None) × (kept_after calls at_first ≡ []) × (length (run calls at_first).written ≡ 4)
+-- four messages are written, and the debuggee runs
+abbrev StartsUnasked : List Calls → Type 0
+StartsUnasked calls = (phase_after calls at_first ≡ Running) × (asked_after calls at_first ≡ None) × (kept_after calls at_first ≡ []) × (length (run calls at_first).written ≡ 4)
 
 abbrev by_initialize : List Calls → Calls → List Calls
 by_initialize begun launch = begun ++ launch ∷ turn ∷ request 3 (codes "configurationDone") ∷ turn ∷ []
 
 -- for `attach`, for a client that announced nothing, and for another console
-attach_asks_for_none : starts_without (by_initialize announced (request_with 2 (codes "attach") (codes "{\"console\":\"terminal\"}")))
+attach_asks_for_none : StartsUnasked (by_initialize announced (request_with 2 (codes "attach") (codes "{\"console\":\"terminal\"}")))
 unfolding plan_for initialize_of json_of is_utf8 chars serde_json_on_literals
 attach_asks_for_none = (refl, refl, refl, refl)
 
-unannounced_asks_for_none : starts_without (by_initialize initialized (in_terminal 2))
+unannounced_asks_for_none : StartsUnasked (by_initialize initialized (in_terminal 2))
 unfolding plan_for initialize_of json_of is_utf8 chars serde_json_on_literals
 unannounced_asks_for_none = (refl, refl, refl, refl)
 
-other_console_asks_for_none : starts_without (by_initialize announced (launch_in 2 (codes "{\"console\":\"integratedTerminal\"}"))) × starts_without (by_initialize announced (launch_in 2 (codes "{\"console\":[\"terminal\"]}")))
-    × starts_without (by_initialize announced (launch_in 2 (codes "{\"noDebug\":true}"))) × starts_without (by_initialize announced (request 2 (codes "launch")))
+other_console_asks_for_none : StartsUnasked (by_initialize announced (launch_in 2 (codes "{\"console\":\"integratedTerminal\"}"))) × StartsUnasked (by_initialize announced (launch_in 2 (codes "{\"console\":[\"terminal\"]}")))
+    × StartsUnasked (by_initialize announced (launch_in 2 (codes "{\"noDebug\":true}"))) × StartsUnasked (by_initialize announced (request 2 (codes "launch")))
 unfolding plan_for initialize_of json_of is_utf8 chars serde_json_on_literals
 other_console_asks_for_none = ((refl, refl, refl, refl), (refl, refl, refl, refl), (refl, refl, refl, refl), (refl, refl, refl, refl))
 
