@@ -72,6 +72,10 @@ asked_after calls at = (run calls at).session.asked
 abbrev debuggee_after : List Calls → At → State
 debuggee_after calls at = (run calls at).view.inner.state
 
+-- the launch 2 waits for the answer to the own request 4, and nothing came behind it
+abbrev Waits : List Calls → At → Type 0
+Waits calls at = (phase_after calls at ≡ Asked) × (kept_after calls at ≡ (2, true) ∷ []) × (asked_after calls at ≡ Some 4) × (length (run calls at).written ≡ 4) × (debuggee_after calls at ≡ NotStarted)
+
 -- ---- a launch that waits for `configurationDone`
 
 abbrev waits : List Calls
@@ -89,9 +93,9 @@ asks_behind_the_answer : texts_of (written_after 2 (run waits at_first))
 unfolding canon tree_of request_members response_members event_members terminal_members escape_byte digits plan_for initialize_of json_of is_utf8 chars serde_json_on_literals
 asks_behind_the_answer = refl
 
-launch_waits : (phase_after waits at_first ≡ Asked) × (kept_after waits at_first ≡ (2, true) ∷ []) × (asked_after waits at_first ≡ Some 4) × (debuggee_after waits at_first ≡ NotStarted)
+launch_waits : Waits waits at_first
 unfolding plan_for initialize_of json_of is_utf8 chars serde_json_on_literals
-launch_waits = (refl, refl, refl, refl)
+launch_waits = (refl, refl, refl, refl, refl)
 
 -- ---- the response
 
@@ -141,7 +145,7 @@ old_number_is_unmatched = (refl, refl)
 -- a debuggee that refuses its first start, in a terminal that there is
 refused_start : (written_after 4 (run started (fresh_at usual_settings true)) ≡ failure_response 5 2 (codes "launch") Debuggee ∷ [])
     × (phase_after started (fresh_at usual_settings true) ≡ Configured) × (asked_after started (fresh_at usual_settings true) ≡ None)
-    × (written_after 5 (run (started ++ in_terminal 4 ∷ turn ∷ terminal_ok 6 ∷ []) (fresh_at usual_settings true)) ≡ written_after 5 (run (asked_again ++ terminal_ok 6 ∷ []) at_first))
+    × (written_after 6 (run (started ++ in_terminal 4 ∷ turn ∷ terminal_ok 6 ∷ []) (fresh_at usual_settings true)) ≡ success_response 7 4 (codes "launch") None ∷ [])
     × (phase_after (started ++ in_terminal 4 ∷ turn ∷ terminal_ok 6 ∷ []) (fresh_at usual_settings true) ≡ Running)
 unfolding plan_for initialize_of json_of is_utf8 chars serde_json_on_literals
 refused_start = (refl, refl, refl, refl, refl)
@@ -251,9 +255,10 @@ abbrev late : Calls → List Calls
 late response = left ++ response ∷ []
 
 late_response : (written_after 6 (run (late (terminal_ok 4)) at_first) ≡ []) × (fault_after (late (terminal_ok 4)) at_first ≡ None) × (length (own_requests (asked_after (late (terminal_ok 4)) at_first)) ≡ 0)
-    × (phase_after (late (terminal_ok 4)) at_first ≡ EndedPhase) × (debuggee_after (late (terminal_ok 4)) at_first ≡ NotStarted) × (run (late (terminal_no 4)) at_first ≡ run (late (terminal_ok 4)) at_first)
+    × (phase_after (late (terminal_ok 4)) at_first ≡ EndedPhase) × (debuggee_after (late (terminal_ok 4)) at_first ≡ NotStarted)
+    × (written_after 6 (run (late (terminal_no 4)) at_first) ≡ []) × (fault_after (late (terminal_no 4)) at_first ≡ None) × (asked_after (late (terminal_no 4)) at_first ≡ None)
 unfolding plan_for initialize_of json_of is_utf8 chars serde_json_on_literals
-late_response = (refl, refl, refl, refl, refl, refl)
+late_response = (refl, refl, refl, refl, refl, refl, refl, refl)
 
 late_response_again : (fault_after (late (terminal_ok 4) ++ terminal_ok 4 ∷ []) at_first ≡ Some (Unmatched 4)) × (fault_after (late (answered_as 4 (codes "x"))) at_first ≡ Some (CommandMismatch 4)) × (asked_after (late (answered_as 4 (codes "x"))) at_first ≡ Some 4)
     × (fault_after (left ++ request 5 (codes "threads") ∷ []) at_first ≡ Some Ended)
@@ -264,9 +269,9 @@ late_response_again = (refl, refl, refl, refl)
 
 -- another number, also with another command; before there is a request, too
 unmatched : (fault_after (waits ++ terminal_ok 3 ∷ []) at_first ≡ Some (Unmatched 3)) × (fault_after (waits ++ answered_as 2 (codes "x") ∷ []) at_first ≡ Some (Unmatched 2)) × (fault_after (announced ++ terminal_ok 4 ∷ []) at_first ≡ Some (Unmatched 4))
-    × ((run (waits ++ terminal_ok 3 ∷ []) at_first).session ≡ (run waits at_first).session) × (debuggee_after (waits ++ terminal_ok 3 ∷ []) at_first ≡ NotStarted)
+    × Waits (waits ++ terminal_ok 3 ∷ []) at_first
 unfolding plan_for initialize_of json_of is_utf8 chars serde_json_on_literals
-unmatched = (refl, refl, refl, refl, refl)
+unmatched = (refl, refl, refl, (refl, refl, refl, refl, refl))
 
 -- once it is answered
 answered_once : fault_after (started ++ terminal_ok 4 ∷ []) at_first ≡ Some (Unmatched 4)
@@ -275,18 +280,18 @@ answered_once = refl
 
 -- another command, also where no number is left
 other_command : (fault_after (waits ++ answered_as 4 (codes "launch") ∷ []) at_first ≡ Some (CommandMismatch 4)) × (fault_after (waits ++ answered_as 4 (codes "x") ∷ []) (with_numbers 4) ≡ Some (CommandMismatch 4))
-    × ((run (waits ++ answered_as 4 (codes "launch") ∷ []) at_first).session ≡ (run waits at_first).session)
+    × Waits (waits ++ answered_as 4 (codes "launch") ∷ []) at_first
 unfolding plan_for initialize_of json_of is_utf8 chars serde_json_on_literals
-other_command = (refl, refl, refl)
+other_command = (refl, refl, (refl, refl, refl, refl, refl))
 
 -- ---- few own numbers
 
 -- a response takes one, for the launch, whichever it is; where none is left the debuggee is not asked
 no_number_for_the_launch : (fault_after (waits ++ terminal_ok 4 ∷ []) (with_numbers 4) ≡ Some SeqExhausted) × (fault_after (waits ++ terminal_no 4 ∷ []) (with_numbers 4) ≡ Some SeqExhausted)
-    × ((run (waits ++ terminal_ok 4 ∷ []) (with_numbers 4)).session ≡ (run waits (with_numbers 4)).session) × (debuggee_after (waits ++ terminal_ok 4 ∷ []) (with_numbers 4) ≡ NotStarted)
     × (fault_after (waits ++ terminal_ok 4 ∷ []) (with_numbers 5) ≡ None) × (phase_after (waits ++ terminal_ok 4 ∷ []) (with_numbers 5) ≡ Running)
+    × Waits (waits ++ terminal_ok 4 ∷ []) (with_numbers 4)
 unfolding plan_for initialize_of json_of is_utf8 chars serde_json_on_literals
-no_number_for_the_launch = (refl, refl, refl, refl, refl, refl)
+no_number_for_the_launch = (refl, refl, refl, refl, (refl, refl, refl, refl, refl))
 
 -- one that comes too late takes none
 no_number_for_a_late_one : (fault_after (late (terminal_ok 4)) (with_numbers 6) ≡ None) × (asked_after (late (terminal_ok 4)) (with_numbers 6) ≡ None)
