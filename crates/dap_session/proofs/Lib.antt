@@ -1,5 +1,6 @@
 pub mod Played
 pub mod LifeExamples
+pub mod TerminalExamples
 pub mod ReferencesExamples
 pub mod Steps
 pub mod Kept
