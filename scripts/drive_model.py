@@ -234,6 +234,13 @@ class Adapter(Session):
                 break
         self.respond(request)
 
+    def answer(self, response):
+        """What comes of a response. A launch that it ends is kept no longer."""
+        launch = self.parked
+        self.take_response(response)
+        self.kept = [one for one in self.kept if one is not launch]
+        return self.handed_out()
+
     def turn(self):
         """None where no request can be handled."""
         request = next((one for one in self.kept if one is not self.parked), None)
