@@ -29,6 +29,7 @@ FAILURES = {
     "tooManyBreakpoints": (1015, "Too many breakpoints are set."),
     "tooLarge": (1016, "The response would be too large."),
     "referencesExhausted": (1017, "No reference numbers are left."),
+    "terminalRefused": (1018, "The terminal refused."),
 }
 RESUMING = {"continue", "next", "stepIn", "stepOut", "stepBack", "reverseContinue"}
 # Commands that have a name and are not served.

@@ -1,8 +1,8 @@
 """Groups of scripts/try-program: sessions with breakpoints, stacks, scopes, variables, values, set ones too, sources, and a
 terminal that the client is asked for.
 
-Rows are a command, its arguments and all the messages that come for it, written out by hand; or a response of the client. Longer sessions, and random
-ones, are compared with scripts/session_model.py to the byte.
+Rows are a command, its arguments and all the messages that come for it, written out by hand, or a response of the client.
+Longer sessions, and random ones, are compared with scripts/session_model.py to the byte.
 """
 import json
 import os
@@ -57,7 +57,7 @@ def written(message):
 
 
 def rows(name, told, path=RECORDING, words=(), fault=None):
-    """A session from rows of a command, its arguments, and the messages that come; these are numbered from 1. A fault ends it."""
+    """A session from rows of a command, its arguments, and the messages that come; these are numbered from 1."""
     requests, answers, count = [], [], 0
     for seq, (command, arguments, *messages) in enumerate(told, 1):
         requests.append({**command, "seq": seq} if isinstance(command, dict) else request(seq, command, arguments))
@@ -434,7 +434,8 @@ def terminals():
     rows("terminals: the fault before that", [*IS_ASKED, answered(9)], words=few, fault="Unmatched")
     parked = [*ANNOUNCED, ("launch", CONSOLE), ("configurationDone", None)]
     rows("terminals: a number for one of two", parked, words=("--max-seq", "3"), fault="SeqExhausted")
-    rows("terminals: no number for the request", [*configured, ("launch", CONSOLE)], words=("--max-seq", "3"), fault="SeqExhausted")
+    asking = [*configured, ("launch", CONSOLE)]
+    rows("terminals: no number for the request", asking, words=("--max-seq", "3"), fault="SeqExhausted")
 
 
 def breakpoints():
