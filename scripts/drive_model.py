@@ -11,7 +11,7 @@ import json
 import sys
 
 from session_model import GREATEST, KEYS, RESUMING, THREAD, Failed, Session, are, bad_key, is_count, is_named_source, is_text
-from session_model import name_of
+from session_model import FAILURES, name_of
 from slow_check import GATES, MAX_FILE, USED_AT, Message, Refused, given, lines_of, read_json
 
 SETTERS = {"setBreakpoints", "setFunctionBreakpoints", "setExceptionBreakpoints"}
@@ -104,6 +104,8 @@ class Client:
         # The command of each request that waits, and the one request that left a stop.
         self.waiting = {}
         self.resuming = None
+        # The numbers of the adapter's requests for a terminal that are kept.
+        self.incoming = []
 
     def refusal(self, command, arguments):
         """Why a request may not be sent; not the limits."""
@@ -153,9 +155,25 @@ class Client:
         self.phase = phase
         self.known = set()
 
+    def answer(self, is_there):
+        """The response to the oldest request that is kept."""
+        if not self.incoming:
+            raise Fault("Call")
+        if self.seq >= self.max_seq:
+            raise Fault("Client")
+        self.seq += 1
+        told = {"type": "response", "seq": self.seq, "request_seq": self.incoming.pop(0), "command": "runInTerminal"}
+        if is_there:
+            return {**told, "success": True, "body": {}}
+        number, text = FAILURES["terminalRefused"]
+        return {**told, "success": False, "message": "terminalRefused", "body": {"error": {"format": text, "id": number}}}
+
     def take(self, message):
         if message["type"] == "event":
             self.take_event(message["event"])
+        elif message["type"] == "request":
+            # The adapter asks for a terminal alone, where it was announced, and for one at a time.
+            self.incoming.append(message["seq"])
         else:
             self.take_response(message)
 
@@ -234,6 +252,13 @@ class Adapter(Session):
                 break
         self.respond(request)
 
+    def answer(self, response):
+        """What comes of a response. A launch that it ends is kept no longer."""
+        launch = self.parked
+        self.take_response(response)
+        self.kept = [one for one in self.kept if one is not launch]
+        return self.handed_out()
+
     def turn(self):
         """None where no request can be handled."""
         request = next((one for one in self.kept if one is not self.parked), None)
@@ -310,6 +335,11 @@ class Drive:
         self.transcript += b"> " + written(request) + b"\n"
         self.delivered(self.adapter.take(request))
 
+    def answer(self, is_there):
+        response = self.client.answer(is_there)
+        self.transcript += b"> " + written(response) + b"\n"
+        self.delivered(self.adapter.answer(response))
+
     def turn(self):
         self.delivered(self.adapter.turn() or [])
 
@@ -325,6 +355,8 @@ def script_line(drive, line):
     """What one line of a script asks for. Words are separated by one blank each."""
     if line in (b"turn", b"poll", b"run"):
         return getattr(drive, line.decode())()
+    if line in (b"terminal ok", b"terminal no"):
+        return drive.answer(line == b"terminal ok")
     word, _, rest = line.partition(b" ")
     command, blank, text = rest.partition(b" ")
     command = command.decode(errors="replace")

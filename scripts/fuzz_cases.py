@@ -112,7 +112,7 @@ def messages(choice):
     return there + [any_message(choice) for _ in range(choice.randrange(5))]
 
 
-NAMES = ["", "threads", "initialize", "stopped", "a\nb", "\x00\x1f\x7f\x80", "\u2028"]
+NAMES = ["", "threads", "initialize", "runInTerminal", "stopped", "a\nb", "\x00\x1f\x7f\x80", "\u2028"]
 NAMES += ["c" * 64, "c" * 65, "\u00e9" * 32, "\u00e9" * 33]
 # What may stand at each key of a message.
 MEMBERS = {

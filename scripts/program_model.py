@@ -14,7 +14,7 @@ import sys
 import slow_check
 from drive_model import Adapter, Fault, drive_of
 from listing_model import MAX_BODY, MAX_HEADER, given_at, frames_in, refusal_of, show, wrap
-from session_model import GREATEST, frame
+from session_model import GREATEST, Closed, frame
 from slow_check import MAX_FILE, Refused, is_text, is_whole, need, read_json, read_message
 
 MAX_SOURCES = 65536
@@ -161,11 +161,21 @@ def serve(recording, stream, max_header=MAX_HEADER, max_body=MAX_BODY, **limits)
 
 def answers(adapter, message):
     """What the adapter hands out for a message, call by call."""
-    need(message.type != "response", "Unmatched")
+    if message.type == "response":
+        yield response_taken(adapter, message)
     if message.type == "request":
         need(all(one["seq"] != message.seq for one in adapter.kept), "RepeatedSeq")
         yield adapter.take({"seq": message.seq, "command": message.command, "arguments": message.arguments})
     yield from adapter.run()
+
+
+def response_taken(adapter, message):
+    """A fault comes before the numbers are counted."""
+    told = {"request_seq": message.request_seq, "command": message.command, "success": message.success}
+    try:
+        return adapter.answer(told)
+    except Closed as closed:
+        raise Refused(str(closed)) from None
 
 
 def drive(recording, script, **limits):

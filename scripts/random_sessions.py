@@ -4,7 +4,7 @@ scripts/try_sessions.py and scripts/fuzz_cases.py use them.
 """
 import json
 
-from session_model import RESUMING, Session
+from session_model import RESUMING, Closed, Session
 from trial import recording_of, request, split, words_of
 
 
@@ -16,8 +16,11 @@ class Guided:
         self.limits = limits
         self.words = words_of(limits)
         self.session = Session(recording_of(path), **limits)
+        # Responses of the client are among them.
         self.requests = []
         self.answers = []
+        # The name of the fault that the last one ends it with, if it does.
+        self.fault = None
 
     def ask(self, command, arguments=None):
         """The body of the response; none where it fails."""
@@ -29,6 +32,17 @@ class Guided:
             if told.get("request_seq") == one["seq"]:
                 return told.get("body") if told["success"] else None
         return None
+
+    def respond(self, request_seq, success=True, command="runInTerminal", body=None):
+        """A response to a request of the adapter."""
+        told = {"type": "response", "request_seq": request_seq, "success": success, "command": command}
+        one = {"seq": len(self.requests) + 1, **told, **({} if body is None else {"body": body})}
+        self.requests.append(one)
+        try:
+            self.answers.append(self.session.handle(one))
+        except Closed as closed:
+            self.answers.append(b"")
+            self.fault = str(closed)
 
 
 TEXTS = ["", "a", "b", "\u00e9" * 100, "\u0001\n\t\"\\/", "\U0001f333", "x" * 300, "\x7f\u2028", "\u001f" * 120]
@@ -150,6 +164,8 @@ class Mixed(Guided):
             return {"source": pick([None, self.source()]), "sourceReference": self.some()}
         if command == "cancel":
             return {"requestId": self.choice.randrange(9)}
+        if command in ("launch", "attach"):
+            return {"console": pick(["terminal"] * 6 + ["Terminal", "", None, 1, ["terminal"]])}
         window = {"startFrame": self.some(), "levels": self.some()} if command == "stackTrace" else {}
         return {"threadId": self.thread(), **window}
 
@@ -167,7 +183,17 @@ class Mixed(Guided):
         ahead = {"Fresh": "initialize", "Ready": "launch", "Configured": "launch", "Parked": "configurationDone"}
         return {**ahead, "Running": "pause"}.get(self.session.phase, "source")
 
+    def terminal(self):
+        """Mostly what fits the request for a terminal; where none waits, or the command is another, it closes the adapter."""
+        pick, asked = self.choice.choice, self.session.asked
+        is_bad = asked is None or self.choice.randrange(9) == 0
+        number = pick([asked or 0, 0, 1, self.session.seq, self.session.seq + 1]) if is_bad else asked
+        command = pick(["runInTerminal", "runInTerminal", "launch", ""]) if is_bad else "runInTerminal"
+        self.respond(number, pick([True, True, False]), command, pick([None, {}, {"processId": 7}, {"processId": "x"}, [1]]))
+
     def step(self):
+        if self.choice.randrange(3 if self.session.phase == "Asked" else 200) == 0:
+            return self.terminal()
         kinds = [RARE] + [MIXED] * 24 + [[self.fitting()]] * 12
         command = self.choice.choice(self.choice.choice(kinds))
         arguments = self.arguments(command)
@@ -185,9 +211,10 @@ def mixed_session(choice, path, most=120):
     guided = Mixed(choice, path, **{name: value for name, value in limits.items() if value is not None})
     flags = ("linesStartAt1", "columnsStartAt1", "supportsVariablePaging")
     if choice.randrange(8):
-        guided.ask("initialize", {flag: choice.choice([None, True, False]) for flag in flags})
+        terminals = {"supportsRunInTerminalRequest": choice.choice([None, True, True, False])}
+        guided.ask("initialize", {**{flag: choice.choice([None, True, False]) for flag in flags}, **terminals})
     for _ in range(choice.randrange(most)):
         guided.step()
-        if guided.session.phase == "Exited" and choice.randrange(4) == 0:
+        if guided.fault or guided.session.phase == "Exited" and choice.randrange(4) == 0:
             break
     return guided

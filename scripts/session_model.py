@@ -3,7 +3,7 @@
 
 It is written from the tables of docs/PROFILE.md and docs/RECORDINGS.md, on Python's own JSON, and shares nothing with the
 crates. Each message is answered, and the debuggee is polled, before the next one is read: so at most a launch that waits for
-`configurationDone` is kept.
+`configurationDone`, or for a terminal, is kept.
 
     scripts/session_model.py serve RECORDING [--max-body N] ..  (in the program's place, to try what tries the program)
 """
@@ -29,13 +29,14 @@ FAILURES = {
     "tooManyBreakpoints": (1015, "Too many breakpoints are set."),
     "tooLarge": (1016, "The response would be too large."),
     "referencesExhausted": (1017, "No reference numbers are left."),
+    "terminalRefused": (1018, "The terminal refused."),
 }
 RESUMING = {"continue", "next", "stepIn", "stepOut", "stepBack", "reverseContinue"}
 # Commands that have a name and are not served.
 UNSERVED = {
     "setFunctionBreakpoints", "restart", "modules", "exceptionInfo", "breakpointLocations", "completions",
 }
-TO_STOPPED = {"Ready", "Configured", "Parked", "Running", "Stopped"}
+TO_STOPPED = {"Ready", "Configured", "Parked", "Asked", "Running", "Stopped"}
 SERVED_IN = {
     "initialize": {"Fresh"},
     "launch": {"Ready", "Configured"},
@@ -54,6 +55,8 @@ SERVED_IN = {
 OFFERED = ("CancelRequest", "ConfigurationDoneRequest", "LoadedSourcesRequest", "SetVariable", "StepBack", "TerminateRequest")
 CAPABILITIES = {f"supports{name}": True for name in OFFERED}
 GREATEST = 9007199254740991
+# What the client's terminal is asked to run.
+TERMINAL = {"args": ["recorded"], "cwd": "/", "kind": "integrated", "title": "recorded"}
 
 
 def frame(body):
@@ -171,6 +174,10 @@ class Failed(Exception):
         super().__init__(name)
         self.name = name
         self.key = key
+
+
+class Closed(Exception):
+    """A response closes the adapter, by the name of the fault."""
 
 
 class Recorded:
@@ -336,7 +343,7 @@ def window(items, start, count):
 
 
 class Session:
-    """The adapter: `handle` answers a request with the bytes that come for it."""
+    """The adapter: `handle` answers a request, or a response, with the bytes that come for it."""
 
     def __init__(self, recording, max_body=4194304, max_references=65536, max_breakpoints=4096, max_reference=2147483647):
         self.debuggee = Recorded(recording)
@@ -347,10 +354,13 @@ class Session:
         self.phase = "Fresh"
         self.seq = 0
         self.parked = None
+        # The number of the request for a terminal, until its response comes.
+        self.asked = None
         self.out = b""
-        # What the client counts from, and whether it asks for parts of lists.
+        # What the client counts from, whether it asks for parts of lists, and whether it runs terminals.
         self.first_line = self.first_column = 1
         self.paging = False
+        self.terminals = False
         self.bodies = {
             "threads": self.threads,
             "stackTrace": self.stack_trace,
@@ -399,6 +409,10 @@ class Session:
         self.out = b""
         if self.phase == "Ended":
             return b""
+        if request["type"] == "response":
+            self.take_response(request)
+            self.polls()
+            return self.out
         told = len(self.references.live)
         try:
             self.test(request["command"], request.get("arguments"))
@@ -436,11 +450,16 @@ class Session:
         elif command in ("launch", "attach") and self.phase == "Ready":
             self.phase = "Parked"
             self.parked = request
+        elif command in ("launch", "attach") and self.wants_terminal(request):
+            self.parked = request
+            self.ask_terminal()
         elif command in ("launch", "attach"):
             self.start(request)
         elif command == "configurationDone":
             self.respond(request)
-            if self.phase == "Parked":
+            if self.phase == "Parked" and self.wants_terminal(self.parked):
+                self.ask_terminal()
+            elif self.phase == "Parked":
                 self.start(self.parked)
             else:
                 self.phase = "Configured"
@@ -475,6 +494,33 @@ class Session:
         self.first_line = 0 if options.get("linesStartAt1") is False else 1
         self.first_column = 0 if options.get("columnsStartAt1") is False else 1
         self.paging = options.get("supportsVariablePaging") is True
+        self.terminals = options.get("supportsRunInTerminalRequest") is True
+
+    def wants_terminal(self, launch):
+        """`attach` never does. Arguments of a launch are an object where there are any."""
+        told = launch.get("arguments") or {}
+        return self.terminals and launch["command"] == "launch" and told.get("console") == "terminal"
+
+    def ask_terminal(self):
+        self.phase = "Asked"
+        self.write({"type": "request", "command": "runInTerminal", "arguments": TERMINAL})
+        self.asked = self.seq
+
+    def take_response(self, response):
+        """Once `disconnect` is answered it comes too late, and does nothing more."""
+        if self.asked is None or response["request_seq"] != self.asked:
+            raise Closed("Unmatched")
+        if response["command"] != "runInTerminal":
+            raise Closed("CommandMismatch")
+        self.asked = None
+        if self.phase != "Asked":
+            return
+        if response["success"]:
+            self.start(self.parked)
+        else:
+            self.fail(self.parked, "debuggee")
+            self.parked = None
+            self.phase = "Configured"
 
     def start(self, launch):
         self.debuggee.start()
@@ -611,9 +657,17 @@ def main():
     while session.phase != "Ended" and (line := sys.stdin.buffer.readline()):
         sys.stdin.buffer.readline()
         message = json.loads(sys.stdin.buffer.read(int(line.partition(b":")[2])))
-        if message["type"] == "request":
-            sys.stdout.buffer.write(session.handle(message))
+        if message["type"] in ("request", "response"):
+            try:
+                sys.stdout.buffer.write(session.handle(message))
+            except Closed as closed:
+                sys.exit(told_fault(closed))
             sys.stdout.buffer.flush()
+
+
+def told_fault(closed):
+    sys.stderr.write(f"dap: {closed}\n")
+    return 3
 
 
 if __name__ == "__main__":

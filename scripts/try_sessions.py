@@ -1,7 +1,8 @@
-"""Groups of scripts/try-program: sessions with breakpoints, stacks, scopes, variables, values, set ones too, and sources.
+"""Groups of scripts/try-program: sessions with breakpoints, stacks, scopes, variables, values, set ones too, sources, and a
+terminal that the client is asked for.
 
-Rows are a command, its arguments and all the messages that come for it, written out by hand. Longer sessions, and random
-ones, are compared with scripts/session_model.py to the byte.
+Rows are a command, its arguments and all the messages that come for it, written out by hand, or a response of the client.
+Longer sessions, and random ones, are compared with scripts/session_model.py to the byte.
 """
 import json
 import os
@@ -36,6 +37,17 @@ def launched(seq):
     return lambda _, __: ok()(seq, "launch")
 
 
+def asks_for_terminal():
+    arguments = {"args": ["recorded"], "cwd": "/", "kind": "integrated", "title": "recorded"}
+    return lambda _, __: {"type": "request", "command": "runInTerminal", "arguments": arguments}
+
+
+def answered(request_seq, success=True, command="runInTerminal", **more):
+    """A row's command and arguments for a response of the client."""
+    told = {"type": "response", "request_seq": request_seq, "success": success, "command": command}
+    return {**told, **more}, None
+
+
 def stopped(reason):
     return tells("stopped", {"allThreadsStopped": True, "reason": reason, "threadId": 1})
 
@@ -44,30 +56,30 @@ def written(message):
     return json.dumps(message, sort_keys=True, separators=(",", ":"), ensure_ascii=False).encode()
 
 
-def rows(name, told, path=RECORDING, words=()):
+def rows(name, told, path=RECORDING, words=(), fault=None):
     """A session from rows of a command, its arguments, and the messages that come; these are numbered from 1."""
     requests, answers, count = [], [], 0
     for seq, (command, arguments, *messages) in enumerate(told, 1):
-        requests.append(request(seq, command, arguments))
+        requests.append({**command, "seq": seq} if isinstance(command, dict) else request(seq, command, arguments))
         made = [message(seq, command) for message in messages]
         answers.append(b"".join(frame(written({**one, "seq": count + k})) for k, one in enumerate(made, 1)))
         count += len(made)
-    same(name, path, requests, answers, words)
+    same(name, path, requests, answers, words, fault)
 
 
-def same(name, path, requests, answers, words):
-    """What comes for each request. Where it is something else, the first such request is told."""
+def same(name, path, requests, answers, words, fault=None):
+    """What comes for each message. Where it is something else, the first such message is told."""
     status, out, err = run(["serve", path, *words], b"".join(frames_of(requests)))
     at = 0
     for one, answer in zip(requests, answers):
         if not out.startswith(answer, at):
             return expect(f"{name}: {one}", out[at : at + len(answer) + 200], answer)
         at += len(answer)
-    expect(name, (status, out[at:], err), (0, b"", b""))
+    expect(name, (status, out[at:], err), (0, b"", b"") if fault is None else (3, b"", f"dap: {fault}\n".encode()))
 
 
 def compare(guided, name):
-    same(name, guided.path, guided.requests, guided.answers, guided.words)
+    same(name, guided.path, guided.requests, guided.answers, guided.words, guided.fault)
 
 
 # Rows over examples/recordings/a.json. Its first moment has `x`, and `p` with `a`; the second has two frames; the last waits.
@@ -355,6 +367,75 @@ def values():
             [{"name": "A", "variables": two}, {"name": "B", "variables": two[:1]}, {"name": "C"}],
         ),
     )
+
+
+ANNOUNCED = [("initialize", {"supportsRunInTerminalRequest": True}, ok(FLAGS), tells("initialized"))]
+CONSOLE = {"console": "terminal"}
+IS_ASKED = [*ANNOUNCED, ("launch", CONSOLE), ("configurationDone", None, ok(), asks_for_terminal())]
+
+
+def refused_launch(seq):
+    return lambda _, __: fails("debuggee")(seq, "launch")
+
+
+def terminals():
+    """A terminal that the client is asked for, and what its response does."""
+    none = ok({"threads": []})
+    rows("terminals: there", [*IS_ASKED, (*answered(4, body={}), launched(2), GO, stopped("entry")), HELD, PAUSE, EXIT])
+    rows(
+        "terminals: refused, and asked for again",
+        [
+            *IS_ASKED,
+            (*answered(4, False, message="terminalRefused"), refused_launch(2)),
+            ("threads", None, none),
+            ("launch", CONSOLE, asks_for_terminal()),
+            (*answered(7), launched(6), GO, stopped("entry")),
+        ],
+    )
+    rows(
+        "terminals: what is served meanwhile",
+        [
+            *IS_ASKED,
+            ("threads", None, none),
+            ("loadedSources", None, ok({"sources": [SOURCE_A]})),
+            set_lines(PATH_A, [2], placed((1, 2, True))),
+            ("setExceptionBreakpoints", {"filters": []}, ok()),
+            ("cancel", {"requestId": 2}, ok()),
+            ("terminate", None, fails("wrongPhase")),
+            ("launch", CONSOLE, fails("wrongPhase")),
+            ("configurationDone", None, fails("wrongPhase")),
+            ("next", THREAD, fails("wrongPhase")),
+            ("initialize", None, fails("alreadyInitialized")),
+            (*answered(4, body={"processId": "x"}), launched(2), GO, stopped("entry")),
+            CONTINUE,
+        ],
+    )
+    cancelled = lambda _, __: fails("cancelled")(2, "launch")
+    rows("terminals: disconnect meanwhile", [*IS_ASKED, ("disconnect", None, cancelled, ok()), (*answered(4),)])
+    configured = [*ANNOUNCED, ("configurationDone", None, ok())]
+    started = [launched(3), GO, stopped("entry")]
+    rows("terminals: once configured", [*configured, ("launch", CONSOLE, asks_for_terminal()), (*answered(4), *started)])
+    rows("terminals: attach", [*configured, ("attach", CONSOLE, ok(), GO, stopped("entry"))])
+    for told in (None, {}, {"console": None}, {"console": 1}, {"console": "Terminal"}, {"console": CONSOLE}):
+        rows(f"terminals: launch with {told}", [*configured, ("launch", told, *started)])
+    for flag in (None, False):
+        first = ("initialize", {"supportsRunInTerminalRequest": flag}, ok(FLAGS), tells("initialized"))
+        rows(f"terminals: announced as {flag}", [first, *configured[1:], ("launch", CONSOLE, *started)])
+    start = (*answered(4), launched(2), GO, stopped("entry"))
+    for name, told, fault in [
+        ("a response before the request", [*ANNOUNCED, answered(4)], "Unmatched"),
+        ("a second response", [*IS_ASKED, start, answered(4)], "Unmatched"),
+        ("a response to another number", [*IS_ASKED, answered(3, command="x")], "Unmatched"),
+        ("a response with another command", [*IS_ASKED, answered(4, command="launch")], "CommandMismatch"),
+    ]:
+        rows(f"terminals: {name}", told, fault=fault)
+    few = ("--max-seq", "4")
+    rows("terminals: no number for the answer", [*IS_ASKED, answered(4)], words=few, fault="SeqExhausted")
+    rows("terminals: the fault before that", [*IS_ASKED, answered(9)], words=few, fault="Unmatched")
+    parked = [*ANNOUNCED, ("launch", CONSOLE), ("configurationDone", None)]
+    rows("terminals: a number for one of two", parked, words=("--max-seq", "3"), fault="SeqExhausted")
+    asking = [*configured, ("launch", CONSOLE)]
+    rows("terminals: no number for the request", asking, words=("--max-seq", "3"), fault="SeqExhausted")
 
 
 def breakpoints():
@@ -688,6 +769,7 @@ def follow():
 GROUPS = {
     "references": references,
     "values": values,
+    "terminals": terminals,
     "breakpoints": breakpoints,
     "sources": sources,
     "too_large": too_large,

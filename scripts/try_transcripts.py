@@ -96,9 +96,11 @@ class Scripted:
         if command == "cancel":
             return pick([None, {"requestId": max(1, self.drive.client.seq - self.choice.randrange(3))}])
         if command in ("launch", "attach"):
-            return pick([None, {}, {"program": "a", "env": {"\u00e9": [1, None, "\n"]}}])
+            console = {"console": pick(["terminal", "terminal", 1])}
+            return pick([None, {}, {"program": "a", "env": {"\u00e9": [1, None, "\n"]}}, console, console])
         if command == "initialize":
-            return pick([None, {"adapterID": "rec"}, {"linesStartAt1": False, "columnsStartAt1": False}])
+            terminals = {"supportsRunInTerminalRequest": True}
+            return pick([None, {"adapterID": "rec"}, {"linesStartAt1": False, "columnsStartAt1": False}, terminals, terminals])
         if command == "source":
             return {"sourceReference": pick([0, 1, 1, 2])}
         return {"threadId": self.thread(), "filters": [], "levels": pick([0, 0, 1]), "startFrame": pick([None, 0, 1])}
@@ -124,7 +126,9 @@ class Scripted:
         return self.line(b"run")
 
     def step(self):
-        if self.choice.randrange(5) < 3:
+        if self.drive.client.incoming and self.choice.randrange(3) == 0:
+            self.line(self.choice.choice([b"terminal ok", b"terminal ok", b"terminal no"]))
+        elif self.choice.randrange(5) < 3:
             self.send()
         else:
             self.line(self.choice.choice([b"run"] * 6 + [b"turn", b"turn", b"poll", b""]))
@@ -132,6 +136,7 @@ class Scripted:
     def refused(self):
         """A line that is refused where it stands, or mostly so."""
         lines = [b"jump", b"send", b"send jump", b"run ", b"send threads {", b"send  threads", b"\xff", b"send threads \xff"]
+        lines += [b"terminal", b"terminal ok ", b"terminal no"]
         lines += [b"send next {}", b"send launch []", b'send launch {"a":1.5}', b"send initialize", b"send restart"]
         lines += [b'send scopes {"frameId":99}', b'send stackTrace {"threadId":1}']
         lines += [b'send variables {"variablesReference":-1}', b'send variables {"variablesReference":1}']

@@ -8,10 +8,14 @@ mod frames;
 #[cfg(test)]
 mod greatest;
 #[cfg(test)]
+mod last_numbers;
+#[cfg(test)]
 mod playing;
 #[cfg(test)]
 mod sessions;
 #[cfg(test)]
 mod stubborn;
+#[cfg(test)]
+mod terminals;
 #[cfg(test)]
 mod values;

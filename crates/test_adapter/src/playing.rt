@@ -9,7 +9,7 @@
 //! | `poll` | the debuggee is asked what happened |
 //! | `< BODY` | this message comes next of what the last call hands out |
 //! | `! FAULT` | the last call closes the adapter with this fault: each call answers it from then on, nothing is held, and all else is as it was right before that call |
-//! | `phase P`, `kept N`, `references N`, `breakpoints N`, `held N` | what is seen, until the row says otherwise |
+//! | `phase P`, `kept N`, `asked N`, `references N`, `breakpoints N`, `held N` | what is seen, until the row says otherwise |
 //! | `free of memory` | from here on no call takes memory, so that one which is refused any is wrong |
 //! | `recording JSON` | the debuggee is of this recording; of the shared one if left out |
 //! | `debuggee willing` | of a stubborn debuggee: it does not refuse its first start |
@@ -72,7 +72,7 @@ impl Seen {
         Seen {
             counts: Counts {
                 waiting: adapter.kept(),
-                reverse: 0,
+                reverse: adapter.asked(),
                 references: adapter.references(),
                 breakpoints: adapter.breakpoints(),
                 held: adapter.held(),
@@ -375,21 +375,25 @@ impl<D: Debuggee + Drop> Playing<D> {
         if self.phase.is_none() {
             return wrong(came, "no phase has this name");
         }
-        self.shows(came)
+        if self.is_in_phase() {
+            return Outcome::Right;
+        }
+        tell(came, &self.seen());
+        Outcome::Wrong
     }
 
-    /// Notes a count, and compares.
+    /// Notes a count, and compares it. All that the row says is compared before the next call.
     fn counts_so(&mut self, counted: Counted, value: &str, came: &mut String) -> Outcome {
-        let is_said = match value.parse::<usize>() {
-            Ok(count) => self.facts.note(counted, count),
+        let seen = self.seen();
+        let is_so = match value.parse::<usize>() {
+            Ok(count) => self.facts.note(counted, count) && seen.counts.of(counted) == count,
             Err(_) => false,
         };
-        let outcome = self.shows(came);
         self.facts.go_on();
-        if is_said {
-            return outcome;
+        if is_so {
+            return Outcome::Right;
         }
-        tell(came, &self.seen().counts);
+        tell(came, &seen);
         Outcome::Wrong
     }
 

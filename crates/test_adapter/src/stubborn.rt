@@ -6,7 +6,7 @@ use std::test::Fail;
 use test_kit::rows::play_rows;
 use test_kit::stubborn::Stubborn;
 
-pub(crate) static STUBBORN: [&str; 6] = [
+pub(crate) static STUBBORN: [&str; 8] = [
     r#"
 # Where a debuggee refuses to start, `launch` fails, and the next one succeeds.
 row a refused start
@@ -146,6 +146,72 @@ turn
 > {"seq":11,"type":"request","command":"evaluate","arguments":{"expression":"x","frameId":4}}
 turn
 < {"body":{"result":"1","variablesReference":0},"command":"evaluate","request_seq":11,"seq":15,"success":true,"type":"response"}
+"#,
+    r#"
+# The terminal is there, and the debuggee refuses: `launch` fails, and the next one asks again.
+row a refused start in a terminal
+> {"seq":1,"type":"request","command":"initialize","arguments":{"adapterID":"rec","supportsRunInTerminalRequest":true}}
+turn
+< capabilities seq 1 to 1
+< {"event":"initialized","seq":2,"type":"event"}
+> {"seq":2,"type":"request","command":"configurationDone"}
+turn
+< {"command":"configurationDone","request_seq":2,"seq":3,"success":true,"type":"response"}
+> {"seq":3,"type":"request","command":"launch","arguments":{"console":"terminal"}}
+turn
+< terminal seq 4
+asked 1
+phase Asked
+> {"seq":4,"type":"response","request_seq":4,"success":true,"command":"runInTerminal"}
+< debuggee seq 5 to 3 launch
+kept 0
+asked 0
+phase Configured
+> {"seq":5,"type":"request","command":"launch","arguments":{"console":"terminal"}}
+turn
+< terminal seq 6
+asked 1
+phase Asked
+> {"seq":6,"type":"response","request_seq":6,"success":true,"command":"runInTerminal"}
+< {"command":"launch","request_seq":5,"seq":7,"success":true,"type":"response"}
+kept 0
+asked 0
+phase Running
+"#,
+    r#"
+# Where the terminal is refused the debuggee is not asked, so that it still refuses its first start.
+row a refused terminal and a refused start
+> {"seq":1,"type":"request","command":"initialize","arguments":{"adapterID":"rec","supportsRunInTerminalRequest":true}}
+turn
+< capabilities seq 1 to 1
+< {"event":"initialized","seq":2,"type":"event"}
+> {"seq":2,"type":"request","command":"launch","arguments":{"console":"terminal"}}
+turn
+phase Parked
+> {"seq":3,"type":"request","command":"configurationDone"}
+turn
+< {"command":"configurationDone","request_seq":3,"seq":3,"success":true,"type":"response"}
+< terminal seq 4
+asked 1
+phase Asked
+> {"seq":4,"type":"response","request_seq":4,"success":false,"command":"runInTerminal"}
+< debuggee seq 5 to 2 launch
+asked 0
+phase Configured
+> {"seq":5,"type":"request","command":"launch","arguments":{"console":"terminal"}}
+turn
+< terminal seq 6
+asked 1
+phase Asked
+> {"seq":6,"type":"response","request_seq":6,"success":true,"command":"runInTerminal"}
+< debuggee seq 7 to 5 launch
+asked 0
+phase Configured
+> {"seq":7,"type":"request","command":"launch"}
+turn
+< {"command":"launch","request_seq":7,"seq":8,"success":true,"type":"response"}
+kept 0
+phase Running
 "#,
 ];
 

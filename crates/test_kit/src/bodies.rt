@@ -3,6 +3,7 @@
 //! | a row writes | it stands for |
 //! |---|---|
 //! | `capabilities seq 1 to 1` | the success of `initialize` with what the adapter offers |
+//! | `terminal seq 4` | the request of the adapter for a terminal, with the number 4 |
 //! | `busy seq 3 to 4 threads` | the failure `busy`, with the number 3, of the request 4, a `threads` |
 //! | `badArguments threadId seq 6 to 5 next` | likewise; this failure names a key |
 //!
@@ -127,6 +128,19 @@ fn add_failure(
     add_all(body, &[r#","success":false,"type":"response"}"#])
 }
 
+/// Appends the request for a terminal.
+fn add_terminal(body: &mut String, text: &str) -> Result<(), AllocError> {
+    add_all(
+        body,
+        &[
+            r#"{"arguments":{"args":["recorded"],"cwd":"/","kind":"integrated","title":"recorded"},"#,
+            r#""command":"runInTerminal","seq":"#,
+            word_at(text, 2),
+            r#","type":"request"}"#,
+        ],
+    )
+}
+
 /// The failure with a name.
 fn failure_named(
     name: &str,
@@ -139,6 +153,9 @@ fn add_body(body: &mut String, text: &str) -> Result<(), AllocError> {
     let name = word_at(text, 0);
     if name == "capabilities" {
         return add_capabilities(body, text);
+    }
+    if name == "terminal" {
+        return add_terminal(body, text);
     }
     match failure_named(name) {
         Some(failure) if failure.3.is_empty() => add_failure(body, text, failure, 1),

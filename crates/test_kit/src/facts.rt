@@ -9,11 +9,24 @@ use std::fmt::{Debug, Write};
 pub struct Counts {
     /// Requests that wait for an answer: `kept` of an adapter, `outstanding` of a client.
     pub waiting: usize,
-    /// Requests of the adapter that wait for an answer: `incoming` of a client.
+    /// Requests of the adapter that wait for an answer: `incoming` of a client, `asked` of an adapter.
     pub reverse: usize,
     pub references: usize,
     pub breakpoints: usize,
     pub held: usize,
+}
+
+impl Counts {
+    /// What a word of a row counts.
+    pub fn of(&self, counted: Counted) -> usize {
+        match counted {
+            Counted::Waiting => self.waiting,
+            Counted::Reverse => self.reverse,
+            Counted::References => self.references,
+            Counted::Breakpoints => self.breakpoints,
+            Counted::Held => self.held,
+        }
+    }
 }
 
 /// What was said; nothing where a row does not speak of it. The requests that wait are counted along a row.

@@ -7,11 +7,12 @@ use dap_adapter::Phase;
 use dap_frame::write_frame;
 use std::alloc::{AllocError, Global};
 
-static PHASES: [(&str, Phase); 8] = [
+static PHASES: [(&str, Phase); 9] = [
     ("Fresh", Phase::Fresh),
     ("Ready", Phase::Ready),
     ("Configured", Phase::Configured),
     ("Parked", Phase::Parked),
+    ("Asked", Phase::Asked),
     ("Running", Phase::Running),
     ("Stopped", Phase::Stopped),
     ("Exited", Phase::Exited),

@@ -36,7 +36,7 @@ pub enum Counted {
     Held,
 }
 
-static WORDS: [(&str, Word); 20] = [
+static WORDS: [(&str, Word); 21] = [
     (">", Word::Client),
     ("<", Word::Adapter),
     ("!", Word::Fault),
@@ -54,6 +54,7 @@ static WORDS: [(&str, Word); 20] = [
     ("kept", Word::Count(Counted::Waiting)),
     ("outstanding", Word::Count(Counted::Waiting)),
     ("incoming", Word::Count(Counted::Reverse)),
+    ("asked", Word::Count(Counted::Reverse)),
     ("references", Word::Count(Counted::References)),
     ("breakpoints", Word::Count(Counted::Breakpoints)),
     ("held", Word::Count(Counted::Held)),

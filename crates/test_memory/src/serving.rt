@@ -68,6 +68,29 @@ row a session that looks into a stop
 phase Ended
 "#;
 
+/// A session in a terminal that the client refuses first.
+static TERMINAL: &str = r#"
+row a session in a terminal
+> {"seq":1,"type":"request","command":"initialize","arguments":{"adapterID":"rec","supportsRunInTerminalRequest":true}}
+< capabilities seq 1 to 1
+< {"event":"initialized","seq":2,"type":"event"}
+> {"seq":2,"type":"request","command":"launch","arguments":{"console":"terminal"}}
+> {"seq":3,"type":"request","command":"configurationDone"}
+< {"command":"configurationDone","request_seq":3,"seq":3,"success":true,"type":"response"}
+< terminal seq 4
+> {"seq":4,"type":"response","request_seq":4,"success":false,"command":"runInTerminal","message":"terminalRefused"}
+< debuggee seq 5 to 2 launch
+> {"seq":5,"type":"request","command":"launch","arguments":{"console":"terminal"}}
+< terminal seq 6
+> {"seq":6,"type":"response","request_seq":6,"success":true,"command":"runInTerminal","body":{}}
+< {"command":"launch","request_seq":5,"seq":7,"success":true,"type":"response"}
+< {"body":{"category":"stdout","output":"go\n"},"event":"output","seq":8,"type":"event"}
+< {"body":{"allThreadsStopped":true,"reason":"entry","threadId":1},"event":"stopped","seq":9,"type":"event"}
+> {"seq":7,"type":"request","command":"disconnect"}
+< {"command":"disconnect","request_seq":7,"seq":10,"success":true,"type":"response"}
+phase Ended
+"#;
+
 /// Keeps up to 4096 bytes, and takes no memory.
 #[derive(Drop)]
 struct Kept {
@@ -146,6 +169,11 @@ fn is_row_served(alloc: Global, row: &str) -> Option<bool> {
 #[test]
 fn serving(rt: HostRuntime) -> Result<(), Fail> {
     judge(&rt, is_row_served(rt.alloc(), SESSION))
+}
+
+#[test]
+fn serving_in_a_terminal(rt: HostRuntime) -> Result<(), Fail> {
+    judge(&rt, is_row_served(rt.alloc(), TERMINAL))
 }
 
 #[test]

@@ -10,8 +10,8 @@ use std::test::Fail;
 use test_kit::served::{Stream, stream_of};
 use test_kit::streams::{Flushed, Pieces, Stuck};
 
-/// A whole session, and a run with a pause and an exit. What their lines say stands in `test_kit`, `served.rt`.
-static SESSIONS: [&str; 2] = [
+/// A whole session, a run with a pause and an exit, and two in which a terminal is asked for. What their lines say stands in `test_kit`, `served.rt`.
+static SESSIONS: [&str; 4] = [
     r#"
 row a whole session
 > {"seq":1,"type":"request","command":"initialize","arguments":{"adapterID":"rec"}}
@@ -82,6 +82,50 @@ phase Stopped
 < {"body":{"exitCode":0},"event":"exited","seq":12,"type":"event"}
 < {"event":"terminated","seq":13,"type":"event"}
 phase Exited
+"#,
+    r#"
+row a session in a terminal
+> {"seq":1,"type":"request","command":"initialize","arguments":{"adapterID":"rec","supportsRunInTerminalRequest":true}}
+< capabilities seq 1 to 1
+< {"event":"initialized","seq":2,"type":"event"}
+phase Ready
+> {"seq":2,"type":"request","command":"launch","arguments":{"console":"terminal"}}
+phase Parked
+> {"seq":3,"type":"request","command":"configurationDone"}
+< {"command":"configurationDone","request_seq":3,"seq":3,"success":true,"type":"response"}
+< {"arguments":{"args":["recorded"],"cwd":"/","kind":"integrated","title":"recorded"},"command":"runInTerminal","seq":4,"type":"request"}
+phase Asked
+> {"body":{},"command":"runInTerminal","request_seq":4,"seq":4,"success":true,"type":"response"}
+< {"command":"launch","request_seq":2,"seq":5,"success":true,"type":"response"}
+< {"body":{"category":"stdout","output":"go\n"},"event":"output","seq":6,"type":"event"}
+< {"body":{"allThreadsStopped":true,"reason":"entry","threadId":1},"event":"stopped","seq":7,"type":"event"}
+phase Stopped
+"#,
+    r#"
+row a terminal that is refused, and one that is waited for
+> {"seq":1,"type":"request","command":"initialize","arguments":{"adapterID":"rec","supportsRunInTerminalRequest":true}}
+< capabilities seq 1 to 1
+< {"event":"initialized","seq":2,"type":"event"}
+phase Ready
+> {"seq":2,"type":"request","command":"configurationDone"}
+< {"command":"configurationDone","request_seq":2,"seq":3,"success":true,"type":"response"}
+phase Configured
+> {"seq":3,"type":"request","command":"launch","arguments":{"console":"terminal"}}
+< terminal seq 4
+phase Asked
+> {"seq":4,"type":"response","request_seq":4,"success":false,"command":"runInTerminal","message":"no"}
+< debuggee seq 5 to 3 launch
+phase Configured
+> {"seq":5,"type":"request","command":"launch","arguments":{"console":"terminal"}}
+< terminal seq 6
+phase Asked
+> {"seq":6,"type":"request","command":"threads"}
+< {"body":{"threads":[]},"command":"threads","request_seq":6,"seq":7,"success":true,"type":"response"}
+phase Asked
+> {"seq":7,"type":"request","command":"disconnect"}
+< cancelled seq 8 to 5 launch
+< {"command":"disconnect","request_seq":7,"seq":9,"success":true,"type":"response"}
+phase Ended
 "#,
 ];
 
@@ -275,8 +319,8 @@ fn expect(rt: &HostRuntime, session: &str, trial: Trial) -> Result<(), Fail> {
     }
 }
 
-/// Tries both sessions.
-fn expect_both(rt: &HostRuntime, trial: Trial) -> Result<(), Fail> {
+/// Tries each session.
+fn expect_each(rt: &HostRuntime, trial: Trial) -> Result<(), Fail> {
     for session in &SESSIONS {
         expect(rt, session, trial)?;
     }
@@ -291,7 +335,7 @@ fn expect_first(rt: &HostRuntime, trial: Trial) -> Result<(), Fail> {
 /// Whole sessions, in pieces of each size.
 #[test]
 fn whole_sessions(rt: HostRuntime) -> Result<(), Fail> {
-    expect_both(&rt, Trial::Pieces)
+    expect_each(&rt, Trial::Pieces)
 }
 
 /// What comes after `disconnect` changes nothing.
@@ -303,25 +347,25 @@ fn bytes_behind_a_session(rt: HostRuntime) -> Result<(), Fail> {
 /// Every front of a session is served up to its last whole frame.
 #[test]
 fn cut_short(rt: HostRuntime) -> Result<(), Fail> {
-    expect_both(&rt, Trial::Cuts)
+    expect_each(&rt, Trial::Cuts)
 }
 
 /// A writer that takes so many bytes and then fails: that count is told, and those bytes went out.
 #[test]
 fn failing_writer(rt: HostRuntime) -> Result<(), Fail> {
-    expect_both(&rt, Trial::Writers)
+    expect_each(&rt, Trial::Writers)
 }
 
 /// A reader that fails at each read in turn, and reads that are used up: what came before is answered.
 #[test]
 fn failing_reader(rt: HostRuntime) -> Result<(), Fail> {
-    expect_both(&rt, Trial::Readers)
+    expect_each(&rt, Trial::Readers)
 }
 
 /// The same with bytes one by one.
 #[test]
 fn failing_reader_of_bytes(rt: HostRuntime) -> Result<(), Fail> {
-    expect_both(&rt, Trial::Bytes)
+    expect_each(&rt, Trial::Bytes)
 }
 
 /// How serving ends where so many flushes succeed, how many there were, and how many bytes went out; nothing where those are
@@ -376,7 +420,7 @@ fn are_flushed(alloc: Global, whole: &Stream) -> bool {
 /// What is written is flushed; a flush that fails is told with all that went out.
 #[test]
 fn flushes(rt: HostRuntime) -> Result<(), Fail> {
-    expect_both(&rt, Trial::Flushes)
+    expect_each(&rt, Trial::Flushes)
 }
 
 fn is_stuck(alloc: Global, whole: &Stream) -> bool {
@@ -395,5 +439,5 @@ fn is_stuck(alloc: Global, whole: &Stream) -> bool {
 /// A writer that takes nothing has failed.
 #[test]
 fn a_writer_that_takes_nothing(rt: HostRuntime) -> Result<(), Fail> {
-    expect_both(&rt, Trial::Stuck)
+    expect_each(&rt, Trial::Stuck)
 }
