@@ -1,5 +1,5 @@
 -- What comes of a message that is delivered: each is sound, and keeps to the limits.
-use Rattle.std.proofs.Common.{◌≡◌, ℕ, ◌+◌, ◌<◌, ◌≤◌, List, [], ◌∷◌, ◌++◌, Bool, true, false, Option, Some, None, Result, Ok, Err, length, refl, sym, ◌∙◌, subst, arith, length-append, true≢false}
+use Rattle.std.proofs.Common.{◌≡◌, ℕ, ◌+◌, ◌<◌, ◌≤◌, List, [], ◌∷◌, ◌++◌, Bool, true, false, Option, Some, None, Result, Ok, Err, length, refl, sym, ap, ◌∙◌, subst, arith, length-append, true≢false}
 use Rattle.std.specs.Prelude.{◌==◌, ◌&&◌, not, if◌then◌else◌, nat_lt, nat_le, bytes_eq, option_to_list}
 use Rattle.std.proofs.lemmas.List.{append-nil}
 use Rattle.std.proofs.lemmas.Slice.Eq.{bytes_eq-Decides}
@@ -306,3 +306,51 @@ delivery-of s seq (Other tag) plan made e is = no_change-made s seq (Other tag) 
 
 pub delivery-is : (s : Session) (m : Message) (plan : Plan) (made : Made) → takes m s ≡ Ok plan → CanMake plan made → IsDelivery s m.seq m.kind made
 delivery-is s m plan made e is = delivery-of s m.seq m.kind plan made e is
+
+-- ---- how many messages it takes
+
+-- as many as were due, whatever the debuggee replies
+abbrev pub IsExact : Plan → Type 0
+IsExact plan = (made : Made) → CanMake plan made → length made.drafts ≡ messages_due plan
+
+once-exact : (m : Made) → IsExact (at_once m)
+once-exact m = λ made is. ap (λ (x : Made). length x.drafts) is
+
+plain-exact : (s : Session) (plan : Plan) → plan ≡ at_once (no_change s) → IsExact plan
+plain-exact s plan p = subst (λ (x : Plan). IsExact x) (sym p) (once-exact (no_change s))
+
+given-exact : (s : Session) (p plan : Plan) → plan_within_numbers s p ≡ Ok plan → IsExact p → IsExact plan
+given-exact s p plan e x =
+    let given = afforded (nat_le (s.used + messages_due p) s.limits.seq) p plan _ e in
+    subst (λ (q : Plan). IsExact q) (sym given.1) x
+
+request-exact : (ended repeated : Bool) (s : Session) (r : Request) (plan : Plan)
+    → (let given : Result Plan AdapterFault = (if ended then Err EndedFault else (if repeated then Err (RepeatedSeq r.seq) else plan_within_numbers s (at_once (after_taking r s)))) in given) ≡ Ok plan → IsExact plan
+request-exact true repeated s r plan e = absurd cc
+request-exact false true s r plan e = absurd cc
+request-exact false false s r plan e = given-exact s (at_once (after_taking r s)) plan e (once-exact (after_taking r s))
+
+terminal-exact : (ok : Bool) (s : Session) → IsExact (plan_of_terminal ok s)
+terminal-exact true s = λ made is.
+    let parked = parked_ones s.kept in
+    ap (λ (x : Made). length x.drafts) is.1 ∙ (length-each (by_reply None is.0) parked ∙ sym (length-each (by_reply None done) parked))
+terminal-exact false s = once-exact (after_terminal s refused)
+
+phase-exact : (b ok : Bool) (s : Session) → IsExact (let plan : Plan = (if b then plan_of_terminal ok s else at_once (after_late_terminal s)) in plan)
+phase-exact true ok s = terminal-exact ok s
+phase-exact false ok s = once-exact (after_late_terminal s)
+
+response-exact : (a b : Bool) (s : Session) (request_seq : ℕ) (ok : Bool) (plan : Plan)
+    → (let given : Result Plan AdapterFault = (if not a then Err (Unmatched request_seq) else (if not b then Err (CommandMismatch request_seq) else plan_within_numbers s (plan_of_response ok s))) in given) ≡ Ok plan → IsExact plan
+response-exact false b s request_seq ok plan e = absurd cc
+response-exact true false s request_seq ok plan e = absurd cc
+response-exact true true s request_seq ok plan e = given-exact s (plan_of_response ok s) plan e (phase-exact (is_phase AskedPhase s.phase) ok s)
+
+exact-of : (s : Session) (seq : ℕ) (kind : Kind) (plan : Plan) → takes_as seq kind s ≡ Ok plan → IsExact plan
+exact-of s seq (RequestKind command arguments) plan e = request-exact (is_phase Ended s.phase) (contains_seq seq s.kept) s (record { seq = seq; command = command; arguments = arguments }) plan e
+exact-of s seq (Response request_seq ok command message body) plan e = response-exact (is_asked request_seq s.asked) (bytes_eq command run_in_terminal) s request_seq ok plan e
+exact-of s seq (Event event body) plan e = plain-exact s plan (cc)
+exact-of s seq (Other tag) plan e = plain-exact s plan (cc)
+
+pub delivery-exact : (s : Session) (m : Message) (plan : Plan) → takes m s ≡ Ok plan → IsExact plan
+delivery-exact s m plan e = exact-of s m.seq m.kind plan e

@@ -22,7 +22,7 @@ use Rattle.dap_session.specs.Within.{IsWithin}
 use Rattle.dap_session.specs.declared.phase.Phase.{Phase}
 use Rattle.dap_session.specs.declared.phase.Phase.TheVariants.{Configured}
 use Rattle.dap_session.proofs.Rows.{after_initialize-outcome, after_park-outcome, after_asking-outcome, after_asking_parked-outcome, after_launch-outcome, after_configuration_done-outcome, after_parked_launch-outcome, after_disconnect-outcome, after_disconnect-clean, after_terminate-outcome, after_resume-outcome, after_resume-clean, change-row, change-stands, after_query-row, one-clean, reply-clean, names-by_reply}
-use Rattle.dap_session.proofs.ServedInOrder.{Fails, DoesWell, first_of, query-told, query-fails, change-fails, well-so, succeeds-first, succeeds-initialize, starts-so, starts-parked-so, disconnects-so, resumes-so, pauses-so}
+use Rattle.dap_session.proofs.ServedInOrder.{Fails, DoesWell, first_of, query-told, query-fails, change-fails, well-so, succeeds-first, succeeds-initialize, starts-so, starts-parked-so, asks-so, asks-parked-so, disconnects-so, resumes-so, pauses-so}
 
 pub record EffectRow (e : Effect) (view : Shown) (s : Session) (asked : Call) : Type 0 where
   -- of a request that is kept: what is answered and kept, numbers and references, limits, and that what is refused changes nothing
@@ -55,11 +55,11 @@ effect-row effect.Start view s asked n p = record {
 }
 effect-row effect.Ask view s asked n p = record {
   outcome = λ k i. once-row s 1 _ (after_asking-outcome s k p i) refl;
-  order = λ r w. well-so effect.Ask s r asked _ refl (λ last. refl);
+  order = λ r w. well-so effect.Ask s r asked _ refl (λ last. asks-so s r);
 }
 effect-row effect.AskParked view s asked n p = record {
   outcome = λ k i. once-row s 2 _ (after_asking_parked-outcome s k p i) refl;
-  order = λ r w. well-so effect.AskParked s r asked _ refl (λ last. refl);
+  order = λ r w. well-so effect.AskParked s r asked _ refl (λ last. asks-parked-so s r);
 }
 effect-row effect.ConfigurationDone view s asked n p = record {
   outcome = λ k i. once-row s 1 _ (after_configuration_done-outcome s k p i) refl;

@@ -26,12 +26,12 @@ use Rattle.dap_session.specs.declared.phase.Phase.{Phase}
 use Rattle.dap_session.specs.declared.phase.Phase.TheVariants.{Configured}
 use Rattle.dap_session.specs.Bodies.{QueryAnswer, QueryResult, query_result, result_without_references, unless_refused, protocol_thread, protocol_sources, frame_objects, scope_objects, variable_objects, value_objects, scopes_result, evaluate_result, window, page, object_of}
 use Rattle.dap_session.specs.Breakpoints.{are_too_many}
-use Rattle.dap_session.specs.Handling.{after_query, after_initialize, after_launch, after_parked_launch, after_resume, after_disconnect, by_reply, answer_each, fits, lines_asked, Change, ChangeResult, change_asked, after_change, change_result, lines_change, lines_result, value_change, assigned_result, value_result}
-use Rattle.dap_session.specs.OrderLaws.{refuses, refuses_query, sets_too_many, objects_in, objects_told, live_with, is_past_room, is_past_numbers, names_too_many, exhausts_numbers, is_too_large, is_long_answer, is_long_change, act_in, act_of, answer_to, comes_to, IsSuccess, IsByReply, IsDoneOrRefused, IsAnswered}
-use Rattle.dap_session.specs.Plan.{Answer, Draft, reply, failure, plain_success, Made, Plan, at_once, after_answering}
+use Rattle.dap_session.specs.Handling.{after_query, after_initialize, after_asking, after_asking_parked, after_launch, after_parked_launch, after_resume, after_disconnect, by_reply, answer_each, fits, lines_asked, Change, ChangeResult, change_asked, after_change, change_result, lines_change, lines_result, value_change, assigned_result, value_result}
+use Rattle.dap_session.specs.OrderLaws.{refuses, refuses_query, sets_too_many, objects_in, objects_told, live_with, is_past_room, is_past_numbers, names_too_many, exhausts_numbers, is_too_large, is_long_answer, is_long_change, act_in, act_of, answer_to, comes_to, IsSuccess, IsByReply, IsDoneOrRefused, ParksAndAsks, AnswersAndAsks, IsAnswered}
+use Rattle.dap_session.specs.Plan.{Answer, Draft, reply, ask, failure, plain_success, Made, Plan, at_once, after_answering}
 use Rattle.dap_session.specs.PrivateChanging.{IsChange}
 use Rattle.dap_session.specs.References.{intern_each, and_then, onto_first, targets_named, with_target, with_targets}
-use Rattle.dap_session.specs.Session.{Session}
+use Rattle.dap_session.specs.Session.{Session, own_request}
 use Rattle.dap_session.proofs.Interned.{AreFew, interned-each, is-lt, no-lt, lt-of}
 use Rattle.dap_session.proofs.Fewer.{middle-contained}
 use Rattle.dap_session.proofs.Kept.{eqb-self, false-left, false-right, same-seq, contains-append, contains-filter}
@@ -322,6 +322,27 @@ each-replied r last before (k ∷ ks) h =
 
 pub starts-parked-so : (s : Session) (r : Entry) (last : Reply) → IsAnswered effect.StartParked s r last (after_parked_launch s r last)
 starts-parked-so s r last = (succeeds-first r (answer_each (by_reply None last) (parked_ones (without r.seq s.kept))), each-replied r last [] (parked_ones (without r.seq s.kept)) (parked-apart r.seq (without r.seq s.kept) (contains_seq-without r.seq s.kept)))
+
+-- a terminal
+
+pub asks-so : (s : Session) (r : Entry) → ParksAndAsks s r (after_asking s r)
+asks-so s r = record { unanswered = refl; parked = refl; asks = record { seq = s.used + 1; one = refl; waits = refl; phase = refl } }
+
+none-replied : (r : Entry) (ks : List Kept) → contains_seq r.seq ks ≡ false → AllByRecursion (λ k. answer_to k.entry.seq (reply r plain_success ∷ ask ∷ []) ≡ None) ks
+none-replied r [] h = tt
+none-replied r (k ∷ ks) h =
+    let other : (r.seq == k.entry.seq) ≡ false = same-seq k.entry.seq r.seq (false-left (k.entry.seq == r.seq) (contains_seq r.seq ks) h) in
+    (rw other refl, none-replied r ks (false-right (k.entry.seq == r.seq) (contains_seq r.seq ks) h))
+
+pub asks-parked-so : (s : Session) (r : Entry) → AnswersAndAsks s r (after_asking_parked s r)
+asks-parked-so s r =
+    let two : s.used + 1 + 1 ≡ s.used + 2 = omega arith in
+    record {
+      succeeds = succeeds-first r (ask ∷ []);
+      unanswered = none-replied r (parked_ones (without r.seq s.kept)) (parked-apart r.seq (without r.seq s.kept) (contains_seq-without r.seq s.kept));
+      parked = refl;
+      asks = record { seq = s.used + 2; one = ap (λ (n : ℕ). own_request n ∷ []) two; waits = refl; phase = refl };
+    }
 
 abbrev pub first_of : Shown → Session → Entry → Effect → Call → Option Failure
 first_of view s r e asked = served_first (refuses view s e asked) (sets_too_many s e asked) (names_too_many view s e asked) (exhausts_numbers view s e asked) (is_too_large view s r e asked)

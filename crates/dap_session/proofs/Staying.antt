@@ -14,7 +14,7 @@ use Rattle.dap_session.specs.Polling.{polls}
 use Rattle.dap_session.specs.Session.{Session, IsOrderly, fresh_session}
 use Rattle.dap_session.specs.Taking.{takes}
 use Rattle.dap_session.specs.Within.{IsWithin, EachStepStaysWithin}
-use Rattle.dap_session.proofs.Deliveries.{delivery-is}
+use Rattle.dap_session.proofs.Deliveries.{delivery-is, delivery-exact}
 use Rattle.dap_session.proofs.Distinct.{AreDistinct, asks-distinct, distinct-asks, distinct-open, length-open, length-asks}
 use Rattle.dap_session.proofs.Happenings.{poll-is}
 use Rattle.dap_session.proofs.Moves.{Moves}
@@ -86,4 +86,5 @@ each_step_stays_within = record {
   turn_keeps_limits = λ view s plan made e is. ((turn-is view s plan e).row.outcomes made is).sound.moves.limits;
   poll_keeps_limits = λ s made is. (poll-is s made is).moves.limits;
   due_is_exact = λ view s plan made i e is. ((turn-is view s plan e).row.outcomes made is).count;
+  take_due_is_exact = λ s m plan made i e is. delivery-exact s m plan e made is;
 }

@@ -108,6 +108,8 @@ after_parked_launch s r last = record {
 
 -- ---- a terminal
 
+-- Specification, "RunInTerminal Request"; "InitializeRequestArguments", whose `supportsRunInTerminalRequest` says that a client runs some. That a `launch` whose `console` is `terminal` asks for one is this profile's choice: what `launch` may name is each adapter's own.
+
 -- the text at `console` is `terminal`
 abbrev pub names_terminal : Option Data → Bool
 names_terminal arguments = unwrap_or (option_map (bytes_eq (codes "terminal")) (option_and_then (text_at (codes "console")) arguments)) false

@@ -10,21 +10,21 @@ use Rattle.dap_message.specs.Types.Command.{Command}
 use Rattle.dap_message.specs.Types.Failure.{Failure}
 use Rattle.dap_message.specs.Types.Failure.TheVariants.{NotInitialized, AlreadyInitialized, UnknownCommand, Unsupported, BadArguments, WrongPhase, NotStopped, UnknownThread, StaleReference, UnknownSource, Debuggee, TooManyBreakpoints, TooManyReferences, ReferencesExhausted, TooLarge}
 use Rattle.dap_message.specs.Types.Key.{Key}
-use Rattle.dap_tables.specs.Outstanding.{parked_ones, without}
+use Rattle.dap_tables.specs.Outstanding.{parked_ones, with_mark, without}
 use Rattle.dap_tables.specs.declared.entry.Entry.{Entry}
 use Rattle.dap_tables.specs.declared.target.Target.{Target}
 use Rattle.dap_debuggee.specs.Shown.{Shown, Act, to_start, to_resume, to_pause, to_set_breakpoints, to_assign, to_end, Reply, done}
 use Rattle.dap_session.specs.declared.effect.Effect.{Effect}
 use Rattle.dap_session.specs.declared.effect.Effect.TheVariants as effect
 use Rattle.dap_session.specs.declared.phase.Phase.{Phase}
-use Rattle.dap_session.specs.declared.phase.Phase.TheVariants.{Fresh}
+use Rattle.dap_session.specs.declared.phase.Phase.TheVariants.{Fresh, Asked}
 use Rattle.dap_session.specs.Bodies.{QueryResult, query_result, object_of, window, page, frame_objects, scope_objects, variable_objects, value_objects}
 use Rattle.dap_session.specs.Breakpoints.{are_too_many}
 use Rattle.dap_session.specs.Failures.{command_of, call_in, of_known, is_early, is_initialize, waits_for_stop, lacks_thread, thread_named, lacks_reference, reference_named, lacks_source, source_named, refusal}
-use Rattle.dap_session.specs.Handling.{ChangeResult, change_result, plan, fits, lines_asked, thread_of, after_park, after_asking, after_asking_parked, effect_of}
-use Rattle.dap_session.specs.Plan.{Answer, success, failure, Draft, reply, emit, ask, Made, Plan, at_once, asking, after_answering}
+use Rattle.dap_session.specs.Handling.{ChangeResult, change_result, plan, fits, lines_asked, thread_of, after_park, effect_of}
+use Rattle.dap_session.specs.Plan.{Answer, success, failure, Draft, reply, emit, ask, Made, Plan, at_once, asking, after_answering, requests_in}
 use Rattle.dap_session.specs.References.{targets_named, with_targets}
-use Rattle.dap_session.specs.Session.{Session}
+use Rattle.dap_session.specs.Session.{Session, own_request}
 use Rattle.dap_session.specs.Table.{effect_in, is_phase, is_served, is_never_served}
 use Rattle.dap_session.specs.Within.{IsWithin}
 
@@ -192,11 +192,31 @@ abbrev pub IsDoneOrRefused : Session → Entry → Reply → Made → Type 0
 IsDoneOrRefused s r done m = IsSuccess (answer_to r.seq m.drafts)
 IsDoneOrRefused s r _ m = m ≡ after_answering r (failure Debuggee) s
 
--- A request that is parked is not answered yet, nor is one for which a terminal is asked. One that starts, resumes or pauses the debuggee is answered by its reply, and so are those that are parked where the debuggee is started for them. Each other one succeeds.
+-- just one own request is written, which asks for a terminal, and its answer is waited for
+pub record AsksTerminal (s : Session) (m : Made) : Type 0 where
+  pub seq : ℕ
+  pub one : requests_in s.used m.drafts ≡ own_request seq ∷ []
+  pub waits : m.after.asked ≡ Some seq
+  pub phase : m.after.phase ≡ Asked
+
+-- the request that is handled is parked, and not answered, and a terminal is asked for
+pub record ParksAndAsks (s : Session) (r : Entry) (m : Made) : Type 0 where
+  pub unanswered : answer_to r.seq m.drafts ≡ None
+  pub parked : m.after.kept ≡ with_mark r.seq true s.kept
+  pub asks : AsksTerminal s m
+
+-- the request that is handled succeeds, none of those that are parked is answered, each stays parked, and a terminal is asked for
+pub record AnswersAndAsks (s : Session) (r : Entry) (m : Made) : Type 0 where
+  pub succeeds : IsSuccess (answer_to r.seq m.drafts)
+  pub unanswered : AllByRecursion (λ k. answer_to k.entry.seq m.drafts ≡ None) (parked_ones (without r.seq s.kept))
+  pub parked : parked_ones m.after.kept ≡ parked_ones (without r.seq s.kept)
+  pub asks : AsksTerminal s m
+
+-- A request that is parked is not answered yet: neither one that comes before `configurationDone`, nor one for which a terminal is asked. One that starts, resumes or pauses the debuggee is answered by its reply, and so are those that are parked where the debuggee is started for them. Each other one succeeds.
 abbrev pub IsAnswered : Effect → Session → Entry → Reply → Made → Type 0
 IsAnswered effect.Park s r last m = m ≡ after_park s r
-IsAnswered effect.Ask s r last m = m ≡ after_asking s r
-IsAnswered effect.AskParked s r last m = m ≡ after_asking_parked s r
+IsAnswered effect.Ask s r last m = ParksAndAsks s r m
+IsAnswered effect.AskParked s r last m = AnswersAndAsks s r m
 IsAnswered effect.Start s r last m = IsDoneOrRefused s r last m
 IsAnswered (effect.Resume how) s r last m = IsDoneOrRefused s r last m
 IsAnswered effect.Pause s r last m = IsDoneOrRefused s r last m

@@ -1,5 +1,5 @@
 -- What a call comes to: what is written, what is left, and what the debuggee is asked before.
--- Specification, "Response", "Event".
+-- Specification, "Response", "Event", "RunInTerminal Request".
 use Rattle.std.specs.Prelude.{ℕ, ◌+◌, List, [], ◌∷◌, ◌++◌, length, Bool, true, false, nat_le, Option, Some, None, Result, Ok, Err, if◌then◌else◌}
 use Rattle.std.specs.List.{flat_map}
 use Rattle.serde_json.specs.Data.{Data}

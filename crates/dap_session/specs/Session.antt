@@ -60,6 +60,8 @@ to_handle kept = length (unparked_ones kept)
 
 -- ---- own requests
 
+-- Specification, "RunInTerminal Request". That no more than one waits, and what it names, is this profile's choice.
+
 -- what the client's terminal is to run
 abbrev pub recorded_terminal : TerminalCall
 recorded_terminal = record { kind = Some (codes "integrated"); title = Some (codes "recorded"); cwd = codes "/"; args = codes "recorded" ∷ [] }

@@ -68,7 +68,7 @@ pub record Carries {D : Type 0} (follows : Goes D) (plan : Plan) (old new : Sess
   pub step : SessionStep follows plan old new
   pub tells : Tells old.session step.made bytes
 
--- memory was refused to a turn that comes to this: the debuggee was not asked where it is asked nothing, nor where it is ended, which is done last
+-- memory was refused to a turn, or to a message that is taken, that comes to this: the debuggee was not asked where it is asked nothing, nor where it is ended, which is done last
 abbrev pub IsUnasked : {D : Type 0} → Result (Option Plan) AdapterFault → D → D → Type 0
 IsUnasked (Ok None) v w = ⊥
 IsUnasked (Ok (Some (asking to_end makes))) v w = w ≡ v

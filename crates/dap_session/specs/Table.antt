@@ -10,7 +10,7 @@ use Rattle.dap_session.specs.declared.phase.Phase.TheVariants.{Fresh, Ready, Con
 use Rattle.dap_session.specs.declared.effect.Effect.{Effect}
 use Rattle.dap_session.specs.declared.effect.Effect.TheVariants.{Initialize, Park, Start, ConfigurationDone, StartParked, Disconnect, EndAndDisconnect, Terminate, Change, Resume, Pause, Query}
 
--- in each of these phases a command does this
+-- in each of these phases a command does this; `launch` and `configurationDone` do so unless a terminal is asked for first (`effect_of` in Handling)
 pub record Row : Type 0 where
   pub phases : List Phase
   pub effect : Effect

@@ -1,5 +1,5 @@
 -- What comes of a message that is delivered.
--- Specification, "CancelRequest", "Request.seq". What is refused, and in which order, is this profile's choice.
+-- Specification, "CancelRequest", "Request.seq", "RunInTerminal Request". What is refused, and in which order, is this profile's choice.
 use Rattle.std.specs.Prelude.{ℕ, ◌+◌, List, [], ◌∷◌, ◌++◌, length, Bool, true, false, bytes_eq, not, nat_lt, Option, Some, None, Result, Ok, Err, if◌then◌else◌}
 use Rattle.dap_debuggee.specs.Shown.{Reply, refused, to_start}
 use Rattle.dap_message.specs.Terminal.{run_in_terminal}
@@ -87,6 +87,8 @@ takes_request r s =
     else plan_within_numbers s (at_once (after_taking r s)))
 
 -- ---- responses
+
+-- To the request for a terminal: Specification, "RunInTerminal Request". What a response does, and when it comes too late, is this profile's choice.
 
 -- what was parked is answered, as the debuggee started or not
 abbrev pub after_terminal : Session → Reply → Made

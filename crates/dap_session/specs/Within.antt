@@ -43,3 +43,5 @@ pub record EachStepStaysWithin : Type 0 where
   pub poll_keeps_limits : (s : Session) (made : Made) → CanMake (polls s) made → made.after.limits ≡ s.limits
   -- a turn takes as many messages as was said before the debuggee was asked
   pub due_is_exact : (view : Shown) (s : Session) (plan : Plan) (made : Made) → IsWithin s → turns view s ≡ Ok (Some plan) → CanMake plan made → length made.drafts ≡ messages_due plan
+  -- and so does a message that is taken
+  pub take_due_is_exact : (s : Session) (m : Message) (plan : Plan) (made : Made) → IsWithin s → takes m s ≡ Ok plan → CanMake plan made → length made.drafts ≡ messages_due plan

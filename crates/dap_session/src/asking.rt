@@ -1,4 +1,7 @@
 //! A terminal of the client: when it is asked for, and what its answer does.
+//!
+//! Specification, "RunInTerminal Request" and "InitializeRequestArguments". That a `launch` whose `console` is `terminal` asks
+//! for one is this profile's choice.
 ghost use Rattle.std.specs.Prelude.{◌≡◌, ◌+◌, ◌≤◌, ◌&&◌, [], ◌∷◌, length, IfOk, IfErr, IsErrOf, OnOk, OnErr, IsTrue, Ok, Some, true, false};
 ghost use Rattle.std.specs.List.{list_any};
 ghost use Rattle.dap_message.specs.Command.{command_named};
@@ -134,11 +137,7 @@ impl<D: Debuggee + Drop> Session<D> {
     }
 
     /// An outbox with a response, and a request for a terminal behind it, and its number.
-    fn request_behind(
-        &self,
-        alloc: Global,
-        request: &Entry,
-    ) -> Result<(Outbox, u64), AllocError>
+    fn request_behind(&self, alloc: Global, request: &Entry) -> Result<(Outbox, u64), AllocError>
         requires { self.now.session.used + 2 ≤ self.now.session.limits.seq }
         ensures last { IfOk result (λ made. made.0.numbers.last ≡ self.now.session.limits.seq) }
         ensures holds { IfOk result (λ made. Holds made.0 self.now.session.limits.body self.now.session.used (reply request.now plain_success ∷ ask ∷ [])) }

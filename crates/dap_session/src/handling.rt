@@ -1,6 +1,6 @@
 //! How a request is handled.
 ghost use Rattle.std.specs.Prelude.{◌≡◌, ◌+◌, ◌≤◌, ◌<◌, IfOk, IfErr, OnOk, OnErr, IsTrue, IfSome, IfNone, None, option_map, false};
-ghost use Rattle.dap_tables.specs.Outstanding.{contains_seq, is_parked, HasDistinctSeqs};
+ghost use Rattle.dap_tables.specs.Outstanding.{contains_seq, is_parked};
 ghost use Rattle.dap_session.specs.SessionState.{Carries, IsRefusedFor, plan_of_decision, IsIdle, HasTurned, NotTurned};
 ghost use Rattle.dap_session.specs.Session.{oldest, to_handle};
 ghost use Rattle.dap_session.specs.Handling.{plan, plan_for};
@@ -173,7 +173,6 @@ impl<D: Debuggee + Drop> Session<D> {
 
         // Then fewer requests wait to be handled.
         ensures fewer { IfOk result (λ o. IfSome o (λ bytes. to_handle self.new.session.kept < to_handle self.old.session.kept)) }
-        ensures distinct { HasDistinctSeqs self.old.session.kept }
         ensures limits { self.new.session.limits ≡ self.old.session.limits }
     {
         let _ = &self.limits;

@@ -25,7 +25,8 @@ pub fn each_step_goes_well()
 {}
 
 /// What is true of every session stays true: no two kept requests have the same seq, no more requests are kept, references
-/// live and breakpoints stand than there is room for, and no number is given past the greatest of its kind.
+/// live and breakpoints stand than there is room for, and no number is given past the greatest of its kind. A turn, and a
+/// message that is taken, come to just as many messages as were due before the debuggee was asked.
 pub fn each_step_stays_within()
     ensures { EachStepStaysWithin }
 {}
@@ -65,7 +66,8 @@ pub fn refusals_come_in_order()
 /// Within its limits, a session answers a request that is handled with the first failure, in the one order that the failures
 /// have, whose test holds, and does nothing else. Where none holds the debuggee is asked just what the effect asks, and the
 /// request succeeds or is parked; `launch`, `attach`, a resumption, and `pause` while it runs, fail as `debuggee`, and nothing
-/// else is done, where the debuggee refuses.
+/// else is done, where the debuggee refuses. Where a terminal is asked for first, the debuggee is asked nothing, and just one
+/// own request is written: `launch` is parked then, or `configurationDone` succeeds and what is parked stays so.
 pub fn failures_come_in_order()
     ensures { FailuresComeInOrder }
 {}

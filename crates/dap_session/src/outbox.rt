@@ -18,8 +18,8 @@ use dap_frame::write_frame;
 use dap_message::laws::{bodies_are_plain, fixed_messages_are_short};
 use dap_message::{
     Body, Capabilities, Failure, List, RUN_IN_TERMINAL, TerminalCall, Text, Tree, body_continued,
-    body_exited, body_output, body_stopped, write_answer, write_event, write_failure, write_request,
-    write_terminal,
+    body_exited, body_output, body_stopped, write_answer, write_event, write_failure,
+    write_request, write_terminal,
 };
 use dap_tables::{Entry, Seq};
 use std::alloc::{AllocError, Global};
@@ -143,7 +143,7 @@ fn recorded_terminal(alloc: Global) -> Result<TerminalCall, AllocError>
 }
 
 /// The text of the request for a terminal.
-fn asked(alloc: Global, seq: u64) -> Result<Vec<u8>, AllocError>
+fn terminal_request(alloc: Global, seq: u64) -> Result<Vec<u8>, AllocError>
     ensures canon { IfOk result (λ text. text.items ≡ canon (message_of seq ask)) }
     ensures reads_back { OnOk result (seq ≤ max_seq → ReadsBack max_fixed (message_of seq ask)) }
 {
@@ -229,6 +229,7 @@ impl Outbox {
         self.numbers = numbers;
         Ok(())
     }
+
     /// Asks for a terminal: the number of the request.
     pub(crate) fn ask(&mut self, alloc: Global) -> Result<u64, AllocError>
         requires { self.old.numbers.used < self.old.numbers.last }
@@ -236,7 +237,7 @@ impl Outbox {
         ensures writes { OnOk result (AppendsDraft max_fixed self.old self.new ask) }
     {
         let (seq, numbers) = self.next();
-        let text = asked(alloc, seq)?;
+        let text = terminal_request(alloc, seq)?;
         write_frame(&mut self.bytes, &text)?;
         self.numbers = numbers;
         Ok(seq)

@@ -1,7 +1,7 @@
 //! What comes of a message that is delivered.
 ghost use Rattle.std.specs.Prelude.{◌≡◌, ◌+◌, ◌≤◌, [], ◌∷◌, length, IfOk, IfErr, IfSome, IfNone, IsErrOf, OnOk, OnErr, Some, true, false};
 ghost use Rattle.dap_message.specs.Command.{command_named};
-ghost use Rattle.dap_tables.specs.Outstanding.{contains_seq, HasDistinctSeqs};
+ghost use Rattle.dap_tables.specs.Outstanding.{contains_seq};
 ghost use Rattle.dap_session.specs.Failures.{of_known};
 ghost use Rattle.dap_session.specs.Plan.{reply, failure, plain_success};
 ghost use Rattle.dap_message.specs.Types.Failure.TheVariants.{Cancelled};
@@ -215,15 +215,16 @@ impl<D: Debuggee + Drop> Session<D> {
         self.keep(alloc, request)
     }
 
-    /// Takes a message that was delivered: a request is kept, or answered at once. A response to the own request that waits
-    /// for a terminal starts the debuggee, or fails what is parked. Any other message has no effect.
+    /// Takes a message that was delivered: a request is kept, or answered at once. A response that answers no own request is
+    /// `Unmatched`, one to another command is `CommandMismatch`. While a terminal is waited for, a success starts the debuggee,
+    /// and a failure fails what is parked; a later one ends the waiting for an answer, and nothing else. An event, and a message
+    /// of another kind, have no effect.
     pub fn take(&mut self, alloc: Global, message: &Message) -> Result<Vec<u8>, AdapterFault>
         ensures taken { IfOk result (λ bytes. HasTaken D.follows (takes message.now self.old.session) self.old self.new bytes.items) }
         ensures refused { IfErr result (λ fault. NotTaken fault (takes message.now self.old.session)) }
         ensures unasked { OnErr result (IsUnasked (some_plan (takes message.now self.old.session)) self.old.debuggee self.new.debuggee) }
         ensures memory { IsErrOf result AdapterFault.OutOfMemory → may_take_memory message.now.kind self.old.session.phase ≡ true }
         ensures err { OnErr result (self.new.session ≡ self.old.session) }
-        ensures distinct { HasDistinctSeqs self.old.session.kept }
         ensures limits { self.new.session.limits ≡ self.old.session.limits }
     {
         let _ = &self.limits;

@@ -1,5 +1,5 @@
 use Rattle.dap_session.proofs.Outboxes.{asked-ok, reads-asked}
-use Rattle.dap_session.proofs.outbox.asked.Goals as goal
+use Rattle.dap_session.proofs.outbox.terminal_request.Goals as goal
 
 pub returns-clause-canon : goal.returns-clause-canon
 returns-clause-canon c = rw (c.new.ensures, c.in_ok-write_terminal.ensures.tree, c.in_ok-call.ensures) at c.write_request.ensures.canon
