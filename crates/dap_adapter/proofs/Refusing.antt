@@ -85,6 +85,7 @@ closed_stays r fault v w e u = subst (λ (x : Result Plan AdapterFault). IsUnask
 at_once_stays : {D : Type 0} (b : Bool) (m : _) (v w : D) → IsUnasked (some_plan (if b then Ok (at_once m) else Err SeqExhausted)) v w → w ≡ v
 at_once_stays true m v w u = u
 at_once_stays false m v w u = u
+
 request_stays : {D : Type 0} (a b c : Bool) (seq : ℕ) (m : Made) (v w : D) → IsUnasked (some_plan (if a then Err Ended else (if b then Err (RepeatedSeq seq) else (if c then Ok (at_once m) else Err SeqExhausted)))) v w → w ≡ v
 request_stays true b c seq m v w u = u
 request_stays false true c seq m v w u = u
