@@ -4,7 +4,7 @@ use Rattle.std.specs.Prelude.{◌==◌, ◌&&◌, not, if◌then◌else◌, nat_
 use Rattle.std.proofs.lemmas.List.{append-nil}
 use Rattle.std.proofs.lemmas.Slice.Eq.{bytes_eq-Decides}
 use Rattle.dap_history.specs.Answers.{AnswersOne}
-use Rattle.dap_history.specs.History.{Asked, Answered, without_answered, request_as, response_as}
+use Rattle.dap_history.specs.History.{Asked, without_answered, request_as, response_as}
 use Rattle.dap_history.specs.Requests.{asked_of, asks}
 use Rattle.dap_message.specs.Argument.{Read}
 use Rattle.dap_message.specs.Call.{call_of}

@@ -1,6 +1,6 @@
 -- A transcript in parts: the client's requests with what the adapter answers and tells, and the adapter's requests with what
 -- the client answers. What breaks a rule in the transcript breaks it in its part.
-use Rattle.std.proofs.Common.{◌≡◌, ℕ, List, [], ◌∷◌, ◌++◌, Bool, true, false, Option, Some, None, refl, sym, ap, ◌∙◌, subst, true≢false}
+use Rattle.std.proofs.Common.{◌≡◌, ℕ, List, [], ◌∷◌, ◌++◌, Bool, true, false, Some, refl, sym, ap, ◌∙◌, true≢false}
 use Rattle.std.specs.Prelude.{◌==◌, ◌&&◌, ◌||◌, not, codes, if◌then◌else◌}
 use Rattle.std.specs.List.{list_any}
 use Rattle.dap_ends.specs.Messages as small
@@ -10,7 +10,7 @@ use Rattle.dap_message.specs.declared.message.Kind.{Kind}
 use Rattle.dap_message.specs.declared.message.Kind.TheVariants.{Request, Response, Event, Other}
 use Rattle.dap_check.specs.Lines.{other_side, same_side, is_of, is_request, is_request_for, is_response_to, is_success, is_event, is_adapter_event, asks, asks_as, asks_for, answers, succeeds}
 use Rattle.dap_check.specs.Rules.{initialize, disconnect, is_out_of_place, breaks_answer, is_too_early, breaks_first_request, breaks_initialized, breaks_disconnect}
-use Rattle.dap_check.specs.Since.{Past, is_open, first_since}
+use Rattle.dap_check.specs.Since.{is_open, first_since}
 use Rattle.dap_check.specs.declared.line.Line.{Line}
 use Rattle.dap_check.specs.declared.line.Side.{Side}
 use Rattle.dap_check.specs.declared.line.Side.TheVariants.{Client, Adapter}

@@ -1,6 +1,6 @@
 -- What goes between both ends is what goes between the smaller pair, and what the adapter makes is what the pair's makes.
-use Rattle.std.proofs.Common.{◌≡◌, ℕ, ◌+◌, List, [], ◌∷◌, ◌++◌, length, filter, Bool, true, false, Option, Some, None, refl, sym, ap, ◌∙◌, subst, arith}
-use Rattle.std.specs.Prelude.{◌&&◌, not, map, if◌then◌else◌}
+use Rattle.std.proofs.Common.{◌≡◌, ℕ, ◌+◌, List, [], ◌∷◌, ◌++◌, length, Bool, true, false, Option, Some, None, refl, sym, ap, ◌∙◌, arith}
+use Rattle.std.specs.Prelude.{◌&&◌, if◌then◌else◌}
 use Rattle.std.proofs.lemmas.List.{append-nil, map-append}
 use Rattle.dap_ends.specs.Messages.{Ask, Request, Response, Event, OutputEvent}
 use Rattle.dap_ends.specs.Messages as small
@@ -9,11 +9,10 @@ use Rattle.dap_ends.specs.AdapterModel as desk
 use Rattle.dap_ends.specs.References.{Ref, Table, is_inspect, given_by, inspection_succeeds, table_turned, table_after, table_polled}
 use Rattle.dap_ends.specs.Pair.{NumberedNote, WrittenNote, Pair, numbered_notes, notes_written_by, pair_after_adapter}
 use Rattle.dap_message.specs.declared.message.Message.{Message}
-use Rattle.dap_history.specs.History.{Asked, without_answered, has_request_seq}
-use Rattle.dap_check.specs.declared.line.Side.{Side}
-use Rattle.dap_check.specs.declared.line.Side.TheVariants.{Client, Adapter}
+use Rattle.dap_history.specs.History.{Asked, without_answered}
+use Rattle.dap_check.specs.declared.line.Side.TheVariants.{Adapter}
 use Rattle.dap_session.specs.Answering.{GoesWell}
-use Rattle.dap_session.specs.Plan.{success, failure, Draft, reply, emit, ask, Made, message_of, numbered_messages, written_by, request_of, requests_in}
+use Rattle.dap_session.specs.Plan.{success, failure, Draft, reply, emit, ask, Made, message_of, numbered_messages, written_by, requests_in}
 use Rattle.dap_session.specs.Session.{Session, own_requests}
 use Rattle.dap_session.specs.SessionState.{SessionState}
 use Rattle.dap_world.specs.Projection.{entry_ask, note_seen, notes_seen, written_seen, adapter_model_of, own_seen, pair_of}

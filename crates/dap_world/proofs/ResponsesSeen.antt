@@ -1,15 +1,14 @@
 -- A response that the adapter takes ends the waiting of the smaller adapter, or comes too late there too.
-use Rattle.std.proofs.Common.{◌≡◌, ℕ, List, [], ◌∷◌, Bool, true, false, Option, Some, None, Result, Ok, Err, refl, sym, ap, ◌∙◌, subst, arith}
+use Rattle.std.proofs.Common.{◌≡◌, ℕ, List, [], Bool, true, false, Option, Some, None, Result, Ok, Err, refl, sym, ap, ◌∙◌, subst, arith}
 use Rattle.std.specs.Prelude.{◌==◌, ◌&&◌, not, nat_le, ◌+◌, bytes_eq, if◌then◌else◌}
 use Rattle.std.proofs.lemmas.Bool.Decides.{nat_tests}
-use Rattle.dap_ends.specs.Messages as small
 use Rattle.dap_ends.specs.Messages.{answer_each as answer_all}
 use Rattle.dap_ends.specs.AdapterModel.{parked_of, unparked_of, ends_wait, asks as small_asks, phase_after_start, Kept as SmallKept}
 use Rattle.dap_ends.specs.AdapterModel as desk
 use Rattle.dap_ends.specs.Standing.{AllLaunch}
 use Rattle.dap_ends.proofs.Counts.{names-same}
 use Rattle.dap_message.specs.Terminal.{run_in_terminal}
-use Rattle.dap_tables.specs.Outstanding.{Kept, parked_ones, unparked_ones}
+use Rattle.dap_tables.specs.Outstanding.{parked_ones, unparked_ones}
 use Rattle.dap_debuggee.specs.Shown.{Reply, refused}
 use Rattle.dap_session.specs.declared.fault.AdapterFault.{AdapterFault}
 use Rattle.dap_session.specs.declared.fault.AdapterFault.TheVariants.{Unmatched, CommandMismatch, SeqExhausted}

@@ -1,5 +1,5 @@
 -- A turn of both adapters: whether it asks for a terminal, what was announced then, and what it writes where it does.
-use Rattle.std.proofs.Common.{◌≡◌, ℕ, ◌+◌, List, [], ◌∷◌, ◌++◌, length, Bool, true, false, Option, Some, None, Ok, refl, sym, ap, ◌∙◌, subst, arith, append_assoc}
+use Rattle.std.proofs.Common.{◌≡◌, ℕ, ◌+◌, List, [], ◌∷◌, ◌++◌, length, Bool, true, false, Option, Some, None, Ok, refl, sym, ap, ◌∙◌, arith, append_assoc}
 use Rattle.std.specs.Prelude.{◌&&◌, ◌||◌, if◌then◌else◌}
 use Rattle.std.specs.List.{list_any}
 use Rattle.std.proofs.lemmas.List.{map-append}
@@ -7,9 +7,8 @@ use Rattle.serde_json.specs.Data.{Data}
 use Rattle.dap_ends.specs.Messages.{Ask, code, Request}
 use Rattle.dap_ends.specs.Messages as small
 use Rattle.dap_ends.specs.AdapterModel.{AdapterModel, AdapterPhase, Made as SmallMade, Kept as SmallKept, asks as small_asks, oldest as small_oldest, parked_of, is_parked_phase, would_start, after_asking_turn, adapter_model_turns}
-use Rattle.dap_ends.specs.AdapterModel as desk
 use Rattle.dap_ends.specs.References.{Ref, Table, given_by, table_after}
-use Rattle.dap_ends.specs.Pair.{NumberedNote, WrittenNote, Pair, PairTurn, terminal_ask, launch_seq, turn_asks, terminal_after_command, terminal_after_turn, sets_variable, unless_sets_variable, numbered_notes, notes_written_by, pair_after_adapter, pair_asks_terminal, pair_after_turn, pair_turns, pair_happens}
+use Rattle.dap_ends.specs.Pair.{NumberedNote, WrittenNote, Pair, PairTurn, terminal_ask, launch_seq, turn_asks, terminal_after_command, terminal_after_turn, sets_variable, unless_sets_variable, numbered_notes, notes_written_by, pair_after_adapter, pair_asks_terminal, pair_after_turn, pair_happens}
 use Rattle.dap_ends.specs.Standing.{AllLaunch}
 use Rattle.dap_ends.specs.Messages.{one_if}
 use Rattle.dap_message.specs.Argument.{Read}
@@ -21,7 +20,6 @@ use Rattle.dap_message.specs.Types.Call.{Call}
 use Rattle.dap_message.specs.Types.Call.TheVariants as call
 use Rattle.dap_message.specs.Types.Command.{Command}
 use Rattle.dap_message.specs.Types.Command.TheVariants as command
-use Rattle.dap_message.specs.declared.message.Message.{Message}
 use Rattle.dap_history.specs.History.{Asked}
 use Rattle.dap_history.specs.Requests.{asks as all_asks}
 use Rattle.dap_tables.specs.Outstanding.{Kept}
@@ -29,7 +27,7 @@ use Rattle.dap_tables.specs.declared.entry.Entry.{Entry}
 use Rattle.dap_check.specs.declared.line.Side.TheVariants.{Adapter}
 use Rattle.dap_session.specs.Answering.{GoesWell}
 use Rattle.dap_session.specs.Handling.{is_launch, names_terminal, wants_terminal, parked_wants_terminal}
-use Rattle.dap_session.specs.Plan.{Draft, reply, emit, ask, Made, message_of, numbered_messages, request_of, requests_in}
+use Rattle.dap_session.specs.Plan.{Draft, reply, emit, ask, Made, message_of, numbered_messages, requests_in}
 use Rattle.dap_session.specs.Session.{Session, own_request, own_requests}
 use Rattle.dap_session.specs.declared.options.Options.{Options}
 use Rattle.dap_session.specs.declared.phase.Phase.{Phase}
@@ -38,9 +36,9 @@ use Rattle.dap_world.specs.Projection.{class_of, class_if, ask_of, entry_ask, no
 use Rattle.dap_world.specs.World.{World, said_by}
 use Rattle.dap_world.proofs.Answered.{AllHarmless}
 use Rattle.dap_world.proofs.KeptSeen.{told, all_told}
-use Rattle.dap_world.proofs.Paired.{notes-append, written-more, keeps-all, note-told, told-length, inspection-same, table-stays, none-either, own-stays, same-adapter, made-pair, world_made}
+use Rattle.dap_world.proofs.Paired.{notes-append, written-more, keeps-all, note-told, told-length, inspection-same, table-stays, own-stays, same-adapter, made-pair, world_made}
 use Rattle.dap_world.proofs.RowsSeen.{asks_by, options_by}
-use Rattle.dap_world.proofs.Standing.{IsOwn, AllOwn}
+use Rattle.dap_world.proofs.Standing.{AllOwn}
 use Rattle.dap_world.proofs.TurnsSeen.{Handled, IsTurn, IsAskingTurn}
 
 -- ---- the launch at hand

@@ -1,4 +1,4 @@
-use Rattle.std.proofs.Common.{refl, sym, ap, ◌∙◌}
+use Rattle.std.proofs.Common.{sym, ap, ◌∙◌}
 use Rattle.dap_session.specs.SessionState.{SessionState}
 use Rattle.dap_session.specs.Table.{is_phase}
 use Rattle.dap_session.specs.declared.phase.Phase.TheVariants.{Asked}
