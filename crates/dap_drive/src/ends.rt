@@ -372,15 +372,20 @@ impl<D: Debuggee + Drop> Drive<D> {
         let Some(request_seq) = self.client.oldest_incoming() else {
             return Err(DriveFault::Call { line });
         };
-        let bytes = match self.client.answer(alloc, request_seq, terminal) {
-            Ok(bytes) => bytes,
+        let response = match self.client.answer(alloc, request_seq, terminal) {
+            Ok(response) => response,
             Err(fault) => return Err(answer_fault(fault)),
         };
-        match write_lines(&mut self.reader, &mut self.transcript, Side::Client, &bytes) {
+        match write_lines(
+            &mut self.reader,
+            &mut self.transcript,
+            Side::Client,
+            &response,
+        ) {
             Ok(()) => {}
             Err(fault) => return Err(unwritten(Side::Client, fault)),
         }
-        let down = self.deliver_up(alloc, &bytes)?;
+        let down = self.deliver_up(alloc, &response)?;
         self.settle(alloc, down)?;
         Ok(())
     }

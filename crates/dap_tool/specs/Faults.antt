@@ -5,7 +5,7 @@ use Rattle.dap_frame.specs.declared.Refusal.TheVariants.{HeaderTooLong, BadHeade
 use Rattle.dap_message.specs.declared.fault.BodyRefusal.{BodyRefusal}
 use Rattle.dap_message.specs.declared.fault.BodyRefusal.TheVariants.{NotJson, NotObject, BadSeq, BadType, BadCommand, BadRequestSeq, BadSuccess, BadEvent, BadMessage}
 use Rattle.dap_session.specs.declared.fault.AdapterFault.{AdapterFault}
-use Rattle.dap_session.specs.declared.fault.AdapterFault.TheVariants.{Frame, Body, RepeatedSeq, Unmatched, Ended, SeqExhausted, OutOfMemory as NoMemoryToAnswer}
+use Rattle.dap_session.specs.declared.fault.AdapterFault.TheVariants.{Frame, Body, RepeatedSeq, Unmatched, CommandMismatch, Ended, SeqExhausted, OutOfMemory as NoMemoryToAnswer}
 use Rattle.dap_adapter.specs.declared.served.ServeFault.{ServeFault}
 use Rattle.dap_adapter.specs.declared.served.ServeFault.TheVariants.{Read, Write, Adapter, TooManyReads, OutOfMemory}
 use Rattle.dap_debuggee.specs.declared.reading.RecordingFault.{RecordingFault}
@@ -32,6 +32,7 @@ status_of_adapter (Frame fault) = 3
 status_of_adapter (Body cause offset) = 3
 status_of_adapter (RepeatedSeq seq) = 3
 status_of_adapter (Unmatched request_seq) = 3
+status_of_adapter (CommandMismatch request_seq) = 3
 status_of_adapter Ended = 3
 status_of_adapter SeqExhausted = 3
 status_of_adapter NoMemoryToAnswer = 6
@@ -130,6 +131,7 @@ line_of_adapter (Frame fault) = line_at (name_of_refusal fault.cause) fault.offs
 line_of_adapter (Body cause offset) = line_at (name_of_body_refusal cause) offset
 line_of_adapter (RepeatedSeq seq) = named_line (codes "RepeatedSeq")
 line_of_adapter (Unmatched request_seq) = named_line (codes "Unmatched")
+line_of_adapter (CommandMismatch request_seq) = named_line (codes "CommandMismatch")
 line_of_adapter Ended = named_line (codes "Ended")
 line_of_adapter SeqExhausted = named_line (codes "SeqExhausted")
 line_of_adapter NoMemoryToAnswer = named_line (codes "OutOfMemory")

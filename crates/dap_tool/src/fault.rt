@@ -77,6 +77,7 @@ fn adapter_status(fault: &AdapterFault) -> u8
         AdapterFault::Body { .. } => 3,
         AdapterFault::RepeatedSeq { .. } => 3,
         AdapterFault::Unmatched { .. } => 3,
+        AdapterFault::CommandMismatch { .. } => 3,
         AdapterFault::Ended => 3,
         AdapterFault::SeqExhausted => 3,
         AdapterFault::OutOfMemory => 6,
@@ -229,6 +230,7 @@ fn adapter_line(alloc: Global, fault: &AdapterFault) -> Result<String, AllocErro
         }
         AdapterFault::RepeatedSeq { .. } => named(alloc, "RepeatedSeq"),
         AdapterFault::Unmatched { .. } => named(alloc, "Unmatched"),
+        AdapterFault::CommandMismatch { .. } => named(alloc, "CommandMismatch"),
         AdapterFault::Ended => named(alloc, "Ended"),
         AdapterFault::SeqExhausted => named(alloc, "SeqExhausted"),
         AdapterFault::OutOfMemory => named(alloc, "OutOfMemory"),

@@ -43,7 +43,7 @@ fn other_told(alloc: Global, rows: &[Row]) -> Option<usize> {
     None
 }
 
-static NAMED: [Row; 9] = [
+static NAMED: [Row; 10] = [
     (ToolFault::Serve(ServeFault::Read), 5, b"dap: Read\n"),
     (
         ToolFault::Serve(ServeFault::Write { written: 0 }),
@@ -74,6 +74,11 @@ static NAMED: [Row; 9] = [
         ToolFault::Serve(ServeFault::Adapter(AdapterFault::Unmatched { request_seq: 1 })),
         3,
         b"dap: Unmatched\n",
+    ),
+    (
+        ToolFault::Serve(ServeFault::Adapter(AdapterFault::CommandMismatch { request_seq: 1 })),
+        3,
+        b"dap: CommandMismatch\n",
     ),
     (
         ToolFault::Serve(ServeFault::Adapter(AdapterFault::Ended)),
