@@ -172,6 +172,32 @@ ends_there made bytes phase h = ap (λ (b : Bool). if b then to_take else to_pol
 fresh_rest : (laws : EachStreamHasOneSplit) (b : Bounds) (i : Intake) (bodies : List (List ℕ)) (rest : List ℕ) → i.bounds ≡ b → StandsForStream i [] bodies rest → rest ≡ []
 fresh_rest laws b i bodies rest e st = (laws.one b [] bodies [] rest [] (subst (λ (z : Bounds). Split z [] bodies rest) e st.split) (no_frames laws b)).1
 
+-- ---- a message that the client writes by itself
+
+-- of each session, the one that comes of it, and the message
+pub record Writes : Type 0 where
+  pub after : ClientSession → ClientSession
+  pub out : ClientSession → Message
+  pub keeps : (s : ClientSession) → (after s).limits ≡ s.limits
+
+abbrev wrote : {D : Type 0} → Writes → World D → World D
+wrote x start = client_said (x.after start.client) (x.out start.client ∷ []) start
+
+abbrev sending : Call → Writes
+sending call = record { after = λ s. after_send call s; out = λ s. next_message s call; keeps = λ s. refl }
+
+abbrev answering : ℕ → Terminal → Writes
+answering request_seq terminal = record { after = λ s. after_terminal_response request_seq s; out = λ s. next_terminal_response s request_seq terminal; keeps = λ s. refl }
+
+-- ---- an answer
+
+-- the client may answer, and what it writes is read back
+pub record MayAnswer (e : ClientState) (request_seq : ℕ) (terminal : Terminal) : Type 0 where
+  pub plain : IsTrue (is_plain_terminal terminal)
+  pub oldest : oldest_of e.session.incoming ≡ Some request_seq
+  pub free : answer_refusal_of request_seq e ≡ None
+  pub reads_back : ReadsBack e.session.limits.body (next_terminal_response e.session request_seq terminal)
+
 -- ---- an answer that is refused
 
 some_self : (a b : Bool) → a ≡ true → (a || b) ≡ true
@@ -199,15 +225,6 @@ only_numbers request_seq s f oldest e = last_refusal (contains_seq request_seq s
 
 module _ {D : Type 0} (laws : FrameLaws) (drive : Driving D) (agrees : EachScheduleAgrees drive.shown drive.follows) where
   -- ---- the client goes on by itself, and writes a message
-
-  -- of each session, the one that comes of it, and the message
-  pub record Writes : Type 0 where
-    pub after : ClientSession → ClientSession
-    pub out : ClientSession → Message
-    pub keeps : (s : ClientSession) → (after s).limits ≡ s.limits
-
-  abbrev wrote : Writes → World D → World D
-  wrote x start = client_said (x.after start.client) (x.out start.client ∷ []) start
 
   client_wrote : (x : Writes) (e next : ClientState) (s : ClientSession) → IsClientAt drive.limits e s → next ≡ record e { session = x.after e.session } → GoesOn e next [] (Out (x.out e.session) [] ∷ []) → IsClientAt drive.limits next (x.after s)
   client_wrote x e next s c is on =
@@ -263,9 +280,6 @@ module _ {D : Type 0} (laws : FrameLaws) (drive : Driving D) (agrees : EachSched
 
   -- ---- the client sends
 
-  abbrev sending : Call → Writes
-  sending call = record { after = λ s. after_send call s; out = λ s. next_message s call; keeps = λ s. refl }
-
   sends_so : (ends : BothEnds D) (start : World D) (call : Call) (q : IsQuiet drive ends start) → IsTrue (is_plain_call call) → refusal_of call ends.client ≡ None → ReadsBack ends.client.session.limits.body (next_message ends.client.session call)
       → Sends call start (wrote (sending call) start)
   sends_so ends start call q plain free back =
@@ -313,16 +327,6 @@ module _ {D : Type 0} (laws : FrameLaws) (drive : Driving D) (agrees : EachSched
   send_stops ends start call fault.OutOfMemory number q plain free back h = tt
 
   -- ---- the client answers
-
-  abbrev answering : ℕ → Terminal → Writes
-  answering request_seq terminal = record { after = λ s. after_terminal_response request_seq s; out = λ s. next_terminal_response s request_seq terminal; keeps = λ s. refl }
-
-  -- the client may answer, and what it writes is read back
-  pub record MayAnswer (e : ClientState) (request_seq : ℕ) (terminal : Terminal) : Type 0 where
-    pub plain : IsTrue (is_plain_terminal terminal)
-    pub oldest : oldest_of e.session.incoming ≡ Some request_seq
-    pub free : answer_refusal_of request_seq e ≡ None
-    pub reads_back : ReadsBack e.session.limits.body (next_terminal_response e.session request_seq terminal)
 
   oldest_at : (ends : BothEnds D) (start : World D) (found : Option ℕ) (q : IsQuiet drive ends start) → oldest_of ends.client.session.incoming ≡ found → oldest_of start.client.incoming ≡ found
   oldest_at ends start found q is = subst (λ (z : ClientSession). oldest_of z.incoming ≡ found) q.at.client_at.session_is is
