@@ -1,6 +1,6 @@
 -- Why a call on a piece is refused, from what the session says.
-use Rattle.std.proofs.Common.{◌≡◌, ◌≢◌, ℕ, ◌+◌, ◌⊎◌, List, Bool, true, false, nat_le, Result, Ok, Err, refl, sym, ap, ◌∙◌, subst, if◌then◌else◌}
-use Rattle.std.specs.Prelude.{Some, not, bytes_eq, inl, inr}
+use Rattle.std.proofs.Common.{◌≡◌, ◌≢◌, ℕ, ◌+◌, ◌⊎◌, List, Bool, true, false, nat_le, Result, Ok, Err, refl, sym, ap, ◌∙◌, subst, inl, inr, if◌then◌else◌}
+use Rattle.std.specs.Prelude.{Some, not, bytes_eq}
 use Rattle.dap_frame.specs.Feeds.{Completes}
 use Rattle.dap_frame.specs.Intake.{Intake}
 use Rattle.dap_message.specs.Laws.{EachBodyIsOne, IsOneMessage, IsOneRefusal}

@@ -1,5 +1,5 @@
 -- The steps of a client are those of the smaller one: what events and messages change, and the law.
-use Rattle.std.proofs.Common.{[], ◌≡◌, ℕ, ◌+◌, List, Bool, true, false, Option, Some, None, Result, Ok, Err, length, refl, ap}
+use Rattle.std.proofs.Common.{[], ◌≡◌, ℕ, ◌+◌, List, Bool, true, false, Option, Some, None, Result, Ok, Err, length, refl, sym, ap}
 use Rattle.std.specs.Prelude.{bytes_eq, nat_le, nat_lt, if◌then◌else◌}
 use Rattle.serde_json.specs.Data.{Data}
 use Rattle.dap_message.specs.CallTree.{command_of}
@@ -28,6 +28,7 @@ use Rattle.dap_client.specs.Taking.{Made, made_without_writing, failure_in, keep
 use Rattle.dap_client.proofs.AnswersProject.{each-answered, none-given}
 use Rattle.dap_client.proofs.Refusals.{none-holds}
 use Rattle.dap_client.proofs.SendsProject.{at, each-allowed, each-sent}
+use Rattle.dap_client.proofs.TerminalRequests.{announces}
 
 -- ---- an event comes
 
@@ -137,6 +138,7 @@ pub each_step_projects : EachStepProjects
 each_step_projects = record {
   allowed = each-allowed;
   sent = λ s c e. each-sent (command_of c) s.seen.phase s (request_of (s.used + 1) c) e;
+  announced = λ a. sym (announces a);
   taken = λ s m. kind-taken m.seq m.kind s;
   terminal = λ s request_seq. refl;
   free = none-holds;

@@ -2,9 +2,11 @@
 use Rattle.std.specs.Prelude.{◌≡◌, ℕ, ◌+◌, ◌==◌, ◌&&◌, List, [], ◌∷◌, ◌++◌, length, nat_le, nat_lt, bytes_eq, Bool, true, false, if◌then◌else◌, Option, Some, None, Result, Ok, Err}
 use Rattle.serde_json.specs.Data.{Data}
 use Rattle.dap_frame.specs.Settings.{Settings}
-use Rattle.dap_message.specs.CallTree.{command_of}
+use Rattle.dap_message.specs.CallTree.{command_of, call_tree}
 use Rattle.dap_message.specs.Command.{command_named}
 use Rattle.dap_message.specs.Types.Call.{Call}
+use Rattle.dap_message.specs.Types.Call.TheVariants as call
+use Rattle.dap_message.specs.Types.Initialize.{Initialize as InitializeCall}
 use Rattle.dap_message.specs.Types.Command.{Command}
 use Rattle.dap_message.specs.Types.Command.TheVariants as command
 use Rattle.dap_message.specs.Types.Failure.{Failure}
@@ -319,6 +321,8 @@ pub record EachStepProjects : Type 0 where
   pub allowed : (c : Command) (p : Phase) (ready : Bool) → is_sent_in c p ready ≡ allows p ready (class_of c)
   -- a call that the phase lets it send
   pub sent : (s : Session) (c : Call) → is_sent_in (command_of c) s.seen.phase s.seen.ready ≡ true → abstraction_of (after_send c s) ≡ abstraction_after_request (class_of (command_of c)) (request_of (s.used + 1) c) (abstraction_of s)
+  -- what a written `initialize` announces is what its call says
+  pub announced : (a : InitializeCall) → runs_terminals (call_tree (call.Initialize a)) ≡ a.supports_run_in_terminal_request
   -- a message that comes, or why it closes the client
   pub taken : (s : Session) (m : Message) → abstraction_of_result (takes m s) ≡ abstraction_takes s.limits m.seq m.kind (abstraction_of s)
   -- a request of the adapter that is answered

@@ -136,10 +136,17 @@ after_asking_parked s r = record {
   after = record s { phase = Asked; kept = without r.seq s.kept; asked = Some (s.used + 2); used = s.used + 2 };
 }
 
+-- in place of a start
+abbrev pub start_unless_asked : Bool → Effect
+start_unless_asked asked = if asked then effect.Ask else effect.Start
+
+abbrev pub start_parked_unless_asked : Bool → Effect
+start_parked_unless_asked asked = if asked then effect.AskParked else effect.StartParked
+
 -- what the table says, unless a terminal is asked for first
 abbrev pub effect_of : Session → Entry → Effect → Effect
-effect_of s r effect.Start = if wants_terminal s.options r then effect.Ask else effect.Start
-effect_of s r effect.StartParked = if parked_wants_terminal s.options s.kept then effect.AskParked else effect.StartParked
+effect_of s r effect.Start = start_unless_asked (wants_terminal s.options r)
+effect_of s r effect.StartParked = start_parked_unless_asked (parked_wants_terminal s.options s.kept)
 effect_of s r e = e
 
 -- ---- disconnect and terminate

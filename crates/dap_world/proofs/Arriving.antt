@@ -12,7 +12,8 @@ use Rattle.dap_session.specs.Plan.{written_by}
 use Rattle.dap_session.specs.SessionState.{SessionState}
 use Rattle.dap_client.specs.Sending.{next_message, after_send}
 use Rattle.dap_client.specs.Session.{Session as ClientSession}
-use Rattle.dap_world.specs.World.{World, Said, said_by, messages_of, client_said, adapter_said, Step, by_sending, by_coming_up, by_coming_down, by_turning, by_polling, Schedule, starts, goes}
+use Rattle.dap_client.specs.TerminalResponse.{next_terminal_response, after_terminal_response}
+use Rattle.dap_world.specs.World.{World, Said, said_by, messages_of, client_said, adapter_said, Step, by_sending, by_answering, by_coming_up, by_coming_down, by_turning, by_polling, Schedule, starts, goes}
 use Rattle.dap_world.specs.Agreement.{AllArrive}
 use Rattle.dap_world.proofs.Lasting.{schedule-stands}
 use Rattle.dap_world.proofs.Standing.{Stands}
@@ -52,6 +53,8 @@ module _ {D : Type 0} (limits : Settings) where
   step-arrives : (shown : D → Shown) (follows : Goes D) (old new : World D) → Step shown follows old new → Stands limits old → AllArrive limits old → AllArrive limits new
   step-arrives shown follows old new (by_sending call t) g a =
       subst (λ (w : World D). AllArrive limits w) (sym t.is) (by-client (after_send call old.client) (next_message old.client call ∷ []) old a (at-client old (next_message old.client call ∷ []) g (t.reads_back, tt)))
+  step-arrives shown follows old new (by_answering q terminal t) g a =
+      subst (λ (w : World D). AllArrive limits w) (sym t.is) (by-client (after_terminal_response q old.client) (next_terminal_response old.client q terminal ∷ []) old a (at-client old (next_terminal_response old.client q terminal ∷ []) g (t.reads_back, tt)))
   step-arrives shown follows old new (by_coming_up t) g a =
       subst (λ (w : World D). AllArrive limits w) (sym t.step.is) (by-adapter t.step.seat (written_by old.adapter.session t.step.session.made) (record old { up = t.later }) (later-up old t.message t.later t.first a) (at-adapter old (written_by old.adapter.session t.step.session.made) g t.step.reads_back))
   step-arrives shown follows old new (by_coming_down t) g a =

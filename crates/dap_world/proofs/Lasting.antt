@@ -1,11 +1,12 @@
 -- What stands holds from two fresh ends on, in every schedule.
-use Rattle.std.proofs.Common.{[], refl}
-use Rattle.dap_ends.proofs.Agrees.{agree}
+use Rattle.std.proofs.Common.{[], false, refl}
+use Rattle.dap_ends.proofs.Announcements.{announces}
+use Rattle.dap_ends.proofs.PairTranscripts.{writes}
 use Rattle.dap_frame.specs.Settings.{Settings, AreInRange}
 use Rattle.dap_debuggee.specs.Shown.{Shown}
 use Rattle.dap_session.specs.Carried.{Goes}
-use Rattle.dap_world.specs.World.{World, fresh_world, Step, by_sending, by_coming_up, by_coming_down, by_turning, by_polling, Schedule, starts, goes}
-use Rattle.dap_world.proofs.ClientStepping.{send-stands, down-stands}
+use Rattle.dap_world.specs.World.{World, fresh_world, Step, by_sending, by_answering, by_coming_up, by_coming_down, by_turning, by_polling, Schedule, starts, goes}
+use Rattle.dap_world.proofs.ClientStepping.{send-stands, down-stands, answer-stands}
 use Rattle.dap_world.proofs.Standing.{Stands}
 use Rattle.dap_world.proofs.Stepping.{Laws, turn-stands, poll-stands, up-stands}
 
@@ -14,7 +15,10 @@ fresh-stands laws limits debuggee =
     record {
       client_limits = refl;
       adapter_limits = refl;
-      agree = agree limits.requests [];
+      uses = λ q. [];
+      wants = λ q. false;
+      writes = writes limits.requests 0 [];
+      announces = announces limits.requests 0 [];
       up = tt;
       kept = tt;
       asked = tt;
@@ -23,13 +27,13 @@ fresh-stands laws limits debuggee =
       client_within = laws.client_stays.fresh limits;
       adapter_within = laws.adapter_stays.fresh limits;
       quiet = λ e. refl;
-      launches = tt;
     }
 
 step-stands : {D : Type 0} (laws : Laws) (shown : D → Shown) (follows : Goes D) (limits : Settings) (old new : World D) → AreInRange limits → Step shown follows old new → Stands limits old → Stands limits new
 step-stands laws shown follows limits old new r (by_sending call t) g = send-stands laws limits call old new r t g
 step-stands laws shown follows limits old new r (by_coming_up t) g = up-stands laws follows limits old new t g
-step-stands laws shown follows limits old new r (by_coming_down t) g = down-stands laws limits old new t g
+step-stands laws shown follows limits old new r (by_coming_down t) g = down-stands laws limits old new r t g
+step-stands laws shown follows limits old new r (by_answering q terminal t) g = answer-stands laws limits q terminal old new t g
 step-stands laws shown follows limits old new r (by_turning t) g = turn-stands laws shown follows limits old new r t g
 step-stands laws shown follows limits old new r (by_polling t) g = poll-stands laws follows limits old new t g
 

@@ -1,5 +1,5 @@
 -- Schedules that are played out, step by step: each world is computed from the one before, where a debuggee's answers are.
-use Rattle.std.proofs.Common.{◌≡◌, true, codes, List, [], ◌∷◌, Option, Some, None, Result, Ok, Err, refl, sym, subst}
+use Rattle.std.proofs.Common.{◌≡◌, ℕ, true, codes, List, [], ◌∷◌, Option, Some, None, Result, Ok, Err, refl, sym, subst}
 use Rattle.std.specs.Prelude.{◌++◌, ◌≤◌, IsTrue, false}
 use Rattle.std.specs.List.{AllByRecursion}
 use Rattle.dap_frame.specs.Settings.{Settings}
@@ -22,7 +22,9 @@ use Rattle.dap_session.specs.Taking.{takes}
 use Rattle.dap_client.specs.declared.fault.ClientFault.{ClientFault}
 use Rattle.dap_client.specs.Sending.{first_of, refusals_in_order, next_message, after_send}
 use Rattle.dap_client.specs.Taking.{Made as ClientMade, takes as client_takes}
-use Rattle.dap_world.specs.World.{AdapterStep, World, Said, said_by, messages_of, client_said, adapter_said, by_sending, by_coming_up, by_coming_down, by_turning, by_polling, Schedule, goes}
+use Rattle.dap_client.specs.TerminalResponse.{is_plain_terminal, first_terminal_refusal, next_terminal_response, after_terminal_response}
+use Rattle.dap_client.specs.declared.terminal.Terminal.{Terminal}
+use Rattle.dap_world.specs.World.{AdapterStep, World, Said, said_by, messages_of, client_said, adapter_said, by_sending, by_answering, by_coming_up, by_coming_down, by_turning, by_polling, Schedule, goes}
 use Rattle.dap_world.proofs.Arriving.{messages-more}
 
 -- ---- words of the examples
@@ -59,6 +61,10 @@ carried replies (asking act makes) v = ((replies act v).0, (refl, refl), refl)
 
 abbrev pub sent : {D : Type 0} → Call → World D → World D
 sent c w = client_said (after_send c w.client) (next_message w.client c ∷ []) w
+
+-- a request of the adapter is answered
+abbrev pub answered : {D : Type 0} → ℕ → Terminal → World D → World D
+answered q terminal w = client_said (after_terminal_response q w.client) (next_terminal_response w.client q terminal ∷ []) w
 
 abbrev pub out_of : {D : Type 0} → Replies D → Plan → World D → List Message
 out_of replies plan w = written_by w.adapter.session (made_by replies plan w.adapter.debuggee)
@@ -120,6 +126,11 @@ module _ {D : Type 0} (shown : D → Shown) (replies : Replies D) (limits : Sett
   sends c w plain free same s = λ h.
       let p = both_read limits.body w.said Client (next_message w.client c ∷ []) h in
       goes w (sent c w) (s p.0) (by_sending c (record { plain = plain; free = free; reads_back = subst (λ (z : Settings). ReadsBack z.body (next_message w.client c)) (sym same) p.1.0; is = refl }))
+
+  pub answers : (q : ℕ) (terminal : Terminal) (w : World D) → IsTrue (is_plain_terminal terminal) → first_terminal_refusal q false w.client ≡ None → w.client.limits ≡ limits → Leads w → Leads (answered q terminal w)
+  answers q terminal w plain free same s = λ h.
+      let p = both_read limits.body w.said Client (next_terminal_response w.client q terminal ∷ []) h in
+      goes w (answered q terminal w) (s p.0) (by_answering q terminal (record { plain = plain; free = free; reads_back = subst (λ (z : Settings). ReadsBack z.body (next_terminal_response w.client q terminal)) (sym same) p.1.0; is = refl }))
 
   abbrev step_so : (plan : Plan) (w left : World D) → AllReadBack w.adapter.session.limits.body (out_of replies plan w) → AdapterStep (FollowsBy replies) plan w left (adapter_said (seat_after replies plan w) (out_of replies plan w) left)
   step_so plan w left back = record {

@@ -18,7 +18,9 @@ returns-in_err-bytes-clause-debuggee g c =
     rw (p.1, p.2) (λ other. named_stays c.in_err-bytes.field-0.0 (takes c.in-Some.message c.args.session.now.session) c.args.session.now.debuggee c.take.new.self.debuggee c.in_err-bytes.ensures.refused other c.in_err-bytes.ensures.unasked)
 
 pub returns-in_err-bytes-clause-unasked : goal.returns-in_err-bytes-clause-unasked
-returns-in_err-bytes-clause-unasked g c = λ apart. apart_stays c.in-Some.message c.args.session.now.session c.args.session.now.debuggee c.take.new.self.debuggee apart c.in_err-bytes.ensures.unasked
+returns-in_err-bytes-clause-unasked g c =
+    let p = err_from_is_err_and c.from_residual.result c.from_residual.ensures.1 in
+    rw p.1 (λ apart. apart_stays c.in-Some.message c.args.session.now.session c.args.session.now.debuggee c.take.new.self.debuggee apart c.in_err-bytes.ensures.unasked)
 
 pub returns-in-Err-clause-refused : goal.returns-in-Err-clause-refused
-returns-in-Err-clause-refused g c = unread_refused c.args.reader.now.intake c.args.session.now c.args.piece.now c.in-Err.fault c.refused_by.result c.in-Err.ensures.refused c.refused_by.ensures
+returns-in-Err-clause-refused g c = unread_refused c.args.reader.now.intake c.args.session.now c.args.piece.now c.in-Err.fault c.refused_by.result (c.in-Err.ensures.refused c.requires) c.refused_by.ensures

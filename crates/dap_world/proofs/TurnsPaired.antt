@@ -1,0 +1,236 @@
+-- A turn of both adapters: whether it asks for a terminal, what was announced then, and what it writes where it does.
+use Rattle.std.proofs.Common.{◌≡◌, ℕ, ◌+◌, List, [], ◌∷◌, ◌++◌, length, Bool, true, false, Option, Some, None, Ok, refl, sym, ap, ◌∙◌, subst, arith, append_assoc}
+use Rattle.std.specs.Prelude.{◌&&◌, ◌||◌, if◌then◌else◌}
+use Rattle.std.specs.List.{list_any}
+use Rattle.std.proofs.lemmas.List.{map-append}
+use Rattle.serde_json.specs.Data.{Data}
+use Rattle.dap_ends.specs.Messages.{Ask, code, Request}
+use Rattle.dap_ends.specs.Messages as small
+use Rattle.dap_ends.specs.AdapterModel.{AdapterModel, AdapterPhase, Made as SmallMade, Kept as SmallKept, asks as small_asks, oldest as small_oldest, parked_of, is_parked_phase, would_start, after_asking_turn, adapter_model_turns}
+use Rattle.dap_ends.specs.AdapterModel as desk
+use Rattle.dap_ends.specs.References.{Ref, Table, given_by, table_after}
+use Rattle.dap_ends.specs.Pair.{NumberedNote, WrittenNote, Pair, PairTurn, terminal_ask, launch_seq, turn_asks, terminal_after_command, terminal_after_turn, sets_variable, unless_sets_variable, numbered_notes, notes_written_by, pair_after_adapter, pair_asks_terminal, pair_after_turn, pair_turns, pair_happens}
+use Rattle.dap_ends.specs.Standing.{AllLaunch}
+use Rattle.dap_ends.specs.Messages.{one_if}
+use Rattle.dap_message.specs.Argument.{Read}
+use Rattle.dap_message.specs.Call.{call_of, cancel_of}
+use Rattle.dap_message.specs.CallTree.{command_of as command_in}
+use Rattle.dap_message.specs.Command.{command_named}
+use Rattle.dap_message.specs.Terminal.{terminal_members}
+use Rattle.dap_message.specs.Types.Call.{Call}
+use Rattle.dap_message.specs.Types.Call.TheVariants as call
+use Rattle.dap_message.specs.Types.Command.{Command}
+use Rattle.dap_message.specs.Types.Command.TheVariants as command
+use Rattle.dap_message.specs.declared.message.Message.{Message}
+use Rattle.dap_history.specs.History.{Asked}
+use Rattle.dap_history.specs.Requests.{asks as all_asks}
+use Rattle.dap_tables.specs.Outstanding.{Kept}
+use Rattle.dap_tables.specs.declared.entry.Entry.{Entry}
+use Rattle.dap_check.specs.declared.line.Side.TheVariants.{Adapter}
+use Rattle.dap_session.specs.Answering.{GoesWell}
+use Rattle.dap_session.specs.Handling.{is_launch, names_terminal, wants_terminal, parked_wants_terminal}
+use Rattle.dap_session.specs.Plan.{Draft, reply, emit, ask, Made, message_of, numbered_messages, request_of, requests_in}
+use Rattle.dap_session.specs.Session.{Session, own_request, own_requests}
+use Rattle.dap_session.specs.declared.options.Options.{Options}
+use Rattle.dap_session.specs.declared.phase.Phase.{Phase}
+use Rattle.dap_session.specs.declared.phase.Phase.TheVariants as adapter
+use Rattle.dap_world.specs.Projection.{class_of, class_if, ask_of, entry_ask, note_seen, notes_seen, written_seen, adapter_model_phase, all_kept, adapter_model_of, announces, wanted_by, wanted_of, own_seen, pair_of, kept_seen}
+use Rattle.dap_world.specs.World.{World, said_by}
+use Rattle.dap_world.proofs.Answered.{AllHarmless}
+use Rattle.dap_world.proofs.KeptSeen.{told, all_told}
+use Rattle.dap_world.proofs.Paired.{notes-append, written-more, keeps-all, note-told, told-length, inspection-same, table-stays, none-either, own-stays, same-adapter, made-pair, world_made}
+use Rattle.dap_world.proofs.RowsSeen.{asks_by, options_by}
+use Rattle.dap_world.proofs.Standing.{IsOwn, AllOwn}
+use Rattle.dap_world.proofs.TurnsSeen.{Handled, IsTurn, IsAskingTurn}
+
+-- ---- the launch at hand
+
+and-false : (b : Bool) → (b && false) ≡ false
+and-false true = refl
+and-false false = refl
+
+or-false : (b : Bool) → (b || false) ≡ b
+or-false true = refl
+or-false false = refl
+
+both-or : (s w r : Bool) → ((s && w) || (s && r)) ≡ (s && (w || r))
+both-or true w r = refl
+both-or false w r = refl
+
+-- of a launch it is told what it wants; an attach wants nothing
+launch-wants : (o : Option Command) (arguments : Option Data) → code (class_if o) ≡ 1 → wanted_by o arguments ≡ (is_launch o && names_terminal arguments)
+launch-wants None arguments h = refl
+launch-wants (Some command.Initialize) arguments h = absurd (omega (arith, h))
+launch-wants (Some command.Launch) arguments h = refl
+launch-wants (Some _) arguments h = refl
+
+launch-tail : (b : Bool) (k : SmallKept) (ks : List SmallKept) → AllLaunch (if b then k ∷ ks else ks) → AllLaunch ks
+launch-tail true k ks l = l.1
+launch-tail false k ks l = l
+
+launch-head : (b : Bool) (k : SmallKept) (ks : List SmallKept) → AllLaunch (if b then k ∷ ks else ks) → b ≡ true → code k.ask.command ≡ 1
+launch-head true k ks l e = l.0
+launch-head false k ks l e = cc
+
+module _ (options : Options) (wants : ℕ → Bool) (used : ℕ) where
+  abbrev any_wants : List Ask → Bool
+  any_wants xs = list_any (λ (a : Ask). wants a.seq) xs
+
+  parked-here : (b w : Bool) (k : SmallKept) (ks : List SmallKept) (rest : Bool) → (b ≡ true → w ≡ (options.supports_run_in_terminal_request && wants k.ask.seq))
+      → rest ≡ (options.supports_run_in_terminal_request && any_wants (small_asks ks)) → ((b && w) || rest) ≡ (options.supports_run_in_terminal_request && any_wants (small_asks (if b then k ∷ ks else ks)))
+  parked-here true w k ks rest h e =
+      ap (λ (x : Bool). x || rest) (h refl)
+      ∙ (ap (λ (x : Bool). (options.supports_run_in_terminal_request && wants k.ask.seq) || x) e ∙ both-or options.supports_run_in_terminal_request (wants k.ask.seq) (any_wants (small_asks ks)))
+  parked-here false w k ks rest h e = e
+
+  parked-wants : (ks : List Kept) → AllOwn wants used (all_asks ks) → AllLaunch (parked_of (all_kept ks)) → parked_wants_terminal options ks ≡ (options.supports_run_in_terminal_request && any_wants (small_asks (parked_of (all_kept ks))))
+  parked-wants [] o l = sym (and-false options.supports_run_in_terminal_request)
+  parked-wants (k ∷ ks) o l =
+      parked-here k.parked (wants_terminal options k.entry) (kept_seen k) (parked_of (all_kept ks)) (parked_wants_terminal options ks)
+      (λ e. ap (λ (x : Bool). options.supports_run_in_terminal_request && x) (sym (launch-wants (command_named k.entry.command) k.entry.arguments (launch-head k.parked (kept_seen k) (parked_of (all_kept ks)) l e)) ∙ sym o.0.wanted))
+      (parked-wants ks o.1 (launch-tail k.parked (kept_seen k) (parked_of (all_kept ks)) l))
+
+  one-wants : (a : Ask) (ls : List Ask) → length ls ≡ 1 → any_wants ls ≡ wants (launch_seq small.ConfigurationDone a ls)
+  one-wants a [] h = absurd (omega (arith, h))
+  one-wants a (l ∷ []) h = or-false (wants l.seq)
+  one-wants a (l ∷ m ∷ ls) h = absurd (omega (arith, h))
+
+length-asks : (ks : List SmallKept) → length (small_asks ks) ≡ length ks
+length-asks [] = refl
+length-asks (k ∷ ks) = let ih = length-asks ks in omega arith
+
+-- whether a turn asks, by phase and command
+abbrev would : AdapterPhase → small.Command → Bool → (ℕ → Bool) → Ask → List Ask → Bool
+would p c announced wants a ls = would_start p c && (announced && wants (launch_seq c a ls))
+
+would-is : (p : Phase) (c : Command) (s : Session) (r : Entry) (wants : ℕ → Bool) (used : ℕ) → command_named r.command ≡ Some c → wants r.seq ≡ wanted_of r → AllOwn wants used (all_asks s.kept) → AllLaunch (parked_of (all_kept s.kept))
+    → length (parked_of (all_kept s.kept)) ≡ one_if (is_parked_phase (adapter_model_phase p))
+    → would (adapter_model_phase p) (class_of c) s.options.supports_run_in_terminal_request wants (entry_ask r) (small_asks (parked_of (all_kept s.kept))) ≡ asks_by p c s r
+would-is adapter.Configured command.Launch s r wants used named w o l n =
+    ap (λ (x : Bool). s.options.supports_run_in_terminal_request && x) (w ∙ launch-wants (command_named r.command) r.arguments (ap (λ (x : Option Command). code (class_if x)) named))
+would-is adapter.Configured command.Attach s r wants used named w o l n =
+    ap (λ (x : Bool). s.options.supports_run_in_terminal_request && x) (w ∙ ap (λ (x : Option Command). wanted_by x r.arguments) named) ∙ and-false s.options.supports_run_in_terminal_request
+would-is adapter.Parked command.ConfigurationDone s r wants used named w o l n =
+    let many = length-asks (parked_of (all_kept s.kept)) in
+    ap (λ (x : Bool). s.options.supports_run_in_terminal_request && x) (sym (one-wants s.options wants used (entry_ask r) (small_asks (parked_of (all_kept s.kept))) (many ∙ n))) ∙ sym (parked-wants s.options wants used s.kept o l)
+would-is _ _ s r wants used named w o l n = refl
+
+pub turn-asks : {D : Type 0} (w : World D) (uses : ℕ → List Ref) (wants : ℕ → Bool) (used : ℕ) (h : Handled w.adapter.session) → wants h.k.entry.seq ≡ wanted_of h.k.entry → AllOwn wants used (all_asks w.adapter.session.kept)
+    → AllLaunch (parked_of (all_kept w.adapter.session.kept)) → length (parked_of (all_kept w.adapter.session.kept)) ≡ one_if (is_parked_phase (adapter_model_phase w.adapter.session.phase))
+    → turn_asks (pair_of w uses wants) (small_oldest (all_kept w.adapter.session.kept)) ≡ asks_by w.adapter.session.phase (command_in h.call) w.adapter.session h.k.entry
+turn-asks w uses wants used h k o l n =
+    let s : Session = w.adapter.session in
+    let ls = small_asks (parked_of (all_kept s.kept)) in
+    ap (λ (x : Option Ask). turn_asks (pair_of w uses wants) x) h.first
+    ∙ (ap (λ (x : Option Command). would (adapter_model_phase s.phase) (class_if x) s.options.supports_run_in_terminal_request wants (entry_ask h.k.entry) ls) h.named
+    ∙ would-is s.phase (command_in h.call) s h.k.entry wants used h.named k o l n)
+
+-- ---- what was announced
+
+read-announces : (a : Option Data) (r : Read Call) (c : Call) → r ≡ Ok c → announces r ≡ announces (Ok c)
+read-announces a r c e = ap announces e
+
+announced-by : (p : Phase) (asked : Call) (s : Session) (wanted : Bool) (arguments : Option Data) → call_of (command_in asked) arguments ≡ Ok asked → wanted ≡ wanted_by (Some (command_in asked)) arguments
+    → terminal_after_command (adapter_model_phase p) (class_of (command_in asked)) wanted s.options.supports_run_in_terminal_request ≡ (options_by p asked s).supports_run_in_terminal_request
+announced-by adapter.Fresh (call.Initialize a) s wanted arguments r w = w ∙ ap announces r
+announced-by _ _ s wanted arguments r w = refl
+
+pub turn-announced : {D : Type 0} (w : World D) (wants : ℕ → Bool) (h : Handled w.adapter.session) (options : Options) → wants h.k.entry.seq ≡ wanted_of h.k.entry → options ≡ options_by w.adapter.session.phase h.call w.adapter.session
+    → terminal_after_turn (adapter_model_phase w.adapter.session.phase) (small_oldest (all_kept w.adapter.session.kept)) wants w.adapter.session.options.supports_run_in_terminal_request ≡ options.supports_run_in_terminal_request
+turn-announced w wants h options k e =
+    let s : Session = w.adapter.session in
+    let p = adapter_model_phase s.phase in
+    let old = s.options.supports_run_in_terminal_request in
+    ap (λ (x : Option Ask). terminal_after_turn p x wants old) h.first
+    ∙ (ap (λ (x : Option Command). terminal_after_command p (class_if x) (wants h.k.entry.seq) old) h.named
+    ∙ (announced-by s.phase h.call s (wants h.k.entry.seq) h.k.entry.arguments h.read (k ∙ ap (λ (x : Option Command). wanted_by x h.k.entry.arguments) h.named)
+    ∙ ap (λ (x : Options). x.supports_run_in_terminal_request) (sym e)))
+
+-- ---- a turn
+
+none-set : {A : Type 0} (b : Bool) → unless_sets_variable b (let xs : List A = [] in xs) ≡ []
+none-set true = refl
+none-set false = refl
+
+pub turn-pair : {D : Type 0} (n : ℕ) (w : World D) (uses : ℕ → List Ref) (wants : ℕ → Bool) (made : Made) (v : D) (t : IsTurn w.adapter.session made)
+    → turn_asks (pair_of w uses wants) (small_oldest (all_kept w.adapter.session.kept)) ≡ false → wants t.handled.k.entry.seq ≡ wanted_of t.handled.k.entry → GoesWell w.adapter.session [] None made
+    → pair_happens n 0 (pair_of w uses wants) (PairTurn t.ok [] []) ≡ pair_of (world_made w w.up made v) uses wants
+turn-pair n w uses wants made v t none k g =
+    let s : Session = w.adapter.session in
+    let p : Pair = pair_of w uses wants in
+    let o = small_oldest (all_kept s.kept) in
+    let d : AdapterModel = adapter_model_of s in
+    let table : Table = record { base = 0; live = [] } in
+    let announced = terminal_after_turn (adapter_model_phase s.phase) o wants s.options.supports_run_in_terminal_request in
+    ap (λ (b : Bool). if b then pair_asks_terminal p else pair_after_turn 0 p t.ok (unless_sets_variable (sets_variable o) []) (unless_sets_variable (sets_variable o) [])) none
+    ∙ (ap (λ (more : List Bool). pair_after_turn 0 p t.ok more (unless_sets_variable (sets_variable o) [])) (none-set (sets_variable o))
+    ∙ (ap (λ (named : List Ref). pair_after_turn 0 p t.ok [] named) (none-set (sets_variable o))
+    ∙ (ap (λ (ok : Bool). pair_after_adapter (record p { terminal = announced }) (adapter_model_turns d ok) [] (table_after o (adapter_model_phase s.phase) ok table [])) (inspection-same o t.ok)
+    ∙ (ap (λ (x : Table). pair_after_adapter (record p { terminal = announced }) (adapter_model_turns d t.ok) [] x) (table-stays o (adapter_model_phase s.phase) t.ok)
+    ∙ made-pair w uses wants w.up made v (adapter_model_turns d t.ok) announced (own_seen (own_requests s.asked)) t.after t.outs t.harmless g.used (turn-announced w wants t.handled made.after.options k t.options_are) (ap own_seen (sym (own-stays s [] made g t.harmless)))))))
+
+-- ---- a turn that asks for a terminal
+
+request-note : (q : ℕ) → note_seen (message_of q ask) ≡ (let m : NumberedNote = record { seq = q; note = record { message = Request (terminal_ask q) 0; refs = [] } } in m)
+unfolding cancel_of terminal_members
+request-note q = refl
+
+abbrev note_asking : ℕ → NumberedNote
+note_asking q = record { seq = q; note = record { message = Request (terminal_ask q) 0; refs = [] } }
+
+numbered-asking : (used : ℕ) (ds : List Draft) → AllHarmless ds → notes_seen (numbered_messages used (ds ++ ask ∷ [])) ≡ numbered_notes used [] (all_told ds) ++ note_asking (used + length ds + 1) ∷ []
+numbered-asking used [] h = let e : used + 1 ≡ used + 0 + 1 = omega arith in ap (λ (m : NumberedNote). m ∷ []) (request-note (used + 1)) ∙ ap (λ (n : ℕ). note_asking n ∷ []) e
+numbered-asking used (d ∷ ds) h =
+    let e : used + 1 + length ds + 1 ≡ used + length (d ∷ ds) + 1 = omega arith in
+    ap (λ (m : NumberedNote). m ∷ notes_seen (numbered_messages (used + 1) (ds ++ ask ∷ []))) (note-told (used + 1) d h.0)
+    ∙ (ap (λ (ms : List NumberedNote). let m : NumberedNote = record { seq = used + 1; note = record { message = told d; refs = given_by (told d) [] } } in m ∷ ms) (numbered-asking (used + 1) ds h.1)
+    ∙ ap (λ (n : ℕ). numbered_notes used [] (all_told (d ∷ ds)) ++ note_asking n ∷ []) e)
+
+one-requested : (used : ℕ) (ds : List Draft) → AllHarmless ds → requests_in used (ds ++ ask ∷ []) ≡ own_request (used + length ds + 1) ∷ []
+one-requested used [] h = let e : used + 1 ≡ used + 0 + 1 = omega arith in ap (λ (n : ℕ). own_request n ∷ []) e
+one-requested used (reply r answer ∷ ds) h = let e : used + 1 + length ds + 1 ≡ used + length (reply r answer ∷ ds) + 1 = omega arith in one-requested (used + 1) ds h.1 ∙ ap (λ (n : ℕ). own_request n ∷ []) e
+one-requested used (emit event ∷ ds) h = let e : used + 1 + length ds + 1 ≡ used + length (emit event ∷ ds) + 1 = omega arith in one-requested (used + 1) ds h.1 ∙ ap (λ (n : ℕ). own_request n ∷ []) e
+one-requested used (ask ∷ ds) h = absurd h.0
+
+own-asking : (s : Session) (made : Made) (before : List Draft) → GoesWell s [] None made → AllHarmless before → made.drafts ≡ before ++ ask ∷ [] → own_seen (own_requests made.after.asked) ≡ own_seen (own_requests s.asked) ++ terminal_ask (s.used + length before + 1) ∷ []
+own-asking s made before g h e =
+    ap own_seen (g.asked ∙ (ap (λ (qs : List Asked). qs ++ requests_in s.used made.drafts) (keeps-all (own_requests s.asked))
+    ∙ (ap (λ (ds : List Draft). own_requests s.asked ++ requests_in s.used ds) e
+    ∙ ap (λ (qs : List Asked). own_requests s.asked ++ qs) (one-requested s.used before h))))
+    ∙ map-append (λ (q : Asked). ask_of q.seq q.command) (own_requests s.asked) (own_request (s.used + length before + 1) ∷ [])
+
+length-more : (ds : List Draft) → length (ds ++ ask ∷ []) ≡ length ds + 1
+length-more [] = refl
+length-more (d ∷ ds) = let ih = length-more ds in omega arith
+
+notes-by-more : (xs : List NumberedNote) (y : NumberedNote) → notes_written_by false (xs ++ y ∷ []) ≡ notes_written_by false xs ++ (let l : WrittenNote = record { by_client = false; numbered = y } in l) ∷ []
+notes-by-more [] y = refl
+notes-by-more (x ∷ xs) y = ap (λ (ls : List WrittenNote). let l : WrittenNote = record { by_client = false; numbered = x } in l ∷ ls) (notes-by-more xs y)
+
+pub asking-pair : {D : Type 0} (n : ℕ) (w : World D) (uses : ℕ → List Ref) (wants : ℕ → Bool) (made : Made) (v : D) (t : IsAskingTurn w.adapter.session made)
+    → turn_asks (pair_of w uses wants) (small_oldest (all_kept w.adapter.session.kept)) ≡ true → GoesWell w.adapter.session [] None made
+    → pair_happens n 0 (pair_of w uses wants) (PairTurn true [] []) ≡ pair_of (world_made w w.up made v) uses wants
+asking-pair n w uses wants made v t one g =
+    let s : Session = w.adapter.session in
+    let p : Pair = pair_of w uses wants in
+    let o = small_oldest (all_kept s.kept) in
+    let x : SmallMade = after_asking_turn o (adapter_model_of s) in
+    let many : length x.outs ≡ length t.before = ap length (sym t.outs) ∙ told-length t.before in
+    let all : length made.drafts ≡ length t.before + 1 = ap length t.drafts_are ∙ length-more t.before in
+    let used = g.used in
+    let next : s.used + length x.outs + 1 ≡ s.used + length t.before + 1 = omega (arith, many) in
+    let notes : numbered_notes s.used [] x.outs ++ note_asking (s.used + length x.outs + 1) ∷ [] ≡ notes_seen (numbered_messages s.used made.drafts) =
+    ap (λ (ms : List small.Message). numbered_notes s.used [] ms ++ note_asking (s.used + length x.outs + 1) ∷ []) (sym t.outs)
+    ∙ (ap (λ (k : ℕ). numbered_notes s.used [] (all_told t.before) ++ note_asking k ∷ []) next
+    ∙ (sym (numbered-asking s.used t.before t.harmless) ∙ ap (λ (ds : List Draft). notes_seen (numbered_messages s.used ds)) (sym t.drafts_are))) in
+    ap (λ (b : Bool). if b then pair_asks_terminal p else pair_after_turn 0 p true (unless_sets_variable (sets_variable o) []) (unless_sets_variable (sets_variable o) [])) one
+    ∙ same-adapter p x.desk (adapter_model_of made.after) s.options.supports_run_in_terminal_request made.after.options.supports_run_in_terminal_request (s.used + length x.outs + 1) made.after.used
+    (own_seen (own_requests s.asked) ++ terminal_ask (s.used + length x.outs + 1) ∷ []) (own_seen (own_requests made.after.asked))
+    ((notes_seen w.down ++ numbered_notes s.used [] x.outs) ++ note_asking (s.used + length x.outs + 1) ∷ []) (notes_seen (w.down ++ numbered_messages s.used made.drafts))
+    ((written_seen w.said ++ notes_written_by false (numbered_notes s.used [] x.outs)) ++ (let l : WrittenNote = record { by_client = false; numbered = note_asking (s.used + length x.outs + 1) } in l) ∷ []) (written_seen (w.said ++ said_by Adapter (numbered_messages s.used made.drafts)))
+    (sym t.after) (ap (λ (y : Options). y.supports_run_in_terminal_request) (sym t.options_are)) (omega (arith, many, all, used))
+    (ap (λ (k : ℕ). own_seen (own_requests s.asked) ++ terminal_ask k ∷ []) next ∙ sym (own-asking s made t.before g t.harmless t.drafts_are))
+    (append_assoc (notes_seen w.down) (numbered_notes s.used [] x.outs) (note_asking (s.used + length x.outs + 1) ∷ []) ∙ (ap (λ (ms : List NumberedNote). notes_seen w.down ++ ms) notes ∙ sym (notes-append w.down (numbered_messages s.used made.drafts))))
+    (append_assoc (written_seen w.said) (notes_written_by false (numbered_notes s.used [] x.outs)) ((let l : WrittenNote = record { by_client = false; numbered = note_asking (s.used + length x.outs + 1) } in l) ∷ [])
+    ∙ (ap (λ (ls : List WrittenNote). written_seen w.said ++ ls) (sym (notes-by-more (numbered_notes s.used [] x.outs) (note_asking (s.used + length x.outs + 1))) ∙ ap (λ (ms : List NumberedNote). notes_written_by false ms) notes)
+    ∙ sym (written-more w.said (numbered_messages s.used made.drafts))))
