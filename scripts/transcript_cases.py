@@ -666,6 +666,12 @@ CANCELLED = BEGUN + (
     b'< {"body":{"threads":[]},"command":"threads","request_seq":3,"seq":5,"success":true,"type":"response"}\n'
 )
 BEGIN = 'send initialize {"adapterID":"rec"}\nrun\n'
+TERMINAL = """send initialize {"adapterID":"rec","supportsRunInTerminalRequest":true}
+run
+send launch {"console":"terminal"}
+send configurationDone
+run
+"""
 STOP = BEGIN + 'send launch\nsend configurationDone\nrun\nsend stackTrace {"threadId":1}\nrun\n'
 SCOPES = 'send scopes {"frameId":1}'
 NEXT = 'send next {"threadId":1}'
@@ -692,11 +698,37 @@ def drives():
         expect(f"drive: {name}", drive(script), (0, wanted, b""))
         if checks:
             expect(f"drive: {name}: is legal", check(wanted), LEGAL)
+    drive_terminals(checks)
     drive_faults()
     drive_stopped(checks)
     drive_files()
     if checks:
         full_device()
+
+
+def drive_terminals(checks):
+    """What comes once the debuggee is to run in a terminal: the lines of the transcript after the adapter's request."""
+    asked = (
+        b'< {"command":"configurationDone","request_seq":3,"seq":3,"success":true,"type":"response"}\n'
+        b'< {"arguments":{"args":["recorded"],"cwd":"/","kind":"integrated","title":"recorded"},"command":"runInTerminal","seq":4,"type":"request"}\n'
+    )
+    started = (
+        b'> {"body":{},"command":"runInTerminal","request_seq":4,"seq":4,"success":true,"type":"response"}\n'
+        b'< {"command":"launch","request_seq":2,"seq":5,"success":true,"type":"response"}\n'
+    )
+    not_started = (
+        b'> {"body":{"error":{"format":"The terminal refused.","id":1018}},"command":"runInTerminal","message":"terminalRefused","request_seq":4,"seq":4,"success":false,"type":"response"}\n'
+        b'< {"body":{"error":{"format":"The debuggee refused.","id":1013}},"command":"launch","message":"debuggee","request_seq":2,"seq":5,"success":false,"type":"response"}\n'
+    )
+    for name, script, last in [
+        ("a terminal is asked for", TERMINAL, asked),
+        ("it runs in a terminal", TERMINAL + "terminal ok", asked + started),
+        ("a terminal is refused", TERMINAL + "terminal no\nrun", asked + not_started),
+    ]:
+        status, transcript, line = drive(script)
+        expect(f"drive: {name}", (status, transcript[-len(last) :], line), (0, last, b""))
+        if checks:
+            expect(f"drive: {name}: is legal", check(transcript), LEGAL)
 
 
 def drive_faults():
@@ -721,6 +753,12 @@ def drive_faults():
         ("a float in a launch", 'send launch {"a":[1.0]}', (), "Call at line 1"),
         ("a launch nested 101 deep", 'send launch {"a":' + "[" * 100 + "]" * 100 + "}", (), "Call at line 1"),
         ("a launch nested 100 deep", 'send launch {"a":' + "[" * 99 + "]" * 99 + "}", (), "WrongPhase at line 1"),
+        ("a terminal, and no word", "terminal", (), "Script at line 1"),
+        ("a terminal, and a word that is not known", "terminal maybe", (), "Script at line 1"),
+        ("a terminal, and two blanks", "terminal  ok", (), "Script at line 1"),
+        ("no terminal is wanted", "terminal ok", (), "Call at line 1"),
+        ("a terminal is answered twice", TERMINAL + "terminal ok\nterminal ok", (), "Call at line 7"),
+        ("no number left for a terminal", TERMINAL + "send threads\nterminal no", ("--max-seq", "4"), "Client"),
         ("too early", "send threads", (), "WrongPhase at line 1"),
         ("too early, after an answer", BEGIN + "send pause {\"threadId\":1}", (), "WrongPhase at line 3"),
         ("not offered", BEGIN + "send restart", (), "NotSupported at line 3"),

@@ -21,7 +21,7 @@ use Rattle.dap_session.specs.Taking.{takes}
 use Rattle.dap_session.specs.declared.fault.AdapterFault.{AdapterFault}
 use Rattle.dap_session.specs.declared.fault.AdapterFault.TheVariants as adapter_fault
 use Rattle.dap_adapter.specs.Calls.{Step, Takes as AdapterTakes, Delivers as AdapterDelivers, ClosedBy as AdapterClosedBy, TakeRefused as AdapterTakeRefused}
-use Rattle.dap_adapter.specs.AdapterState.{AdapterState}
+use Rattle.dap_adapter.specs.AdapterState.{AdapterState, state_of}
 use Rattle.dap_adapter.specs.Run.{to_take}
 use Rattle.dap_adapter.specs.declared.taken.Taken.{Taken}
 use Rattle.dap_check.specs.declared.line.Side.{Side}
@@ -403,16 +403,17 @@ module _ {D : Type 0} (laws : FrameLaws) (drive : Driving D) (agrees : EachSched
       let lacks : f ≡ adapter_fault.SeqExhausted = (agrees drive.limits drive.debuggee h.world h.at.in_range h.at.schedule).fault.up first.0 first.1 f first.2 closes in
       (h.world, h.delivers, (first.0, first.1, first.2, subst (λ (z : AdapterFault). takes first.0 h.world.adapter.session ≡ Err z) lacks closes))
 
-  pub adapter_stops : (ends : BothEnds D) (rest down : List ℕ) (h : At ends rest down) → 0 < length rest → (f : AdapterFault) → AdapterTakeRefused ends.adapter.intake ends.adapter.session rest f → StopsDelivering drive (fault_of_adapter f) start
-  adapter_stops ends rest down h some (adapter_fault.Frame fault) t =
+  pub adapter_stops : (ends : BothEnds D) (rest down : List ℕ) (h : At ends rest down) → 0 < length rest → (f : AdapterFault) (after : D) → AdapterTakeRefused ends.adapter.intake (state_of ends.adapter) rest f after → StopsDelivering drive (fault_of_adapter f) start
+  adapter_stops ends rest down h some (adapter_fault.Frame fault) after t =
       let a = h.at.adapter_at in
       absurd (not_closed laws.one_split (bounds_of drive.limits) laws.moves ends.adapter.intake t.closed a.came a.stands.received.bodies rest fault (map canon h.world.up) (header drive.limits h.at.in_range) (adapter_bounds laws drive.limits ends.adapter h.world.adapter a) (adapter_stream laws drive.limits ends.adapter h.world.adapter a) t.closes h.up_is)
-  adapter_stops ends rest down h some (adapter_fault.Body cause offset) t =
+  adapter_stops ends rest down h some (adapter_fault.Body cause offset) after t =
       let first = some_message drive.limits h.world.up rest h.up_is some in
       let is_first = first_up ends rest down h first.0 first.1 first.2 t.n t.whole in
       absurd (is_first.good cause t.bad)
-  adapter_stops ends rest down h some (adapter_fault.RepeatedSeq q) t = adapter_closed ends rest down h some (adapter_fault.RepeatedSeq q) t
-  adapter_stops ends rest down h some (adapter_fault.Unmatched q) t = adapter_closed ends rest down h some (adapter_fault.Unmatched q) t
-  adapter_stops ends rest down h some adapter_fault.Ended t = adapter_closed ends rest down h some adapter_fault.Ended t
-  adapter_stops ends rest down h some adapter_fault.SeqExhausted t = adapter_closed ends rest down h some adapter_fault.SeqExhausted t
-  adapter_stops ends rest down h some adapter_fault.OutOfMemory t = tt
+  adapter_stops ends rest down h some (adapter_fault.RepeatedSeq q) after t = adapter_closed ends rest down h some (adapter_fault.RepeatedSeq q) t
+  adapter_stops ends rest down h some (adapter_fault.Unmatched q) after t = adapter_closed ends rest down h some (adapter_fault.Unmatched q) t
+  adapter_stops ends rest down h some (adapter_fault.CommandMismatch q) after t = adapter_closed ends rest down h some (adapter_fault.CommandMismatch q) t
+  adapter_stops ends rest down h some adapter_fault.Ended after t = adapter_closed ends rest down h some adapter_fault.Ended t
+  adapter_stops ends rest down h some adapter_fault.SeqExhausted after t = adapter_closed ends rest down h some adapter_fault.SeqExhausted t
+  adapter_stops ends rest down h some adapter_fault.OutOfMemory after t = tt

@@ -1,6 +1,6 @@
 -- What an order comes to, from the calls of both ends.
-use Rattle.std.proofs.Common.{◌≡◌, ℕ, ◌+◌, ◌-◌, ◌*◌, ◌<◌, ◌≤◌, ◌==◌, List, [], ◌∷◌, ◌++◌, length, map, drop, Bool, true, false, None, Ok, Err, refl, sym, ap, ◌∙◌, subst, arith, append-nil}
-use Rattle.std.specs.Prelude.{◌||◌, not, if◌then◌else◌, IsTrue}
+use Rattle.std.proofs.Common.{◌≡◌, ℕ, ◌+◌, ◌-◌, ◌*◌, ◌<◌, ◌≤◌, ◌==◌, List, [], ◌∷◌, ◌++◌, length, map, drop, Bool, true, false, Option, Some, None, Ok, Err, refl, sym, ap, ◌∙◌, subst, arith, append-nil, inl, inr}
+use Rattle.std.specs.Prelude.{◌||◌, not, cond, nat_le, if◌then◌else◌, IsTrue}
 use Rattle.std.proofs.Math.Nat.{mul-le-mul_left}
 use Rattle.std.proofs.lemmas.Bool.Decides.{nat_tests}
 use Rattle.std.proofs.lemmas.List.{drop-drop, nil_from_length}
@@ -9,6 +9,7 @@ use Rattle.dap_frame.specs.Intake.{Intake, IsUnderWay, StandsFor as StandsForStr
 use Rattle.dap_frame.specs.Laws.{EachStreamHasOneSplit}
 use Rattle.dap_frame.specs.Settings.{Settings, AreInRange, bounds_of}
 use Rattle.dap_frame.specs.Stream.{Split}
+use Rattle.dap_frame.specs.Written.{frame_of}
 use Rattle.dap_frame.specs.declared.limits.Bounds.{Bounds}
 use Rattle.dap_history.specs.History.{Out}
 use Rattle.dap_message.specs.PlainCall.{is_plain_call}
@@ -24,31 +25,35 @@ use Rattle.dap_session.specs.declared.fault.AdapterFault.TheVariants as adapter_
 use Rattle.dap_session.specs.Table.{is_phase}
 use Rattle.dap_session.specs.declared.phase.Phase.{Phase}
 use Rattle.dap_session.specs.declared.phase.Phase.TheVariants.{Stopped}
-use Rattle.dap_tables.specs.Outstanding.{Kept}
+use Rattle.dap_tables.specs.Outstanding.{Kept, contains_seq}
 use Rattle.dap_adapter.specs.Calls.{Step, Handled, Saw, TurnRefused, PollRefused}
 use Rattle.dap_adapter.specs.AdapterState.{AdapterState}
 use Rattle.dap_adapter.specs.Run.{Next, to_take, to_turn, to_poll, after_poll, fresh_state}
 use Rattle.dap_adapter.specs.StandsFor.{StandsFor as AdapterStandsFor}
 use Rattle.dap_check.specs.declared.line.Side.TheVariants.{Client, Adapter}
 use Rattle.dap_client.specs.ClientState.{ClientState}
-use Rattle.dap_client.specs.Calls.{refusal_of}
+use Rattle.dap_client.specs.Calls.{refusal_of, answer_refusal_of, NotAnswered}
 use Rattle.dap_client.specs.Sending.{next_message, sent_bytes, after_send}
-use Rattle.dap_client.specs.Session.{Session as ClientSession, fresh_session}
+use Rattle.dap_client.specs.Session.{Session as ClientSession, fresh_session, oldest_of}
 use Rattle.dap_client.specs.StandsFor.{StandsFor as ClientStandsFor, GoesOn}
+use Rattle.dap_client.specs.TerminalResponse.{is_plain_terminal, first_terminal_refusal, next_terminal_response, terminal_response_bytes, after_terminal_response}
+use Rattle.dap_client.specs.declared.fault.AnswerFault.{AnswerFault}
+use Rattle.dap_client.specs.declared.fault.AnswerFault.TheVariants as answer_fault
+use Rattle.dap_client.specs.declared.terminal.Terminal.{Terminal}
 use Rattle.dap_message.specs.Canon.{canon}
 use Rattle.dap_message.specs.ReadBack.{ReadsBack, AllReadBack}
 use Rattle.dap_message.specs.declared.message.Message.{Message}
 use Rattle.dap_world.specs.Agreement.{EachScheduleAgrees}
-use Rattle.dap_world.specs.World.{World, fresh_world, client_said, adapter_said, Sends, Turns, Polls, Schedule, by_sending, by_turning, by_polling, starts, goes}
+use Rattle.dap_world.specs.World.{World, fresh_world, client_said, adapter_said, Sends, Answers, Turns, Polls, Step as WorldStep, Schedule, by_sending, by_answering, by_turning, by_polling, starts, goes}
 use Rattle.dap_drive.specs.Driven.{AdapterStops}
-use Rattle.dap_drive.specs.PrivateFaults.{FrameLaws, fault_of_adapter}
+use Rattle.dap_drive.specs.PrivateFaults.{FrameLaws, fault_of_adapter, fault_of_answer}
 use Rattle.dap_drive.specs.PrivateFrames.{AreFramesOf}
-use Rattle.dap_drive.specs.PrivateHeld.{Driving, BothEnds, IsClientAt, IsAdapterAt, HasDelivered, HasSettled, IsQuiet, HasDone, HasTurned, HasPolled, Spends, left_to_do, next_after_polls, StopsDelivering, StopsOrder, StopsSend}
+use Rattle.dap_drive.specs.PrivateHeld.{Driving, BothEnds, IsClientAt, IsAdapterAt, HasDelivered, HasSettled, IsQuiet, HasDone, HasTurned, HasPolled, Spends, left_to_do, next_after_polls, StopsDelivering, StopsOrder, StopsSend, StopsAnswer}
 use Rattle.dap_drive.specs.PrivateLines.{WritesLines, IsUnwritten}
-use Rattle.dap_drive.specs.Orders.{DoesSend, RunsTo, none, begins, handled, idles, polled, Reaches, in_send, before_turn, in_turn, before_poll, in_poll, in_run, in_run_turn, in_run_poll, LacksNumbers}
+use Rattle.dap_drive.specs.Orders.{Delivers, DoesSend, DoesAnswer, RunsTo, none, begins, handled, idles, polled, Reaches, in_send, in_answer, before_turn, in_turn, before_poll, in_poll, in_run, in_run_turn, in_run_poll, LacksNumbers}
 use Rattle.dap_drive.specs.declared.fault.DriveFault.{DriveFault}
 use Rattle.dap_drive.specs.declared.fault.DriveFault.TheVariants as fault
-use Rattle.dap_drive.specs.declared.script.Order.TheVariants.{Turn as ToTurn, Poll as ToPoll, Run as ToRun}
+use Rattle.dap_drive.specs.declared.script.Order.TheVariants.{Answer as ToAnswer, Turn as ToTurn, Poll as ToPoll, Run as ToRun}
 use Rattle.dap_drive.specs.declared.writing.Unwritten.TheVariants as unwritten
 use Rattle.dap_drive.proofs.Delivering.{longer, written, not_unwritten, adapter_steps, step_of, step_back, step_within, step_bytes, still_between}
 use Rattle.dap_drive.proofs.Streams.{none as no_frames, none_left, between_still}
@@ -167,26 +172,116 @@ ends_there made bytes phase h = ap (λ (b : Bool). if b then to_take else to_pol
 fresh_rest : (laws : EachStreamHasOneSplit) (b : Bounds) (i : Intake) (bodies : List (List ℕ)) (rest : List ℕ) → i.bounds ≡ b → StandsForStream i [] bodies rest → rest ≡ []
 fresh_rest laws b i bodies rest e st = (laws.one b [] bodies [] rest [] (subst (λ (z : Bounds). Split z [] bodies rest) e st.split) (no_frames laws b)).1
 
-module _ {D : Type 0} (laws : FrameLaws) (drive : Driving D) (agrees : EachScheduleAgrees drive.shown drive.follows) where
-  -- ---- the client sends
+-- ---- a message that the client writes by itself
 
-  client_sent : (e next : ClientState) (s : ClientSession) (call : Call) → IsClientAt drive.limits e s → next ≡ record e { session = after_send call e.session } → GoesOn e next [] (Out (next_message e.session call) [] ∷ []) → IsClientAt drive.limits next (after_send call s)
-  client_sent e next s call c is on =
+-- of each session, the one that comes of it, and the message
+pub record Writes : Type 0 where
+  pub after : ClientSession → ClientSession
+  pub out : ClientSession → Message
+  pub keeps : (s : ClientSession) → (after s).limits ≡ s.limits
+
+abbrev wrote : {D : Type 0} → Writes → World D → World D
+wrote x start = client_said (x.after start.client) (x.out start.client ∷ []) start
+
+abbrev sending : Call → Writes
+sending call = record { after = λ s. after_send call s; out = λ s. next_message s call; keeps = λ s. refl }
+
+abbrev answering : ℕ → Terminal → Writes
+answering request_seq terminal = record { after = λ s. after_terminal_response request_seq s; out = λ s. next_terminal_response s request_seq terminal; keeps = λ s. refl }
+
+-- ---- an answer
+
+-- the client may answer, and what it writes is read back
+pub record MayAnswer (e : ClientState) (request_seq : ℕ) (terminal : Terminal) : Type 0 where
+  pub plain : IsTrue (is_plain_terminal terminal)
+  pub oldest : oldest_of e.session.incoming ≡ Some request_seq
+  pub free : answer_refusal_of request_seq e ≡ None
+  pub reads_back : ReadsBack e.session.limits.body (next_terminal_response e.session request_seq terminal)
+
+-- ---- an answer that is refused
+
+some_self : (a b : Bool) → a ≡ true → (a || b) ≡ true
+some_self true b e = refl
+some_self false b e = absurd (cc e)
+
+same_number : (a b : ℕ) → a ≡ b → (a == b) ≡ true
+same_number a b e = grind (arith, nat_tests)
+
+-- the oldest request is kept
+oldest_is_kept : (kept : List Kept) (request_seq : ℕ) → oldest_of kept ≡ Some request_seq → contains_seq request_seq kept ≡ true
+oldest_is_kept [] request_seq e = absurd (cc e)
+oldest_is_kept (k ∷ kept) request_seq e =
+    let same : k.entry.seq ≡ request_seq = cc e in
+    some_self (k.entry.seq == request_seq) (contains_seq request_seq kept) (same_number k.entry.seq request_seq same)
+
+last_refusal : (a b : Bool) (f : AnswerFault) → a ≡ true → cond (not a) (Some answer_fault.NotKept) (cond b (Some answer_fault.SeqExhausted) None) ≡ Some f → f ≡ answer_fault.SeqExhausted
+last_refusal true true f kept e = cc e
+last_refusal true false f kept e = absurd (cc e)
+last_refusal false b f kept e = absurd (cc kept)
+
+-- so it is refused for want of numbers alone
+only_numbers : (request_seq : ℕ) (s : ClientSession) (f : AnswerFault) → oldest_of s.incoming ≡ Some request_seq → first_terminal_refusal request_seq false s ≡ Some f → f ≡ answer_fault.SeqExhausted
+only_numbers request_seq s f oldest e = last_refusal (contains_seq request_seq s.incoming) (nat_le s.limits.seq s.used) f (oldest_is_kept s.incoming request_seq oldest) e
+
+module _ {D : Type 0} (laws : FrameLaws) (drive : Driving D) (agrees : EachScheduleAgrees drive.shown drive.follows) where
+  -- ---- the client goes on by itself, and writes a message
+
+  client_wrote : (x : Writes) (e next : ClientState) (s : ClientSession) → IsClientAt drive.limits e s → next ≡ record e { session = x.after e.session } → GoesOn e next [] (Out (x.out e.session) [] ∷ []) → IsClientAt drive.limits next (x.after s)
+  client_wrote x e next s c is on =
       let stands = on c.came c.history c.stands in
       let same : next.intake ≡ e.intake = ap (λ (z : ClientState). z.intake) is in
-      let bounds : e.intake.bounds ≡ bounds_of drive.limits = c.stands.bounds ∙ (ap (λ (x : ClientSession). bounds_of x.limits) c.session_is ∙ ap bounds_of c.limits_are) in
+      let bounds : e.intake.bounds ≡ bounds_of drive.limits = c.stands.bounds ∙ (ap (λ (y : ClientSession). bounds_of y.limits) c.session_is ∙ ap bounds_of c.limits_are) in
       record {
-        session_is = ap (λ (z : ClientState). z.session) is ∙ ap (λ (z : ClientSession). after_send call z) c.session_is;
-        limits_are = c.limits_are;
+        session_is = ap (λ (z : ClientState). z.session) is ∙ ap x.after c.session_is;
+        limits_are = x.keeps s ∙ c.limits_are;
         came = c.came ++ [];
-        history = c.history ++ (Out (next_message e.session call) [] ∷ []);
+        history = c.history ++ (Out (x.out e.session) [] ∷ []);
         stands = stands;
         between = between_still laws.one_split (bounds_of drive.limits) e.intake next.intake c.came (c.came ++ []) c.stands.received.bodies stands.received.bodies stands.received.rest bounds
             (subst (λ (z : List ℕ). StandsForStream e.intake c.came c.stands.received.bodies z) c.between c.stands.received.stream) (ap (λ (z : Intake). z.bounds) same ∙ bounds) stands.received.stream (append-nil c.came);
       }
 
+  written_back : (x : Writes) (ends : BothEnds D) (start : World D) (q : IsQuiet drive ends start) → ReadsBack ends.client.session.limits.body (x.out ends.client.session) → AllReadBack drive.limits.body (x.out start.client ∷ [])
+  written_back x ends start q back =
+      let c = q.at.client_at in
+      let there : ReadsBack start.client.limits.body (x.out start.client) = subst (λ (z : ClientSession). ReadsBack z.limits.body (x.out z)) c.session_is back in
+      (subst (λ (z : Settings). ReadsBack z.body (x.out start.client)) c.limits_are there, tt)
+
+  written_are : (x : Writes) (ends : BothEnds D) (start : World D) (bytes : List ℕ) (q : IsQuiet drive ends start) → bytes ≡ frame_of (canon (x.out ends.client.session)) → bytes ≡ bytes_of (x.out start.client ∷ [])
+  written_are x ends start bytes q is = is ∙ (ap (λ (z : ClientSession). frame_of (canon (x.out z))) q.at.client_at.session_is ∙ sym (append-nil (frame_of (canon (x.out start.client)))))
+
+  wrote_framed : (x : Writes) (ends : BothEnds D) (bytes : List ℕ) (start : World D) (q : IsQuiet drive ends start) → ReadsBack ends.client.session.limits.body (x.out ends.client.session) → bytes ≡ frame_of (canon (x.out ends.client.session))
+      → IsUnwritten unwritten.Frames ends.reader bytes → ⊥
+  wrote_framed x ends bytes start q back is refuses =
+      not_unwritten laws drive.limits (x.out start.client ∷ []) bytes ends.reader q.at.in_range (written_back x ends start q back) (written_are x ends start bytes q is) q.at.reader_at refuses
+
+  -- the message is under way
+  under_way : (x : Writes) (ends : BothEnds D) (next : ClientState) (later : Intake) (longer_transcript bytes : List ℕ) (start : World D) (q : IsQuiet drive ends start)
+      → WorldStep drive.shown drive.follows start (wrote x start) → ReadsBack ends.client.session.limits.body (x.out ends.client.session) → bytes ≡ frame_of (canon (x.out ends.client.session))
+      → next ≡ record ends.client { session = x.after ends.client.session } → GoesOn ends.client next [] (Out (x.out ends.client.session) [] ∷ []) → WritesLines drive.limits later Client bytes ends.transcript longer_transcript
+      → HasDelivered drive (wrote x start) (record ends { client = next; reader = later; transcript = longer_transcript }) bytes []
+  under_way x ends next later longer_transcript bytes start q step back are is goes_so w =
+      let out : List Message = x.out start.client ∷ [] in
+      let lines = written laws drive.limits Client out bytes ends.transcript longer_transcript later q.at.in_range (written_back x ends start q back) (written_are x ends start bytes q are) w in
+      record {
+        world = wrote x start;
+        delivers = none;
+        at = record {
+          in_range = q.at.in_range;
+          schedule = goes start (wrote x start) q.at.schedule step;
+          client_at = client_wrote x ends.client next start.client q.at.client_at is goes_so;
+          adapter_at = q.at.adapter_at;
+          reader_at = w.between;
+          transcript_is = longer laws drive.limits Client out start.said ends.transcript longer_transcript q.at.transcript_is lines.lines;
+        };
+        up_is = subst (λ (z : List Message). AreFramesOf drive.limits (z ++ out) bytes) (sym q.none_up) lines.frames;
+        down_is = nothing_framed drive.limits start.down q.none_down;
+      }
+
+  -- ---- the client sends
+
   sends_so : (ends : BothEnds D) (start : World D) (call : Call) (q : IsQuiet drive ends start) → IsTrue (is_plain_call call) → refusal_of call ends.client ≡ None → ReadsBack ends.client.session.limits.body (next_message ends.client.session call)
-      → Sends call start (client_said (after_send call start.client) (next_message start.client call ∷ []) start)
+      → Sends call start (wrote (sending call) start)
   sends_so ends start call q plain free back =
       let c = q.at.client_at in
       record {
@@ -196,42 +291,16 @@ module _ {D : Type 0} (laws : FrameLaws) (drive : Driving D) (agrees : EachSched
         is = refl;
       }
 
-  sent_back : (ends : BothEnds D) (start : World D) (call : Call) (q : IsQuiet drive ends start) → ReadsBack ends.client.session.limits.body (next_message ends.client.session call) → AllReadBack drive.limits.body (next_message start.client call ∷ [])
-  sent_back ends start call q back =
-      let c = q.at.client_at in
-      let there : ReadsBack start.client.limits.body (next_message start.client call) = subst (λ (z : ClientSession). ReadsBack z.limits.body (next_message z call)) c.session_is back in
-      (subst (λ (z : Settings). ReadsBack z.body (next_message start.client call)) c.limits_are there, tt)
-
-  sent_are : (ends : BothEnds D) (start : World D) (call : Call) (bytes : List ℕ) (q : IsQuiet drive ends start) → bytes ≡ sent_bytes ends.client.session call → bytes ≡ bytes_of (next_message start.client call ∷ [])
-  sent_are ends start call bytes q is = is ∙ (ap (λ (z : ClientSession). sent_bytes z call) q.at.client_at.session_is ∙ sym (append-nil (sent_bytes start.client call)))
-
   pub sent_framed : (ends : BothEnds D) (bytes : List ℕ) (start : World D) (call : Call) (q : IsQuiet drive ends start) → ReadsBack ends.client.session.limits.body (next_message ends.client.session call) → bytes ≡ sent_bytes ends.client.session call
       → IsUnwritten unwritten.Frames ends.reader bytes → ⊥
-  sent_framed ends bytes start call q back is refuses =
-      not_unwritten laws drive.limits (next_message start.client call ∷ []) bytes ends.reader q.at.in_range (sent_back ends start call q back) (sent_are ends start call bytes q is) q.at.reader_at refuses
+  sent_framed ends bytes start call q back is refuses = wrote_framed (sending call) ends bytes start q back is refuses
 
   pub call_sent : (ends : BothEnds D) (next : ClientState) (later : Intake) (longer_transcript bytes : List ℕ) (start : World D) (call : Call) (q : IsQuiet drive ends start)
       → IsTrue (is_plain_call call) → refusal_of call ends.client ≡ None → ReadsBack ends.client.session.limits.body (next_message ends.client.session call) → bytes ≡ sent_bytes ends.client.session call
       → next ≡ record ends.client { session = after_send call ends.client.session } → GoesOn ends.client next [] (Out (next_message ends.client.session call) [] ∷ []) → (w : WritesLines drive.limits later Client bytes ends.transcript longer_transcript)
       → HasDelivered drive (client_said (after_send call start.client) (next_message start.client call ∷ []) start) (record ends { client = next; reader = later; transcript = longer_transcript }) bytes []
   call_sent ends next later longer_transcript bytes start call q plain free back are is goes_so w =
-      let out : List Message = next_message start.client call ∷ [] in
-      let world : World D = client_said (after_send call start.client) out start in
-      let lines = written laws drive.limits Client out bytes ends.transcript longer_transcript later q.at.in_range (sent_back ends start call q back) (sent_are ends start call bytes q are) w in
-      record {
-        world = world;
-        delivers = none;
-        at = record {
-          in_range = q.at.in_range;
-          schedule = goes start world q.at.schedule (by_sending call (sends_so ends start call q plain free back));
-          client_at = client_sent ends.client next start.client call q.at.client_at is goes_so;
-          adapter_at = q.at.adapter_at;
-          reader_at = w.between;
-          transcript_is = longer laws drive.limits Client out start.said ends.transcript longer_transcript q.at.transcript_is lines.lines;
-        };
-        up_is = subst (λ (z : List Message). AreFramesOf drive.limits (z ++ out) bytes) (sym q.none_up) lines.frames;
-        down_is = nothing_framed drive.limits start.down q.none_down;
-      }
+      under_way (sending call) ends next later longer_transcript bytes start q (by_sending call (sends_so ends start call q plain free back)) back are is goes_so w
 
   pub send_done : (ends last : BothEnds D) (start : World D) (call : Call) (q : IsQuiet drive ends start)
       → IsTrue (is_plain_call call) → refusal_of call ends.client ≡ None → ReadsBack ends.client.session.limits.body (next_message ends.client.session call)
@@ -256,6 +325,84 @@ module _ {D : Type 0} (laws : FrameLaws) (drive : Driving D) (agrees : EachSched
   send_stops ends start call fault.Client number q plain free back h =
       record { now = h.0; reaches = in_send call start (client_said (after_send call start.client) (next_message start.client call ∷ []) start) h.0 (sends_so ends start call q plain free back) h.1; has = h.2 }
   send_stops ends start call fault.OutOfMemory number q plain free back h = tt
+
+  -- ---- the client answers
+
+  oldest_at : (ends : BothEnds D) (start : World D) (found : Option ℕ) (q : IsQuiet drive ends start) → oldest_of ends.client.session.incoming ≡ found → oldest_of start.client.incoming ≡ found
+  oldest_at ends start found q is = subst (λ (z : ClientSession). oldest_of z.incoming ≡ found) q.at.client_at.session_is is
+
+  answers_so : (ends : BothEnds D) (start : World D) (request_seq : ℕ) (terminal : Terminal) (q : IsQuiet drive ends start) → MayAnswer ends.client request_seq terminal → Answers request_seq terminal start (wrote (answering request_seq terminal) start)
+  answers_so ends start request_seq terminal q may =
+      let c = q.at.client_at in
+      record {
+        plain = may.plain;
+        free = rw (c.stands.no_fault, c.session_is) at may.free;
+        reads_back = subst (λ (z : ClientSession). ReadsBack z.limits.body (next_terminal_response z request_seq terminal)) c.session_is may.reads_back;
+        is = refl;
+      }
+
+  pub answer_framed : (ends : BothEnds D) (bytes : List ℕ) (start : World D) (request_seq : ℕ) (terminal : Terminal) (q : IsQuiet drive ends start) → ReadsBack ends.client.session.limits.body (next_terminal_response ends.client.session request_seq terminal)
+      → bytes ≡ terminal_response_bytes ends.client.session request_seq terminal → IsUnwritten unwritten.Frames ends.reader bytes → ⊥
+  answer_framed ends bytes start request_seq terminal q back is refuses = wrote_framed (answering request_seq terminal) ends bytes start q back is refuses
+
+  pub answer_sent : (ends : BothEnds D) (next : ClientState) (later : Intake) (longer_transcript bytes : List ℕ) (start : World D) (request_seq : ℕ) (terminal : Terminal) (q : IsQuiet drive ends start)
+      → (may : MayAnswer ends.client request_seq terminal) → bytes ≡ terminal_response_bytes ends.client.session request_seq terminal
+      → next ≡ record ends.client { session = after_terminal_response request_seq ends.client.session } → GoesOn ends.client next [] (Out (next_terminal_response ends.client.session request_seq terminal) [] ∷ []) → WritesLines drive.limits later Client bytes ends.transcript longer_transcript
+      → HasDelivered drive (client_said (after_terminal_response request_seq start.client) (next_terminal_response start.client request_seq terminal ∷ []) start) (record ends { client = next; reader = later; transcript = longer_transcript }) bytes []
+  answer_sent ends next later longer_transcript bytes start request_seq terminal q may are is goes_so w =
+      under_way (answering request_seq terminal) ends next later longer_transcript bytes start q (by_answering request_seq terminal (answers_so ends start request_seq terminal q may)) may.reads_back are is goes_so w
+
+  pub answer_done : (ends last : BothEnds D) (start : World D) (request_seq : ℕ) (terminal : Terminal) (q : IsQuiet drive ends start) → MayAnswer ends.client request_seq terminal
+      → HasSettled drive (client_said (after_terminal_response request_seq start.client) (next_terminal_response start.client request_seq terminal ∷ []) start) last → HasDone drive (DoesAnswer drive.follows terminal) start last
+  answer_done ends last start request_seq terminal q may h =
+      record {
+        world = h.world;
+        done = record {
+          request_seq = request_seq;
+          oldest = oldest_at ends start (Some request_seq) q may.oldest;
+          answered = wrote (answering request_seq terminal) start;
+          answers = answers_so ends start request_seq terminal q may;
+          settles = h.settles;
+        };
+        quiet = record { at = h.at; none_up = h.settles.none_up; none_down = h.settles.none_down };
+      }
+
+  -- where there is none to answer, or no own number for it
+  pub none_to_answer : (ends : BothEnds D) (start : World D) (q : IsQuiet drive ends start) → oldest_of ends.client.session.incoming ≡ None → oldest_of start.client.incoming ≡ None
+  none_to_answer ends start q is = oldest_at ends start None q is
+
+  no_number : (ends : BothEnds D) (start : World D) (request_seq : ℕ) (f : AnswerFault) (q : IsQuiet drive ends start) → oldest_of ends.client.session.incoming ≡ Some request_seq → answer_refusal_of request_seq ends.client ≡ Some f
+      → first_terminal_refusal request_seq false start.client ≡ Some answer_fault.SeqExhausted
+  no_number ends start request_seq f q kept refused =
+      let c = q.at.client_at in
+      let there : first_terminal_refusal request_seq false start.client ≡ Some f = rw (c.stands.no_fault, c.session_is) at refused in
+      subst (λ (z : AnswerFault). first_terminal_refusal request_seq false start.client ≡ Some z) (only_numbers request_seq start.client f (oldest_at ends start (Some request_seq) q kept) there) there
+
+  short : (ends : BothEnds D) (start : World D) (request_seq : ℕ) (terminal : Terminal) (f : AnswerFault) (number : ℕ) (q : IsQuiet drive ends start) → oldest_of ends.client.session.incoming ≡ Some request_seq → answer_refusal_of request_seq ends.client ≡ Some f
+      → StopsAnswer drive number terminal fault.Client start
+  short ends start request_seq terminal f number q kept refused = inr (request_seq, oldest_at ends start (Some request_seq) q kept, no_number ends start request_seq f q kept refused)
+
+  pub answer_refused : (ends : BothEnds D) (start : World D) (request_seq : ℕ) (terminal : Terminal) (f : AnswerFault) (number : ℕ) (q : IsQuiet drive ends start) → oldest_of ends.client.session.incoming ≡ Some request_seq → NotAnswered f request_seq ends.client
+      → StopsAnswer drive number terminal (fault_of_answer f) start
+  answer_refused ends start request_seq terminal answer_fault.Ended number q kept t = short ends start request_seq terminal answer_fault.Ended number q kept t
+  answer_refused ends start request_seq terminal answer_fault.NotKept number q kept t = short ends start request_seq terminal answer_fault.NotKept number q kept t
+  answer_refused ends start request_seq terminal answer_fault.SeqExhausted number q kept t = short ends start request_seq terminal answer_fault.SeqExhausted number q kept t
+  answer_refused ends start request_seq terminal answer_fault.OutOfMemory number q kept t = tt
+
+  -- where what comes of it ends early
+  reached : (ends : BothEnds D) (start now : World D) (request_seq : ℕ) (terminal : Terminal) (q : IsQuiet drive ends start) → MayAnswer ends.client request_seq terminal → Delivers drive.follows (wrote (answering request_seq terminal) start) now
+      → Reaches drive.shown drive.follows (ToAnswer terminal) start to_take now
+  reached ends start now request_seq terminal q may delivers = in_answer terminal request_seq start (wrote (answering request_seq terminal) start) now (oldest_at ends start (Some request_seq) q may.oldest) (answers_so ends start request_seq terminal q may) delivers
+
+  pub answer_stops : (ends : BothEnds D) (start : World D) (request_seq : ℕ) (terminal : Terminal) (f : DriveFault) (number : ℕ) (q : IsQuiet drive ends start) → MayAnswer ends.client request_seq terminal
+      → StopsDelivering drive f (client_said (after_terminal_response request_seq start.client) (next_terminal_response start.client request_seq terminal ∷ []) start) → StopsAnswer drive number terminal f start
+  answer_stops ends start request_seq terminal fault.Recording number q may h = absurd h
+  answer_stops ends start request_seq terminal (fault.Script line) number q may h = absurd h
+  answer_stops ends start request_seq terminal (fault.Call line) number q may h = absurd h
+  answer_stops ends start request_seq terminal (fault.Send line cause) number q may h = absurd h
+  answer_stops ends start request_seq terminal fault.Adapter number q may h = record { next = to_take; now = h.0; reaches = reached ends start h.0 request_seq terminal q may h.1; lacks = h.2 }
+  answer_stops ends start request_seq terminal fault.Client number q may h = inl (record { now = h.0; reaches = reached ends start h.0 request_seq terminal q may h.1; has = h.2 })
+  answer_stops ends start request_seq terminal fault.OutOfMemory number q may h = tt
 
   -- ---- the adapter goes on by itself
 
@@ -396,6 +543,7 @@ module _ {D : Type 0} (laws : FrameLaws) (drive : Driving D) (agrees : EachSched
   turn_refused ends new start q (adapter_fault.Body cause offset) t = no_turn start (lacks_turn ends new start q (adapter_fault.Body cause offset) t.0)
   turn_refused ends new start q (adapter_fault.RepeatedSeq x) t = no_turn start (lacks_turn ends new start q (adapter_fault.RepeatedSeq x) t.0)
   turn_refused ends new start q (adapter_fault.Unmatched x) t = no_turn start (lacks_turn ends new start q (adapter_fault.Unmatched x) t.0)
+  turn_refused ends new start q (adapter_fault.CommandMismatch x) t = no_turn start (lacks_turn ends new start q (adapter_fault.CommandMismatch x) t.0)
   turn_refused ends new start q adapter_fault.Ended t = no_turn start (lacks_turn ends new start q adapter_fault.Ended t.0)
   turn_refused ends new start q adapter_fault.SeqExhausted t = no_turn start (lacks_turn ends new start q adapter_fault.SeqExhausted t.0)
   turn_refused ends new start q adapter_fault.OutOfMemory t = tt
@@ -415,6 +563,7 @@ module _ {D : Type 0} (laws : FrameLaws) (drive : Driving D) (agrees : EachSched
   poll_refused ends new start q (adapter_fault.Body cause offset) t = absurd t
   poll_refused ends new start q (adapter_fault.RepeatedSeq x) t = absurd t
   poll_refused ends new start q (adapter_fault.Unmatched x) t = absurd t
+  poll_refused ends new start q (adapter_fault.CommandMismatch x) t = absurd t
   poll_refused ends new start q adapter_fault.Ended t = absurd t
   poll_refused ends new start q adapter_fault.SeqExhausted t =
       let a = q.at.adapter_at in

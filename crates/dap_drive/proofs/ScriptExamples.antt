@@ -6,12 +6,13 @@ use Rattle.serde_json.proofs.OnLiterals.{serde_json_on_literals}
 use Rattle.dap_json.specs.Read.{json_of}
 use Rattle.dap_message.specs.Call.{thread_of}
 use Rattle.dap_message.specs.Types.Call.TheVariants as call
+use Rattle.dap_client.specs.declared.terminal.Terminal.TheVariants.{Started, Refused}
 use Rattle.dap_check.specs.declared.line.Side.TheVariants.{Client, Adapter}
 use Rattle.dap_drive.specs.Script.{order_of, text_before, text_after}
 use Rattle.dap_drive.specs.PrivateLines.{lines_of}
 use Rattle.dap_drive.specs.Transcript.{text_of}
 use Rattle.dap_drive.specs.declared.script.LineFault.TheVariants.{Script, Call}
-use Rattle.dap_drive.specs.declared.script.Order.TheVariants.{Send, Turn, Poll, Run}
+use Rattle.dap_drive.specs.declared.script.Order.TheVariants.{Send, Answer, Turn, Poll, Run}
 
 -- ---- words
 
@@ -20,6 +21,12 @@ single_words = (refl, refl, refl)
 
 no_words : (order_of (codes "jump") ≡ Err Script) × (order_of (codes "Turn") ≡ Err Script) × (order_of (codes "turn ") ≡ Err Script) × (order_of (codes " run") ≡ Err Script) × (order_of (codes "send") ≡ Err Script)
 no_words = (refl, refl, refl, refl, refl)
+
+terminals : (order_of (codes "terminal ok") ≡ Ok (Answer (Started None None))) × (order_of (codes "terminal no") ≡ Ok (Answer Refused))
+terminals = (refl, refl)
+
+no_terminals : (order_of (codes "terminal") ≡ Err Script) × (order_of (codes "terminal ") ≡ Err Script) × (order_of (codes "terminal maybe") ≡ Err Script) × (order_of (codes "terminal  ok") ≡ Err Script) × (order_of (codes "terminal ok ") ≡ Err Script) × (order_of (codes "Terminal ok") ≡ Err Script)
+no_terminals = (refl, refl, refl, refl, refl, refl)
 
 -- ---- requests
 

@@ -1,21 +1,22 @@
 -- A script, line by line.
-use Rattle.std.proofs.Common.{◌≡◌, ℕ, ◌+◌, ◌<◌, List, [], ◌∷◌, ◌++◌, length, Bool, true, false, Ok, refl, sym, ap, ◌∙◌, subst, arith, append_assoc, append-nil}
+use Rattle.std.proofs.Common.{◌≡◌, ℕ, ◌+◌, ◌<◌, List, [], ◌∷◌, ◌++◌, length, Bool, true, false, Ok, refl, sym, ap, ◌∙◌, subst, arith, append_assoc, append-nil, inl, inr}
 use Rattle.std.proofs.lemmas.List.{length-append}
 use Rattle.std.specs.Str.Lines.{lines}
 use Rattle.dap_message.specs.OneLine.{CanonIsOneLine}
 use Rattle.dap_message.specs.Types.Call.{Call}
+use Rattle.dap_client.specs.declared.terminal.Terminal.{Terminal}
 use Rattle.dap_drive.specs.Driven.{Drives, Stops, StopsAt, SaysOf}
 use Rattle.dap_world.specs.Agreement.{EachScheduleAgrees}
 use Rattle.dap_world.specs.Transcripts.{EachTranscriptKeepsRules}
 use Rattle.dap_world.specs.World.{World, fresh_world}
-use Rattle.dap_drive.specs.PrivateHeld.{Driving, BothEnds, IsQuiet, HasDone, HasTurned, HasPolled, DoesLine, HasRun, StopsOrder, StopsSend}
+use Rattle.dap_drive.specs.PrivateHeld.{Driving, BothEnds, IsQuiet, HasDone, HasTurned, HasPolled, DoesLine, HasRun, StopsOrder, StopsSend, StopsAnswer}
 use Rattle.dap_drive.specs.Orders.{Does, DoesTurn, Ran, idle, handles, starts, skips, does}
 use Rattle.dap_drive.specs.Script.{order_of}
 use Rattle.dap_drive.proofs.Reading.{is_read}
 use Rattle.dap_drive.specs.declared.fault.DriveFault.{DriveFault}
 use Rattle.dap_drive.specs.declared.fault.DriveFault.TheVariants as fault
 use Rattle.dap_drive.specs.declared.script.Order.{Order}
-use Rattle.dap_drive.specs.declared.script.Order.TheVariants.{Send, Turn, Poll}
+use Rattle.dap_drive.specs.declared.script.Order.TheVariants.{Send, Answer, Turn, Poll}
 
 module _ {D : Type 0} (drive : Driving D) where
   -- ---- one order
@@ -42,8 +43,17 @@ module _ {D : Type 0} (drive : Driving D) where
   send_line_stops (fault.Call line) number text call start is h = absurd h
   send_line_stops (fault.Send line cause) number text call start is h = (h.0, (call, is, h.1))
   send_line_stops fault.Adapter number text call start is h = (Send call, is, h)
-  send_line_stops fault.Client number text call start is h = (Send call, is, h)
+  send_line_stops fault.Client number text call start is h = (Send call, is, inl h)
   send_line_stops fault.OutOfMemory number text call start is h = tt
+
+  pub answer_line_stops : (f : DriveFault) (number : ℕ) (text : List ℕ) (terminal : Terminal) (start : World D) → order_of text ≡ Ok (Answer terminal) → StopsAnswer drive number terminal f start → SaysOf drive.shown drive.follows f number text start
+  answer_line_stops fault.Recording number text terminal start is h = absurd h
+  answer_line_stops (fault.Script line) number text terminal start is h = absurd h
+  answer_line_stops (fault.Call line) number text terminal start is h = (h.0, inr (terminal, is, h.1))
+  answer_line_stops (fault.Send line cause) number text terminal start is h = absurd h
+  answer_line_stops fault.Adapter number text terminal start is h = (Answer terminal, is, h)
+  answer_line_stops fault.Client number text terminal start is h = (Answer terminal, is, h)
+  answer_line_stops fault.OutOfMemory number text terminal start is h = tt
 
   pub order_line_stops : (o : Order) (f : DriveFault) (number : ℕ) (text : List ℕ) (start : World D) → order_of text ≡ Ok o → StopsOrder drive o f start → SaysOf drive.shown drive.follows f number text start
   order_line_stops o fault.Recording number text start is h = absurd h
@@ -51,7 +61,7 @@ module _ {D : Type 0} (drive : Driving D) where
   order_line_stops o (fault.Call line) number text start is h = absurd h
   order_line_stops o (fault.Send line cause) number text start is h = absurd h
   order_line_stops o fault.Adapter number text start is h = (o, is, h)
-  order_line_stops o fault.Client number text start is h = (o, is, h)
+  order_line_stops o fault.Client number text start is h = (o, is, inl h)
   order_line_stops o fault.OutOfMemory number text start is h = tt
 
   -- ---- one line

@@ -1,5 +1,5 @@
 -- What comes of a script: the transcript, or why it is not run to its end. The formats are this profile's own.
-use Rattle.std.specs.Prelude.{◌≡◌, ◌+◌, ◌<◌, ℕ, List, ◌∷◌, ◌++◌, length, false, Some, Ok, Err}
+use Rattle.std.specs.Prelude.{◌≡◌, ◌⊎◌, ◌+◌, ◌<◌, ℕ, List, ◌∷◌, ◌++◌, length, false, Some, None, Ok, Err}
 use Rattle.dap_frame.specs.Settings.{Settings}
 use Rattle.dap_message.specs.Types.Call.{Call as TheCall}
 use Rattle.dap_json.specs.Read.{json_of}
@@ -10,6 +10,10 @@ use Rattle.dap_debuggee.specs.declared.reading.RecordingFault.{RecordingFault}
 use Rattle.dap_debuggee.specs.declared.recording.Recording.{Recording as TheRecording}
 use Rattle.dap_session.specs.Carried.{Goes}
 use Rattle.dap_client.specs.Sending.{first_of, refusals_in_order}
+use Rattle.dap_client.specs.Session.{oldest_of}
+use Rattle.dap_client.specs.TerminalResponse.{first_terminal_refusal}
+use Rattle.dap_client.specs.declared.fault.AnswerFault.TheVariants.{SeqExhausted}
+use Rattle.dap_client.specs.declared.terminal.Terminal.{Terminal}
 use Rattle.dap_adapter.specs.Run.{Next, to_take}
 use Rattle.dap_world.specs.World.{World, Schedule}
 use Rattle.dap_drive.specs.Orders.{Ran, Reaches, LacksNumbers, HasTooManyReferences}
@@ -57,14 +61,23 @@ pub record ClientStops {D : Type 0} (shown : D → Shown) (follows : Goes D) (o 
   pub reaches : Reaches shown follows o w to_take now
   pub has : HasTooManyReferences now
 
+-- the line asks for an answer, and no request of the adapter is kept
+abbrev pub HasNoneToAnswer : {D : Type 0} → List ℕ → World D → Type 0
+HasNoneToAnswer text w = (terminal : Terminal) × (order_of text ≡ Ok (order.Answer terminal)) × (oldest_of w.client.incoming ≡ None)
+
+-- one is kept, and the client has no own number left to answer it
+abbrev pub LacksNumberToAnswer : {D : Type 0} → Order → World D → Type 0
+LacksNumberToAnswer (order.Answer terminal) w = (request_seq : ℕ) × (oldest_of w.client.incoming ≡ Some request_seq) × (first_terminal_refusal request_seq false w.client ≡ Some SeqExhausted)
+LacksNumberToAnswer o w = ⊥
+
 -- what a fault says of a line, where the lines before it led to this world
 abbrev pub SaysOf : {D : Type 0} → (D → Shown) → Goes D → DriveFault → ℕ → List ℕ → World D → Type 0
 SaysOf shown follows Recording number text w = ⊥
 SaysOf shown follows (Script line) number text w = (line ≡ number) × (order_of text ≡ Err unread.Script)
-SaysOf shown follows (Call line) number text w = (line ≡ number) × (order_of text ≡ Err unread.Call)
+SaysOf shown follows (Call line) number text w = (line ≡ number) × ((order_of text ≡ Err unread.Call) ⊎ HasNoneToAnswer text w)
 SaysOf shown follows (Send line cause) number text w = (line ≡ number) × ((call : TheCall) × (order_of text ≡ Ok (order.Send call)) × (first_of refusals_in_order call false w.client ≡ Some cause))
 SaysOf shown follows Adapter number text w = (o : Order) × (order_of text ≡ Ok o) × AdapterStops shown follows o w
-SaysOf shown follows Client number text w = (o : Order) × (order_of text ≡ Ok o) × ClientStops shown follows o w
+SaysOf shown follows Client number text w = (o : Order) × (order_of text ≡ Ok o) × (ClientStops shown follows o w ⊎ LacksNumberToAnswer o w)
 -- memory may be refused anywhere
 SaysOf shown follows OutOfMemory number text w = Unit {0}
 

@@ -1,5 +1,5 @@
 -- What each order of a script does, and a script line by line: each is steps of a schedule. The format is this profile's own.
-use Rattle.std.specs.Prelude.{◌≡◌, ◌+◌, ◌<◌, ℕ, List, [], ◌∷◌, ◌++◌, length, Ok, Err}
+use Rattle.std.specs.Prelude.{◌≡◌, ◌+◌, ◌<◌, ℕ, List, [], ◌∷◌, ◌++◌, length, Some, Ok, Err}
 use Rattle.dap_frame.specs.Settings.{Settings}
 use Rattle.dap_message.specs.Types.Call.{Call}
 use Rattle.dap_message.specs.declared.message.Message.{Message}
@@ -11,12 +11,14 @@ use Rattle.dap_session.specs.Polling.{polls}
 use Rattle.dap_session.specs.Taking.{takes}
 use Rattle.dap_session.specs.declared.fault.AdapterFault.TheVariants.{SeqExhausted}
 use Rattle.dap_adapter.specs.Run.{Next, to_take, to_turn, to_poll, after_poll}
+use Rattle.dap_client.specs.Session.{oldest_of}
 use Rattle.dap_client.specs.Taking.{takes as client_takes}
 use Rattle.dap_client.specs.declared.fault.ClientFault.TheVariants.{ReferenceLimit}
-use Rattle.dap_world.specs.World.{World, fresh_world, Sends, ComesUp, ComesDown, Turns, IsIdle, Polls}
+use Rattle.dap_client.specs.declared.terminal.Terminal.{Terminal}
+use Rattle.dap_world.specs.World.{World, fresh_world, Sends, Answers, ComesUp, ComesDown, Turns, IsIdle, Polls}
 use Rattle.dap_drive.specs.Script.{order_of}
 use Rattle.dap_drive.specs.declared.script.Order.{Order}
-use Rattle.dap_drive.specs.declared.script.Order.TheVariants.{Send, Turn, Poll, Run}
+use Rattle.dap_drive.specs.declared.script.Order.TheVariants.{Send, Answer, Turn, Poll, Run}
 
 -- some of what is under way is delivered, one message after the other
 pub data Delivers {D : Type 0} (follows : Goes D) (start : World D) : World D → Type 0 where
@@ -37,6 +39,14 @@ pub record DoesSend {D : Type 0} (follows : Goes D) (call : Call) (old new : Wor
   pub sent : World D
   pub sends : Sends call old sent
   pub settles : Settles follows sent new
+
+-- the oldest request of the adapter that the client keeps is answered
+pub record DoesAnswer {D : Type 0} (follows : Goes D) (terminal : Terminal) (old new : World D) : Type 0 where
+  pub request_seq : ℕ
+  pub oldest : oldest_of old.client.incoming ≡ Some request_seq
+  pub answered : World D
+  pub answers : Answers request_seq terminal old answered
+  pub settles : Settles follows answered new
 
 -- the adapter handles a request
 pub record Handles {D : Type 0} (shown : D → Shown) (follows : Goes D) (old new : World D) : Type 0 where
@@ -65,6 +75,7 @@ pub data RunsTo {D : Type 0} (shown : D → Shown) (follows : Goes D) (start : W
 
 abbrev pub Does : {D : Type 0} → (D → Shown) → Goes D → Order → World D → World D → Type 0
 Does shown follows (Send call) old new = DoesSend follows call old new
+Does shown follows (Answer terminal) old new = DoesAnswer follows terminal old new
 Does shown follows Turn old new = DoesTurn shown follows old new
 Does shown follows Poll old new = DoesPoll follows old new
 Does shown follows Run old new = RunsTo shown follows old to_take new
@@ -84,6 +95,8 @@ pub data Ran {D : Type 0} (shown : D → Shown) (follows : Goes D) (limits : Set
 -- asked what happened.
 pub data Reaches {D : Type 0} (shown : D → Shown) (follows : Goes D) : Order → World D → Next → World D → Type 0 where
   in_send : (call : Call) (old v now : World D) → Sends call old v → Delivers follows v now → Reaches shown follows (Send call) old to_take now
+  in_answer : (terminal : Terminal) (request_seq : ℕ) (old v now : World D) → oldest_of old.client.incoming ≡ Some request_seq → Answers request_seq terminal old v → Delivers follows v now
+      → Reaches shown follows (Answer terminal) old to_take now
   before_turn : (old : World D) → Reaches shown follows Turn old to_turn old
   in_turn : (old v now : World D) → Turns shown follows old v → Delivers follows v now → Reaches shown follows Turn old to_take now
   before_poll : (old : World D) → Reaches shown follows Poll old (to_poll 0) old

@@ -5,6 +5,8 @@ use Rattle.dap_session.specs.declared.fault.AdapterFault.{AdapterFault}
 use Rattle.dap_session.specs.declared.fault.AdapterFault.TheVariants as adapter
 use Rattle.dap_client.specs.declared.fault.ClientFault.{ClientFault}
 use Rattle.dap_client.specs.declared.fault.ClientFault.TheVariants as client
+use Rattle.dap_client.specs.declared.fault.AnswerFault.{AnswerFault}
+use Rattle.dap_client.specs.declared.fault.AnswerFault.TheVariants as answer
 use Rattle.dap_world.specs.Moves.{BodiesMoveInOrder}
 use Rattle.dap_drive.specs.declared.fault.DriveFault.{DriveFault}
 use Rattle.dap_drive.specs.declared.fault.DriveFault.TheVariants.{Adapter, Client, OutOfMemory}
@@ -18,6 +20,11 @@ fault_of_adapter _ = Adapter
 abbrev pub fault_of_client : ClientFault → DriveFault
 fault_of_client client.OutOfMemory = OutOfMemory
 fault_of_client _ = Client
+
+-- or what the client keeps is not answered
+abbrev pub fault_of_answer : AnswerFault → DriveFault
+fault_of_answer answer.OutOfMemory = OutOfMemory
+fault_of_answer _ = Client
 
 pub record FrameLaws : Type 0 where
   pub one_split : EachStreamHasOneSplit

@@ -1,5 +1,5 @@
 -- The code's words for where both ends stand. Only private clauses cite these.
-use Rattle.std.specs.Prelude.{◌≡◌, ◌≤◌, ◌<◌, ◌==◌, ◌||◌, ◌+◌, ◌*◌, ◌-◌, ℕ, Bool, true, false, List, [], length, Some, Ok, if◌then◌else◌}
+use Rattle.std.specs.Prelude.{◌≡◌, ◌⊎◌, ◌≤◌, ◌<◌, ◌==◌, ◌||◌, ◌+◌, ◌*◌, ◌-◌, ℕ, Bool, true, false, List, [], length, Some, None, Ok, if◌then◌else◌}
 use Rattle.dap_frame.specs.Intake.{Intake}
 use Rattle.dap_frame.specs.Settings.{Settings, AreInRange}
 use Rattle.dap_history.specs.History.{Entry}
@@ -16,10 +16,11 @@ use Rattle.dap_adapter.specs.StandsFor.{StandsFor as AdapterStandsFor}
 use Rattle.dap_adapter.specs.Run.{Next, to_take, to_poll}
 use Rattle.dap_client.specs.ClientState.{ClientState}
 use Rattle.dap_client.specs.Sending.{first_of, refusals_in_order}
-use Rattle.dap_client.specs.Session.{Session as ClientSession}
+use Rattle.dap_client.specs.Session.{Session as ClientSession, oldest_of}
 use Rattle.dap_client.specs.StandsFor.{StandsFor as ClientStandsFor}
+use Rattle.dap_client.specs.declared.terminal.Terminal.{Terminal}
 use Rattle.dap_world.specs.World.{World, IsIdle, Schedule}
-use Rattle.dap_drive.specs.Driven.{AdapterStops, ClientStops}
+use Rattle.dap_drive.specs.Driven.{AdapterStops, ClientStops, LacksNumberToAnswer}
 use Rattle.dap_drive.specs.PrivateFrames.{AreFramesOf}
 use Rattle.dap_drive.specs.PrivateLines.{IsBetween}
 use Rattle.dap_drive.specs.Orders.{Delivers, Settles, Handles, DoesPoll, Does, Ran, LacksNumbers, HasTooManyReferences}
@@ -27,9 +28,9 @@ use Rattle.dap_drive.specs.Script.{order_of}
 use Rattle.dap_drive.specs.Transcript.{text_of}
 use Rattle.dap_drive.specs.declared.ends.Drive.{Drive}
 use Rattle.dap_drive.specs.declared.script.Order.{Order}
-use Rattle.dap_drive.specs.declared.script.Order.TheVariants.{Send as ToSend}
+use Rattle.dap_drive.specs.declared.script.Order.TheVariants.{Send as ToSend, Answer as ToAnswer}
 use Rattle.dap_drive.specs.declared.fault.DriveFault.{DriveFault}
-use Rattle.dap_drive.specs.declared.fault.DriveFault.TheVariants.{Send, Adapter, Client, OutOfMemory}
+use Rattle.dap_drive.specs.declared.fault.DriveFault.TheVariants.{Call, Send, Adapter, Client, OutOfMemory}
 
 -- ---- both ends
 
@@ -156,6 +157,12 @@ StopsOrder drive o fault start = ⊥
 abbrev pub StopsSend : {D : Type 0} → Driving D → ℕ → TheCall → DriveFault → World D → Type 0
 StopsSend drive number call (Send line cause) start = (line ≡ number) × (first_of refusals_in_order call false start.client ≡ Some cause)
 StopsSend drive number call fault start = StopsOrder drive (ToSend call) fault start
+
+-- or the request that is kept is not answered on that line: there is none, or no own number for it
+abbrev pub StopsAnswer : {D : Type 0} → Driving D → ℕ → Terminal → DriveFault → World D → Type 0
+StopsAnswer drive number terminal (Call line) start = (line ≡ number) × (oldest_of start.client.incoming ≡ None)
+StopsAnswer drive number terminal Client start = ClientStops drive.shown drive.follows (ToAnswer terminal) start ⊎ LacksNumberToAnswer (ToAnswer terminal) start
+StopsAnswer drive number terminal fault start = StopsOrder drive (ToAnswer terminal) fault start
 
 -- ---- a script
 

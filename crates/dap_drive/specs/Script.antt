@@ -13,10 +13,12 @@ use Rattle.dap_message.specs.Command.{command_named}
 use Rattle.dap_message.specs.PlainCall.{is_plain_call}
 use Rattle.dap_message.specs.Types.Call.{Call as TheCall}
 use Rattle.dap_message.specs.Types.Command.{Command}
+use Rattle.dap_client.specs.TerminalResponse.{is_plain_terminal}
+use Rattle.dap_client.specs.declared.terminal.Terminal.TheVariants.{Started, Refused}
 use Rattle.dap_drive.specs.declared.script.LineFault.{LineFault}
 use Rattle.dap_drive.specs.declared.script.LineFault.TheVariants.{Script, Call, OutOfMemory}
 use Rattle.dap_drive.specs.declared.script.Order.{Order}
-use Rattle.dap_drive.specs.declared.script.Order.TheVariants.{Send, Turn, Poll, Run}
+use Rattle.dap_drive.specs.declared.script.Order.TheVariants.{Send, Answer, Turn, Poll, Run}
 
 -- what a line asks for, or why it asks for nothing
 abbrev pub Read : Type 0 → Type 0
@@ -76,8 +78,10 @@ order_of text =
     if bytes_eq text (codes "turn") then Ok Turn
     else (if bytes_eq text (codes "poll") then Ok Poll
     else (if bytes_eq text (codes "run") then Ok Run
+    else (if bytes_eq text (codes "terminal ok") then Ok (Answer (Started None None))
+    else (if bytes_eq text (codes "terminal no") then Ok (Answer Refused)
     else (if bytes_eq (take 5 text) (codes "send ") then send_in (drop 5 text)
-    else Err Script)))
+    else Err Script)))))
 
 -- ---- what a function returned
 
@@ -92,7 +96,8 @@ Gives result due = Returns (λ x. x) Says result due
 abbrev pub GivesArguments : Read (Option Value) → Read (Option Data) → Type 0
 GivesArguments result due = Returns (λ found. option_map view found) Says result due
 
--- what is to be sent can be written
+-- what is to be sent or answered can be written
 abbrev pub IsPlainOrder : Order → Type 0
 IsPlainOrder (Send call) = IsTrue (is_plain_call call)
+IsPlainOrder (Answer terminal) = IsTrue (is_plain_terminal terminal)
 IsPlainOrder order = ⊤

@@ -39,6 +39,10 @@ fn do_order<D: Debuggee + Drop>(
             Ok(()) => Ok(()),
             Err(fault) => Err(fault),
         },
+        Ok(Order::Answer(terminal)) => match drive.answer(alloc, terminal, number) {
+            Ok(()) => Ok(()),
+            Err(fault) => Err(fault),
+        },
         Ok(Order::Turn) => match drive.turn(alloc) {
             Ok(_) => Ok(()),
             Err(fault) => Err(fault),
@@ -86,9 +90,11 @@ fn do_line<D: Debuggee + Drop>(
 /// Runs a script over a debuggee that is not started, and gives the transcript: a line for each message that either end
 /// wrote, in order, with the mark of its side.
 ///
-/// A line of the script is `send COMMAND`, `send COMMAND JSON`, `turn`, `poll` or `run`; a line without bytes is skipped, and
-/// counted. Each message is delivered once it is written. `run` lets the adapter handle all requests, then tells what
-/// happens until nothing does, the debuggee stops, or it was asked 65536 times.
+/// A line of the script is `send COMMAND`, `send COMMAND JSON`, `terminal ok`, `terminal no`, `turn`, `poll` or `run`; a line
+/// without bytes is skipped, and counted. Each message is delivered once it is written. `terminal` answers the oldest request
+/// of the adapter that the client keeps, which wants a terminal: it runs, without numbers of processes, or is refused. `run`
+/// lets the adapter handle all requests, then tells what happens until nothing does, the debuggee stops, or it was asked 65536
+/// times.
 ///
 /// # Errors
 /// Those of [`drive`] but `Recording`. There is no transcript then.
@@ -124,9 +130,10 @@ pub fn drive_debuggee<D: Debuggee + Drop>(
 ///
 /// # Errors
 /// `Recording` where the recording is none; then, of the first line that is not done, counted from 1: `Script` where it is no
-/// order, `Call` where its arguments are refused or cannot be written, `Send` with the client's refusal; `Adapter` where the
-/// adapter has too few own numbers left for what it does next, `Client` where the next message would give the client more
-/// references than it may know; `OutOfMemory` where memory is refused. There is no transcript then.
+/// order, `Call` where its arguments are refused or cannot be written, or the client keeps no request that it could answer,
+/// `Send` with the client's refusal; `Adapter` where the adapter has too few own numbers left for what it does next, `Client`
+/// where the next message would give the client more references than it may know, or it has no own number left for its
+/// answer; `OutOfMemory` where memory is refused. There is no transcript then.
 pub fn drive(
     alloc: Global,
     recording: &[u8],

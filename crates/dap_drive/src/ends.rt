@@ -4,9 +4,10 @@ ghost use Rattle.dap_debuggee.specs.declared.answers.State.{State};
 ghost use Rattle.dap_frame.specs.Intake.{IsUnderWay};
 ghost use Rattle.dap_frame.specs.Settings.{AreInRange, Settings};
 ghost use Rattle.dap_message.specs.PlainCall.{is_plain_call};
+ghost use Rattle.dap_client.specs.TerminalResponse.{is_plain_terminal};
 ghost use Rattle.dap_session.specs.Table.{is_phase};
 ghost use Rattle.dap_drive.specs.PrivateHeld.{Spends, left_to_do};
-ghost use Rattle.dap_drive.specs.PrivateFaults.{FrameLaws, fault_of_adapter, fault_of_client};
+ghost use Rattle.dap_drive.specs.PrivateFaults.{FrameLaws, fault_of_adapter, fault_of_answer, fault_of_client};
 ghost use Rattle.dap_drive.specs.declared.fault.DriveFault.{DriveFault};
 ghost use Rattle.dap_drive.specs.declared.script.Order.{Order};
 ghost use Rattle.dap_drive.specs.declared.writing.Unwritten.{Unwritten};
@@ -15,7 +16,7 @@ use crate::fault::DriveFault;
 use crate::writing::{Unwritten, write_lines};
 use dap_adapter::{Adapter, AdapterFault, Phase, Taken, Turned};
 use dap_check::Side;
-use dap_client::{Client, ClientFault, Got, SendFault};
+use dap_client::{AnswerFault, Client, ClientFault, Got, SendFault, Terminal};
 use dap_debuggee::Debuggee;
 use dap_frame::{Frames, Limits, each_stream_has_one_split, written_is_read_again};
 use dap_message::Call;
@@ -54,6 +55,16 @@ fn client_fault(fault: ClientFault) -> DriveFault
 {
     match fault {
         ClientFault::OutOfMemory => DriveFault::OutOfMemory,
+        _ => DriveFault::Client,
+    }
+}
+
+/// A request that is kept is not answered only where the client has no own number left, or memory is refused.
+fn answer_fault(fault: AnswerFault) -> DriveFault
+    ensures { result ≡ fault_of_answer fault }
+{
+    match fault {
+        AnswerFault::OutOfMemory => DriveFault::OutOfMemory,
         _ => DriveFault::Client,
     }
 }
@@ -122,8 +133,8 @@ pub(crate) struct Drive<D: Debuggee + Drop> {
 
 impl<D: Debuggee + Drop> Drive<D> {
     ghost use Rattle.dap_world.specs.World.{World, fresh_world};
-    ghost use Rattle.dap_drive.specs.Orders.{DoesSend, RunsTo};
-    ghost use Rattle.dap_drive.specs.PrivateHeld.{driven_by, both_of, HasDelivered, HasSettled, IsQuiet, HasDone, HasTurned, HasPolled, StopsDelivering, StopsOrder, StopsSend};
+    ghost use Rattle.dap_drive.specs.Orders.{DoesSend, DoesAnswer, RunsTo};
+    ghost use Rattle.dap_drive.specs.PrivateHeld.{driven_by, both_of, HasDelivered, HasSettled, IsQuiet, HasDone, HasTurned, HasPolled, StopsDelivering, StopsOrder, StopsSend, StopsAnswer};
     ghost use Rattle.dap_adapter.specs.Run.{to_take, to_turn, to_poll};
 
     /// Two fresh ends. The debuggee is not started.
@@ -334,6 +345,47 @@ impl<D: Debuggee + Drop> Drive<D> {
             Err(fault) => return Err(unwritten(Side::Client, fault)),
         }
         let down = self.deliver_up(alloc, &sent.bytes)?;
+        self.settle(alloc, down)?;
+        Ok(())
+    }
+
+    /// The client answers the oldest request of the adapter that it keeps, as the line of this number asks for.
+    pub(crate) fn answer(
+        &mut self,
+        alloc: Global,
+        terminal: Terminal,
+        line: u64,
+    ) -> Result<(), DriveFault>
+        requires reading { IsUnderWay self.old.reader }
+        requires plain { IsTrue (is_plain_terminal terminal) }
+        ensures reading { OnOk result (IsUnderWay self.new.reader) }
+        ensures answered { OnOk result ((limits : Settings) (debuggee : D) (start : World D)
+            → IsQuiet (driven_by D.shown D.follows limits debuggee) (both_of self.old) start
+            → HasDone (driven_by D.shown D.follows limits debuggee) (DoesAnswer D.follows terminal) start (both_of self.new)) }
+        ensures stops { IfErr result (λ fault. (limits : Settings) (debuggee : D) (start : World D)
+            → IsQuiet (driven_by D.shown D.follows limits debuggee) (both_of self.old) start
+            → StopsAnswer (driven_by D.shown D.follows limits debuggee) line terminal fault start) }
+    {
+        // Laws for the proof: both ends agree, and bytes are frames in one way only.
+        each_schedule_agrees::<D>();
+        frames_keep_their_laws();
+        let Some(request_seq) = self.client.oldest_incoming() else {
+            return Err(DriveFault::Call { line });
+        };
+        let response = match self.client.answer(alloc, request_seq, terminal) {
+            Ok(response) => response,
+            Err(fault) => return Err(answer_fault(fault)),
+        };
+        match write_lines(
+            &mut self.reader,
+            &mut self.transcript,
+            Side::Client,
+            &response,
+        ) {
+            Ok(()) => {}
+            Err(fault) => return Err(unwritten(Side::Client, fault)),
+        }
+        let down = self.deliver_up(alloc, &response)?;
         self.settle(alloc, down)?;
         Ok(())
     }

@@ -13,8 +13,9 @@ pub enum DriveFault {
     /// A line is no order: its first word or its command is not known, or what follows that is no JSON.
     #[error("line {line} is no order")]
     Script { line: u64 },
-    /// The arguments of a line are not those of its command, or cannot be written.
-    #[error("line {line} has arguments that are refused")]
+    /// The arguments of a line are not those of its command, or cannot be written; or the client keeps no request of the
+    /// adapter that it could answer.
+    #[error("line {line} has arguments that are refused, or nothing to answer")]
     Call { line: u64 },
     /// The client refuses to send the request of a line.
     #[error("line {line} is not sent")]
@@ -22,8 +23,9 @@ pub enum DriveFault {
     /// The adapter has too few own numbers left for what it does next (its fault `SeqExhausted`).
     #[error("the adapter is closed")]
     Adapter,
-    /// The next message would give the client more references than it may know (its fault `ReferenceLimit`).
-    #[error("the client is closed")]
+    /// The next message would give the client more references than it may know (its fault `ReferenceLimit`), or it has no own
+    /// number left for the answer of a line (its refusal `SeqExhausted`).
+    #[error("the client is closed, or has no number left")]
     Client,
     /// Memory was refused.
     #[error("memory is exhausted")]

@@ -5,6 +5,7 @@ ghost use Rattle.dap_message.specs.Lent.{lent_data};
 ghost use Rattle.dap_message.specs.PlainCall.{is_plain_call};
 ghost use Rattle.dap_drive.specs.Script.{Gives, GivesArguments, IsPlainOrder, text_before, text_after, command_in, arguments_in, call_in, send_in, order_of};
 
+use dap_client::Terminal;
 use dap_json::{ParseFault, parse};
 use dap_message::{Call, CallFault, Command, read_call};
 use serde_json::Value;
@@ -16,6 +17,8 @@ use std::str;
 pub(crate) enum Order {
     /// The client sends this.
     Send(Call),
+    /// The client answers the oldest request of the adapter that it keeps, which wants a terminal.
+    Answer(Terminal),
     /// The adapter handles the oldest request that waits.
     Turn,
     /// The adapter tells what happened to the debuggee, once.
@@ -122,6 +125,15 @@ pub(crate) fn read_order(alloc: Global, text: &[u8]) -> Result<Order, LineFault>
     }
     if text == b"run".as_slice() {
         return Ok(Order::Run);
+    }
+    if text == b"terminal ok".as_slice() {
+        return Ok(Order::Answer(Terminal::Started {
+            process_id: None,
+            shell_process_id: None,
+        }));
+    }
+    if text == b"terminal no".as_slice() {
+        return Ok(Order::Answer(Terminal::Refused));
     }
     match text.strip_prefix(b"send ") {
         Some(rest) => read_send(alloc, rest),

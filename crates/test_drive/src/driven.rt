@@ -2,7 +2,7 @@
 //!
 //! | a line | says |
 //! |---|---|
-//! | `send ..`, `turn`, `poll`, `run`, or anything else | a line of the script |
+//! | `send ..`, `terminal ..`, `turn`, `poll`, `run`, or anything else | a line of the script |
 //! | `.` | a line of the script without bytes |
 //! | `> BODY`, `< BODY` | the next line of the transcript |
 //! | `! FAULT` | the script stops with this fault |

@@ -8,7 +8,7 @@ use std::alloc::Global;
 use std::test::Fail;
 use test_kit::rows::play_rows;
 
-pub(crate) static ROWS: [&str; 11] = [
+pub(crate) static ROWS: [&str; 27] = [
     r#"
 row no line
 "#,
@@ -146,6 +146,211 @@ send next {"threadId":1}
 run
 send scopes {"frameId":1}
 ! Send { line: 10, cause: UnknownReference }
+"#,
+    r#"
+row the debuggee runs in a terminal
+send initialize {"adapterID":"rec","supportsRunInTerminalRequest":true}
+> {"arguments":{"adapterID":"rec","supportsRunInTerminalRequest":true},"command":"initialize","seq":1,"type":"request"}
+run
+< capabilities seq 1 to 1
+< {"event":"initialized","seq":2,"type":"event"}
+send launch {"console":"terminal"}
+> {"arguments":{"console":"terminal"},"command":"launch","seq":2,"type":"request"}
+send configurationDone
+> {"command":"configurationDone","seq":3,"type":"request"}
+run
+< {"command":"configurationDone","request_seq":3,"seq":3,"success":true,"type":"response"}
+< {"arguments":{"args":["recorded"],"cwd":"/","kind":"integrated","title":"recorded"},"command":"runInTerminal","seq":4,"type":"request"}
+terminal ok
+> {"body":{},"command":"runInTerminal","request_seq":4,"seq":4,"success":true,"type":"response"}
+< {"command":"launch","request_seq":2,"seq":5,"success":true,"type":"response"}
+run
+< {"body":{"category":"stdout","output":"go\n"},"event":"output","seq":6,"type":"event"}
+< {"body":{"allThreadsStopped":true,"reason":"entry","threadId":1},"event":"stopped","seq":7,"type":"event"}
+"#,
+    r#"
+row a terminal is refused
+send initialize {"adapterID":"rec","supportsRunInTerminalRequest":true}
+> {"arguments":{"adapterID":"rec","supportsRunInTerminalRequest":true},"command":"initialize","seq":1,"type":"request"}
+run
+< capabilities seq 1 to 1
+< {"event":"initialized","seq":2,"type":"event"}
+send launch {"console":"terminal"}
+> {"arguments":{"console":"terminal"},"command":"launch","seq":2,"type":"request"}
+send configurationDone
+> {"command":"configurationDone","seq":3,"type":"request"}
+run
+< {"command":"configurationDone","request_seq":3,"seq":3,"success":true,"type":"response"}
+< {"arguments":{"args":["recorded"],"cwd":"/","kind":"integrated","title":"recorded"},"command":"runInTerminal","seq":4,"type":"request"}
+terminal no
+> {"body":{"error":{"format":"The terminal refused.","id":1018}},"command":"runInTerminal","message":"terminalRefused","request_seq":4,"seq":4,"success":false,"type":"response"}
+< {"body":{"error":{"format":"The debuggee refused.","id":1013}},"command":"launch","message":"debuggee","request_seq":2,"seq":5,"success":false,"type":"response"}
+run
+"#,
+    r#"
+# After a refusal the session is configured: `launch` asks at once, and the request has a new number.
+row a terminal is asked for again
+send initialize {"adapterID":"rec","supportsRunInTerminalRequest":true}
+> {"arguments":{"adapterID":"rec","supportsRunInTerminalRequest":true},"command":"initialize","seq":1,"type":"request"}
+run
+< capabilities seq 1 to 1
+< {"event":"initialized","seq":2,"type":"event"}
+send launch {"console":"terminal"}
+> {"arguments":{"console":"terminal"},"command":"launch","seq":2,"type":"request"}
+send configurationDone
+> {"command":"configurationDone","seq":3,"type":"request"}
+run
+< {"command":"configurationDone","request_seq":3,"seq":3,"success":true,"type":"response"}
+< {"arguments":{"args":["recorded"],"cwd":"/","kind":"integrated","title":"recorded"},"command":"runInTerminal","seq":4,"type":"request"}
+terminal no
+> {"body":{"error":{"format":"The terminal refused.","id":1018}},"command":"runInTerminal","message":"terminalRefused","request_seq":4,"seq":4,"success":false,"type":"response"}
+< {"body":{"error":{"format":"The debuggee refused.","id":1013}},"command":"launch","message":"debuggee","request_seq":2,"seq":5,"success":false,"type":"response"}
+send launch {"console":"terminal"}
+> {"arguments":{"console":"terminal"},"command":"launch","seq":5,"type":"request"}
+run
+< {"arguments":{"args":["recorded"],"cwd":"/","kind":"integrated","title":"recorded"},"command":"runInTerminal","seq":6,"type":"request"}
+terminal ok
+> {"body":{},"command":"runInTerminal","request_seq":6,"seq":6,"success":true,"type":"response"}
+< {"command":"launch","request_seq":5,"seq":7,"success":true,"type":"response"}
+run
+< {"body":{"category":"stdout","output":"go\n"},"event":"output","seq":8,"type":"event"}
+< {"body":{"allThreadsStopped":true,"reason":"entry","threadId":1},"event":"stopped","seq":9,"type":"event"}
+"#,
+    r#"
+# The client may still answer then; it comes to nothing.
+row left while a terminal is waited for
+send initialize {"adapterID":"rec","supportsRunInTerminalRequest":true}
+> {"arguments":{"adapterID":"rec","supportsRunInTerminalRequest":true},"command":"initialize","seq":1,"type":"request"}
+run
+< capabilities seq 1 to 1
+< {"event":"initialized","seq":2,"type":"event"}
+send launch {"console":"terminal"}
+> {"arguments":{"console":"terminal"},"command":"launch","seq":2,"type":"request"}
+send configurationDone
+> {"command":"configurationDone","seq":3,"type":"request"}
+run
+< {"command":"configurationDone","request_seq":3,"seq":3,"success":true,"type":"response"}
+< {"arguments":{"args":["recorded"],"cwd":"/","kind":"integrated","title":"recorded"},"command":"runInTerminal","seq":4,"type":"request"}
+send disconnect
+> {"command":"disconnect","seq":4,"type":"request"}
+run
+< cancelled seq 5 to 2 launch
+< {"command":"disconnect","request_seq":4,"seq":6,"success":true,"type":"response"}
+terminal ok
+> {"body":{},"command":"runInTerminal","request_seq":4,"seq":5,"success":true,"type":"response"}
+run
+"#,
+    r#"
+# The launch is answered by the call that takes the response, before any turn.
+row a request waits while a terminal is answered
+send initialize {"adapterID":"rec","supportsRunInTerminalRequest":true}
+> {"arguments":{"adapterID":"rec","supportsRunInTerminalRequest":true},"command":"initialize","seq":1,"type":"request"}
+run
+< capabilities seq 1 to 1
+< {"event":"initialized","seq":2,"type":"event"}
+send launch {"console":"terminal"}
+> {"arguments":{"console":"terminal"},"command":"launch","seq":2,"type":"request"}
+send configurationDone
+> {"command":"configurationDone","seq":3,"type":"request"}
+run
+< {"command":"configurationDone","request_seq":3,"seq":3,"success":true,"type":"response"}
+< {"arguments":{"args":["recorded"],"cwd":"/","kind":"integrated","title":"recorded"},"command":"runInTerminal","seq":4,"type":"request"}
+send threads
+> {"command":"threads","seq":4,"type":"request"}
+terminal no
+> {"body":{"error":{"format":"The terminal refused.","id":1018}},"command":"runInTerminal","message":"terminalRefused","request_seq":4,"seq":5,"success":false,"type":"response"}
+< {"body":{"error":{"format":"The debuggee refused.","id":1013}},"command":"launch","message":"debuggee","request_seq":2,"seq":5,"success":false,"type":"response"}
+run
+< {"body":{"threads":[]},"command":"threads","request_seq":4,"seq":6,"success":true,"type":"response"}
+"#,
+    r#"
+row no terminal is wanted
+terminal ok
+! Call { line: 1 }
+"#,
+    r#"
+row no terminal is wanted of a client that runs none
+send initialize {"adapterID":"rec"}
+run
+send launch {"console":"terminal"}
+send configurationDone
+run
+terminal no
+! Call { line: 6 }
+"#,
+    r#"
+row a terminal is answered twice
+send initialize {"adapterID":"rec","supportsRunInTerminalRequest":true}
+run
+send launch {"console":"terminal"}
+send configurationDone
+run
+terminal ok
+.
+terminal ok
+! Call { line: 8 }
+"#,
+    r#"
+# With 4 numbers each the adapter asks with its last one, and `threads` has the last one of the client.
+row no own number of the client is left
+limits 8192 4194304 64 65536 4096 4 2147483647
+send initialize {"adapterID":"rec","supportsRunInTerminalRequest":true}
+run
+send launch {"console":"terminal"}
+send configurationDone
+run
+send threads
+terminal ok
+! Client
+"#,
+    r#"
+row no own number is left to refuse a terminal
+limits 8192 4194304 64 65536 4096 4 2147483647
+send initialize {"adapterID":"rec","supportsRunInTerminalRequest":true}
+run
+send launch {"console":"terminal"}
+send configurationDone
+run
+send threads
+terminal no
+! Client
+"#,
+    r#"
+# The response comes, and `launch` cannot be answered.
+row no own number of the adapter is left for the launch
+limits 8192 4194304 64 65536 4096 4 2147483647
+send initialize {"adapterID":"rec","supportsRunInTerminalRequest":true}
+run
+send launch {"console":"terminal"}
+send configurationDone
+run
+terminal ok
+! Adapter
+"#,
+    r#"
+row a terminal without a word
+terminal
+! Script { line: 1 }
+"#,
+    r#"
+row a terminal with a word that is not known
+terminal maybe
+! Script { line: 1 }
+"#,
+    r#"
+row a terminal behind two spaces
+terminal  ok
+! Script { line: 1 }
+"#,
+    r#"
+row a terminal with more behind it
+terminal ok 1
+! Script { line: 1 }
+"#,
+    r#"
+row a terminal in capitals
+Terminal ok
+! Script { line: 1 }
 "#,
 ];
 
