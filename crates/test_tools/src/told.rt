@@ -261,7 +261,7 @@ static IN_WORDS: [(ToolFault, &str); 24] = [
     ),
     (
         ToolFault::Drive(DriveFault::Call { line: 3 }),
-        "line 3 has arguments that are refused",
+        "line 3 has arguments that are refused, or nothing to answer",
     ),
     (
         ToolFault::Drive(DriveFault::Send {
