@@ -274,7 +274,10 @@ static IN_WORDS: [(ToolFault, &str); 24] = [
         ToolFault::Drive(DriveFault::Adapter),
         "the adapter is closed",
     ),
-    (ToolFault::Drive(DriveFault::Client), "the client is closed"),
+    (
+        ToolFault::Drive(DriveFault::Client),
+        "the client is closed, or has no number left",
+    ),
     (
         ToolFault::Drive(DriveFault::OutOfMemory),
         "memory is exhausted",
