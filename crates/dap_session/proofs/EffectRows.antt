@@ -21,7 +21,7 @@ use Rattle.dap_session.specs.OrderLaws.{refuses_query, objects_told}
 use Rattle.dap_session.specs.Within.{IsWithin}
 use Rattle.dap_session.specs.declared.phase.Phase.{Phase}
 use Rattle.dap_session.specs.declared.phase.Phase.TheVariants.{Configured}
-use Rattle.dap_session.proofs.Rows.{after_initialize-outcome, after_park-outcome, after_asking-outcome, after_asking_parked-outcome, after_launch-outcome, after_configuration_done-outcome, after_parked_launch-outcome, after_disconnect-outcome, after_disconnect-clean, after_terminate-outcome, after_resume-outcome, after_resume-clean, change-row, change-stands, after_query-row, one-clean, reply-clean, names-by_reply}
+use Rattle.dap_session.proofs.Rows.{after_initialize-outcome, after_park-outcome, after_asking-outcome, after_asking_parked-outcome, after_launch-outcome, after_configuration_done-outcome, after_parked_launch-outcome, after_disconnect-outcome, after_disconnect-clean, after_terminate-outcome, after_resume-outcome, after_resume-clean, change-row, change-stands, change-bare, after_query-row, one-clean, reply-clean, bare-by_reply}
 use Rattle.dap_session.proofs.ServedInOrder.{Fails, DoesWell, first_of, query-told, query-fails, change-fails, well-so, succeeds-first, succeeds-initialize, starts-so, starts-parked-so, asks-so, asks-parked-so, disconnects-so, resumes-so, pauses-so}
 
 pub record EffectRow (e : Effect) (view : Shown) (s : Session) (asked : Call) : Type 0 where
@@ -82,7 +82,7 @@ effect-row effect.Terminate view s asked n p = record {
   order = λ r w. well-so effect.Terminate s r asked _ refl (λ last. succeeds-first r (emit terminated ∷ []));
 }
 effect-row effect.Change view s asked n p = record {
-  outcome = λ k i. change-row s k (change_result view s asked) (change-stands view s asked) i;
+  outcome = λ k i. change-row s k (change_result view s asked) (change-stands view s asked) (change-bare view s asked) i;
   order = λ r w. change-fails view s r asked n;
 }
 effect-row (effect.Resume h) view s asked n p = record {
@@ -90,7 +90,7 @@ effect-row (effect.Resume h) view s asked n p = record {
   order = λ r w. well-so (effect.Resume h) s r asked _ refl (λ last. resumes-so h s r last);
 }
 effect-row effect.Pause view s asked n p = record {
-  outcome = λ k i. asking-row s 1 _ (λ last. after_answering k.entry (by_reply None last) s) (λ (last : Reply). after_answering-outcome s k (by_reply None last) i (names-by_reply None last)) (λ (last : Reply). one-clean k (by_reply None last) (reply-clean None last));
+  outcome = λ k i. asking-row s 1 _ (λ last. after_answering k.entry (by_reply None last) s) (λ (last : Reply). after_answering-outcome s k (by_reply None last) i (bare-by_reply last)) (λ (last : Reply). one-clean k (by_reply None last) (reply-clean None last));
   order = λ r w. well-so effect.Pause s r asked _ refl (λ last. pauses-so s r last);
 }
 effect-row effect.Query view s asked n p = record {

@@ -40,3 +40,5 @@ pub mod EffectRows
 pub mod OrderedAnswers
 pub mod ProtocolLists
 pub mod Offers
+pub mod GivenBodies
+pub mod Gives

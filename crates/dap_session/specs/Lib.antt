@@ -24,3 +24,4 @@ pub mod RefusalLaws
 pub mod StaleLaws
 pub mod OfferLaws
 pub mod OrderLaws
+pub mod GivenLaws

@@ -1,5 +1,6 @@
 //! Laws of the definitions, each on a function with nothing to run.
 ghost use Rattle.dap_session.specs.Answering.{EachStepGoesWell};
+ghost use Rattle.dap_session.specs.GivenLaws.{EachAnswerGivesLive};
 ghost use Rattle.dap_session.specs.Laws.{EachStepGoesOn};
 ghost use Rattle.dap_session.specs.OrderLaws.{FailuresComeInOrder, RefusalsComeInOrder};
 ghost use Rattle.dap_session.specs.OfferLaws.{OffersAreServed};
@@ -70,4 +71,10 @@ pub fn refusals_come_in_order()
 /// own request is written: `launch` is parked then, or `configurationDone` succeeds and what is parked stays so.
 pub fn failures_come_in_order()
     ensures { FailuresComeInOrder }
+{}
+
+/// Whatever the debuggee replies, each reference that a client reads from an answer, by its body and its command, names
+/// something of its kind once the step is made; an answer that is no answer to a query gives none.
+pub fn each_answer_gives_live()
+    ensures { EachAnswerGivesLive }
 {}
