@@ -42,3 +42,4 @@ pub mod ProtocolLists
 pub mod Offers
 pub mod GivenBodies
 pub mod Gives
+pub mod States

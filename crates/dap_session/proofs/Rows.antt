@@ -10,19 +10,22 @@ use Rattle.dap_history.specs.Requests.{asked_of, asks}
 use Rattle.dap_message.specs.MessageParts.{AdapterEvent, initialized, terminated}
 use Rattle.dap_message.specs.Types.Call.{Call}
 use Rattle.dap_message.specs.Types.Call.TheVariants as call
-use Rattle.dap_message.specs.Types.Failure.TheVariants.{Cancelled, TooLarge, Debuggee}
+use Rattle.dap_message.specs.Types.Failure.TheVariants.{Cancelled, TooLarge, Debuggee, TooManyBreakpoints}
 use Rattle.dap_message.specs.Types.SourceKey.{SourceKey}
 use Rattle.dap_tables.specs.Breakpoints.{SetBreakpoints, count_with, breakpoints_with, max_id}
 use Rattle.dap_tables.specs.Outstanding.{Kept, contains_seq, without, with_mark, kept_with_mark, parked_ones, unparked_ones, HasDistinctSeqs}
 use Rattle.dap_tables.proofs.SetLemmas.{count-breakpoints_with}
-use Rattle.dap_debuggee.specs.Shown.{Shown, Reply, done, refused, happened}
+use Rattle.dap_debuggee.specs.Laws.{state_after}
+use Rattle.dap_debuggee.specs.declared.answers.State.{State}
+use Rattle.dap_session.specs.StateLaws.{IsStateOf}
+use Rattle.dap_debuggee.specs.Shown.{Shown, Act, Reply, done, refused, happened}
 use Rattle.dap_debuggee.specs.declared.answers.How.{How}
 use Rattle.dap_session.specs.declared.options.Options.{Options}
 use Rattle.dap_session.specs.Bodies.{QueryAnswer, QueryResult, object_of}
 use Rattle.dap_session.specs.Breakpoints.{are_too_many}
 use Rattle.dap_session.specs.Failures.{command_of}
 use Rattle.dap_session.specs.GivenLaws.{AreLive}
-use Rattle.dap_session.specs.Handling.{after_initialize, after_park, after_asking, after_asking_parked, after_launch, after_configuration_done, after_parked_launch, after_disconnect, after_terminate, after_resume, resume_body, after_query, fits, by_reply, answer_each, lines_asked, Change, ChangeResult, change_asked, after_change, change_result}
+use Rattle.dap_session.specs.Handling.{lines_change, lines_result, after_initialize, after_park, after_asking, after_asking_parked, after_launch, after_configuration_done, after_parked_launch, after_disconnect, after_terminate, after_resume, resume_body, after_query, fits, by_reply, answer_each, lines_asked, Change, ChangeResult, change_asked, after_change, change_result}
 use Rattle.dap_session.specs.Plan.{Answer, success, failure, plain_success, reply, emit, ask, requests_in, Made, at_once, after_answering}
 use Rattle.dap_session.specs.Session.{Session, own_request}
 use Rattle.dap_session.proofs.ChangeResults.{lines-due, value-due}
@@ -208,10 +211,14 @@ change-outcome : (s : Session) (k : Kept) (c : Change) → IsHandled s k → IsB
     → IsOutcome s 1 (record { drafts = reply k.entry (success c.body []) ∷ []; drops = false; after = record s { kept = without k.entry.seq s.kept; breakpoints = c.breakpoints; used = s.used + 1 } })
 change-outcome s k c i bare few = replied s k (success c.body []) _ i (moves-set s _ refl refl few refl) refl refl refl refl refl (λ suits. suits) (subst (λ ps. AreLive s.references ps) (sym (bare.1 k.entry)) tt)
 
-pub change-row : (s : Session) (k : Kept) (due : ChangeResult) → ((c : Change) → due ≡ Ok c → StandFew s.limits s.breakpoints → StandFew s.limits c.breakpoints) → ((c : Change) → due ≡ Ok c → IsBare (success c.body [])) → IsHandled s k → IsRow s (after_change s k.entry due)
-change-row s k (Err f) few bare i = failed-row s k f i
-change-row s k (Ok c) few bare i =
-    either-row (fits s k.entry c.body) s (change_asked s k.entry c) _ (λ (f : fits s k.entry c.body ≡ true). asking-row s 1 _ _ (λ (last : Reply). change-outcome s k c i (bare c refl) (few c refl)) (λ (last : Reply). refl))
+-- an act that leaves the debuggee in its state
+abbrev pub LeavesState : Act → Type 0
+LeavesState act = (before : State) (last : Reply) → state_after before act last ≡ before
+
+pub change-row : (s : Session) (k : Kept) (due : ChangeResult) → ((c : Change) → due ≡ Ok c → StandFew s.limits s.breakpoints → StandFew s.limits c.breakpoints) → ((c : Change) → due ≡ Ok c → IsBare (success c.body [])) → ((c : Change) → due ≡ Ok c → LeavesState c.act) → IsHandled s k → IsRow s (after_change s k.entry due)
+change-row s k (Err f) few bare keeps i = failed-row s k f i
+change-row s k (Ok c) few bare keeps i =
+    either-row (fits s k.entry c.body) s (change_asked s k.entry c) _ (λ (f : fits s k.entry c.body ≡ true). asking-row s 1 _ _ (λ (last : Reply). change-outcome s k c i (bare c refl) (few c refl)) (λ (last : Reply). refl) (λ before last h. subst (λ (x : State). IsStateOf s.phase x) (sym (keeps c refl before last)) h))
     (λ (f : fits s k.entry c.body ≡ false). failed-row s k TooLarge i)
 
 pub change-stands : (view : Shown) (s : Session) (asked : Call) (c : Change) → change_result view s asked ≡ Ok c → StandFew s.limits s.breakpoints → StandFew s.limits c.breakpoints
@@ -222,6 +229,23 @@ change-stands view s (call.SetVariable asked) c e few =
     let due = value-due view s asked (object_of s.references asked.variables_reference) c e in
     subst (λ (b : SetBreakpoints). StandFew s.limits b) (sym due.breakpoints) few
 change-stands view s _ c e few = absurd (cc e)
+
+lines-leave : (b : Bool) (s : Session) (key : SourceKey) (lines : List ℕ) (verified : List Bool) (c : Change) → (let due : ChangeResult = (if b then Err TooManyBreakpoints else Ok (lines_change s key lines verified)) in due) ≡ Ok c → LeavesState c.act
+lines-leave true s key lines verified c e = absurd (cc e)
+lines-leave false s key lines verified c e =
+    let same : lines_change s key lines verified ≡ c = cc in
+    subst (λ (x : Change). LeavesState x.act) same (λ before last. refl)
+
+lines-keep : (s : Session) (key : SourceKey) (lines : List ℕ) (o : Option (List Bool)) (c : Change) → lines_result s key lines o ≡ Ok c → LeavesState c.act
+lines-keep s key lines None c e = absurd (cc e)
+lines-keep s key lines (Some verified) c e = lines-leave (are_too_many s.limits key lines s.breakpoints) s key lines verified c e
+
+pub change-keeps : (view : Shown) (s : Session) (asked : Call) (c : Change) → change_result view s asked ≡ Ok c → LeavesState c.act
+change-keeps view s (call.SetBreakpoints key lines) c e = lines-keep s key lines (view.verify key (lines_asked s.options lines)) c e
+change-keeps view s (call.SetVariable asked) c e =
+    let due = value-due view s asked (object_of s.references asked.variables_reference) c e in
+    subst (λ (act : Act). LeavesState act) (sym due.act) (λ before last. refl)
+change-keeps view s _ c e = absurd (cc e)
 
 -- what it is answered gives no references
 pub change-bare : (view : Shown) (s : Session) (asked : Call) (c : Change) → change_result view s asked ≡ Ok c → IsBare (success c.body [])
@@ -237,7 +261,7 @@ after_query-once s k t w i = replied s k (success t.body t.names) _ i (moves-gro
 
 after_query-if : (b : Bool) (s : Session) (k : Kept) (t : QueryAnswer) → TellsWell s t → IsHandled s k
     → IsRow s (at_once (if b then record { drafts = reply k.entry (success t.body t.names) ∷ []; drops = false; after = record s { kept = without k.entry.seq s.kept; references = t.references; used = s.used + 1 } } else after_answering k.entry (failure TooLarge) s))
-after_query-if true s k t w i = once-row s 1 _ (after_query-once s k t w i) refl
+after_query-if true s k t w i = once-row s 1 _ (after_query-once s k t w i) refl (λ before h. h)
 after_query-if false s k t w i = failed-row s k TooLarge i
 
 pub after_query-row : (s : Session) (k : Kept) (given : QueryResult) → ((t : QueryAnswer) → given ≡ Ok t → TellsWell s t) → IsHandled s k → IsRow s (at_once (after_query s k.entry given))

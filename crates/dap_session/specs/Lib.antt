@@ -25,3 +25,4 @@ pub mod StaleLaws
 pub mod OfferLaws
 pub mod OrderLaws
 pub mod GivenLaws
+pub mod StateLaws

@@ -7,6 +7,7 @@ ghost use Rattle.dap_session.specs.OfferLaws.{OffersAreServed};
 ghost use Rattle.dap_session.specs.ReferenceLaws.{ReferencesAreApart};
 ghost use Rattle.dap_session.specs.RefusalLaws.{RefusalsChangeNothing};
 ghost use Rattle.dap_session.specs.StaleLaws.{DeadNumbersAreStale};
+ghost use Rattle.dap_session.specs.StateLaws.{EachStepKeepsState};
 ghost use Rattle.dap_session.specs.Within.{EachStepStaysWithin};
 
 use dap_history::laws::histories_grow;
@@ -77,4 +78,10 @@ pub fn failures_come_in_order()
 /// something of its kind once the step is made; an answer that is no answer to a query gives none.
 pub fn each_answer_gives_live()
     ensures { EachAnswerGivesLive }
+{}
+
+/// In Running the debuggee runs and in Stopped it is stopped, after each step where it was so before, whatever it replies, by
+/// the law of what acts do to its state.
+pub fn each_step_keeps_state()
+    ensures { EachStepKeepsState }
 {}

@@ -1,0 +1,118 @@
+-- The phase stays the debuggee's state.
+use Rattle.std.proofs.Common.{◌≡◌, ℕ, ◌+◌, List, Bool, true, false, Option, Some, None, Result, Ok, Err, length, refl, sym, subst}
+use Rattle.std.specs.Prelude.{not, if◌then◌else◌, nat_lt, nat_le, bytes_eq}
+use Rattle.serde_json.specs.Data.{Data}
+use Rattle.dap_message.specs.Argument.{Read}
+use Rattle.dap_message.specs.Call.{call_of}
+use Rattle.dap_message.specs.Types.Call.{Call}
+use Rattle.dap_message.specs.Types.Command.TheVariants as command
+use Rattle.dap_message.specs.declared.message.Kind.{Kind}
+use Rattle.dap_message.specs.declared.message.Kind.TheVariants.{Request as RequestKind, Response, Event, Other}
+use Rattle.dap_message.specs.declared.message.Message.{Message}
+use Rattle.dap_message.specs.Terminal.{run_in_terminal}
+use Rattle.dap_tables.specs.Outstanding.{contains_seq}
+use Rattle.dap_tables.specs.declared.entry.Entry.{Entry as Request}
+use Rattle.dap_debuggee.specs.Laws.{state_after}
+use Rattle.dap_debuggee.specs.Shown.{to_start, to_poll, Reply, done, refused, happened}
+use Rattle.dap_debuggee.specs.declared.answers.Happening.{Happening}
+use Rattle.dap_debuggee.specs.declared.answers.Happening.TheVariants as happening
+use Rattle.dap_debuggee.specs.declared.answers.State.{State}
+use Rattle.dap_session.specs.declared.fault.AdapterFault.{AdapterFault}
+use Rattle.dap_session.specs.declared.fault.AdapterFault.TheVariants.{RepeatedSeq, Unmatched, CommandMismatch, Ended as EndedFault}
+use Rattle.dap_session.specs.declared.phase.Phase.{Phase}
+use Rattle.dap_session.specs.declared.phase.Phase.TheVariants.{Fresh, Ended, Asked}
+use Rattle.dap_session.specs.Failures.{of_known, command_of}
+use Rattle.dap_session.specs.Handling.{start_phase}
+use Rattle.dap_session.specs.Plan.{Plan, at_once, asking, no_change, messages_due, plan_within_numbers}
+use Rattle.dap_session.specs.Polling.{after_happening, after_poll_reply, polls, has_debuggee}
+use Rattle.dap_session.specs.Session.{Session, is_asked}
+use Rattle.dap_session.specs.StateLaws.{IsStateOf, KeepsState, EachStepKeepsState}
+use Rattle.dap_session.specs.Table.{is_phase}
+use Rattle.dap_session.specs.Taking.{is_cancel, after_cancel_call, after_cancel_request, after_keeping, after_taking, after_terminal, after_late_terminal, plan_of_terminal, plan_of_response, takes_as, takes}
+use Rattle.dap_session.proofs.Turns.{afforded, turn-is}
+
+-- ---- a request
+
+call-phase : (read : Read Call) (r : Request) (s : Session) → (after_cancel_call read r s).after.phase ≡ s.phase
+call-phase (Err key) r s = refl
+call-phase (Ok asked) r s = refl
+
+cancel-phase : (b : Bool) (r : Request) (s : Session) → is_phase Fresh s.phase ≡ b → (after_cancel_request r s).after.phase ≡ s.phase
+cancel-phase true r s e = rw e refl
+cancel-phase false r s e = rw e (call-phase (call_of command.Cancel r.arguments) r s)
+
+keeping-phase : (b : Bool) (r : Request) (s : Session) → nat_lt (length s.kept) s.limits.requests ≡ b → (after_keeping r s).after.phase ≡ s.phase
+keeping-phase true r s e = rw e refl
+keeping-phase false r s e = rw e refl
+
+taking-phase : (b : Bool) (r : Request) (s : Session) → of_known is_cancel (command_of r) ≡ b → (after_taking r s).after.phase ≡ s.phase
+taking-phase true r s e = rw e (cancel-phase (is_phase Fresh s.phase) r s refl)
+taking-phase false r s e = rw e (keeping-phase (nat_lt (length s.kept) s.limits.requests) r s refl)
+
+given-keeps : (s : Session) (p plan : Plan) → plan_within_numbers s p ≡ Ok plan → KeepsState s p → KeepsState s plan
+given-keeps s p plan e k =
+    let given = afforded (nat_le (s.used + messages_due p) s.limits.seq) p plan _ e in
+    subst (λ (q : Plan). KeepsState s q) (sym given.1) k
+
+request-keeps : (ended repeated : Bool) (s : Session) (r : Request) (plan : Plan)
+    → (let given : Result Plan AdapterFault = (if ended then Err EndedFault else (if repeated then Err (RepeatedSeq r.seq) else plan_within_numbers s (at_once (after_taking r s)))) in given) ≡ Ok plan → KeepsState s plan
+request-keeps true repeated s r plan e = absurd (cc e)
+request-keeps false true s r plan e = absurd (cc e)
+request-keeps false false s r plan e =
+    given-keeps s (at_once (after_taking r s)) plan e (λ before h. subst (λ (p : Phase). IsStateOf p before) (sym (taking-phase (of_known is_cancel (command_of r)) r s refl)) h)
+
+-- ---- a response
+
+started : (before : State) (last : Reply) → IsStateOf (start_phase last) (state_after before to_start last)
+started before done = refl
+started before refused = tt
+started before (happened x) = tt
+
+terminal-keeps : (ok : Bool) (s : Session) → KeepsState s (plan_of_terminal ok s)
+terminal-keeps true s = λ before last h. started before last
+terminal-keeps false s = λ before h. tt
+
+phase-keeps : (b ok : Bool) (s : Session) → KeepsState s (let plan : Plan = (if b then plan_of_terminal ok s else at_once (after_late_terminal s)) in plan)
+phase-keeps true ok s = terminal-keeps ok s
+phase-keeps false ok s = λ before h. h
+
+response-keeps : (a b : Bool) (s : Session) (request_seq : ℕ) (ok : Bool) (plan : Plan)
+    → (let given : Result Plan AdapterFault = (if not a then Err (Unmatched request_seq) else (if not b then Err (CommandMismatch request_seq) else plan_within_numbers s (plan_of_response ok s))) in given) ≡ Ok plan → KeepsState s plan
+response-keeps false b s request_seq ok plan e = absurd (cc e)
+response-keeps true false s request_seq ok plan e = absurd (cc e)
+response-keeps true true s request_seq ok plan e = given-keeps s (plan_of_response ok s) plan e (phase-keeps (is_phase Asked s.phase) ok s)
+
+nothing-keeps : (s : Session) (plan : Plan) → plan ≡ at_once (no_change s) → KeepsState s plan
+nothing-keeps s plan e = subst (λ (p : Plan). KeepsState s p) (sym e) (λ before h. h)
+
+taken-keeps : (s : Session) (seq : ℕ) (kind : Kind) (plan : Plan) → takes_as seq kind s ≡ Ok plan → KeepsState s plan
+taken-keeps s seq (RequestKind command arguments) plan e = request-keeps (is_phase Ended s.phase) (contains_seq seq s.kept) s (record { seq = seq; command = command; arguments = arguments }) plan e
+taken-keeps s seq (Response request_seq ok command message body) plan e = response-keeps (is_asked request_seq s.asked) (bytes_eq command run_in_terminal) s request_seq ok plan e
+taken-keeps s seq (Event event body) plan e = nothing-keeps s plan (cc)
+taken-keeps s seq (Other tag) plan e = nothing-keeps s plan (cc)
+
+-- ---- a poll
+
+happening-keeps : (s : Session) (h : Happening) (before : State) → IsStateOf s.phase before → IsStateOf (after_happening h s).after.phase (state_after before to_poll (happened h))
+unfolding after_happening
+happening-keeps s happening.Nothing before h = h
+happening-keeps s (happening.Output category text) before h = h
+happening-keeps s (happening.Stopped reason thread) before h = refl
+happening-keeps s (happening.Continued thread) before h = refl
+happening-keeps s (happening.Exited code) before h = tt
+
+reply-keeps : (s : Session) (before : State) (last : Reply) → IsStateOf s.phase before → IsStateOf (after_poll_reply s last).after.phase (state_after before to_poll last)
+reply-keeps s before done h = h
+reply-keeps s before refused h = h
+reply-keeps s before (happened x) h = happening-keeps s x before h
+
+polled-keeps : (b : Bool) (s : Session) → KeepsState s (let plan : Plan = (if b then asking to_poll (after_poll_reply s) else at_once (no_change s)) in plan)
+polled-keeps true s = reply-keeps s
+polled-keeps false s = λ before h. h
+
+pub each_step_keeps_state : EachStepKeepsState
+each_step_keeps_state = record {
+  take = λ s m plan e. taken-keeps s m.seq m.kind plan e;
+  turn = λ view s plan e. (turn-is view s plan e).row.keeps;
+  poll = λ s. polled-keeps (has_debuggee s.phase) s;
+}
