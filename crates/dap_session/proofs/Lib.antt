@@ -43,3 +43,4 @@ pub mod Offers
 pub mod GivenBodies
 pub mod Gives
 pub mod States
+pub mod Placed

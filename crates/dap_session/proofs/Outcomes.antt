@@ -12,7 +12,7 @@ use Rattle.dap_tables.specs.References.{LiveReferences}
 use Rattle.dap_tables.specs.declared.entry.Entry.{Entry}
 use Rattle.dap_debuggee.specs.Shown.{Act, Reply, done}
 use Rattle.dap_session.specs.Answering.{GoesWell}
-use Rattle.dap_session.specs.GivenLaws.{AreLive, given_by, AllGiveLive}
+use Rattle.dap_session.specs.GivenLaws.{AreLive, given_by, answers_setter, AllGiveLive}
 use Rattle.dap_session.specs.Handling.{answer_each}
 use Rattle.dap_session.specs.Laws.{CanMake}
 use Rattle.dap_session.specs.Plan.{Answer, success, failure, plain_success, Draft, reply, emit, ask, requests_in, names_in, names_of, outs, Made, Plan, at_once, asking, after_answering, messages_due, entries_of, references_end_if}
@@ -63,7 +63,7 @@ bare-success = (refl, λ r. refl)
 -- what they give is live
 pub bare-live : (refs : LiveReferences) (ds : List Draft) → AreBare ds → AllGiveLive refs ds
 bare-live refs [] n = tt
-bare-live refs (d ∷ ds) n = (rw n.1 tt, bare-live refs ds n.2)
+bare-live refs (d ∷ ds) n = (rw n.1 tt, λ setter. n.1, bare-live refs ds n.2)
 
 references-none : (refs : LiveReferences) (used : ℕ) (ds : List Draft) → AreBare ds → references_after refs (outs used ds) ≡ refs
 references-none refs used [] n = refl
@@ -156,16 +156,16 @@ fewer-by s k m i ks d = rw ks (fewer-handled s k d i)
 
 -- one answer, and the request is kept no more
 pub replied : (s : Session) (k : Kept) (answer : Answer) (m : Made) → IsHandled s k → Moves s m → m.after.references ≡ references_after s.references (entries_of s.used m) → m.drafts ≡ reply k.entry answer ∷ [] → m.after.kept ≡ without k.entry.seq s.kept
-    → m.after.used ≡ s.used + 1 → m.after.asked ≡ s.asked → Stays s m → AreLive m.after.references (given_by (reply k.entry answer)) → IsOutcome s 1 m
-replied s k answer m i v r ds ks u same t g =
+    → m.after.used ≡ s.used + 1 → m.after.asked ≡ s.asked → Stays s m → AreLive m.after.references (given_by (reply k.entry answer)) → (answers_setter (reply k.entry answer) ≡ true → given_by (reply k.entry answer) ≡ []) → IsOutcome s 1 m
+replied s k answer m i v r ds ks u same t g n =
     let one : length m.drafts ≡ 1 = ap length ds in
     let none : AskNone m.drafts = subst (λ (xs : List Draft). AskNone xs) (sym ds) tt in
-    outcome s 1 m v r (omega arith) one (walked-by s k answer m i ds ks) (fewer-by s k m i ks) (λ suits. asks-well s m (asks-nothing s m same none t)) t (subst (λ (xs : List Draft). AllGiveLive m.after.references xs) (sym ds) (g, tt))
+    outcome s 1 m v r (omega arith) one (walked-by s k answer m i ds ks) (fewer-by s k m i ks) (λ suits. asks-well s m (asks-nothing s m same none t)) t (subst (λ (xs : List Draft). AllGiveLive m.after.references xs) (sym ds) (g, n, tt))
 
 -- and it names no references
 pub plain-reply : (s : Session) (k : Kept) (answer : Answer) (m : Made) → IsHandled s k → IsBare answer → m.drafts ≡ reply k.entry answer ∷ [] → m.after.kept ≡ without k.entry.seq s.kept → m.after.used ≡ s.used + 1 → IsPlain s m → m.after.asked ≡ s.asked → Stays s m → IsOutcome s 1 m
 plain-reply s k answer m i e ds ks u p same t =
-    replied s k answer m i (moves-plain s m p) (references-plain s m (subst (λ (xs : List Draft). AreBare xs) (sym ds) (e.0, e.1 k.entry, tt)) p) ds ks u same t (subst (λ ps. AreLive m.after.references ps) (sym (e.1 k.entry)) tt)
+    replied s k answer m i (moves-plain s m p) (references-plain s m (subst (λ (xs : List Draft). AreBare xs) (sym ds) (e.0, e.1 k.entry, tt)) p) ds ks u same t (subst (λ ps. AreLive m.after.references ps) (sym (e.1 k.entry)) tt) (λ setter. e.1 k.entry)
 
 pub after_answering-outcome : (s : Session) (k : Kept) (answer : Answer) → IsHandled s k → IsBare answer → IsOutcome s 1 (after_answering k.entry answer s)
 after_answering-outcome s k answer i e = plain-reply s k answer (after_answering k.entry answer s) i e refl refl refl (is-plain s _ refl refl refl) refl (λ suits. suits)

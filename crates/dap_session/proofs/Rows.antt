@@ -13,6 +13,7 @@ use Rattle.dap_message.specs.Types.Call.TheVariants as call
 use Rattle.dap_message.specs.Types.Failure.TheVariants.{Cancelled, TooLarge, Debuggee, TooManyBreakpoints}
 use Rattle.dap_message.specs.Types.SourceKey.{SourceKey}
 use Rattle.dap_tables.specs.Breakpoints.{SetBreakpoints, count_with, breakpoints_with, max_id}
+use Rattle.dap_tables.specs.declared.entry.Entry.{Entry}
 use Rattle.dap_tables.specs.Outstanding.{Kept, contains_seq, without, with_mark, kept_with_mark, parked_ones, unparked_ones, HasDistinctSeqs}
 use Rattle.dap_tables.proofs.SetLemmas.{count-breakpoints_with}
 use Rattle.dap_debuggee.specs.Laws.{state_after}
@@ -24,7 +25,7 @@ use Rattle.dap_session.specs.declared.options.Options.{Options}
 use Rattle.dap_session.specs.Bodies.{QueryAnswer, QueryResult, object_of}
 use Rattle.dap_session.specs.Breakpoints.{are_too_many}
 use Rattle.dap_session.specs.Failures.{command_of}
-use Rattle.dap_session.specs.GivenLaws.{AreLive}
+use Rattle.dap_session.specs.GivenLaws.{AreLive, is_setter}
 use Rattle.dap_session.specs.Handling.{lines_change, lines_result, after_initialize, after_park, after_asking, after_asking_parked, after_launch, after_configuration_done, after_parked_launch, after_disconnect, after_terminate, after_resume, resume_body, after_query, fits, by_reply, answer_each, lines_asked, Change, ChangeResult, change_asked, after_change, change_result}
 use Rattle.dap_session.specs.Plan.{Answer, success, failure, plain_success, reply, emit, ask, requests_in, Made, at_once, after_answering}
 use Rattle.dap_session.specs.Session.{Session, own_request}
@@ -126,7 +127,7 @@ after_asking-outcome s k q i =
     (λ (d : HasDistinctSeqs s.kept). fewer-park s k d i)
     (λ suits. one-asked s (after_asking s k.entry) (s.used + 1) (none-in s.phase s.asked q suits) refl refl)
     (λ suits. refl)
-    (tt, tt)
+    (tt, λ setter. refl, tt)
 
 pub after_asking_parked-outcome : (s : Session) (k : Kept) → asks_none s.phase ≡ true → IsHandled s k → IsOutcome s 2 (after_asking_parked s k.entry)
 after_asking_parked-outcome s k q i =
@@ -136,7 +137,7 @@ after_asking_parked-outcome s k q i =
     (λ (d : HasDistinctSeqs s.kept). fewer-handled s k d i)
     (λ suits. one-asked s (after_asking_parked s k.entry) (s.used + 2) (none-in s.phase s.asked q suits) refl (ap (λ (n : ℕ). own_request n ∷ []) two))
     (λ suits. refl)
-    (tt, (tt, tt))
+    (tt, λ setter. refl, (tt, λ setter. refl, tt))
 
 -- ---- disconnect and terminate
 
@@ -209,7 +210,7 @@ few-breakpoints_with limits key lines asked b same h =
 
 change-outcome : (s : Session) (k : Kept) (c : Change) → IsHandled s k → IsBare (success c.body []) → (StandFew s.limits s.breakpoints → StandFew s.limits c.breakpoints)
     → IsOutcome s 1 (record { drafts = reply k.entry (success c.body []) ∷ []; drops = false; after = record s { kept = without k.entry.seq s.kept; breakpoints = c.breakpoints; used = s.used + 1 } })
-change-outcome s k c i bare few = replied s k (success c.body []) _ i (moves-set s _ refl refl few refl) refl refl refl refl refl (λ suits. suits) (subst (λ ps. AreLive s.references ps) (sym (bare.1 k.entry)) tt)
+change-outcome s k c i bare few = replied s k (success c.body []) _ i (moves-set s _ refl refl few refl) refl refl refl refl refl (λ suits. suits) (subst (λ ps. AreLive s.references ps) (sym (bare.1 k.entry)) tt) (λ setter. bare.1 k.entry)
 
 -- an act that leaves the debuggee in its state
 abbrev pub LeavesState : Act → Type 0
@@ -218,7 +219,7 @@ LeavesState act = (before : State) (last : Reply) → state_after before act las
 pub change-row : (s : Session) (k : Kept) (due : ChangeResult) → ((c : Change) → due ≡ Ok c → StandFew s.limits s.breakpoints → StandFew s.limits c.breakpoints) → ((c : Change) → due ≡ Ok c → IsBare (success c.body [])) → ((c : Change) → due ≡ Ok c → LeavesState c.act) → IsHandled s k → IsRow s (after_change s k.entry due)
 change-row s k (Err f) few bare keeps i = failed-row s k f i
 change-row s k (Ok c) few bare keeps i =
-    either-row (fits s k.entry c.body) s (change_asked s k.entry c) _ (λ (f : fits s k.entry c.body ≡ true). asking-row s 1 _ _ (λ (last : Reply). change-outcome s k c i (bare c refl) (few c refl)) (λ (last : Reply). refl) (λ before last h. subst (λ (x : State). IsStateOf s.phase x) (sym (keeps c refl before last)) h))
+    either-row (fits s k.entry c.body) s (change_asked s k.entry c) _ (λ (f : fits s k.entry c.body ≡ true). asking-row s 1 _ _ (λ (last : Reply). change-outcome s k c i (bare c refl) (few c refl)) (λ (last : Reply). refl) (λ before last may h. subst (λ (x : State). IsStateOf s.phase x) (sym (keeps c refl before last)) h))
     (λ (f : fits s k.entry c.body ≡ false). failed-row s k TooLarge i)
 
 pub change-stands : (view : Shown) (s : Session) (asked : Call) (c : Change) → change_result view s asked ≡ Ok c → StandFew s.limits s.breakpoints → StandFew s.limits c.breakpoints
@@ -255,15 +256,19 @@ change-bare view s _ c e = absurd (cc e)
 
 -- ---- what is told
 
-after_query-once : (s : Session) (k : Kept) (t : QueryAnswer) → TellsWell s t → IsHandled s k
+-- it does not set a variable
+abbrev pub IsNoSetter : Entry → Type 0
+IsNoSetter r = is_setter (command_of r) ≡ true → ⊥
+
+after_query-once : (s : Session) (k : Kept) (t : QueryAnswer) → TellsWell s t → IsNoSetter k.entry → IsHandled s k
     → IsOutcome s 1 (record { drafts = reply k.entry (success t.body t.names) ∷ []; drops = false; after = record s { kept = without k.entry.seq s.kept; references = t.references; used = s.used + 1 } })
-after_query-once s k t w i = replied s k (success t.body t.names) _ i (moves-grown s _ refl w.grows w.few refl refl) w.references refl refl refl refl (λ suits. suits) (w.gives (command_of k.entry))
+after_query-once s k t w o i = replied s k (success t.body t.names) _ i (moves-grown s _ refl w.grows w.few refl refl) w.references refl refl refl refl (λ suits. suits) (w.gives (command_of k.entry)) (λ setter. absurd (o setter))
 
-after_query-if : (b : Bool) (s : Session) (k : Kept) (t : QueryAnswer) → TellsWell s t → IsHandled s k
+after_query-if : (b : Bool) (s : Session) (k : Kept) (t : QueryAnswer) → TellsWell s t → IsNoSetter k.entry → IsHandled s k
     → IsRow s (at_once (if b then record { drafts = reply k.entry (success t.body t.names) ∷ []; drops = false; after = record s { kept = without k.entry.seq s.kept; references = t.references; used = s.used + 1 } } else after_answering k.entry (failure TooLarge) s))
-after_query-if true s k t w i = once-row s 1 _ (after_query-once s k t w i) refl (λ before h. h)
-after_query-if false s k t w i = failed-row s k TooLarge i
+after_query-if true s k t w o i = once-row s 1 _ (after_query-once s k t w o i) refl (λ before h. h)
+after_query-if false s k t w o i = failed-row s k TooLarge i
 
-pub after_query-row : (s : Session) (k : Kept) (given : QueryResult) → ((t : QueryAnswer) → given ≡ Ok t → TellsWell s t) → IsHandled s k → IsRow s (at_once (after_query s k.entry given))
-after_query-row s k (Err f) w i = failed-row s k f i
-after_query-row s k (Ok t) w i = after_query-if (fits s k.entry t.body) s k t (w t refl) i
+pub after_query-row : (s : Session) (k : Kept) (given : QueryResult) → ((t : QueryAnswer) → given ≡ Ok t → TellsWell s t) → IsNoSetter k.entry → IsHandled s k → IsRow s (at_once (after_query s k.entry given))
+after_query-row s k (Err f) w o i = failed-row s k f i
+after_query-row s k (Ok t) w o i = after_query-if (fits s k.entry t.body) s k t (w t refl) o i

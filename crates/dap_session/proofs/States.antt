@@ -29,6 +29,8 @@ use Rattle.dap_session.specs.Session.{Session, is_asked}
 use Rattle.dap_session.specs.StateLaws.{IsStateOf, KeepsState, EachStepKeepsState}
 use Rattle.dap_session.specs.Table.{is_phase}
 use Rattle.dap_session.specs.Taking.{is_cancel, after_cancel_call, after_cancel_request, after_keeping, after_taking, after_terminal, after_late_terminal, plan_of_terminal, plan_of_response, takes_as, takes}
+use Rattle.dap_session.proofs.EffectRows.{starts-its-state}
+use Rattle.dap_session.proofs.Placed.{is_unstarted, unstarted, asked-unstarted}
 use Rattle.dap_session.proofs.Turns.{afforded, turn-is}
 
 -- ---- a request
@@ -63,24 +65,19 @@ request-keeps false false s r plan e =
 
 -- ---- a response
 
-started : (before : State) (last : Reply) → IsStateOf (start_phase last) (state_after before to_start last)
-started before done = refl
-started before refused = tt
-started before (happened x) = tt
+terminal-keeps : (ok : Bool) (s : Session) → is_unstarted s.phase ≡ true → KeepsState s (plan_of_terminal ok s)
+terminal-keeps true s q = λ before last may h. starts-its-state before last (unstarted s.phase before q h)
+terminal-keeps false s q = λ before h. unstarted s.phase before q h
 
-terminal-keeps : (ok : Bool) (s : Session) → KeepsState s (plan_of_terminal ok s)
-terminal-keeps true s = λ before last h. started before last
-terminal-keeps false s = λ before h. tt
-
-phase-keeps : (b ok : Bool) (s : Session) → KeepsState s (let plan : Plan = (if b then plan_of_terminal ok s else at_once (after_late_terminal s)) in plan)
-phase-keeps true ok s = terminal-keeps ok s
-phase-keeps false ok s = λ before h. h
+phase-keeps : (b ok : Bool) (s : Session) → is_phase Asked s.phase ≡ b → KeepsState s (let plan : Plan = (if b then plan_of_terminal ok s else at_once (after_late_terminal s)) in plan)
+phase-keeps true ok s e = terminal-keeps ok s (asked-unstarted s.phase e)
+phase-keeps false ok s e = λ before h. h
 
 response-keeps : (a b : Bool) (s : Session) (request_seq : ℕ) (ok : Bool) (plan : Plan)
     → (let given : Result Plan AdapterFault = (if not a then Err (Unmatched request_seq) else (if not b then Err (CommandMismatch request_seq) else plan_within_numbers s (plan_of_response ok s))) in given) ≡ Ok plan → KeepsState s plan
 response-keeps false b s request_seq ok plan e = absurd (cc e)
 response-keeps true false s request_seq ok plan e = absurd (cc e)
-response-keeps true true s request_seq ok plan e = given-keeps s (plan_of_response ok s) plan e (phase-keeps (is_phase Asked s.phase) ok s)
+response-keeps true true s request_seq ok plan e = given-keeps s (plan_of_response ok s) plan e (phase-keeps (is_phase Asked s.phase) ok s refl)
 
 nothing-keeps : (s : Session) (plan : Plan) → plan ≡ at_once (no_change s) → KeepsState s plan
 nothing-keeps s plan e = subst (λ (p : Plan). KeepsState s p) (sym e) (λ before h. h)
@@ -99,7 +96,7 @@ happening-keeps s happening.Nothing before h = h
 happening-keeps s (happening.Output category text) before h = h
 happening-keeps s (happening.Stopped reason thread) before h = refl
 happening-keeps s (happening.Continued thread) before h = refl
-happening-keeps s (happening.Exited code) before h = tt
+happening-keeps s (happening.Exited code) before h = refl
 
 reply-keeps : (s : Session) (before : State) (last : Reply) → IsStateOf s.phase before → IsStateOf (after_poll_reply s last).after.phase (state_after before to_poll last)
 reply-keeps s before done h = h
@@ -107,7 +104,7 @@ reply-keeps s before refused h = h
 reply-keeps s before (happened x) h = happening-keeps s x before h
 
 polled-keeps : (b : Bool) (s : Session) → KeepsState s (let plan : Plan = (if b then asking to_poll (after_poll_reply s) else at_once (no_change s)) in plan)
-polled-keeps true s = reply-keeps s
+polled-keeps true s = λ before last may h. reply-keeps s before last h
 polled-keeps false s = λ before h. h
 
 pub each_step_keeps_state : EachStepKeepsState

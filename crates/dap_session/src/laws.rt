@@ -75,13 +75,13 @@ pub fn failures_come_in_order()
 {}
 
 /// Whatever the debuggee replies, each reference that a client reads from an answer, by its body and its command, names
-/// something of its kind once the step is made; an answer that is no answer to a query gives none.
+/// something of its kind once the step is made; an answer to `setVariable` gives none.
 pub fn each_answer_gives_live()
     ensures { EachAnswerGivesLive }
 {}
 
-/// In Running the debuggee runs and in Stopped it is stopped, after each step where it was so before, whatever it replies, by
-/// the law of what acts do to its state.
+/// The phase is the debuggee's state, after each step where it was so before, whatever the debuggee may reply, by the laws of
+/// its states: it is not started up to a start, runs in Running, is stopped in Stopped, and is gone in Exited.
 pub fn each_step_keeps_state()
     ensures { EachStepKeepsState }
 {}
