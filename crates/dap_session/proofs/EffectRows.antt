@@ -53,10 +53,10 @@ asks_none-start phase h = rw h refl
 
 -- ---- the state of the debuggee
 
-pub starts-its-state : (before : State) (last : Reply) → before ≡ state.NotStarted → IsStateOf (start_phase last) (state_after before to_start last)
-starts-its-state before done h = refl
-starts-its-state before refused h = h
-starts-its-state before (happened x) h = h
+pub starts-its-state : (first before : State) (last : Reply) → before ≡ first → IsStateOf first (start_phase last) (state_after before to_start last)
+starts-its-state first before done h = refl
+starts-its-state first before refused h = h
+starts-its-state first before (happened x) h = h
 
 -- only done is answered to an end
 ends-its-state : (before : State) (last : Reply) → IsTrue (may_answer before to_end last) → state_after before to_end last ≡ state.Gone
@@ -70,51 +70,51 @@ ends-its-state state.Running (happened x) may = absurd cc
 ends-its-state state.Stopped (happened x) may = absurd cc
 ends-its-state state.Gone (happened x) may = absurd cc
 
-resumes-its-state : (how : How) (s : Session) (k : Kept) (thread : ℤ) (before : State) (last : Reply) → IsTrue (may_answer before (to_resume how thread) last) → IsStateOf s.phase before → IsStateOf (after_resume how s k.entry last).after.phase (state_after before (to_resume how thread) last)
-resumes-its-state how s k thread before done may h = refl
-resumes-its-state how s k thread before refused may h = h
-resumes-its-state how s k thread before (happened x) may h = h
+resumes-its-state : (first : State) (how : How) (s : Session) (k : Kept) (thread : ℤ) (before : State) (last : Reply) → IsTrue (may_answer before (to_resume how thread) last) → IsStateOf first s.phase before → IsStateOf first (after_resume how s k.entry last).after.phase (state_after before (to_resume how thread) last)
+resumes-its-state first how s k thread before done may h = refl
+resumes-its-state first how s k thread before refused may h = h
+resumes-its-state first how s k thread before (happened x) may h = h
 
 pub effect-row : (e : Effect) (view : Shown) (s : Session) (asked : Call) → Suits e asked → IsIn e s.phase → is_placed e s.phase ≡ true → EffectRow e view s asked
 unfolding plan_for
 effect-row effect.Initialize view s asked n p q = record {
-  outcome = λ k i o. once-row s 2 _ (after_initialize-outcome s k asked p i) refl (λ before h. unstarted s.phase before q h);
+  outcome = λ k i o. once-row s 2 _ (after_initialize-outcome s k asked p i) refl (λ first before h. unstarted first s.phase before q h);
   order = λ r w. well-so effect.Initialize s r asked _ refl (λ last. succeeds-initialize s r asked);
 }
 effect-row effect.Park view s asked n p q = record {
-  outcome = λ k i o. once-row s 0 _ (after_park-outcome s k p i) refl (λ before h. unstarted s.phase before q h);
+  outcome = λ k i o. once-row s 0 _ (after_park-outcome s k p i) refl (λ first before h. unstarted first s.phase before q h);
   order = λ r w. well-so effect.Park s r asked _ refl (λ last. refl);
 }
 effect-row effect.Start view s asked n p q = record {
-  outcome = λ k i o. asking-row s 1 _ (after_launch s k.entry) (after_launch-outcome s k (asks_none-start s.phase p) i) (λ (last : Reply). one-clean k (by_reply None last) (reply-clean None last)) (λ before last may h. starts-its-state before last (unstarted s.phase before q h));
+  outcome = λ k i o. asking-row s 1 _ (after_launch s k.entry) (after_launch-outcome s k (asks_none-start s.phase p) i) (λ (last : Reply). one-clean k (by_reply None last) (reply-clean None last)) (λ first before last may h. starts-its-state first before last (unstarted first s.phase before q h));
   order = λ r w. well-so effect.Start s r asked _ refl (λ last. starts-so s r last p);
 }
 effect-row effect.Ask view s asked n p q = record {
-  outcome = λ k i o. once-row s 1 _ (after_asking-outcome s k p i) refl (λ before h. unstarted s.phase before q h);
+  outcome = λ k i o. once-row s 1 _ (after_asking-outcome s k p i) refl (λ first before h. unstarted first s.phase before q h);
   order = λ r w. well-so effect.Ask s r asked _ refl (λ last. asks-so s r);
 }
 effect-row effect.AskParked view s asked n p q = record {
-  outcome = λ k i o. once-row s 2 _ (after_asking_parked-outcome s k p i) refl (λ before h. unstarted s.phase before q h);
+  outcome = λ k i o. once-row s 2 _ (after_asking_parked-outcome s k p i) refl (λ first before h. unstarted first s.phase before q h);
   order = λ r w. well-so effect.AskParked s r asked _ refl (λ last. asks-parked-so s r);
 }
 effect-row effect.ConfigurationDone view s asked n p q = record {
-  outcome = λ k i o. once-row s 1 _ (after_configuration_done-outcome s k p i) refl (λ before h. unstarted s.phase before q h);
+  outcome = λ k i o. once-row s 1 _ (after_configuration_done-outcome s k p i) refl (λ first before h. unstarted first s.phase before q h);
   order = λ r w. well-so effect.ConfigurationDone s r asked _ refl (λ last. succeeds-first r []);
 }
 effect-row effect.StartParked view s asked n p q = record {
-  outcome = λ k i o. asking-row s (length (parked_ones (without k.entry.seq s.kept)) + 1) _ (after_parked_launch s k.entry) (after_parked_launch-outcome s k p i) (λ (last : Reply). each-clean (by_reply None last) (parked_ones (without k.entry.seq s.kept)) (reply-clean None last)) (λ before last may h. starts-its-state before last (unstarted s.phase before q h));
+  outcome = λ k i o. asking-row s (length (parked_ones (without k.entry.seq s.kept)) + 1) _ (after_parked_launch s k.entry) (after_parked_launch-outcome s k p i) (λ (last : Reply). each-clean (by_reply None last) (parked_ones (without k.entry.seq s.kept)) (reply-clean None last)) (λ first before last may h. starts-its-state first before last (unstarted first s.phase before q h));
   order = λ r w. well-so effect.StartParked s r asked _ refl (λ last. starts-parked-so s r last);
 }
 effect-row effect.Disconnect view s asked n p q = record {
-  outcome = λ k i o. once-row s (length (without k.entry.seq s.kept) + 1) _ (after_disconnect-outcome s k i) (after_disconnect-clean s k) (λ before h. at-rest s.phase before q h);
+  outcome = λ k i o. once-row s (length (without k.entry.seq s.kept) + 1) _ (after_disconnect-outcome s k i) (after_disconnect-clean s k) (λ first before h. at-rest first s.phase before q h);
   order = λ r w. well-so effect.Disconnect s r asked _ refl (λ last. disconnects-so s r);
 }
 effect-row effect.EndAndDisconnect view s asked n p q = record {
-  outcome = λ k i o. asking-row s (length (without k.entry.seq s.kept) + 1) _ (λ last. after_disconnect s k.entry) (λ (last : Reply). after_disconnect-outcome s k i) (λ (last : Reply). after_disconnect-clean s k) (λ before last may h. inr (ends-its-state before last may));
+  outcome = λ k i o. asking-row s (length (without k.entry.seq s.kept) + 1) _ (λ last. after_disconnect s k.entry) (λ (last : Reply). after_disconnect-outcome s k i) (λ (last : Reply). after_disconnect-clean s k) (λ first before last may h. inr (ends-its-state before last may));
   order = λ r w. well-so effect.EndAndDisconnect s r asked _ refl (λ last. disconnects-so s r);
 }
 effect-row effect.Terminate view s asked n p q = record {
-  outcome = λ k i o. asking-row s 2 _ (λ last. after_terminate s k.entry) (λ (last : Reply). after_terminate-outcome s k p i) (λ (last : Reply). refl) (λ before last may h. ends-its-state before last may);
+  outcome = λ k i o. asking-row s 2 _ (λ last. after_terminate s k.entry) (λ (last : Reply). after_terminate-outcome s k p i) (λ (last : Reply). refl) (λ first before last may h. ends-its-state before last may);
   order = λ r w. well-so effect.Terminate s r asked _ refl (λ last. succeeds-first r (emit terminated ∷ []));
 }
 effect-row effect.Change view s asked n p q = record {
@@ -122,11 +122,11 @@ effect-row effect.Change view s asked n p q = record {
   order = λ r w. change-fails view s r asked n;
 }
 effect-row (effect.Resume h) view s asked n p q = record {
-  outcome = λ k i o. asking-row s 1 _ (after_resume h s k.entry) (after_resume-outcome h s k p i) (after_resume-clean h s k) (resumes-its-state h s k (thread_of asked));
+  outcome = λ k i o. asking-row s 1 _ (after_resume h s k.entry) (after_resume-outcome h s k p i) (after_resume-clean h s k) (λ first. resumes-its-state first h s k (thread_of asked));
   order = λ r w. well-so (effect.Resume h) s r asked _ refl (λ last. resumes-so h s r last);
 }
 effect-row effect.Pause view s asked n p q = record {
-  outcome = λ k i o. asking-row s 1 _ (λ last. after_answering k.entry (by_reply None last) s) (λ (last : Reply). after_answering-outcome s k (by_reply None last) i (bare-by_reply last)) (λ (last : Reply). one-clean k (by_reply None last) (reply-clean None last)) (λ before last may h. h);
+  outcome = λ k i o. asking-row s 1 _ (λ last. after_answering k.entry (by_reply None last) s) (λ (last : Reply). after_answering-outcome s k (by_reply None last) i (bare-by_reply last)) (λ (last : Reply). one-clean k (by_reply None last) (reply-clean None last)) (λ first before last may h. h);
   order = λ r w. well-so effect.Pause s r asked _ refl (λ last. pauses-so s r last);
 }
 effect-row effect.Query view s asked n p q = record {

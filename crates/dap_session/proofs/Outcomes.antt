@@ -18,6 +18,7 @@ use Rattle.dap_session.specs.Laws.{CanMake}
 use Rattle.dap_session.specs.Plan.{Answer, success, failure, plain_success, Draft, reply, emit, ask, requests_in, names_in, names_of, outs, Made, Plan, at_once, asking, after_answering, messages_due, entries_of, references_end_if}
 use Rattle.dap_session.specs.References.{references_after}
 use Rattle.dap_session.specs.RefusalLaws.{is_for_room}
+use Rattle.dap_debuggee.specs.declared.answers.State.{State}
 use Rattle.dap_session.specs.StateLaws.{KeepsState}
 use Rattle.dap_session.specs.Session.{Session, own_requests, IsAskedIn, IsOrderly, to_handle}
 use Rattle.dap_session.proofs.Fewer.{IsHandled, fewer-handled}
@@ -212,7 +213,7 @@ pub record IsFailure (s : Session) (plan : Plan) : Type 0 where
 pub record IsRow (s : Session) (plan : Plan) : Type 0 where
   pub outcomes : (m : Made) → CanMake plan m → IsOutcome s (messages_due plan) m
   pub refused : IsClean plan ⊎ IsFailure s plan
-  pub keeps : KeepsState s plan
+  pub keeps : (first : State) → KeepsState first s plan
 
 recounted : (s : Session) (n k : ℕ) (m : Made) → n ≡ k → IsOutcome s n m → IsOutcome s k m
 recounted s n k m e o = subst (λ (x : ℕ). IsOutcome s x m) e o
@@ -221,20 +222,20 @@ at_once-outcomes : (s : Session) (n : ℕ) (m : Made) → IsOutcome s n m → (m
 at_once-outcomes s n m o made e = subst (λ (x : Made). IsOutcome s (length m.drafts) x) (sym e) (recounted s n (length m.drafts) m (sym o.count) o)
 
 -- what is made at once
-pub once-row : (s : Session) (n : ℕ) (m : Made) → IsOutcome s n m → AreClean m.drafts → KeepsState s (at_once m) → IsRow s (at_once m)
+pub once-row : (s : Session) (n : ℕ) (m : Made) → IsOutcome s n m → AreClean m.drafts → ((first : State) → KeepsState first s (at_once m)) → IsRow s (at_once m)
 once-row s n m o c w = record { keeps = w; outcomes = at_once-outcomes s n m o; refused = inl (λ (made : Made) (e : made ≡ m). subst (λ (x : Made). AreClean x.drafts) (sym e) c) }
 
 -- one failure
 pub failed-row : (s : Session) (k : Kept) (f : Failure) → IsHandled s k → IsRow s (at_once (after_answering k.entry (failure f) s))
 failed-row s k f i =
     let m : Made = after_answering k.entry (failure f) s in
-    record { outcomes = at_once-outcomes s 1 m (after_answering-outcome s k (failure f) i (bare-failure f)); refused = inr (record { entry = k.entry; fault = f; is = refl }); keeps = λ before h. h }
+    record { outcomes = at_once-outcomes s 1 m (after_answering-outcome s k (failure f) i (bare-failure f)); refused = inr (record { entry = k.entry; fault = f; is = refl }); keeps = λ first before h. h }
 
 asking-outcomes : (s : Session) (n : ℕ) (makes : Reply → Made) → ((r : Reply) → IsOutcome s n (makes r)) → (made : Made) → (r : Reply) × (made ≡ makes r) → IsOutcome s (length (makes done).drafts) made
 asking-outcomes s n makes o made is = subst (λ (x : Made). IsOutcome s (length (makes done).drafts) x) (sym is.1) (recounted s n (length (makes done).drafts) (makes is.0) (sym (o done).count) (o is.0))
 
 -- what is made of the debuggee's reply, in as many messages whatever it is
-pub asking-row : (s : Session) (n : ℕ) (act : Act) (makes : Reply → Made) → ((r : Reply) → IsOutcome s n (makes r)) → ((r : Reply) → AreClean (makes r).drafts) → KeepsState s (asking act makes) → IsRow s (asking act makes)
+pub asking-row : (s : Session) (n : ℕ) (act : Act) (makes : Reply → Made) → ((r : Reply) → IsOutcome s n (makes r)) → ((r : Reply) → AreClean (makes r).drafts) → ((first : State) → KeepsState first s (asking act makes)) → IsRow s (asking act makes)
 asking-row s n act makes o c w =
     record { keeps = w; outcomes = asking-outcomes s n makes o; refused = inl (λ (made : Made) (is : (r : Reply) × (made ≡ makes r)). subst (λ (x : Made). AreClean x.drafts) (sym is.1) (c is.0)) }
 

@@ -5,7 +5,6 @@ use Rattle.dap_message.specs.Types.Command.{Command}
 use Rattle.dap_message.specs.Types.Command.TheVariants as command
 use Rattle.dap_tables.specs.declared.entry.Entry.{Entry}
 use Rattle.dap_debuggee.specs.declared.answers.State.{State}
-use Rattle.dap_debuggee.specs.declared.answers.State.TheVariants as state
 use Rattle.dap_session.specs.declared.effect.Effect.{Effect}
 use Rattle.dap_session.specs.declared.effect.Effect.TheVariants as effect
 use Rattle.dap_session.specs.declared.phase.Phase.{Phase}
@@ -85,19 +84,19 @@ still-placed s r _ h = h
 
 -- ---- the state in them
 
-pub unstarted : (phase : Phase) (before : State) → is_unstarted phase ≡ true → IsStateOf phase before → before ≡ state.NotStarted
-unstarted Running before q h = cc
-unstarted Stopped before q h = cc
-unstarted Exited before q h = cc
-unstarted Ended before q h = cc
-unstarted _ before q h = h
+pub unstarted : (first : State) (phase : Phase) (before : State) → is_unstarted phase ≡ true → IsStateOf first phase before → before ≡ first
+unstarted first Running before q h = cc
+unstarted first Stopped before q h = cc
+unstarted first Exited before q h = cc
+unstarted first Ended before q h = cc
+unstarted first _ before q h = h
 
-pub at-rest : (phase : Phase) (before : State) → is_at_rest phase ≡ true → IsStateOf phase before → IsStateOf Ended before
-at-rest Running before q h = cc
-at-rest Stopped before q h = cc
-at-rest Exited before q h = inr h
-at-rest Ended before q h = h
-at-rest _ before q h = inl h
+pub at-rest : (first : State) (phase : Phase) (before : State) → is_at_rest phase ≡ true → IsStateOf first phase before → IsStateOf first Ended before
+at-rest first Running before q h = cc
+at-rest first Stopped before q h = cc
+at-rest first Exited before q h = inr h
+at-rest first Ended before q h = h
+at-rest first _ before q h = inl h
 
 pub asked-unstarted : (phase : Phase) → is_phase Asked phase ≡ true → is_unstarted phase ≡ true
 asked-unstarted Running h = cc

@@ -219,7 +219,7 @@ LeavesState act = (before : State) (last : Reply) → state_after before act las
 pub change-row : (s : Session) (k : Kept) (due : ChangeResult) → ((c : Change) → due ≡ Ok c → StandFew s.limits s.breakpoints → StandFew s.limits c.breakpoints) → ((c : Change) → due ≡ Ok c → IsBare (success c.body [])) → ((c : Change) → due ≡ Ok c → LeavesState c.act) → IsHandled s k → IsRow s (after_change s k.entry due)
 change-row s k (Err f) few bare keeps i = failed-row s k f i
 change-row s k (Ok c) few bare keeps i =
-    either-row (fits s k.entry c.body) s (change_asked s k.entry c) _ (λ (f : fits s k.entry c.body ≡ true). asking-row s 1 _ _ (λ (last : Reply). change-outcome s k c i (bare c refl) (few c refl)) (λ (last : Reply). refl) (λ before last may h. subst (λ (x : State). IsStateOf s.phase x) (sym (keeps c refl before last)) h))
+    either-row (fits s k.entry c.body) s (change_asked s k.entry c) _ (λ (f : fits s k.entry c.body ≡ true). asking-row s 1 _ _ (λ (last : Reply). change-outcome s k c i (bare c refl) (few c refl)) (λ (last : Reply). refl) (λ first before last may h. subst (λ (x : State). IsStateOf first s.phase x) (sym (keeps c refl before last)) h))
     (λ (f : fits s k.entry c.body ≡ false). failed-row s k TooLarge i)
 
 pub change-stands : (view : Shown) (s : Session) (asked : Call) (c : Change) → change_result view s asked ≡ Ok c → StandFew s.limits s.breakpoints → StandFew s.limits c.breakpoints
@@ -266,7 +266,7 @@ after_query-once s k t w o i = replied s k (success t.body t.names) _ i (moves-g
 
 after_query-if : (b : Bool) (s : Session) (k : Kept) (t : QueryAnswer) → TellsWell s t → IsNoSetter k.entry → IsHandled s k
     → IsRow s (at_once (if b then record { drafts = reply k.entry (success t.body t.names) ∷ []; drops = false; after = record s { kept = without k.entry.seq s.kept; references = t.references; used = s.used + 1 } } else after_answering k.entry (failure TooLarge) s))
-after_query-if true s k t w o i = once-row s 1 _ (after_query-once s k t w o i) refl (λ before h. h)
+after_query-if true s k t w o i = once-row s 1 _ (after_query-once s k t w o i) refl (λ first before h. h)
 after_query-if false s k t w o i = failed-row s k TooLarge i
 
 pub after_query-row : (s : Session) (k : Kept) (given : QueryResult) → ((t : QueryAnswer) → given ≡ Ok t → TellsWell s t) → IsNoSetter k.entry → IsHandled s k → IsRow s (at_once (after_query s k.entry given))

@@ -51,65 +51,65 @@ taking-phase : (b : Bool) (r : Request) (s : Session) → of_known is_cancel (co
 taking-phase true r s e = rw e (cancel-phase (is_phase Fresh s.phase) r s refl)
 taking-phase false r s e = rw e (keeping-phase (nat_lt (length s.kept) s.limits.requests) r s refl)
 
-given-keeps : (s : Session) (p plan : Plan) → plan_within_numbers s p ≡ Ok plan → KeepsState s p → KeepsState s plan
-given-keeps s p plan e k =
+given-keeps : (first : State) (s : Session) (p plan : Plan) → plan_within_numbers s p ≡ Ok plan → KeepsState first s p → KeepsState first s plan
+given-keeps first s p plan e k =
     let given = afforded (nat_le (s.used + messages_due p) s.limits.seq) p plan _ e in
-    subst (λ (q : Plan). KeepsState s q) (sym given.1) k
+    subst (λ (q : Plan). KeepsState first s q) (sym given.1) k
 
-request-keeps : (ended repeated : Bool) (s : Session) (r : Request) (plan : Plan)
-    → (let given : Result Plan AdapterFault = (if ended then Err EndedFault else (if repeated then Err (RepeatedSeq r.seq) else plan_within_numbers s (at_once (after_taking r s)))) in given) ≡ Ok plan → KeepsState s plan
-request-keeps true repeated s r plan e = absurd (cc e)
-request-keeps false true s r plan e = absurd (cc e)
-request-keeps false false s r plan e =
-    given-keeps s (at_once (after_taking r s)) plan e (λ before h. subst (λ (p : Phase). IsStateOf p before) (sym (taking-phase (of_known is_cancel (command_of r)) r s refl)) h)
+request-keeps : (first : State) (ended repeated : Bool) (s : Session) (r : Request) (plan : Plan)
+    → (let given : Result Plan AdapterFault = (if ended then Err EndedFault else (if repeated then Err (RepeatedSeq r.seq) else plan_within_numbers s (at_once (after_taking r s)))) in given) ≡ Ok plan → KeepsState first s plan
+request-keeps first true repeated s r plan e = absurd (cc e)
+request-keeps first false true s r plan e = absurd (cc e)
+request-keeps first false false s r plan e =
+    given-keeps first s (at_once (after_taking r s)) plan e (λ before h. subst (λ (p : Phase). IsStateOf first p before) (sym (taking-phase (of_known is_cancel (command_of r)) r s refl)) h)
 
 -- ---- a response
 
-terminal-keeps : (ok : Bool) (s : Session) → is_unstarted s.phase ≡ true → KeepsState s (plan_of_terminal ok s)
-terminal-keeps true s q = λ before last may h. starts-its-state before last (unstarted s.phase before q h)
-terminal-keeps false s q = λ before h. unstarted s.phase before q h
+terminal-keeps : (first : State) (ok : Bool) (s : Session) → is_unstarted s.phase ≡ true → KeepsState first s (plan_of_terminal ok s)
+terminal-keeps first true s q = λ before last may h. starts-its-state first before last (unstarted first s.phase before q h)
+terminal-keeps first false s q = λ before h. unstarted first s.phase before q h
 
-phase-keeps : (b ok : Bool) (s : Session) → is_phase Asked s.phase ≡ b → KeepsState s (let plan : Plan = (if b then plan_of_terminal ok s else at_once (after_late_terminal s)) in plan)
-phase-keeps true ok s e = terminal-keeps ok s (asked-unstarted s.phase e)
-phase-keeps false ok s e = λ before h. h
+phase-keeps : (first : State) (b ok : Bool) (s : Session) → is_phase Asked s.phase ≡ b → KeepsState first s (let plan : Plan = (if b then plan_of_terminal ok s else at_once (after_late_terminal s)) in plan)
+phase-keeps first true ok s e = terminal-keeps first ok s (asked-unstarted s.phase e)
+phase-keeps first false ok s e = λ before h. h
 
-response-keeps : (a b : Bool) (s : Session) (request_seq : ℕ) (ok : Bool) (plan : Plan)
-    → (let given : Result Plan AdapterFault = (if not a then Err (Unmatched request_seq) else (if not b then Err (CommandMismatch request_seq) else plan_within_numbers s (plan_of_response ok s))) in given) ≡ Ok plan → KeepsState s plan
-response-keeps false b s request_seq ok plan e = absurd (cc e)
-response-keeps true false s request_seq ok plan e = absurd (cc e)
-response-keeps true true s request_seq ok plan e = given-keeps s (plan_of_response ok s) plan e (phase-keeps (is_phase Asked s.phase) ok s refl)
+response-keeps : (first : State) (a b : Bool) (s : Session) (request_seq : ℕ) (ok : Bool) (plan : Plan)
+    → (let given : Result Plan AdapterFault = (if not a then Err (Unmatched request_seq) else (if not b then Err (CommandMismatch request_seq) else plan_within_numbers s (plan_of_response ok s))) in given) ≡ Ok plan → KeepsState first s plan
+response-keeps first false b s request_seq ok plan e = absurd (cc e)
+response-keeps first true false s request_seq ok plan e = absurd (cc e)
+response-keeps first true true s request_seq ok plan e = given-keeps first s (plan_of_response ok s) plan e (phase-keeps first (is_phase Asked s.phase) ok s refl)
 
-nothing-keeps : (s : Session) (plan : Plan) → plan ≡ at_once (no_change s) → KeepsState s plan
-nothing-keeps s plan e = subst (λ (p : Plan). KeepsState s p) (sym e) (λ before h. h)
+nothing-keeps : (first : State) (s : Session) (plan : Plan) → plan ≡ at_once (no_change s) → KeepsState first s plan
+nothing-keeps first s plan e = subst (λ (p : Plan). KeepsState first s p) (sym e) (λ before h. h)
 
-taken-keeps : (s : Session) (seq : ℕ) (kind : Kind) (plan : Plan) → takes_as seq kind s ≡ Ok plan → KeepsState s plan
-taken-keeps s seq (RequestKind command arguments) plan e = request-keeps (is_phase Ended s.phase) (contains_seq seq s.kept) s (record { seq = seq; command = command; arguments = arguments }) plan e
-taken-keeps s seq (Response request_seq ok command message body) plan e = response-keeps (is_asked request_seq s.asked) (bytes_eq command run_in_terminal) s request_seq ok plan e
-taken-keeps s seq (Event event body) plan e = nothing-keeps s plan (cc)
-taken-keeps s seq (Other tag) plan e = nothing-keeps s plan (cc)
+taken-keeps : (first : State) (s : Session) (seq : ℕ) (kind : Kind) (plan : Plan) → takes_as seq kind s ≡ Ok plan → KeepsState first s plan
+taken-keeps first s seq (RequestKind command arguments) plan e = request-keeps first (is_phase Ended s.phase) (contains_seq seq s.kept) s (record { seq = seq; command = command; arguments = arguments }) plan e
+taken-keeps first s seq (Response request_seq ok command message body) plan e = response-keeps first (is_asked request_seq s.asked) (bytes_eq command run_in_terminal) s request_seq ok plan e
+taken-keeps first s seq (Event event body) plan e = nothing-keeps first s plan (cc)
+taken-keeps first s seq (Other tag) plan e = nothing-keeps first s plan (cc)
 
 -- ---- a poll
 
-happening-keeps : (s : Session) (h : Happening) (before : State) → IsStateOf s.phase before → IsStateOf (after_happening h s).after.phase (state_after before to_poll (happened h))
+happening-keeps : (first : State) (s : Session) (h : Happening) (before : State) → IsStateOf first s.phase before → IsStateOf first (after_happening h s).after.phase (state_after before to_poll (happened h))
 unfolding after_happening
-happening-keeps s happening.Nothing before h = h
-happening-keeps s (happening.Output category text) before h = h
-happening-keeps s (happening.Stopped reason thread) before h = refl
-happening-keeps s (happening.Continued thread) before h = refl
-happening-keeps s (happening.Exited code) before h = refl
+happening-keeps first s happening.Nothing before h = h
+happening-keeps first s (happening.Output category text) before h = h
+happening-keeps first s (happening.Stopped reason thread) before h = refl
+happening-keeps first s (happening.Continued thread) before h = refl
+happening-keeps first s (happening.Exited code) before h = refl
 
-reply-keeps : (s : Session) (before : State) (last : Reply) → IsStateOf s.phase before → IsStateOf (after_poll_reply s last).after.phase (state_after before to_poll last)
-reply-keeps s before done h = h
-reply-keeps s before refused h = h
-reply-keeps s before (happened x) h = happening-keeps s x before h
+reply-keeps : (first : State) (s : Session) (before : State) (last : Reply) → IsStateOf first s.phase before → IsStateOf first (after_poll_reply s last).after.phase (state_after before to_poll last)
+reply-keeps first s before done h = h
+reply-keeps first s before refused h = h
+reply-keeps first s before (happened x) h = happening-keeps first s x before h
 
-polled-keeps : (b : Bool) (s : Session) → KeepsState s (let plan : Plan = (if b then asking to_poll (after_poll_reply s) else at_once (no_change s)) in plan)
-polled-keeps true s = λ before last may h. reply-keeps s before last h
-polled-keeps false s = λ before h. h
+polled-keeps : (first : State) (b : Bool) (s : Session) → KeepsState first s (let plan : Plan = (if b then asking to_poll (after_poll_reply s) else at_once (no_change s)) in plan)
+polled-keeps first true s = λ before last may h. reply-keeps first s before last h
+polled-keeps first false s = λ before h. h
 
 pub each_step_keeps_state : EachStepKeepsState
 each_step_keeps_state = record {
-  take = λ s m plan e. taken-keeps s m.seq m.kind plan e;
-  turn = λ view s plan e. (turn-is view s plan e).row.keeps;
-  poll = λ s. polled-keeps (has_debuggee s.phase) s;
+  take = λ first s m plan e. taken-keeps first s m.seq m.kind plan e;
+  turn = λ first view s plan e. (turn-is view s plan e).row.keeps first;
+  poll = λ first s. polled-keeps first (has_debuggee s.phase) s;
 }

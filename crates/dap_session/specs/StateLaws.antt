@@ -14,20 +14,20 @@ use Rattle.dap_session.specs.Polling.{polls}
 use Rattle.dap_session.specs.Session.{Session}
 use Rattle.dap_session.specs.Taking.{takes}
 
--- A fresh adapter is given a debuggee that is not started. In Ended it was never started, or is gone.
-abbrev pub IsStateOf : Phase → State → Type 0
-IsStateOf Running s = s ≡ state.Running
-IsStateOf Stopped s = s ≡ state.Stopped
-IsStateOf Exited s = s ≡ state.Gone
-IsStateOf Ended s = (s ≡ state.NotStarted) ⊎ (s ≡ state.Gone)
-IsStateOf _ s = s ≡ state.NotStarted
+-- of a debuggee that was in its first state, not started, when the adapter was made; in Ended it is so still, or it is gone
+abbrev pub IsStateOf : State → Phase → State → Type 0
+IsStateOf first Running s = s ≡ state.Running
+IsStateOf first Stopped s = s ≡ state.Stopped
+IsStateOf first Exited s = s ≡ state.Gone
+IsStateOf first Ended s = (s ≡ first) ⊎ (s ≡ state.Gone)
+IsStateOf first _ s = s ≡ first
 
 -- so it is after the plan was carried out, whatever the debuggee may reply
-abbrev pub KeepsState : Session → Plan → Type 0
-KeepsState s (at_once made) = (before : State) → IsStateOf s.phase before → IsStateOf made.after.phase before
-KeepsState s (asking act makes) = (before : State) (reply : Reply) → IsTrue (may_answer before act reply) → IsStateOf s.phase before → IsStateOf (makes reply).after.phase (state_after before act reply)
+abbrev pub KeepsState : State → Session → Plan → Type 0
+KeepsState first s (at_once made) = (before : State) → IsStateOf first s.phase before → IsStateOf first made.after.phase before
+KeepsState first s (asking act makes) = (before : State) (reply : Reply) → IsTrue (may_answer before act reply) → IsStateOf first s.phase before → IsStateOf first (makes reply).after.phase (state_after before act reply)
 
 pub record EachStepKeepsState : Type 0 where
-  pub take : (s : Session) (m : Message) (plan : Plan) → takes m s ≡ Ok plan → KeepsState s plan
-  pub turn : (view : Shown) (s : Session) (plan : Plan) → turns view s ≡ Ok (Some plan) → KeepsState s plan
-  pub poll : (s : Session) → KeepsState s (polls s)
+  pub take : (first : State) (s : Session) (m : Message) (plan : Plan) → takes m s ≡ Ok plan → KeepsState first s plan
+  pub turn : (first : State) (view : Shown) (s : Session) (plan : Plan) → turns view s ≡ Ok (Some plan) → KeepsState first s plan
+  pub poll : (first : State) (s : Session) → KeepsState first s (polls s)

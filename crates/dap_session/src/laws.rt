@@ -81,7 +81,8 @@ pub fn each_answer_gives_live()
 {}
 
 /// The phase is the debuggee's state, after each step where it was so before, whatever the debuggee may reply, by the laws of
-/// its states: it is not started up to a start, runs in Running, is stopped in Stopped, and is gone in Exited.
+/// its states: up to a start it is as it was handed in, not started; it runs in Running, is stopped in Stopped, and is gone in
+/// Exited.
 pub fn each_step_keeps_state()
     ensures { EachStepKeepsState }
 {}
