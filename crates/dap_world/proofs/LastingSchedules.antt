@@ -19,10 +19,10 @@ module _ {D : Type 0} (shown : D → Shown) (follows others : Goes D) (carries :
   carried (at_once m) v w made c = c
   carried (asking act makes) v w made c = (c.0, carries v w act c.0 c.1, c.2)
 
-  session : (plan : Plan) (old new : SessionState D) → SessionStep follows plan old new → SessionStep others plan old new
+  abbrev session : (plan : Plan) (old new : SessionState D) → SessionStep follows plan old new → SessionStep others plan old new
   session plan old new s = record { made = s.made; carried = carried plan old.debuggee new.debuggee s.made s.carried; after = s.after }
 
-  adapter : (plan : Plan) (old left new : World D) → AdapterStep follows plan old left new → AdapterStep others plan old left new
+  abbrev adapter : (plan : Plan) (old left new : World D) → AdapterStep follows plan old left new → AdapterStep others plan old left new
   adapter plan old left new a = record { seat = a.seat; session = session plan old.adapter a.seat a.session; reads_back = a.reads_back; is = a.is }
 
   step : (old new : World D) → Step shown follows old new → Step shown others old new
