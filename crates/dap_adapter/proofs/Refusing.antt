@@ -1,9 +1,8 @@
 -- Why a call on a piece is refused, from what the session says.
-use Rattle.std.proofs.Common.{◌≡◌, ◌≢◌, ℕ, ◌+◌, ◌⊎◌, List, Bool, true, false, nat_le, Result, Ok, Err, refl, sym, ap, ◌∙◌, subst, inl, inr, if◌then◌else◌}
-use Rattle.std.specs.Prelude.{Some, not, bytes_eq}
+use Rattle.std.proofs.Common.{◌≡◌, ◌≢◌, ℕ, ◌+◌, List, Bool, true, false, nat_le, Result, Ok, Err, refl, sym, ap, subst, inl, inr, if◌then◌else◌}
+use Rattle.std.specs.Prelude.{not, bytes_eq}
 use Rattle.dap_frame.specs.Feeds.{Completes}
 use Rattle.dap_frame.specs.Intake.{Intake}
-use Rattle.dap_message.specs.Laws.{EachBodyIsOne, IsOneMessage, IsOneRefusal}
 use Rattle.dap_message.specs.Meaning.{Msg}
 use Rattle.dap_message.specs.Terminal.{run_in_terminal}
 use Rattle.dap_message.specs.declared.message.Message.{Message}
@@ -11,12 +10,11 @@ use Rattle.dap_message.specs.declared.message.Kind.{Kind}
 use Rattle.dap_message.specs.declared.message.Kind.TheVariants.{Request, Response, Event, Other}
 use Rattle.dap_tables.specs.declared.entry.Entry.{Entry}
 use Rattle.dap_tables.specs.Outstanding.{contains_seq}
-use Rattle.dap_debuggee.specs.Shown.{Act, to_start, to_resume, to_pause, to_set_breakpoints, to_assign, to_end, to_poll}
 use Rattle.dap_session.specs.declared.fault.AdapterFault.{AdapterFault}
 use Rattle.dap_session.specs.declared.fault.AdapterFault.TheVariants.{SeqExhausted, OutOfMemory, Frame, Body, RepeatedSeq, Unmatched, CommandMismatch, Ended}
 use Rattle.dap_session.specs.declared.phase.Phase.TheVariants as phase
 use Rattle.dap_session.specs.Handling.{some_plan}
-use Rattle.dap_session.specs.Plan.{Made, Plan, at_once, asking, messages_due, plan_within_numbers}
+use Rattle.dap_session.specs.Plan.{Made, Plan, at_once, messages_due, plan_within_numbers}
 use Rattle.dap_session.specs.SessionState.{SessionState, NotTaken, IsUnasked}
 use Rattle.dap_session.specs.Session.{Session, is_asked}
 use Rattle.dap_session.specs.Table.{is_phase}
@@ -62,21 +60,6 @@ of_kind seq (Event event body) s fault e = cc
 of_kind seq (Other tag) s fault e = cc
 
 -- ---- the debuggee
-
-act_stays : {D : Type 0} (act : Act) (makes : _) (v : D) → IsUnasked (Ok (Some (asking act makes))) v v
-act_stays to_start makes v = tt
-act_stays (to_resume how thread) makes v = tt
-act_stays to_pause makes v = tt
-act_stays (to_set_breakpoints source lines) makes v = tt
-act_stays (to_assign holder name text) makes v = tt
-act_stays to_end makes v = refl
-act_stays to_poll makes v = tt
-
--- one that is as it was counts as not asked
-pub stays : {D : Type 0} (r : Result Plan AdapterFault) (v : D) → IsUnasked (some_plan r) v v
-stays (Ok (at_once m)) v = refl
-stays (Ok (asking act makes)) v = act_stays act makes v
-stays (Err fault) v = refl
 
 -- where the message closes the adapter, it was not asked
 pub closed_stays : {D : Type 0} (r : Result Plan AdapterFault) (fault : AdapterFault) (v w : D) → r ≡ Err fault → IsUnasked (some_plan r) v w → w ≡ v
@@ -124,29 +107,25 @@ named_stays OutOfMemory r v w t other u = absurd (other refl)
 
 -- ---- why a piece is refused
 
-same_message : (body : List ℕ) (m k : Message) → IsOneMessage body ⊎ IsOneRefusal body → Msg body m → Msg body k → m ≡ k
-same_message body m k (inl x) a b = x.no_other m a ∙ sym (x.no_other k b)
-same_message body m k (inr x) a b = absurd (x.no_message m a)
-
-pub untaken_refused : {D : Type 0} → EachBodyIsOne → (old ready : Intake) (p : SessionState D) (piece : List ℕ) (n : ℕ) (m : Message) (fault : AdapterFault) (after : D)
+pub untaken_refused : {D : Type 0} → (old ready : Intake) (p : SessionState D) (piece : List ℕ) (n : ℕ) (m : Message) (fault : AdapterFault) (after : D)
     → Completes old ready piece n → Msg ready.held m → NotTaken fault (takes m p.session) → IsUnasked (some_plan (takes m p.session)) p.debuggee after → TakeRefused old p piece fault after
-untaken_refused law old ready p piece n m OutOfMemory after c read t u =
+untaken_refused old ready p piece n m OutOfMemory after c read t u =
     record {
       n = n;
       whole = record { ready = ready; completes = c };
-      unasked = λ k is. subst (λ (x : Message). IsUnasked (some_plan (takes x p.session)) p.debuggee after) (same_message ready.held m k (law ready.held) read is) u;
+      debuggee = inr (m, read, u);
     }
-untaken_refused law old ready p piece n m (Frame f) after c read t u = absurd (of_kind m.seq m.kind p.session (Frame f) t)
-untaken_refused law old ready p piece n m (Body cause offset) after c read t u = absurd (of_kind m.seq m.kind p.session (Body cause offset) t)
-untaken_refused law old ready p piece n m (RepeatedSeq seq) after c read t u = record { n = n; whole = record { ready = ready; completes = c }; message = m; read = read; closes = t }
-untaken_refused law old ready p piece n m (Unmatched seq) after c read t u = record { n = n; whole = record { ready = ready; completes = c }; message = m; read = read; closes = t }
-untaken_refused law old ready p piece n m (CommandMismatch seq) after c read t u = record { n = n; whole = record { ready = ready; completes = c }; message = m; read = read; closes = t }
-untaken_refused law old ready p piece n m Ended after c read t u = record { n = n; whole = record { ready = ready; completes = c }; message = m; read = read; closes = t }
-untaken_refused law old ready p piece n m SeqExhausted after c read t u = record { n = n; whole = record { ready = ready; completes = c }; message = m; read = read; closes = t }
+untaken_refused old ready p piece n m (Frame f) after c read t u = absurd (of_kind m.seq m.kind p.session (Frame f) t)
+untaken_refused old ready p piece n m (Body cause offset) after c read t u = absurd (of_kind m.seq m.kind p.session (Body cause offset) t)
+untaken_refused old ready p piece n m (RepeatedSeq seq) after c read t u = record { n = n; whole = record { ready = ready; completes = c }; message = m; read = read; closes = t }
+untaken_refused old ready p piece n m (Unmatched seq) after c read t u = record { n = n; whole = record { ready = ready; completes = c }; message = m; read = read; closes = t }
+untaken_refused old ready p piece n m (CommandMismatch seq) after c read t u = record { n = n; whole = record { ready = ready; completes = c }; message = m; read = read; closes = t }
+untaken_refused old ready p piece n m Ended after c read t u = record { n = n; whole = record { ready = ready; completes = c }; message = m; read = read; closes = t }
+untaken_refused old ready p piece n m SeqExhausted after c read t u = record { n = n; whole = record { ready = ready; completes = c }; message = m; read = read; closes = t }
 
 pub unread_refused : {D : Type 0} (old : Intake) (p : SessionState D) (piece : List ℕ) (cause : ReadFault) (fault : AdapterFault) → IsUnreadPiece old piece cause → IsBy cause fault → TakeRefused old p piece fault p.debuggee
 unread_refused old p piece (read.Frame f) fault r by = subst (λ (x : AdapterFault). TakeRefused old p piece x p.debuggee) (sym by) r
 unread_refused old p piece (read.Body cause offset) fault r by = subst (λ (x : AdapterFault). TakeRefused old p piece x p.debuggee) (sym by) r
 unread_refused old p piece read.OutOfMemory fault r by =
-    subst (λ (x : AdapterFault). TakeRefused old p piece x p.debuggee) (sym by) (record { n = r.0; whole = r.1; unasked = λ k is. stays (takes k p.session) p.debuggee })
+    subst (λ (x : AdapterFault). TakeRefused old p piece x p.debuggee) (sym by) (record { n = r.0; whole = r.1; debuggee = inl refl })
 unread_refused old p piece read.Closed fault r by = absurd r

@@ -1,5 +1,5 @@
 -- What the calls of an adapter do, as their contracts say it.
-use Rattle.std.specs.Prelude.{◌≡◌, ℕ, ◌<◌, ◌≤◌, List, [], ◌∷◌, ◌++◌, take, Option, Some, None, Ok, Err, ⊤, true}
+use Rattle.std.specs.Prelude.{◌≡◌, ◌⊎◌, ℕ, ◌<◌, ◌≤◌, List, [], ◌∷◌, ◌++◌, take, Option, Some, None, Ok, Err, ⊤, true}
 use Rattle.dap_frame.specs.Feeds.{Gathers}
 use Rattle.dap_frame.specs.Intake.{Intake}
 use Rattle.dap_frame.specs.Settings.{Settings, bounds_of}
@@ -63,11 +63,11 @@ pub record ClosedBy (old : Intake) (s : Session) (piece : List ℕ) (fault : Ada
   pub read : Msg whole.ready.held message
   pub closes : takes message s ≡ Err fault
 
--- memory was refused once a body was whole: the debuggee was not asked where its message asks it nothing
+-- memory was refused once a body was whole: the debuggee is as it was, unless that body is a message by which it is asked something
 pub record MemoryRefused {D : Type 0} (old : Intake) (p : SessionState D) (piece : List ℕ) (after : D) : Type 0 where
   pub n : ℕ
   pub whole : Whole old piece n
-  pub unasked : (m : Message) → Msg whole.ready.held m → IsUnasked (some_plan (takes m p.session)) p.debuggee after
+  pub debuggee : (after ≡ p.debuggee) ⊎ ((m : Message) × Msg whole.ready.held m × IsUnasked (some_plan (takes m p.session)) p.debuggee after)
 
 -- why a call on a piece was refused, with the debuggee as it is then
 abbrev pub TakeRefused : {D : Type 0} → Intake → SessionState D → List ℕ → AdapterFault → D → Type 0

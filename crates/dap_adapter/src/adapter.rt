@@ -17,7 +17,7 @@ use crate::taken::{Taken, Turned};
 use dap_debuggee::Debuggee;
 use dap_frame::{End, Limits};
 use dap_history::laws::histories_grow;
-use dap_message::laws::{each_body_is_one, read_is_in_range};
+use dap_message::laws::read_is_in_range;
 use dap_reader::{MessageReader, Next, ReadFault};
 use dap_session::laws::{each_step_goes_on, each_step_stays_within};
 use dap_session::{AdapterFault, Phase, Session};
@@ -299,7 +299,6 @@ fn receive<D: Debuggee + Drop>(
     ensures unasked { is_phase Asked session.old.session.phase ≡ false → OnErr result (session.new.debuggee ≡ session.old.debuggee) }
     ensures limits { session.new.session.limits ≡ session.old.session.limits }
 {
-    each_body_is_one();
     let Next { used, message } = match reader.next(alloc, piece) {
         Ok(next) => next,
         Err(fault) => return Err(refused_by(fault)),

@@ -4,3 +4,4 @@ pub mod EventBody
 pub mod Body
 pub mod PlainBodies
 pub mod PrivateText
+pub mod GivenNumbers

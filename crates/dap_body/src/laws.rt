@@ -1,4 +1,5 @@
 //! Laws of the definitions, each on a function with nothing to run.
+ghost use Rattle.dap_body.specs.GivenNumbers.{BodiesGiveTheirNumbers};
 ghost use Rattle.dap_body.specs.PlainBodies.{EventBodiesArePlain, FailureBodiesArePlain, ResponseBodiesArePlain};
 
 /// What the builders of bodies give can stand in a message that is written, however long its lists
@@ -7,4 +8,10 @@ pub fn bodies_are_plain()
     ensures responses { ResponseBodiesArePlain }
     ensures failures { FailureBodiesArePlain }
     ensures events { EventBodiesArePlain }
+{}
+
+/// The references that a body gives, as `frame_ids` and `holders_of` read them, are the numbers that
+/// it was built with, in their order, each that is in the range of references, and no other.
+pub fn bodies_give_their_numbers()
+    ensures { BodiesGiveTheirNumbers }
 {}

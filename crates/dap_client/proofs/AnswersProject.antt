@@ -11,7 +11,7 @@ use Rattle.dap_client.specs.declared.phase.Phase.{Phase}
 use Rattle.dap_client.specs.declared.phase.Phase.TheVariants.{Fresh, Initializing, Configuring, Running, Stopped, Resuming, Exited, Ended}
 use Rattle.dap_client.specs.Changes.{Cause, resumed, answered, change_in}
 use Rattle.dap_client.specs.Phases.{is_phase, is_among, phases_in_a_stop}
-use Rattle.dap_client.specs.References.{references_given_by, references_given_in}
+use Rattle.dap_tables.specs.Given.{references_given_by, references_given_in}
 use Rattle.dap_client.specs.ClientAbstraction.{Class, Initialize, Launch, ConfigurationDone, Disconnect, Terminate, Restart, Cancel, Setter, Lookup, Resume, Pause, Inspect, class_of, is_inspect, abstraction_of, answered_phase, has_stop, is_resuming, given_answered, abstraction_after_answer}
 use Rattle.dap_client.specs.Seen.{Seen, after_change, after_body, after_response}
 use Rattle.dap_client.specs.Session.{Session}

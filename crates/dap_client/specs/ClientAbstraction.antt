@@ -25,7 +25,8 @@ use Rattle.dap_client.specs.declared.phase.Phase.TheVariants.{Fresh, Initializin
 use Rattle.dap_client.specs.declared.signal.Signal.{Signal}
 use Rattle.dap_client.specs.declared.signal.Signal.TheVariants as signal
 use Rattle.dap_client.specs.Changes.{signal_named}
-use Rattle.dap_client.specs.References.{references_used_by, references_given_by, references_given_in}
+use Rattle.dap_client.specs.References.{references_used_by}
+use Rattle.dap_tables.specs.Given.{references_given_by, references_given_in}
 use Rattle.dap_client.specs.Sending.{holds, first_of, refusals_in_order, request_of, after_send}
 use Rattle.dap_client.specs.Seen.{references_of_success, runs_terminals}
 use Rattle.dap_client.specs.Session.{Session}

@@ -23,7 +23,7 @@ use Rattle.dap_client.specs.declared.change.Change.{Change}
 use Rattle.dap_client.specs.declared.signal.Signal.{Signal}
 use Rattle.dap_client.specs.declared.signal.Signal.TheVariants as signal
 use Rattle.dap_client.specs.Changes.{signal_named, Cause, sent, resumed, answered, signalled, change_in}
-use Rattle.dap_client.specs.References.{references_given_in}
+use Rattle.dap_tables.specs.Given.{references_given_in}
 
 pub record Seen : Type 0 where
   pub phase : Phase

@@ -2,7 +2,7 @@
 ghost use Rattle.std.specs.Prelude.{◌≡◌, map, IfOk, Some};
 ghost use Rattle.serde_json.specs.View.{view};
 ghost use Rattle.dap_message.specs.GivenReferences.{frame_ids, holders_of};
-ghost use Rattle.dap_client.specs.References.{frame, holder, references_given_by, references_given_in};
+ghost use Rattle.dap_tables.specs.Given.{frame, holder, references_given_by, references_given_in};
 
 use dap_message::{Command, Tree, frames_given, holders_given};
 use dap_tables::ReferenceKind;

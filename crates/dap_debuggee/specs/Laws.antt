@@ -67,6 +67,19 @@ state_after state to_poll (happened (happening.Exited code)) = Gone
 state_after state to_end done = Gone
 state_after state _ _ = state
 
+-- ---- a stop that lasts
+
+-- what happened without being asked for ends a stop: the debuggee went on, or ended
+abbrev pub ends_a_stop : State → Reply → Bool
+ends_a_stop Stopped (happened (happening.Continued thread)) = true
+ends_a_stop Stopped (happened (happening.Exited code)) = true
+ends_a_stop _ _ = false
+
+-- Of a debuggee that goes on so: a stop lasts until it is asked to go on or to end. It is no law of every debuggee: a signal,
+-- or another one that debugs it, may let it go on.
+abbrev pub StopsLast : {D : Type 0} → (D → Shown) → (D → Act → Reply → D → Type 0) → Type 0
+StopsLast {D} shown follows = (old new : D) (act : Act) (reply : Reply) → follows old act reply new → ends_a_stop (shown old).state reply ≡ false
+
 -- ---- lines
 
 -- the lines that are set for a source after an act

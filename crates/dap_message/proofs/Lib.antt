@@ -14,3 +14,4 @@ pub mod AnswerTexts
 mod ReadsBack
 mod OneLine
 pub mod OnePassLemmas
+pub use Rattle.dap_body.proofs.GivenNumbers

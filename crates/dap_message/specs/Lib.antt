@@ -39,3 +39,4 @@ pub mod Laws
 pub mod MessageParts
 pub mod Lengths
 pub use Rattle.dap_body.specs.PlainBodies
+pub use Rattle.dap_body.specs.GivenNumbers

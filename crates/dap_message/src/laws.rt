@@ -4,7 +4,7 @@ ghost use Rattle.dap_message.specs.InRange.{ReadIsInRange};
 ghost use Rattle.dap_message.specs.OneLine.{CanonIsOneLine};
 ghost use Rattle.dap_message.specs.Lengths.{EventsAreShort, FailuresAreShort, FixedResponsesAreShort};
 
-pub use dap_body::laws::bodies_are_plain;
+pub use dap_body::laws::{bodies_are_plain, bodies_give_their_numbers};
 pub use dap_call::laws::{
     written_call_is_plain, written_call_is_read_again, written_terminal_is_plain,
     written_terminal_is_read_again,

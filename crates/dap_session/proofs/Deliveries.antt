@@ -26,7 +26,7 @@ use Rattle.dap_session.specs.declared.phase.Phase.TheVariants.{Fresh, Ended, Ask
 use Rattle.dap_session.specs.Failures.{of_known, command_of}
 use Rattle.dap_session.specs.Handling.{answer_each, by_reply}
 use Rattle.dap_session.specs.Laws.{CanMake}
-use Rattle.dap_session.specs.Plan.{Answer, failure, plain_success, names_in, reply, requests_in, Made, Plan, at_once, no_change, messages_due, plan_within_numbers}
+use Rattle.dap_session.specs.Plan.{Answer, failure, plain_success, reply, requests_in, Made, Plan, at_once, no_change, messages_due, plan_within_numbers}
 use Rattle.dap_session.specs.Session.{Session, cancelled_by, not_cancelled_by, own_request, own_requests, is_asked, IsAskedIn, IsOrderly}
 use Rattle.dap_session.specs.Table.{is_phase}
 use Rattle.dap_session.specs.Taking.{after_answering_at_once, is_cancel, id_in, named_by, unnamed_by, after_cancel, after_cancel_call, after_cancel_request, after_keeping, after_taking, after_terminal, after_late_terminal, plan_of_terminal, plan_of_response, takes_as, takes}
@@ -36,8 +36,8 @@ use Rattle.dap_session.proofs.Interned.{lt-of}
 use Rattle.dap_session.proofs.Kept.{Walked, walked-none, walked-append, walked-each, walked-one, asks-append, distinct-more, distinct-filter, contains-filter, length-filtered}
 use Rattle.dap_session.proofs.Moves.{IsPlain, is-plain, moves-plain}
 use Rattle.dap_session.proofs.OwnRequests.{none-started}
-use Rattle.dap_session.proofs.Outcomes.{IsSound, NameNone, AskNone, AsksNothing, Stays, asks-nothing, asks-well, none-asked, each-asks-none, append-asks-none, references-plain, each-names-none, append-names-none}
-use Rattle.dap_session.proofs.Rows.{length-each, names-by_reply, walked-all}
+use Rattle.dap_session.proofs.Outcomes.{IsBare, bare-failure, bare-live, IsSound, AreBare, AskNone, AsksNothing, Stays, asks-nothing, asks-well, none-asked, each-asks-none, append-asks-none, references-plain, each-bare, append-bare}
+use Rattle.dap_session.proofs.Rows.{length-each, bare-by_reply, walked-all}
 use Rattle.dap_session.proofs.Turns.{afforded, le-of}
 
 -- ---- a request that came
@@ -69,7 +69,7 @@ walked-came kept r answer d =
     subst (λ (xs : List Kept). Walked (reply r answer ∷ []) (asks kept ++ came r) (asks xs)) (append-nil kept) here
 
 -- what walks the requests that were kept and the one that came
-taken : (s : Session) (r : Request) (m : Made) → IsPlain s m → NameNone m.drafts → m.after.used ≡ s.used + length m.drafts → (IsNew s r → Walked m.drafts (asks s.kept ++ came r) (asks m.after.kept))
+taken : (s : Session) (r : Request) (m : Made) → IsPlain s m → AreBare m.drafts → m.after.used ≡ s.used + length m.drafts → (IsNew s r → Walked m.drafts (asks s.kept ++ came r) (asks m.after.kept))
     → (length s.kept ≤ s.limits.requests → length m.after.kept ≤ s.limits.requests) → AsksNothing s m → IsTakenIn s r m
 taken s r m p n u w f a =
     record {
@@ -77,15 +77,16 @@ taken s r m p n u w f a =
         well = λ (new : IsNew s r). record { each = (w new).each; kept = sym (w new).left_is; accepted = tt; asked = asks-well s m a; used = u; references = references-plain s m n p; limits = p.limits };
         moves = moves-plain s m p;
         stays = a.stays;
+        gives = bare-live m.after.references m.drafts n;
       };
       few = f;
     }
 
 -- ---- the rows
 
-at_once-taken : (s : Session) (r : Request) (answer : Answer) → names_in answer ≡ [] → IsTakenIn s r (after_answering_at_once r answer s)
+at_once-taken : (s : Session) (r : Request) (answer : Answer) → IsBare answer → IsTakenIn s r (after_answering_at_once r answer s)
 at_once-taken s r answer e =
-    taken s r (after_answering_at_once r answer s) (is-plain s _ refl refl refl) (e, tt) refl (λ (n : IsNew s r). walked-came s.kept r answer (joined-distinct s r n)) (λ (h : length s.kept ≤ s.limits.requests). h) (asks-nothing s _ refl tt (λ suits. suits))
+    taken s r (after_answering_at_once r answer s) (is-plain s _ refl refl refl) (e.0, e.1 r, tt) refl (λ (n : IsNew s r). walked-came s.kept r answer (joined-distinct s r n)) (λ (h : length s.kept ≤ s.limits.requests). h) (asks-nothing s _ refl tt (λ suits. suits))
 
 kept-few : (s : Session) (r : Request) → length s.kept < s.limits.requests → length (s.kept ++ kept_unparked r ∷ []) ≤ s.limits.requests
 kept-few s r h = let all = length-append s.kept (kept_unparked r ∷ []) in omega arith
@@ -96,7 +97,7 @@ after_keeping-taken true s r h =
     (λ (n : IsNew s r). subst (λ (qs : List Asked). Walked [] (asks s.kept ++ came r) qs) (sym (joined s.kept r)) (walked-none (asks s.kept ++ came r)))
     (λ (few : length s.kept ≤ s.limits.requests). kept-few s r (lt-of (length s.kept) s.limits.requests h))
     (asks-nothing s _ refl tt (λ suits. suits))
-after_keeping-taken false s r h = at_once-taken s r (failure Busy) refl
+after_keeping-taken false s r h = at_once-taken s r (failure Busy) (bare-failure Busy)
 
 -- those that a cancel names are answered, among those that are kept
 walked-named : (id : Option ℕ) (s : Session) (r : Request) → HasDistinctSeqs (s.kept ++ kept_unparked r ∷ []) → Walked (answer_each (failure Cancelled) (named_by id s.kept)) (asks s.kept ++ came r) (asks (unnamed_by id s.kept) ++ came r)
@@ -125,17 +126,17 @@ after_cancel-taken id s r =
     let named = named_by id s.kept in
     let count = length-each (failure Cancelled) named in
     let all = length-append (answer_each (failure Cancelled) named) (reply r plain_success ∷ []) in
-    taken s r (after_cancel id r s) (is-plain s _ refl refl refl) (append-names-none (answer_each (failure Cancelled) named) (reply r plain_success ∷ []) (each-names-none (failure Cancelled) named refl) (refl, tt)) (omega arith)
+    taken s r (after_cancel id r s) (is-plain s _ refl refl refl) (append-bare (answer_each (failure Cancelled) named) (reply r plain_success ∷ []) (each-bare (failure Cancelled) named (bare-failure Cancelled)) (refl, refl, tt)) (omega arith)
     (λ (n : IsNew s r). after_cancel-walked id s r n)
     (λ (h : length s.kept ≤ s.limits.requests). let few = unnamed-few id s.kept in omega arith)
     (asks-nothing s _ refl (append-asks-none (answer_each (failure Cancelled) named) (reply r plain_success ∷ []) (each-asks-none (failure Cancelled) named) tt) (λ suits. suits))
 
 after_cancel_call-taken : (asked : Read Call) (s : Session) (r : Request) → IsTakenIn s r (after_cancel_call asked r s)
-after_cancel_call-taken (Err key) s r = at_once-taken s r (failure (BadArguments key)) refl
+after_cancel_call-taken (Err key) s r = at_once-taken s r (failure (BadArguments key)) (bare-failure (BadArguments key))
 after_cancel_call-taken (Ok asked) s r = after_cancel-taken (id_in asked) s r
 
 after_cancel_request-taken : (b : Bool) (s : Session) (r : Request) → IsTakenIn s r (if b then after_answering_at_once r (failure NotInitialized) s else after_cancel_call (call_of command.Cancel r.arguments) r s)
-after_cancel_request-taken true s r = at_once-taken s r (failure NotInitialized) refl
+after_cancel_request-taken true s r = at_once-taken s r (failure NotInitialized) (bare-failure NotInitialized)
 after_cancel_request-taken false s r = after_cancel_call-taken (call_of command.Cancel r.arguments) s r
 
 taken-if : (b : Bool) (s : Session) (r : Request) → IsTakenIn s r (if b then after_cancel_request r s else after_keeping r s)
@@ -172,7 +173,7 @@ pub record IsDelivery (s : Session) (seq : ℕ) (kind : Kind) (made : Made) : Ty
 request-delivery : (s : Session) (seq : ℕ) (command : List ℕ) (arguments : Option Data) (made : Made) → TakesIn s (record { seq = seq; command = command; arguments = arguments }) made → IsDelivery s seq (RequestKind command arguments) made
 request-delivery s seq command arguments made t =
     record {
-      sound = record { well = λ (o : IsOrderly s). t.is.sound.well (record { distinct = o.distinct; new = t.new }); moves = t.is.sound.moves; stays = t.is.sound.stays };
+      sound = record { well = λ (o : IsOrderly s). t.is.sound.well (record { distinct = o.distinct; new = t.new }); moves = t.is.sound.moves; stays = t.is.sound.stays; gives = t.is.sound.gives };
       few = t.is.few;
       room = λ (h : s.used ≤ s.limits.seq). t.room;
       distinct = λ (d : HasDistinctSeqs s.kept). asks-more s.kept (record { seq = seq; command = command; arguments = arguments }) d t.new;
@@ -182,7 +183,7 @@ request-delivery s seq command arguments made t =
 no_change-delivery : (s : Session) (seq : ℕ) (kind : Kind) → request_as seq kind ≡ None → response_as kind ≡ None → IsDelivery s seq kind (no_change s)
 no_change-delivery s seq kind e r =
     record {
-      sound = record { well = λ (o : IsOrderly s). rw (e, r) ((no_change-sound s).well tt); moves = (no_change-sound s).moves; stays = (no_change-sound s).stays };
+      sound = record { well = λ (o : IsOrderly s). rw (e, r) ((no_change-sound s).well tt); moves = (no_change-sound s).moves; stays = (no_change-sound s).stays; gives = (no_change-sound s).gives };
       few = λ (h : length s.kept ≤ s.limits.requests). h;
       room = λ (h : s.used ≤ s.limits.seq). let none : s.used + 0 ≡ s.used = omega arith in omega arith;
       distinct = λ (d : HasDistinctSeqs s.kept). rw (e, append-nil (asks s.kept)) (asks-distinct s.kept d);
@@ -211,7 +212,7 @@ waits-no-more : (s : Session) (m : Made) (request_seq : ℕ) (command : List ℕ
 waits-no-more s m request_seq command h none asks = rw (none, response-gone s.asked request_seq command h, none-asked s.used m.drafts asks) refl
 
 -- what walks the requests that were kept
-answered-sound : (s : Session) (m : Made) (request_seq : ℕ) (command : List ℕ) → is_asked request_seq s.asked ≡ true → command ≡ run_in_terminal → IsPlain s m → NameNone m.drafts → AskNone m.drafts → m.after.asked ≡ None → m.after.used ≡ s.used + length m.drafts
+answered-sound : (s : Session) (m : Made) (request_seq : ℕ) (command : List ℕ) → is_asked request_seq s.asked ≡ true → command ≡ run_in_terminal → IsPlain s m → AreBare m.drafts → AskNone m.drafts → m.after.asked ≡ None → m.after.used ≡ s.used + length m.drafts
     → (HasDistinctSeqs s.kept → Walked m.drafts (asks s.kept) (asks m.after.kept)) → Stays s m → IsSound (IsOrderly s) s [] (Some (record { request_seq = request_seq; command = command })) m
 answered-sound s m request_seq command h e p names none gone u w t =
     let same : asks s.kept ++ [] ≡ asks s.kept = append-nil (asks s.kept) in
@@ -228,6 +229,7 @@ answered-sound s m request_seq command h e p names none gone u w t =
       };
       moves = moves-plain s m p;
       stays = t;
+      gives = bare-live m.after.references m.drafts names;
     }
 
 -- so many messages, and no more requests are kept
@@ -241,7 +243,7 @@ started-answer s request_seq command last h e =
     let parked = parked_ones s.kept in
     let count = length-each (by_reply None last) parked in
     record {
-      sound = answered-sound s (after_terminal s last) request_seq command h e (is-plain s _ refl refl refl) (each-names-none (by_reply None last) parked (names-by_reply None last)) (each-asks-none (by_reply None last) parked) refl (omega arith)
+      sound = answered-sound s (after_terminal s last) request_seq command h e (is-plain s _ refl refl refl) (each-bare (by_reply None last) parked (bare-by_reply last)) (each-asks-none (by_reply None last) parked) refl (omega arith)
           (λ (d : HasDistinctSeqs s.kept). walked-all (λ (x : Kept). x.parked) (by_reply None last) s.kept d) (λ suits. none-started last None refl);
       few = length-filtered (λ (k : Kept). not k.parked) s.kept;
       count = count;

@@ -14,11 +14,11 @@ use Rattle.dap_session.specs.Session.{Session}
 use Rattle.dap_session.proofs.Kept.{Walked, walked-none, walked-append, walked-event}
 use Rattle.dap_session.proofs.Moves.{IsPlain, is-plain, moves-plain}
 use Rattle.dap_session.proofs.OwnRequests.{asks_none, none-in}
-use Rattle.dap_session.proofs.Outcomes.{IsSound, NameNone, AsksNothing, asks-nothing, asks-well, references-plain, walked-well}
+use Rattle.dap_session.proofs.Outcomes.{IsSound, AreBare, AsksNothing, asks-nothing, asks-well, references-plain, walked-well, bare-live}
 
 -- events alone: the kept requests stay
-told-sound : (s : Session) (m : Made) → IsPlain s m → NameNone m.drafts → m.after.used ≡ s.used + length m.drafts → Walked m.drafts (asks s.kept) (asks m.after.kept) → AsksNothing s m → IsSound (Unit {0}) s [] None m
-told-sound s m p n u w a = record { well = λ (t : Unit {0}). walked-well s m (moves-plain s m p) w u (references-plain s m n p) (asks-well s m a); moves = moves-plain s m p; stays = a.stays }
+told-sound : (s : Session) (m : Made) → IsPlain s m → AreBare m.drafts → m.after.used ≡ s.used + length m.drafts → Walked m.drafts (asks s.kept) (asks m.after.kept) → AsksNothing s m → IsSound (Unit {0}) s [] None m
+told-sound s m p n u w a = record { well = λ (t : Unit {0}). walked-well s m (moves-plain s m p) w u (references-plain s m n p) (asks-well s m a); moves = moves-plain s m p; stays = a.stays; gives = bare-live m.after.references m.drafts n }
 
 pub no_change-sound : (s : Session) → IsSound (Unit {0}) s [] None (no_change s)
 no_change-sound s = told-sound s (no_change s) (is-plain s _ refl refl refl) tt (omega arith) (walked-none (asks s.kept)) (asks-nothing s _ refl tt (λ suits. suits))
@@ -26,11 +26,11 @@ no_change-sound s = told-sound s (no_change s) (is-plain s _ refl refl refl) tt 
 after_happening-sound : (h : Happening) (s : Session) → asks_none s.phase ≡ true → IsSound (Unit {0}) s [] None (after_happening h s)
 unfolding after_happening
 after_happening-sound happening.Nothing s q = no_change-sound s
-after_happening-sound (happening.Output category text) s q = told-sound s _ (is-plain s _ refl refl refl) (refl, tt) refl (walked-event _ (asks s.kept)) (asks-nothing s _ refl tt (λ suits. suits))
-after_happening-sound (happening.Stopped reason thread) s q = told-sound s _ (is-plain s _ refl refl refl) (refl, tt) refl (walked-event _ (asks s.kept)) (asks-nothing s _ refl tt (none-in s.phase s.asked q))
-after_happening-sound (happening.Continued thread) s q = told-sound s _ (is-plain s _ refl refl refl) (refl, tt) refl (walked-event _ (asks s.kept)) (asks-nothing s _ refl tt (none-in s.phase s.asked q))
+after_happening-sound (happening.Output category text) s q = told-sound s _ (is-plain s _ refl refl refl) (refl, refl, tt) refl (walked-event _ (asks s.kept)) (asks-nothing s _ refl tt (λ suits. suits))
+after_happening-sound (happening.Stopped reason thread) s q = told-sound s _ (is-plain s _ refl refl refl) (refl, refl, tt) refl (walked-event _ (asks s.kept)) (asks-nothing s _ refl tt (none-in s.phase s.asked q))
+after_happening-sound (happening.Continued thread) s q = told-sound s _ (is-plain s _ refl refl refl) (refl, refl, tt) refl (walked-event _ (asks s.kept)) (asks-nothing s _ refl tt (none-in s.phase s.asked q))
 after_happening-sound (happening.Exited code) s q =
-    told-sound s _ (is-plain s _ refl refl refl) (refl, (refl, tt)) refl (walked-append _ _ (asks s.kept) (asks s.kept) (asks s.kept) (walked-event _ (asks s.kept)) (walked-event _ (asks s.kept))) (asks-nothing s _ refl tt (none-in s.phase s.asked q))
+    told-sound s _ (is-plain s _ refl refl refl) (refl, refl, (refl, refl, tt)) refl (walked-append _ _ (asks s.kept) (asks s.kept) (asks s.kept) (walked-event _ (asks s.kept)) (walked-event _ (asks s.kept))) (asks-nothing s _ refl tt (none-in s.phase s.asked q))
 
 reply-sound : (s : Session) (r : Reply) → asks_none s.phase ≡ true → IsSound (Unit {0}) s [] None (after_poll_reply s r)
 reply-sound s done q = no_change-sound s

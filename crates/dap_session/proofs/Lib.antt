@@ -40,3 +40,7 @@ pub mod EffectRows
 pub mod OrderedAnswers
 pub mod ProtocolLists
 pub mod Offers
+pub mod GivenBodies
+pub mod Gives
+pub mod States
+pub mod Placed

@@ -24,6 +24,7 @@ use Rattle.dap_session.proofs.ServedRows.{unserved}
 use Rattle.dap_session.proofs.ChangeResults.{call-suits}
 use Rattle.dap_session.proofs.OwnRequests.{is-in, still-in, still-suits, still-first}
 use Rattle.dap_session.proofs.EffectRows.{effect-row}
+use Rattle.dap_session.proofs.Placed.{placed, still-placed}
 use Rattle.dap_session.proofs.ServedInOrder.{served_first}
 use Rattle.dap_session.proofs.Turns.{unknown-fails, badly-fails, unserved-fails}
 
@@ -61,7 +62,7 @@ all-tests view s r key same =
 call-first : (view : Shown) (s : Session) (r : Entry) (c : Command) (o : Option Effect) (read : Read Call) → effect_in c s.phase ≡ o → call_in r c ≡ read → IsWithin s
     → (f : Failure) → served_first (of_effect (refuses view s) o read) (of_effect (sets_too_many s) o read) (of_effect (names_too_many view s) o read) (of_effect (exhausts_numbers view s) o read) (of_effect (is_too_large view s r) o read) ≡ Some f → plan_of_call view s r o read ≡ at_once (after_answering r (failure f) s)
 call-first view s r c (Some e) (Ok asked) h i w f is =
-    let row = effect-row (effect_of s r e) view s asked (still-suits s r e asked (call-suits c s.phase r.arguments e asked h i)) (still-in s r e (is-in c s.phase e h)) in
+    let row = effect-row (effect_of s r e) view s asked (still-suits s r e asked (call-suits c s.phase r.arguments e asked h i)) (still-in s r e (is-in c s.phase e h)) (still-placed s r e (placed c s.phase e h)) in
     (row.order r w).some f (still-first view s r e asked ∙ is)
 call-first view s r c (Some e) (Err key) h i w f is = absurd cc
 call-first view s r c None read h i w f is = absurd cc
@@ -94,7 +95,7 @@ call-serves : (view : Shown) (s : Session) (r : Entry) (c : Command) (o : Option
     → served_first (of_effect (refuses view s) o read) (of_effect (sets_too_many s) o read) (of_effect (names_too_many view s) o read) (of_effect (exhausts_numbers view s) o read) (of_effect (is_too_large view s r) o read) ≡ None
     → (last : Reply) → ServesBy view s r c (plan_of_call view s r o read) last
 call-serves view s r c (Some e) (Ok asked) h i w none later last =
-    let row = effect-row (effect_of s r e) view s asked (still-suits s r e asked (call-suits c s.phase r.arguments e asked h i)) (still-in s r e (is-in c s.phase e h)) in
+    let row = effect-row (effect_of s r e) view s asked (still-suits s r e asked (call-suits c s.phase r.arguments e asked h i)) (still-in s r e (is-in c s.phase e h)) (still-placed s r e (placed c s.phase e h)) in
     let well = (row.order r w).none (still-first view s r e asked ∙ later) in
     record { asked = asked; read = i; does = e; is = h; asks = well.asks; answered = well.answered last }
 call-serves view s r c o (Err key) h i w none later last = absurd (badly-fails (name_refused s.phase (Some c)) (BadArguments key) None none)

@@ -12,11 +12,14 @@ use Rattle.dap_tables.specs.References.{LiveReferences}
 use Rattle.dap_tables.specs.declared.entry.Entry.{Entry}
 use Rattle.dap_debuggee.specs.Shown.{Act, Reply, done}
 use Rattle.dap_session.specs.Answering.{GoesWell}
+use Rattle.dap_session.specs.GivenLaws.{AreLive, given_by, answers_setter, AllGiveLive}
 use Rattle.dap_session.specs.Handling.{answer_each}
 use Rattle.dap_session.specs.Laws.{CanMake}
-use Rattle.dap_session.specs.Plan.{Answer, success, failure, Draft, reply, emit, ask, requests_in, names_in, names_of, outs, Made, Plan, at_once, asking, after_answering, messages_due, entries_of, references_end_if}
+use Rattle.dap_session.specs.Plan.{Answer, success, failure, plain_success, Draft, reply, emit, ask, requests_in, names_in, names_of, outs, Made, Plan, at_once, asking, after_answering, messages_due, entries_of, references_end_if}
 use Rattle.dap_session.specs.References.{references_after}
 use Rattle.dap_session.specs.RefusalLaws.{is_for_room}
+use Rattle.dap_debuggee.specs.declared.answers.State.{State}
+use Rattle.dap_session.specs.StateLaws.{KeepsState}
 use Rattle.dap_session.specs.Session.{Session, own_requests, IsAskedIn, IsOrderly, to_handle}
 use Rattle.dap_session.proofs.Fewer.{IsHandled, fewer-handled}
 use Rattle.dap_session.proofs.Kept.{Walked, walked-kept, all-open}
@@ -34,6 +37,7 @@ pub record IsSound (premise : Type 0) (s : Session) (came : List Asked) (respons
   pub well : premise → GoesWell s came response m
   pub moves : Moves s m
   pub stays : Stays s m
+  pub gives : AllGiveLive m.after.references m.drafts
 
 -- what a request that is handled comes to, in so many messages
 pub record IsOutcome (s : Session) (n : ℕ) (m : Made) : Type 0 where
@@ -41,29 +45,44 @@ pub record IsOutcome (s : Session) (n : ℕ) (m : Made) : Type 0 where
   pub count : length m.drafts ≡ n
   pub fewer : HasDistinctSeqs s.kept → to_handle m.after.kept < to_handle s.kept
 
--- ---- drafts that name no references
+-- ---- drafts that name no references, and give none
 
-abbrev pub NameNone : List Draft → Type 0
-NameNone [] = Unit {0}
-NameNone (d ∷ ds) = (names_of d ≡ []) × NameNone ds
+abbrev pub AreBare : List Draft → Type 0
+AreBare [] = Unit {0}
+AreBare (d ∷ ds) = (names_of d ≡ []) × (given_by d ≡ []) × AreBare ds
 
-references-none : (refs : LiveReferences) (used : ℕ) (ds : List Draft) → NameNone ds → references_after refs (outs used ds) ≡ refs
+-- such an answer, whatever request it is to
+abbrev pub IsBare : Answer → Type 0
+IsBare answer = (names_in answer ≡ []) × ((r : Entry) → given_by (reply r answer) ≡ [])
+
+pub bare-failure : (f : Failure) → IsBare (failure f)
+bare-failure f = (refl, λ r. refl)
+
+pub bare-success : IsBare plain_success
+bare-success = (refl, λ r. refl)
+
+-- what they give is live
+pub bare-live : (refs : LiveReferences) (ds : List Draft) → AreBare ds → AllGiveLive refs ds
+bare-live refs [] n = tt
+bare-live refs (d ∷ ds) n = (rw n.1 tt, λ setter. n.1, bare-live refs ds n.2)
+
+references-none : (refs : LiveReferences) (used : ℕ) (ds : List Draft) → AreBare ds → references_after refs (outs used ds) ≡ refs
 references-none refs used [] n = refl
-references-none refs used (d ∷ ds) n = rw n.0 (references-none refs (used + 1) ds n.1)
+references-none refs used (d ∷ ds) n = rw n.0 (references-none refs (used + 1) ds n.2)
 
 -- then the references are as they were, or all died
-pub references-plain : (s : Session) (m : Made) → NameNone m.drafts → IsPlain s m → m.after.references ≡ references_after s.references (entries_of s.used m)
+pub references-plain : (s : Session) (m : Made) → AreBare m.drafts → IsPlain s m → m.after.references ≡ references_after s.references (entries_of s.used m)
 references-plain s m n p =
     p.references
     ∙ sym (references_after-append s.references (references_end_if m.drops) (outs s.used m.drafts) ∙ references-none (references_after s.references (references_end_if m.drops)) s.used m.drafts n)
 
-pub each-names-none : (answer : Answer) (ks : List Kept) → names_in answer ≡ [] → NameNone (answer_each answer ks)
-each-names-none answer [] e = tt
-each-names-none answer (k ∷ ks) e = (e, each-names-none answer ks e)
+pub each-bare : (answer : Answer) (ks : List Kept) → IsBare answer → AreBare (answer_each answer ks)
+each-bare answer [] e = tt
+each-bare answer (k ∷ ks) e = (e.0, e.1 k.entry, each-bare answer ks e)
 
-pub append-names-none : (ds es : List Draft) → NameNone ds → NameNone es → NameNone (ds ++ es)
-append-names-none [] es n o = o
-append-names-none (d ∷ ds) es n o = (n.0, append-names-none ds es n.1 o)
+pub append-bare : (ds es : List Draft) → AreBare ds → AreBare es → AreBare (ds ++ es)
+append-bare [] es n o = o
+append-bare (d ∷ ds) es n o = (n.0, n.1, append-bare ds es n.2 o)
 
 -- ---- drafts that ask for nothing
 
@@ -117,18 +136,18 @@ walked-well s m v w u r a =
     record { each = moved.each; kept = sym moved.left_is; accepted = tt; asked = a; used = u; references = r; limits = v.limits }
 
 pub outcome : (s : Session) (n : ℕ) (m : Made) → Moves s m → m.after.references ≡ references_after s.references (entries_of s.used m) → m.after.used ≡ s.used + length m.drafts → length m.drafts ≡ n
-    → (HasDistinctSeqs s.kept → Walked m.drafts (asks s.kept) (asks m.after.kept)) → (HasDistinctSeqs s.kept → to_handle m.after.kept < to_handle s.kept) → (IsAskedIn s.phase s.asked → AsksWell s m) → Stays s m → IsOutcome s n m
-outcome s n m v r u c w f a t =
+    → (HasDistinctSeqs s.kept → Walked m.drafts (asks s.kept) (asks m.after.kept)) → (HasDistinctSeqs s.kept → to_handle m.after.kept < to_handle s.kept) → (IsAskedIn s.phase s.asked → AsksWell s m) → Stays s m → AllGiveLive m.after.references m.drafts → IsOutcome s n m
+outcome s n m v r u c w f a t g =
     record {
-      sound = record { well = λ (o : IsOrderly s). walked-well s m v (w o.distinct) u r (a o.asked); moves = v; stays = t };
+      sound = record { well = λ (o : IsOrderly s). walked-well s m v (w o.distinct) u r (a o.asked); moves = v; stays = t; gives = g };
       count = c;
       fewer = f;
     }
 
 -- no references are given, and no breakpoints set
-pub plain-outcome : (s : Session) (n : ℕ) (m : Made) → IsPlain s m → NameNone m.drafts → m.after.used ≡ s.used + length m.drafts → length m.drafts ≡ n
+pub plain-outcome : (s : Session) (n : ℕ) (m : Made) → IsPlain s m → AreBare m.drafts → m.after.used ≡ s.used + length m.drafts → length m.drafts ≡ n
     → (HasDistinctSeqs s.kept → Walked m.drafts (asks s.kept) (asks m.after.kept)) → (HasDistinctSeqs s.kept → to_handle m.after.kept < to_handle s.kept) → AsksNothing s m → IsOutcome s n m
-plain-outcome s n m p names u c w f a = outcome s n m (moves-plain s m p) (references-plain s m names p) u c w f (λ suits. asks-well s m a) a.stays
+plain-outcome s n m p names u c w f a = outcome s n m (moves-plain s m p) (references-plain s m names p) u c w f (λ suits. asks-well s m a) a.stays (bare-live m.after.references m.drafts names)
 
 walked-by : (s : Session) (k : Kept) (answer : Answer) (m : Made) → IsHandled s k → m.drafts ≡ reply k.entry answer ∷ [] → m.after.kept ≡ without k.entry.seq s.kept → HasDistinctSeqs s.kept → Walked m.drafts (asks s.kept) (asks m.after.kept)
 walked-by s k answer m i ds ks d = rw (ds, ks) (walked-kept answer s.kept k d i.kept)
@@ -138,18 +157,18 @@ fewer-by s k m i ks d = rw ks (fewer-handled s k d i)
 
 -- one answer, and the request is kept no more
 pub replied : (s : Session) (k : Kept) (answer : Answer) (m : Made) → IsHandled s k → Moves s m → m.after.references ≡ references_after s.references (entries_of s.used m) → m.drafts ≡ reply k.entry answer ∷ [] → m.after.kept ≡ without k.entry.seq s.kept
-    → m.after.used ≡ s.used + 1 → m.after.asked ≡ s.asked → Stays s m → IsOutcome s 1 m
-replied s k answer m i v r ds ks u same t =
+    → m.after.used ≡ s.used + 1 → m.after.asked ≡ s.asked → Stays s m → AreLive m.after.references (given_by (reply k.entry answer)) → (answers_setter (reply k.entry answer) ≡ true → given_by (reply k.entry answer) ≡ []) → IsOutcome s 1 m
+replied s k answer m i v r ds ks u same t g n =
     let one : length m.drafts ≡ 1 = ap length ds in
     let none : AskNone m.drafts = subst (λ (xs : List Draft). AskNone xs) (sym ds) tt in
-    outcome s 1 m v r (omega arith) one (walked-by s k answer m i ds ks) (fewer-by s k m i ks) (λ suits. asks-well s m (asks-nothing s m same none t)) t
+    outcome s 1 m v r (omega arith) one (walked-by s k answer m i ds ks) (fewer-by s k m i ks) (λ suits. asks-well s m (asks-nothing s m same none t)) t (subst (λ (xs : List Draft). AllGiveLive m.after.references xs) (sym ds) (g, n, tt))
 
 -- and it names no references
-pub plain-reply : (s : Session) (k : Kept) (answer : Answer) (m : Made) → IsHandled s k → names_in answer ≡ [] → m.drafts ≡ reply k.entry answer ∷ [] → m.after.kept ≡ without k.entry.seq s.kept → m.after.used ≡ s.used + 1 → IsPlain s m → m.after.asked ≡ s.asked → Stays s m → IsOutcome s 1 m
+pub plain-reply : (s : Session) (k : Kept) (answer : Answer) (m : Made) → IsHandled s k → IsBare answer → m.drafts ≡ reply k.entry answer ∷ [] → m.after.kept ≡ without k.entry.seq s.kept → m.after.used ≡ s.used + 1 → IsPlain s m → m.after.asked ≡ s.asked → Stays s m → IsOutcome s 1 m
 plain-reply s k answer m i e ds ks u p same t =
-    replied s k answer m i (moves-plain s m p) (references-plain s m (subst (λ (xs : List Draft). NameNone xs) (sym ds) (e, tt)) p) ds ks u same t
+    replied s k answer m i (moves-plain s m p) (references-plain s m (subst (λ (xs : List Draft). AreBare xs) (sym ds) (e.0, e.1 k.entry, tt)) p) ds ks u same t (subst (λ ps. AreLive m.after.references ps) (sym (e.1 k.entry)) tt) (λ setter. e.1 k.entry)
 
-pub after_answering-outcome : (s : Session) (k : Kept) (answer : Answer) → IsHandled s k → names_in answer ≡ [] → IsOutcome s 1 (after_answering k.entry answer s)
+pub after_answering-outcome : (s : Session) (k : Kept) (answer : Answer) → IsHandled s k → IsBare answer → IsOutcome s 1 (after_answering k.entry answer s)
 after_answering-outcome s k answer i e = plain-reply s k answer (after_answering k.entry answer s) i e refl refl refl (is-plain s _ refl refl refl) refl (λ suits. suits)
 
 -- ---- failures for size or room
@@ -194,6 +213,7 @@ pub record IsFailure (s : Session) (plan : Plan) : Type 0 where
 pub record IsRow (s : Session) (plan : Plan) : Type 0 where
   pub outcomes : (m : Made) → CanMake plan m → IsOutcome s (messages_due plan) m
   pub refused : IsClean plan ⊎ IsFailure s plan
+  pub keeps : (first : State) → KeepsState first s plan
 
 recounted : (s : Session) (n k : ℕ) (m : Made) → n ≡ k → IsOutcome s n m → IsOutcome s k m
 recounted s n k m e o = subst (λ (x : ℕ). IsOutcome s x m) e o
@@ -202,22 +222,22 @@ at_once-outcomes : (s : Session) (n : ℕ) (m : Made) → IsOutcome s n m → (m
 at_once-outcomes s n m o made e = subst (λ (x : Made). IsOutcome s (length m.drafts) x) (sym e) (recounted s n (length m.drafts) m (sym o.count) o)
 
 -- what is made at once
-pub once-row : (s : Session) (n : ℕ) (m : Made) → IsOutcome s n m → AreClean m.drafts → IsRow s (at_once m)
-once-row s n m o c = record { outcomes = at_once-outcomes s n m o; refused = inl (λ (made : Made) (e : made ≡ m). subst (λ (x : Made). AreClean x.drafts) (sym e) c) }
+pub once-row : (s : Session) (n : ℕ) (m : Made) → IsOutcome s n m → AreClean m.drafts → ((first : State) → KeepsState first s (at_once m)) → IsRow s (at_once m)
+once-row s n m o c w = record { keeps = w; outcomes = at_once-outcomes s n m o; refused = inl (λ (made : Made) (e : made ≡ m). subst (λ (x : Made). AreClean x.drafts) (sym e) c) }
 
 -- one failure
 pub failed-row : (s : Session) (k : Kept) (f : Failure) → IsHandled s k → IsRow s (at_once (after_answering k.entry (failure f) s))
 failed-row s k f i =
     let m : Made = after_answering k.entry (failure f) s in
-    record { outcomes = at_once-outcomes s 1 m (after_answering-outcome s k (failure f) i refl); refused = inr (record { entry = k.entry; fault = f; is = refl }) }
+    record { outcomes = at_once-outcomes s 1 m (after_answering-outcome s k (failure f) i (bare-failure f)); refused = inr (record { entry = k.entry; fault = f; is = refl }); keeps = λ first before h. h }
 
 asking-outcomes : (s : Session) (n : ℕ) (makes : Reply → Made) → ((r : Reply) → IsOutcome s n (makes r)) → (made : Made) → (r : Reply) × (made ≡ makes r) → IsOutcome s (length (makes done).drafts) made
 asking-outcomes s n makes o made is = subst (λ (x : Made). IsOutcome s (length (makes done).drafts) x) (sym is.1) (recounted s n (length (makes done).drafts) (makes is.0) (sym (o done).count) (o is.0))
 
 -- what is made of the debuggee's reply, in as many messages whatever it is
-pub asking-row : (s : Session) (n : ℕ) (act : Act) (makes : Reply → Made) → ((r : Reply) → IsOutcome s n (makes r)) → ((r : Reply) → AreClean (makes r).drafts) → IsRow s (asking act makes)
-asking-row s n act makes o c =
-    record { outcomes = asking-outcomes s n makes o; refused = inl (λ (made : Made) (is : (r : Reply) × (made ≡ makes r)). subst (λ (x : Made). AreClean x.drafts) (sym is.1) (c is.0)) }
+pub asking-row : (s : Session) (n : ℕ) (act : Act) (makes : Reply → Made) → ((r : Reply) → IsOutcome s n (makes r)) → ((r : Reply) → AreClean (makes r).drafts) → ((first : State) → KeepsState first s (asking act makes)) → IsRow s (asking act makes)
+asking-row s n act makes o c w =
+    record { keeps = w; outcomes = asking-outcomes s n makes o; refused = inl (λ (made : Made) (is : (r : Reply) × (made ≡ makes r)). subst (λ (x : Made). AreClean x.drafts) (sym is.1) (c is.0)) }
 
 -- one plan or the other
 pub either-row : (b : Bool) (s : Session) (p q : Plan) → (b ≡ true → IsRow s p) → (b ≡ false → IsRow s q) → IsRow s (if b then p else q)

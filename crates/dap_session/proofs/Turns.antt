@@ -5,15 +5,19 @@ use Rattle.std.proofs.lemmas.Bool.Decides.{nat_tests}
 use Rattle.dap_message.specs.Argument.{Read}
 use Rattle.dap_message.specs.Types.Call.{Call}
 use Rattle.dap_message.specs.Types.Command.{Command}
+use Rattle.dap_message.specs.Types.Command.TheVariants as command
 use Rattle.dap_message.specs.Types.Failure.{Failure}
 use Rattle.dap_message.specs.Types.Failure.TheVariants.{NotInitialized, UnknownCommand, BadArguments, WrongPhase, NotStopped}
 use Rattle.dap_tables.specs.Outstanding.{Kept}
+use Rattle.dap_tables.specs.declared.entry.Entry.{Entry}
 use Rattle.dap_debuggee.specs.Shown.{Shown}
 use Rattle.dap_session.specs.declared.effect.Effect.{Effect}
+use Rattle.dap_session.specs.declared.effect.Effect.TheVariants as effect
+use Rattle.dap_session.specs.GivenLaws.{is_setter}
 use Rattle.dap_session.specs.declared.fault.AdapterFault.{AdapterFault}
 use Rattle.dap_session.specs.declared.phase.Phase.TheVariants.{Fresh}
 use Rattle.dap_session.specs.Failures.{command_of, call_in, first_failure, or_else, when, name_refused, key_refused, phase_refused, call_refused, read_refused, known_refused, refusal, waits_for_stop}
-use Rattle.dap_session.specs.Handling.{effect_of, plan_of_call, plan_of_command, plan_unless, plan as plan_at, some_plan, turn_of, turns}
+use Rattle.dap_session.specs.Handling.{effect_of, parked_wants_terminal, wants_terminal, plan_of_call, plan_of_command, plan_unless, plan as plan_at, some_plan, turn_of, turns}
 use Rattle.dap_session.specs.Plan.{Plan, messages_due, plan_within_numbers}
 use Rattle.dap_session.specs.Session.{Session, oldest}
 use Rattle.dap_session.specs.Table.{effect_in, is_served, is_phase}
@@ -21,7 +25,8 @@ use Rattle.dap_session.proofs.Fewer.{IsHandled}
 use Rattle.dap_session.proofs.Kept.{kept-found, found-passes}
 use Rattle.dap_session.proofs.Outcomes.{IsRow, failed-row}
 use Rattle.dap_session.proofs.OwnRequests.{is-in, still-in, still-suits}
-use Rattle.dap_session.proofs.EffectRows.{effect-row}
+use Rattle.dap_session.proofs.EffectRows.{Answers, effect-row}
+use Rattle.dap_session.proofs.Placed.{placed, still-placed, queries-no-setter}
 use Rattle.dap_session.proofs.ServedRows.{unserved}
 use Rattle.dap_session.proofs.ChangeResults.{call-suits}
 
@@ -45,21 +50,36 @@ unserved-fails None false call h = cc
 
 -- ---- the rows
 
-served-row : (view : Shown) (s : Session) (k : Kept) (c : Command) (o : Option Effect) (read : Read Call) → IsHandled s k → effect_in c s.phase ≡ o → call_in k.entry c ≡ read
+setter-is : (o : Option Command) (c : Command) → o ≡ Some c → is_setter o ≡ true → c ≡ command.SetVariable
+setter-is (Some command.SetVariable) c e h = cc
+setter-is _ c e h = cc
+
+-- a query answers no command that sets something
+answers-if : (b : Bool) (d e : Effect) (r : Entry) → Answers d r → Answers e r → Answers (let x : Effect = (if b then d else e) in x) r
+answers-if true d e r x y = x
+answers-if false d e r x y = y
+
+answers-so : (s : Session) (r : Entry) (c : Command) (e : Effect) → command_of r ≡ Some c → effect_in c s.phase ≡ Some e → Answers (effect_of s r e) r
+answers-so s r c effect.Query o h = λ setter. queries-no-setter c s.phase h (setter-is (command_of r) c o setter)
+answers-so s r c effect.Start o h = answers-if (wants_terminal s.options r) effect.Ask effect.Start r tt tt
+answers-so s r c effect.StartParked o h = answers-if (parked_wants_terminal s.options s.kept) effect.AskParked effect.StartParked r tt tt
+answers-so s r c _ o h = tt
+
+served-row : (view : Shown) (s : Session) (k : Kept) (c : Command) (o : Option Effect) (read : Read Call) → IsHandled s k → command_of k.entry ≡ Some c → effect_in c s.phase ≡ o → call_in k.entry c ≡ read
     → first_failure (name_refused s.phase (Some c) ∷ first_failure (key_refused read ∷ phase_refused s.phase c ∷ read_refused view s.references read ∷ []) ∷ []) ≡ None → IsRow s (plan_of_call view s k.entry o read)
-served-row view s k c (Some e) (Ok asked) i h r none = (effect-row (effect_of s k.entry e) view s asked (still-suits s k.entry e asked (call-suits c s.phase k.entry.arguments e asked h r)) (still-in s k.entry e (is-in c s.phase e h))).outcome k i
-served-row view s k c o (Err key) i h r none = absurd (badly-fails (name_refused s.phase (Some c)) (BadArguments key) None none)
-served-row view s k c None (Ok asked) i h r none =
+served-row view s k c (Some e) (Ok asked) i n h r none = (effect-row (effect_of s k.entry e) view s asked (still-suits s k.entry e asked (call-suits c s.phase k.entry.arguments e asked h r)) (still-in s k.entry e (is-in c s.phase e h)) (still-placed s k.entry e (placed c s.phase e h))).outcome k i (answers-so s k.entry c e n h)
+served-row view s k c o (Err key) i n h r none = absurd (badly-fails (name_refused s.phase (Some c)) (BadArguments key) None none)
+served-row view s k c None (Ok asked) i n h r none =
     let not_served : is_served c s.phase ≡ false = unserved s.phase c h in
     absurd (unserved-fails (name_refused s.phase (Some c)) (waits_for_stop s.phase c) (or_else (call_refused view s.references asked) None) (rw not_served at none))
 
-command-row : (view : Shown) (s : Session) (k : Kept) (o : Option Command) → IsHandled s k → first_failure (name_refused s.phase o ∷ known_refused view s k.entry o ∷ []) ≡ None → IsRow s (plan_of_command view s k.entry o)
-command-row view s k None i none = absurd (unknown-fails (is_phase Fresh s.phase && true) none)
-command-row view s k (Some c) i none = served-row view s k c (effect_in c s.phase) (call_in k.entry c) i refl refl none
+command-row : (view : Shown) (s : Session) (k : Kept) (o : Option Command) → IsHandled s k → command_of k.entry ≡ o → first_failure (name_refused s.phase o ∷ known_refused view s k.entry o ∷ []) ≡ None → IsRow s (plan_of_command view s k.entry o)
+command-row view s k None i n none = absurd (unknown-fails (is_phase Fresh s.phase && true) none)
+command-row view s k (Some c) i n none = served-row view s k c (effect_in c s.phase) (call_in k.entry c) i n refl refl none
 
 unless-row : (view : Shown) (s : Session) (k : Kept) (o : Option Failure) → IsHandled s k → refusal view s k.entry ≡ o → IsRow s (plan_unless o view s k.entry)
 unless-row view s k (Some f) i h = failed-row s k f i
-unless-row view s k None i h = command-row view s k (command_of k.entry) i h
+unless-row view s k None i h = command-row view s k (command_of k.entry) i refl h
 
 -- ---- a plan that is afforded
 

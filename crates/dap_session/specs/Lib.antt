@@ -24,3 +24,5 @@ pub mod RefusalLaws
 pub mod StaleLaws
 pub mod OfferLaws
 pub mod OrderLaws
+pub mod GivenLaws
+pub mod StateLaws

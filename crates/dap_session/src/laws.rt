@@ -1,11 +1,13 @@
 //! Laws of the definitions, each on a function with nothing to run.
 ghost use Rattle.dap_session.specs.Answering.{EachStepGoesWell};
+ghost use Rattle.dap_session.specs.GivenLaws.{EachAnswerGivesLive};
 ghost use Rattle.dap_session.specs.Laws.{EachStepGoesOn};
 ghost use Rattle.dap_session.specs.OrderLaws.{FailuresComeInOrder, RefusalsComeInOrder};
 ghost use Rattle.dap_session.specs.OfferLaws.{OffersAreServed};
 ghost use Rattle.dap_session.specs.ReferenceLaws.{ReferencesAreApart};
 ghost use Rattle.dap_session.specs.RefusalLaws.{RefusalsChangeNothing};
 ghost use Rattle.dap_session.specs.StaleLaws.{DeadNumbersAreStale};
+ghost use Rattle.dap_session.specs.StateLaws.{EachStepKeepsState};
 ghost use Rattle.dap_session.specs.Within.{EachStepStaysWithin};
 
 use dap_history::laws::histories_grow;
@@ -70,4 +72,17 @@ pub fn refusals_come_in_order()
 /// own request is written: `launch` is parked then, or `configurationDone` succeeds and what is parked stays so.
 pub fn failures_come_in_order()
     ensures { FailuresComeInOrder }
+{}
+
+/// Whatever the debuggee replies, each reference that a client reads from an answer, by its body and its command, names
+/// something of its kind once the step is made; an answer to `setVariable` gives none.
+pub fn each_answer_gives_live()
+    ensures { EachAnswerGivesLive }
+{}
+
+/// The phase is the debuggee's state, after each step where it was so before, whatever the debuggee may reply, by the laws of
+/// its states: up to a start it is as it was handed in, not started; it runs in Running, is stopped in Stopped, and is gone in
+/// Exited.
+pub fn each_step_keeps_state()
+    ensures { EachStepKeepsState }
 {}

@@ -17,3 +17,4 @@ pub mod Known
 pub mod PrivateKnownStore
 pub mod KnownLaws
 pub mod TableLaws
+pub mod Given

@@ -10,7 +10,7 @@ pub returns-in_err-bytes-clause-refused : goal.returns-in_err-bytes-clause-refus
 returns-in_err-bytes-clause-refused g c =
     let p = err_from_is_err_and c.from_residual.result c.from_residual.ensures.1 in
     let gives : GivesOne c.args.reader.now.intake c.next.new.self.intake c.args.piece.now c.in-Ok.next.used c.in-Some.message = subst (λ (o : Option Message). Gives c.args.reader.now.intake c.next.new.self.intake c.args.piece.now c.in-Ok.next.used o) c.in-Some.is c.in-Ok.ensures.gives in
-    rw (p.1, p.2) (untaken_refused c.each_body_is_one.ensures c.args.reader.now.intake gives.whole.ready c.args.session.now c.args.piece.now c.in-Ok.next.used c.in-Some.message c.in_err-bytes.field-0.0 c.take.new.self.debuggee gives.whole.completes gives.read c.in_err-bytes.ensures.refused c.in_err-bytes.ensures.unasked)
+    rw (p.1, p.2) (untaken_refused c.args.reader.now.intake gives.whole.ready c.args.session.now c.args.piece.now c.in-Ok.next.used c.in-Some.message c.in_err-bytes.field-0.0 c.take.new.self.debuggee gives.whole.completes gives.read c.in_err-bytes.ensures.refused c.in_err-bytes.ensures.unasked)
 
 pub returns-in_err-bytes-clause-debuggee : goal.returns-in_err-bytes-clause-debuggee
 returns-in_err-bytes-clause-debuggee g c =

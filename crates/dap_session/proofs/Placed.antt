@@ -1,0 +1,115 @@
+-- In which phases an effect of the table is found, and that no query answers a command that sets something.
+use Rattle.std.proofs.Common.{◌≡◌, inl, inr, Bool, true, false, Option, Some, None, refl, subst}
+use Rattle.std.specs.Prelude.{if◌then◌else◌}
+use Rattle.dap_message.specs.Types.Command.{Command}
+use Rattle.dap_message.specs.Types.Command.TheVariants as command
+use Rattle.dap_tables.specs.declared.entry.Entry.{Entry}
+use Rattle.dap_debuggee.specs.declared.answers.State.{State}
+use Rattle.dap_session.specs.declared.effect.Effect.{Effect}
+use Rattle.dap_session.specs.declared.effect.Effect.TheVariants as effect
+use Rattle.dap_session.specs.declared.phase.Phase.{Phase}
+use Rattle.dap_session.specs.declared.phase.Phase.TheVariants.{Fresh, Asked, Running, Stopped, Exited, Ended}
+use Rattle.dap_session.specs.Handling.{effect_of, parked_wants_terminal, wants_terminal}
+use Rattle.dap_session.specs.Session.{Session}
+use Rattle.dap_session.specs.StateLaws.{IsStateOf}
+use Rattle.dap_session.specs.Table.{effect_in, is_phase}
+
+-- before a start
+abbrev pub is_unstarted : Phase → Bool
+is_unstarted Running = false
+is_unstarted Stopped = false
+is_unstarted Exited = false
+is_unstarted Ended = false
+is_unstarted _ = true
+
+-- the debuggee neither runs nor is stopped
+abbrev pub is_at_rest : Phase → Bool
+is_at_rest Running = false
+is_at_rest Stopped = false
+is_at_rest _ = true
+
+abbrev pub is_placed : Effect → Phase → Bool
+is_placed effect.Initialize phase = is_unstarted phase
+is_placed effect.Park phase = is_unstarted phase
+is_placed effect.Start phase = is_unstarted phase
+is_placed effect.Ask phase = is_unstarted phase
+is_placed effect.ConfigurationDone phase = is_unstarted phase
+is_placed effect.StartParked phase = is_unstarted phase
+is_placed effect.AskParked phase = is_unstarted phase
+is_placed effect.Disconnect phase = is_at_rest phase
+is_placed _ phase = true
+
+abbrev placed_if : Option Effect → Phase → Bool
+placed_if None phase = true
+placed_if (Some e) phase = is_placed e phase
+
+all-placed : (c : Command) (phase : Phase) → placed_if (effect_in c phase) phase ≡ true
+all-placed command.Initialize Fresh = refl
+all-placed command.Launch Fresh = refl
+all-placed command.Attach Fresh = refl
+all-placed command.ConfigurationDone Fresh = refl
+all-placed command.Disconnect Fresh = refl
+all-placed command.Terminate Fresh = refl
+all-placed command.SetBreakpoints Fresh = refl
+all-placed command.SetExceptionBreakpoints Fresh = refl
+all-placed command.Threads Fresh = refl
+all-placed command.Source Fresh = refl
+all-placed command.LoadedSources Fresh = refl
+all-placed command.Continue Fresh = refl
+all-placed command.Next Fresh = refl
+all-placed command.StepIn Fresh = refl
+all-placed command.StepOut Fresh = refl
+all-placed command.StepBack Fresh = refl
+all-placed command.ReverseContinue Fresh = refl
+all-placed command.Pause Fresh = refl
+all-placed command.StackTrace Fresh = refl
+all-placed command.Scopes Fresh = refl
+all-placed command.Variables Fresh = refl
+all-placed command.Evaluate Fresh = refl
+all-placed command.SetVariable Fresh = refl
+all-placed _ _ = refl
+
+pub placed : (c : Command) (phase : Phase) (e : Effect) → effect_in c phase ≡ Some e → is_placed e phase ≡ true
+placed c phase e h = subst (λ (o : Option Effect). placed_if o phase ≡ true) h (all-placed c phase)
+
+-- also where a terminal is asked for first
+either-placed : (b : Bool) (d e : Effect) (phase : Phase) → is_placed d phase ≡ true → is_placed e phase ≡ true → is_placed (let x : Effect = (if b then d else e) in x) phase ≡ true
+either-placed true d e phase x y = x
+either-placed false d e phase x y = y
+
+pub still-placed : (s : Session) (r : Entry) (e : Effect) → is_placed e s.phase ≡ true → is_placed (effect_of s r e) s.phase ≡ true
+still-placed s r effect.Start h = either-placed (wants_terminal s.options r) effect.Ask effect.Start s.phase h h
+still-placed s r effect.StartParked h = either-placed (parked_wants_terminal s.options s.kept) effect.AskParked effect.StartParked s.phase h h
+still-placed s r _ h = h
+
+-- ---- the state in them
+
+pub unstarted : (first : State) (phase : Phase) (before : State) → is_unstarted phase ≡ true → IsStateOf first phase before → before ≡ first
+unstarted first Running before q h = cc
+unstarted first Stopped before q h = cc
+unstarted first Exited before q h = cc
+unstarted first Ended before q h = cc
+unstarted first _ before q h = h
+
+pub at-rest : (first : State) (phase : Phase) (before : State) → is_at_rest phase ≡ true → IsStateOf first phase before → IsStateOf first Ended before
+at-rest first Running before q h = cc
+at-rest first Stopped before q h = cc
+at-rest first Exited before q h = inr h
+at-rest first Ended before q h = h
+at-rest first _ before q h = inl h
+
+pub asked-unstarted : (phase : Phase) → is_phase Asked phase ≡ true → is_unstarted phase ≡ true
+asked-unstarted Running h = cc
+asked-unstarted Stopped h = cc
+asked-unstarted Exited h = cc
+asked-unstarted Ended h = cc
+asked-unstarted _ h = refl
+
+-- ---- queries
+
+no-setter-queries : (phase : Phase) → effect_in command.SetVariable phase ≡ Some effect.Query → ⊥
+no-setter-queries Stopped h = cc
+no-setter-queries _ h = cc
+
+pub queries-no-setter : (c : Command) (phase : Phase) → effect_in c phase ≡ Some effect.Query → c ≡ command.SetVariable → ⊥
+queries-no-setter c phase h is = no-setter-queries phase (subst (λ (x : Command). effect_in x phase ≡ Some effect.Query) is h)

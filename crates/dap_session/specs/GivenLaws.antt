@@ -1,0 +1,50 @@
+-- The references that an answer gives are live once it is given.
+-- Overview, "Lifetime of Objects References".
+use Rattle.std.specs.Prelude.{◌≡◌, ℕ, List, [], ◌∷◌, Bool, true, false, Option, Some, Ok}
+use Rattle.dap_message.specs.Types.Command.{Command}
+use Rattle.dap_message.specs.Types.Command.TheVariants as command
+use Rattle.dap_message.specs.declared.message.Message.{Message}
+use Rattle.dap_debuggee.specs.Shown.{Shown}
+use Rattle.dap_tables.specs.Given.{references_given_in}
+use Rattle.dap_tables.specs.References.{LiveReferences, target_of, is_of_kind}
+use Rattle.dap_tables.specs.declared.reference_kind.ReferenceKind.{ReferenceKind}
+use Rattle.dap_session.specs.Failures.{command_of}
+use Rattle.dap_session.specs.Handling.{turns}
+use Rattle.dap_session.specs.Laws.{CanMake}
+use Rattle.dap_session.specs.Plan.{success, failure, Draft, reply, emit, ask, Made, Plan}
+use Rattle.dap_session.specs.Polling.{polls}
+use Rattle.dap_session.specs.Session.{Session}
+use Rattle.dap_session.specs.Taking.{takes}
+
+-- each names something of its kind
+abbrev pub AreLive : LiveReferences → List (ReferenceKind × ℕ) → Type 0
+AreLive refs [] = Unit {0}
+AreLive refs (p ∷ ps) = (is_of_kind p.0 (target_of refs p.1) ≡ true) × AreLive refs ps
+
+-- as a client reads what is written: a success by the body and the request's command
+abbrev pub given_by : Draft → List (ReferenceKind × ℕ)
+given_by (reply r (success body names)) = references_given_in (command_of r) body
+given_by (reply r (failure f)) = []
+given_by (emit event) = []
+given_by ask = []
+
+-- by its definition only the answer to one of five commands gives some; of these setVariable reads like evaluate
+abbrev pub is_setter : Option Command → Bool
+is_setter (Some command.SetVariable) = true
+is_setter _ = false
+
+abbrev pub answers_setter : Draft → Bool
+answers_setter (reply r answer) = is_setter (command_of r)
+answers_setter (emit event) = false
+answers_setter ask = false
+
+-- what each gives is live, and what answers setVariable gives none
+abbrev pub AllGiveLive : LiveReferences → List Draft → Type 0
+AllGiveLive refs [] = Unit {0}
+AllGiveLive refs (d ∷ ds) = AreLive refs (given_by d) × (answers_setter d ≡ true → given_by d ≡ []) × AllGiveLive refs ds
+
+-- once a step is made, whatever the debuggee replies
+pub record EachAnswerGivesLive : Type 0 where
+  pub take : (s : Session) (m : Message) (plan : Plan) (made : Made) → takes m s ≡ Ok plan → CanMake plan made → AllGiveLive made.after.references made.drafts
+  pub turn : (view : Shown) (s : Session) (plan : Plan) (made : Made) → turns view s ≡ Ok (Some plan) → CanMake plan made → AllGiveLive made.after.references made.drafts
+  pub poll : (s : Session) (made : Made) → CanMake (polls s) made → AllGiveLive made.after.references made.drafts
