@@ -1,5 +1,5 @@
 -- What stands holds from two fresh ends on, in every schedule.
-use Rattle.std.proofs.Common.{[], false, refl}
+use Rattle.std.proofs.Common.{[], false, refl, arith}
 use Rattle.dap_ends.proofs.Announcements.{announces}
 use Rattle.dap_ends.proofs.PairTranscripts.{writes}
 use Rattle.dap_frame.specs.Settings.{Settings, AreInRange}
@@ -7,35 +7,38 @@ use Rattle.dap_debuggee.specs.Shown.{Shown}
 use Rattle.dap_session.specs.Carried.{Goes}
 use Rattle.dap_world.specs.World.{World, fresh_world, Step, by_sending, by_answering, by_coming_up, by_coming_down, by_turning, by_polling, Schedule, starts, goes}
 use Rattle.dap_world.proofs.ClientStepping.{send-stands, down-stands, answer-stands}
+use Rattle.dap_world.proofs.ReferencesSeen.{knows-none}
 use Rattle.dap_world.proofs.Standing.{Stands}
 use Rattle.dap_world.proofs.Stepping.{Laws, turn-stands, poll-stands, up-stands}
 
-fresh-stands : {D : Type 0} → Laws → (limits : Settings) (debuggee : D) → Stands limits (fresh_world limits debuggee)
+unfoldable pub fresh-stands : {D : Type 0} → Laws → (limits : Settings) (debuggee : D) → Stands limits (fresh_world limits debuggee)
 fresh-stands laws limits debuggee =
     record {
       client_limits = refl;
       adapter_limits = refl;
-      uses = λ q. [];
-      wants = λ q. false;
-      writes = writes limits.requests 0 [];
-      announces = announces limits.requests 0 [];
+      given = [];
+      by = record { uses = λ q. []; wants = λ q. false };
+      knows = knows-none;
+      writes = writes limits.requests limits.references [];
+      announces = announces limits.requests limits.references [];
       up = tt;
       kept = tt;
       asked = tt;
       down = tt;
       restart = refl;
+      resumes = record { low = omega arith; none = tt };
       client_within = laws.client_stays.fresh limits;
       adapter_within = laws.adapter_stays.fresh limits;
       quiet = λ e. refl;
     }
 
 step-stands : {D : Type 0} (laws : Laws) (shown : D → Shown) (follows : Goes D) (limits : Settings) (old new : World D) → AreInRange limits → Step shown follows old new → Stands limits old → Stands limits new
-step-stands laws shown follows limits old new r (by_sending call t) g = send-stands laws limits call old new r t g
-step-stands laws shown follows limits old new r (by_coming_up t) g = up-stands laws follows limits old new t g
-step-stands laws shown follows limits old new r (by_coming_down t) g = down-stands laws limits old new r t g
-step-stands laws shown follows limits old new r (by_answering q terminal t) g = answer-stands laws limits q terminal old new t g
-step-stands laws shown follows limits old new r (by_turning t) g = turn-stands laws shown follows limits old new r t g
-step-stands laws shown follows limits old new r (by_polling t) g = poll-stands laws follows limits old new t g
+step-stands laws shown follows limits old new r (by_sending call t) g = (send-stands laws limits call old new r t g).stands
+step-stands laws shown follows limits old new r (by_coming_up t) g = (up-stands laws follows limits old new t g).stands
+step-stands laws shown follows limits old new r (by_coming_down t) g = (down-stands laws limits old new r t g).stands
+step-stands laws shown follows limits old new r (by_answering q terminal t) g = (answer-stands laws limits q terminal old new t g).stands
+step-stands laws shown follows limits old new r (by_turning t) g = (turn-stands laws shown follows limits old new r t g).stands
+step-stands laws shown follows limits old new r (by_polling t) g = (poll-stands laws follows limits old new t g).stands
 
 pub schedule-stands : {D : Type 0} (laws : Laws) (shown : D → Shown) (follows : Goes D) (limits : Settings) (debuggee : D) (w : World D) → AreInRange limits → Schedule shown follows limits debuggee w → Stands limits w
 schedule-stands laws shown follows limits debuggee _ r starts = fresh-stands laws limits debuggee

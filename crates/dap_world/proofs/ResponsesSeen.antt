@@ -20,7 +20,7 @@ use Rattle.dap_session.specs.Plan.{Made, Plan, messages_due, plan_within_numbers
 use Rattle.dap_session.specs.Session.{Session, is_asked}
 use Rattle.dap_session.specs.Taking.{after_terminal, after_late_terminal, plan_of_response, takes_response}
 use Rattle.dap_world.specs.Projection.{adapter_model_phase, all_kept, adapter_model_of}
-use Rattle.dap_world.proofs.Answered.{AllHarmless, is_done, told-reply, starts-phase, harmless-after_park, same-desk}
+use Rattle.dap_world.proofs.Answered.{AllHarmless, AllGiveNone, none-each, none-reply, is_done, told-reply, starts-phase, harmless-after_park, same-desk}
 use Rattle.dap_world.proofs.KeptSeen.{all_told, each-succeeded, parked-seen, unparked-seen}
 use Rattle.dap_world.proofs.RowsSeen.{at}
 use Rattle.dap_world.proofs.TakesSeen.{afforded}
@@ -33,6 +33,8 @@ pub record EndsWaiting (s : Session) (ok : Bool) (made : Made) : Type 0 where
   pub after : adapter_model_of made.after ≡ (ends_wait (adapter_model_phase s.phase) (adapter_model_of s) (ok && starts)).desk
   pub outs : all_told made.drafts ≡ (ends_wait (adapter_model_phase s.phase) (adapter_model_of s) (ok && starts)).outs
   pub harmless : AllHarmless made.drafts
+  pub references_are : made.after.references ≡ s.references
+  pub none_given : AllGiveNone made.drafts
 
 ends-moved : (s : Session) (ok : Bool) (m made : Made) → made ≡ m → EndsWaiting s ok m → EndsWaiting s ok made
 ends-moved s ok m made e a = subst (λ (x : Made). EndsWaiting s ok x) (sym e) a
@@ -53,6 +55,8 @@ ends-by s ok starts last e l =
       after = after ∙ ap (λ (b : Bool). (ends_wait desk.AdapterAsked d b).desk) (sym e);
       outs = outs ∙ ap (λ (b : Bool). (ends_wait desk.AdapterAsked d b).outs) (sym e);
       harmless = harmless-after_park last (parked_ones s.kept) (subst AllLaunch (sym (parked-seen s.kept)) l);
+      references_are = refl;
+      none_given = none-each (by_reply None last) (parked_ones s.kept) (none-reply last);
     }
 
 -- none is waited for
@@ -65,6 +69,8 @@ ends-late p s ok e =
       after = ap (λ (m : desk.Made). m.desk) (sym e);
       outs = ap (λ (m : desk.Made). m.outs) (sym e);
       harmless = tt;
+      references_are = refl;
+      none_given = tt;
     }
 
 ends-in : (p : Phase) (s : Session) (ok : Bool) (made : Made) → AllLaunch (parked_of (all_kept s.kept)) → CanMake (plan_of_response ok (at p s)) made → EndsWaiting (at p s) ok made

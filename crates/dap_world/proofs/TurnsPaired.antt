@@ -1,13 +1,13 @@
 -- A turn of both adapters: whether it asks for a terminal, what was announced then, and what it writes where it does.
-use Rattle.std.proofs.Common.{◌≡◌, ℕ, ◌+◌, List, [], ◌∷◌, ◌++◌, length, Bool, true, false, Option, Some, None, Ok, refl, sym, ap, ◌∙◌, arith, append_assoc}
+use Rattle.std.proofs.Common.{◌≡◌, ℕ, ◌+◌, ◌≤◌, List, [], ◌∷◌, ◌++◌, length, Bool, true, false, Option, Some, None, Ok, refl, sym, ap, ◌∙◌, arith, append_assoc}
 use Rattle.std.specs.Prelude.{◌&&◌, ◌||◌, if◌then◌else◌}
 use Rattle.std.specs.List.{list_any}
 use Rattle.std.proofs.lemmas.List.{map-append}
 use Rattle.serde_json.specs.Data.{Data}
 use Rattle.dap_ends.specs.Messages.{Ask, code, Request}
 use Rattle.dap_ends.specs.Messages as small
-use Rattle.dap_ends.specs.AdapterModel.{AdapterModel, AdapterPhase, Made as SmallMade, Kept as SmallKept, asks as small_asks, oldest as small_oldest, parked_of, is_parked_phase, would_start, after_asking_turn, adapter_model_turns}
-use Rattle.dap_ends.specs.References.{Ref, Table, given_by, table_after}
+use Rattle.dap_ends.specs.AdapterModel.{Fails, answer_of, AdapterModel, AdapterPhase, Made as SmallMade, Kept as SmallKept, asks as small_asks, oldest as small_oldest, parked_of, is_parked_phase, would_start, after_asking_turn, adapter_model_turns}
+use Rattle.dap_ends.specs.References.{Ref, Table, given_by as small_given, all_in, live_refs, inspection_succeeds, table_after}
 use Rattle.dap_ends.specs.Pair.{NumberedNote, WrittenNote, Pair, PairTurn, terminal_ask, launch_seq, turn_asks, terminal_after_command, terminal_after_turn, sets_variable, unless_sets_variable, numbered_notes, notes_written_by, pair_after_adapter, pair_asks_terminal, pair_after_turn, pair_happens}
 use Rattle.dap_ends.specs.Standing.{AllLaunch}
 use Rattle.dap_ends.specs.Messages.{one_if}
@@ -25,18 +25,21 @@ use Rattle.dap_history.specs.Requests.{asks as all_asks}
 use Rattle.dap_tables.specs.Outstanding.{Kept}
 use Rattle.dap_tables.specs.declared.entry.Entry.{Entry}
 use Rattle.dap_check.specs.declared.line.Side.TheVariants.{Adapter}
+use Rattle.dap_tables.specs.References.{LiveReferences}
 use Rattle.dap_session.specs.Answering.{GoesWell}
+use Rattle.dap_session.specs.GivenLaws.{given_by, AllGiveLive}
 use Rattle.dap_session.specs.Handling.{is_launch, names_terminal, wants_terminal, parked_wants_terminal}
 use Rattle.dap_session.specs.Plan.{Draft, reply, emit, ask, Made, message_of, numbered_messages, requests_in}
 use Rattle.dap_session.specs.Session.{Session, own_request, own_requests}
 use Rattle.dap_session.specs.declared.options.Options.{Options}
 use Rattle.dap_session.specs.declared.phase.Phase.{Phase}
 use Rattle.dap_session.specs.declared.phase.Phase.TheVariants as adapter
-use Rattle.dap_world.specs.Projection.{class_of, class_if, ask_of, entry_ask, note_seen, notes_seen, written_seen, adapter_model_phase, all_kept, adapter_model_of, announces, wanted_by, wanted_of, own_seen, pair_of, kept_seen}
+use Rattle.dap_world.specs.Projection.{class_of, class_if, ask_of, entry_ask, note_seen, notes_seen, written_seen, adapter_model_phase, all_kept, adapter_model_of, announces, wanted_by, wanted_of, own_seen, table_of, ByNumber, pair_of, kept_seen}
 use Rattle.dap_world.specs.World.{World, said_by}
-use Rattle.dap_world.proofs.Answered.{AllHarmless}
+use Rattle.dap_world.proofs.Answered.{AllHarmless, given_first, AllGive, all-none}
 use Rattle.dap_world.proofs.KeptSeen.{told, all_told}
-use Rattle.dap_world.proofs.Paired.{notes-append, written-more, keeps-all, note-told, told-length, inspection-same, table-stays, own-stays, same-adapter, made-pair, world_made}
+use Rattle.dap_world.proofs.Paired.{notes-append, written-more, keeps-all, note-told, told-length, inspection-so, own-stays, same-adapter, made-pair, world_made}
+use Rattle.dap_world.proofs.ReferencesSeen.{length-kinds, all-live}
 use Rattle.dap_world.proofs.RowsSeen.{asks_by, options_by}
 use Rattle.dap_world.proofs.Standing.{AllOwn}
 use Rattle.dap_world.proofs.TurnsSeen.{Handled, IsTurn, IsAskingTurn}
@@ -70,27 +73,27 @@ launch-head : (b : Bool) (k : SmallKept) (ks : List SmallKept) → AllLaunch (if
 launch-head true k ks l e = l.0
 launch-head false k ks l e = cc
 
-module _ (options : Options) (wants : ℕ → Bool) (used : ℕ) where
+module _ (options : Options) (by : ByNumber) (used : ℕ) where
   abbrev any_wants : List Ask → Bool
-  any_wants xs = list_any (λ (a : Ask). wants a.seq) xs
+  any_wants xs = list_any (λ (a : Ask). by.wants a.seq) xs
 
-  parked-here : (b w : Bool) (k : SmallKept) (ks : List SmallKept) (rest : Bool) → (b ≡ true → w ≡ (options.supports_run_in_terminal_request && wants k.ask.seq))
+  parked-here : (b w : Bool) (k : SmallKept) (ks : List SmallKept) (rest : Bool) → (b ≡ true → w ≡ (options.supports_run_in_terminal_request && by.wants k.ask.seq))
       → rest ≡ (options.supports_run_in_terminal_request && any_wants (small_asks ks)) → ((b && w) || rest) ≡ (options.supports_run_in_terminal_request && any_wants (small_asks (if b then k ∷ ks else ks)))
   parked-here true w k ks rest h e =
       ap (λ (x : Bool). x || rest) (h refl)
-      ∙ (ap (λ (x : Bool). (options.supports_run_in_terminal_request && wants k.ask.seq) || x) e ∙ both-or options.supports_run_in_terminal_request (wants k.ask.seq) (any_wants (small_asks ks)))
+      ∙ (ap (λ (x : Bool). (options.supports_run_in_terminal_request && by.wants k.ask.seq) || x) e ∙ both-or options.supports_run_in_terminal_request (by.wants k.ask.seq) (any_wants (small_asks ks)))
   parked-here false w k ks rest h e = e
 
-  parked-wants : (ks : List Kept) → AllOwn wants used (all_asks ks) → AllLaunch (parked_of (all_kept ks)) → parked_wants_terminal options ks ≡ (options.supports_run_in_terminal_request && any_wants (small_asks (parked_of (all_kept ks))))
+  parked-wants : (ks : List Kept) → AllOwn by used (all_asks ks) → AllLaunch (parked_of (all_kept ks)) → parked_wants_terminal options ks ≡ (options.supports_run_in_terminal_request && any_wants (small_asks (parked_of (all_kept ks))))
   parked-wants [] o l = sym (and-false options.supports_run_in_terminal_request)
   parked-wants (k ∷ ks) o l =
       parked-here k.parked (wants_terminal options k.entry) (kept_seen k) (parked_of (all_kept ks)) (parked_wants_terminal options ks)
       (λ e. ap (λ (x : Bool). options.supports_run_in_terminal_request && x) (sym (launch-wants (command_named k.entry.command) k.entry.arguments (launch-head k.parked (kept_seen k) (parked_of (all_kept ks)) l e)) ∙ sym o.0.wanted))
       (parked-wants ks o.1 (launch-tail k.parked (kept_seen k) (parked_of (all_kept ks)) l))
 
-  one-wants : (a : Ask) (ls : List Ask) → length ls ≡ 1 → any_wants ls ≡ wants (launch_seq small.ConfigurationDone a ls)
+  one-wants : (a : Ask) (ls : List Ask) → length ls ≡ 1 → any_wants ls ≡ by.wants (launch_seq small.ConfigurationDone a ls)
   one-wants a [] h = absurd (omega (arith, h))
-  one-wants a (l ∷ []) h = or-false (wants l.seq)
+  one-wants a (l ∷ []) h = or-false (by.wants l.seq)
   one-wants a (l ∷ m ∷ ls) h = absurd (omega (arith, h))
 
 length-asks : (ks : List SmallKept) → length (small_asks ks) ≡ length ks
@@ -101,27 +104,27 @@ length-asks (k ∷ ks) = let ih = length-asks ks in omega arith
 abbrev would : AdapterPhase → small.Command → Bool → (ℕ → Bool) → Ask → List Ask → Bool
 would p c announced wants a ls = would_start p c && (announced && wants (launch_seq c a ls))
 
-would-is : (p : Phase) (c : Command) (s : Session) (r : Entry) (wants : ℕ → Bool) (used : ℕ) → command_named r.command ≡ Some c → wants r.seq ≡ wanted_of r → AllOwn wants used (all_asks s.kept) → AllLaunch (parked_of (all_kept s.kept))
+would-is : (p : Phase) (c : Command) (s : Session) (r : Entry) (by : ByNumber) (used : ℕ) → command_named r.command ≡ Some c → by.wants r.seq ≡ wanted_of r → AllOwn by used (all_asks s.kept) → AllLaunch (parked_of (all_kept s.kept))
     → length (parked_of (all_kept s.kept)) ≡ one_if (is_parked_phase (adapter_model_phase p))
-    → would (adapter_model_phase p) (class_of c) s.options.supports_run_in_terminal_request wants (entry_ask r) (small_asks (parked_of (all_kept s.kept))) ≡ asks_by p c s r
-would-is adapter.Configured command.Launch s r wants used named w o l n =
+    → would (adapter_model_phase p) (class_of c) s.options.supports_run_in_terminal_request by.wants (entry_ask r) (small_asks (parked_of (all_kept s.kept))) ≡ asks_by p c s r
+would-is adapter.Configured command.Launch s r by used named w o l n =
     ap (λ (x : Bool). s.options.supports_run_in_terminal_request && x) (w ∙ launch-wants (command_named r.command) r.arguments (ap (λ (x : Option Command). code (class_if x)) named))
-would-is adapter.Configured command.Attach s r wants used named w o l n =
+would-is adapter.Configured command.Attach s r by used named w o l n =
     ap (λ (x : Bool). s.options.supports_run_in_terminal_request && x) (w ∙ ap (λ (x : Option Command). wanted_by x r.arguments) named) ∙ and-false s.options.supports_run_in_terminal_request
-would-is adapter.Parked command.ConfigurationDone s r wants used named w o l n =
+would-is adapter.Parked command.ConfigurationDone s r by used named w o l n =
     let many = length-asks (parked_of (all_kept s.kept)) in
-    ap (λ (x : Bool). s.options.supports_run_in_terminal_request && x) (sym (one-wants s.options wants used (entry_ask r) (small_asks (parked_of (all_kept s.kept))) (many ∙ n))) ∙ sym (parked-wants s.options wants used s.kept o l)
-would-is _ _ s r wants used named w o l n = refl
+    ap (λ (x : Bool). s.options.supports_run_in_terminal_request && x) (sym (one-wants s.options by used (entry_ask r) (small_asks (parked_of (all_kept s.kept))) (many ∙ n))) ∙ sym (parked-wants s.options by used s.kept o l)
+would-is _ _ s r by used named w o l n = refl
 
-pub turn-asks : {D : Type 0} (w : World D) (uses : ℕ → List Ref) (wants : ℕ → Bool) (used : ℕ) (h : Handled w.adapter.session) → wants h.k.entry.seq ≡ wanted_of h.k.entry → AllOwn wants used (all_asks w.adapter.session.kept)
+pub turn-asks : {D : Type 0} (w : World D) (known : List Ref) (by : ByNumber) (used : ℕ) (h : Handled w.adapter.session) → by.wants h.k.entry.seq ≡ wanted_of h.k.entry → AllOwn by used (all_asks w.adapter.session.kept)
     → AllLaunch (parked_of (all_kept w.adapter.session.kept)) → length (parked_of (all_kept w.adapter.session.kept)) ≡ one_if (is_parked_phase (adapter_model_phase w.adapter.session.phase))
-    → turn_asks (pair_of w uses wants) (small_oldest (all_kept w.adapter.session.kept)) ≡ asks_by w.adapter.session.phase (command_in h.call) w.adapter.session h.k.entry
-turn-asks w uses wants used h k o l n =
+    → turn_asks (pair_of w known by) (small_oldest (all_kept w.adapter.session.kept)) ≡ asks_by w.adapter.session.phase (command_in h.call) w.adapter.session h.k.entry
+turn-asks w known by used h k o l n =
     let s : Session = w.adapter.session in
     let ls = small_asks (parked_of (all_kept s.kept)) in
-    ap (λ (x : Option Ask). turn_asks (pair_of w uses wants) x) h.first
-    ∙ (ap (λ (x : Option Command). would (adapter_model_phase s.phase) (class_if x) s.options.supports_run_in_terminal_request wants (entry_ask h.k.entry) ls) h.named
-    ∙ would-is s.phase (command_in h.call) s h.k.entry wants used h.named k o l n)
+    ap (λ (x : Option Ask). turn_asks (pair_of w known by) x) h.first
+    ∙ (ap (λ (x : Option Command). would (adapter_model_phase s.phase) (class_if x) s.options.supports_run_in_terminal_request by.wants (entry_ask h.k.entry) ls) h.named
+    ∙ would-is s.phase (command_in h.call) s h.k.entry by used h.named k o l n)
 
 -- ---- what was announced
 
@@ -146,26 +149,42 @@ turn-announced w wants h options k e =
 
 -- ---- a turn
 
-none-set : {A : Type 0} (b : Bool) → unless_sets_variable b (let xs : List A = [] in xs) ≡ []
-none-set true = refl
-none-set false = refl
+unless-same : {A : Type 0} (b : Bool) (xs : List A) → (b ≡ true → xs ≡ []) → unless_sets_variable b xs ≡ xs
+unless-same true xs h = sym (h refl)
+unless-same false xs h = refl
 
-pub turn-pair : {D : Type 0} (n : ℕ) (w : World D) (uses : ℕ → List Ref) (wants : ℕ → Bool) (made : Made) (v : D) (t : IsTurn w.adapter.session made)
-    → turn_asks (pair_of w uses wants) (small_oldest (all_kept w.adapter.session.kept)) ≡ false → wants t.handled.k.entry.seq ≡ wanted_of t.handled.k.entry → GoesWell w.adapter.session [] None made
-    → pair_happens n 0 (pair_of w uses wants) (PairTurn t.ok [] []) ≡ pair_of (world_made w w.up made v) uses wants
-turn-pair n w uses wants made v t none k g =
+first-live : (refs : LiveReferences) (ds : List Draft) → AllGiveLive refs ds → all_in (live_refs (table_of refs)) (given_first ds) ≡ true
+first-live refs [] h = refl
+first-live refs (d ∷ ds) h = all-live refs (given_by d) h.0
+
+fair-turn : (s : Session) (made : Made) (t : IsTurn s made) (a : Ask) → small_oldest (all_kept s.kept) ≡ Some a → t.ok ≡ true → answer_of (adapter_model_phase s.phase) a.command ≡ Fails → ⊥
+fair-turn s made t a e y f =
+    let same : Some (entry_ask t.handled.k.entry) ≡ Some a = sym t.handled.first ∙ e in
+    let is : entry_ask t.handled.k.entry ≡ a = cc in
+    t.fair y (ap (λ (x : Ask). answer_of (adapter_model_phase s.phase) x.command) is ∙ f)
+
+pub turn-pair : {D : Type 0} (n r : ℕ) (w : World D) (known : List Ref) (by : ByNumber) (made : Made) (v : D) (t : IsTurn w.adapter.session made)
+    → turn_asks (pair_of w known by) (small_oldest (all_kept w.adapter.session.kept)) ≡ false → by.wants t.handled.k.entry.seq ≡ wanted_of t.handled.k.entry → GoesWell w.adapter.session [] None made
+    → length made.after.references.live ≤ r → AllGiveLive made.after.references made.drafts
+    → pair_happens n r (pair_of w known by) (PairTurn t.ok t.more (given_first made.drafts)) ≡ pair_of (world_made w w.up made v) known by
+turn-pair n r w known by made v t none k g few live =
     let s : Session = w.adapter.session in
-    let p : Pair = pair_of w uses wants in
+    let p : Pair = pair_of w known by in
     let o = small_oldest (all_kept s.kept) in
     let d : AdapterModel = adapter_model_of s in
-    let table : Table = record { base = 0; live = [] } in
-    let announced = terminal_after_turn (adapter_model_phase s.phase) o wants s.options.supports_run_in_terminal_request in
-    ap (λ (b : Bool). if b then pair_asks_terminal p else pair_after_turn 0 p t.ok (unless_sets_variable (sets_variable o) []) (unless_sets_variable (sets_variable o) [])) none
-    ∙ (ap (λ (more : List Bool). pair_after_turn 0 p t.ok more (unless_sets_variable (sets_variable o) [])) (none-set (sets_variable o))
-    ∙ (ap (λ (named : List Ref). pair_after_turn 0 p t.ok [] named) (none-set (sets_variable o))
-    ∙ (ap (λ (ok : Bool). pair_after_adapter (record p { terminal = announced }) (adapter_model_turns d ok) [] (table_after o (adapter_model_phase s.phase) ok table [])) (inspection-same o t.ok)
-    ∙ (ap (λ (x : Table). pair_after_adapter (record p { terminal = announced }) (adapter_model_turns d t.ok) [] x) (table-stays o (adapter_model_phase s.phase) t.ok)
-    ∙ made-pair w uses wants w.up made v (adapter_model_turns d t.ok) announced (own_seen (own_requests s.asked)) t.after t.outs t.harmless g.used (turn-announced w wants t.handled made.after.options k t.options_are) (ap own_seen (sym (own-stays s [] made g t.harmless)))))))
+    let table : Table = table_of s.references in
+    let named : List Ref = given_first made.drafts in
+    let phase = adapter_model_phase s.phase in
+    let announced = terminal_after_turn phase o by.wants s.options.supports_run_in_terminal_request in
+    let many = length-kinds made.after.references.live in
+    let so : inspection_succeeds r table t.more named o t.ok ≡ t.ok =
+    inspection-so r phase table (table_of made.after.references) t.more named o t.ok (fair-turn s made t) t.table (omega (arith, many, few)) (first-live made.after.references made.drafts live) in
+    ap (λ (b : Bool). if b then pair_asks_terminal p else pair_after_turn r p t.ok (unless_sets_variable (sets_variable o) t.more) (unless_sets_variable (sets_variable o) named)) none
+    ∙ (ap (λ (more : List Bool). pair_after_turn r p t.ok more (unless_sets_variable (sets_variable o) named)) (unless-same (sets_variable o) t.more (λ e. (t.sets e).0))
+    ∙ (ap (λ (refs : List Ref). pair_after_turn r p t.ok t.more refs) (unless-same (sets_variable o) named (λ e. (t.sets e).1))
+    ∙ (ap (λ (ok : Bool). pair_after_adapter (record p { terminal = announced }) (adapter_model_turns d ok) named (table_after o phase ok table t.more)) so
+    ∙ made-pair w known by w.up made v (adapter_model_turns d t.ok) named (table_after o phase t.ok table t.more) announced (own_seen (own_requests s.asked)) t.after t.outs t.harmless t.gives t.table g.used
+    (turn-announced w by.wants t.handled made.after.options k t.options_are) (ap own_seen (sym (own-stays s [] made g t.harmless))))))
 
 -- ---- a turn that asks for a terminal
 
@@ -176,12 +195,12 @@ request-note q = refl
 abbrev note_asking : ℕ → NumberedNote
 note_asking q = record { seq = q; note = record { message = Request (terminal_ask q) 0; refs = [] } }
 
-numbered-asking : (used : ℕ) (ds : List Draft) → AllHarmless ds → notes_seen (numbered_messages used (ds ++ ask ∷ [])) ≡ numbered_notes used [] (all_told ds) ++ note_asking (used + length ds + 1) ∷ []
-numbered-asking used [] h = let e : used + 1 ≡ used + 0 + 1 = omega arith in ap (λ (m : NumberedNote). m ∷ []) (request-note (used + 1)) ∙ ap (λ (n : ℕ). note_asking n ∷ []) e
-numbered-asking used (d ∷ ds) h =
+numbered-asking : (used : ℕ) (ds : List Draft) → AllHarmless ds → AllGive [] ds → notes_seen (numbered_messages used (ds ++ ask ∷ [])) ≡ numbered_notes used [] (all_told ds) ++ note_asking (used + length ds + 1) ∷ []
+numbered-asking used [] h g = let e : used + 1 ≡ used + 0 + 1 = omega arith in ap (λ (m : NumberedNote). m ∷ []) (request-note (used + 1)) ∙ ap (λ (n : ℕ). note_asking n ∷ []) e
+numbered-asking used (d ∷ ds) h g =
     let e : used + 1 + length ds + 1 ≡ used + length (d ∷ ds) + 1 = omega arith in
-    ap (λ (m : NumberedNote). m ∷ notes_seen (numbered_messages (used + 1) (ds ++ ask ∷ []))) (note-told (used + 1) d h.0)
-    ∙ (ap (λ (ms : List NumberedNote). let m : NumberedNote = record { seq = used + 1; note = record { message = told d; refs = given_by (told d) [] } } in m ∷ ms) (numbered-asking (used + 1) ds h.1)
+    ap (λ (m : NumberedNote). m ∷ notes_seen (numbered_messages (used + 1) (ds ++ ask ∷ []))) (note-told (used + 1) d [] h.0 g.0)
+    ∙ (ap (λ (ms : List NumberedNote). let m : NumberedNote = record { seq = used + 1; note = record { message = told d; refs = small_given (told d) [] } } in m ∷ ms) (numbered-asking (used + 1) ds h.1 g.1)
     ∙ ap (λ (n : ℕ). numbered_notes used [] (all_told (d ∷ ds)) ++ note_asking n ∷ []) e)
 
 one-requested : (used : ℕ) (ds : List Draft) → AllHarmless ds → requests_in used (ds ++ ask ∷ []) ≡ own_request (used + length ds + 1) ∷ []
@@ -205,12 +224,12 @@ notes-by-more : (xs : List NumberedNote) (y : NumberedNote) → notes_written_by
 notes-by-more [] y = refl
 notes-by-more (x ∷ xs) y = ap (λ (ls : List WrittenNote). let l : WrittenNote = record { by_client = false; numbered = x } in l ∷ ls) (notes-by-more xs y)
 
-pub asking-pair : {D : Type 0} (n : ℕ) (w : World D) (uses : ℕ → List Ref) (wants : ℕ → Bool) (made : Made) (v : D) (t : IsAskingTurn w.adapter.session made)
-    → turn_asks (pair_of w uses wants) (small_oldest (all_kept w.adapter.session.kept)) ≡ true → GoesWell w.adapter.session [] None made
-    → pair_happens n 0 (pair_of w uses wants) (PairTurn true [] []) ≡ pair_of (world_made w w.up made v) uses wants
-asking-pair n w uses wants made v t one g =
+pub asking-pair : {D : Type 0} (n r : ℕ) (w : World D) (known : List Ref) (by : ByNumber) (made : Made) (v : D) (t : IsAskingTurn w.adapter.session made)
+    → turn_asks (pair_of w known by) (small_oldest (all_kept w.adapter.session.kept)) ≡ true → GoesWell w.adapter.session [] None made
+    → pair_happens n r (pair_of w known by) (PairTurn true [] []) ≡ pair_of (world_made w w.up made v) known by
+asking-pair n r w known by made v t one g =
     let s : Session = w.adapter.session in
-    let p : Pair = pair_of w uses wants in
+    let p : Pair = pair_of w known by in
     let o = small_oldest (all_kept s.kept) in
     let x : SmallMade = after_asking_turn o (adapter_model_of s) in
     let many : length x.outs ≡ length t.before = ap length (sym t.outs) ∙ told-length t.before in
@@ -220,13 +239,13 @@ asking-pair n w uses wants made v t one g =
     let notes : numbered_notes s.used [] x.outs ++ note_asking (s.used + length x.outs + 1) ∷ [] ≡ notes_seen (numbered_messages s.used made.drafts) =
     ap (λ (ms : List small.Message). numbered_notes s.used [] ms ++ note_asking (s.used + length x.outs + 1) ∷ []) (sym t.outs)
     ∙ (ap (λ (k : ℕ). numbered_notes s.used [] (all_told t.before) ++ note_asking k ∷ []) next
-    ∙ (sym (numbered-asking s.used t.before t.harmless) ∙ ap (λ (ds : List Draft). notes_seen (numbered_messages s.used ds)) (sym t.drafts_are))) in
-    ap (λ (b : Bool). if b then pair_asks_terminal p else pair_after_turn 0 p true (unless_sets_variable (sets_variable o) []) (unless_sets_variable (sets_variable o) [])) one
-    ∙ same-adapter p x.desk (adapter_model_of made.after) s.options.supports_run_in_terminal_request made.after.options.supports_run_in_terminal_request (s.used + length x.outs + 1) made.after.used
+    ∙ (sym (numbered-asking s.used t.before t.harmless (all-none t.before t.none_given)) ∙ ap (λ (ds : List Draft). notes_seen (numbered_messages s.used ds)) (sym t.drafts_are))) in
+    ap (λ (b : Bool). if b then pair_asks_terminal p else pair_after_turn r p true (unless_sets_variable (sets_variable o) []) (unless_sets_variable (sets_variable o) [])) one
+    ∙ same-adapter p x.desk (adapter_model_of made.after) (table_of s.references) (table_of made.after.references) s.options.supports_run_in_terminal_request made.after.options.supports_run_in_terminal_request (s.used + length x.outs + 1) made.after.used
     (own_seen (own_requests s.asked) ++ terminal_ask (s.used + length x.outs + 1) ∷ []) (own_seen (own_requests made.after.asked))
     ((notes_seen w.down ++ numbered_notes s.used [] x.outs) ++ note_asking (s.used + length x.outs + 1) ∷ []) (notes_seen (w.down ++ numbered_messages s.used made.drafts))
     ((written_seen w.said ++ notes_written_by false (numbered_notes s.used [] x.outs)) ++ (let l : WrittenNote = record { by_client = false; numbered = note_asking (s.used + length x.outs + 1) } in l) ∷ []) (written_seen (w.said ++ said_by Adapter (numbered_messages s.used made.drafts)))
-    (sym t.after) (ap (λ (y : Options). y.supports_run_in_terminal_request) (sym t.options_are)) (omega (arith, many, all, used))
+    (sym t.after) (ap table_of (sym t.references_are)) (ap (λ (y : Options). y.supports_run_in_terminal_request) (sym t.options_are)) (omega (arith, many, all, used))
     (ap (λ (k : ℕ). own_seen (own_requests s.asked) ++ terminal_ask k ∷ []) next ∙ sym (own-asking s made t.before g t.harmless t.drafts_are))
     (append_assoc (notes_seen w.down) (numbered_notes s.used [] x.outs) (note_asking (s.used + length x.outs + 1) ∷ []) ∙ (ap (λ (ms : List NumberedNote). notes_seen w.down ++ ms) notes ∙ sym (notes-append w.down (numbered_messages s.used made.drafts))))
     (append_assoc (written_seen w.said) (notes_written_by false (numbered_notes s.used [] x.outs)) ((let l : WrittenNote = record { by_client = false; numbered = note_asking (s.used + length x.outs + 1) } in l) ∷ [])

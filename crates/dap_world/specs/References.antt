@@ -1,29 +1,19 @@
 -- What holds of references in every schedule in which a stop lasts until the debuggee is asked to go on or to end.
 -- Overview, "Lifetime of Objects References".
-use Rattle.std.specs.Prelude.{◌≡◌, ℕ, List, [], ◌∷◌, false, Option, Some, None, Ok, Err}
+use Rattle.std.specs.Prelude.{◌≡◌, List, ◌∷◌, false, Err}
 use Rattle.std.specs.List.{AllByRecursion}
-use Rattle.serde_json.specs.Data.{Data}
 use Rattle.dap_frame.specs.Settings.{Settings, AreInRange}
 use Rattle.dap_check.specs.declared.line.Line.{Line}
 use Rattle.dap_check.specs.declared.rule.Rule.TheVariants.{Reference}
-use Rattle.dap_client.specs.References.{references_used_by}
 use Rattle.dap_client.specs.Taking.{takes as client_takes}
 use Rattle.dap_client.specs.declared.fault.ClientFault.{ClientFault}
 use Rattle.dap_debuggee.specs.Laws.{ends_a_stop, Answers, Moves}
 use Rattle.dap_debuggee.specs.Shown.{Shown}
-use Rattle.dap_message.specs.Argument.{Read}
-use Rattle.dap_message.specs.Call.{call_of}
-use Rattle.dap_message.specs.Command.{command_named}
-use Rattle.dap_message.specs.Types.Call.{Call}
-use Rattle.dap_message.specs.Types.Command.{Command}
-use Rattle.dap_message.specs.declared.message.Kind.{Kind}
-use Rattle.dap_message.specs.declared.message.Kind.TheVariants.{Request, Response, Event, Other}
 use Rattle.dap_message.specs.declared.message.Message.{Message}
 use Rattle.dap_session.specs.Carried.{Goes}
 use Rattle.dap_session.specs.GivenLaws.{AreLive}
 use Rattle.dap_tables.specs.References.{LiveReferences}
-use Rattle.dap_tables.specs.declared.entry.Entry.{Entry}
-use Rattle.dap_tables.specs.declared.reference_kind.ReferenceKind.{ReferenceKind}
+use Rattle.dap_world.specs.MessageReferences.{references_used_by_request, references_used_by_kind}
 use Rattle.dap_world.specs.Transcripts.{said_of, Keeps}
 use Rattle.dap_world.specs.World.{World, Schedule}
 
@@ -33,32 +23,12 @@ use Rattle.dap_world.specs.World.{World, Schedule}
 abbrev pub LastingStops : {D : Type 0} → (D → Shown) → Goes D → Goes D
 LastingStops shown follows old act reply new = follows old act reply new × (ends_a_stop (shown old).state reply ≡ false)
 
--- ---- what requests use
-
-abbrev pub references_used_by_read : Read Call → List (ReferenceKind × ℕ)
-references_used_by_read (Ok call) = references_used_by call
-references_used_by_read (Err key) = []
-
-abbrev pub references_used_in : Option Command → Option Data → List (ReferenceKind × ℕ)
-references_used_in None arguments = []
-references_used_in (Some c) arguments = references_used_by_read (call_of c arguments)
-
--- by its arguments as the adapter reads them; a plain call that is written is read again as itself
-abbrev pub references_used_by_request : Entry → List (ReferenceKind × ℕ)
-references_used_by_request r = references_used_in (command_named r.command) r.arguments
-
-abbrev pub references_used_by_kind : ℕ → Kind → List (ReferenceKind × ℕ)
-references_used_by_kind seq (Request command arguments) = references_used_by_request (record { seq = seq; command = command; arguments = arguments })
-references_used_by_kind seq (Response request_seq ok command message body) = []
-references_used_by_kind seq (Event event body) = []
-references_used_by_kind seq (Other tag) = []
-
 -- ---- the law
 
 -- of the client's requests that are kept by the adapter, and of those under way to it
 pub record AllUseLive {D : Type 0} (refs : LiveReferences) (w : World D) : Type 0 where
   pub kept : AllByRecursion (λ k. AreLive refs (references_used_by_request k.entry)) w.adapter.session.kept
-  pub up : AllByRecursion (λ m. AreLive refs (references_used_by_kind m.seq m.kind)) w.up
+  pub up : AllByRecursion (λ m. AreLive refs (references_used_by_kind m.kind)) w.up
 
 pub record ReferencesAgree {D : Type 0} (w : World D) : Type 0 where
   -- from its sending until its answer all that a request uses is live at the adapter, in its kind

@@ -1,0 +1,224 @@
+-- The references that an end has, as the smaller end has them: what is live, what is known, and what is used and given.
+use Rattle.std.proofs.Common.{◌≡◌, ℕ, zero, suc, ◌+◌, ◌-◌, ◌<◌, ◌≤◌, List, [], ◌∷◌, ◌++◌, length, Bool, true, false, Option, None, refl, sym, ap, ◌∙◌, subst, inl, inr, arith}
+use Rattle.std.specs.Prelude.{◌⊎◌, ◌==◌, ◌&&◌, ◌||◌, nat_lt, slice_get, if◌then◌else◌}
+use Rattle.std.specs.List.{IsDistinct, list_all}
+use Rattle.std.specs.Set.{is_member, distinct_count}
+use Rattle.std.proofs.lemmas.Bool.Decides.{nat_tests}
+use Rattle.std.proofs.lemmas.List.{map-append}
+use Rattle.std.proofs.lemmas.List.Folds.{list_any-append}
+use Rattle.dap_ends.specs.References.{Ref, Table, same_ref, same_kind as small_same_kind, IsWithin, all_in, references_from, live_refs, without_references as small_without}
+use Rattle.dap_ends.proofs.Members.{or-left, absent-apart, distinct-within, distinct-among}
+use Rattle.dap_tables.specs.Known.{is_pair, has_pair, with_pairs, HasDistinctPairs}
+use Rattle.dap_tables.specs.References.{LiveReferences, same_kind, target_of, is_of_kind, without_references}
+use Rattle.dap_tables.specs.declared.reference_kind.ReferenceKind.{ReferenceKind}
+use Rattle.dap_tables.specs.declared.reference_kind.ReferenceKind.TheVariants.{Frame, Holder}
+use Rattle.dap_tables.specs.declared.target.Target.{Target}
+use Rattle.dap_tables.proofs.KnownLemmas.{known_is_a_set}
+use Rattle.dap_session.specs.GivenLaws.{AreLive}
+use Rattle.dap_world.specs.Projection.{is_frame, reference_seen, references_seen, kinds_of, table_of}
+
+-- ---- the table
+
+pub kinds-append : (ts us : List Target) → kinds_of (ts ++ us) ≡ kinds_of ts ++ kinds_of us
+kinds-append ts us = map-append (λ (t : Target). is_frame t.kind) ts us
+
+pub length-kinds : (ts : List Target) → length (kinds_of ts) ≡ length ts
+length-kinds [] = refl
+length-kinds (t ∷ ts) = let ih = length-kinds ts in omega arith
+
+-- where all die
+pub table-without : (refs : LiveReferences) → table_of (without_references refs) ≡ small_without (table_of refs)
+table-without refs =
+    let same = length-kinds refs.live in
+    let base : refs.base + length refs.live ≡ refs.base + length (kinds_of refs.live) = omega (arith, same) in
+    ap (λ (n : ℕ). let t : Table = record { base = n; live = [] } in t) base
+
+-- ---- what is live
+
+same-kinds : (k j : ReferenceKind) → small_same_kind (is_frame k) (is_frame j) ≡ same_kind j k
+same-kinds Frame Frame = refl
+same-kinds Frame Holder = refl
+same-kinds Holder Frame = refl
+same-kinds Holder Holder = refl
+
+apart : (m n : ℕ) → m < n → (m == n) ≡ false
+apart m n h = grind (arith, nat_tests)
+
+behind : (m n : ℕ) → n < m → (m == n) ≡ false
+behind m n h = grind (arith, nat_tests)
+
+equal : (n : ℕ) → (n == n) ≡ true
+equal n = grind (arith, nat_tests)
+
+below : (m n : ℕ) → m < n → nat_lt m n ≡ true
+below m n h = grind (arith, nat_tests)
+
+not-below : (m n : ℕ) → n ≤ m → nat_lt m n ≡ false
+not-below m n h = grind (arith, nat_tests)
+
+and-false : (b : Bool) → (b && false) ≡ false
+and-false true = refl
+and-false false = refl
+
+and-true : (b : Bool) → (b && true) ≡ b
+and-true true = refl
+and-true false = refl
+
+or-false : (b : Bool) → (b || false) ≡ b
+or-false true = refl
+or-false false = refl
+
+-- a number that is dead
+dead-member : (base n : ℕ) (k : ReferenceKind) (live : List Bool) → n ≤ base → is_member same_ref (references_from base live) (reference_seen (k, n)) ≡ false
+dead-member base n k [] h = refl
+dead-member base n k (b ∷ live) h =
+    rw (apart n (base + 1) (omega (arith, h)), and-false (small_same_kind (is_frame k) b)) (dead-member (base + 1) n k live (omega (arith, h)))
+
+-- one of those that were given since
+place-member : (base i : ℕ) (k : ReferenceKind) (live : List Target) → is_member same_ref (references_from base (kinds_of live)) (reference_seen (k, base + 1 + i)) ≡ is_of_kind k (slice_get live i)
+place-member base i k [] = refl
+place-member base zero k (t ∷ live) =
+    let e : base + 1 + 0 ≡ base + 1 = omega arith in
+    let rest : is_member same_ref (references_from (base + 1) (kinds_of live)) (reference_seen (k, base + 1)) ≡ false = dead-member (base + 1) (base + 1) k (kinds_of live) (omega arith) in
+    ap (λ (n : ℕ). (small_same_kind (is_frame k) (is_frame t.kind) && (n == base + 1)) || is_member same_ref (references_from (base + 1) (kinds_of live)) (reference_seen (k, n))) e
+    ∙ rw (equal (base + 1), rest, and-true (small_same_kind (is_frame k) (is_frame t.kind)), or-false (small_same_kind (is_frame k) (is_frame t.kind))) (same-kinds k t.kind)
+place-member base (suc i) k (t ∷ live) =
+    let e : base + 1 + suc i ≡ base + 1 + 1 + i = omega arith in
+    let far : (base + 1 + 1 + i == base + 1) ≡ false = behind (base + 1 + 1 + i) (base + 1) (omega arith) in
+    ap (λ (n : ℕ). (small_same_kind (is_frame k) (is_frame t.kind) && (n == base + 1)) || is_member same_ref (references_from (base + 1) (kinds_of live)) (reference_seen (k, n))) e
+    ∙ rw (far, and-false (small_same_kind (is_frame k) (is_frame t.kind))) (place-member (base + 1) i k live)
+
+at-base : (n base : ℕ) → (n ≤ base) ⊎ ((i : ℕ) × (n ≡ base + 1 + i))
+at-base zero base = inl (omega arith)
+at-base (suc n) zero = inr (n, omega arith)
+at-base (suc n) (suc base) = elim (at-base n base) [ inl h ↦ inl (omega (arith, h)) | inr p ↦ let e = p.1 in inr (p.0, omega (arith, e)) ]
+
+none-of-kind : (b : Bool) (k : ReferenceKind) (o : Option Target) → b ≡ false → is_of_kind k (if b then o else None) ≡ false
+none-of-kind b k o e = rw e refl
+
+-- the smaller table has what the table has
+pub live-member : (refs : LiveReferences) (p : ReferenceKind × ℕ) → is_member same_ref (live_refs (table_of refs)) (reference_seen p) ≡ is_of_kind p.0 (target_of refs p.1)
+live-member refs (k, n) = by (at-base n refs.base)
+  where
+    by : ((n ≤ refs.base) ⊎ ((i : ℕ) × (n ≡ refs.base + 1 + i))) → is_member same_ref (live_refs (table_of refs)) (reference_seen (k, n)) ≡ is_of_kind k (target_of refs n)
+    by (inl h) = dead-member refs.base n k (kinds_of refs.live) h ∙ sym (none-of-kind (nat_lt refs.base n) k (slice_get refs.live (n - refs.base - 1)) (not-below refs.base n h))
+    by (inr (i, e)) =
+        let some : nat_lt refs.base n ≡ true = below refs.base n (omega (arith, e)) in
+        let place : n - refs.base - 1 ≡ i = omega (arith, e) in
+        ap (λ (m : ℕ). is_member same_ref (references_from refs.base (kinds_of refs.live)) (reference_seen (k, m))) e
+        ∙ (place-member refs.base i k refs.live
+        ∙ (ap (λ (m : ℕ). is_of_kind k (slice_get refs.live m)) (sym place)
+        ∙ ap (λ (b : Bool). is_of_kind k (if b then slice_get refs.live (n - refs.base - 1) else None)) (sym some)))
+
+-- so what is live there is so here
+pub all-live : (refs : LiveReferences) (ps : List (ReferenceKind × ℕ)) → AreLive refs ps → all_in (live_refs (table_of refs)) (references_seen ps) ≡ true
+all-live refs [] h = refl
+all-live refs (p ∷ ps) h = rw (live-member refs p ∙ h.0) (all-live refs ps h.1)
+
+kind-self : (k : ReferenceKind) → small_same_kind (is_frame k) (is_frame k) ≡ true
+kind-self Frame = refl
+kind-self Holder = refl
+
+pub seen-self : (p : ReferenceKind × ℕ) → same_ref (reference_seen p) (reference_seen p) ≡ true
+seen-self p = rw (kind-self p.0, equal p.1) refl
+
+or-then : (a b : Bool) → a ≡ true → (a || b) ≡ true
+or-then a b e = or-left a b e
+
+or-last : (a b : Bool) → b ≡ true → (a || b) ≡ true
+or-last true b e = refl
+or-last false b e = e
+
+pub are-live : (refs : LiveReferences) (ps : List (ReferenceKind × ℕ)) → IsWithin (references_seen ps) (live_refs (table_of refs)) → AreLive refs ps
+are-live refs [] h = tt
+are-live refs (p ∷ ps) h =
+    (sym (live-member refs p) ∙ h (reference_seen p) (or-then (same_ref (reference_seen p) (reference_seen p)) (is_member same_ref (references_seen ps) (reference_seen p)) (seen-self p)),
+    are-live refs ps (λ x e. h x (or-last (same_ref x (reference_seen p)) (is_member same_ref (references_seen ps) x) e)))
+
+-- ---- what is known
+
+eqb-turned : (m n : ℕ) → (m == n) ≡ (n == m)
+eqb-turned m n = grind (arith, nat_tests)
+
+pair-seen : (p q : ReferenceKind × ℕ) → same_ref (reference_seen p) (reference_seen q) ≡ is_pair q p
+pair-seen p q = rw (same-kinds p.0 q.0, eqb-turned p.1 q.1) refl
+
+pub has-member : (p : ReferenceKind × ℕ) (ps : List (ReferenceKind × ℕ)) → is_member same_ref (references_seen ps) (reference_seen p) ≡ has_pair p ps
+has-member p [] = refl
+has-member p (q ∷ ps) = rw (pair-seen p q, has-member p ps) refl
+
+-- each reference is seen of a pair
+abbrev kind_if : Bool → ReferenceKind
+kind_if true = Frame
+kind_if false = Holder
+
+kind-back : (b : Bool) → is_frame (kind_if b) ≡ b
+kind-back true = refl
+kind-back false = refl
+
+seen-back : (x : Ref) → reference_seen (kind_if x.is_frame, x.number) ≡ x
+seen-back x = ap (λ (b : Bool). let r : Ref = record { is_frame = b; number = x.number } in r) (kind-back x.is_frame)
+
+-- a client knows the same: the smaller one may hold a reference more than once
+pub record Knows (given : List Ref) (known : List (ReferenceKind × ℕ)) : Type 0 where
+  pub same : (p : ReferenceKind × ℕ) → is_member same_ref given (reference_seen p) ≡ has_pair p known
+
+pub knows-none : Knows [] []
+knows-none = record { same = λ p. refl }
+
+pub knows-more : (given : List Ref) (known ps : List (ReferenceKind × ℕ)) → Knows given known → Knows (given ++ references_seen ps) (with_pairs ps known)
+knows-more given known ps k =
+    record {
+      same = λ p.
+          let both : is_member same_ref (given ++ references_seen ps) (reference_seen p) ≡ (is_member same_ref given (reference_seen p) || is_member same_ref (references_seen ps) (reference_seen p)) = list_any-append (same_ref (reference_seen p)) given (references_seen ps) in
+          both ∙ (rw (k.same p, has-member p ps) refl ∙ sym (known_is_a_set.union p ps known));
+    }
+
+knows-within : (given : List Ref) (known : List (ReferenceKind × ℕ)) → Knows given known → IsWithin given (references_seen known)
+knows-within given known k x e =
+    let p : ReferenceKind × ℕ = (kind_if x.is_frame, x.number) in
+    let back = seen-back x in
+    subst (λ (y : Ref). is_member same_ref (references_seen known) y ≡ true) back (has-member p known ∙ (sym (k.same p) ∙ subst (λ (y : Ref). is_member same_ref given y ≡ true) (sym back) e))
+
+within-known : (given : List Ref) (known : List (ReferenceKind × ℕ)) → Knows given known → IsWithin (references_seen known) given
+within-known given known k x e =
+    let p : ReferenceKind × ℕ = (kind_if x.is_frame, x.number) in
+    let back = seen-back x in
+    subst (λ (y : Ref). is_member same_ref given y ≡ true) back (k.same p ∙ (sym (has-member p known) ∙ subst (λ (y : Ref). is_member same_ref (references_seen known) y ≡ true) (sym back) e))
+
+length-seen : (ps : List (ReferenceKind × ℕ)) → length (references_seen ps) ≡ length ps
+length-seen [] = refl
+length-seen (p ∷ ps) = let ih = length-seen ps in omega arith
+
+-- no more than it knows
+pub knows-few : (given : List Ref) (known : List (ReferenceKind × ℕ)) → Knows given known → distinct_count same_ref given ≤ length known
+knows-few given known k =
+    let few = distinct-within given (references_seen known) (knows-within given known k) in
+    let same = length-seen known in
+    omega (arith, few, same)
+
+-- and no fewer, where it knows each once
+seen-distinct : (ps : List (ReferenceKind × ℕ)) → HasDistinctPairs ps → IsDistinct same_ref (references_seen ps)
+unfolding IsDistinct
+seen-distinct [] d = tt
+seen-distinct (p ∷ ps) d = (absent-apart (reference_seen p) (references_seen ps) (has-member p ps ∙ d.0), seen-distinct ps d.1)
+
+pub knows-many : (given : List Ref) (known : List (ReferenceKind × ℕ)) → Knows given known → HasDistinctPairs known → length known ≤ distinct_count same_ref given
+knows-many given known k d =
+    let many = distinct-among (references_seen known) given (seen-distinct known d) (within-known given known k) in
+    let same = length-seen known in
+    omega (arith, many, same)
+
+-- what is known by the table is known by the smaller client
+and-left : (a b : Bool) → (a && b) ≡ true → a ≡ true
+and-left true b e = refl
+and-left false b e = cc
+
+and-right : (a b : Bool) → (a && b) ≡ true → b ≡ true
+and-right true b e = e
+and-right false b e = cc
+
+pub all-known : (given : List Ref) (known ps : List (ReferenceKind × ℕ)) → Knows given known → list_all (λ p. has_pair p known) ps ≡ true → all_in given (references_seen ps) ≡ true
+all-known given known [] k h = refl
+all-known given known (p ∷ ps) k h =
+    rw (k.same p ∙ and-left (has_pair p known) (list_all (λ q. has_pair q known) ps) h) (all-known given known ps k (and-right (has_pair p known) (list_all (λ q. has_pair q known) ps) h))
