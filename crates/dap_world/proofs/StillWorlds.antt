@@ -14,7 +14,6 @@ use Rattle.dap_debuggee.specs.declared.answers.Happening.TheVariants as happenin
 use Rattle.dap_debuggee.specs.declared.answers.State.{State}
 use Rattle.dap_debuggee.specs.declared.answers.State.TheVariants as state
 use Rattle.dap_session.specs.Carried.{Goes, CarriedOut}
-use Rattle.dap_session.specs.Laws.{can_make}
 use Rattle.dap_session.specs.Plan.{Made, Plan, at_once, asking, written_by}
 use Rattle.dap_session.specs.Polling.{polls}
 use Rattle.dap_session.specs.Session.{Session}
@@ -27,7 +26,7 @@ use Rattle.dap_world.specs.References.{LastingStops}
 use Rattle.dap_world.specs.World.{World, Step, by_sending, by_answering, by_coming_up, by_coming_down, by_turning, by_polling, Schedule, starts, goes, adapter_said}
 use Rattle.dap_world.proofs.ClientStepping.{send-stands, down-stands, answer-stands}
 use Rattle.dap_world.proofs.Lasting.{fresh-stands}
-use Rattle.dap_world.proofs.PollsSeen.{happening_seen, happening_in}
+use Rattle.dap_world.proofs.PollsSeen.{happening_seen, happening_in, can_poll}
 use Rattle.dap_world.proofs.RowsSeen.{at}
 use Rattle.dap_world.proofs.Standing.{Stands, StandsAfter}
 use Rattle.dap_world.proofs.Stepping.{Laws, turn-stands, poll-stands, up-stands}
@@ -62,7 +61,7 @@ module _ {D : Type 0} (shown : D → Shown) (follows : Goes D) (answers : Answer
   lasting = LastingStops shown follows
 
   poll-calm : (p : Phase) (first : State) (s : Session) (made : Made) (v w : D) → (c : CarriedOut lasting (polls (at p s)) v made w) → IsStateOf first p (shown v).state
-      → moves_by_itself (adapter_model_phase p) (happening_in p s made (can_make lasting (polls (at p s)) v w made c)) ≡ false
+      → moves_by_itself (adapter_model_phase p) (happening_in p s made (can_poll lasting p s v w made c)) ≡ false
   poll-calm adapter.Running first s made v w c h = running-calm c.0 (subst (λ (x : State). IsTrue (may_answer x to_poll c.0)) h (answers v w to_poll c.0 c.1.0))
   poll-calm adapter.Stopped first s made v w c h =
       stopped-calm c.0 (subst (λ (x : State). IsTrue (may_answer x to_poll c.0)) h (answers v w to_poll c.0 c.1.0)) (subst (λ (x : State). ends_a_stop x c.0 ≡ false) h c.1.1)
