@@ -27,6 +27,8 @@ pub use answers::{
 };
 pub use dap_json::List;
 pub use debuggee::Debuggee;
-pub use laws::{held_gives_nothing, pieces_are_the_output, polls_tell_the_pieces};
+pub use laws::{
+    held_gives_nothing, pieces_are_the_output, polls_tell_the_pieces, recorded_stops_last,
+};
 pub use reading::{RecordingFault, RecordingKey};
 pub use recorded::Recorded;

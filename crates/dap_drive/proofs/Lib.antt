@@ -8,3 +8,4 @@ mod Doing
 mod Scripting
 mod Recordings
 mod ScriptExamples
+pub mod Schedules

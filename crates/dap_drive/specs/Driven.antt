@@ -31,7 +31,7 @@ pub record Drives {D : Type 0} (shown : D → Shown) (follows : Goes D) (limits 
   pub ran : Ran shown follows limits debuggee texts world
   pub schedule : Schedule shown follows limits debuggee world
   pub transcript_is : transcript ≡ text_of world.said
-  -- the checker finds no broken rule in it, the one on references aside
+  -- what the checker reads of it keeps each rule but the one on references
   pub read : IsReadAs transcript world.said
 
 -- ---- faults
@@ -81,6 +81,10 @@ SaysOf shown follows Client number text w = (o : Order) × (order_of text ≡ Ok
 -- memory may be refused anywhere
 SaysOf shown follows OutOfMemory number text w = Unit {0}
 
+-- the client is asked for an answer and has no own number left for it
+abbrev pub LacksNumberAt : {D : Type 0} → ℕ → List ℕ → World D → Type 0
+LacksNumberAt number text w = (o : Order) × (order_of text ≡ Ok o) × LacksNumberToAnswer o w
+
 -- also before the first line
 abbrev pub Stops : {D : Type 0} → (D → Shown) → Goes D → Settings → D → List (List ℕ) → DriveFault → Type 0
 Stops shown follows limits debuggee texts OutOfMemory = Unit {0}
@@ -91,8 +95,10 @@ Stops shown follows limits debuggee texts fault = StopsAt shown follows limits d
 abbrev pub DrivesRecording : Settings → List ℕ → List (List ℕ) → List ℕ → Type 0
 DrivesRecording limits bytes texts transcript = (r : TheRecording) × (verdict_of (json_of bytes) ≡ Ok r) × Drives shown_of FollowsPlayed limits (fresh_played r) texts transcript
 
--- the bytes are no recording, or they are one over which the script stops
+-- The bytes are no recording, or they are one over which the script stops. A stop of a recording lasts, so that the client
+-- never has too many references.
 abbrev pub StopsOver : Settings → List ℕ → List (List ℕ) → DriveFault → Type 0
 StopsOver limits bytes texts Recording = (f : RecordingFault) × (verdict_of (json_of bytes) ≡ Err f)
 StopsOver limits bytes texts OutOfMemory = Unit {0}
+StopsOver limits bytes texts Client = (r : TheRecording) × (verdict_of (json_of bytes) ≡ Ok r) × StopsAt shown_of FollowsPlayed limits (fresh_played r) texts LacksNumberAt
 StopsOver limits bytes texts fault = (r : TheRecording) × (verdict_of (json_of bytes) ≡ Ok r) × Stops shown_of FollowsPlayed limits (fresh_played r) texts fault

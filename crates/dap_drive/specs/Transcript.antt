@@ -3,10 +3,12 @@ use Rattle.std.specs.Prelude.{◌≡◌, ℕ, List, [], ◌∷◌, ◌++◌, cod
 use Rattle.std.specs.List.{flat_map}
 use Rattle.std.specs.Str.Lines.{lines}
 use Rattle.dap_message.specs.Canon.{canon}
+use Rattle.dap_check.specs.Legal.{IsVerdict}
 use Rattle.dap_check.specs.Transcript.{AreLines}
 use Rattle.dap_check.specs.declared.line.Line.{Line}
 use Rattle.dap_check.specs.declared.line.Side.{Side}
 use Rattle.dap_check.specs.declared.line.Side.TheVariants.{Client, Adapter}
+use Rattle.dap_check.specs.declared.rule.Checked.TheVariants.{Legal}
 use Rattle.dap_world.specs.Transcripts.{said_of, KeepsRules}
 use Rattle.dap_world.specs.World.{Said}
 
@@ -28,3 +30,9 @@ pub record IsReadAs (transcript : List ℕ) (said : List Said) : Type 0 where
   pub are : AreLines 1 (lines transcript) all
   pub said_is : said_of all ≡ said
   pub rules : KeepsRules all
+
+-- `check` of it answers `Legal`: it is lines, and none of them breaks a rule, that of references among them
+pub record IsLegalText (transcript : List ℕ) : Type 0 where
+  pub all : List Line
+  pub are : AreLines 1 (lines transcript) all
+  pub legal : IsVerdict false all Legal

@@ -1,21 +1,23 @@
 //! A script, line by line, and the transcript of what both ends wrote.
 ghost use Rattle.std.specs.Prelude.{◌≡◌, ◌∷◌, ◌++◌, ◌<◌, ℕ, List, [], length, IfOk, IfErr, OnOk};
 ghost use Rattle.std.specs.Str.Lines.{lines};
+ghost use Rattle.dap_debuggee.specs.Laws.{StopsLast};
 ghost use Rattle.dap_debuggee.specs.declared.answers.State.{State};
 ghost use Rattle.dap_frame.specs.Intake.{IsUnderWay};
 ghost use Rattle.dap_frame.specs.Settings.{Settings};
-ghost use Rattle.dap_drive.specs.Driven.{Drives, Stops, SaysOf, DrivesRecording, StopsOver};
+ghost use Rattle.dap_drive.specs.Driven.{Drives, Stops, StopsAt, LacksNumberAt, SaysOf, DrivesRecording, StopsOver};
 ghost use Rattle.dap_drive.specs.PrivateHeld.{driven_by, both_of, IsQuiet, HasDone, DoesLine, HasRun};
+ghost use Rattle.dap_drive.specs.Transcript.{IsLegalText};
 ghost use Rattle.dap_world.specs.World.{World};
 
 use crate::ends::Drive;
 use crate::fault::DriveFault;
 use crate::script::{LineFault, Order, read_order};
 use dap_check::split_line;
-use dap_debuggee::{Debuggee, Recorded, RecordingFault};
+use dap_debuggee::{Debuggee, Recorded, RecordingFault, recorded_stops_last};
 use dap_frame::Limits;
 use dap_message::laws::canonical_text_is_one_line;
-use dap_world::laws::each_schedule_agrees;
+use dap_world::laws::{each_schedule_agrees, references_agree_while_stops_last};
 use std::alloc::Global;
 
 /// Does what the line of this number asks for, which has bytes.
@@ -97,7 +99,8 @@ fn do_line<D: Debuggee + Drop>(
 /// times.
 ///
 /// # Errors
-/// Those of [`drive`] but `Recording`. There is no transcript then.
+/// Those of [`drive`] but `Recording`; and `Client` where the next message would give the client more references than it may
+/// know, which comes only where the debuggee goes on or ends by itself while it is stopped. There is no transcript then.
 pub fn drive_debuggee<D: Debuggee + Drop>(
     alloc: Global,
     debuggee: D,
@@ -107,9 +110,14 @@ pub fn drive_debuggee<D: Debuggee + Drop>(
     requires { (D.shown debuggee).state ≡ State.NotStarted }
     ensures drives { IfOk result (λ transcript. Drives D.shown D.follows limits debuggee (lines script.now) transcript.items) }
     ensures stops { IfErr result (Stops D.shown D.follows limits debuggee (lines script.now)) }
+
+    // Of a debuggee whose stops last the transcript is legal, and the client never has too many references.
+    ensures legal { StopsLast D.shown D.follows → IfOk result (λ transcript. IsLegalText transcript.items) }
+    ensures numbers { StopsLast D.shown D.follows → IfErr result (λ fault. fault ≡ DriveFault.Client → StopsAt D.shown D.follows limits debuggee (lines script.now) LacksNumberAt) }
 {
     // Laws for the proof: both ends agree, and a message is one line of the transcript.
     each_schedule_agrees::<D>();
+    references_agree_while_stops_last::<D>();
     canonical_text_is_one_line();
     let mut drive = Drive::open(alloc, limits, debuggee)?;
     let mut rest = script;
@@ -126,14 +134,14 @@ pub fn drive_debuggee<D: Debuggee + Drop>(
     Ok(drive.into_transcript())
 }
 
-/// Runs a script over a recording, as [`drive_debuggee`] does.
+/// Runs a script over a recording, as [`drive_debuggee`] does. What it gives is legal: [`dap_check::check`] finds no broken rule
+/// in it.
 ///
 /// # Errors
 /// `Recording` where the recording is none; then, of the first line that is not done, counted from 1: `Script` where it is no
 /// order, `Call` where its arguments are refused or cannot be written, or the client keeps no request that it could answer,
 /// `Send` with the client's refusal; `Adapter` where the adapter has too few own numbers left for what it does next, `Client`
-/// where the next message would give the client more references than it may know, or it has no own number left for its
-/// answer; `OutOfMemory` where memory is refused. There is no transcript then.
+/// where the client has no own number left for its answer; `OutOfMemory` where memory is refused. There is no transcript then.
 pub fn drive(
     alloc: Global,
     recording: &[u8],
@@ -141,8 +149,11 @@ pub fn drive(
     limits: Limits,
 ) -> Result<Vec<u8>, DriveFault>
     ensures drives { IfOk result (λ transcript. DrivesRecording limits recording.now (lines script.now) transcript.items) }
+    ensures legal { IfOk result (λ transcript. IsLegalText transcript.items) }
     ensures stops { IfErr result (StopsOver limits recording.now (lines script.now)) }
 {
+    // A law for the proof: a stop of a recording lasts.
+    recorded_stops_last();
     let recorded = match Recorded::read(alloc, recording) {
         Ok(recorded) => recorded,
         Err(RecordingFault::OutOfMemory) => return Err(DriveFault::OutOfMemory),

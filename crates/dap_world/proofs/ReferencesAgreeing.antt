@@ -1,5 +1,5 @@
 -- What holds of references in every schedule in which a stop lasts: what stands there is what is said of each world.
-use Rattle.std.proofs.Common.{◌≡◌, ℕ, ◌<◌, ◌≤◌, List, [], ◌∷◌, ◌++◌, Bool, false, Result, Ok, Err, sym, ap, ◌∙◌, subst, arith}
+use Rattle.std.proofs.Common.{None, refl, ◌≡◌, ℕ, ◌<◌, ◌≤◌, List, [], ◌∷◌, ◌++◌, Bool, false, Result, Ok, Err, sym, ap, ◌∙◌, subst, arith}
 use Rattle.std.specs.List.{AllByRecursion}
 use Rattle.std.specs.Set.{distinct_count}
 use Rattle.dap_ends.specs.AdapterModel.{asks as small_asks}
@@ -17,23 +17,29 @@ use Rattle.dap_history.specs.Requests.{asks}
 use Rattle.dap_tables.specs.Outstanding.{Kept}
 use Rattle.dap_tables.specs.References.{LiveReferences}
 use Rattle.dap_tables.specs.declared.entry.Entry.{Entry}
+use Rattle.dap_check.specs.Legal.{least_broken}
+use Rattle.dap_check.specs.Rules.{is_broken}
+use Rattle.dap_check.specs.declared.line.Line.{Line}
+use Rattle.dap_check.specs.declared.rule.Rule.TheVariants.{Seq, Answer, FirstRequest, Initialized, Gate, Reference, Disconnect}
 use Rattle.dap_check.specs.declared.line.Side.{Side}
 use Rattle.dap_check.specs.declared.line.Side.TheVariants.{Client, Adapter}
 use Rattle.dap_client.specs.Taking.{Made as ClientMade, made_by_keeping, request_from, takes as client_takes}
 use Rattle.dap_client.specs.declared.fault.ClientFault.{ClientFault}
 use Rattle.dap_client.specs.declared.fault.ClientFault.TheVariants.{ReferenceLimit}
+use Rattle.dap_debuggee.specs.Laws.{Answers, Moves}
 use Rattle.dap_debuggee.specs.Shown.{Shown}
 use Rattle.dap_session.specs.Carried.{Goes}
 use Rattle.dap_session.specs.GivenLaws.{AreLive}
 use Rattle.dap_session.specs.StateLaws.{EachStepKeepsState}
 use Rattle.dap_world.specs.MessageReferences.{references_used_by_request, references_used_by_kind}
 use Rattle.dap_world.specs.Projection.{notes_seen, all_kept, references_seen, table_of, pair_of, written_seen}
-use Rattle.dap_world.specs.References.{LastingStops, ReferencesAgreeWhileStopsLast}
-use Rattle.dap_world.specs.Transcripts.{said_of}
+use Rattle.dap_world.specs.References.{LastingStops, ReferencesAgreeWhileStopsLast, EachTranscriptIsLegalWhileStopsLast}
+use Rattle.dap_world.specs.Transcripts.{said_of, Keeps, KeepsRules}
 use Rattle.dap_world.specs.World.{World, Said}
 use Rattle.dap_world.proofs.Agreeing.{down-fault}
 use Rattle.dap_world.proofs.ClientSeen.{MeetsLimit, client-limit-seen}
 use Rattle.dap_world.proofs.ClientStepping.{given_then, down-first, down-comes, request-kept}
+use Rattle.dap_world.proofs.Legality.{each-transcript-keeps-rules}
 use Rattle.dap_world.proofs.GateStepping.{GateAt, AllGated, gate-at, schedule-gated}
 use Rattle.dap_world.proofs.ReferenceRule.{IsAskedSo, keeps-reference}
 use Rattle.dap_world.proofs.ReferencesSeen.{are-live}
@@ -121,7 +127,7 @@ asked-so b Client (Event name body) h = tt
 asked-so b Client (Other tag) h = tt
 asked-so b Adapter kind h = tt
 
-pub references-agree : {D : Type 0} (laws : Laws) (states : EachStepKeepsState) (shown : D → Shown) (follows : Goes D) → ReferencesAgreeWhileStopsLast shown follows
+pub references-agree : {D : Type 0} (laws : Laws) (states : EachStepKeepsState) (shown : D → Shown) (follows : Goes D) → Answers shown follows → Moves shown follows → ReferencesAgreeWhileStopsLast shown follows
 references-agree {D} laws states shown follows answers moves limits debuggee w r s =
     let g : StandsStill shown limits debuggee w = schedule-still shown follows answers moves laws states limits debuggee w r s in
     let p : Pair = pair_of w g.stands.given g.stands.by in
@@ -139,3 +145,14 @@ references-agree {D} laws states shown follows answers moves limits debuggee w r
           let legal : AsksKnown [] (client_dialogue (written_seen w.said)) = g.keeps.refs.legal in
           keeps-reference laws.read earlier line later (asked-so _ line.side line.message.kind gate) (subst (λ (xs : List Said). AsksKnown [] (client_dialogue (written_seen xs))) is legal);
     }
+
+-- with the other six rules
+none-broken : (earlier : List Line) (line : Line) → is_broken false Seq earlier line ≡ false → is_broken false Answer earlier line ≡ false → is_broken false FirstRequest earlier line ≡ false → is_broken false Initialized earlier line ≡ false → is_broken false Gate earlier line ≡ false
+    → is_broken false Reference earlier line ≡ false → is_broken false Disconnect earlier line ≡ false → least_broken false earlier line ≡ None
+none-broken earlier line a b c d e f g = rw (a, b, c, d, e, f, g) refl
+
+pub transcripts-are-legal : {D : Type 0} (laws : Laws) (states : EachStepKeepsState) (shown : D → Shown) (follows : Goes D) → Answers shown follows → Moves shown follows → EachTranscriptIsLegalWhileStopsLast shown follows
+transcripts-are-legal {D} laws states shown follows answers moves limits debuggee w lines r s e =
+    let rules : KeepsRules lines = each-transcript-keeps-rules laws shown (LastingStops shown follows) limits debuggee w lines r s e in
+    let given : Keeps Reference lines = (references-agree laws states shown follows answers moves limits debuggee w r s).given lines e in
+    λ earlier line later d. none-broken earlier line (rules.seq earlier line later d) (rules.answer earlier line later d) (rules.first_request earlier line later d) (rules.initialized earlier line later d) (rules.gate earlier line later d) (given earlier line later d) (rules.disconnect earlier line later d)

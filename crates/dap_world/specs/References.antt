@@ -3,11 +3,12 @@
 use Rattle.std.specs.Prelude.{◌≡◌, List, ◌∷◌, false, Err}
 use Rattle.std.specs.List.{AllByRecursion}
 use Rattle.dap_frame.specs.Settings.{Settings, AreInRange}
+use Rattle.dap_check.specs.Legal.{IsLegal}
 use Rattle.dap_check.specs.declared.line.Line.{Line}
 use Rattle.dap_check.specs.declared.rule.Rule.TheVariants.{Reference}
 use Rattle.dap_client.specs.Taking.{takes as client_takes}
 use Rattle.dap_client.specs.declared.fault.ClientFault.{ClientFault}
-use Rattle.dap_debuggee.specs.Laws.{ends_a_stop, Answers, Moves}
+use Rattle.dap_debuggee.specs.Laws.{ends_a_stop}
 use Rattle.dap_debuggee.specs.Shown.{Shown}
 use Rattle.dap_message.specs.declared.message.Message.{Message}
 use Rattle.dap_session.specs.Carried.{Goes}
@@ -38,7 +39,10 @@ pub record ReferencesAgree {D : Type 0} (w : World D) : Type 0 where
   -- in what both have written each reference was given, in its kind, since the debuggee last went on or ended
   pub given : (lines : List Line) → said_of lines ≡ w.said → Keeps Reference lines
 
--- with equal limits, in their ranges, and a debuggee that keeps the laws of its states
+-- with equal limits, in their ranges
 abbrev pub ReferencesAgreeWhileStopsLast : {D : Type 0} → (D → Shown) → Goes D → Type 0
-ReferencesAgreeWhileStopsLast {D} shown follows = Answers shown follows → Moves shown follows
-    → (limits : Settings) (debuggee : D) (w : World D) → AreInRange limits → Schedule shown (LastingStops shown follows) limits debuggee w → ReferencesAgree w
+ReferencesAgreeWhileStopsLast {D} shown follows = (limits : Settings) (debuggee : D) (w : World D) → AreInRange limits → Schedule shown (LastingStops shown follows) limits debuggee w → ReferencesAgree w
+
+-- then no line of what both have written breaks a rule
+abbrev pub EachTranscriptIsLegalWhileStopsLast : {D : Type 0} → (D → Shown) → Goes D → Type 0
+EachTranscriptIsLegalWhileStopsLast {D} shown follows = (limits : Settings) (debuggee : D) (w : World D) (lines : List Line) → AreInRange limits → Schedule shown (LastingStops shown follows) limits debuggee w → said_of lines ≡ w.said → IsLegal false lines
