@@ -1,30 +1,25 @@
 -- A test of messages: what passes is written within a limit, and read again as itself.
-use Rattle.std.proofs.Common.{◌≡◌, ℕ, ◌≤◌, List, [], ◌∷◌, length, Bool, true, false, refl, pos, negsuc}
-use Rattle.std.specs.Prelude.{◌&&◌, ◌^◌, ◌<◌, nat_le, nat_lt, Option, Some, None, bytes_eq, IsTrue}
+use Rattle.std.proofs.Common.{◌≡◌, ℕ, List, [], ◌∷◌, length, Bool, true, false, refl, arith}
+use Rattle.std.specs.Prelude.{◌&&◌, ◌^◌, ◌<◌, nat_le, nat_lt, Option, Some, None}
 use Rattle.std.specs.Cmp.Lexicographic.{slice_cmp}
 use Rattle.std.specs.Ordering.{nat_cmp}
 use Rattle.std.specs.declared.cmp.Ordering.{Ordering}
 use Rattle.std.specs.declared.cmp.Ordering.TheVariants.{Less, Equal, Greater}
-use Rattle.std.specs.Str.{IsUtf8, is_utf8, chars, scalars, encode_utf8_all}
+use Rattle.std.specs.Str.{is_utf8}
+use Rattle.std.proofs.lemmas.Str.{IsUtf8-from_is_utf8}
 use Rattle.std.proofs.lemmas.Bool.{leb-true}
 use Rattle.std.proofs.lemmas.Bool.Decides.{nat_tests}
 use Rattle.serde_json.specs.Data.{Num, unsigned, negative, float, Data, null, boolean, number, string, array, object, Items, no_items, item, Members, no_members, member}
-use Rattle.dap_ends.proofs.Counts.{and-left, and-right, names-same}
+use Rattle.dap_ends.proofs.Counts.{and-left, and-right}
 use Rattle.dap_json.specs.Sound.{IsSoundNumber, IsBefore, IsSound, AreSound, HasSound}
 use Rattle.dap_message.specs.Canon.{canon}
 use Rattle.dap_message.specs.Laws.{WrittenIsReadAgain}
 use Rattle.dap_message.specs.Plain.{is_plain}
 use Rattle.dap_message.specs.ReadBack.{ReadsBack, AllReadBack}
-use Rattle.dap_message.specs.SoundMessage.{IsSoundMessage, HasSoundTexts, HasSoundTree, IsSoundText, IsSoundTree}
+use Rattle.dap_message.specs.SoundMessage.{HasSoundTexts, HasSoundTree, IsSoundText, IsSoundTree}
 use Rattle.dap_message.specs.declared.message.Kind.{Kind}
 use Rattle.dap_message.specs.declared.message.Kind.TheVariants.{Request, Response, Event, Other}
 use Rattle.dap_message.specs.declared.message.Message.{Message}
-
--- ---- texts
-
-utf8-from : (text : List ℕ) → is_utf8 text ≡ true → IsUtf8 text
-unfolding is_utf8
-utf8-from text h = (chars text, and-left (scalars (chars text)) (bytes_eq (encode_utf8_all (chars text)) text) h, names-same (encode_utf8_all (chars text)) text (and-right (scalars (chars text)) (bytes_eq (encode_utf8_all (chars text)) text) h))
 
 -- ---- trees
 
@@ -82,7 +77,7 @@ mutual
   sound-from null h = tt
   sound-from (boolean b) h = tt
   sound-from (number n) h = number-from n h
-  sound-from (string s) h = utf8-from s h
+  sound-from (string s) h = IsUtf8-from_is_utf8 s h
   sound-from (array ds) h = items-from ds h
   sound-from (object ms) h = members-from ms h
 
@@ -95,7 +90,7 @@ mutual
   members-from (member k d ms) h =
       let rest = and-right (is_utf8 k) (is_before k ms && (is_sound d && has_sound ms)) h in
       let last = and-right (is_before k ms) (is_sound d && has_sound ms) rest in
-      (utf8-from k (and-left (is_utf8 k) (is_before k ms && (is_sound d && has_sound ms)) h), before-from k ms (and-left (is_before k ms) (is_sound d && has_sound ms) rest), sound-from d (and-left (is_sound d) (has_sound ms) last), members-from ms (and-right (is_sound d) (has_sound ms) last))
+      (IsUtf8-from_is_utf8 k (and-left (is_utf8 k) (is_before k ms && (is_sound d && has_sound ms)) h), before-from k ms (and-left (is_before k ms) (is_sound d && has_sound ms) rest), sound-from d (and-left (is_sound d) (has_sound ms) last), members-from ms (and-right (is_sound d) (has_sound ms) last))
 
 -- ---- messages
 
@@ -109,7 +104,7 @@ is_sound_tree (Some d) = is_sound d
 
 text-from : (o : Option (List ℕ)) → is_sound_text o ≡ true → IsSoundText o
 text-from None h = tt
-text-from (Some text) h = utf8-from text h
+text-from (Some text) h = IsUtf8-from_is_utf8 text h
 
 tree-from : (o : Option Data) → is_sound_tree o ≡ true → IsSoundTree o
 tree-from None h = tt
@@ -128,10 +123,10 @@ has_sound_tree (Event event body) = is_sound_tree body
 has_sound_tree (Other tag) = true
 
 texts-from : (kind : Kind) → has_sound_texts kind ≡ true → HasSoundTexts kind
-texts-from (Request command arguments) h = utf8-from command h
-texts-from (Response request_seq success command message body) h = (utf8-from command (and-left (is_utf8 command) (is_sound_text message) h), text-from message (and-right (is_utf8 command) (is_sound_text message) h))
-texts-from (Event event body) h = utf8-from event h
-texts-from (Other tag) h = utf8-from tag h
+texts-from (Request command arguments) h = IsUtf8-from_is_utf8 command h
+texts-from (Response request_seq success command message body) h = (IsUtf8-from_is_utf8 command (and-left (is_utf8 command) (is_sound_text message) h), text-from message (and-right (is_utf8 command) (is_sound_text message) h))
+texts-from (Event event body) h = IsUtf8-from_is_utf8 event h
+texts-from (Other tag) h = IsUtf8-from_is_utf8 tag h
 
 trees-from : (kind : Kind) → has_sound_tree kind ≡ true → HasSoundTree kind
 trees-from (Request command arguments) h = tree-from arguments h

@@ -1,6 +1,5 @@
 -- A worked schedule in which a request crosses the event that the debuggee went on by itself: what it uses is dead when it comes.
-use Rattle.std.proofs.Common.{◌≡◌, [], ◌∷◌, true, false, Some, codes, pos, refl, sym, subst, arith, true≢false}
-use Rattle.std.specs.Prelude.{IsTrue}
+use Rattle.std.proofs.Common.{None, ◌≡◌, true, false, codes, pos, refl, sym, subst, arith, true≢false}
 use Rattle.std.specs.Fmt.{digits}
 use Rattle.std.specs.Str.{is_utf8, chars}
 use Rattle.json.specs.Print.{escape_byte}
@@ -10,20 +9,24 @@ use Rattle.dap_frame.specs.Settings.{Settings, AreInRange, settings}
 use Rattle.dap_message.specs.Call.{initialize_of, thread_of, stack_trace_of}
 use Rattle.dap_message.specs.CallTree.{initialize_members, stack_trace_members}
 use Rattle.dap_message.specs.Canon.{canon, tree_of, request_members, response_members, event_members}
+use Rattle.dap_message.specs.Argument.{Read}
 use Rattle.dap_message.specs.Laws.{WrittenIsReadAgain}
+use Rattle.dap_message.specs.PlainCall.{WrittenCallIsReadAgain}
 use Rattle.dap_message.specs.Types.Call.{Call}
 use Rattle.dap_message.specs.Types.Call.TheVariants as call
-use Rattle.dap_debuggee.specs.Laws.{may_answer, state_after}
 use Rattle.dap_debuggee.specs.Shown.{Act, to_start, to_resume, to_pause, to_poll, to_set_breakpoints, to_assign, to_end, Reply, done, refused, happened}
 use Rattle.dap_debuggee.specs.declared.answers.Happening.TheVariants as happening
 use Rattle.dap_debuggee.specs.declared.answers.State.{State}
 use Rattle.dap_debuggee.specs.declared.answers.State.TheVariants.{NotStarted, Running, Stopped, Gone}
+use Rattle.dap_client.specs.References.{references_used_by}
 use Rattle.dap_session.specs.Bodies.{query_result}
+use Rattle.dap_session.specs.GivenLaws.{AreLive}
 use Rattle.dap_session.specs.Handling.{plan_for}
 use Rattle.dap_session.specs.Polling.{after_happening}
+use Rattle.dap_world.specs.MessageReferences.{references_used_by_read}
 use Rattle.dap_world.specs.References.{AllUseLive}
 use Rattle.dap_world.specs.Restless.{restless_shown, RestlessFollows, PremiseIsNeeded}
-use Rattle.dap_world.specs.World.{World, messages_of, fresh_world, Schedule, starts}
+use Rattle.dap_world.specs.World.{World, messages_of, fresh_world, starts}
 use Rattle.dap_world.proofs.LastingSchedules.{schedule}
 use Rattle.dap_world.proofs.PlayedWorlds.{initialize, FollowsBy, sent, up, down, turned, polled, Leads, sends, comes_up, comes_down, turns_once, polls_once}
 use Rattle.dap_world.proofs.ReadAgain.{all_read_again, all-read-again}
@@ -201,12 +204,14 @@ unfolding canon tree_of request_members response_members event_members initializ
 reads_so = refl
 
 -- the request under way uses frame 1, which is dead
-dead_so : AllUseLive x21.adapter.session.references x21 → ⊥
+dead_so : WrittenCallIsReadAgain → AllUseLive x21.adapter.session.references x21 → ⊥
 unfolding canon tree_of request_members response_members event_members initialize_members stack_trace_members escape_byte digits plan_for initialize_of thread_of stack_trace_of query_result json_of is_utf8 chars serde_json_on_literals after_happening
-dead_so h = true≢false (sym h.up.0.0)
+dead_so read h =
+    let live : AreLive x21.adapter.session.references (references_used_by (call.Scopes 1)) = subst (λ (r : Read Call). AreLive x21.adapter.session.references (references_used_by_read r)) (read (call.Scopes 1) refl) h.up.0 in
+    true≢false (sym live.0)
 
-pub premise-is-needed : WrittenIsReadAgain → PremiseIsNeeded
-premise-is-needed law =
+pub premise-is-needed : WrittenIsReadAgain → WrittenCallIsReadAgain → PremiseIsNeeded
+premise-is-needed law read =
     record {
       answers = λ old new act reply f. f.0;
       moves = λ old new act reply f. f.1;
@@ -215,5 +220,5 @@ premise-is-needed law =
       first = NotStarted;
       world = x21;
       schedule = schedule restless_shown (FollowsBy replies) RestlessFollows follows-so limits NotStarted x21 (crosses_so (all-read-again law limits.body (messages_of x21.said) reads_so));
-      dead = dead_so;
+      dead = dead_so read;
     }

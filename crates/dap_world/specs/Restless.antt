@@ -1,5 +1,5 @@
 -- A debuggee that does whatever its state allows, and so goes on by itself while it is stopped: for it the law on references fails.
-use Rattle.std.specs.Prelude.{◌≡◌, ℕ, ⊥, [], ◌∷◌, Some, None, codes, pos, IsTrue}
+use Rattle.std.specs.Prelude.{◌≡◌, [], ◌∷◌, Some, None, codes, pos, IsTrue}
 use Rattle.dap_frame.specs.Settings.{Settings, AreInRange}
 use Rattle.dap_debuggee.specs.Laws.{may_answer, state_after, Answers, Moves}
 use Rattle.dap_debuggee.specs.Shown.{Shown}
