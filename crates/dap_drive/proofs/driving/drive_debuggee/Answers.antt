@@ -1,6 +1,10 @@
-use Rattle.std.proofs.Common.{refl, sym, ap, ◌∙◌, arith}
+use Rattle.std.proofs.Common.{refl, sym, ap, ◌∙◌, subst, arith}
+use Rattle.std.specs.Str.Lines.{lines}
+use Rattle.dap_drive.specs.Driven.{Stops}
+use Rattle.dap_drive.specs.declared.fault.DriveFault.{DriveFault}
 use Rattle.dap_drive.specs.PrivateHeld.{driven_by, both_of}
 use Rattle.dap_drive.proofs.Doing.{no_items}
+use Rattle.dap_drive.proofs.Schedules.{only-numbers, legal-text}
 use Rattle.dap_drive.proofs.Scripting.{part_way_begins, part_way_on, part_way_stops, part_way_done}
 use Rattle.dap_drive.proofs.driving.drive_debuggee.Goals as goal
 
@@ -28,3 +32,12 @@ pub returns-clause-drives : goal.returns-clause-drives
 returns-clause-drives g c =
     part_way_done (driven_by g.D.Debuggee.shown g.D.Debuggee.follows c.args.limits c.args.debuggee) c.each_schedule_agrees.ensures.agrees c.each_schedule_agrees.ensures.rules c.canonical_text_is_one_line.ensures c.args.script.now c.loop-rest.rest.now c.loop-rest.number (both_of c.loop-rest.drive) c.into_transcript.result.items
     (no_items c.loop-rest.rest.now _ refl (sym c.is_empty.ensures ∙ c.loop-rest-test.false)) (ap (λ (v : _). v.items) c.into_transcript.ensures) c.loop-rest.invariant.part
+
+pub returns-in-Err-clause-numbers : goal.returns-in-Err-clause-numbers
+returns-in-Err-clause-numbers g c = λ stops client.
+    only-numbers g.D.Debuggee.shown g.D.Debuggee.follows c.args.limits c.args.debuggee c.loop-rest.invariant.part.run.quiet.at.in_range c.references_agree_while_stops_last.ensures.agree stops (lines c.args.script.now)
+    (subst (λ (f : DriveFault). Stops g.D.Debuggee.shown g.D.Debuggee.follows c.args.limits c.args.debuggee (lines c.args.script.now) f) client (returns-in-Err-clause-stops g c))
+
+pub returns-clause-legal : goal.returns-clause-legal
+returns-clause-legal g c = λ stops.
+    legal-text g.D.Debuggee.shown g.D.Debuggee.follows c.args.limits c.args.debuggee c.loop-rest.invariant.part.run.quiet.at.in_range c.references_agree_while_stops_last.ensures.legal stops (lines c.args.script.now) c.into_transcript.result.items (returns-clause-drives g c)
