@@ -1,5 +1,5 @@
 -- A worked schedule in which a request crosses the event that the debuggee went on by itself: what it uses is dead when it comes.
-use Rattle.std.proofs.Common.{None, ◌≡◌, true, false, codes, pos, refl, sym, subst, arith, true≢false}
+use Rattle.std.proofs.Common.{None, ◌≡◌, true, codes, pos, refl, sym, subst, arith, true≢false}
 use Rattle.std.specs.Fmt.{digits}
 use Rattle.std.specs.Str.{is_utf8, chars}
 use Rattle.json.specs.Print.{escape_byte}

@@ -1,5 +1,5 @@
 -- What stands where a stop lasts until the debuggee is asked to go on or to end: the smaller pair keeps its references, and the adapter's phase is the debuggee's state.
-use Rattle.std.proofs.Common.{◌≡◌, true, false, refl, sym, subst, true≢false}
+use Rattle.std.proofs.Common.{◌≡◌, false, refl, sym, subst, true≢false}
 use Rattle.std.specs.Prelude.{IsTrue}
 use Rattle.dap_ends.specs.AdapterModel as desk
 use Rattle.dap_ends.specs.Pair.{Pair}
