@@ -85,3 +85,17 @@ def answers_to(recording, requests):
 
 def frames_of(requests):
     return [frame(json.dumps(one).encode()) for one in requests]
+
+
+def program_itself(path):
+    """The program that bin/dap becomes, since it takes a while to find it; another one is itself."""
+    if not os.path.samefile(path, os.path.join(HERE, "bin", "dap")):
+        return path
+    child = subprocess.Popen([path, "serve", RECORDING], stdin=subprocess.PIPE, stdout=subprocess.PIPE)
+    child.stdin.write(request_frame(1, "threads"))
+    child.stdin.flush()
+    # It is the program once it answers.
+    child.stdout.read(1)
+    itself = os.readlink(f"/proc/{child.pid}/exe")
+    child.communicate()
+    return itself

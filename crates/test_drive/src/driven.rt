@@ -5,10 +5,12 @@
 //! | `send ..`, `terminal ..`, `turn`, `poll`, `run`, or anything else | a line of the script |
 //! | `.` | a line of the script without bytes |
 //! | `> BODY`, `< BODY` | the next line of the transcript |
+//! | `= legal` | the transcript keeps every rule |
 //! | `! FAULT` | the script stops with this fault |
 //!
 //! A script ends in a line feed where pieces have a size, and does not where they have none.
 
+use dap_check::{CheckFault, Checked, check};
 use dap_drive::{DriveFault, drive};
 use dap_frame::Limits;
 use std::alloc::{AllocError, Global};
@@ -44,6 +46,7 @@ fn order_of(line: &str) -> Option<&str> {
     let is_other = is_heading(line)
         || line.starts_with("> ")
         || line.starts_with("< ")
+        || line.starts_with("= ")
         || line.starts_with("! ");
     match line {
         _ if is_other => None,
@@ -91,6 +94,22 @@ fn run(alloc: Global, script: &[u8], limits: Limits) -> Result<Driven, Outcome> 
 /// A script without the line feed at its end.
 fn without_line_feed(script: &[u8]) -> &[u8] {
     script.strip_suffix(b"\n").unwrap_or(script)
+}
+
+/// Right where a transcript keeps every rule; where it does not, that is appended.
+fn judge(alloc: Global, transcript: &[u8], came: &mut String) -> Outcome {
+    match check(alloc, transcript, false) {
+        Ok(Checked::Legal) => Outcome::Right,
+        Ok(found) => {
+            tell(came, &found);
+            Outcome::Wrong
+        }
+        Err(CheckFault::OutOfMemory) => Outcome::Refused,
+        Err(fault) => {
+            tell(came, &fault);
+            Outcome::Wrong
+        }
+    }
 }
 
 impl Driven {
@@ -181,6 +200,8 @@ impl Player for Driven {
         match line.split_once(' ') {
             Some((">", text)) => self.writes(alloc, "> ", text, came),
             Some(("<", text)) => self.writes(alloc, "< ", text, came),
+            Some(("=", "legal")) => judge(alloc, &self.transcript, came),
+            Some(("=", _)) => wrong(came, "a verdict that is not known"),
             Some(("!", name)) => self.stops(alloc, name, came),
             _ => Outcome::Right,
         }

@@ -8,7 +8,7 @@ use std::alloc::Global;
 use std::test::Fail;
 use test_kit::rows::play_rows;
 
-pub(crate) static ROWS: [&str; 27] = [
+pub(crate) static ROWS: [&str; 28] = [
     r#"
 row no line
 "#,
@@ -148,6 +148,34 @@ send scopes {"frameId":1}
 ! Send { line: 10, cause: UnknownReference }
 "#,
     r#"
+row a frame is named in its own stop
+send initialize {"adapterID":"rec"}
+> {"arguments":{"adapterID":"rec"},"command":"initialize","seq":1,"type":"request"}
+run
+< capabilities seq 1 to 1
+< {"event":"initialized","seq":2,"type":"event"}
+send launch
+> {"command":"launch","seq":2,"type":"request"}
+send configurationDone
+> {"command":"configurationDone","seq":3,"type":"request"}
+run
+< {"command":"configurationDone","request_seq":3,"seq":3,"success":true,"type":"response"}
+< {"command":"launch","request_seq":2,"seq":4,"success":true,"type":"response"}
+< {"body":{"category":"stdout","output":"go\n"},"event":"output","seq":5,"type":"event"}
+< {"body":{"allThreadsStopped":true,"reason":"entry","threadId":1},"event":"stopped","seq":6,"type":"event"}
+send stackTrace {"threadId":1}
+> {"arguments":{"threadId":1},"command":"stackTrace","seq":4,"type":"request"}
+run
+< {"body":{"stackFrames":[{"column":1,"id":1,"line":1,"name":"main","source":{"name":"a.c","path":"/a.c","sourceReference":1}}],"totalFrames":1},"command":"stackTrace","request_seq":4,"seq":7,"success":true,"type":"response"}
+send scopes {"frameId":1}
+> {"arguments":{"frameId":1},"command":"scopes","seq":5,"type":"request"}
+run
+< {"body":{"scopes":[{"expensive":false,"name":"Locals","variablesReference":2}]},"command":"scopes","request_seq":5,"seq":8,"success":true,"type":"response"}
+send next {"threadId":1}
+> {"arguments":{"threadId":1},"command":"next","seq":6,"type":"request"}
+= legal
+"#,
+    r#"
 row the debuggee runs in a terminal
 send initialize {"adapterID":"rec","supportsRunInTerminalRequest":true}
 > {"arguments":{"adapterID":"rec","supportsRunInTerminalRequest":true},"command":"initialize","seq":1,"type":"request"}
@@ -167,6 +195,7 @@ terminal ok
 run
 < {"body":{"category":"stdout","output":"go\n"},"event":"output","seq":6,"type":"event"}
 < {"body":{"allThreadsStopped":true,"reason":"entry","threadId":1},"event":"stopped","seq":7,"type":"event"}
+= legal
 "#,
     r#"
 row a terminal is refused
