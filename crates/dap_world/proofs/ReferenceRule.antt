@@ -76,16 +76,16 @@ or-either false b h = inr h
 resume-command : (name : List ℕ) → is_among resume_commands name ≡ true → (code (class_if (command_named name)) == 8) ≡ true
 resume-command name h =
     elim (or-either (bytes_eq name (codes "continue")) (bytes_eq name (codes "next") || (bytes_eq name (codes "stepIn") || (bytes_eq name (codes "stepOut") || (bytes_eq name (codes "stepBack") || (bytes_eq name (codes "reverseContinue") || false))))) h) [
-      inl e ↦ by (codes "continue") e refl
-    | inr h ↦ elim (or-either (bytes_eq name (codes "next")) (bytes_eq name (codes "stepIn") || (bytes_eq name (codes "stepOut") || (bytes_eq name (codes "stepBack") || (bytes_eq name (codes "reverseContinue") || false)))) h) [
-        inl e ↦ by (codes "next") e refl
-      | inr h ↦ elim (or-either (bytes_eq name (codes "stepIn")) (bytes_eq name (codes "stepOut") || (bytes_eq name (codes "stepBack") || (bytes_eq name (codes "reverseContinue") || false))) h) [
-          inl e ↦ by (codes "stepIn") e refl
-        | inr h ↦ elim (or-either (bytes_eq name (codes "stepOut")) (bytes_eq name (codes "stepBack") || (bytes_eq name (codes "reverseContinue") || false)) h) [
-            inl e ↦ by (codes "stepOut") e refl
-          | inr h ↦ elim (or-either (bytes_eq name (codes "stepBack")) (bytes_eq name (codes "reverseContinue") || false) h) [
-              inl e ↦ by (codes "stepBack") e refl
-            | inr h ↦ by (codes "reverseContinue") (or-false (bytes_eq name (codes "reverseContinue")) h) refl
+      | inl e ↦ by (codes "continue") e refl
+      | inr h ↦ elim (or-either (bytes_eq name (codes "next")) (bytes_eq name (codes "stepIn") || (bytes_eq name (codes "stepOut") || (bytes_eq name (codes "stepBack") || (bytes_eq name (codes "reverseContinue") || false)))) h) [
+        | inl e ↦ by (codes "next") e refl
+        | inr h ↦ elim (or-either (bytes_eq name (codes "stepIn")) (bytes_eq name (codes "stepOut") || (bytes_eq name (codes "stepBack") || (bytes_eq name (codes "reverseContinue") || false))) h) [
+          | inl e ↦ by (codes "stepIn") e refl
+          | inr h ↦ elim (or-either (bytes_eq name (codes "stepOut")) (bytes_eq name (codes "stepBack") || (bytes_eq name (codes "reverseContinue") || false)) h) [
+            | inl e ↦ by (codes "stepOut") e refl
+            | inr h ↦ elim (or-either (bytes_eq name (codes "stepBack")) (bytes_eq name (codes "reverseContinue") || false) h) [
+              | inl e ↦ by (codes "stepBack") e refl
+              | inr h ↦ by (codes "reverseContinue") (or-false (bytes_eq name (codes "reverseContinue")) h) refl
             ]
           ]
         ]
@@ -98,10 +98,10 @@ resume-command name h =
 resume-event : (name : List ℕ) → is_among resume_events name ≡ true → is_resumption (small.Event (kind_if (signal_named name))) ≡ true
 resume-event name h =
     elim (or-either (bytes_eq name (codes "continued")) (bytes_eq name (codes "exited") || (bytes_eq name (codes "terminated") || false)) h) [
-      inl e ↦ by (codes "continued") e refl
-    | inr h ↦ elim (or-either (bytes_eq name (codes "exited")) (bytes_eq name (codes "terminated") || false) h) [
-        inl e ↦ by (codes "exited") e refl
-      | inr h ↦ by (codes "terminated") (or-false (bytes_eq name (codes "terminated")) h) refl
+      | inl e ↦ by (codes "continued") e refl
+      | inr h ↦ elim (or-either (bytes_eq name (codes "exited")) (bytes_eq name (codes "terminated") || false) h) [
+        | inl e ↦ by (codes "exited") e refl
+        | inr h ↦ by (codes "terminated") (or-false (bytes_eq name (codes "terminated")) h) refl
       ]
     ]
   where
@@ -212,8 +212,8 @@ response-known : (b : Bool) (number seq q : ℕ) (ok : Bool) (name : List ℕ) (
 response-known true number seq q ok name message body p known e h = cc
 response-known false number seq q ok name message body p known e h =
     elim (either-member p known (small_given (small.Response (ask_of q name) ok) (references_seen (references_given_if ok (command_named name) body))) h) [
-      inl k ↦ inl (k, quiet-response ok name e)
-    | inr g ↦ inr (given-line number seq q ok (code (class_if (command_named name)) == 10) name message body p g)
+      | inl k ↦ inl (k, quiet-response ok name e)
+      | inr g ↦ inr (given-line number seq q ok (code (class_if (command_named name)) == 10) name message body p g)
     ]
 
 event-known : (b : Bool) (number seq : ℕ) (name : List ℕ) (body : Option Data) (p : ReferenceKind × ℕ) (known : List Ref) → is_resumption (small.Event (kind_if (signal_named name))) ≡ b
@@ -247,10 +247,10 @@ known-open p known (l ∷ ls) h =
     let ns : List Note = notes_of l.side l.message.seq l.message.kind in
     let rest : is_member same_ref (known_after (known_after known ns) (dialogue ls)) (reference_seen p) ≡ true = subst (λ (k : List Ref). is_member same_ref k (reference_seen p) ≡ true) (known-append known ns (dialogue ls)) h in
     elim (known-open p (known_after known ns) ls rest) [
-      inr o ↦ inr (open-still p l ls o)
-    | inl m ↦ elim (line-known p known l.number l.side l.message.seq l.message.kind m.0) [
-        inl k ↦ inl (k.0, rw (k.1, m.1) refl)
-      | inr g ↦ inr (open-now p l ls g m.1)
+      | inr o ↦ inr (open-still p l ls o)
+      | inl m ↦ elim (line-known p known l.number l.side l.message.seq l.message.kind m.0) [
+        | inl k ↦ inl (k.0, rw (k.1, m.1) refl)
+        | inr g ↦ inr (open-now p l ls g m.1)
       ]
     ]
 

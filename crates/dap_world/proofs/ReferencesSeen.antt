@@ -131,9 +131,10 @@ or-last false b e = e
 
 pub are-live : (refs : LiveReferences) (ps : List (ReferenceKind × ℕ)) → IsWithin (references_seen ps) (live_refs (table_of refs)) → AreLive refs ps
 are-live refs [] h = tt
-are-live refs (p ∷ ps) h =
-    (sym (live-member refs p) ∙ h (reference_seen p) (or-then (same_ref (reference_seen p) (reference_seen p)) (is_member same_ref (references_seen ps) (reference_seen p)) (seen-self p)),
-    are-live refs ps (λ x e. h x (or-last (same_ref x (reference_seen p)) (is_member same_ref (references_seen ps) x) e)))
+are-live refs (p ∷ ps) h = (
+  sym (live-member refs p) ∙ h (reference_seen p) (or-then (same_ref (reference_seen p) (reference_seen p)) (is_member same_ref (references_seen ps) (reference_seen p)) (seen-self p)),
+  are-live refs ps (λ x e. h x (or-last (same_ref x (reference_seen p)) (is_member same_ref (references_seen ps) x) e)),
+)
 
 -- ---- what is known
 
