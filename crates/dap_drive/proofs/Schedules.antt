@@ -9,7 +9,7 @@ use Rattle.dap_client.specs.declared.fault.ClientFault.TheVariants.{ReferenceLim
 use Rattle.dap_world.specs.References.{ReferencesAgreeWhileStopsLast, EachTranscriptIsLegalWhileStopsLast}
 use Rattle.dap_world.specs.World.{World, Schedule, starts as begins_so, goes, by_sending, by_answering, by_coming_up, by_coming_down, by_turning, by_polling}
 use Rattle.dap_world.proofs.LastingSchedules.{lasting}
-use Rattle.dap_drive.specs.Driven.{Drives, StopsAt, Stops, ClientStops, LacksNumberAt}
+use Rattle.dap_drive.specs.Driven.{Drives, StopsAt, Stops, ClientStops, LacksNumberOnLine}
 use Rattle.dap_drive.specs.Orders.{Delivers, none, one_up, one_down, DoesTurn, idle, handles, RunsTo, begins, handled, idles, polled, Does, Ran, starts, skips, does, Reaches, in_send, in_answer, before_turn, in_turn, before_poll, in_poll, in_run, in_run_turn, in_run_poll}
 use Rattle.dap_drive.specs.Transcript.{IsLegalText}
 use Rattle.dap_drive.specs.declared.fault.DriveFault.TheVariants as fault
@@ -68,7 +68,7 @@ module _ {D : Type 0} (shown : D → Shown) (follows : Goes D) (limits : Setting
       let there = lasting shown follows limits debuggee c.now stops (reached o w c.now _ s c.reaches) in
       (agree limits debuggee c.now r there).client c.has.0 c.has.1 ReferenceLimit c.has.2 c.has.3
 
-  pub only-numbers : AreInRange limits → ReferencesAgreeWhileStopsLast shown follows → StopsLast shown follows → (texts : List (List ℕ)) → Stops shown follows limits debuggee texts fault.Client → StopsAt shown follows limits debuggee texts LacksNumberAt
+  pub only-numbers : AreInRange limits → ReferencesAgreeWhileStopsLast shown follows → StopsLast shown follows → (texts : List (List ℕ)) → Stops shown follows limits debuggee texts fault.Client → StopsAt shown follows limits debuggee texts LacksNumberOnLine
   only-numbers r agree stops texts s = record {
     before = s.before;
     text = s.text;

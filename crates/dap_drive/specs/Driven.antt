@@ -31,7 +31,7 @@ pub record Drives {D : Type 0} (shown : D → Shown) (follows : Goes D) (limits 
   pub ran : Ran shown follows limits debuggee texts world
   pub schedule : Schedule shown follows limits debuggee world
   pub transcript_is : transcript ≡ text_of world.said
-  -- what the checker reads of it keeps each rule but the one on references
+  -- what the checker reads of it keeps the six other rules; whether that on references is kept is said by `legal`
   pub read : IsReadAs transcript world.said
 
 -- ---- faults
@@ -82,8 +82,8 @@ SaysOf shown follows Client number text w = (o : Order) × (order_of text ≡ Ok
 SaysOf shown follows OutOfMemory number text w = Unit {0}
 
 -- the client is asked for an answer and has no own number left for it
-abbrev pub LacksNumberAt : {D : Type 0} → ℕ → List ℕ → World D → Type 0
-LacksNumberAt number text w = (o : Order) × (order_of text ≡ Ok o) × LacksNumberToAnswer o w
+abbrev pub LacksNumberOnLine : {D : Type 0} → ℕ → List ℕ → World D → Type 0
+LacksNumberOnLine number text w = (o : Order) × (order_of text ≡ Ok o) × LacksNumberToAnswer o w
 
 -- also before the first line
 abbrev pub Stops : {D : Type 0} → (D → Shown) → Goes D → Settings → D → List (List ℕ) → DriveFault → Type 0
@@ -100,5 +100,5 @@ DrivesRecording limits bytes texts transcript = (r : TheRecording) × (verdict_o
 abbrev pub StopsOver : Settings → List ℕ → List (List ℕ) → DriveFault → Type 0
 StopsOver limits bytes texts Recording = (f : RecordingFault) × (verdict_of (json_of bytes) ≡ Err f)
 StopsOver limits bytes texts OutOfMemory = Unit {0}
-StopsOver limits bytes texts Client = (r : TheRecording) × (verdict_of (json_of bytes) ≡ Ok r) × StopsAt shown_of FollowsPlayed limits (fresh_played r) texts LacksNumberAt
+StopsOver limits bytes texts Client = (r : TheRecording) × (verdict_of (json_of bytes) ≡ Ok r) × StopsAt shown_of FollowsPlayed limits (fresh_played r) texts LacksNumberOnLine
 StopsOver limits bytes texts fault = (r : TheRecording) × (verdict_of (json_of bytes) ≡ Ok r) × Stops shown_of FollowsPlayed limits (fresh_played r) texts fault

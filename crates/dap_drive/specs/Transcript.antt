@@ -24,7 +24,7 @@ line_of side body = mark_of side ++ body ++ 10 ∷ []
 abbrev pub text_of : List Said → List ℕ
 text_of said = flat_map (λ m. line_of m.side (canon m.message)) said
 
--- what the checker reads of a transcript is what was written, and it keeps each rule but the one on references
+-- what the checker reads of a transcript is what was written, and it keeps the six rules that are not on references (for that one see `legal`)
 pub record IsReadAs (transcript : List ℕ) (said : List Said) : Type 0 where
   pub all : List Line
   pub are : AreLines 1 (lines transcript) all

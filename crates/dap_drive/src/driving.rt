@@ -5,7 +5,7 @@ ghost use Rattle.dap_debuggee.specs.Laws.{StopsLast};
 ghost use Rattle.dap_debuggee.specs.declared.answers.State.{State};
 ghost use Rattle.dap_frame.specs.Intake.{IsUnderWay};
 ghost use Rattle.dap_frame.specs.Settings.{Settings};
-ghost use Rattle.dap_drive.specs.Driven.{Drives, Stops, StopsAt, LacksNumberAt, SaysOf, DrivesRecording, StopsOver};
+ghost use Rattle.dap_drive.specs.Driven.{Drives, Stops, StopsAt, LacksNumberOnLine, SaysOf, DrivesRecording, StopsOver};
 ghost use Rattle.dap_drive.specs.PrivateHeld.{driven_by, both_of, IsQuiet, HasDone, DoesLine, HasRun};
 ghost use Rattle.dap_drive.specs.Transcript.{IsLegalText};
 ghost use Rattle.dap_world.specs.World.{World};
@@ -100,7 +100,7 @@ fn do_line<D: Debuggee + Drop>(
 ///
 /// # Errors
 /// Those of [`drive`] but `Recording`; and `Client` where the next message would give the client more references than it may
-/// know, which comes only where the debuggee goes on or ends by itself while it is stopped. There is no transcript then.
+/// know, which comes only of a debuggee that may go on or end by itself while it is stopped. There is no transcript then.
 pub fn drive_debuggee<D: Debuggee + Drop>(
     alloc: Global,
     debuggee: D,
@@ -113,7 +113,7 @@ pub fn drive_debuggee<D: Debuggee + Drop>(
 
     // Of a debuggee whose stops last the transcript is legal, and the client never has too many references.
     ensures legal { StopsLast D.shown D.follows → IfOk result (λ transcript. IsLegalText transcript.items) }
-    ensures numbers { StopsLast D.shown D.follows → IfErr result (λ fault. fault ≡ DriveFault.Client → StopsAt D.shown D.follows limits debuggee (lines script.now) LacksNumberAt) }
+    ensures numbers { StopsLast D.shown D.follows → IfErr result (λ fault. fault ≡ DriveFault.Client → StopsAt D.shown D.follows limits debuggee (lines script.now) LacksNumberOnLine) }
 {
     // Laws for the proof: both ends agree, and a message is one line of the transcript.
     each_schedule_agrees::<D>();

@@ -117,31 +117,35 @@ parts P (x ∷ xs) ys h = let p = parts P xs ys h.1 in ((h.0, p.0), p.1)
 both_read : (limit : _) (said : List Said) (side : Side) (ms : List Message) → AllReadBack limit (messages_of (said ++ said_by side ms)) → AllReadBack limit (messages_of said) × AllReadBack limit ms
 both_read limit said side ms h = parts (ReadsBack limit) (messages_of said) ms (subst (λ (z : List Message). AllReadBack limit z) (messages-more said side ms) h)
 
-module _ {D : Type 0} (shown : D → Shown) (replies : Replies D) (limits : Settings) (d : D) where
+module _ {D : Type 0} (shown : D → Shown) (follows : Goes D) (replies : Replies D) (limits : Settings) (d : D) where
   -- where all that was said is read back, a schedule leads there
-  abbrev pub Leads : World D → Type 0
-  Leads w = AllReadBack limits.body (messages_of w.said) → Schedule shown (FollowsBy replies) limits d w
+  abbrev pub LeadsBy : World D → Type 0
+  LeadsBy w = AllReadBack limits.body (messages_of w.said) → Schedule shown follows limits d w
 
-  pub sends : (c : Call) (w : World D) → IsTrue (is_plain_call c) → first_of refusals_in_order c false w.client ≡ None → w.client.limits ≡ limits → Leads w → Leads (sent c w)
-  sends c w plain free same s = λ h.
+  -- the debuggee goes on as this plan asks, by what it replies
+  abbrev pub GoesOn : Plan → D → Type 0
+  GoesOn plan v = CarriedOut follows plan v (made_by replies plan v) (left_by replies plan v)
+
+  pub sends_by : (c : Call) (w : World D) → IsTrue (is_plain_call c) → first_of refusals_in_order c false w.client ≡ None → w.client.limits ≡ limits → LeadsBy w → LeadsBy (sent c w)
+  sends_by c w plain free same s = λ h.
       let p = both_read limits.body w.said Client (next_message w.client c ∷ []) h in
       goes w (sent c w) (s p.0) (by_sending c (record { plain = plain; free = free; reads_back = subst (λ (z : Settings). ReadsBack z.body (next_message w.client c)) (sym same) p.1.0; is = refl }))
 
-  pub answers : (q : ℕ) (terminal : Terminal) (w : World D) → IsTrue (is_plain_terminal terminal) → first_terminal_refusal q false w.client ≡ None → w.client.limits ≡ limits → Leads w → Leads (answered q terminal w)
-  answers q terminal w plain free same s = λ h.
+  pub answers_by : (q : ℕ) (terminal : Terminal) (w : World D) → IsTrue (is_plain_terminal terminal) → first_terminal_refusal q false w.client ≡ None → w.client.limits ≡ limits → LeadsBy w → LeadsBy (answered q terminal w)
+  answers_by q terminal w plain free same s = λ h.
       let p = both_read limits.body w.said Client (next_terminal_response w.client q terminal ∷ []) h in
       goes w (answered q terminal w) (s p.0) (by_answering q terminal (record { plain = plain; free = free; reads_back = subst (λ (z : Settings). ReadsBack z.body (next_terminal_response w.client q terminal)) (sym same) p.1.0; is = refl }))
 
-  abbrev step_so : (plan : Plan) (w left : World D) → AllReadBack w.adapter.session.limits.body (out_of replies plan w) → AdapterStep (FollowsBy replies) plan w left (adapter_said (seat_after replies plan w) (out_of replies plan w) left)
-  step_so plan w left back = record {
+  abbrev step_by : (plan : Plan) (w left : World D) → GoesOn plan w.adapter.debuggee → AllReadBack w.adapter.session.limits.body (out_of replies plan w) → AdapterStep follows plan w left (adapter_said (seat_after replies plan w) (out_of replies plan w) left)
+  step_by plan w left on back = record {
     seat = seat_after replies plan w;
-    session = record { made = made_by replies plan w.adapter.debuggee; carried = carried replies plan w.adapter.debuggee; after = refl };
+    session = record { made = made_by replies plan w.adapter.debuggee; carried = on; after = refl };
     reads_back = back;
     is = refl;
   }
 
-  pub comes_up : (w : World D) (m : Message) (later : List Message) (plan : Plan) → w.up ≡ m ∷ later → takes m w.adapter.session ≡ Ok plan → w.adapter.session.limits ≡ limits → Leads w → Leads (up replies w)
-  comes_up w m later plan first taken same s = rw (first, taken) (λ h.
+  pub comes_up_by : (w : World D) (m : Message) (later : List Message) (plan : Plan) → w.up ≡ m ∷ later → takes m w.adapter.session ≡ Ok plan → GoesOn plan w.adapter.debuggee → w.adapter.session.limits ≡ limits → LeadsBy w → LeadsBy (up replies w)
+  comes_up_by w m later plan first taken on same s = rw (first, taken) (λ h.
       let p = both_read limits.body w.said Adapter (out_of replies plan w) h in
       goes w (spoke replies plan (record w { up = later })) (s p.0) (by_coming_up (record {
         message = m;
@@ -149,11 +153,11 @@ module _ {D : Type 0} (shown : D → Shown) (replies : Replies D) (limits : Sett
         first = first;
         plan = plan;
         taken = taken;
-        step = step_so plan w (record w { up = later }) (subst (λ (z : Settings). AllReadBack z.body (out_of replies plan w)) (sym same) p.1);
+        step = step_by plan w (record w { up = later }) on (subst (λ (z : Settings). AllReadBack z.body (out_of replies plan w)) (sym same) p.1);
       })))
 
-  pub comes_down : (w : World D) (m : Message) (later : List Message) (made : ClientMade) → w.down ≡ m ∷ later → client_takes m w.client ≡ Ok made → w.client.limits ≡ limits → Leads w → Leads (down w)
-  comes_down w m later made first taken same s = rw (first, taken) (λ h.
+  pub comes_down_by : (w : World D) (m : Message) (later : List Message) (made : ClientMade) → w.down ≡ m ∷ later → client_takes m w.client ≡ Ok made → w.client.limits ≡ limits → LeadsBy w → LeadsBy (down w)
+  comes_down_by w m later made first taken same s = rw (first, taken) (λ h.
       let p = both_read limits.body w.said Client made.written h in
       goes w (client_said made.after made.written (record w { down = later })) (s p.0) (by_coming_down (record {
         message = m;
@@ -165,20 +169,43 @@ module _ {D : Type 0} (shown : D → Shown) (replies : Replies D) (limits : Sett
         is = refl;
       })))
 
-  pub turns_once : (w : World D) (plan : Plan) → turns (shown w.adapter.debuggee) w.adapter.session ≡ Ok (Some plan) → w.adapter.session.limits ≡ limits → Leads w → Leads (turned shown replies w)
-  turns_once w plan is same s = rw is (λ h.
+  pub turns_once_by : (w : World D) (plan : Plan) → turns (shown w.adapter.debuggee) w.adapter.session ≡ Ok (Some plan) → GoesOn plan w.adapter.debuggee → w.adapter.session.limits ≡ limits → LeadsBy w → LeadsBy (turned shown replies w)
+  turns_once_by w plan is on same s = rw is (λ h.
       let p = both_read limits.body w.said Adapter (out_of replies plan w) h in
       goes w (spoke replies plan w) (s p.0) (by_turning (record {
         plan = plan;
         turned = is;
-        step = step_so plan w w (subst (λ (z : Settings). AllReadBack z.body (out_of replies plan w)) (sym same) p.1);
+        step = step_by plan w w on (subst (λ (z : Settings). AllReadBack z.body (out_of replies plan w)) (sym same) p.1);
       })))
 
-  pub polls_once : (w : World D) → (seat_after replies (polls w.adapter.session) w).session.used ≤ w.adapter.session.limits.seq → w.adapter.session.limits ≡ limits → Leads w → Leads (polled replies w)
-  polls_once w within same s = λ h.
+  pub polls_once_by : (w : World D) → GoesOn (polls w.adapter.session) w.adapter.debuggee → (seat_after replies (polls w.adapter.session) w).session.used ≤ w.adapter.session.limits.seq → w.adapter.session.limits ≡ limits → LeadsBy w → LeadsBy (polled replies w)
+  polls_once_by w on within same s = λ h.
       let plan = polls w.adapter.session in
       let p = both_read limits.body w.said Adapter (out_of replies plan w) h in
       goes w (spoke replies plan w) (s p.0) (by_polling (record {
-        step = step_so plan w w (subst (λ (z : Settings). AllReadBack z.body (out_of replies plan w)) (sym same) p.1);
+        step = step_by plan w w on (subst (λ (z : Settings). AllReadBack z.body (out_of replies plan w)) (sym same) p.1);
         within = within;
       }))
+
+-- of a debuggee that goes on just by what it replies
+module _ {D : Type 0} (shown : D → Shown) (replies : Replies D) (limits : Settings) (d : D) where
+  abbrev pub Leads : World D → Type 0
+  Leads w = LeadsBy shown (FollowsBy replies) replies limits d w
+
+  pub sends : (c : Call) (w : World D) → IsTrue (is_plain_call c) → first_of refusals_in_order c false w.client ≡ None → w.client.limits ≡ limits → Leads w → Leads (sent c w)
+  sends = sends_by shown (FollowsBy replies) replies limits d
+
+  pub answers : (q : ℕ) (terminal : Terminal) (w : World D) → IsTrue (is_plain_terminal terminal) → first_terminal_refusal q false w.client ≡ None → w.client.limits ≡ limits → Leads w → Leads (answered q terminal w)
+  answers = answers_by shown (FollowsBy replies) replies limits d
+
+  pub comes_up : (w : World D) (m : Message) (later : List Message) (plan : Plan) → w.up ≡ m ∷ later → takes m w.adapter.session ≡ Ok plan → w.adapter.session.limits ≡ limits → Leads w → Leads (up replies w)
+  comes_up w m later plan first taken = comes_up_by shown (FollowsBy replies) replies limits d w m later plan first taken (carried replies plan w.adapter.debuggee)
+
+  pub comes_down : (w : World D) (m : Message) (later : List Message) (made : ClientMade) → w.down ≡ m ∷ later → client_takes m w.client ≡ Ok made → w.client.limits ≡ limits → Leads w → Leads (down w)
+  comes_down = comes_down_by shown (FollowsBy replies) replies limits d
+
+  pub turns_once : (w : World D) (plan : Plan) → turns (shown w.adapter.debuggee) w.adapter.session ≡ Ok (Some plan) → w.adapter.session.limits ≡ limits → Leads w → Leads (turned shown replies w)
+  turns_once w plan is = turns_once_by shown (FollowsBy replies) replies limits d w plan is (carried replies plan w.adapter.debuggee)
+
+  pub polls_once : (w : World D) → (seat_after replies (polls w.adapter.session) w).session.used ≤ w.adapter.session.limits.seq → w.adapter.session.limits ≡ limits → Leads w → Leads (polled replies w)
+  polls_once w = polls_once_by shown (FollowsBy replies) replies limits d w (carried replies (polls w.adapter.session) w.adapter.debuggee)

@@ -41,6 +41,7 @@ use Rattle.dap_world.proofs.ClientSeen.{MeetsLimit, client-limit-seen}
 use Rattle.dap_world.proofs.ClientStepping.{given_then, down-first, down-comes, request-kept}
 use Rattle.dap_world.proofs.Legality.{each-transcript-keeps-rules}
 use Rattle.dap_world.proofs.GateStepping.{GateAt, AllGated, gate-at, schedule-gated}
+use Rattle.dap_world.proofs.NeverStale.{never-stale}
 use Rattle.dap_world.proofs.ReferenceRule.{IsAskedSo, keeps-reference}
 use Rattle.dap_world.proofs.ReferencesSeen.{are-live}
 use Rattle.dap_world.proofs.Standing.{IsOwnKind, AllUp, AllOwn, Stands}
@@ -132,11 +133,13 @@ references-agree {D} laws states shown follows answers moves limits debuggee w r
     let g : StandsStill shown limits debuggee w = schedule-still shown follows answers moves laws states limits debuggee w r s in
     let p : Pair = pair_of w g.stands.given g.stands.by in
     let live : NamesLive (client_world p) (small_asks (all_kept w.adapter.session.kept) ++ requests_in (requests_up (notes_seen w.up))) = all-names-live limits.requests limits.references (client_world p) g.keeps.refs in
+    let kept : AllByRecursion (λ k. AreLive w.adapter.session.references (references_used_by_request k.entry)) w.adapter.session.kept = kept-live limits w g.stands w.adapter.session.kept g.stands.kept (names-left (client_world p) (small_asks (all_kept w.adapter.session.kept)) (requests_in (requests_up (notes_seen w.up))) live) in
     record {
       live = record {
-        kept = kept-live limits w g.stands w.adapter.session.kept g.stands.kept (names-left (client_world p) (small_asks (all_kept w.adapter.session.kept)) (requests_in (requests_up (notes_seen w.up))) live);
+        kept = kept;
         up = up-live limits w g.stands w.up g.stands.up (names-right (client_world p) (small_asks (all_kept w.adapter.session.kept)) (requests_in (requests_up (notes_seen w.up))) live);
       };
+      fresh = never-stale (shown w.adapter.debuggee) w.adapter.session w.adapter.session.kept kept;
       client = λ m later f e t. client-fault laws shown limits debuggee w g r m.seq m.kind later f e t;
       given = λ lines e earlier line later d.
           let gated = schedule-gated laws shown (LastingStops shown follows) limits debuggee w r s in

@@ -1,6 +1,6 @@
 -- What holds of references in every schedule in which a stop lasts until the debuggee is asked to go on or to end.
 -- Overview, "Lifetime of Objects References".
-use Rattle.std.specs.Prelude.{◌≡◌, List, ◌∷◌, false, Err}
+use Rattle.std.specs.Prelude.{◌≡◌, List, ◌∷◌, false, Some, Err}
 use Rattle.std.specs.List.{AllByRecursion}
 use Rattle.dap_frame.specs.Settings.{Settings, AreInRange}
 use Rattle.dap_check.specs.Legal.{IsLegal}
@@ -10,10 +10,11 @@ use Rattle.dap_client.specs.Taking.{takes as client_takes}
 use Rattle.dap_client.specs.declared.fault.ClientFault.{ClientFault}
 use Rattle.dap_debuggee.specs.Laws.{ends_a_stop}
 use Rattle.dap_debuggee.specs.Shown.{Shown}
+use Rattle.dap_message.specs.Types.Failure.TheVariants.{StaleReference}
 use Rattle.dap_message.specs.declared.message.Message.{Message}
 use Rattle.dap_session.specs.Carried.{Goes}
+use Rattle.dap_session.specs.Failures.{refusal}
 use Rattle.dap_session.specs.GivenLaws.{AreLive}
-use Rattle.dap_tables.specs.References.{LiveReferences}
 use Rattle.dap_world.specs.MessageReferences.{references_used_by_request, references_used_by_kind}
 use Rattle.dap_world.specs.Transcripts.{said_of, Keeps}
 use Rattle.dap_world.specs.World.{World, Schedule}
@@ -27,13 +28,15 @@ LastingStops shown follows old act reply new = follows old act reply new × (end
 -- ---- the law
 
 -- of the client's requests that are kept by the adapter, and of those under way to it
-pub record AllUseLive {D : Type 0} (refs : LiveReferences) (w : World D) : Type 0 where
-  pub kept : AllByRecursion (λ k. AreLive refs (references_used_by_request k.entry)) w.adapter.session.kept
-  pub up : AllByRecursion (λ m. AreLive refs (references_used_by_kind m.kind)) w.up
+pub record AllUseLive {D : Type 0} (w : World D) : Type 0 where
+  pub kept : AllByRecursion (λ k. AreLive w.adapter.session.references (references_used_by_request k.entry)) w.adapter.session.kept
+  pub up : AllByRecursion (λ m. AreLive w.adapter.session.references (references_used_by_kind m.kind)) w.up
 
-pub record ReferencesAgree {D : Type 0} (w : World D) : Type 0 where
+pub record ReferencesAgree {D : Type 0} (shown : D → Shown) (w : World D) : Type 0 where
   -- from its sending until its answer all that a request uses is live at the adapter, in its kind
-  pub live : AllUseLive w.adapter.session.references w
+  pub live : AllUseLive w
+  -- the adapter's own test finds none of what it keeps stale
+  pub fresh : AllByRecursion (λ k. refusal (shown w.adapter.debuggee) w.adapter.session k.entry ≡ Some StaleReference → ⊥) w.adapter.session.kept
   -- the client never meets its limit of references, nor any other fault
   pub client : (m : Message) (later : List Message) (f : ClientFault) → w.down ≡ m ∷ later → client_takes m w.client ≡ Err f → ⊥
   -- in what both have written each reference was given, in its kind, since the debuggee last went on or ended
@@ -41,7 +44,7 @@ pub record ReferencesAgree {D : Type 0} (w : World D) : Type 0 where
 
 -- with equal limits, in their ranges
 abbrev pub ReferencesAgreeWhileStopsLast : {D : Type 0} → (D → Shown) → Goes D → Type 0
-ReferencesAgreeWhileStopsLast {D} shown follows = (limits : Settings) (debuggee : D) (w : World D) → AreInRange limits → Schedule shown (LastingStops shown follows) limits debuggee w → ReferencesAgree w
+ReferencesAgreeWhileStopsLast {D} shown follows = (limits : Settings) (debuggee : D) (w : World D) → AreInRange limits → Schedule shown (LastingStops shown follows) limits debuggee w → ReferencesAgree shown w
 
 -- then no line of what both have written breaks a rule
 abbrev pub EachTranscriptIsLegalWhileStopsLast : {D : Type 0} → (D → Shown) → Goes D → Type 0

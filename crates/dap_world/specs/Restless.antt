@@ -1,22 +1,68 @@
--- A debuggee that does whatever its state allows, and so goes on by itself while it is stopped: for it the law on references fails.
-use Rattle.std.specs.Prelude.{◌≡◌, [], ◌∷◌, Some, None, codes, pos, IsTrue}
+-- A debuggee that may go on by itself while it is stopped, and keeps every law of a debuggee: for it the law on references fails.
+use Rattle.std.specs.Prelude.{◌≡◌, ℕ, ◌+◌, ◌%◌, ◌^◌, Bool, true, false, ◌&&◌, List, [], ◌∷◌, Option, Some, None, Err, codes, pos, IsTrue, if◌then◌else◌}
+use Rattle.std.specs.Ordering.{int_eq}
+use Rattle.dap_message.specs.Types.SourceKey.{SourceKey}
 use Rattle.dap_frame.specs.Settings.{Settings, AreInRange}
-use Rattle.dap_debuggee.specs.Laws.{may_answer, state_after, Answers, Moves}
-use Rattle.dap_debuggee.specs.Shown.{Shown}
+use Rattle.dap_debuggee.specs.Laws.{Follows, is_short, may_answer, state_after, lines_after, Counts, Remembers, Answers, Moves, SetsLines, SetsValues, KeepsAnswers, KeepsFrames, KeepsSources, NoThreads, VerifiesEach, AssignsVariables, ThreadsInRange, FramesInRange, NamesOneFrame, SourcesInRange}
+use Rattle.dap_debuggee.specs.Shown.{Shown, Act, to_assign, to_poll, Reply, happened, Last, asked_of_act}
 use Rattle.dap_debuggee.specs.declared.answers.State.{State}
-use Rattle.dap_session.specs.Carried.{Goes}
-use Rattle.dap_world.specs.References.{AllUseLive}
+use Rattle.dap_debuggee.specs.declared.answers.State.TheVariants.{NotStarted, Running, Stopped, Gone}
+use Rattle.dap_debuggee.specs.declared.answers.Thread.{Thread}
+use Rattle.dap_message.specs.Types.Failure.TheVariants.{StaleReference}
+use Rattle.dap_message.specs.declared.message.Message.{Message}
+use Rattle.dap_client.specs.Taking.{takes}
+use Rattle.dap_client.specs.declared.fault.ClientFault.TheVariants.{ReferenceLimit}
+use Rattle.dap_session.specs.Failures.{refusal}
+use Rattle.dap_session.specs.GivenLaws.{AreLive}
+use Rattle.dap_session.specs.Session.{oldest}
+use Rattle.dap_tables.specs.Outstanding.{Kept}
+use Rattle.dap_world.specs.MessageReferences.{references_used_by_request}
 use Rattle.dap_world.specs.World.{World, Schedule}
 
--- one thread with one frame
-abbrev pub restless_shown : State → Shown
-restless_shown state = record {
-  state = state;
-  lines = λ source. [];
-  acts = 0;
-  last = None;
-  threads = record { id = pos 1; name = codes "main" } ∷ [];
-  frames = λ thread. Some (record { object = 0; name = codes "main"; source = 0; line = 1 } ∷ []);
+-- ---- what the trait `Debuggee` says of steps and of views
+
+pub record KeepsLaws {View : Type 0} (shown : View → Shown) (follows : Follows View) : Type 0 where
+  pub counts : Counts shown follows
+  pub remembers : Remembers shown follows
+  pub answers : Answers shown follows
+  pub moves : Moves shown follows
+  pub sets_lines : SetsLines shown follows
+  pub sets_values : SetsValues shown follows
+  pub keeps_answers : KeepsAnswers shown follows
+  pub keeps_frames : KeepsFrames shown follows
+  pub keeps_sources : KeepsSources shown follows
+  pub no_threads : NoThreads shown
+  pub verifies_each : VerifiesEach shown
+  pub assigns_variables : AssignsVariables shown
+  pub short : (v w : View) (h : _) → follows v to_poll (happened h) w → IsTrue (is_short h)
+  pub threads_in_range : (v : View) → ThreadsInRange (shown v)
+  pub frames_in_range : (v : View) → FramesInRange (shown v)
+  pub one_name : (v : View) → NamesOneFrame (shown v)
+  pub sources_in_range : (v : View) → SourcesInRange (shown v)
+
+-- ---- the debuggee
+
+pub record Restless : Type 0 where
+  pub state : State
+  pub lines : SourceKey → List ℕ
+  pub acts : ℕ
+  pub last : Option Last
+
+abbrev pub threads_in : State → List Thread
+threads_in NotStarted = []
+threads_in Running = record { id = pos 1; name = codes "main" } ∷ []
+threads_in Stopped = record { id = pos 1; name = codes "main" } ∷ []
+threads_in Gone = []
+
+-- one thread with one frame, and nothing in it
+abbrev pub restless_shown : Restless → Shown
+restless_shown v = record {
+  state = v.state;
+  lines = v.lines;
+  acts = v.acts;
+  last = v.last;
+  threads = threads_in v.state;
+  frames = λ thread. if int_eq thread (pos 1) then Some (record { object = 0; name = codes "main"; source = 0; line = 1 } ∷ []) else None;
   scopes = λ frame. None;
   children = λ holder. None;
   evaluate = λ frame text. None;
@@ -26,17 +72,50 @@ restless_shown state = record {
   verify = λ source lines. None;
 }
 
--- each reply that may be given may come
-abbrev pub RestlessFollows : Goes State
-RestlessFollows old act reply new = IsTrue (may_answer old act reply) × (new ≡ state_after old act reply)
+-- it has no variable that could be set, and tells short texts
+abbrev pub is_possible : Act → Reply → Bool
+is_possible (to_assign holder name text) reply = false
+is_possible act (happened h) = is_short h
+is_possible act reply = true
 
--- it keeps the laws of its states, and a schedule leads to where a request under way uses what is dead
+abbrev pub restless_after : Restless → Act → Reply → Restless
+restless_after v act reply = record {
+  state = state_after v.state act reply;
+  lines = lines_after act v.lines;
+  acts = (v.acts + 1) % 2 ^ 64;
+  last = Some (record { asked = asked_of_act act; reply = reply });
+}
+
+-- each reply that its state allows may come
+abbrev pub RestlessFollows : Follows Restless
+RestlessFollows old act reply new = IsTrue (may_answer old.state act reply && is_possible act reply) × (new ≡ restless_after old act reply)
+
+-- ---- the law
+
+-- a schedule leads to where the adapter refuses as stale what our client sent
+pub record IsFoundStale (limits : Settings) (first : Restless) : Type 0 where
+  pub world : World Restless
+  pub schedule : Schedule restless_shown RestlessFollows limits first world
+  -- the request that is answered next: a reference that it uses is dead
+  pub request : Kept
+  pub is_next : oldest world.adapter.session.kept ≡ Some request
+  pub dead : AreLive world.adapter.session.references (references_used_by_request request.entry) → ⊥
+  pub stale : refusal (restless_shown world.adapter.debuggee) world.adapter.session request.entry ≡ Some StaleReference
+
+-- a schedule leads to where the message that comes next closes our client, which still knows a reference that is dead
+pub record MeetsItsLimit (limits : Settings) (first : Restless) : Type 0 where
+  pub world : World Restless
+  pub schedule : Schedule restless_shown RestlessFollows limits first world
+  pub message : Message
+  pub later : List Message
+  pub comes : world.down ≡ message ∷ later
+  pub full : takes message world.client ≡ Err ReferenceLimit
+
 pub record PremiseIsNeeded : Type 0 where
-  pub answers : Answers restless_shown RestlessFollows
-  pub moves : Moves restless_shown RestlessFollows
+  pub laws : KeepsLaws restless_shown RestlessFollows
   pub limits : Settings
   pub in_range : AreInRange limits
-  pub first : State
-  pub world : World State
-  pub schedule : Schedule restless_shown RestlessFollows limits first world
-  pub dead : AllUseLive world.adapter.session.references world → ⊥
+  pub first : Restless
+  pub not_started : first.state ≡ NotStarted
+  pub stale : IsFoundStale limits first
+  pub full : MeetsItsLimit limits first
