@@ -125,10 +125,7 @@ fn serve(rt: &HostRuntime, matches: &ArgMatches<'_>) -> u8 {
         Ok(recording) => recording,
         Err(fault) => return tell(rt, &fault),
     };
-    let mut pipe = Pipe {
-        reader: rt.reader(),
-        writer: io::writer(rt),
-    };
+    let mut pipe = Pipe::new(rt.reader(), io::writer(rt));
     match dap_adapter::serve(rt.alloc(), &mut pipe, recording, limits, most_reads()) {
         Ok(served) if served.end == End::Truncated => tell(rt, &ToolFault::Truncated),
         Ok(_) => 0,

@@ -38,6 +38,16 @@ pub struct Pipe<R, W> {
     pub writer: W,
 }
 
+impl<R, W> Pipe<R, W> {
+    /// The two as one channel.
+    pub fn new(reader: R, writer: W) -> Pipe<R, W>
+        ensures reads { result.reader ≡ reader }
+        ensures writes { result.writer ≡ writer }
+    {
+        Pipe { reader, writer }
+    }
+}
+
 impl<R: Read, W: Write> Channel for Pipe<R, W> {
     ghost goes = { λ p e q. Pipes (R.remaining p.reader) (W.contents p.writer) e (R.remaining q.reader) (W.contents q.writer) };
 

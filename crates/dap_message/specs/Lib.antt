@@ -37,6 +37,7 @@ pub mod OneLine
 pub mod SoundMessage
 pub mod Laws
 pub mod MessageParts
+pub mod Parts
 pub mod Lengths
 pub use Rattle.dap_body.specs.PlainBodies
 pub use Rattle.dap_body.specs.GivenNumbers

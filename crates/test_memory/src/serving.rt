@@ -134,13 +134,13 @@ fn is_answered(end: Result<Served, ServeFault>, written: &[u8], answers: &[u8]) 
 fn serves(alloc: Global, debuggee: Recorded, session: &[u8], answers: &[u8]) -> Option<bool>
     requires { debuggee.state ≡ State.NotStarted }
 {
-    let mut pipe = Pipe {
-        reader: Whole { rest: session },
-        writer: Kept {
+    let mut pipe = Pipe::new(
+        Whole { rest: session },
+        Kept {
             bytes: [0; 4096],
             len: 0,
         },
-    };
+    );
     let end = serve(alloc, &mut pipe, debuggee, Limits::usual(), 10);
     is_answered(end, pipe.writer.written(), answers)
 }

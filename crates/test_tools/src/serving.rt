@@ -70,17 +70,17 @@ pub(crate) fn end_of<W: Write>(
 
 /// Serves a stream to the recorded run, on terms.
 fn served(alloc: Global, limits: Limits, input: &[u8], terms: Terms) -> Option<Outcome> {
-    let mut pipe = Pipe {
-        reader: Pieces {
+    let mut pipe = Pipe::new(
+        Pieces {
             rest: input,
             size: terms.size.max(1),
             calls_left: terms.calls_left,
         },
-        writer: Short {
+        Short {
             room: terms.room,
             held: Vec::new(alloc),
         },
-    };
+    );
     let end = end_of(alloc, &mut pipe, limits, terms.max_reads)?;
     let Pipe { reader, writer } = pipe;
     let Short { room: _, held } = writer;

@@ -375,18 +375,18 @@ fn flushed(
     whole: &Stream,
     flushes_left: usize,
 ) -> Option<(Result<Served, ServeFault>, usize, usize)> {
-    let mut pipe = Pipe {
-        reader: Pieces {
+    let mut pipe = Pipe::new(
+        Pieces {
             rest: &whole.input,
             size: 4096,
             calls_left: 100,
         },
-        writer: Flushed {
+        Flushed {
             held: Vec::new(alloc),
             flushes: 0,
             flushes_left,
         },
-    };
+    );
     let end = end_of(alloc, &mut pipe, Limits::usual(), 100)?;
     if !whole.answers.starts_with(&pipe.writer.held) {
         return None;
@@ -424,14 +424,14 @@ fn flushes(rt: HostRuntime) -> Result<(), Fail> {
 }
 
 fn is_stuck(alloc: Global, whole: &Stream) -> bool {
-    let mut pipe = Pipe {
-        reader: Pieces {
+    let mut pipe = Pipe::new(
+        Pieces {
             rest: &whole.input,
             size: 4096,
             calls_left: 100,
         },
-        writer: Stuck,
-    };
+        Stuck,
+    );
     let end = end_of(alloc, &mut pipe, Limits::usual(), 100);
     end == Some(Err(ServeFault::Write { written: 0 }))
 }

@@ -63,6 +63,77 @@ fn limits_in_order(rt: HostRuntime) {
     }
 }
 
+/// The seven limits, one after the other.
+fn all_of(limits: &Limits) -> [u64; 7] {
+    [
+        limits.get(LimitFault::Header),
+        limits.get(LimitFault::Body),
+        limits.get(LimitFault::Requests),
+        limits.get(LimitFault::References),
+        limits.get(LimitFault::Breakpoints),
+        limits.get(LimitFault::Seq),
+        limits.get(LimitFault::Reference),
+    ]
+}
+
+/// The usual limits but for one, or which is out of its range.
+fn usual_with(limit: LimitFault, value: u64) -> Result<[u64; 7], LimitFault> {
+    match Limits::usual().with(limit, value) {
+        Ok(limits) => Ok(all_of(&limits)),
+        Err(fault) => Err(fault),
+    }
+}
+
+const S: u64 = 9007199254740991;
+
+static SET: [(LimitFault, u64, Result<[u64; 7], LimitFault>); 10] = [
+    (
+        LimitFault::Header,
+        33,
+        Ok([33, 4194304, 64, 65536, 4096, S, 2147483647]),
+    ),
+    (
+        LimitFault::Body,
+        65536,
+        Ok([8192, 65536, 64, 65536, 4096, S, 2147483647]),
+    ),
+    (
+        LimitFault::Requests,
+        3,
+        Ok([8192, 4194304, 3, 65536, 4096, S, 2147483647]),
+    ),
+    (
+        LimitFault::References,
+        4,
+        Ok([8192, 4194304, 64, 4, 4096, S, 2147483647]),
+    ),
+    (
+        LimitFault::Breakpoints,
+        5,
+        Ok([8192, 4194304, 64, 65536, 5, S, 2147483647]),
+    ),
+    (
+        LimitFault::Seq,
+        6,
+        Ok([8192, 4194304, 64, 65536, 4096, 6, 2147483647]),
+    ),
+    (
+        LimitFault::Reference,
+        7,
+        Ok([8192, 4194304, 64, 65536, 4096, S, 7]),
+    ),
+    (LimitFault::Body, 1023, Err(LimitFault::Body)),
+    (LimitFault::Header, 65537, Err(LimitFault::Header)),
+    (LimitFault::Seq, 0, Err(LimitFault::Seq)),
+];
+
+#[test]
+fn sets_one_limit(rt: HostRuntime) {
+    for (place, (limit, value, wanted)) in SET.iter().enumerate() {
+        check(&rt, usual_with(*limit, *value) == *wanted, place);
+    }
+}
+
 #[test]
 fn usual_limits(rt: HostRuntime) {
     let usual = Limits::usual();
