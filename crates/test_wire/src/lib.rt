@@ -27,3 +27,5 @@ mod readers;
 mod streams;
 #[cfg(test)]
 mod trees;
+#[cfg(test)]
+mod views;

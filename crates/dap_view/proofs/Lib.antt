@@ -1,0 +1,4 @@
+pub mod Offered
+pub mod ReadAgain
+pub mod EachLemmas
+mod ViewExamples
