@@ -18,6 +18,7 @@ use dap_json::{ParseFault, parse};
 use dap_message::{BodyFault, read_message};
 use dap_tables::Seq;
 use dap_tool::{ToolFault, status};
+use dap_view::{evaluate, set_variable, source};
 use serde_json::Value;
 use std::alloc::{AllocError, Global};
 use std::test::Fail;
@@ -46,6 +47,8 @@ enum Deed {
     /// Seven limits, and the first that is out of its range.
     Limits([u64; 7], Option<LimitFault>),
     UsualLimits,
+    /// A limit that is set among the usual ones, and which is refused then.
+    SetsLimit(LimitFault, u64, Option<LimitFault>),
     Status(ToolFault, u8),
     /// A name, the command of that name, and its gate.
     Named(&'static str, Option<(Command, Option<Gate>)>),
@@ -54,6 +57,14 @@ enum Deed {
     /// Whether the call with these arguments is plain.
     PlainCall(Command, &'static str, bool),
     PlainMessage(&'static str, bool),
+    /// A message, whether it is the response to this request, and whether it is an event.
+    Lends(&'static str, u64, bool, bool),
+    /// The body of `evaluate`, its result and its number.
+    Evaluates(&'static str, &'static str, u32),
+    /// The body of `setVariable`, and the value.
+    SetsVariable(&'static str, &'static str),
+    /// The body of `source`, and the text.
+    GivesSource(&'static str, &'static str),
     /// Whether what a body offers allows a command.
     Offers(&'static str, Command, bool),
     /// The same, once it is changed by an object.
@@ -72,10 +83,12 @@ enum Deed {
     RefusesToSet(u64, &'static str),
 }
 
-static DEEDS: [Deed; 30] = [
+static DEEDS: [Deed; 38] = [
     Deed::Limits([32, 1024, 2, 1, 1, 1, 1], None),
     Deed::Limits([32, 1023, 1, 1, 1, 1, 1], Some(LimitFault::Body)),
     Deed::UsualLimits,
+    Deed::SetsLimit(LimitFault::Body, 65536, None),
+    Deed::SetsLimit(LimitFault::Body, 1023, Some(LimitFault::Body)),
     Deed::Status(ToolFault::Truncated, 4),
     Deed::Status(ToolFault::OutOfMemory, 6),
     Deed::Named("threads", Some((Command::Threads, None))),
@@ -97,6 +110,22 @@ static DEEDS: [Deed; 30] = [
         r#"{"seq":1,"type":"request","command":"threads","arguments":{"a":[1.5]}}"#,
         false,
     ),
+    Deed::Lends(
+        r#"{"seq":1,"type":"response","request_seq":3,"success":false,"command":"next","message":"m","body":{"a":1}}"#,
+        3,
+        true,
+        false,
+    ),
+    Deed::Lends(
+        r#"{"seq":3,"type":"event","event":"e","body":{"a":1}}"#,
+        3,
+        false,
+        true,
+    ),
+    Deed::Evaluates(r#"{"result":"7","variablesReference":4}"#, "7", 4),
+    Deed::SetsVariable(r#"{"value":"9"}"#, "9"),
+    Deed::GivesSource(r#"{"content":"ret"}"#, "ret"),
+    Deed::GivesSource(r#"{"content":""}"#, ""),
     Deed::Offers(r#"{"supportsStepBack":true}"#, Command::StepBack, true),
     Deed::Offers(r#"{"supportsStepBack":true}"#, Command::Terminate, false),
     Deed::Changes(
@@ -177,6 +206,13 @@ fn usual_limits_are_usual() -> bool {
     (usual.header(), usual.body(), usual.requests()) == (8192, 4194304, 64)
 }
 
+fn sets_limit(limit: LimitFault, value: u64, fault: Option<LimitFault>) -> bool {
+    match Limits::usual().with(limit, value) {
+        Ok(limits) => fault.is_none() && limits.get(limit) == value,
+        Err(found) => fault == Some(found),
+    }
+}
+
 fn is_named(name: &str, wanted: Option<(Command, Option<Gate>)>) -> bool {
     match Command::of_name(name) {
         Some(command) => wanted == Some((command, command.gate())) && command.name() == name,
@@ -232,6 +268,27 @@ fn is_plain_message(alloc: Global, body: &str, plain: bool) -> Option<bool> {
     }
 }
 
+fn lends_parts(alloc: Global, body: &str, seq: u64, response: bool, event: bool) -> Option<bool> {
+    match read_message(alloc, body.as_bytes()) {
+        Ok(message) => {
+            let lends = (
+                message.response_to(seq).is_some(),
+                message.event().is_some(),
+            );
+            drop(message);
+            Some(lends == (response, event))
+        }
+        Err(fault) => refused(fault == BodyFault::OutOfMemory),
+    }
+}
+
+fn evaluates(tree: &Value, text: &str, reference: u32) -> bool {
+    match evaluate(tree) {
+        Ok(found) => found.result == text && found.variables_reference == reference,
+        Err(_) => false,
+    }
+}
+
 fn offers(tree: &Value, command: Command, wanted: bool) -> bool {
     Capabilities::read(Some(tree)).allows(command) == wanted
 }
@@ -280,6 +337,9 @@ fn gives_holders(command: Command, tree: &Value, wanted: &[u32]) -> bool {
 fn does_with_tree(alloc: Global, deed: Deed, tree: &Value) -> Option<bool> {
     match deed {
         Deed::PlainCall(command, _, plain) => is_plain_call_of(alloc, command, tree, plain),
+        Deed::Evaluates(_, text, reference) => Some(evaluates(tree, text, reference)),
+        Deed::SetsVariable(_, value) => Some(set_variable(tree) == Ok(value)),
+        Deed::GivesSource(_, text) => Some(source(tree) == Ok(text)),
         Deed::Offers(_, command, wanted) => Some(offers(tree, command, wanted)),
         Deed::Changes(_, object, command, wanted) => changes(alloc, tree, object, command, wanted),
         Deed::FramesGiven(_, wanted) => Some(gives_frames(tree, wanted)),
@@ -514,11 +574,18 @@ fn is_done(alloc: Global, deed: Deed) -> Option<bool> {
     match deed {
         Deed::Limits(seven, fault) => Some(limits_are(seven, fault)),
         Deed::UsualLimits => Some(usual_limits_are_usual()),
+        Deed::SetsLimit(limit, value, fault) => Some(sets_limit(limit, value, fault)),
         Deed::Status(fault, wanted) => Some(status(&fault) == wanted),
         Deed::Named(name, wanted) => Some(is_named(name, wanted)),
         Deed::Numbers(greatest) => Some(counts_up_to(greatest)),
         Deed::PlainMessage(body, plain) => is_plain_message(alloc, body, plain),
+        Deed::Lends(body, seq, response, event) => {
+            lends_parts(alloc, body, seq, response, event)
+        }
         Deed::PlainCall(_, text, _)
+        | Deed::Evaluates(text, _, _)
+        | Deed::SetsVariable(text, _)
+        | Deed::GivesSource(text, _)
         | Deed::Offers(text, _, _)
         | Deed::Changes(text, _, _, _)
         | Deed::FramesGiven(text, _)

@@ -17,3 +17,5 @@ mod free;
 mod outcomes;
 #[cfg(test)]
 mod serving;
+#[cfg(test)]
+mod views;
