@@ -15,9 +15,9 @@ use Rattle.dap_body.specs.declared.response.StackFrame.{StackFrame}
 use Rattle.dap_body.specs.declared.response.Thread.{Thread}
 use Rattle.dap_body.specs.declared.response.Variable.{Variable}
 use Rattle.dap_view.specs.At.{Read}
-use Rattle.dap_view.specs.Elements.{thread_of, source_in, stack_frame_of, scope_of, variable_of, breakpoint_of, evaluated_of}
-use Rattle.dap_view.specs.Bodies.{each, threads_in, stack_frames_in, stack_trace_in, scopes_in, variables_in, breakpoints_in, sources_in, evaluated_in}
-use Rattle.dap_view.specs.ReadAgain.{thread_read, source_read, stack_frame_read, scope_read, variable_read, breakpoint_read, is_number, is_whole, is_thread, is_source, is_stack_frame, is_scope, is_variable, is_breakpoint, WhatIsWrittenIsReadAgain}
+use Rattle.dap_view.specs.Elements.{thread_of, source_in, stack_frame_of, scope_of, variable_of, breakpoint_of, evaluation_of}
+use Rattle.dap_view.specs.Bodies.{each, threads_in, stack_frames_in, stack_trace_in, scopes_in, variables_in, breakpoints_in, sources_in, evaluation_in}
+use Rattle.dap_view.specs.ReadAgain.{thread_read, source_read, stack_frame_read, scope_read, variable_read, breakpoint_read, is_number, is_whole, thread_fits, source_fits, stack_frame_fits, scope_fits, variable_fits, breakpoint_fits, WhatIsWrittenIsReadAgain}
 use Rattle.dap_view.proofs.Offered.{offered_again}
 
 -- ---- numbers
@@ -30,32 +30,32 @@ int_again (negsuc n) e = rw e
 
 -- ---- elements
 
-thread_again : (t : Thread) → is_thread t ≡ true → thread_of (thread t) ≡ Ok (thread_read t)
+thread_again : (t : Thread) → thread_fits t ≡ true → thread_of (thread t) ≡ Ok (thread_read t)
 unfolding thread_of
 thread_again t e = rw (int_again t.id e)
 
-source_again : (s : Source) (path : Option (List ℕ)) → s.path ≡ path → is_source s ≡ true → source_in (source s) ≡ Ok (source_read s)
+source_again : (s : Source) (path : Option (List ℕ)) → s.path ≡ path → source_fits s ≡ true → source_in (source s) ≡ Ok (source_read s)
 unfolding source_in
 source_again s None is e = rw (is, e)
 source_again s (Some path) is e = rw (is, e)
 
-stack_frame_again : (f : StackFrame) → is_stack_frame f ≡ true → stack_frame_of (stack_frame f) ≡ Ok (stack_frame_read f)
+stack_frame_again : (f : StackFrame) → stack_frame_fits f ≡ true → stack_frame_of (stack_frame f) ≡ Ok (stack_frame_read f)
 unfolding stack_frame_of
 stack_frame_again f e =
-    let halves = and_parts (is_number f.id && is_number f.line) (is_number f.column && is_source f.source) e in
+    let halves = and_parts (is_number f.id && is_number f.line) (is_number f.column && source_fits f.source) e in
     let front = and_parts (is_number f.id) (is_number f.line) halves.0 in
-    let back = and_parts (is_number f.column) (is_source f.source) halves.1 in
+    let back = and_parts (is_number f.column) (source_fits f.source) halves.1 in
     rw (front.0, front.1, back.0, source_again f.source f.source.path refl back.1)
 
-scope_again : (s : Scope) → is_scope s ≡ true → scope_of (scope s) ≡ Ok (scope_read s)
+scope_again : (s : Scope) → scope_fits s ≡ true → scope_of (scope s) ≡ Ok (scope_read s)
 unfolding scope_of
 scope_again s e = rw e
 
-variable_again : (v : Variable) → is_variable v ≡ true → variable_of (variable v) ≡ Ok (variable_read v)
+variable_again : (v : Variable) → variable_fits v ≡ true → variable_of (variable v) ≡ Ok (variable_read v)
 unfolding variable_of
 variable_again v e = rw e
 
-breakpoint_again : (b : Breakpoint) → is_breakpoint b ≡ true → breakpoint_of (breakpoint b) ≡ Ok (breakpoint_read b)
+breakpoint_again : (b : Breakpoint) → breakpoint_fits b ≡ true → breakpoint_of (breakpoint b) ≡ Ok (breakpoint_read b)
 unfolding breakpoint_of
 breakpoint_again b e = let p = and_parts (is_whole b.id) (is_number b.line) e in rw (p.0, p.1)
 
@@ -66,38 +66,38 @@ each_again : {A B : Type 0} (write : A → Data) (seen : A → B) (fits : A → 
 each_again write seen fits read h n [] e = refl
 each_again write seen fits read h n (x ∷ xs) e = let p = and_parts (fits x) (list_all fits xs) e in rw (h x p.0, each_again write seen fits read h (suc n) xs p.1)
 
-threads_again : (ts : List Thread) → list_all is_thread ts ≡ true → threads_in (threads_body ts) ≡ Ok (map thread_read ts)
+threads_again : (ts : List Thread) → list_all thread_fits ts ≡ true → threads_in (threads_body ts) ≡ Ok (map thread_read ts)
 unfolding threads_in
-threads_again ts e = each_again thread thread_read is_thread thread_of thread_again 0 ts e
+threads_again ts e = each_again thread thread_read thread_fits thread_of thread_again 0 ts e
 
-frames_again : (fs : List StackFrame) (total : ℕ) → list_all is_stack_frame fs ≡ true → stack_frames_in (stack_trace_body fs total) ≡ Ok (map stack_frame_read fs)
+frames_again : (fs : List StackFrame) (total : ℕ) → list_all stack_frame_fits fs ≡ true → stack_frames_in (stack_trace_body fs total) ≡ Ok (map stack_frame_read fs)
 unfolding stack_frames_in
-frames_again fs total e = each_again stack_frame stack_frame_read is_stack_frame stack_frame_of stack_frame_again 0 fs e
+frames_again fs total e = each_again stack_frame stack_frame_read stack_frame_fits stack_frame_of stack_frame_again 0 fs e
 
-stack_trace_again : (fs : List StackFrame) (total : ℕ) → list_all is_stack_frame fs ≡ true → is_whole total ≡ true
+stack_trace_again : (fs : List StackFrame) (total : ℕ) → list_all stack_frame_fits fs ≡ true → is_whole total ≡ true
     → stack_trace_in (stack_trace_body fs total) ≡ Ok (record { stack_frames = map stack_frame_read fs; total_frames = Some total })
 unfolding stack_trace_in
 stack_trace_again fs total e w = rw (frames_again fs total e, w)
 
-scopes_again : (ss : List Scope) → list_all is_scope ss ≡ true → scopes_in (scopes_body ss) ≡ Ok (map scope_read ss)
+scopes_again : (ss : List Scope) → list_all scope_fits ss ≡ true → scopes_in (scopes_body ss) ≡ Ok (map scope_read ss)
 unfolding scopes_in
-scopes_again ss e = each_again scope scope_read is_scope scope_of scope_again 0 ss e
+scopes_again ss e = each_again scope scope_read scope_fits scope_of scope_again 0 ss e
 
-variables_again : (vs : List Variable) → list_all is_variable vs ≡ true → variables_in (variables_body vs) ≡ Ok (map variable_read vs)
+variables_again : (vs : List Variable) → list_all variable_fits vs ≡ true → variables_in (variables_body vs) ≡ Ok (map variable_read vs)
 unfolding variables_in
-variables_again vs e = each_again variable variable_read is_variable variable_of variable_again 0 vs e
+variables_again vs e = each_again variable variable_read variable_fits variable_of variable_again 0 vs e
 
-breakpoints_again : (bs : List Breakpoint) → list_all is_breakpoint bs ≡ true → breakpoints_in (set_breakpoints_body bs) ≡ Ok (map breakpoint_read bs)
+breakpoints_again : (bs : List Breakpoint) → list_all breakpoint_fits bs ≡ true → breakpoints_in (set_breakpoints_body bs) ≡ Ok (map breakpoint_read bs)
 unfolding breakpoints_in
-breakpoints_again bs e = each_again breakpoint breakpoint_read is_breakpoint breakpoint_of breakpoint_again 0 bs e
+breakpoints_again bs e = each_again breakpoint breakpoint_read breakpoint_fits breakpoint_of breakpoint_again 0 bs e
 
-sources_again : (ss : List Source) → list_all is_source ss ≡ true → sources_in (loaded_sources_body ss) ≡ Ok (map source_read ss)
+sources_again : (ss : List Source) → list_all source_fits ss ≡ true → sources_in (loaded_sources_body ss) ≡ Ok (map source_read ss)
 unfolding sources_in
-sources_again ss e = each_again source source_read is_source source_in (λ s. source_again s s.path refl) 0 ss e
+sources_again ss e = each_again source source_read source_fits source_in (λ s. source_again s s.path refl) 0 ss e
 
-evaluated_again : (text : List ℕ) (reference : ℕ) → is_number reference ≡ true → evaluated_in (evaluate_body text reference) ≡ Ok (record { result = text; variables_reference = reference })
-unfolding evaluated_of
-evaluated_again text reference e = rw e
+evaluation_again : (text : List ℕ) (reference : ℕ) → is_number reference ≡ true → evaluation_in (evaluate_body text reference) ≡ Ok (record { result = text; variables_reference = reference })
+unfolding evaluation_of
+evaluation_again text reference e = rw e
 
 pub what_is_written_is_read_again : WhatIsWrittenIsReadAgain
 what_is_written_is_read_again (body.Initialize capabilities) = offered_again capabilities
@@ -106,7 +106,7 @@ what_is_written_is_read_again (body.StackTrace frames total) = stack_trace_again
 what_is_written_is_read_again (body.Scopes scopes) = scopes_again scopes.items
 what_is_written_is_read_again (body.Variables variables) = variables_again variables.items
 what_is_written_is_read_again (body.SetBreakpoints breakpoints) = breakpoints_again breakpoints.items
-what_is_written_is_read_again (body.Evaluate text reference) = evaluated_again text reference
+what_is_written_is_read_again (body.Evaluate text reference) = evaluation_again text reference
 what_is_written_is_read_again (body.SetVariable value) = refl
 what_is_written_is_read_again (body.Source content) = refl
 what_is_written_is_read_again body.Continue = tt

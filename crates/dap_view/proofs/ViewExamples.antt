@@ -3,8 +3,8 @@ use Rattle.std.proofs.Common.{◌≡◌, [], ◌∷◌, codes, true, false, Some
 use Rattle.std.specs.Str.{is_utf8, chars}
 use Rattle.serde_json.proofs.OnLiterals.{serde_json_on_literals}
 use Rattle.dap_json.specs.Read.{json_of}
-use Rattle.dap_view.specs.Elements.{thread_of, source_in, stack_frame_of, scope_of, variable_of, breakpoint_of, evaluated_of}
-use Rattle.dap_view.specs.Bodies.{threads_in, stack_trace_in, stack_frames_in, scopes_in, variables_in, breakpoints_in, sources_in, evaluated_in, value_in, content_in}
+use Rattle.dap_view.specs.Elements.{thread_of, source_in, stack_frame_of, scope_of, variable_of, breakpoint_of, evaluation_of}
+use Rattle.dap_view.specs.Bodies.{threads_in, stack_trace_in, stack_frames_in, scopes_in, variables_in, breakpoints_in, sources_in, evaluation_in, value_in, content_in}
 use Rattle.dap_view.specs.declared.key.BodyKey.TheVariants as key
 use Rattle.dap_view.specs.declared.fault.ViewFault.TheVariants.{Body, Element}
 
@@ -57,9 +57,9 @@ unfolding breakpoints_in breakpoint_of json_of is_utf8 chars serde_json_on_liter
 breakpoint_that_is_not_set = refl
 
 -- Ruby's debug 1.4
-result_of_rdbg : option_map evaluated_in (json_of (codes "{\"type\":\"NameError\",\"variablesReference\":7,\"result\":\"#<NameError>\"}"))
+result_of_rdbg : option_map evaluation_in (json_of (codes "{\"type\":\"NameError\",\"variablesReference\":7,\"result\":\"#<NameError>\"}"))
     ≡ Some (Ok (record { result = codes "#<NameError>"; variables_reference = 7 }))
-unfolding evaluated_of json_of is_utf8 chars serde_json_on_literals
+unfolding evaluation_of json_of is_utf8 chars serde_json_on_literals
 result_of_rdbg = refl
 
 -- Specification, "LoadedSourcesResponse"
@@ -101,9 +101,9 @@ unfolding variables_in variable_of json_of is_utf8 chars serde_json_on_literals
 second_element = refl
 
 -- 2147483648 is no reference
-reference_too_great : option_map evaluated_in (json_of (codes "{\"result\":\"\",\"variablesReference\":2147483648}"))
+reference_too_great : option_map evaluation_in (json_of (codes "{\"result\":\"\",\"variablesReference\":2147483648}"))
     ≡ Some (Err (Body key.VariablesReference))
-unfolding evaluated_of json_of is_utf8 chars serde_json_on_literals
+unfolding evaluation_of json_of is_utf8 chars serde_json_on_literals
 reference_too_great = refl
 
 -- a key that is required is absent

@@ -22,18 +22,18 @@ or_fault key None = Err key
 or_fault key (Some x) = Ok x
 
 -- the value at a key, which has to be there in this shape
-abbrev pub required : {A : Type 0} → (Data → Option A) → BodyKey → Data → Read A
-required shape key d = or_fault key (option_and_then shape (tree_at (text_of key) d))
+abbrev pub required_at : {A : Type 0} → (Data → Option A) → BodyKey → Data → Read A
+required_at shape key d = or_fault key (option_and_then shape (tree_at (text_of key) d))
 
 abbrev pub in_shape : {A : Type 0} → (Data → Option A) → BodyKey → Option Data → Read (Option A)
 in_shape shape key None = Ok None
 in_shape shape key (Some v) = or_fault key (option_map Some (shape v))
 
 -- the value at a key, which may be absent, but has this shape where it is there
-abbrev pub optional : {A : Type 0} → (Data → Option A) → BodyKey → Data → Read (Option A)
-optional shape key d = in_shape shape key (tree_at (text_of key) d)
+abbrev pub optional_at : {A : Type 0} → (Data → Option A) → BodyKey → Data → Read (Option A)
+optional_at shape key d = in_shape shape key (tree_at (text_of key) d)
 
 abbrev pub optional_or : {A : Type 0} → (Data → Option A) → A → BodyKey → Data → Read A
 optional_or shape default key d = do
-  found ← optional shape key d
+  found ← optional_at shape key d
   Ok (unwrap_or found default)

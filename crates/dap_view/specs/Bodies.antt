@@ -6,8 +6,8 @@ use Rattle.serde_json.specs.Data.{Data, Items, no_items, item}
 use Rattle.serde_json.specs.Find.{as_str, as_array}
 use Rattle.dap_json.specs.Steps.{◌>>=◌, Returns}
 use Rattle.dap_call.specs.Argument.{seq_of}
-use Rattle.dap_view.specs.At.{Read, required, optional}
-use Rattle.dap_view.specs.Elements.{ThreadParts, StackFrameParts, ScopeParts, VariableParts, BreakpointParts, SourceParts, EvaluatedParts, thread_of, stack_frame_of, scope_of, variable_of, breakpoint_of, source_in, evaluated_of}
+use Rattle.dap_view.specs.At.{Read, required_at, optional_at}
+use Rattle.dap_view.specs.Elements.{ThreadParts, StackFrameParts, ScopeParts, VariableParts, BreakpointParts, SourceParts, EvaluationParts, thread_of, stack_frame_of, scope_of, variable_of, breakpoint_of, source_in, evaluation_of}
 use Rattle.dap_view.specs.Lent.{stack_frame_parts}
 use Rattle.dap_view.specs.declared.key.BodyKey.TheVariants as key
 use Rattle.dap_view.specs.declared.fault.ViewFault.{ViewFault}
@@ -42,22 +42,22 @@ list_at read found = do
 -- ---- bodies
 
 unfoldable pub threads_in : Data → Viewed (List ThreadParts)
-threads_in body = list_at thread_of (required as_array key.Threads body)
+threads_in body = list_at thread_of (required_at as_array key.Threads body)
 
 unfoldable pub stack_frames_in : Data → Viewed (List StackFrameParts)
-stack_frames_in body = list_at stack_frame_of (required as_array key.StackFrames body)
+stack_frames_in body = list_at stack_frame_of (required_at as_array key.StackFrames body)
 
 unfoldable pub scopes_in : Data → Viewed (List ScopeParts)
-scopes_in body = list_at scope_of (required as_array key.Scopes body)
+scopes_in body = list_at scope_of (required_at as_array key.Scopes body)
 
 unfoldable pub variables_in : Data → Viewed (List VariableParts)
-variables_in body = list_at variable_of (required as_array key.Variables body)
+variables_in body = list_at variable_of (required_at as_array key.Variables body)
 
 unfoldable pub breakpoints_in : Data → Viewed (List BreakpointParts)
-breakpoints_in body = list_at breakpoint_of (required as_array key.Breakpoints body)
+breakpoints_in body = list_at breakpoint_of (required_at as_array key.Breakpoints body)
 
 unfoldable pub sources_in : Data → Viewed (List SourceParts)
-sources_in body = list_at source_in (required as_array key.Sources body)
+sources_in body = list_at source_in (required_at as_array key.Sources body)
 
 pub record StackTraceParts : Type 0 where
   pub stack_frames : List StackFrameParts
@@ -66,17 +66,17 @@ pub record StackTraceParts : Type 0 where
 unfoldable pub stack_trace_in : Data → Viewed StackTraceParts
 stack_trace_in body = do
   frames ← stack_frames_in body
-  total ← in_body (optional seq_of key.TotalFrames body)
+  total ← in_body (optional_at seq_of key.TotalFrames body)
   Ok (record { stack_frames = frames; total_frames = total })
 
-abbrev pub evaluated_in : Data → Viewed EvaluatedParts
-evaluated_in body = in_body (evaluated_of body)
+abbrev pub evaluation_in : Data → Viewed EvaluationParts
+evaluation_in body = in_body (evaluation_of body)
 
 abbrev pub value_in : Data → Viewed (List ℕ)
-value_in body = in_body (required as_str key.Value body)
+value_in body = in_body (required_at as_str key.Value body)
 
 abbrev pub content_in : Data → Viewed (List ℕ)
-content_in body = in_body (required as_str key.Content body)
+content_in body = in_body (required_at as_str key.Content body)
 
 -- ---- what a function gives of it
 

@@ -6,7 +6,7 @@ use Rattle.serde_json.specs.Data.{Data}
 use Rattle.serde_json.specs.Find.{as_str, as_bool}
 use Rattle.dap_json.specs.Steps.{◌>>=◌}
 use Rattle.dap_call.specs.Argument.{int_of, number_of, seq_of, object_of}
-use Rattle.dap_view.specs.At.{Read, or_fault, required, optional, optional_or}
+use Rattle.dap_view.specs.At.{Read, or_fault, required_at, optional_at, optional_or}
 use Rattle.dap_view.specs.declared.key.BodyKey.TheVariants as key
 
 -- ---- what is in each
@@ -43,7 +43,7 @@ pub record BreakpointParts : Type 0 where
   pub line : Option ℕ
   pub message : Option (List ℕ)
 
-pub record EvaluatedParts : Type 0 where
+pub record EvaluationParts : Type 0 where
   pub result : List ℕ
   pub variables_reference : ℕ
 
@@ -51,16 +51,16 @@ pub record EvaluatedParts : Type 0 where
 
 unfoldable pub thread_of : Data → Read ThreadParts
 thread_of d = do
-  id ← required int_of key.Id d
-  name ← required as_str key.Name d
+  id ← required_at int_of key.Id d
+  name ← required_at as_str key.Name d
   Ok (record { id = id; name = name })
 
 -- an object, or `source` is at fault
 unfoldable pub source_in : Data → Read SourceParts
 source_in d = do
   found ← or_fault key.Source (object_of d)
-  name ← optional as_str key.Name found
-  path ← optional as_str key.Path found
+  name ← optional_at as_str key.Name found
+  path ← optional_at as_str key.Path found
   reference ← optional_or number_of 0 key.SourceReference found
   Ok (record { name = name; path = path; source_reference = reference })
 
@@ -74,37 +74,37 @@ source_of d = ok_of (source_in d)
 
 unfoldable pub stack_frame_of : Data → Read StackFrameParts
 stack_frame_of d = do
-  id ← required number_of key.Id d
-  name ← required as_str key.Name d
-  line ← required number_of key.Line d
-  column ← required number_of key.Column d
-  source ← optional source_of key.Source d
+  id ← required_at number_of key.Id d
+  name ← required_at as_str key.Name d
+  line ← required_at number_of key.Line d
+  column ← required_at number_of key.Column d
+  source ← optional_at source_of key.Source d
   Ok (record { id = id; name = name; line = line; column = column; source = source })
 
 unfoldable pub scope_of : Data → Read ScopeParts
 scope_of d = do
-  name ← required as_str key.Name d
-  reference ← required number_of key.VariablesReference d
-  expensive ← required as_bool key.Expensive d
+  name ← required_at as_str key.Name d
+  reference ← required_at number_of key.VariablesReference d
+  expensive ← required_at as_bool key.Expensive d
   Ok (record { name = name; variables_reference = reference; expensive = expensive })
 
 unfoldable pub variable_of : Data → Read VariableParts
 variable_of d = do
-  name ← required as_str key.Name d
-  value ← required as_str key.Value d
-  reference ← required number_of key.VariablesReference d
+  name ← required_at as_str key.Name d
+  value ← required_at as_str key.Value d
+  reference ← required_at number_of key.VariablesReference d
   Ok (record { name = name; value = value; variables_reference = reference })
 
 unfoldable pub breakpoint_of : Data → Read BreakpointParts
 breakpoint_of d = do
-  id ← optional seq_of key.Id d
-  verified ← required as_bool key.Verified d
-  line ← optional number_of key.Line d
-  message ← optional as_str key.Message d
+  id ← optional_at seq_of key.Id d
+  verified ← required_at as_bool key.Verified d
+  line ← optional_at number_of key.Line d
+  message ← optional_at as_str key.Message d
   Ok (record { id = id; verified = verified; line = line; message = message })
 
-unfoldable pub evaluated_of : Data → Read EvaluatedParts
-evaluated_of d = do
-  text ← required as_str key.Result d
-  reference ← required number_of key.VariablesReference d
+unfoldable pub evaluation_of : Data → Read EvaluationParts
+evaluation_of d = do
+  text ← required_at as_str key.Result d
+  reference ← required_at number_of key.VariablesReference d
   Ok (record { result = text; variables_reference = reference })

@@ -1,13 +1,13 @@
 -- What is in the objects that are lent.
 use Rattle.std.specs.Prelude.{option_map}
-use Rattle.dap_view.specs.Elements.{ThreadParts, SourceParts, StackFrameParts, ScopeParts, VariableParts, BreakpointParts, EvaluatedParts}
+use Rattle.dap_view.specs.Elements.{ThreadParts, SourceParts, StackFrameParts, ScopeParts, VariableParts, BreakpointParts, EvaluationParts}
 use Rattle.dap_view.specs.declared.elements.Thread.{Thread}
 use Rattle.dap_view.specs.declared.elements.Source.{Source}
 use Rattle.dap_view.specs.declared.elements.StackFrame.{StackFrame}
 use Rattle.dap_view.specs.declared.elements.Scope.{Scope}
 use Rattle.dap_view.specs.declared.elements.Variable.{Variable}
 use Rattle.dap_view.specs.declared.elements.Breakpoint.{Breakpoint}
-use Rattle.dap_view.specs.declared.elements.Evaluated.{Evaluated}
+use Rattle.dap_view.specs.declared.elements.Evaluation.{Evaluation}
 
 abbrev pub thread_parts : Thread → ThreadParts
 thread_parts t = record { id = t.id; name = t.name.now }
@@ -27,5 +27,5 @@ variable_parts v = record { name = v.name.now; value = v.value.now; variables_re
 abbrev pub breakpoint_parts : Breakpoint → BreakpointParts
 breakpoint_parts b = record { id = b.id; verified = b.verified; line = b.line; message = option_map (λ text. text.now) b.message }
 
-abbrev pub evaluated_parts : Evaluated → EvaluatedParts
-evaluated_parts e = record { result = e.result.now; variables_reference = e.variables_reference }
+abbrev pub evaluation_parts : Evaluation → EvaluationParts
+evaluation_parts e = record { result = e.result.now; variables_reference = e.variables_reference }

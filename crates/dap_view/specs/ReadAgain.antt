@@ -15,7 +15,7 @@ use Rattle.dap_body.specs.declared.response.StackFrame.{StackFrame}
 use Rattle.dap_body.specs.declared.response.Thread.{Thread}
 use Rattle.dap_body.specs.declared.response.Variable.{Variable}
 use Rattle.dap_view.specs.Elements.{ThreadParts, SourceParts, StackFrameParts, ScopeParts, VariableParts, BreakpointParts}
-use Rattle.dap_view.specs.Bodies.{threads_in, stack_trace_in, scopes_in, variables_in, breakpoints_in, sources_in, evaluated_in, value_in, content_in}
+use Rattle.dap_view.specs.Bodies.{threads_in, stack_trace_in, scopes_in, variables_in, breakpoints_in, sources_in, evaluation_in, value_in, content_in}
 
 -- ---- what is written, as it is read
 
@@ -45,39 +45,39 @@ is_number n = nat_le n max_number
 abbrev pub is_whole : ℕ → Bool
 is_whole n = nat_le n max_seq
 
-abbrev pub is_thread : Thread → Bool
-is_thread t = is_int t.id
+abbrev pub thread_fits : Thread → Bool
+thread_fits t = is_int t.id
 
-abbrev pub is_source : Source → Bool
-is_source s = is_number s.source_reference
+abbrev pub source_fits : Source → Bool
+source_fits s = is_number s.source_reference
 
-abbrev pub is_stack_frame : StackFrame → Bool
-is_stack_frame f = (is_number f.id && is_number f.line) && (is_number f.column && is_source f.source)
+abbrev pub stack_frame_fits : StackFrame → Bool
+stack_frame_fits f = (is_number f.id && is_number f.line) && (is_number f.column && source_fits f.source)
 
-abbrev pub is_scope : Scope → Bool
-is_scope s = is_number s.variables_reference
+abbrev pub scope_fits : Scope → Bool
+scope_fits s = is_number s.variables_reference
 
-abbrev pub is_variable : Variable → Bool
-is_variable v = is_number v.variables_reference
+abbrev pub variable_fits : Variable → Bool
+variable_fits v = is_number v.variables_reference
 
-abbrev pub is_breakpoint : Breakpoint → Bool
-is_breakpoint b = is_whole b.id && is_number b.line
+abbrev pub breakpoint_fits : Breakpoint → Bool
+breakpoint_fits b = is_whole b.id && is_number b.line
 
 -- ---- the law, of each body that is read here
 
 abbrev pub IsReadAgain : Body → Type 0
 IsReadAgain (body.Initialize capabilities) = offered_by (Some (data_of (body.Initialize capabilities))) ≡ capabilities
-IsReadAgain (body.Threads threads) = list_all is_thread threads.items ≡ true → threads_in (data_of (body.Threads threads)) ≡ Ok (map thread_read threads.items)
-IsReadAgain (body.StackTrace frames total) = list_all is_stack_frame frames.items ≡ true → is_whole total ≡ true
+IsReadAgain (body.Threads threads) = list_all thread_fits threads.items ≡ true → threads_in (data_of (body.Threads threads)) ≡ Ok (map thread_read threads.items)
+IsReadAgain (body.StackTrace frames total) = list_all stack_frame_fits frames.items ≡ true → is_whole total ≡ true
     → stack_trace_in (data_of (body.StackTrace frames total)) ≡ Ok (record { stack_frames = map stack_frame_read frames.items; total_frames = Some total })
-IsReadAgain (body.Scopes scopes) = list_all is_scope scopes.items ≡ true → scopes_in (data_of (body.Scopes scopes)) ≡ Ok (map scope_read scopes.items)
-IsReadAgain (body.Variables variables) = list_all is_variable variables.items ≡ true → variables_in (data_of (body.Variables variables)) ≡ Ok (map variable_read variables.items)
-IsReadAgain (body.SetBreakpoints breakpoints) = list_all is_breakpoint breakpoints.items ≡ true → breakpoints_in (data_of (body.SetBreakpoints breakpoints)) ≡ Ok (map breakpoint_read breakpoints.items)
-IsReadAgain (body.Evaluate text reference) = is_number reference ≡ true → evaluated_in (data_of (body.Evaluate text reference)) ≡ Ok (record { result = text; variables_reference = reference })
+IsReadAgain (body.Scopes scopes) = list_all scope_fits scopes.items ≡ true → scopes_in (data_of (body.Scopes scopes)) ≡ Ok (map scope_read scopes.items)
+IsReadAgain (body.Variables variables) = list_all variable_fits variables.items ≡ true → variables_in (data_of (body.Variables variables)) ≡ Ok (map variable_read variables.items)
+IsReadAgain (body.SetBreakpoints breakpoints) = list_all breakpoint_fits breakpoints.items ≡ true → breakpoints_in (data_of (body.SetBreakpoints breakpoints)) ≡ Ok (map breakpoint_read breakpoints.items)
+IsReadAgain (body.Evaluate text reference) = is_number reference ≡ true → evaluation_in (data_of (body.Evaluate text reference)) ≡ Ok (record { result = text; variables_reference = reference })
 IsReadAgain (body.SetVariable value) = value_in (data_of (body.SetVariable value)) ≡ Ok value
 IsReadAgain (body.Source content) = content_in (data_of (body.Source content)) ≡ Ok content
 IsReadAgain body.Continue = Unit {0}
-IsReadAgain (body.LoadedSources sources) = list_all is_source sources.items ≡ true → sources_in (data_of (body.LoadedSources sources)) ≡ Ok (map source_read sources.items)
+IsReadAgain (body.LoadedSources sources) = list_all source_fits sources.items ≡ true → sources_in (data_of (body.LoadedSources sources)) ≡ Ok (map source_read sources.items)
 IsReadAgain (body.RunInTerminal process shell) = Unit {0}
 
 abbrev pub WhatIsWrittenIsReadAgain : Type 0

@@ -3,7 +3,7 @@ ghost use Rattle.std.specs.Prelude.{◌≡◌, option_map};
 ghost use Rattle.serde_json.specs.Find.{as_str, as_bool, as_array};
 ghost use Rattle.serde_json.specs.View.{view, items_view};
 ghost use Rattle.dap_call.specs.Argument.{int_of, number_of, seq_of, is_int as is_int_number};
-ghost use Rattle.dap_view.specs.At.{ok_map, required, optional, optional_or};
+ghost use Rattle.dap_view.specs.At.{ok_map, required_at, optional_at, optional_or};
 
 use crate::key::BodyKey;
 use dap_json::field;
@@ -45,14 +45,14 @@ fn whole(value: &Value) -> Option<u64>
 
 /// A whole number of -9007199254740991 to 9007199254740991.
 pub(crate) fn required_int(object: &Value, key: BodyKey) -> Result<i64, BodyKey>
-    ensures { result ≡ required int_of key (view object.now) }
+    ensures { result ≡ required_at int_of key (view object.now) }
 {
     field::present(object, key.name()).and_then(int).ok_or(key)
 }
 
 /// A whole number of 0 to 2147483647.
 pub(crate) fn required_number(object: &Value, key: BodyKey) -> Result<u32, BodyKey>
-    ensures { result ≡ required number_of key (view object.now) }
+    ensures { result ≡ required_at number_of key (view object.now) }
 {
     field::present(object, key.name())
         .and_then(number)
@@ -60,7 +60,7 @@ pub(crate) fn required_number(object: &Value, key: BodyKey) -> Result<u32, BodyK
 }
 
 pub(crate) fn required_text(object: &Value, key: BodyKey) -> Result<&str, BodyKey>
-    ensures { ok_map (λ text. text.now) result ≡ required as_str key (view object.now) }
+    ensures { ok_map (λ text. text.now) result ≡ required_at as_str key (view object.now) }
 {
     field::present(object, key.name())
         .and_then(Value::as_str)
@@ -68,7 +68,7 @@ pub(crate) fn required_text(object: &Value, key: BodyKey) -> Result<&str, BodyKe
 }
 
 pub(crate) fn required_flag(object: &Value, key: BodyKey) -> Result<bool, BodyKey>
-    ensures { result ≡ required as_bool key (view object.now) }
+    ensures { result ≡ required_at as_bool key (view object.now) }
 {
     field::present(object, key.name())
         .and_then(Value::as_bool)
@@ -77,7 +77,7 @@ pub(crate) fn required_flag(object: &Value, key: BodyKey) -> Result<bool, BodyKe
 
 /// The elements of an array.
 pub(crate) fn required_items(object: &Value, key: BodyKey) -> Result<&[Value], BodyKey>
-    ensures { ok_map (λ items. items_view items.now) result ≡ required as_array key (view object.now) }
+    ensures { ok_map (λ items. items_view items.now) result ≡ required_at as_array key (view object.now) }
 {
     match field::present(object, key.name()).and_then(Value::as_array) {
         None => Err(key),
@@ -86,7 +86,7 @@ pub(crate) fn required_items(object: &Value, key: BodyKey) -> Result<&[Value], B
 }
 
 pub(crate) fn optional_text(object: &Value, key: BodyKey) -> Result<Option<&str>, BodyKey>
-    ensures { ok_map (option_map (λ text. text.now)) result ≡ optional as_str key (view object.now) }
+    ensures { ok_map (option_map (λ text. text.now)) result ≡ optional_at as_str key (view object.now) }
 {
     match field::present(object, key.name()) {
         None => Ok(None),
@@ -95,7 +95,7 @@ pub(crate) fn optional_text(object: &Value, key: BodyKey) -> Result<Option<&str>
 }
 
 pub(crate) fn optional_number(object: &Value, key: BodyKey) -> Result<Option<u32>, BodyKey>
-    ensures { result ≡ optional number_of key (view object.now) }
+    ensures { result ≡ optional_at number_of key (view object.now) }
 {
     match field::present(object, key.name()) {
         None => Ok(None),
@@ -105,7 +105,7 @@ pub(crate) fn optional_number(object: &Value, key: BodyKey) -> Result<Option<u32
 
 /// A whole number of 0 to 9007199254740991, which may be absent.
 pub(crate) fn optional_whole(object: &Value, key: BodyKey) -> Result<Option<u64>, BodyKey>
-    ensures { result ≡ optional seq_of key (view object.now) }
+    ensures { result ≡ optional_at seq_of key (view object.now) }
 {
     match field::present(object, key.name()) {
         None => Ok(None),

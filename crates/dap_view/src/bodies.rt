@@ -2,11 +2,11 @@
 ghost use Rattle.std.specs.Prelude.{◌≡◌, map, [], ◌∷◌, ◌++◌, MatchResult};
 ghost use Rattle.serde_json.specs.View.{view};
 ghost use Rattle.dap_view.specs.At.{ok_map};
-ghost use Rattle.dap_view.specs.Bodies.{Gives, threads_in, stack_frames_in, stack_trace_in, scopes_in, variables_in, breakpoints_in, sources_in, evaluated_in, value_in, content_in, stack_trace_parts};
-ghost use Rattle.dap_view.specs.Lent.{thread_parts, source_parts, stack_frame_parts, scope_parts, variable_parts, breakpoint_parts, evaluated_parts};
+ghost use Rattle.dap_view.specs.Bodies.{Gives, threads_in, stack_frames_in, stack_trace_in, scopes_in, variables_in, breakpoints_in, sources_in, evaluation_in, value_in, content_in, stack_trace_parts};
+ghost use Rattle.dap_view.specs.Lent.{thread_parts, source_parts, stack_frame_parts, scope_parts, variable_parts, breakpoint_parts, evaluation_parts};
 
 use crate::at;
-use crate::elements::{Breakpoint, Evaluated, Scope, Source, StackFrame, Thread, Variable};
+use crate::elements::{Breakpoint, Evaluation, Scope, Source, StackFrame, Thread, Variable};
 use crate::fault::ViewFault;
 use crate::key::BodyKey;
 use serde_json::Value;
@@ -126,10 +126,10 @@ pub fn loaded_sources(alloc: Global, body: &Value) -> Result<Vec<Source<'_>>, Vi
 }
 
 /// What is in the body of a response to `evaluate`. It takes no memory.
-pub fn evaluate(body: &Value) -> Result<Evaluated<'_>, ViewFault>
-    ensures { ok_map evaluated_parts result ≡ evaluated_in (view body.now) }
+pub fn evaluate(body: &Value) -> Result<Evaluation<'_>, ViewFault>
+    ensures { ok_map evaluation_parts result ≡ evaluation_in (view body.now) }
 {
-    Ok(Evaluated::read(body)?)
+    Ok(Evaluation::read(body)?)
 }
 
 /// The value in the body of a response to `setVariable`. It takes no memory.

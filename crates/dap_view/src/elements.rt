@@ -4,9 +4,9 @@
 //! Lines and columns are as they came: whether they count from 0 or 1 is what `initialize` has said.
 ghost use Rattle.std.specs.Prelude.{◌≡◌, option_map};
 ghost use Rattle.serde_json.specs.View.{view};
-ghost use Rattle.dap_view.specs.At.{ok_map, optional};
-ghost use Rattle.dap_view.specs.Elements.{thread_of, source_in, source_of, stack_frame_of, scope_of, variable_of, breakpoint_of, evaluated_of};
-ghost use Rattle.dap_view.specs.Lent.{thread_parts, source_parts, stack_frame_parts, scope_parts, variable_parts, breakpoint_parts, evaluated_parts};
+ghost use Rattle.dap_view.specs.At.{ok_map, optional_at};
+ghost use Rattle.dap_view.specs.Elements.{thread_of, source_in, source_of, stack_frame_of, scope_of, variable_of, breakpoint_of, evaluation_of};
+ghost use Rattle.dap_view.specs.Lent.{thread_parts, source_parts, stack_frame_parts, scope_parts, variable_parts, breakpoint_parts, evaluation_parts};
 
 use crate::at;
 use crate::key::BodyKey;
@@ -77,7 +77,7 @@ pub struct Breakpoint<'v> {
 
 /// What an expression came to.
 #[derive(Clone, Copy, Debug, PartialEq, Eq, Drop)]
-pub struct Evaluated<'v> {
+pub struct Evaluation<'v> {
     pub result: &'v str,
     /// 0 to 2147483647. The number by which its parts are asked for, 0 where it has none.
     pub variables_reference: u32,
@@ -123,7 +123,7 @@ fn source_object(value: &Value) -> Option<Source<'_>>
 }
 
 fn optional_source(object: &Value) -> Result<Option<Source<'_>>, BodyKey>
-    ensures { ok_map (option_map source_parts) result ≡ optional source_of BodyKey.Source (view object.now) }
+    ensures { ok_map (option_map source_parts) result ≡ optional_at source_of BodyKey.Source (view object.now) }
 {
     match field::present(object, BodyKey::Source.name()) {
         None => Ok(None),
@@ -204,14 +204,14 @@ impl<'v> Breakpoint<'v> {
     }
 }
 
-impl<'v> Evaluated<'v> {
-    #[tactic(auto, unfolding(crate::specs::Elements::evaluated_of))]
-    pub(crate) fn read(object: &'v Value) -> Result<Evaluated<'v>, BodyKey>
-        ensures { ok_map evaluated_parts result ≡ evaluated_of (view object.now) }
+impl<'v> Evaluation<'v> {
+    #[tactic(auto, unfolding(crate::specs::Elements::evaluation_of))]
+    pub(crate) fn read(object: &'v Value) -> Result<Evaluation<'v>, BodyKey>
+        ensures { ok_map evaluation_parts result ≡ evaluation_of (view object.now) }
     {
         let text = at::required_text(object, BodyKey::Result)?;
         let variables_reference = at::required_number(object, BodyKey::VariablesReference)?;
-        Ok(Evaluated {
+        Ok(Evaluation {
             result: text,
             variables_reference,
         })

@@ -17,6 +17,6 @@ pub use bodies::{
     threads, variables,
 };
 pub use dap_call::Capabilities;
-pub use elements::{Breakpoint, Evaluated, Scope, Source, StackFrame, Thread, Variable};
+pub use elements::{Breakpoint, Evaluation, Scope, Source, StackFrame, Thread, Variable};
 pub use fault::ViewFault;
 pub use key::BodyKey;

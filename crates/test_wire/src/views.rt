@@ -55,7 +55,7 @@ static BODIES: [(Of, &str, &str); 17] = [
     (
         Of::Evaluate,
         r#"{"result":"0","type":"int","variablesReference":0}"#,
-        r#"Ok(Evaluated { result: "0", variables_reference: 0 })"#,
+        r#"Ok(Evaluation { result: "0", variables_reference: 0 })"#,
     ),
     // debugpy 1.6.6.
     (
