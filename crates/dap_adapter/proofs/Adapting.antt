@@ -3,7 +3,7 @@ use Rattle.std.proofs.Common.{◌≡◌, ℕ, ◌≤◌, List, [], ◌++◌, Opt
 use Rattle.std.proofs.lemmas.List.{append-nil}
 use Rattle.dap_frame.specs.Intake.{Intake}
 use Rattle.dap_frame.specs.Settings.{Settings, bounds_of}
-use Rattle.dap_history.specs.History.{Entry, Came, Went, ins_of}
+use Rattle.dap_history.specs.History.{Entry, Came, Went, ins_of, outs_of}
 use Rattle.dap_history.specs.HistoryLaws.{HistoriesGrow}
 use Rattle.dap_history.specs.Received.{Received}
 use Rattle.dap_message.specs.InRange.{ReadIsInRange}
@@ -67,6 +67,7 @@ stepped grow ranges laws follows plan old new bytes from to a b i fault limits c
       session = step;
       bytes_are = carries.tells.bytes_are;
       goes_on = goes;
+      went = λ h. grow.outs_append h (entries_of old.session.used step.made) ∙ ap (λ (ms : List Message). outs_of h ++ ms) (laws.all_go old.session.used step.made);
       reads_back = step-reads ranges old new [] [] step.made goes carries.tells.reads_back;
     }
 

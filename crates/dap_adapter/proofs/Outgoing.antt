@@ -19,7 +19,7 @@ use Rattle.dap_adapter.specs.declared.served.ServeFault.TheVariants.{Read, Write
 use Rattle.dap_adapter.specs.AdapterState.{AdapterState}
 use Rattle.dap_adapter.specs.Run.{Next}
 use Rattle.dap_adapter.specs.Served.{MakesSome, ReadsInTurn, AreSmall}
-use Rattle.dap_adapter.specs.PrivateServing.{Serving, Sink, Progress, Input, Place, input_of, FallsShort, Gathers, GathersNot, Logged, Handles, Reaches, Owes, Halts}
+use Rattle.dap_adapter.specs.PrivateServing.{Serving, Sink, Input, Place, FallsShort, Gathers, Logged, Handles, Halts}
 
 pub sent_gathers : {C : Type 0} (goes : C → IoEvent → C → Type 0) (s t : Sink C) (bytes all : List ℕ) → all ≡ s.gathered ++ bytes → Sends goes s.channel t.channel all → t.gathered ≡ [] → ((others : ℕ) → s.written ≡ saturating_count others → t.written ≡ saturating_count (others + length all)) → Gathers goes s bytes t
 sent_gathers goes s t bytes all is x none count =
@@ -80,7 +80,7 @@ Logged-gathered b laws s t i outs now bytes l x is =
     }
 
 -- nothing was gathered, written or flushed
-Logged-same : {C D : Type 0} (b : Serving C D) (s t : Sink C) (i : Input) (outs : List Message) → t.channel ≡ s.channel → t.gathered ≡ s.gathered → t.written ≡ s.written → Logged b s i outs → Logged b t i outs
+pub Logged-same : {C D : Type 0} (b : Serving C D) (s t : Sink C) (i : Input) (outs : List Message) → t.channel ≡ s.channel → t.gathered ≡ s.gathered → t.written ≡ s.written → Logged b s i outs → Logged b t i outs
 Logged-same b s t i outs channel gathered written l = record {
   log = l.log;
   ran = rw channel l.ran;
@@ -127,11 +127,7 @@ Logged-short b laws s t i outs now bytes (Adapter fault) l is makes f = absurd f
 Logged-short b laws s t i outs now bytes TooManyReads l is makes f = absurd f
 Logged-short b laws s t i outs now bytes OutOfMemory l is makes f = absurd f
 
--- ---- the bytes of a step
-
-pub Owes-gathered : {C D : Type 0} (b : Serving C D) (laws : CallsAddUp b.goes) (v : Progress C D) (t : Sink C) (p : Place) (next : Next) (bytes : List ℕ)
-    → Owes b v p next bytes → Gathers b.goes v.sink bytes t → Reaches b (record v { sink = t }) p next
-Owes-gathered b laws v t p next bytes o x = record { outs = o.outs ++ o.now; logged = Logged-gathered b laws v.sink t (input_of p) o.outs o.now bytes o.logged x o.bytes_are; handles = o.handles }
+-- ---- where a run stands
 
 pub bounds_are : {C D : Type 0} (b : Serving C D) (e : AdapterState D) (p : Place) (outs : List Message) (next : Next) → Handles b e p outs next → e.intake.bounds ≡ bounds_of b.start.limits
 bounds_are b e p outs next h = h.stands.bounds ∙ ap bounds_of h.limits_are
@@ -152,11 +148,3 @@ makes_of b e p outs next h =
       seat = record { session = e.session; debuggee = e.debuggee };
       there = record { split = split_of b e p outs next h; run = h.run };
     }
-
-pub Owes-short : {C D : Type 0} (b : Serving C D) (laws : CallsAddUp b.goes) (v : Progress C D) (t : Sink C) (p : Place) (next : Next) (bytes : List ℕ) (fault : ServeFault)
-    → Owes b v p next bytes → GathersNot b.goes v.sink bytes t fault → Halts b t (input_of p) fault
-Owes-short b laws v t p next bytes Read o x = absurd x
-Owes-short b laws v t p next bytes (Write count) o x = Logged-short b laws v.sink t (input_of p) o.outs o.now bytes (Write count) o.logged o.bytes_are (makes_of b v.end p (o.outs ++ o.now) next o.handles) x
-Owes-short b laws v t p next bytes (Adapter fault) o x = absurd x
-Owes-short b laws v t p next bytes TooManyReads o x = absurd x
-Owes-short b laws v t p next bytes OutOfMemory o x = record { outs = o.outs; logged = Logged-same b v.sink t (input_of p) o.outs x.0 x.1 x.2 o.logged; makes = o.makes }

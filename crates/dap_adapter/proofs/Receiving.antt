@@ -4,7 +4,7 @@ use Rattle.std.proofs.lemmas.List.{append-nil}
 use Rattle.dap_frame.specs.Feeds.{Completes, Gathers}
 use Rattle.dap_frame.specs.Intake.{Intake, IsUnderWay, StandsFor as StandsForStream}
 use Rattle.dap_frame.specs.Settings.{bounds_of}
-use Rattle.dap_history.specs.History.{In, ins_of}
+use Rattle.dap_history.specs.History.{In, ins_of, outs_of}
 use Rattle.dap_history.specs.HistoryLaws.{HistoriesGrow}
 use Rattle.dap_message.specs.InRange.{ReadIsInRange}
 use Rattle.dap_message.specs.Meaning.{Msg}
@@ -97,6 +97,7 @@ received grow ranges laws within follows old new from to piece taken (Some m) a 
         session = step;
         bytes_are = has.carries.tells.bytes_are;
         goes_on = goes;
+        went = λ h. grow.outs_append h (In m ∷ entries_of old.session.used step.made) ∙ ap (λ (ms : List Message). outs_of h ++ ms) (laws.all_go old.session.used step.made);
         reads_back = step-reads ranges old new (take taken.used piece) (In m ∷ []) step.made goes has.carries.tells.reads_back;
       };
     }

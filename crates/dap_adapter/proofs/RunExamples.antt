@@ -43,11 +43,11 @@ ended_is_over = refl
 
 module _ {D : Type 0} (shown : D → Shown) (follows : Goes D) (limits : Settings) (d : D) where
   -- no body came
-  nothing_came : Run shown follows (fresh_state limits d) [] [] to_take (fresh_state limits d)
+  nothing_came : Run shown follows to_take (fresh_state limits d) [] [] to_take (fresh_state limits d)
   nothing_came = begins
 
   -- an event is delivered, no request waits, and there is no debuggee to ask: nothing is written
-  event_came : (x : List ℕ) (seq : ℕ) (event : List ℕ) (body : Option Data) → Msg x (record { seq = seq; kind = Event event body }) → Run shown follows (fresh_state limits d) (x ∷ []) [] to_take (fresh_state limits d)
+  event_came : (x : List ℕ) (seq : ℕ) (event : List ℕ) (body : Option Data) → Msg x (record { seq = seq; kind = Event event body }) → Run shown follows to_take (fresh_state limits d) (x ∷ []) [] to_take (fresh_state limits d)
   event_came x seq event body is =
       let p = fresh_state limits d in
       let none = no_change (fresh_session limits) in

@@ -1,5 +1,6 @@
 -- A fault of the adapter stops the run where it stands.
-use Rattle.std.proofs.Common.{◌≡◌, ℕ, ◌+◌, List, [], ◌∷◌, ◌++◌, length, take, drop, Bool, true, false, Option, Some, None, Ok, Err, refl, sym, ◌∙◌, subst}
+use Rattle.std.proofs.Common.{◌≡◌, ℕ, ◌+◌, List, [], ◌∷◌, ◌++◌, length, take, drop, Bool, true, false, Option, Some, None, Ok, Err, refl, sym, ap, ◌∙◌, subst, append_assoc}
+use Rattle.std.proofs.lemmas.List.{take-append-drop}
 use Rattle.std.specs.Prelude.{if◌then◌else◌, nat_le}
 use Rattle.dap_frame.specs.Intake.{StartsAt, LastStartsAt}
 use Rattle.dap_frame.specs.Stream.{Split}
@@ -20,7 +21,9 @@ use Rattle.dap_adapter.specs.Run.{Next, to_take, to_turn, to_poll, has_ended}
 use Rattle.dap_adapter.specs.Served.{FrameRefused, BodyRefused as RunBodyRefused, IsRefused, in_take, in_turn, in_poll}
 use Rattle.dap_adapter.specs.PrivateServing.{Serving, Progress, Place, place_at, input_of, Reaches, Pends, Halts, serve_fault_of}
 use Rattle.dap_adapter.proofs.Outgoing.{makes_of, bounds_are, split_of}
-use Rattle.dap_adapter.proofs.Stepping.{halves}
+
+halves : (used piece : List ℕ) (k : ℕ) → used ++ piece ≡ (used ++ take k piece) ++ drop k piece
+halves used piece k = sym (append_assoc used (take k piece) (drop k piece) ∙ ap (λ z. used ++ z) (take-append-drop k piece))
 
 some_refused : (b : Bool) (p : Plan) (fault : AdapterFault) → some_plan (if b then Ok p else Err SeqExhausted) ≡ Err fault → SeqExhausted ≡ fault
 some_refused true p fault e = cc

@@ -3,7 +3,7 @@ use Rattle.std.specs.Prelude.{◌≡◌, ◌⊎◌, ℕ, ◌<◌, ◌≤◌, Lis
 use Rattle.dap_frame.specs.Feeds.{Gathers}
 use Rattle.dap_frame.specs.Intake.{Intake}
 use Rattle.dap_frame.specs.Settings.{Settings, bounds_of}
-use Rattle.dap_history.specs.History.{Entry, In}
+use Rattle.dap_history.specs.History.{Entry, In, outs_of}
 use Rattle.dap_history.specs.Pieces.{Whole, FrameClosed, BodyRefused}
 use Rattle.dap_message.specs.Meaning.{Msg}
 use Rattle.dap_message.specs.ReadBack.{AllReadBack}
@@ -31,6 +31,8 @@ pub record Step {D : Type 0} (follows : Goes D) (plan : Plan) (old new : Adapter
   pub session : SessionStep follows plan (state_of old) (state_of new)
   pub bytes_are : bytes ≡ bytes_of (written_by old.session session.made)
   pub goes_on : GoesOn old new used (came ++ entries_of old.session.used session.made)
+  -- its history lists what it wrote
+  pub went : (h : List Entry) → outs_of (h ++ (came ++ entries_of old.session.used session.made)) ≡ outs_of h ++ written_by old.session session.made
   pub reads_back : (s : List ℕ) (h : List Entry) → StandsFor old s h → AllReadBack old.session.limits.body (written_by old.session session.made)
 
 -- ---- take

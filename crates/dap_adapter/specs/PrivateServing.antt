@@ -1,5 +1,5 @@
 -- The code's words for serving: what is held between its steps. They serve private functions alone.
-use Rattle.std.specs.Prelude.{◌≡◌, ℕ, ◌+◌, ◌≤◌, ◌==◌, List, [], ◌++◌, length, take, drop, IsTrue, Bool, true, false, Result, Err, if◌then◌else◌}
+use Rattle.std.specs.Prelude.{◌≡◌, ◌≢◌, ◌⊎◌, ℕ, ◌+◌, ◌≤◌, ◌==◌, List, [], ◌++◌, length, take, IsTrue, Bool, true, false, Result, Err, None, if◌then◌else◌}
 use Rattle.dap_channel.specs.Channel.{IoEvent, Ran, bytes_read, bytes_written, reads, is_flushed, MayGoOn, HasWriteFailed}
 use Rattle.dap_channel.specs.Sent.{saturating_count, WritesShort}
 use Rattle.dap_frame.specs.Intake.{StandsFor as StandsForStream}
@@ -17,6 +17,7 @@ use Rattle.dap_adapter.specs.declared.served.ServeFault.TheVariants.{Read, Write
 use Rattle.dap_adapter.specs.AdapterState.{AdapterState}
 use Rattle.dap_adapter.specs.StandsFor.{StandsFor}
 use Rattle.dap_adapter.specs.Run.{Next, to_take, to_turn, to_poll, has_ended, fresh_state, Run}
+use Rattle.dap_adapter.specs.Parts.{RunsOn, CallMade, StopsAtCall}
 use Rattle.dap_adapter.specs.Served.{Start, StopsBy, MakesSome, CutShort, ReadsInTurn, AreSmall, Serves}
 
 -- ---- what is held
@@ -110,7 +111,7 @@ pub record Handles {C D : Type 0} (b : Serving C D) (e : AdapterState D) (p : Pl
   pub history : List Entry
   pub stands : StandsFor e p.used history
   pub stream : StandsForStream e.intake p.used bodies p.rest
-  pub run : Run b.shown b.follows (fresh_state b.start.limits b.start.debuggee) bodies outs next (record { session = e.session; debuggee = e.debuggee })
+  pub run : Run b.shown b.follows to_take (fresh_state b.start.limits b.start.debuggee) bodies outs next (record { session = e.session; debuggee = e.debuggee })
   pub limits_are : e.session.limits ≡ b.start.limits
 
 -- both
@@ -118,15 +119,6 @@ pub record Reaches {C D : Type 0} (b : Serving C D) (v : Progress C D) (p : Plac
   pub outs : List Message
   pub logged : Logged b v.sink (input_of p) outs
   pub handles : Handles b v.end p outs next
-
--- the same, but these bytes of the last step are to be gathered yet
-pub record Owes {C D : Type 0} (b : Serving C D) (v : Progress C D) (p : Place) (next : Next) (bytes : List ℕ) : Type 0 where
-  pub outs : List Message
-  pub now : List Message
-  pub bytes_are : bytes ≡ bytes_of now
-  pub logged : Logged b v.sink (input_of p) outs
-  pub makes : MakesSome b.shown b.follows b.start.limits b.start.debuggee (p.used ++ p.later) outs
-  pub handles : Handles b v.end p (outs ++ now) next
 
 -- ---- how it stops
 
@@ -173,12 +165,6 @@ pub record IsThrough {C D : Type 0} (b : Serving C D) (v : Progress C D) (i : In
   pub all : ended ≡ false → later ≡ []
   pub whole : ended ≡ true → rest ≡ []
 
--- the first bytes of a piece are used, up to the end of a frame at most, and what came is handled
-pub record IsUsed {C D : Type 0} (b : Serving C D) (v : Progress C D) (n : ℕ) (used later : List ℕ) : Type 0 where
-  pub rest : List ℕ
-  pub reaches : Reaches b v (place_at n used later rest) to_take
-  pub whole : has_ended v.end.session ≡ true → rest ≡ []
-
 -- ---- small words
 
 -- after so many polls
@@ -190,40 +176,100 @@ abbrev pub serve_fault_of : AdapterFault → ServeFault
 serve_fault_of NoMemory = OutOfMemory
 serve_fault_of fault = Adapter fault
 
--- ---- what a step does, whatever serving began with and whatever came before
+-- ---- what an adapter does, and what takes its bytes
 
--- from where the one stands to where the other does
-abbrev pub Leads : {C D : Type 0} → (Start C D → Serving C D) → Progress C D → Next → Progress C D → Next → Type 0
-Leads {C} {D} by v from w to = (b : Start C D) (n : ℕ) (used later : List ℕ) → Reaches (by b) v (place_at n used later []) from → Reaches (by b) w (place_at n used later []) to
+-- how bytes are put and refused, and what the debuggee shows and follows
+pub record Way (C S D : Type 0) : Type 1 where
+  pub puts : C → S → List ℕ → C → S → Type 0
+  pub refuses : C → S → List ℕ → C → S → ServeFault → Type 0
+  pub shown : D → Shown
+  pub follows : Goes D
 
--- from where it stands to a fault
-abbrev pub Breaks : {C D : Type 0} → (Start C D → Serving C D) → Progress C D → Next → Sink C → ServeFault → Type 0
-Breaks {C} {D} by v from t fault = (b : Start C D) (n : ℕ) (used later : List ℕ) → Reaches (by b) v (place_at n used later []) from → Halts (by b) t (record { count = n; bytes = used ++ later }) fault
+abbrev pub way_of : {C S D : Type 0} → (C → S → List ℕ → C → S → Type 0) → (C → S → List ℕ → C → S → ServeFault → Type 0) → (D → Shown) → Goes D → Way C S D
+way_of puts refuses shown follows = record { puts = puts; refuses = refuses; shown = shown; follows = follows }
 
--- so many bytes of a piece
-abbrev pub Uses : {C D : Type 0} → (Start C D → Serving C D) → Progress C D → Progress C D → List ℕ → ℕ → Type 0
-Uses {C} {D} by v w piece k =
-    (b : Start C D) (n : ℕ) (used rest : List ℕ) → has_ended v.end.session ≡ false → Reaches (by b) v (place_at n used piece rest) to_take
-    → IsUsed (by b) w n (used ++ take k piece) (drop k piece)
+-- the channel, what takes bytes for it, and the adapter
+pub record Point (C S D : Type 0) : Type 0 where
+  pub channel : C
+  pub sink : S
+  pub end : AdapterState D
 
--- the whole piece
-abbrev pub UsesUp : {C D : Type 0} → (Start C D → Serving C D) → Progress C D → Progress C D → List ℕ → Bool → Type 0
-UsesUp {C} {D} by v w piece ended =
+abbrev pub point_of : {C S D : Type 0} → C → S → AdapterState D → Point C S D
+point_of c s e = record { channel = c; sink = s; end = e }
+
+-- the bytes of these messages were put, step by step
+pub data Puts {C S : Type 0} (puts : C → S → List ℕ → C → S → Type 0) (c : C) (s : S) : List Message → C → S → Type 0 where
+  none_put : Puts puts c s [] c s
+  more_put : (outs now : List Message) (bytes : List ℕ) (d e : C) (t u : S) → Puts puts c s outs d t → bytes ≡ bytes_of now → puts d t bytes e u → Puts puts c s (outs ++ now) e u
+
+-- a part of a run, whose bytes were put
+pub record Leads {C S D : Type 0} (w : Way C S D) (v : Point C S D) (from : Next) (used : List ℕ) (u : Point C S D) (to : Next) : Type 0 where
+  pub outs : List Message
+  pub runs_on : RunsOn w.shown w.follows v.end from used outs u.end to
+  pub put : Puts w.puts v.channel v.sink outs u.channel u.sink
+
+-- the next call is refused
+pub record BreaksAtCall {C S D : Type 0} (w : Way C S D) (v : Point C S D) (next : Next) (piece : List ℕ) (u : Point C S D) (fault : ServeFault) : Type 0 where
+  pub cause : AdapterFault
+  pub is : fault ≡ serve_fault_of cause
+  pub stops : v.end.fault ≡ None → StopsAtCall w.shown w.follows v.end next piece cause u.end
+  pub channel : u.channel ≡ v.channel
+  pub sink : u.sink ≡ v.sink
+
+-- the bytes of the next step are refused
+pub record BreaksAtBytes {C S D : Type 0} (w : Way C S D) (v : Point C S D) (next : Next) (piece : List ℕ) (u : Point C S D) (fault : ServeFault) : Type 0 where
+  pub used : List ℕ
+  pub later : List ℕ
+  pub piece_is : piece ≡ used ++ later
+  pub now : List Message
+  pub to : Next
+  pub runs_on : RunsOn w.shown w.follows v.end next used now u.end to
+  pub bytes : List ℕ
+  pub bytes_are : bytes ≡ bytes_of now
+  pub made : CallMade w.shown w.follows v.end next piece bytes u.end
+  pub refused : w.refuses v.channel v.sink bytes u.channel u.sink fault
+
+-- after a part of a run, whose bytes were put
+pub record Breaks {C S D : Type 0} (w : Way C S D) (v : Point C S D) (from : Next) (piece : List ℕ) (u : Point C S D) (fault : ServeFault) : Type 0 where
+  pub used : List ℕ
+  pub later : List ℕ
+  pub piece_is : piece ≡ used ++ later
+  pub there : Point C S D
+  pub next : Next
+  pub leads : Leads w v from used there next
+  pub why : BreaksAtCall w there next later u fault ⊎ BreaksAtBytes w there next later u fault
+
+-- a piece is used up, or the session ended within it
+pub record UsesUp {C S D : Type 0} (w : Way C S D) (v : Point C S D) (piece : List ℕ) (u : Point C S D) (ended : Bool) : Type 0 where
+  pub used : List ℕ
+  pub later : List ℕ
+  pub piece_is : piece ≡ used ++ later
+  pub leads : Leads w v to_take used u to_take
+  pub ended_is : has_ended u.end.session ≡ ended
+  pub all : ended ≡ false → later ≡ []
+
+-- a message was taken whose bytes are due, and then all is handled
+abbrev pub LeadsAfter : {C S D : Type 0} → Way C S D → Point C S D → List ℕ → Point C S D → Type 0
+LeadsAfter w v bytes u =
+    (old : AdapterState _) (used : List ℕ) (now : List Message) → RunsOn w.shown w.follows old to_take used now v.end to_turn → bytes ≡ bytes_of now
+    → Leads w (record v { end = old }) to_take used u to_take
+
+abbrev pub BreaksAfter : {C S D : Type 0} → Way C S D → Point C S D → List ℕ → Point C S D → ServeFault → Type 0
+BreaksAfter w v bytes u fault =
+    (old : AdapterState _) (used later : List ℕ) (now : List Message) → RunsOn w.shown w.follows old to_take used now v.end to_turn → bytes ≡ bytes_of now
+    → CallMade w.shown w.follows old to_take (used ++ later) bytes v.end → Breaks w (record v { end = old }) to_take (used ++ later) u fault
+
+-- no message comes
+pub record Quietly {C S D : Type 0} (w : Way C S D) (v : Point C S D) (from : Next) (u : Point C S D) (to : Next) : Type 0 where
+  pub leads : Leads w v from [] u to
+  pub none_come : leads.runs_on.bodies ≡ []
+
+-- ---- from a piece to the next read, whatever serving began with and whatever came before
+
+abbrev pub Uses : {C D : Type 0} → (Start C D → Serving C D) → Progress C D → Progress C D → List ℕ → Bool → Type 0
+Uses {C} {D} by v w piece ended =
     (b : Start C D) (n : ℕ) (used rest : List ℕ) → has_ended v.end.session ≡ false → Reaches (by b) v (place_at n used piece rest) to_take
     → IsThrough (by b) w (record { count = n; bytes = used ++ piece }) ended
-
-abbrev pub BreaksIn : {C D : Type 0} → (Start C D → Serving C D) → Progress C D → Sink C → List ℕ → ServeFault → Type 0
-BreaksIn {C} {D} by v t piece fault =
-    (b : Start C D) (n : ℕ) (used rest : List ℕ) → has_ended v.end.session ≡ false → Reaches (by b) v (place_at n used piece rest) to_take
-    → Halts (by b) t (record { count = n; bytes = used ++ piece }) fault
-
--- from a message that was taken, whose bytes are due
-abbrev pub AfterHandling : {C D : Type 0} → (Start C D → Serving C D) → Progress C D → List ℕ → Progress C D → Type 0
-AfterHandling {C} {D} by v bytes w = (b : Start C D) (n : ℕ) (used later : List ℕ) → Owes (by b) v (place_at n used later []) to_turn bytes → Reaches (by b) w (place_at n used later []) to_take
-
-abbrev pub BreaksOff : {C D : Type 0} → (Start C D → Serving C D) → Progress C D → List ℕ → Sink C → ServeFault → Type 0
-BreaksOff {C} {D} by v bytes t fault =
-    (b : Start C D) (n : ℕ) (used later : List ℕ) → Owes (by b) v (place_at n used later []) to_turn bytes → Halts (by b) t (record { count = n; bytes = used ++ later }) fault
 
 -- serving ends there
 abbrev pub Ends : {C D : Type 0} → Serving C D → C → Result Served ServeFault → Type 0
@@ -234,3 +280,18 @@ abbrev pub EndsIn : {C D : Type 0} → (Start C D → Serving C D) → Progress 
 EndsIn {C} {D} by v d piece fault =
     (b : Start C D) (n : ℕ) (used rest : List ℕ) → n ≤ (by b).start.most → has_ended v.end.session ≡ false → Reaches (by b) v (place_at n used piece rest) to_take
     → Ends (by b) d (Err fault)
+
+-- ---- a buffer that is lent
+
+-- these bytes are appended
+abbrev pub Appends : List ℕ → List ℕ → List ℕ → Type 0
+Appends old bytes new = new ≡ old ++ bytes
+
+-- memory was refused for some bytes, and nothing was done
+abbrev pub AppendsNot : List ℕ → List ℕ → List ℕ → ServeFault → Type 0
+AppendsNot old bytes new fault = (fault ≡ OutOfMemory) × (bytes ≢ []) × (new ≡ old)
+
+-- the fault of an adapter that has no channel
+abbrev pub adapter_fault_of : ServeFault → AdapterFault
+adapter_fault_of (Adapter fault) = fault
+adapter_fault_of fault = NoMemory

@@ -38,27 +38,27 @@ has_ended s = is_phase Ended s.phase
 abbrev pub fresh_state : {D : Type 0} → Settings → D → SessionState D
 fresh_state limits debuggee = record { session = fresh_session limits; debuggee = debuggee }
 
--- A run from a session over these bodies, which writes these messages and stands there. It may stop after any step, and all that came is handled where the next message is to be taken.
-pub data Run {D : Type 0} (shown : D → Shown) (follows : Goes D) (start : SessionState D) : List (List ℕ) → List Message → Next → SessionState D → Type 0 where
-  begins : Run shown follows start [] [] to_take start
+-- A run from a session, of which this is done next, over these bodies. It writes these messages and stands there. It may stop after any step, and all that came is handled where the next message is to be taken.
+pub data Run {D : Type 0} (shown : D → Shown) (follows : Goes D) (first : Next) (start : SessionState D) : List (List ℕ) → List Message → Next → SessionState D → Type 0 where
+  begins : Run shown follows first start [] [] first start
   -- the next body is a message, and it is delivered
   delivers : (xs : List (List ℕ)) (outs : List Message) (p q : SessionState D) (x : List ℕ) (m : Message) (plan : Plan)
-      → Run shown follows start xs outs to_take p → has_ended p.session ≡ false → Msg x m → takes m p.session ≡ Ok plan → (step : SessionStep follows plan p q)
-      → Run shown follows start (xs ++ x ∷ []) (outs ++ written_by p.session step.made) to_turn q
+      → Run shown follows first start xs outs to_take p → has_ended p.session ≡ false → Msg x m → takes m p.session ≡ Ok plan → (step : SessionStep follows plan p q)
+      → Run shown follows first start (xs ++ x ∷ []) (outs ++ written_by p.session step.made) to_turn q
   -- the oldest request that is not parked is handled
   handles : (xs : List (List ℕ)) (outs : List Message) (p q : SessionState D) (plan : Plan)
-      → Run shown follows start xs outs to_turn p → turns (shown p.debuggee) p.session ≡ Ok (Some plan) → (step : SessionStep follows plan p q)
-      → Run shown follows start xs (outs ++ written_by p.session step.made) to_turn q
+      → Run shown follows first start xs outs to_turn p → turns (shown p.debuggee) p.session ≡ Ok (Some plan) → (step : SessionStep follows plan p q)
+      → Run shown follows first start xs (outs ++ written_by p.session step.made) to_turn q
   -- no request waits to be handled
   idles : (xs : List (List ℕ)) (outs : List Message) (p : SessionState D)
-      → Run shown follows start xs outs to_turn p → turns (shown p.debuggee) p.session ≡ Ok None
-      → Run shown follows start xs outs (to_poll 0) p
+      → Run shown follows first start xs outs to_turn p → turns (shown p.debuggee) p.session ≡ Ok None
+      → Run shown follows first start xs outs (to_poll 0) p
   -- what happened is told
   sees : (xs : List (List ℕ)) (outs : List Message) (p q : SessionState D) (asks : ℕ)
-      → Run shown follows start xs outs (to_poll asks) p → (step : SessionStep follows (polls p.session) p q) → q.session.used ≤ p.session.limits.seq
-      → Run shown follows start xs (outs ++ written_by p.session step.made) (after_poll (asks + 1) (bytes_of (written_by p.session step.made)) q.session.phase) q
+      → Run shown follows first start xs outs (to_poll asks) p → (step : SessionStep follows (polls p.session) p q) → q.session.used ≤ p.session.limits.seq
+      → Run shown follows first start xs (outs ++ written_by p.session step.made) (after_poll (asks + 1) (bytes_of (written_by p.session step.made)) q.session.phase) q
 
 -- a run over the frames of these bytes, with this rest after them
 pub record RanTo {D : Type 0} (shown : D → Shown) (follows : Goes D) (limits : Settings) (start : D) (used : List ℕ) (xs : List (List ℕ)) (rest : List ℕ) (outs : List Message) (next : Next) (p : SessionState D) : Type 0 where
   pub split : Split (bounds_of limits) used xs rest
-  pub run : Run shown follows (fresh_state limits start) xs outs next p
+  pub run : Run shown follows to_take (fresh_state limits start) xs outs next p

@@ -56,7 +56,7 @@ pub record BodyRefused {D : Type 0} (shown : D → Shown) (follows : Goes D) (li
   pub body : List ℕ
   pub seat : SessionState D
   pub split : Split (bounds_of limits) used (bodies ++ body ∷ []) []
-  pub run : Run shown follows (fresh_state limits start) bodies outs to_take seat
+  pub run : Run shown follows to_take (fresh_state limits start) bodies outs to_take seat
   pub goes_on : has_ended seat.session ≡ false
   pub bad : Bad body cause
   pub starts : LastStartsAt (bounds_of limits) offset used (bodies ++ body ∷ []) body
@@ -67,7 +67,7 @@ pub record StopsAtTake {D : Type 0} (shown : D → Shown) (follows : Goes D) (li
   pub body : List ℕ
   pub seat : SessionState D
   pub split : Split (bounds_of limits) used (bodies ++ body ∷ []) []
-  pub run : Run shown follows (fresh_state limits start) bodies outs to_take seat
+  pub run : Run shown follows to_take (fresh_state limits start) bodies outs to_take seat
   pub goes_on : has_ended seat.session ≡ false
   pub message : Message
   pub message_is : Msg body message

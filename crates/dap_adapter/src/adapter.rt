@@ -255,8 +255,17 @@ impl<D: Debuggee + Drop> Adapter<D> {
         self.reader.finish()
     }
 
+    /// Why it is closed.
+    pub(crate) fn fault(&self) -> Option<AdapterFault>
+        ensures fault { result ≡ self.now.fault }
+        ensures closed { IfSome result (λ fault. self.now.intake.held ≡ []) }
+    {
+        let _ = &self.reader;
+        self.fault
+    }
+
     /// Nothing more is taken or handed out.
-    fn close(&mut self, fault: AdapterFault)
+    pub(crate) fn close(&mut self, fault: AdapterFault)
         ensures session { self.new.session ≡ self.old.session }
         ensures debuggee { self.new.debuggee ≡ self.old.debuggee }
         ensures held { self.new.intake.held ≡ [] }

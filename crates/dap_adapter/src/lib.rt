@@ -2,16 +2,19 @@
 //!
 //! Overview and Specification. Bytes of the client go in by `take`, in any pieces, requests are answered by `turn`, one a
 //! call, and what happens to the debuggee is told by `poll`; each call hands out the bytes that it writes, and none of them
-//! reads, writes or waits. `serve` makes these calls for the bytes that a reader gives, and writes what they hand out.
+//! reads, writes or waits. `answer` makes these calls for a piece of bytes, and `tell` polls, for a program with a loop of its
+//! own. `serve` makes them for the bytes that a reader gives, and writes what they hand out.
 #![tactic(auto)]
 
 mod adapter;
+mod answering;
 mod outlet;
 mod served;
 mod serving;
 mod taken;
 
 pub use adapter::Adapter;
+pub use answering::{calls_in_turn_add_up, parts_of_a_run_join};
 pub use dap_session::{AdapterFault, Options, Phase};
 pub use served::{ServeFault, Served};
 pub use serving::{serve, serve_channel, serving_is_of_the_log};

@@ -1,7 +1,7 @@
 //! Bytes that are gathered before they go out.
-ghost use Rattle.std.specs.Prelude.{◌≡◌, ℕ, ◌+◌, ◌<◌, [], length, OnOk, IfErr};
+ghost use Rattle.std.specs.Prelude.{◌≡◌, ℕ, ◌+◌, [], length, OnOk, IfErr};
 ghost use Rattle.dap_channel.specs.Sent.{Sends, saturating_count};
-ghost use Rattle.dap_adapter.specs.PrivateServing.{sink_of, FallsShort, Gathers, GathersNot};
+ghost use Rattle.dap_adapter.specs.PrivateServing.{sink_of, FallsShort};
 
 use crate::served::ServeFault;
 use dap_channel::{Channel, send};
@@ -9,6 +9,23 @@ use std::alloc::Global;
 
 /// As many bytes are sent at once.
 const FULL: usize = 65536;
+
+/// What takes the bytes that an adapter hands out, and may send them over a channel.
+pub(crate) trait Outgoing<C> {
+    ghost use Rattle.std.specs.Prelude.{ℕ, List, OnOk, IfErr};
+    ghost use Rattle.dap_adapter.specs.declared.served.ServeFault.{ServeFault};
+
+    // It took these bytes.
+    ghost puts: { C → Self → List ℕ → C → Self → Type 0 };
+
+    // It refused them.
+    ghost refuses: { C → Self → List ℕ → C → Self → ServeFault → Type 0 };
+
+    /// Takes bytes.
+    fn put(&mut self, channel: &mut C, bytes: &[u8]) -> Result<(), ServeFault>
+        ensures puts { OnOk result (puts channel.old self.old bytes.now channel.new self.new) }
+        ensures refused { IfErr result (refuses channel.old self.old bytes.now channel.new self.new) };
+}
 
 /// Bytes to be written, and how many others went out.
 #[derive(Drop)]
@@ -47,17 +64,16 @@ impl Outlet {
             Err(written) => Err(ServeFault::Write { written }),
         }
     }
+}
 
-    /// Gathers bytes, and sends them where they are many.
-    pub(crate) fn gather<C: Channel>(
-        &mut self,
-        channel: &mut C,
-        bytes: &[u8],
-    ) -> Result<(), ServeFault>
-        ensures gathers { OnOk result (Gathers C.goes (sink_of channel.old self.old) bytes.now (sink_of channel.new self.new)) }
-        ensures few { OnOk result (length self.new.gathered.items < 65536) }
-        ensures refused { IfErr result (GathersNot C.goes (sink_of channel.old self.old) bytes.now (sink_of channel.new self.new)) }
-    {
+impl<C: Channel> Outgoing<C> for Outlet {
+    ghost use Rattle.dap_adapter.specs.PrivateServing.{sink_of, Gathers, GathersNot};
+
+    ghost puts = { λ c s bytes d t. Gathers C.goes (sink_of c s) bytes (sink_of d t) };
+
+    ghost refuses = { λ c s bytes d t fault. GathersNot C.goes (sink_of c s) bytes (sink_of d t) fault };
+
+    fn put(&mut self, channel: &mut C, bytes: &[u8]) -> Result<(), ServeFault> {
         if let Err(_) = self.gathered.extend_from_slice(bytes) {
             return Err(ServeFault::OutOfMemory);
         }
@@ -68,5 +84,24 @@ impl Outlet {
             };
         }
         Ok(())
+    }
+}
+
+/// A buffer that is lent keeps all bytes.
+impl Outgoing<()> for Vec<u8> {
+    ghost use Rattle.dap_adapter.specs.PrivateServing.{Appends, AppendsNot};
+
+    ghost puts = { λ c s bytes d t. Appends s.items bytes t.items };
+
+    ghost refuses = { λ c s bytes d t fault. AppendsNot s.items bytes t.items fault };
+
+    fn put(&mut self, _channel: &mut (), bytes: &[u8]) -> Result<(), ServeFault> {
+        if bytes.is_empty() {
+            return Ok(());
+        }
+        match self.extend_from_slice(bytes) {
+            Ok(()) => Ok(()),
+            Err(_) => Err(ServeFault::OutOfMemory),
+        }
     }
 }

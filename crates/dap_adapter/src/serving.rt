@@ -1,5 +1,5 @@
 //! A debuggee served over a channel.
-ghost use Rattle.std.specs.Prelude.{◌≡◌, ◌+◌, ◌<◌, ◌≤◌, List, [], length, false, IfOk, OnOk, IfErr, IfNone, IfSome, None, Some, Result};
+ghost use Rattle.std.specs.Prelude.{◌≡◌, ℕ, ◌+◌, ◌<◌, ◌≤◌, List, [], length, take, false, IfOk, OnOk, IfErr, IfNone, IfSome, None, Some, Result};
 ghost use Rattle.dap_message.specs.declared.message.Message.{Message};
 ghost use Rattle.dap_debuggee.specs.declared.answers.State.{State};
 ghost use Rattle.dap_session.specs.Table.{is_phase};
@@ -9,10 +9,10 @@ ghost use Rattle.dap_channel.specs.Channel.{IoEvent, Pipes, bytes_read, bytes_wr
 ghost use Rattle.dap_adapter.specs.declared.served.Served.{Served};
 ghost use Rattle.dap_adapter.specs.declared.served.ServeFault.{ServeFault};
 ghost use Rattle.dap_adapter.specs.Served.{Start, Serves, ServesBytes, Comes, ReadsInTurn, AreSmall, HasReason};
-ghost use Rattle.dap_adapter.specs.PrivateServing.{served_by, sink_of, progress_of, place_at, Reaches, Leads, Breaks, AfterHandling, BreaksOff, Uses, UsesUp, BreaksIn, EndsIn, serve_fault_of};
+ghost use Rattle.dap_adapter.specs.PrivateServing.{served_by, progress_of, place_at, way_of, point_of, Reaches, Leads, Breaks, LeadsAfter, BreaksAfter, Quietly, Uses, UsesUp, EndsIn, serve_fault_of};
 
 use crate::adapter::Adapter;
-use crate::outlet::Outlet;
+use crate::outlet::{Outgoing, Outlet};
 use crate::served::{ServeFault, Served};
 use crate::taken::{Taken, Turned};
 use dap_channel::{Channel, Pipe, calls_add_up, calls_are_the_log, pipes_tell_their_bytes};
@@ -25,7 +25,7 @@ use std::io::{Read, Write};
 /// After a message, the debuggee is asked at most so often what happened.
 const MAX_POLLS: u32 = 65536;
 
-fn is_ended(phase: Phase) -> bool
+pub(crate) fn is_ended(phase: Phase) -> bool
     ensures { result ≡ is_phase Phase.Ended phase }
 {
     match phase {
@@ -67,45 +67,44 @@ fn serve_fault(fault: AdapterFault) -> ServeFault
 }
 
 /// Handles all requests that are kept and not parked.
-fn turns<C: Channel, D: Debuggee + Drop>(
+fn turns<C, S: Outgoing<C>, D: Debuggee + Drop>(
     alloc: Global,
     adapter: &mut Adapter<D>,
     channel: &mut C,
-    outlet: &mut Outlet,
+    sink: &mut S,
 ) -> Result<(), ServeFault>
-    ensures idle { OnOk result (Leads (served_by C.goes D.shown D.follows) (progress_of channel.old adapter.old outlet.old) to_turn (progress_of channel.new adapter.new outlet.new) (to_poll 0)) }
-    ensures halts { IfErr result (Breaks (served_by C.goes D.shown D.follows) (progress_of channel.old adapter.old outlet.old) to_turn (sink_of channel.new outlet.new)) }
+    ensures idle { OnOk result (Leads (way_of S.puts S.refuses D.shown D.follows) (point_of channel.old sink.old adapter.old) to_turn [] (point_of channel.new sink.new adapter.new) (to_poll 0)) }
+    ensures halts { IfErr result (λ fault. (piece : List ℕ) → Breaks (way_of S.puts S.refuses D.shown D.follows) (point_of channel.old sink.old adapter.old) to_turn piece (point_of channel.new sink.new adapter.new) fault) }
 {
-    calls_add_up::<C>();
     'turns: loop {
         let bytes = match adapter.turn(alloc) {
             Ok(Turned::Idle) => return Ok(()),
             Ok(Turned::Done { bytes }) => bytes,
             Err(fault) => return Err(serve_fault(fault)),
         };
-        if let Err(fault) = outlet.gather(channel, &bytes) {
+        if let Err(fault) = sink.put(channel, &bytes) {
             return Err(fault);
         }
     }
 }
 
 /// Tells what happened to the debuggee.
-fn polls<C: Channel, D: Debuggee + Drop>(
+pub(crate) fn polls<C, S: Outgoing<C>, D: Debuggee + Drop>(
     alloc: Global,
     adapter: &mut Adapter<D>,
     channel: &mut C,
-    outlet: &mut Outlet,
+    sink: &mut S,
 ) -> Result<(), ServeFault>
-    ensures told { OnOk result (Leads (served_by C.goes D.shown D.follows) (progress_of channel.old adapter.old outlet.old) (to_poll 0) (progress_of channel.new adapter.new outlet.new) to_take) }
-    ensures halts { IfErr result (Breaks (served_by C.goes D.shown D.follows) (progress_of channel.old adapter.old outlet.old) (to_poll 0) (sink_of channel.new outlet.new)) }
+    ensures told { OnOk result (Quietly (way_of S.puts S.refuses D.shown D.follows) (point_of channel.old sink.old adapter.old) (to_poll 0) (point_of channel.new sink.new adapter.new) to_take) }
+    ensures halts { IfErr result (λ fault. (piece : List ℕ) → Breaks (way_of S.puts S.refuses D.shown D.follows) (point_of channel.old sink.old adapter.old) (to_poll 0) piece (point_of channel.new sink.new adapter.new) fault) }
+    ensures intake { OnOk result (adapter.new.intake ≡ adapter.old.intake) }
 {
-    calls_add_up::<C>();
     for _poll in 0..MAX_POLLS {
         let bytes = match adapter.poll(alloc) {
             Ok(bytes) => bytes,
             Err(fault) => return Err(serve_fault(fault)),
         };
-        if let Err(fault) = outlet.gather(channel, &bytes) {
+        if let Err(fault) = sink.put(channel, &bytes) {
             return Err(fault);
         }
         if bytes.is_empty() {
@@ -119,24 +118,23 @@ fn polls<C: Channel, D: Debuggee + Drop>(
 }
 
 /// Hands out the bytes of a message that was taken, handles all requests, and tells what happened.
-fn handle<C: Channel, D: Debuggee + Drop>(
+fn handle<C, S: Outgoing<C>, D: Debuggee + Drop>(
     alloc: Global,
     adapter: &mut Adapter<D>,
     channel: &mut C,
-    outlet: &mut Outlet,
+    sink: &mut S,
     bytes: &[u8],
 ) -> Result<(), ServeFault>
-    ensures handled { OnOk result (AfterHandling (served_by C.goes D.shown D.follows) (progress_of channel.old adapter.old outlet.old) bytes.now (progress_of channel.new adapter.new outlet.new)) }
-    ensures halts { IfErr result (BreaksOff (served_by C.goes D.shown D.follows) (progress_of channel.old adapter.old outlet.old) bytes.now (sink_of channel.new outlet.new)) }
+    ensures handled { OnOk result (LeadsAfter (way_of S.puts S.refuses D.shown D.follows) (point_of channel.old sink.old adapter.old) bytes.now (point_of channel.new sink.new adapter.new)) }
+    ensures halts { IfErr result (BreaksAfter (way_of S.puts S.refuses D.shown D.follows) (point_of channel.old sink.old adapter.old) bytes.now (point_of channel.new sink.new adapter.new)) }
 {
-    calls_add_up::<C>();
-    if let Err(fault) = outlet.gather(channel, bytes) {
+    if let Err(fault) = sink.put(channel, bytes) {
         return Err(fault);
     }
-    if let Err(fault) = turns(alloc, adapter, channel, outlet) {
+    if let Err(fault) = turns(alloc, adapter, channel, sink) {
         return Err(fault);
     }
-    match polls(alloc, adapter, channel, outlet) {
+    match polls(alloc, adapter, channel, sink) {
         Ok(()) => Ok(()),
         Err(fault) => Err(fault),
     }
@@ -160,17 +158,17 @@ fn handed_out(taken: Taken) -> (usize, Option<Vec<u8>>)
 }
 
 /// Uses the bytes of a piece up to the end of a frame at most, and handles its message. It answers how many were used.
-fn serve_frame<C: Channel, D: Debuggee + Drop>(
+fn serve_frame<C, S: Outgoing<C>, D: Debuggee + Drop>(
     alloc: Global,
     adapter: &mut Adapter<D>,
     channel: &mut C,
-    outlet: &mut Outlet,
+    sink: &mut S,
     piece: &[u8],
 ) -> Result<usize, ServeFault>
     ensures some { IfOk result (λ k. 0 < length piece.now → 0 < k) }
     ensures within { IfOk result (λ k. k ≤ length piece.now) }
-    ensures uses { IfOk result (Uses (served_by C.goes D.shown D.follows) (progress_of channel.old adapter.old outlet.old) (progress_of channel.new adapter.new outlet.new) piece.now) }
-    ensures halts { IfErr result (BreaksIn (served_by C.goes D.shown D.follows) (progress_of channel.old adapter.old outlet.old) (sink_of channel.new outlet.new) piece.now) }
+    ensures uses { IfOk result (λ k. has_ended adapter.old.session ≡ false → Leads (way_of S.puts S.refuses D.shown D.follows) (point_of channel.old sink.old adapter.old) to_take (take k piece.now) (point_of channel.new sink.new adapter.new) to_take) }
+    ensures halts { IfErr result (λ fault. has_ended adapter.old.session ≡ false → Breaks (way_of S.puts S.refuses D.shown D.follows) (point_of channel.old sink.old adapter.old) to_take piece.now (point_of channel.new sink.new adapter.new) fault) }
 {
     // A law for the proof: what was read is one list of frames.
     each_stream_has_one_split();
@@ -181,7 +179,7 @@ fn serve_frame<C: Channel, D: Debuggee + Drop>(
     let (used, handed) = handed_out(taken);
     match handed {
         None => Ok(used),
-        Some(bytes) => match handle(alloc, adapter, channel, outlet, &bytes) {
+        Some(bytes) => match handle(alloc, adapter, channel, sink, &bytes) {
             Ok(()) => Ok(used),
             Err(fault) => Err(fault),
         },
@@ -189,20 +187,20 @@ fn serve_frame<C: Channel, D: Debuggee + Drop>(
 }
 
 /// Serves a piece: whether the session ended within it.
-fn serve_piece<C: Channel, D: Debuggee + Drop>(
+pub(crate) fn serve_piece<C, S: Outgoing<C>, D: Debuggee + Drop>(
     alloc: Global,
     adapter: &mut Adapter<D>,
     channel: &mut C,
-    outlet: &mut Outlet,
+    sink: &mut S,
     piece: &[u8],
 ) -> Result<bool, ServeFault>
-    ensures uses_up { IfOk result (UsesUp (served_by C.goes D.shown D.follows) (progress_of channel.old adapter.old outlet.old) (progress_of channel.new adapter.new outlet.new) piece.now) }
-    ensures halts { IfErr result (BreaksIn (served_by C.goes D.shown D.follows) (progress_of channel.old adapter.old outlet.old) (sink_of channel.new outlet.new) piece.now) }
+    ensures uses_up { IfOk result (λ ended. has_ended adapter.old.session ≡ false → UsesUp (way_of S.puts S.refuses D.shown D.follows) (point_of channel.old sink.old adapter.old) piece.now (point_of channel.new sink.new adapter.new) ended) }
+    ensures halts { IfErr result (λ fault. has_ended adapter.old.session ≡ false → Breaks (way_of S.puts S.refuses D.shown D.follows) (point_of channel.old sink.old adapter.old) to_take piece.now (point_of channel.new sink.new adapter.new) fault) }
 {
     let mut at = 0;
     while at < piece.len() {
         let (_, rest) = piece.split_at(at);
-        match serve_frame(alloc, adapter, channel, outlet, rest) {
+        match serve_frame(alloc, adapter, channel, sink, rest) {
             Ok(used) => at += used,
             Err(fault) => return Err(fault),
         }
@@ -221,7 +219,7 @@ fn serve_read<C: Channel, D: Debuggee + Drop>(
     outlet: &mut Outlet,
     piece: &[u8],
 ) -> Result<bool, ServeFault>
-    ensures uses_up { IfOk result (UsesUp (served_by C.goes D.shown D.follows) (progress_of channel.old adapter.old outlet.old) (progress_of channel.new adapter.new outlet.new) piece.now) }
+    ensures uses_up { IfOk result (Uses (served_by C.goes D.shown D.follows) (progress_of channel.old adapter.old outlet.old) (progress_of channel.new adapter.new outlet.new) piece.now) }
     ensures none_left { OnOk result (outlet.new.gathered.items ≡ []) }
     ensures stops { IfErr result (EndsIn (served_by C.goes D.shown D.follows) (progress_of channel.old adapter.old outlet.old) channel.new piece.now) }
 {

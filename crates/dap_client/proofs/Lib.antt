@@ -1,6 +1,7 @@
 pub mod Waiting
 pub mod TerminalRequests
 pub mod Growing
+pub mod Losing
 pub mod Going
 pub mod Refusals
 pub mod Answered

@@ -1,5 +1,5 @@
 -- What the calls of a client do, as their contracts say it.
-use Rattle.std.specs.Prelude.{◌≡◌, ℕ, List, [], ◌∷◌, take, Option, Some, None, Ok, Err, is_some}
+use Rattle.std.specs.Prelude.{◌≡◌, ◌≢◌, ◌⊎◌, ℕ, List, [], ◌∷◌, ◌++◌, take, drop, Option, Some, None, Ok, Err, is_some}
 use Rattle.dap_frame.specs.Feeds.{Gathers}
 use Rattle.dap_frame.specs.Intake.{Intake}
 use Rattle.dap_frame.specs.Settings.{Settings, bounds_of}
@@ -82,6 +82,29 @@ TakeRefused old s piece (Frame fault) = FrameClosed old piece fault
 TakeRefused old s piece (Body cause offset) = BodyRefused old piece cause offset
 TakeRefused old s piece OutOfMemory = NeedsMemory old piece
 TakeRefused old s piece fault = ClosedBy old s piece fault
+
+-- ---- next
+
+-- what `take` does, with the bytes used cut off and what is to be written appended
+pub record TakesNext (old : ClientState) (piece before : List ℕ) (message : Option Message) (new : ClientState) (left after : List ℕ) : Type 0 where
+  pub got : Got
+  pub takes_it : Takes old piece got message new
+  pub left_is : left ≡ drop got.used piece
+  pub appended : after ≡ before ++ got.bytes.items
+
+-- memory was refused for what is to be written: the message was taken, and is not delivered
+pub record LosesMessage (old : ClientState) (piece : List ℕ) (fault : ClientFault) (new : ClientState) : Type 0 where
+  pub is : fault ≡ OutOfMemory
+  pub got : Got
+  pub message : Message
+  pub there : ClientState
+  pub delivers : Delivers old piece got message there
+  pub some : got.bytes.items ≢ []
+  pub session : new.session ≡ there.session
+
+-- `take` was refused, and the tables are as they were, or its bytes were
+abbrev pub NextRefused : ClientState → List ℕ → ClientFault → ClientState → Type 0
+NextRefused old piece fault new = (TakeRefused old.intake old.session piece fault × (new.session ≡ old.session)) ⊎ LosesMessage old piece fault new
 
 -- ---- what holds between calls
 

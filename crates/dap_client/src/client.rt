@@ -1,10 +1,10 @@
 //! A client, call by call.
-ghost use Rattle.std.specs.Prelude.{◌≡◌, ◌≢◌, ℕ, ◌+◌, ◌<◌, ◌≤◌, List, [], ◌∷◌, length, max, IfOk, IfErr, OnOk, OnErr, IfSome, IsTrue, None, Some, Err, option_map};
+ghost use Rattle.std.specs.Prelude.{◌≡◌, ◌≢◌, ℕ, ◌+◌, ◌<◌, ◌≤◌, List, [], ◌∷◌, ◌++◌, length, max, IfOk, IfErr, OnOk, OnErr, IfSome, IsTrue, None, Some, Ok, Err, option_map};
 ghost use Rattle.std.specs.List.{slice_get};
 ghost use Rattle.dap_history.specs.History.{Entry, Out, Came, Went, waiting};
 ghost use Rattle.dap_message.specs.PlainCall.{is_plain_call};
 ghost use Rattle.dap_message.specs.ReadBack.{ReadsBack};
-ghost use Rattle.dap_client.specs.Calls.{refusal_of, answer_refusal_of, NotSent, NotAnswered, Takes, TakeRefused};
+ghost use Rattle.dap_client.specs.Calls.{refusal_of, answer_refusal_of, NotSent, NotAnswered, Takes, TakeRefused, TakesNext, NextRefused};
 ghost use Rattle.dap_client.specs.PrivateReceives.{HasReceived, IsBy};
 ghost use Rattle.dap_reader.specs.declared.fault.ReadFault.{ReadFault};
 ghost use Rattle.dap_client.specs.Seen.{phase_in, ready_in, capabilities_in, references_in};
@@ -22,7 +22,7 @@ use crate::terminal::Terminal;
 use dap_frame::Limits;
 use dap_history::laws::histories_grow;
 use dap_message::laws::read_is_in_range;
-use dap_message::{Call, Capabilities};
+use dap_message::{Call, Capabilities, Message};
 use dap_reader::{MessageReader, Next, ReadFault};
 use std::alloc::{AllocError, Global};
 use std::marker::Model;
@@ -243,6 +243,71 @@ impl Client {
             }
         }
     }
+
+    /// Takes bytes of a piece up to its next message, and delivers that; `piece` is what is left. `None` where all is used.
+    /// What is to be written is appended to `out`. A program calls it until it answers `None`, for each piece that comes.
+    ///
+    /// # Errors
+    /// Those of [`Client::take`], at which the tables are as they were; and `OutOfMemory` where memory is refused for `out`:
+    /// the message was taken, and is not delivered, and what was to be written for it is lost. At each, `out` and `piece` are
+    /// as they were, and the client is closed.
+    pub fn next(
+        &mut self,
+        alloc: Global,
+        piece: &mut &[u8],
+        out: &mut Vec<u8>,
+    ) -> Result<Option<Message>, ClientFault>
+        ensures gives { IfOk result (λ message. 0 < length piece.old.now → TakesNext self.old piece.old.now out.old.items message self.new piece.new.now out.new.items) }
+        ensures none { self.old.fault ≡ None → piece.old.now ≡ [] → (result ≡ Ok None) × (self.new ≡ self.old) × (piece.new ≡ piece.old) × (out.new ≡ out.old) }
+        ensures progress { OnOk result (0 < length piece.old.now → length piece.new.now < length piece.old.now) }
+        ensures some { IfOk result (λ message. IfSome message (λ m. length piece.new.now < length piece.old.now)) }
+        ensures all { IfOk result (λ message. message ≡ None → piece.new.now ≡ []) }
+        ensures open { OnOk result (self.new.fault ≡ None) }
+        ensures limits { self.new.session.limits ≡ self.old.session.limits }
+
+        // Why it is refused; then nothing is appended, and nothing is held.
+        ensures refused { IfErr result (λ fault. self.old.fault ≡ None → NextRefused self.old piece.old.now fault self.new) }
+        ensures kept { OnErr result ((piece.new.now ≡ piece.old.now) × (out.new.items ≡ out.old.items)) }
+        ensures held { OnErr result (self.new.intake.held ≡ []) }
+        ensures latches { IfErr result (λ fault. self.new.fault ≡ Some fault) }
+        ensures latched { IfSome self.old.fault (λ fault. (result ≡ Err fault) × (self.new ≡ self.old)) }
+    {
+        if let Some(fault) = self.fault {
+            return Err(fault);
+        }
+        if piece.is_empty() {
+            return Ok(None);
+        }
+        let got = match self.take(alloc, piece) {
+            Ok(got) => got,
+            Err(fault) => return Err(fault),
+        };
+        let Got {
+            used,
+            delivered,
+            bytes,
+        } = got;
+        if let Err(_) = append(out, &bytes) {
+            self.reader.close();
+            self.fault = Some(ClientFault::OutOfMemory);
+            return Err(ClientFault::OutOfMemory);
+        }
+        let (_, rest) = piece.split_at(used);
+        *piece = rest;
+        Ok(delivered)
+    }
+}
+
+/// Appends bytes. Where there are none, no memory is asked for.
+fn append(out: &mut Vec<u8>, bytes: &[u8]) -> Result<(), AllocError>
+    ensures ok { OnOk result (out.new.items ≡ out.old.items ++ bytes.now) }
+    ensures some { OnErr result (bytes.now ≢ []) }
+    ensures err { OnErr result (out.new.items ≡ out.old.items) }
+{
+    if bytes.is_empty() {
+        return Ok(());
+    }
+    out.extend_from_slice(bytes)
 }
 
 /// The fault of a client whose stream is refused.

@@ -23,9 +23,9 @@ pub enum DriveFault {
     /// The adapter has too few own numbers left for what it does next (its fault `SeqExhausted`).
     #[error("the adapter is closed")]
     Adapter,
-    /// The client has no own number left for the answer of a line (its refusal `SeqExhausted`); or, over a debuggee that goes on
-    /// or ends by itself while it is stopped, the next message would give the client more references than it may know (its fault
-    /// `ReferenceLimit`).
+    /// The client has no own number left for the answer of a line (its refusal `SeqExhausted`); or, over a debuggee that may go
+    /// on or end by itself while it is stopped, the next message would give the client more references than it may know (its
+    /// fault `ReferenceLimit`).
     #[error("the client is closed, or has no number left")]
     Client,
     /// Memory was refused.

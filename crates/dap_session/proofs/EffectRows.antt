@@ -28,12 +28,12 @@ use Rattle.dap_session.specs.OrderLaws.{refuses_query, objects_told}
 use Rattle.dap_session.specs.Within.{IsWithin}
 use Rattle.dap_session.specs.declared.phase.Phase.{Phase}
 use Rattle.dap_session.specs.declared.phase.Phase.TheVariants.{Configured}
-use Rattle.dap_session.proofs.Rows.{IsNoSetter, after_initialize-outcome, after_park-outcome, after_asking-outcome, after_asking_parked-outcome, after_launch-outcome, after_configuration_done-outcome, after_parked_launch-outcome, after_disconnect-outcome, after_disconnect-clean, after_terminate-outcome, after_resume-outcome, after_resume-clean, change-row, change-stands, change-bare, change-keeps, after_query-row, one-clean, reply-clean, bare-by_reply}
+use Rattle.dap_session.proofs.Rows.{IsNoSetVariable, after_initialize-outcome, after_park-outcome, after_asking-outcome, after_asking_parked-outcome, after_launch-outcome, after_configuration_done-outcome, after_parked_launch-outcome, after_disconnect-outcome, after_disconnect-clean, after_terminate-outcome, after_resume-outcome, after_resume-clean, change-row, change-stands, change-bare, change-keeps, after_query-row, one-clean, reply-clean, bare-by_reply}
 use Rattle.dap_session.proofs.ServedInOrder.{Fails, DoesWell, first_of, query-told, query-fails, change-fails, well-so, succeeds-first, succeeds-initialize, starts-so, starts-parked-so, asks-so, asks-parked-so, disconnects-so, resumes-so, pauses-so}
 
 -- a query answers no command that sets something
 abbrev pub Answers : Effect → Entry → Type 0
-Answers effect.Query r = IsNoSetter r
+Answers effect.Query r = IsNoSetVariable r
 Answers _ r = ⊤
 
 pub record EffectRow (e : Effect) (view : Shown) (s : Session) (asked : Call) : Type 0 where

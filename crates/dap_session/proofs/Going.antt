@@ -4,7 +4,7 @@ use Rattle.dap_session.specs.Answering.{EachStepGoesWell}
 use Rattle.dap_session.specs.Laws.{EachStepGoesOn}
 use Rattle.dap_session.proofs.Deliveries.{delivery-is}
 use Rattle.dap_session.proofs.Happenings.{poll-is}
-use Rattle.dap_session.proofs.Steps.{ins_of-entries, goes_on-alone, goes_on-delivered}
+use Rattle.dap_session.proofs.Steps.{outs_of-entries, ins_of-entries, goes_on-alone, goes_on-delivered}
 use Rattle.dap_session.proofs.Turns.{turn-is}
 
 pub each_step_goes_well : EachStepGoesWell
@@ -17,6 +17,7 @@ each_step_goes_well = record {
 
 pub each_step_goes_on : HistoriesGrow → EachStepGoesOn
 each_step_goes_on laws = record {
+  all_go = outs_of-entries laws;
   none_come = ins_of-entries laws;
   take = λ s m plan made h d e is f. goes_on-delivered laws s m made h ((delivery-is s m plan made e is).sound.well d) f;
   turn = λ view s plan made h d e is f. goes_on-alone laws s made h (((turn-is view s plan e).row.outcomes made is).sound.well d) f;

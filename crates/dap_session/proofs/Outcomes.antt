@@ -12,7 +12,7 @@ use Rattle.dap_tables.specs.References.{LiveReferences}
 use Rattle.dap_tables.specs.declared.entry.Entry.{Entry}
 use Rattle.dap_debuggee.specs.Shown.{Act, Reply, done}
 use Rattle.dap_session.specs.Answering.{GoesWell}
-use Rattle.dap_session.specs.GivenLaws.{AreLive, given_by, answers_setter, AllGiveLive}
+use Rattle.dap_session.specs.GivenLaws.{AreLive, given_by, answers_set_variable, AllGiveLive}
 use Rattle.dap_session.specs.Handling.{answer_each}
 use Rattle.dap_session.specs.Laws.{CanMake}
 use Rattle.dap_session.specs.Plan.{Answer, success, failure, plain_success, Draft, reply, emit, ask, requests_in, names_in, names_of, outs, Made, Plan, at_once, asking, after_answering, messages_due, entries_of, references_end_if}
@@ -157,7 +157,7 @@ fewer-by s k m i ks d = rw ks (fewer-handled s k d i)
 
 -- one answer, and the request is kept no more
 pub replied : (s : Session) (k : Kept) (answer : Answer) (m : Made) → IsHandled s k → Moves s m → m.after.references ≡ references_after s.references (entries_of s.used m) → m.drafts ≡ reply k.entry answer ∷ [] → m.after.kept ≡ without k.entry.seq s.kept
-    → m.after.used ≡ s.used + 1 → m.after.asked ≡ s.asked → Stays s m → AreLive m.after.references (given_by (reply k.entry answer)) → (answers_setter (reply k.entry answer) ≡ true → given_by (reply k.entry answer) ≡ []) → IsOutcome s 1 m
+    → m.after.used ≡ s.used + 1 → m.after.asked ≡ s.asked → Stays s m → AreLive m.after.references (given_by (reply k.entry answer)) → (answers_set_variable (reply k.entry answer) ≡ true → given_by (reply k.entry answer) ≡ []) → IsOutcome s 1 m
 replied s k answer m i v r ds ks u same t g n =
     let one : length m.drafts ≡ 1 = ap length ds in
     let none : AskNone m.drafts = subst (λ (xs : List Draft). AskNone xs) (sym ds) tt in

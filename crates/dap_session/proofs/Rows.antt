@@ -25,7 +25,7 @@ use Rattle.dap_session.specs.declared.options.Options.{Options}
 use Rattle.dap_session.specs.Bodies.{QueryAnswer, QueryResult, object_of}
 use Rattle.dap_session.specs.Breakpoints.{are_too_many}
 use Rattle.dap_session.specs.Failures.{command_of}
-use Rattle.dap_session.specs.GivenLaws.{AreLive, is_setter}
+use Rattle.dap_session.specs.GivenLaws.{AreLive, is_set_variable}
 use Rattle.dap_session.specs.Handling.{lines_change, lines_result, after_initialize, after_park, after_asking, after_asking_parked, after_launch, after_configuration_done, after_parked_launch, after_disconnect, after_terminate, after_resume, resume_body, after_query, fits, by_reply, answer_each, lines_asked, Change, ChangeResult, change_asked, after_change, change_result}
 use Rattle.dap_session.specs.Plan.{Answer, success, failure, plain_success, reply, emit, ask, requests_in, Made, at_once, after_answering}
 use Rattle.dap_session.specs.Session.{Session, own_request}
@@ -257,18 +257,18 @@ change-bare view s _ c e = absurd (cc e)
 -- ---- what is told
 
 -- it does not set a variable
-abbrev pub IsNoSetter : Entry → Type 0
-IsNoSetter r = is_setter (command_of r) ≡ true → ⊥
+abbrev pub IsNoSetVariable : Entry → Type 0
+IsNoSetVariable r = is_set_variable (command_of r) ≡ true → ⊥
 
-after_query-once : (s : Session) (k : Kept) (t : QueryAnswer) → TellsWell s t → IsNoSetter k.entry → IsHandled s k
+after_query-once : (s : Session) (k : Kept) (t : QueryAnswer) → TellsWell s t → IsNoSetVariable k.entry → IsHandled s k
     → IsOutcome s 1 (record { drafts = reply k.entry (success t.body t.names) ∷ []; drops = false; after = record s { kept = without k.entry.seq s.kept; references = t.references; used = s.used + 1 } })
 after_query-once s k t w o i = replied s k (success t.body t.names) _ i (moves-grown s _ refl w.grows w.few refl refl) w.references refl refl refl refl (λ suits. suits) (w.gives (command_of k.entry)) (λ setter. absurd (o setter))
 
-after_query-if : (b : Bool) (s : Session) (k : Kept) (t : QueryAnswer) → TellsWell s t → IsNoSetter k.entry → IsHandled s k
+after_query-if : (b : Bool) (s : Session) (k : Kept) (t : QueryAnswer) → TellsWell s t → IsNoSetVariable k.entry → IsHandled s k
     → IsRow s (at_once (if b then record { drafts = reply k.entry (success t.body t.names) ∷ []; drops = false; after = record s { kept = without k.entry.seq s.kept; references = t.references; used = s.used + 1 } } else after_answering k.entry (failure TooLarge) s))
 after_query-if true s k t w o i = once-row s 1 _ (after_query-once s k t w o i) refl (λ first before h. h)
 after_query-if false s k t w o i = failed-row s k TooLarge i
 
-pub after_query-row : (s : Session) (k : Kept) (given : QueryResult) → ((t : QueryAnswer) → given ≡ Ok t → TellsWell s t) → IsNoSetter k.entry → IsHandled s k → IsRow s (at_once (after_query s k.entry given))
+pub after_query-row : (s : Session) (k : Kept) (given : QueryResult) → ((t : QueryAnswer) → given ≡ Ok t → TellsWell s t) → IsNoSetVariable k.entry → IsHandled s k → IsRow s (at_once (after_query s k.entry given))
 after_query-row s k (Err f) w o i = failed-row s k f i
 after_query-row s k (Ok t) w o i = after_query-if (fits s k.entry t.body) s k t (w t refl) o i

@@ -100,7 +100,7 @@ outs_of-references_end_if : (drops : Bool) → outs_of (references_end_if drops)
 outs_of-references_end_if true = refl
 outs_of-references_end_if false = refl
 
-outs_of-entries : (laws : HistoriesGrow) (used : ℕ) (m : Made) → outs_of (entries_of used m) ≡ numbered_messages used m.drafts
+pub outs_of-entries : (laws : HistoriesGrow) (used : ℕ) (m : Made) → outs_of (entries_of used m) ≡ numbered_messages used m.drafts
 outs_of-entries laws used m =
     laws.outs_append (references_end_if m.drops) (outs used m.drafts) ∙ (ap (λ (ms : List Message). ms ++ outs_of (outs used m.drafts)) (outs_of-references_end_if m.drops) ∙ outs_of-outs used m.drafts)
 

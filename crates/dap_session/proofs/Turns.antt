@@ -13,7 +13,7 @@ use Rattle.dap_tables.specs.declared.entry.Entry.{Entry}
 use Rattle.dap_debuggee.specs.Shown.{Shown}
 use Rattle.dap_session.specs.declared.effect.Effect.{Effect}
 use Rattle.dap_session.specs.declared.effect.Effect.TheVariants as effect
-use Rattle.dap_session.specs.GivenLaws.{is_setter}
+use Rattle.dap_session.specs.GivenLaws.{is_set_variable}
 use Rattle.dap_session.specs.declared.fault.AdapterFault.{AdapterFault}
 use Rattle.dap_session.specs.declared.phase.Phase.TheVariants.{Fresh}
 use Rattle.dap_session.specs.Failures.{command_of, call_in, first_failure, or_else, when, name_refused, key_refused, phase_refused, call_refused, read_refused, known_refused, refusal, waits_for_stop}
@@ -50,9 +50,9 @@ unserved-fails None false call h = cc
 
 -- ---- the rows
 
-setter-is : (o : Option Command) (c : Command) → o ≡ Some c → is_setter o ≡ true → c ≡ command.SetVariable
-setter-is (Some command.SetVariable) c e h = cc
-setter-is _ c e h = cc
+set_variable-is : (o : Option Command) (c : Command) → o ≡ Some c → is_set_variable o ≡ true → c ≡ command.SetVariable
+set_variable-is (Some command.SetVariable) c e h = cc
+set_variable-is _ c e h = cc
 
 -- a query answers no command that sets something
 answers-if : (b : Bool) (d e : Effect) (r : Entry) → Answers d r → Answers e r → Answers (let x : Effect = (if b then d else e) in x) r
@@ -60,7 +60,7 @@ answers-if true d e r x y = x
 answers-if false d e r x y = y
 
 answers-so : (s : Session) (r : Entry) (c : Command) (e : Effect) → command_of r ≡ Some c → effect_in c s.phase ≡ Some e → Answers (effect_of s r e) r
-answers-so s r c effect.Query o h = λ setter. queries-no-setter c s.phase h (setter-is (command_of r) c o setter)
+answers-so s r c effect.Query o h = λ setter. queries-no-setter c s.phase h (set_variable-is (command_of r) c o setter)
 answers-so s r c effect.Start o h = answers-if (wants_terminal s.options r) effect.Ask effect.Start r tt tt
 answers-so s r c effect.StartParked o h = answers-if (parked_wants_terminal s.options s.kept) effect.AskParked effect.StartParked r tt tt
 answers-so s r c _ o h = tt

@@ -28,20 +28,20 @@ given_by (reply r (failure f)) = []
 given_by (emit event) = []
 given_by ask = []
 
--- by its definition only the answer to one of five commands gives some; of these setVariable reads like evaluate
-abbrev pub is_setter : Option Command → Bool
-is_setter (Some command.SetVariable) = true
-is_setter _ = false
+-- only the answers to stackTrace, scopes, variables, evaluate and setVariable are read for references; what answers setVariable gives none
+abbrev pub is_set_variable : Option Command → Bool
+is_set_variable (Some command.SetVariable) = true
+is_set_variable _ = false
 
-abbrev pub answers_setter : Draft → Bool
-answers_setter (reply r answer) = is_setter (command_of r)
-answers_setter (emit event) = false
-answers_setter ask = false
+abbrev pub answers_set_variable : Draft → Bool
+answers_set_variable (reply r answer) = is_set_variable (command_of r)
+answers_set_variable (emit event) = false
+answers_set_variable ask = false
 
--- what each gives is live, and what answers setVariable gives none
+-- what each gives is live
 abbrev pub AllGiveLive : LiveReferences → List Draft → Type 0
 AllGiveLive refs [] = Unit {0}
-AllGiveLive refs (d ∷ ds) = AreLive refs (given_by d) × (answers_setter d ≡ true → given_by d ≡ []) × AllGiveLive refs ds
+AllGiveLive refs (d ∷ ds) = AreLive refs (given_by d) × (answers_set_variable d ≡ true → given_by d ≡ []) × AllGiveLive refs ds
 
 -- once a step is made, whatever the debuggee replies
 pub record EachAnswerGivesLive : Type 0 where

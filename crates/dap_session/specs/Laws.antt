@@ -1,11 +1,11 @@
 -- Each step of an adapter goes on as its history does, whatever its debuggee replies.
 use Rattle.std.specs.Prelude.{◌≡◌, ℕ, List, [], ◌∷◌, ◌++◌, Some, Ok}
-use Rattle.dap_history.specs.History.{Entry, In, ins_of}
+use Rattle.dap_history.specs.History.{Entry, In, ins_of, outs_of}
 use Rattle.dap_message.specs.declared.message.Message.{Message}
 use Rattle.dap_debuggee.specs.Shown.{Shown, Reply}
 use Rattle.dap_session.specs.Carried.{Goes, CarriedOut}
 use Rattle.dap_session.specs.Handling.{turns}
-use Rattle.dap_session.specs.Plan.{Made, Plan, at_once, asking, entries_of}
+use Rattle.dap_session.specs.Plan.{Made, Plan, at_once, asking, entries_of, numbered_messages}
 use Rattle.dap_session.specs.Polling.{polls}
 use Rattle.dap_session.specs.Session.{Session, IsOrderly}
 use Rattle.dap_session.specs.Follows.{Follows}
@@ -22,7 +22,8 @@ can_make follows (at_once m) v w made c = c.0
 can_make follows (asking act makes) v w made c = (c.0, c.2)
 
 pub record EachStepGoesOn : Type 0 where
-  -- what is made is written, and nothing comes by it
+  -- what is made is written, all of it and nothing else, and nothing comes by it
+  pub all_go : (used : ℕ) (m : Made) → outs_of (entries_of used m) ≡ numbered_messages used m.drafts
   pub none_come : (used : ℕ) (m : Made) → ins_of (entries_of used m) ≡ []
   pub take : (s : Session) (m : Message) (plan : Plan) (made : Made) (h : List Entry) → IsOrderly s → takes m s ≡ Ok plan → CanMake plan made
       → Follows s h → Follows made.after (h ++ In m ∷ entries_of s.used made)

@@ -14,7 +14,7 @@ use Rattle.dap_session.specs.Polling.{polls}
 use Rattle.dap_session.specs.Session.{Session}
 use Rattle.dap_session.specs.Taking.{takes}
 
--- of a debuggee that was in its first state, not started, when the adapter was made; in Ended it is so still, or it is gone
+-- of a debuggee that was in this first state, whichever it is, when the session began; in Ended it is so still, or it is gone
 abbrev pub IsStateOf : State → Phase → State → Type 0
 IsStateOf first Running s = s ≡ state.Running
 IsStateOf first Stopped s = s ≡ state.Stopped

@@ -1,6 +1,6 @@
 //! The library code of the README, as a test: an editor's side that drives an adapter in the same process.
 
-use dap_adapter::{Adapter, Turned};
+use dap_adapter::Adapter;
 use dap_client::Client;
 use dap_debuggee::Recorded;
 use dap_frame::Limits;
@@ -50,27 +50,18 @@ impl Ends {
             return None;
         }
         let sent = self.client.send(alloc, call).ok()?;
-        let mut written = self.adapter.take(alloc, &sent.bytes).ok()?.bytes;
-        if let Turned::Done { bytes } = self.adapter.turn(alloc).ok()? {
-            written.extend_from_slice(&bytes).ok()?;
-        }
-        for _poll in 0..8 {
-            let told = self.adapter.poll(alloc).ok()?;
-            written.extend_from_slice(&told).ok()?;
-        }
+        let mut written = Vec::new(alloc);
+        self.adapter.answer(alloc, &sent.bytes, &mut written).ok()?;
         self.hear(alloc, &written, sent.seq)
     }
 
     /// Takes bytes of the adapter: the body of the response to this request, if one came with a body.
     fn hear(&mut self, alloc: Global, written: &[u8], seq: u64) -> Option<Tree> {
         let mut found = None;
-        let mut rest = written;
-        // Each `take` uses a byte at least.
-        for _take in 0..written.len() {
-            let got = self.client.take(alloc, rest).ok()?;
-            let (_, later) = rest.split_at(got.used);
-            rest = later;
-            if let Some(body) = answer_to(seq, got.delivered) {
+        let mut piece = written;
+        let mut out = Vec::new(alloc);
+        while let Some(message) = self.client.next(alloc, &mut piece, &mut out).ok()? {
+            if let Some(body) = answer_to(seq, Some(message)) {
                 found = Some(body);
             }
         }

@@ -1,0 +1,125 @@
+//! An adapter in a program with a loop of its own, as each debugger and each editor has: a piece at a time.
+ghost use Rattle.std.specs.Prelude.{◌≡◌, List, [], true, false, IfOk, IfErr, OnOk, OnErr, IfSome, IsOk, Some, None, Ok, Err};
+ghost use Rattle.dap_adapter.specs.Parts.{AnswersPiece, PollsOn, StopsAfter, PartsJoin, CallsInTurnAddUp};
+ghost use Rattle.dap_adapter.specs.PrivateServing.{adapter_fault_of};
+ghost use Rattle.dap_adapter.specs.Run.{to_take, to_poll, has_ended};
+ghost use Rattle.dap_session.specs.Polling.{has_debuggee};
+
+use crate::adapter::Adapter;
+use crate::served::ServeFault;
+use crate::serving::{is_ended, polls, serve_piece};
+use dap_debuggee::Debuggee;
+use dap_session::{AdapterFault, Phase};
+use std::alloc::Global;
+
+/// The fault of an adapter that has no channel.
+fn adapter_fault(fault: ServeFault) -> AdapterFault
+    ensures { result ≡ adapter_fault_of fault }
+{
+    match fault {
+        ServeFault::Adapter(fault) => fault,
+        _ => AdapterFault::OutOfMemory,
+    }
+}
+
+/// Whether there is a debuggee to ask what happened.
+fn is_in_a_run(phase: Phase) -> bool
+    ensures { result ≡ has_debuggee phase }
+{
+    matches!(phase, Phase::Running | Phase::Stopped)
+}
+
+impl<D: Debuggee + Drop> Adapter<D> {
+    /// Uses all of a piece of the client's bytes, of any length, and does for it what `serve` does. Each message in turn is
+    /// taken; after it all requests are handled, and the debuggee is asked what happened, at most 65536 times, until it gives
+    /// no bytes or is stopped. What is to be written is appended to `out`, which has no limit. A piece that makes no message
+    /// whole asks the debuggee nothing.
+    ///
+    /// It answers whether the session has ended, with the response to `disconnect`: then nothing after that message is used,
+    /// and a later call uses nothing and appends nothing.
+    ///
+    /// # Errors
+    /// Those of `take`, `turn` and `poll`, as they come, and `OutOfMemory` where memory is refused for `out`: then the step
+    /// whose bytes found no room was made, and they are lost. At each, what was made before is in `out`, and the adapter is
+    /// closed: each later call answers the same fault.
+    pub fn answer(
+        &mut self,
+        alloc: Global,
+        piece: &[u8],
+        out: &mut Vec<u8>,
+    ) -> Result<bool, AdapterFault>
+        ensures answers { IfOk result (λ ended. AnswersPiece D.shown D.follows self.old piece.now out.old.items self.new out.new.items ended) }
+        ensures over { self.old.fault ≡ None → has_ended self.old.session ≡ true → (result ≡ Ok true) × (self.new ≡ self.old) × (out.new ≡ out.old) }
+        ensures open { OnOk result (self.new.fault ≡ None) }
+        ensures limits { self.new.session.limits ≡ self.old.session.limits }
+
+        // Why it stops; then what was made before is appended, and nothing is held.
+        ensures stops { IfErr result (λ fault. self.old.fault ≡ None → StopsAfter D.shown D.follows self.old to_take piece.now out.old.items fault self.new out.new.items) }
+        ensures held { OnErr result (self.new.intake.held ≡ []) }
+        ensures latches { IfErr result (λ fault. self.new.fault ≡ Some fault) }
+        ensures latched { IfSome self.old.fault (λ fault. (result ≡ Err fault) × (self.new ≡ self.old) × (out.new ≡ out.old)) }
+    {
+        if let Some(fault) = self.fault() {
+            return Err(fault);
+        }
+        if is_ended(self.phase()) {
+            return Ok(true);
+        }
+        match serve_piece(alloc, self, &mut (), out, piece) {
+            Ok(ended) => Ok(ended),
+            Err(fault) => {
+                let fault = adapter_fault(fault);
+                self.close(fault);
+                Err(fault)
+            }
+        }
+    }
+
+    /// Tells what happened to the debuggee, and appends it to `out`. A debuggee that is stopped is asked once; one that runs
+    /// is asked until it gives no bytes, is stopped, or was asked 65536 times. Where `out` has grown, more may be due. A
+    /// program calls it when its debugger may have news: by a timer, or while it waits for input.
+    ///
+    /// # Errors
+    /// Those of `poll`, and `OutOfMemory` where memory is refused for `out`: then the events whose bytes found no room are
+    /// lost. At each, what was made before is in `out`, and the adapter is closed: each later call answers the same fault.
+    pub fn tell(&mut self, alloc: Global, out: &mut Vec<u8>) -> Result<(), AdapterFault>
+        ensures tells { has_debuggee self.old.session.phase ≡ true → OnOk result (PollsOn D.shown D.follows self.old out.old.items self.new out.new.items) }
+        ensures apart { self.old.fault ≡ None → has_debuggee self.old.session.phase ≡ false → IsOk result × (self.new ≡ self.old) × (out.new ≡ out.old) }
+        ensures intake { OnOk result (self.new.intake ≡ self.old.intake) }
+        ensures open { OnOk result (self.new.fault ≡ None) }
+        ensures limits { self.new.session.limits ≡ self.old.session.limits }
+
+        // Why it stops; then what was made before is appended, and nothing is held.
+        ensures stops { IfErr result (λ fault. self.old.fault ≡ None → StopsAfter D.shown D.follows self.old (to_poll 0) [] out.old.items fault self.new out.new.items) }
+        ensures held { OnErr result (self.new.intake.held ≡ []) }
+        ensures latches { IfErr result (λ fault. self.new.fault ≡ Some fault) }
+        ensures latched { IfSome self.old.fault (λ fault. (result ≡ Err fault) × (self.new ≡ self.old) × (out.new ≡ out.old)) }
+    {
+        if let Some(fault) = self.fault() {
+            return Err(fault);
+        }
+        if !is_in_a_run(self.phase()) {
+            return Ok(());
+        }
+        match polls(alloc, self, &mut (), out) {
+            Ok(()) => Ok(()),
+            Err(fault) => {
+                let fault = adapter_fault(fault);
+                self.close(fault);
+                Err(fault)
+            }
+        }
+    }
+}
+
+/// A law: parts of runs join to a part, so calls of `answer` one after the other are a part of one run.
+pub fn parts_of_a_run_join<D: Debuggee>()
+    ensures { PartsJoin D.shown D.follows }
+{}
+
+/// A law: whatever calls of `answer` and `tell` a program makes, and in whatever order, what they append is the messages that
+/// the adapter's history lists from then on, all of them and nothing else, and each is read again by a client with the same
+/// limit on bodies. So each response among them answers one request that was unanswered.
+pub fn calls_in_turn_add_up<D: Debuggee>()
+    ensures { CallsInTurnAddUp D.shown D.follows }
+{}
