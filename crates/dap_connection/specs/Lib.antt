@@ -1,0 +1,3 @@
+pub mod ConnectionState
+pub mod Connection
+pub mod PrivateSteps
