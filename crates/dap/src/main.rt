@@ -9,8 +9,8 @@ mod command_line;
 use clap::ArgMatches;
 use clap::error::{Error, ErrorKind};
 use dap_channel::{Input, Pipe};
-use dap_debuggee::Recorded;
 use dap_frame::End;
+use dap_recording::Recorded;
 use dap_tool::{
     Checked, FileFault, ToolFault, explanation_line, fault_line, most_reads, read_whole, status,
     verdict_line,

@@ -4,6 +4,7 @@ use Rattle.std.specs.Prelude.{not, ◌&&◌, ◌||◌, cond, count_by, option_ma
 use Rattle.std.specs.BTreeSet as sorted
 use Rattle.std.specs.List.{list_any}
 use Rattle.std.specs.Ordering.{nat_cmp}
+use Rattle.std.proofs.lemmas.List.Sums.{sum_by_push}
 use Rattle.serde_json.specs.Data.{Data, null}
 use Rattle.dap_message.specs.Command.{command_named}
 use Rattle.dap_message.specs.GivenReferences.{frame_ids, holders_of}
@@ -39,8 +40,7 @@ use Rattle.dap_check.specs.declared.waiting.Waiting.{Waiting}
 use Rattle.dap_check.proofs.LegalLemmas.{legal_push, finding_push, answers_well}
 use Rattle.dap_check.proofs.OfferLemmas.{one_later}
 use Rattle.dap_check.proofs.ReferenceLemmas.{referenced_later}
-use Rattle.dap_check.proofs.SinceLemmas.{any_push, open_push, first_push, first_later, last_push}
-use Rattle.dap_check.proofs.TrailLemmas.{count_push}
+use Rattle.dap_check.specs.SinceLaws.{any_push, open_push, first_push, first_later, last_push}
 
 abbrev line_at : ℕ → Side → ℕ → Kind → Line
 line_at number side seq kind = record { number = number; side = side; message = record { seq = seq; kind = kind } }
@@ -171,7 +171,7 @@ module _ (earlier : List Line) (x y : Line) where
   any_alike p e = any_push p earlier x ∙ ap (λ b. list_any p earlier || b) e ∙ sym (any_push p earlier y)
 
   count_alike : (p : Line → Bool) → p x ≡ p y → count_by p (earlier ++ x ∷ []) ≡ count_by p (earlier ++ y ∷ [])
-  count_alike p e = count_push p earlier x ∙ ap (λ b. cond b (count_by p earlier + 1) (count_by p earlier)) e ∙ sym (count_push p earlier y)
+  count_alike p e = sum_by_push (λ z. cond (p z) 1 0) earlier x ∙ ap (λ b. count_by p earlier + cond b 1 0) e ∙ sym (sum_by_push (λ z. cond (p z) 1 0) earlier y)
 
   open_alike : (p q : Line → Bool) → p x ≡ p y → q x ≡ q y → is_open p q (earlier ++ x ∷ []) ≡ is_open p q (earlier ++ y ∷ [])
   open_alike p q ep eq = open_push p q earlier x ∙ ap (λ b. (is_open p q earlier && not b) || p x) eq ∙ ap (λ b. (is_open p q earlier && not (q y)) || b) ep ∙ sym (open_push p q earlier y)

@@ -17,7 +17,7 @@ use Rattle.dap_check.specs.Rules.{initialize, offered_capabilities, offered_sinc
 use Rattle.dap_check.specs.PrivateKept.{offer_after}
 use Rattle.dap_check.specs.Places.{named_by, is_on, is_off, switches_on, switches_off}
 use Rattle.dap_check.specs.declared.line.Line.{Line}
-use Rattle.dap_check.proofs.SinceLemmas.{any_push, open_push, last_push}
+use Rattle.dap_check.specs.SinceLaws.{any_push, open_push, last_push}
 use Rattle.dap_check.proofs.OfferLemmas.{one_later}
 
 -- the flags that pass are those that it has

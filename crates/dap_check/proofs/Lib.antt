@@ -1,7 +1,6 @@
 mod RuleExamples
 mod TranscriptExamples
 mod WorkedExamples
-pub mod SinceLemmas
 pub mod FirstLemmas
 pub mod WaitingLemmas
 pub mod OfferLemmas
@@ -16,8 +15,4 @@ pub mod OneReading
 pub mod ByPlaces
 pub mod RulesByPlaces
 pub mod Flags
-pub mod TrailLemmas
-pub mod Walked
-pub mod Explained
-pub mod ReasonLemmas
 pub mod BareLemmas

@@ -9,7 +9,7 @@ use Rattle.dap_check.specs.Rules.{offered_since, after_line, initialize}
 use Rattle.dap_check.specs.PrivateKept.{IsOffered, offer_after}
 use Rattle.dap_check.specs.declared.line.Line.{Line}
 use Rattle.dap_check.specs.declared.offer.Offer.{Offer}
-use Rattle.dap_check.proofs.SinceLemmas.{last_push, last_later}
+use Rattle.dap_check.specs.SinceLaws.{last_push, last_later}
 
 pub one_later : (b : Bool) (line : Line) (last : Option (Past Line)) → option_map offered_since (last_later b line last) ≡ offer_after b line (option_map offered_since last)
 one_later true line last = refl

@@ -1,12 +1,11 @@
 pub mod Since
+pub mod SinceLaws
 pub mod Lines
 pub mod Rules
 pub mod Legal
 pub mod Laws
 pub mod Places
 pub mod Transcript
+pub mod ReadingLaws
 pub mod PrivateKept
-pub mod Reasons
-pub mod PrivateTrails
-pub mod Sentences
 pub mod PrivateBare

@@ -1,7 +1,9 @@
 //! Laws of the definitions, each on a function with nothing to run.
 ghost use Rattle.dap_check.specs.Laws.{EachTranscriptHasOneVerdict, SomeIsAPlace, OpenIsAPlace, FirstIsAPlace, LastIsAPlace};
-ghost use Rattle.dap_check.specs.Reasons.{BrokenRulesHaveReasons};
+ghost use Rattle.dap_check.specs.ReadingLaws.{TextsHaveOneLine, TextsHaveOneTranscript, TranscriptsGrow};
 ghost use Rattle.dap_check.specs.Places.{AnswerIsByPlaces, FirstRequestIsByPlaces, OfferIsByPlaces, ReferencesAreByPlaces};
+
+use dap_message::laws::each_body_is_one;
 
 /// Each transcript is legal, or has one finding: never both, never two.
 pub fn each_transcript_has_one_verdict()
@@ -26,7 +28,13 @@ pub fn rules_are_told_by_places()
     ensures references { ReferencesAreByPlaces }
 {}
 
-/// A line has a reason why it breaks a rule just where it breaks it.
-pub fn broken_rules_have_reasons()
-    ensures { BrokenRulesHaveReasons }
-{}
+/// A text is read in one way: it has one line at most, and none where it is refused. Texts have one transcript at most, and
+/// one text more makes it one line longer, if that has bytes.
+pub fn texts_are_read_in_one_way()
+    ensures line { TextsHaveOneLine }
+    ensures transcript { TextsHaveOneTranscript }
+    ensures grows { TranscriptsGrow }
+{
+    // A law for the proof: no text is two messages.
+    each_body_is_one();
+}

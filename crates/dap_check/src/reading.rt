@@ -34,8 +34,11 @@ fn split_side(text: &[u8]) -> Option<(Side, &[u8])>
     }
 }
 
-/// The line of this number.
-pub(crate) fn read_line(alloc: Global, number: u64, text: &[u8]) -> Result<Line, CheckFault>
+/// The line of this number that a text without its line feed is.
+///
+/// # Errors
+/// `BadLine` and `Body` as [`check`](crate::check) has them; `OutOfMemory` where memory is refused.
+pub fn read_line(alloc: Global, number: u64, text: &[u8]) -> Result<Line, CheckFault>
     ensures line { IfOk result (IsLine number text.now) }
     ensures refused { IfErr result (Refuses number text.now) }
 {

@@ -1,22 +1,17 @@
--- Worked examples of the laws' tables and of what holds of recordings, each shown by computation.
-use Rattle.std.proofs.Common.{◌≡◌, List, ℕ, [], ◌∷◌, codes, replicate, true, false, Option, None, Some, pos, negsuc, refl, arith}
+-- Worked examples of the laws' tables, each shown by computation.
+use Rattle.std.proofs.Common.{◌≡◌, List, ℕ, [], ◌∷◌, codes, replicate, true, false, Option, None, Some, pos, negsuc, refl}
 use Rattle.dap_call.specs.declared.call.SourceKey.{SourceKey}
 use Rattle.dap_call.specs.declared.call.SourceKey.TheVariants.{Path, Reference}
 use Rattle.dap_debuggee.specs.Shown.{Act, Reply, to_start, to_resume, to_pause, to_poll, to_set_breakpoints, to_assign, to_end, done, refused, happened, category_name, asked_of_act}
 use Rattle.dap_debuggee.specs.Laws.{may_answer, state_after, lines_after, keeps_answers, keeps_frames, with_value, children_after, is_code, is_short, is_frame}
 use Rattle.dap_call.specs.SameSource.{is_source}
-use Rattle.dap_debuggee.specs.Recording.{line_count, is_rising, are_distinct, is_moment, depth, top, id_at, objects, holders_of, HasOwnNumbers}
 use Rattle.dap_debuggee.specs.declared.answers.State.TheVariants.{NotStarted, Running, Stopped, Gone}
 use Rattle.dap_debuggee.specs.declared.answers.How.TheVariants.{Next, Continue}
 use Rattle.dap_debuggee.specs.declared.answers.Asked.TheVariants as remembers
 use Rattle.dap_debuggee.specs.declared.answers.Category.TheVariants.{Console, Stdout, Stderr}
 use Rattle.dap_debuggee.specs.declared.answers.Frame.{Frame}
 use Rattle.dap_debuggee.specs.declared.answers.Happening.TheVariants.{Nothing, Output, Stopped as StoppedBy, Continued, Exited}
-use Rattle.dap_debuggee.specs.declared.answers.Scope.{Scope}
 use Rattle.dap_debuggee.specs.declared.answers.Variable.{Variable}
-use Rattle.dap_debuggee.specs.declared.recording.Moment.{Moment}
-use Rattle.dap_debuggee.specs.declared.recording.RecordedThread.{RecordedThread}
-use Rattle.dap_debuggee.proofs.ThreeMoments.{three_moments}
 
 abbrev wrote : Reply
 wrote = happened (Output Stdout (codes "x"))
@@ -114,59 +109,3 @@ frames = (refl, refl, refl, refl, refl, refl)
 
 categories : (category_name Console ≡ codes "console") × (category_name Stdout ≡ codes "stdout") × (category_name Stderr ≡ codes "stderr")
 categories = (refl, refl, refl)
-
--- ---- recordings
-
-line_counts : (line_count [] ≡ 0) × (line_count (codes "\n") ≡ 1) × (line_count (codes "x") ≡ 1) × (line_count (codes "one\ntwo\nthree\n") ≡ 3) × (line_count (codes "one\ntwo\nthree") ≡ 3) × (line_count (codes "\n\n") ≡ 2) × (line_count (codes "\nx") ≡ 2) × (line_count (codes "a\r\nb\r\n") ≡ 2)
-line_counts = (refl, refl, refl, refl, refl, refl, refl, refl)
-
-rising : (is_rising [] ≡ true) × (is_rising (0 ∷ 1 ∷ 5 ∷ []) ≡ true) × (is_rising (0 ∷ 0 ∷ []) ≡ false) × (is_rising (2 ∷ 1 ∷ []) ≡ false)
-rising = (refl, refl, refl, refl)
-
-abbrev thread : ℕ → List Frame → RecordedThread
-thread id frames = record { id = pos id; name = codes "t"; frames = frames }
-
-distinct : (are_distinct (thread 1 [] ∷ thread 2 [] ∷ []) ≡ true) × (are_distinct (thread 1 [] ∷ thread 2 [] ∷ thread 1 [] ∷ []) ≡ false)
-distinct = (refl, refl)
-
-abbrev moment : ℕ → List RecordedThread → Moment
-moment place threads = record { threads = threads; thread = place; output = []; waits = false; frames = record { from = 0; to = 0 }; holders = record { from = 0; to = 0 } }
-
--- two threads, and the second one stands here
-abbrev two : Moment
-two = moment 1 (thread 7 (frame 3 0 1 ∷ []) ∷ thread 9 (frame 4 0 5 ∷ frame 6 0 2 ∷ []) ∷ [])
-
-parts : (depth two ≡ 2) × (top two ≡ Some (frame 4 0 5)) × (id_at two ≡ pos 9) × (objects two ≡ 3 ∷ 4 ∷ 6 ∷ [])
-parts = (refl, refl, refl, refl)
-
-moments : (is_moment 1 two ≡ true) × (is_moment 0 two ≡ false) × (is_moment 1 (moment 2 two.threads) ≡ false) × (is_moment 1 (moment 0 (thread 7 [] ∷ [])) ≡ false) × (is_moment 1 (moment 0 (thread 7 (frame 3 0 1 ∷ []) ∷ thread 8 (frame 3 0 1 ∷ []) ∷ [])) ≡ false) × (is_moment 1 (moment 0 []) ≡ false)
-moments = (refl, refl, refl, refl, refl, refl)
-
--- the number of a scope, and then that of a variable
-holders : holders_of three_moments ≡ 1 ∷ 0 ∷ []
-holders = refl
-
--- ---- numbers of a moment
-
-abbrev spanned : ℕ → ℕ → Moment
-spanned frames holders = record { threads = thread 7 (frame 0 0 1 ∷ []) ∷ []; thread = 0; output = []; waits = false; frames = record { from = 0; to = frames }; holders = record { from = 0; to = holders } }
-
-abbrev scope : ℕ → Scope
-scope holder = record { name = codes "s"; holder = holder }
-
-abbrev variable : ℕ → Variable
-variable holder = record { name = codes "v"; value = codes "1"; holder = Some holder }
-
--- of a frame outside its span
-frame_elsewhere : HasOwnNumbers ([] ∷ []) [] (spanned 0 0) → ⊥
-frame_elsewhere p = let w = p.of_frames 0 0 (thread 7 (frame 0 0 1 ∷ [])) (frame 0 0 1) refl refl in absurd (omega (arith, w.to))
-
--- without scopes of its frame
-no_scopes : HasOwnNumbers [] [] (spanned 1 0) → ⊥
-no_scopes p = absurd (omega (arith, p.frames_stand))
-
-scope_elsewhere : HasOwnNumbers ((scope 0 ∷ []) ∷ []) ([] ∷ []) (spanned 1 0) → ⊥
-scope_elsewhere p = let w = p.of_scopes 0 0 (scope 0 ∷ []) (scope 0) (record { from = omega arith; to = omega arith }) refl refl in absurd (omega (arith, w.to))
-
-variable_elsewhere : HasOwnNumbers ((scope 0 ∷ []) ∷ []) ((variable 1 ∷ []) ∷ [] ∷ []) (spanned 1 1) → ⊥
-variable_elsewhere p = let w = p.of_variables 0 0 (variable 1 ∷ []) (variable 1) 1 (record { from = omega arith; to = omega arith }) refl refl refl in absurd (omega (arith, w.to))

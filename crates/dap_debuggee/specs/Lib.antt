@@ -1,12 +1,3 @@
 pub mod Shown
 pub mod Laws
-pub mod Recording
-pub mod RecordingKey
-pub mod Reading
-pub mod PrivateReadThreads
-pub mod Moves
-pub mod Played
-pub mod PrivateHeld
-pub mod PlayedLaws
-pub mod Polls
-pub mod ShownNumbers
+pub mod KeepsLaws

@@ -5,6 +5,7 @@
 ghost use Rattle.std.specs.Prelude.{◌≡◌};
 
 use dap_json::Text;
+use std::alloc::AllocError;
 
 /// Where a debuggee stands.
 #[derive(Clone, Copy, Debug, PartialEq, Eq)]
@@ -78,6 +79,16 @@ pub enum DebuggeeFault {
     Refused,
     /// Memory was refused.
     OutOfMemory,
+}
+
+impl From<AllocError> for DebuggeeFault {
+    ghost use Rattle.dap_debuggee.specs.declared.answers.DebuggeeFault.TheVariants.{OutOfMemory};
+
+    ghost from_gives = { λ _ e. e ≡ OutOfMemory };
+
+    fn from(_e: AllocError) -> DebuggeeFault {
+        DebuggeeFault::OutOfMemory
+    }
 }
 
 /// Specification, "Thread".

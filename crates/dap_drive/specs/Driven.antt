@@ -3,11 +3,11 @@ use Rattle.std.specs.Prelude.{◌≡◌, ◌⊎◌, ◌+◌, ◌<◌, ℕ, List,
 use Rattle.dap_frame.specs.Settings.{Settings}
 use Rattle.dap_message.specs.Types.Call.{Call as TheCall}
 use Rattle.dap_json.specs.Read.{json_of}
-use Rattle.dap_debuggee.specs.Played.{shown_of, FollowsPlayed, fresh_played}
-use Rattle.dap_debuggee.specs.Reading.{verdict_of}
+use Rattle.dap_recording.specs.Played.{shown_of, FollowsPlayed, fresh_played}
+use Rattle.dap_recording.specs.Reading.{verdict_of}
 use Rattle.dap_debuggee.specs.Shown.{Shown}
-use Rattle.dap_debuggee.specs.declared.reading.RecordingFault.{RecordingFault}
-use Rattle.dap_debuggee.specs.declared.recording.Recording.{Recording as TheRecording}
+use Rattle.dap_recording.specs.declared.reading.RecordingFault.{RecordingFault}
+use Rattle.dap_recording.specs.declared.recording.Recording.{Recording as TheRecording}
 use Rattle.dap_session.specs.Carried.{Goes}
 use Rattle.dap_client.specs.Sending.{first_of, refusals_in_order}
 use Rattle.dap_client.specs.Session.{oldest_of}

@@ -1,7 +1,3 @@
-pub mod Played
-pub mod LifeExamples
-pub mod TerminalExamples
-pub mod ReferencesExamples
 pub mod Steps
 pub mod Kept
 pub mod Rows

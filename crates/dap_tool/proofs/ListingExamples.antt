@@ -7,8 +7,8 @@ use Rattle.dap_message.specs.declared.fault.BodyRefusal.TheVariants.{BadSeq}
 use Rattle.dap_message.specs.declared.message.Kind.TheVariants.{Request, Response, Event, Other}
 use Rattle.dap_session.specs.declared.fault.AdapterFault.TheVariants as adapter
 use Rattle.dap_adapter.specs.declared.served.ServeFault.TheVariants as serve
-use Rattle.dap_debuggee.specs.declared.reading.RecordingKey.TheVariants.{Moments}
-use Rattle.dap_debuggee.specs.declared.reading.RecordingFault.TheVariants as recording
+use Rattle.dap_recording.specs.declared.reading.RecordingKey.TheVariants.{Moments}
+use Rattle.dap_recording.specs.declared.reading.RecordingFault.TheVariants as recording
 use Rattle.dap_tool.specs.Listing.{shown_text, line_of_message}
 use Rattle.dap_tool.specs.Faults.{status_of, line_of}
 use Rattle.dap_tool.specs.declared.fault.ToolFault.TheVariants.{Serve, Recording, Show, Wrap, File, Truncated, Write, OutOfMemory}

@@ -8,8 +8,8 @@ use Rattle.dap_session.specs.declared.fault.AdapterFault.{AdapterFault}
 use Rattle.dap_session.specs.declared.fault.AdapterFault.TheVariants.{Frame, Body, RepeatedSeq, Unmatched, CommandMismatch, Ended, SeqExhausted, OutOfMemory as NoMemoryToAnswer}
 use Rattle.dap_adapter.specs.declared.served.ServeFault.{ServeFault}
 use Rattle.dap_adapter.specs.declared.served.ServeFault.TheVariants.{Read, Write, Adapter, TooManyReads, OutOfMemory}
-use Rattle.dap_debuggee.specs.declared.reading.RecordingFault.{RecordingFault}
-use Rattle.dap_debuggee.specs.declared.reading.RecordingFault.TheVariants.{NotJson as NoJson, NotObject as NoObject, BadKey, OutOfMemory as NoMemoryForRecording}
+use Rattle.dap_recording.specs.declared.reading.RecordingFault.{RecordingFault}
+use Rattle.dap_recording.specs.declared.reading.RecordingFault.TheVariants.{NotJson as NoJson, NotObject as NoObject, BadKey, OutOfMemory as NoMemoryForRecording}
 use Rattle.dap_check.specs.declared.checking.CheckFault.{CheckFault}
 use Rattle.dap_check.specs.declared.checking.CheckFault.TheVariants.{BadLine, Body as CheckedBody, OutOfMemory as NoMemoryToCheck}
 use Rattle.dap_client.specs.declared.fault.SendFault.{SendFault}

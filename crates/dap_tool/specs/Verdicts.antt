@@ -1,8 +1,8 @@
 -- The lines that a program tells of a transcript. They are this profile's choice.
 use Rattle.std.specs.Prelude.{ℕ, List, [], ◌++◌, codes, decimal, Option, Some, None}
 use Rattle.dap_check.specs.Legal.{number_of}
-use Rattle.dap_check.specs.Sentences.{sentence_of}
-use Rattle.dap_check.specs.declared.reason.Reason.{Reason}
+use Rattle.dap_explain.specs.Sentences.{sentence_of}
+use Rattle.dap_explain.specs.declared.reason.Reason.{Reason}
 use Rattle.dap_check.specs.declared.rule.Rule.{Rule}
 use Rattle.dap_check.specs.declared.rule.Checked.{Checked}
 use Rattle.dap_check.specs.declared.rule.Checked.TheVariants.{Legal, Finding}

@@ -9,10 +9,10 @@ use crate::wrapping::WrapFault;
 use dap_adapter::{AdapterFault, ServeFault};
 use dap_check::CheckFault;
 use dap_client::SendFault;
-use dap_debuggee::RecordingFault;
 use dap_drive::DriveFault;
 use dap_frame::Refusal;
 use dap_message::BodyRefusal;
+use dap_recording::RecordingFault;
 use std::alloc::{AllocError, Global};
 use thiserror::Error;
 

@@ -2,12 +2,13 @@
 
 ghost use Rattle.std.specs.Prelude.{◌≡◌, ◌⊎◌, ◌∷◌, ◌++◌, [], List, IfOk, IfErr, IsOk, string_bytes};
 ghost use Rattle.std.specs.Str.Lines.{lines};
-ghost use Rattle.dap_check.specs.Reasons.{reason_of};
+ghost use Rattle.dap_explain.specs.Reasons.{reason_of};
 ghost use Rattle.dap_check.specs.Transcript.{AreLines, IsRefusedIn};
 ghost use Rattle.dap_check.specs.declared.line.Line.{Line};
 ghost use Rattle.dap_tool.specs.Verdicts.{text_of_finding, text_of_checked, text_of_reason, text_of_why};
 
-use dap_check::{CheckFault, Checked, Reason, Rule, explain, sentence};
+use dap_check::{CheckFault, Checked, Rule};
+use dap_explain::{Reason, explain, sentence};
 use std::alloc::{AllocError, Global};
 
 fn finding_text(alloc: Global, line: u64, rule: Rule) -> Result<String, AllocError>

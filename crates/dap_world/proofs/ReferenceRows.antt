@@ -1,5 +1,5 @@
 -- A worked session over a recording of three moments: a frame of the stop before is refused by the client, as long as it waits for the resumption and after it.
-use Rattle.std.proofs.Common.{◌≡◌, List, [], ◌∷◌, Bool, true, false, None, Some, pos, refl, sym, ap, arith, true≢false}
+use Rattle.std.proofs.Common.{◌≡◌, List, [], ◌∷◌, Bool, true, false, None, Some, pos, refl, ap, arith, true≢false}
 use Rattle.std.specs.Prelude.{◌&&◌, ◌≤◌, not, map, IsTrue, Ok}
 use Rattle.std.specs.Fmt.{digits}
 use Rattle.std.specs.Str.{is_utf8, chars}
@@ -19,9 +19,9 @@ use Rattle.dap_message.specs.declared.message.Message.{Message}
 use Rattle.dap_tables.specs.Given.{frame}
 use Rattle.dap_ends.proofs.Counts.{and-left, and-right}
 use Rattle.dap_debuggee.specs.Laws.{ends_a_stop}
-use Rattle.dap_debuggee.specs.Played.{Played, with_ask, fresh_played, act_on, shown_of, IsAllowed, FollowsPlayed}
+use Rattle.dap_recording.specs.Played.{Played, with_ask, fresh_played, act_on, shown_of, IsAllowed, FollowsPlayed}
 use Rattle.dap_debuggee.specs.Shown.{Act, to_start, to_resume, to_pause, to_poll, to_set_breakpoints, to_assign, to_end, Reply}
-use Rattle.dap_debuggee.proofs.ThreeMoments.{three_moments}
+use Rattle.dap_recording.proofs.ThreeMoments.{three_moments}
 use Rattle.dap_session.specs.Bodies.{query_result}
 use Rattle.dap_session.specs.Carried.{Goes}
 use Rattle.dap_session.specs.GivenLaws.{AreLive}
@@ -37,6 +37,7 @@ use Rattle.dap_world.specs.References.{LastingStops}
 use Rattle.dap_world.specs.World.{World, messages_of, fresh_world, Schedule, starts}
 use Rattle.dap_world.proofs.PlayedWorlds.{initialize, sent, up, down, turned, polled, seat_after, LeadsBy, GoesOn, sends_by, comes_up_by, comes_down_by, turns_once_by, polls_once_by}
 use Rattle.dap_world.proofs.ReadAgain.{all_read_again, all-read-again}
+use Rattle.dap_world.proofs.Booleans.{not-true}
 
 abbrev replies : Act → Played → Reply × Played
 replies act v = ((act_on act v).0, with_ask act (act_on act v).0 (act_on act v).1)
@@ -67,17 +68,13 @@ abbrev is_calm : Plan → Played → Bool
 is_calm (at_once made) v = true
 is_calm (asking act makes) v = not (sets_value act) && not (ends_a_stop v.state (replies act v).0)
 
-not-so : (b : Bool) → not b ≡ true → b ≡ false
-not-so true h = absurd (true≢false (sym h))
-not-so false h = refl
-
 goes-on : (plan : Plan) (v : Played) → is_calm plan v ≡ true → GoesOn shown_of Follows replies usual_settings at_first plan v
 goes-on (at_once made) v h = (refl, refl)
 goes-on (asking act makes) v h = (
   (replies act v).0,
   (
-    record { allowed = allowed v act (not-so _ (and-left (not (sets_value act)) _ h)); reply = refl; view = refl },
-    not-so _ (and-right (not (sets_value act)) (not (ends_a_stop v.state (replies act v).0)) h),
+    record { allowed = allowed v act (not-true _ (and-left (not (sets_value act)) _ h)); reply = refl; view = refl },
+    not-true _ (and-right (not (sets_value act)) (not (ends_a_stop v.state (replies act v).0)) h),
   ),
   refl,
 )

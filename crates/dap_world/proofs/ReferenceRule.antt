@@ -42,7 +42,8 @@ use Rattle.dap_world.specs.Transcripts.{said_of}
 use Rattle.dap_world.proofs.ClientSeen.{named-back}
 use Rattle.dap_world.proofs.GateStepping.{IsWritten}
 use Rattle.dap_world.proofs.ReferencesSeen.{has-member, seen-self}
-use Rattle.dap_world.proofs.RulesSeen.{or-false, or-true, is-false}
+use Rattle.dap_world.proofs.RulesSeen.{is-false}
+use Rattle.dap_world.proofs.Booleans.{from-or-false, or-either, or-true}
 
 -- ---- the lines, as the smaller pair has them
 
@@ -69,10 +70,6 @@ asks-at known (x ∷ xs) l ys h =
 
 -- ---- what resumes
 
-or-either : (a b : Bool) → (a || b) ≡ true → (a ≡ true) ⊎ (b ≡ true)
-or-either true b h = inl refl
-or-either false b h = inr h
-
 resume-command : (name : List ℕ) → is_among resume_commands name ≡ true → (code (class_if (command_named name)) == 8) ≡ true
 resume-command name h =
     elim (or-either (bytes_eq name (codes "continue")) (bytes_eq name (codes "next") || (bytes_eq name (codes "stepIn") || (bytes_eq name (codes "stepOut") || (bytes_eq name (codes "stepBack") || (bytes_eq name (codes "reverseContinue") || false))))) h) [
@@ -85,7 +82,7 @@ resume-command name h =
             | inl e ↦ by (codes "stepOut") e refl
             | inr h ↦ elim (or-either (bytes_eq name (codes "stepBack")) (bytes_eq name (codes "reverseContinue") || false) h) [
               | inl e ↦ by (codes "stepBack") e refl
-              | inr h ↦ by (codes "reverseContinue") (or-false (bytes_eq name (codes "reverseContinue")) h) refl
+              | inr h ↦ by (codes "reverseContinue") (from-or-false (bytes_eq name (codes "reverseContinue")) h) refl
             ]
           ]
         ]
@@ -101,7 +98,7 @@ resume-event name h =
       | inl e ↦ by (codes "continued") e refl
       | inr h ↦ elim (or-either (bytes_eq name (codes "exited")) (bytes_eq name (codes "terminated") || false) h) [
         | inl e ↦ by (codes "exited") e refl
-        | inr h ↦ by (codes "terminated") (or-false (bytes_eq name (codes "terminated")) h) refl
+        | inr h ↦ by (codes "terminated") (from-or-false (bytes_eq name (codes "terminated")) h) refl
       ]
     ]
   where
@@ -203,7 +200,7 @@ given-line number seq q false i name message body p h = cc
 quiet-response : (ok : Bool) (name : List ℕ) → (ok && (code (class_if (command_named name)) == 8)) ≡ false → ((ok && is_among resume_commands name) || false) ≡ false
 quiet-response ok name h =
     is-false ((ok && is_among resume_commands name) || false) (λ e.
-    let both = or-false (ok && is_among resume_commands name) e in
+    let both = from-or-false (ok && is_among resume_commands name) e in
     let resumed : (ok && (code (class_if (command_named name)) == 8)) ≡ true = rw (and-left ok (is_among resume_commands name) both) (resume-command name (and-right ok (is_among resume_commands name) both)) in
     true≢false (sym resumed ∙ h))
 

@@ -37,7 +37,7 @@ use Rattle.dap_world.specs.References.{LastingStops, ReferencesAgreeWhileStopsLa
 use Rattle.dap_world.specs.Transcripts.{said_of, Keeps, KeepsRules}
 use Rattle.dap_world.specs.World.{World, Said}
 use Rattle.dap_world.proofs.Agreeing.{down-fault}
-use Rattle.dap_world.proofs.ClientSeen.{MeetsLimit, client-limit-seen}
+use Rattle.dap_world.proofs.ClientReferences.{MeetsLimit, client-limit-seen}
 use Rattle.dap_world.proofs.ClientStepping.{given_then, down-first, down-comes, request-kept}
 use Rattle.dap_world.proofs.Legality.{each-transcript-keeps-rules}
 use Rattle.dap_world.proofs.GateStepping.{GateAt, AllGated, gate-at, schedule-gated}

@@ -7,7 +7,7 @@ use Rattle.std.proofs.lemmas.Bool.Decides.{nat_tests}
 use Rattle.std.proofs.lemmas.List.{map-append}
 use Rattle.std.proofs.lemmas.List.Folds.{list_any-append}
 use Rattle.dap_ends.specs.References.{Ref, Table, same_ref, same_kind as small_same_kind, IsWithin, all_in, references_from, live_refs, without_references as small_without}
-use Rattle.dap_ends.proofs.Members.{or-left, absent-apart, distinct-within, distinct-among}
+use Rattle.dap_ends.proofs.Members.{absent-apart, distinct-within, distinct-among}
 use Rattle.dap_tables.specs.Known.{is_pair, has_pair, with_pairs, HasDistinctPairs}
 use Rattle.dap_tables.specs.References.{LiveReferences, same_kind, target_of, is_of_kind, without_references}
 use Rattle.dap_tables.specs.declared.reference_kind.ReferenceKind.{ReferenceKind}
@@ -16,6 +16,7 @@ use Rattle.dap_tables.specs.declared.target.Target.{Target}
 use Rattle.dap_tables.proofs.KnownLemmas.{known_is_a_set}
 use Rattle.dap_session.specs.GivenLaws.{AreLive}
 use Rattle.dap_world.specs.Projection.{is_frame, reference_seen, references_seen, kinds_of, table_of}
+use Rattle.dap_world.proofs.Booleans.{and-false, and-left, and-right, or-false, or-left-true, or-right-true}
 
 -- ---- the table
 
@@ -56,17 +57,9 @@ below m n h = grind (arith, nat_tests)
 not-below : (m n : ℕ) → n ≤ m → nat_lt m n ≡ false
 not-below m n h = grind (arith, nat_tests)
 
-and-false : (b : Bool) → (b && false) ≡ false
-and-false true = refl
-and-false false = refl
-
 and-true : (b : Bool) → (b && true) ≡ b
 and-true true = refl
 and-true false = refl
-
-or-false : (b : Bool) → (b || false) ≡ b
-or-false true = refl
-or-false false = refl
 
 -- a number that is dead
 dead-member : (base n : ℕ) (k : ReferenceKind) (live : List Bool) → n ≤ base → is_member same_ref (references_from base live) (reference_seen (k, n)) ≡ false
@@ -122,18 +115,11 @@ kind-self Holder = refl
 pub seen-self : (p : ReferenceKind × ℕ) → same_ref (reference_seen p) (reference_seen p) ≡ true
 seen-self p = rw (kind-self p.0, equal p.1) refl
 
-or-then : (a b : Bool) → a ≡ true → (a || b) ≡ true
-or-then a b e = or-left a b e
-
-or-last : (a b : Bool) → b ≡ true → (a || b) ≡ true
-or-last true b e = refl
-or-last false b e = e
-
 pub are-live : (refs : LiveReferences) (ps : List (ReferenceKind × ℕ)) → IsWithin (references_seen ps) (live_refs (table_of refs)) → AreLive refs ps
 are-live refs [] h = tt
 are-live refs (p ∷ ps) h = (
-  sym (live-member refs p) ∙ h (reference_seen p) (or-then (same_ref (reference_seen p) (reference_seen p)) (is_member same_ref (references_seen ps) (reference_seen p)) (seen-self p)),
-  are-live refs ps (λ x e. h x (or-last (same_ref x (reference_seen p)) (is_member same_ref (references_seen ps) x) e)),
+  sym (live-member refs p) ∙ h (reference_seen p) (or-left-true (same_ref (reference_seen p) (reference_seen p)) (is_member same_ref (references_seen ps) (reference_seen p)) (seen-self p)),
+  are-live refs ps (λ x e. h x (or-right-true (same_ref x (reference_seen p)) (is_member same_ref (references_seen ps) x) e)),
 )
 
 -- ---- what is known
@@ -211,14 +197,6 @@ knows-many given known k d =
     omega (arith, many, same)
 
 -- what is known by the table is known by the smaller client
-and-left : (a b : Bool) → (a && b) ≡ true → a ≡ true
-and-left true b e = refl
-and-left false b e = cc
-
-and-right : (a b : Bool) → (a && b) ≡ true → b ≡ true
-and-right true b e = e
-and-right false b e = cc
-
 pub all-known : (given : List Ref) (known ps : List (ReferenceKind × ℕ)) → Knows given known → list_all (λ p. has_pair p known) ps ≡ true → all_in given (references_seen ps) ≡ true
 all-known given known [] k h = refl
 all-known given known (p ∷ ps) k h =

@@ -6,12 +6,13 @@ use Rattle.std.specs.Ordering.{int_eq}
 use Rattle.std.proofs.lemmas.Bool.Decides.{Decides-int_eq}
 use Rattle.dap_ends.proofs.Counts.{and-left, and-right}
 use Rattle.dap_message.specs.Argument.{is_int}
+use Rattle.dap_debuggee.specs.KeepsLaws.{KeepsLaws}
 use Rattle.dap_debuggee.specs.Laws.{state_after, keeps_answers, is_frame}
 use Rattle.dap_debuggee.specs.Shown.{Act, to_start, to_resume, to_pause, to_poll, to_set_breakpoints, to_assign, to_end, Reply, done, refused, happened}
 use Rattle.dap_debuggee.specs.declared.answers.Frame.{Frame}
 use Rattle.dap_debuggee.specs.declared.answers.State.{State}
 use Rattle.dap_debuggee.specs.declared.answers.State.TheVariants.{NotStarted, Running, Stopped, Gone}
-use Rattle.dap_world.specs.Restless.{KeepsLaws, Restless, threads_in, restless_shown, RestlessFollows}
+use Rattle.dap_world.specs.Restless.{Restless, threads_in, restless_shown, RestlessFollows}
 
 same-state : (state : State) (act : Act) (reply : Reply) → keeps_answers act reply ≡ true → state_after state act reply ≡ state
 same-state state to_start done h = absurd (true≢false (sym h))

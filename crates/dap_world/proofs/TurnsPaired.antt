@@ -43,16 +43,9 @@ use Rattle.dap_world.proofs.ReferencesSeen.{length-kinds, all-live}
 use Rattle.dap_world.proofs.RowsSeen.{asks_by, options_by}
 use Rattle.dap_world.proofs.Standing.{AllOwn}
 use Rattle.dap_world.proofs.TurnsSeen.{Handled, IsTurn, IsAskingTurn}
+use Rattle.dap_world.proofs.Booleans.{and-false, or-false}
 
 -- ---- the launch at hand
-
-and-false : (b : Bool) → (b && false) ≡ false
-and-false true = refl
-and-false false = refl
-
-or-false : (b : Bool) → (b || false) ≡ b
-or-false true = refl
-or-false false = refl
 
 both-or : (s w r : Bool) → ((s && w) || (s && r)) ≡ (s && (w || r))
 both-or true w r = refl

@@ -43,7 +43,5 @@ references_given_if ok c body = if ok then references_given_in c body else []
 -- ---- any message
 
 abbrev pub references_of_kind : Kind → List (ReferenceKind × ℕ)
-references_of_kind (Request command arguments) = references_used_in (command_named command) arguments
 references_of_kind (Response request_seq ok command message body) = references_given_if ok (command_named command) body
-references_of_kind (Event event body) = []
-references_of_kind (Other tag) = []
+references_of_kind kind = references_used_by_kind kind

@@ -3,8 +3,9 @@ use Rattle.std.specs.Prelude.{◌≡◌, ℕ, ◌+◌, ◌%◌, ◌^◌, Bool, t
 use Rattle.std.specs.Ordering.{int_eq}
 use Rattle.dap_message.specs.Types.SourceKey.{SourceKey}
 use Rattle.dap_frame.specs.Settings.{Settings, AreInRange}
-use Rattle.dap_debuggee.specs.Laws.{Follows, is_short, may_answer, state_after, lines_after, Counts, Remembers, Answers, Moves, SetsLines, SetsValues, KeepsAnswers, KeepsFrames, KeepsSources, NoThreads, VerifiesEach, AssignsVariables, ThreadsInRange, FramesInRange, NamesOneFrame, SourcesInRange}
-use Rattle.dap_debuggee.specs.Shown.{Shown, Act, to_assign, to_poll, Reply, happened, Last, asked_of_act}
+use Rattle.dap_debuggee.specs.KeepsLaws.{KeepsLaws}
+use Rattle.dap_debuggee.specs.Laws.{Follows, is_short, may_answer, state_after, lines_after}
+use Rattle.dap_debuggee.specs.Shown.{Shown, Act, to_assign, Reply, happened, Last, asked_of_act}
 use Rattle.dap_debuggee.specs.declared.answers.State.{State}
 use Rattle.dap_debuggee.specs.declared.answers.State.TheVariants.{NotStarted, Running, Stopped, Gone}
 use Rattle.dap_debuggee.specs.declared.answers.Thread.{Thread}
@@ -18,27 +19,6 @@ use Rattle.dap_session.specs.Session.{oldest}
 use Rattle.dap_tables.specs.Outstanding.{Kept}
 use Rattle.dap_world.specs.MessageReferences.{references_used_by_request}
 use Rattle.dap_world.specs.World.{World, Schedule}
-
--- ---- what the trait `Debuggee` says of steps and of views
-
-pub record KeepsLaws {View : Type 0} (shown : View → Shown) (follows : Follows View) : Type 0 where
-  pub counts : Counts shown follows
-  pub remembers : Remembers shown follows
-  pub answers : Answers shown follows
-  pub moves : Moves shown follows
-  pub sets_lines : SetsLines shown follows
-  pub sets_values : SetsValues shown follows
-  pub keeps_answers : KeepsAnswers shown follows
-  pub keeps_frames : KeepsFrames shown follows
-  pub keeps_sources : KeepsSources shown follows
-  pub no_threads : NoThreads shown
-  pub verifies_each : VerifiesEach shown
-  pub assigns_variables : AssignsVariables shown
-  pub short : (v w : View) (h : _) → follows v to_poll (happened h) w → IsTrue (is_short h)
-  pub threads_in_range : (v : View) → ThreadsInRange (shown v)
-  pub frames_in_range : (v : View) → FramesInRange (shown v)
-  pub one_name : (v : View) → NamesOneFrame (shown v)
-  pub sources_in_range : (v : View) → SourcesInRange (shown v)
 
 -- ---- the debuggee
 

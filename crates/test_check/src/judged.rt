@@ -11,7 +11,8 @@
 //! | `= line L rule N: SENTENCE` | the first line that breaks a rule, the rule, and the sentence that explains it |
 //! | `! FAULT` | the text is no transcript |
 
-use dap_check::{CheckFault, Checked, check, explain, sentence};
+use dap_check::{CheckFault, Checked, check};
+use dap_explain::{explain, sentence};
 use std::alloc::{AllocError, Global};
 use std::marker::Model;
 use test_kit::bodies::body_of;

@@ -3,6 +3,7 @@
 
 use crate::judged::Judged;
 use dap_check::{Rule, laws};
+use dap_explain::laws::broken_rules_have_reasons;
 use std::test::Fail;
 use test_kit::rows::play_rows;
 
@@ -215,6 +216,7 @@ fn laws_run_nothing(rt: HostRuntime) {
     laws::each_transcript_has_one_verdict();
     laws::earlier_lines_are_places();
     laws::rules_are_told_by_places();
-    laws::broken_rules_have_reasons();
+    laws::texts_are_read_in_one_way();
+    broken_rules_have_reasons();
     assert!(rt; Rule::Reference.number() == 6);
 }

@@ -2,12 +2,12 @@
 
 use dap_adapter::Adapter;
 use dap_client::Client;
-use dap_debuggee::Recorded;
 use dap_frame::Limits;
 use dap_message::{
     Call, Command, Initialize, Kind, Message, StackTrace, Text, Tree, Variables, frames_given,
     holders_given,
 };
+use dap_recording::Recorded;
 use serde_json::Value;
 use std::alloc::Global;
 use std::fmt::Write;

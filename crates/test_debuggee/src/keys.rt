@@ -1,7 +1,7 @@
 //! Changes of one recording, and the key that is bad then.
 
 use crate::reading::refusal;
-use dap_debuggee::RecordingFault;
+use dap_recording::RecordingFault;
 use std::alloc::Global;
 
 /// Every key of the format, with no two names alike.

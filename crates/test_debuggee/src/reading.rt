@@ -1,7 +1,8 @@
 //! Recordings that are read, and why others are not.
 
 use crate::playing::{THREE_MOMENTS, is_moved, is_played, three_moments};
-use dap_debuggee::{Debuggee, Frame, Happening, How, Recorded, RecordingFault, RecordingKey};
+use dap_debuggee::{Debuggee, Frame, Happening, How};
+use dap_recording::{Recorded, RecordingFault, RecordingKey};
 use std::alloc::Global;
 use std::fmt::Write;
 

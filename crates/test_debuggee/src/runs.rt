@@ -2,7 +2,8 @@
 
 use crate::playing::{THREE_MOMENTS, is_moved, is_played, three_moments};
 use crate::telling::{Query, is_told};
-use dap_debuggee::{Category, Recorded};
+use dap_debuggee::Category;
+use dap_recording::Recorded;
 use std::alloc::Global;
 use std::test::Fail;
 use test_kit::stubborn::Stubborn;

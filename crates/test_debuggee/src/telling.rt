@@ -2,7 +2,8 @@
 
 use crate::playing::{faulted, in_short, source};
 use dap_call::SourceKey;
-use dap_debuggee::{Debuggee, Evaluation, Frame, Recorded, Scope, Source, Thread, Variable};
+use dap_debuggee::{Debuggee, Evaluation, Frame, Scope, Source, Thread, Variable};
+use dap_recording::Recorded;
 use std::alloc::Global;
 use std::fmt::Write;
 

@@ -4,8 +4,8 @@ ghost use Rattle.std.specs.Prelude.{◌≡◌, IfOk};
 ghost use Rattle.dap_debuggee.specs.declared.answers.State.{State};
 
 use crate::outcome::Outcome;
-use dap_debuggee::{Recorded, RecordingFault};
 use dap_frame::Limits;
+use dap_recording::{Recorded, RecordingFault};
 use std::alloc::Global;
 use std::test::Fail;
 

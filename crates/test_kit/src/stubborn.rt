@@ -4,10 +4,11 @@ ghost use Rattle.test_kit.specs.Stubborn.{long_value};
 
 use dap_call::SourceKey;
 use dap_debuggee::{
-    Assigned, Debuggee, DebuggeeFault, Evaluation, Frame, Happening, How, Recorded, Scope, Source,
-    Thread, Variable,
+    Assigned, Debuggee, DebuggeeFault, Evaluation, Frame, Happening, How, Scope, Source, Thread,
+    Variable,
 };
 use dap_json::Text;
+use dap_recording::Recorded;
 use std::alloc::{AllocError, Global};
 use std::marker::Model;
 

@@ -2,7 +2,8 @@
 
 use crate::outcomes::{both, judge, refused};
 use dap_call::SourceKey;
-use dap_debuggee::{Debuggee, DebuggeeFault, Happening, Recorded, RecordingFault};
+use dap_debuggee::{Debuggee, DebuggeeFault, Happening};
+use dap_recording::{Recorded, RecordingFault};
 use std::alloc::Global;
 use std::test::Fail;
 

@@ -12,10 +12,11 @@ use crate::outcomes::{judge, refused};
 use dap_call::{
     Call, CallFault, Capabilities, Command, Gate, frames_given, holders_given, read_call,
 };
-use dap_debuggee::{Debuggee, DebuggeeFault, How, Recorded, RecordingFault};
+use dap_debuggee::{Debuggee, DebuggeeFault, How};
 use dap_frame::{End, Fed, FrameFault, Frames, LimitFault, Limits, Refusal, write_frame};
 use dap_json::{ParseFault, parse};
 use dap_message::{BodyFault, read_message};
+use dap_recording::{Recorded, RecordingFault};
 use dap_tables::Seq;
 use dap_tool::{ToolFault, status};
 use dap_view::{evaluate, set_variable, source};

@@ -1,8 +1,9 @@
 //! The greatest sizes, with ample memory: nothing is refused.
 
-use dap_debuggee::{Debuggee, Recorded};
+use dap_debuggee::Debuggee;
 use dap_frame::{End, Limits, write_frame};
 use dap_message::{SourceKey, Text};
+use dap_recording::Recorded;
 use dap_tool::show;
 use std::alloc::Global;
 

@@ -1,9 +1,9 @@
 //! Faults of tools: the status and the line of each, and what a person reads.
 
 use dap_adapter::{AdapterFault, ServeFault};
-use dap_debuggee::{Recorded, RecordingFault};
 use dap_frame::{FrameFault, Refusal};
 use dap_message::BodyRefusal;
+use dap_recording::{Recorded, RecordingFault};
 use dap_tool::{
     CheckFault, DriveFault, FileFault, SendFault, ShowFault, ToolFault, WrapFault, fault_line,
     status,

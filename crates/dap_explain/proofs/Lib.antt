@@ -1,0 +1,4 @@
+pub mod TrailLemmas
+pub mod Walked
+pub mod Explained
+pub mod ReasonLemmas

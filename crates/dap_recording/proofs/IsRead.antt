@@ -1,0 +1,300 @@
+-- What is read of a recording holds of every recording.
+use Rattle.std.proofs.Common.{◌≡◌, ℕ, suc, ◌+◌, ◌<◌, ◌≤◌, ◌&&◌, ℤ, Bool, true, false, not, nat_le, nat_lt, nat_eq, if◌then◌else◌, List, [], ◌∷◌, ◌++◌, length, map, Option, Some, None, is_some, option_and_then, option_map, Ok, Err, length-append, append_assoc, append-nil, eq-eqb, refl, sym, ap, subst, ◌∙◌, arith, true≢false}
+use Rattle.dap_recording.proofs.Ranges.{some_same, objects_of}
+use Rattle.std.proofs.lemmas.Bool.{leb-true, ltb-true, lt-ltb, and_parts, and_from}
+use Rattle.std.proofs.lemmas.Grind.{flat_map-append}
+use Rattle.std.proofs.lemmas.List.{map-append}
+use Rattle.std.proofs.lemmas.List.Folds.{list_all-append}
+use Rattle.std.specs.List.{list_all}
+use Rattle.std.specs.Ordering.{int_eq}
+use Rattle.serde_json.specs.Data.{Data, Items, no_items, item}
+use Rattle.serde_json.specs.Events.{items_len}
+use Rattle.serde_json.specs.Find.{as_number, as_u64, as_i64, as_str, as_bool, as_array}
+use Rattle.dap_json.specs.Field.{if_passes}
+use Rattle.dap_call.specs.Argument.{is_int, int_of, number_of}
+use Rattle.dap_debuggee.specs.Laws.{is_frame}
+use Rattle.dap_recording.specs.Reading.{Read, or_bad, required_at, optional_at, optional_or, element, value_at, some_items, few_items, exit_of, line_of, source_place, lines_at, place_of, new_id, thread_place, Numbered, each, each_source, scopes_of, frame_of, thread_of, moment_of, moments_of, source_of, recording_of}
+use Rattle.dap_recording.specs.Recording.{IsRecording, line_count, is_thread, is_moment, is_rising, are_distinct}
+use Rattle.dap_debuggee.specs.declared.answers.Frame.{Frame}
+use Rattle.dap_recording.specs.declared.reading.RecordingKey.{RecordingKey}
+use Rattle.dap_recording.specs.declared.reading.RecordingKey.TheVariants as key
+use Rattle.dap_recording.specs.declared.recording.RecordedSource.{RecordedSource}
+use Rattle.dap_recording.specs.declared.recording.RecordedThread.{RecordedThread}
+use Rattle.dap_recording.specs.declared.recording.Moment.{Moment}
+use Rattle.dap_recording.specs.declared.recording.Recording.{Recording}
+use Rattle.dap_recording.proofs.ReadSteps.{ok_same, then_ok, bind_ok, with_ok, each_holds}
+use Rattle.dap_recording.proofs.HoldersRead.{holders_once}
+use Rattle.dap_recording.proofs.SpansRead.{spans_read}
+
+-- ---- what was read, step by step
+
+bad_is : {A : Type 0} (k : RecordingKey) (o : Option A) (x : A) → or_bad k o ≡ Ok x → o ≡ Some x
+bad_is k None x e = absurd (cc e)
+bad_is k (Some y) x e = ap Some (ok_same y x e)
+
+and_then_is : {A : Type 0} (shape : Data → Option A) (o : Option Data) (x : A) → option_and_then shape o ≡ Some x → (v : Data) × (shape v ≡ Some x)
+and_then_is shape None x e = absurd (cc e)
+and_then_is shape (Some v) x e = (v, e)
+
+required_is : {A : Type 0} (shape : Data → Option A) (k : RecordingKey) (d : Data) (x : A) → required_at shape k d ≡ Ok x → (v : Data) × (shape v ≡ Some x)
+required_is shape k d x e = and_then_is shape (value_at k d) x (bad_is k (option_and_then shape (value_at k d)) x e)
+
+passes_by : {A : Type 0} (b : Bool) (test : A → Bool) (y x : A) → test y ≡ b → (if b then Some y else None) ≡ Some x → (Some y ≡ Some x) × (test x ≡ true)
+passes_by true test y x is e = (e, ap test (sym (some_same y x e)) ∙ is)
+passes_by false test y x is e = absurd (cc e)
+
+passes_is : {A : Type 0} (test : A → Bool) (o : Option A) (x : A) → if_passes test o ≡ Some x → (o ≡ Some x) × (test x ≡ true)
+passes_is test None x e = absurd (cc e)
+passes_is test (Some y) x e = passes_by (test y) test y x refl e
+
+if_ok : {A : Type 0} (b : Bool) (k : RecordingKey) (y x : A) → ◌≡◌ {A = Read A} (if b then Ok y else Err k) (Ok x) → (b ≡ true) × (y ≡ x)
+if_ok true k y x e = (refl, ok_same y x e)
+if_ok false k y x e = absurd (cc e)
+
+some_count : (k : RecordingKey) (d : Data) (ds : Items) → some_items k d ≡ Ok ds → 1 ≤ items_len ds
+some_count k d ds e =
+    let b = bind_ok (required_at as_array k d) (λ es. if nat_le 1 (items_len es) then Ok es else Err k) ds e in
+    let p = if_ok (nat_le 1 (items_len b.0)) k b.0 ds b.2 in
+    subst (λ es. 1 ≤ items_len es) p.1 (leb-true 1 (items_len b.0) p.0)
+
+few_count : (k : RecordingKey) (d : Data) (ds : Items) → few_items k d ≡ Ok ds → items_len ds ≤ 65536
+few_count k d ds e =
+    let b = bind_ok (required_at as_array k d) (λ es. if nat_le (items_len es) 65536 then Ok es else Err k) ds e in
+    let p = if_ok (nat_le (items_len b.0) 65536) k b.0 ds b.2 in
+    subst (λ es. items_len es ≤ 65536) p.1 (leb-true (items_len b.0) 65536 p.0)
+
+-- ---- elements
+
+each_count : {A S : Type 0} (one : List A → Data → S → Read (A × S)) (ds : Items) (found : List A) (s : S) (r : List A × S) → each one ds found s ≡ Ok r → length r.0 ≡ length found + items_len ds
+each_count one no_items found s r e = let same : length found ≡ length r.0 = ap (λ p. length p.0) (ok_same (found, s) r e) in omega (arith, same)
+each_count one (item d ds) found s r e =
+    let b = bind_ok (one found d s) (λ next. each one ds (found ++ next.0 ∷ []) next.1) r e in
+    let rest = each_count one ds (found ++ b.0.0 ∷ []) b.0.1 r b.2 in
+    let more = length-append found (b.0.0 ∷ []) in
+    omega (arith, rest, more)
+
+all_more : {A : Type 0} (test : A → Bool) (xs : List A) (x : A) → list_all test xs ≡ true → test x ≡ true → list_all test (xs ++ x ∷ []) ≡ true
+all_more test xs x e f = list_all-append test xs (x ∷ []) ∙ and_from (list_all test xs) (list_all test (x ∷ [])) e (and_from (test x) true f refl)
+
+-- ---- rising numbers
+
+below_more : (xs : List ℕ) (n : ℕ) → list_all (λ x. nat_lt x n) xs ≡ true → list_all (λ x. nat_lt x (suc n)) xs ≡ true
+below_more [] n e = refl
+below_more (x ∷ xs) n e =
+    let p = and_parts (nat_lt x n) (list_all (λ y. nat_lt y n) xs) e in
+    let lt : x < suc n = let h = ltb-true x n p.0 in omega (arith, h) in
+    and_from (nat_lt x (suc n)) (list_all (λ y. nat_lt y (suc n)) xs) (lt-ltb x (suc n) lt) (below_more xs n p.1)
+
+rising_more : (xs : List ℕ) (n : ℕ) → is_rising xs ≡ true → list_all (λ x. nat_lt x n) xs ≡ true → is_rising (xs ++ n ∷ []) ≡ true
+rising_more [] n e f = refl
+rising_more (x ∷ []) n e f = and_from (nat_lt x n) true (and_parts (nat_lt x n) true f).0 refl
+rising_more (x ∷ y ∷ ys) n e f =
+    let p = and_parts (nat_lt x y) (is_rising (y ∷ ys)) e in
+    let q = and_parts (nat_lt x n) (list_all (λ z. nat_lt z n) (y ∷ ys)) f in
+    and_from (nat_lt x y) (is_rising ((y ∷ ys) ++ n ∷ [])) p.0 (rising_more (y ∷ ys) n p.1 q.1)
+
+-- numbers that rise, all below n
+record Rises (n : ℕ) (xs : List ℕ) : Type 0 where
+  pub rises : is_rising xs ≡ true
+  pub below : list_all (λ x. nat_lt x n) xs ≡ true
+
+rises_more : (n : ℕ) (xs : List ℕ) → Rises n xs → Rises (suc n) (xs ++ n ∷ [])
+rises_more n xs r = record {
+  rises = rising_more xs n r.rises r.below;
+  below = all_more (λ x. nat_lt x (suc n)) xs n (below_more xs n r.below) (lt-ltb n (suc n) (omega arith));
+}
+
+-- ---- frames
+
+abbrev numbers_of : List Frame → List ℕ
+numbers_of frames = map (λ frame. frame.object) frames
+
+record FramesHold (sources : ℕ) (before : List ℕ) (r : List Frame × Numbered) : Type 0 where
+  pub frames : list_all (is_frame sources) r.0 ≡ true
+  pub numbers : Rises (length r.1.scopes) (before ++ numbers_of r.0)
+
+frame_added : (sources : ℕ) (before : List ℕ) (found : List Frame) (s t : Numbered) (frame : Frame) → frame.object ≡ length s.scopes → length t.scopes ≡ suc (length s.scopes) → is_frame sources frame ≡ true
+    → FramesHold sources before (found, s) → FramesHold sources before (found ++ frame ∷ [], t)
+frame_added sources before found s t frame numbered more fits p =
+    let list : (before ++ numbers_of found) ++ length s.scopes ∷ [] ≡ before ++ numbers_of (found ++ frame ∷ []) =
+    append_assoc before (numbers_of found) (length s.scopes ∷ [])
+    ∙ ap (λ n. before ++ (numbers_of found ++ n ∷ [])) (sym numbered)
+    ∙ ap (λ ns. before ++ ns) (sym (map-append (λ (f : Frame). f.object) found (frame ∷ []))) in
+    record {
+      frames = all_more (is_frame sources) found frame p.frames fits;
+      numbers = subst (λ n. Rises n (before ++ numbers_of (found ++ frame ∷ []))) (sym more) (subst (Rises (suc (length s.scopes))) list (rises_more (length s.scopes) (before ++ numbers_of found) p.numbers));
+    }
+
+line_fits : (lines : ℕ) (d : Data) (line : ℕ) → required_at (line_of lines) key.Line d ≡ Ok line → (nat_le 1 line ≡ true) × (nat_le line 2147483647 ≡ true)
+line_fits lines d line e =
+    let v = required_is (line_of lines) key.Line d line e in
+    let p = passes_is (λ n. nat_le 1 n && nat_le n lines) (number_of v.0) line v.1 in
+    let q = passes_is (λ n. nat_le n 2147483647) (option_and_then as_u64 (as_number v.0)) line p.0 in
+    ((and_parts (nat_le 1 line) (nat_le line lines) p.1).0, q.1)
+
+source_fits : (sources : List RecordedSource) (d : Data) (source : ℕ) → required_at (source_place sources) key.Source d ≡ Ok source → nat_lt source (length sources) ≡ true
+source_fits sources d source e =
+    let v = required_is (source_place sources) key.Source d source e in
+    (passes_is (λ n. nat_lt n (length sources)) (number_of v.0) source v.1).1
+
+frame_holds : (sources : List RecordedSource) (before : List ℕ) (found : List Frame) (s : Numbered) (d : Data) (next : Frame × Numbered) → frame_of sources d s ≡ Ok next
+    → FramesHold (length sources) before (found, s) → FramesHold (length sources) before (found ++ next.0 ∷ [], next.1)
+unfolding frame_of
+frame_holds sources before found s d next e p =
+    with_ok (required_at as_str key.Name d) _ next (then_ok (element key.Frames d) _ next e) (λ name named e1.
+    with_ok (required_at (source_place sources) key.Source d) _ next e1 (λ source placed e2.
+    with_ok (required_at (line_of (lines_at sources source)) key.Line d) _ next e2 (λ line lined e3.
+    with_ok (scopes_of d s.variables) _ next e3 (λ scopes scoped e4.
+    let frame : Frame = record { object = length s.scopes; name = name; source = source; line = line } in
+    let after : Numbered = record { scopes = s.scopes ++ scopes.0 ∷ []; variables = scopes.1 } in
+    let more = length-append s.scopes (scopes.0 ∷ []) in
+    let fits = line_fits (lines_at sources source) d line lined in
+    subst (λ n. FramesHold (length sources) before (found ++ n.0 ∷ [], n.1)) (ok_same (frame, after) next e4)
+    (frame_added (length sources) before found s after frame refl (omega (arith, more))
+    (and_from (nat_le 1 line) (nat_le line 2147483647 && nat_lt source (length sources)) fits.0 (and_from (nat_le line 2147483647) (nat_lt source (length sources)) fits.1 (source_fits sources d source placed))) p)))))
+
+-- ---- threads
+
+record ThreadsHold (sources : ℕ) (r : List RecordedThread × Numbered) : Type 0 where
+  pub threads : list_all (is_thread sources) r.0 ≡ true
+  pub distinct : are_distinct r.0 ≡ true
+  pub numbers : Rises (length r.1.scopes) (objects_of r.0)
+
+-- where no thread has the id, each id differs from it
+none_by : (b : Bool) (rest : Option ℕ) → is_some (if b then Some 0 else option_map (λ n. suc n) rest) ≡ false → (b ≡ false) × (is_some rest ≡ false)
+none_by true rest e = absurd (true≢false e)
+none_by false None e = (refl, refl)
+none_by false (Some n) e = absurd (true≢false e)
+
+not_true : (b : Bool) → not b ≡ true → b ≡ false
+not_true true e = absurd (cc e)
+not_true false e = refl
+
+distinct_more : (found : List RecordedThread) (thread : RecordedThread) → are_distinct found ≡ true → is_some (place_of thread.id found) ≡ false → are_distinct (found ++ thread ∷ []) ≡ true
+distinct_more [] thread e none = refl
+distinct_more (first ∷ found) thread e none =
+    let p = and_parts (list_all (λ other. not (int_eq first.id other.id)) found) (are_distinct found) e in
+    let q = none_by (int_eq first.id thread.id) (place_of thread.id found) none in
+    and_from (list_all (λ other. not (int_eq first.id other.id)) (found ++ thread ∷ [])) (are_distinct (found ++ thread ∷ []))
+    (all_more (λ other. not (int_eq first.id other.id)) found thread p.0 (ap not q.0)) (distinct_more found thread p.1 q.1)
+
+new_id_is : (found : List RecordedThread) (d : Data) (id : ℤ) → required_at (new_id found) key.Id d ≡ Ok id → (is_int id ≡ true) × (is_some (place_of id found) ≡ false)
+new_id_is found d id e =
+    let v = required_is (new_id found) key.Id d id e in
+    let p = passes_is (λ z. not (is_some (place_of z found))) (int_of v.0) id v.1 in
+    let q = passes_is is_int (option_and_then as_i64 (as_number v.0)) id p.0 in
+    (q.1, not_true (is_some (place_of id found)) p.1)
+
+thread_added : (sources : ℕ) (found : List RecordedThread) (s : Numbered) (id : ℤ) (name : List ℕ) (r : List Frame × Numbered) → is_int id ≡ true → is_some (place_of id found) ≡ false → 0 < length r.0 → FramesHold sources (objects_of found) r
+    → ThreadsHold sources (found, s) → ThreadsHold sources (found ++ record { id = id; name = name; frames = r.0 } ∷ [], r.1)
+thread_added sources found s id name r int new some frames p =
+    let thread : RecordedThread = record { id = id; name = name; frames = r.0 } in
+    let list : objects_of found ++ numbers_of r.0 ≡ objects_of (found ++ thread ∷ []) =
+    sym (flat_map-append (λ (t : RecordedThread). map (λ (f : Frame). f.object) t.frames) found (thread ∷ []) ∙ ap (λ ns. objects_of found ++ ns) (append-nil (numbers_of r.0))) in
+    record {
+      threads = all_more (is_thread sources) found thread p.threads (and_from (is_int id) (nat_lt 0 (length r.0) && list_all (is_frame sources) r.0) int (and_from (nat_lt 0 (length r.0)) (list_all (is_frame sources) r.0) (lt-ltb 0 (length r.0) some) frames.frames));
+      distinct = distinct_more found thread p.distinct new;
+      numbers = subst (Rises (length r.1.scopes)) list frames.numbers;
+    }
+
+thread_holds : (sources : List RecordedSource) (found : List RecordedThread) (s : Numbered) (d : Data) (next : RecordedThread × Numbered) → thread_of sources found d s ≡ Ok next
+    → ThreadsHold (length sources) (found, s) → ThreadsHold (length sources) (found ++ next.0 ∷ [], next.1)
+unfolding thread_of
+thread_holds sources found s d next e p =
+    with_ok (required_at (new_id found) key.Id d) _ next (then_ok (element key.Threads d) _ next e) (λ id new e1.
+    with_ok (required_at as_str key.Name d) _ next e1 (λ name named e2.
+    with_ok (some_items key.Frames d) _ next e2 (λ given some e3.
+    with_ok (each (λ earlier. frame_of sources) given [] s) _ next e3 (λ frames read e4.
+    let is_new = new_id_is found d id new in
+    let count = each_count (λ earlier. frame_of sources) given [] s frames read in
+    let least = some_count key.Frames d given some in
+    let first : FramesHold (length sources) (objects_of found) ([], s) = record { frames = refl; numbers = subst (Rises (length s.scopes)) (sym (append-nil (objects_of found))) p.numbers } in
+    let held = each_holds (λ earlier. frame_of sources) (FramesHold (length sources) (objects_of found)) (frame_holds sources (objects_of found)) given [] s frames read first in
+    subst (λ n. ThreadsHold (length sources) (found ++ n.0 ∷ [], n.1)) (ok_same (record { id = id; name = name; frames = frames.0 }, frames.1) next e4)
+    (thread_added (length sources) found s id name frames is_new.0 is_new.1 (omega (arith, count, least)) held p)))))
+
+-- ---- moments
+
+place_by : (b : Bool) (rest : Option ℕ) (k n : ℕ) → (if b then Some 0 else option_map (λ n. suc n) rest) ≡ Some k → ((j : ℕ) → rest ≡ Some j → j < n) → k < suc n
+place_by true rest k n e within = let zero_is : 0 ≡ k = some_same 0 k e in omega (arith, zero_is)
+place_by false None k n e within = absurd (cc e)
+place_by false (Some j) k n e within = let below = within j refl in let is : suc j ≡ k = some_same (suc j) k e in omega (arith, below, is)
+
+place_within : (id : ℤ) (threads : List RecordedThread) (k : ℕ) → place_of id threads ≡ Some k → k < length threads
+place_within id [] k e = absurd (cc e)
+place_within id (thread ∷ threads) k e = place_by (int_eq thread.id id) (place_of id threads) k (length threads) e (λ j is. place_within id threads j is)
+
+thread_within : (threads : List RecordedThread) (d : Data) (k : ℕ) → required_at (thread_place threads) key.Thread d ≡ Ok k → k < length threads
+thread_within threads d k e =
+    let v = required_is (thread_place threads) key.Thread d k e in
+    within_by (int_of v.0) v.1
+  where
+    within_by : (o : Option ℤ) → option_and_then (λ id. place_of id threads) o ≡ Some k → k < length threads
+    within_by None e = absurd (cc e)
+    within_by (Some id) e = place_within id threads k e
+
+moment_holds : (sources : List RecordedSource) (d : Data) (s : Numbered) (next : Moment × Numbered) → moment_of sources d s ≡ Ok next → is_moment (length sources) next.0 ≡ true
+unfolding moment_of
+moment_holds sources d s next e =
+    with_ok (required_at as_array key.Threads d) _ next (then_ok (element key.Moments d) _ next e) (λ given array e1.
+    with_ok (each (thread_of sources) given [] s) _ next e1 (λ threads read e2.
+    with_ok (required_at (thread_place threads.0) key.Thread d) _ next e2 (λ thread placed e3.
+    with_ok (optional_or as_str [] key.Output d) _ next e3 (λ output written e4.
+    with_ok (optional_or as_bool false key.Waits d) _ next e4 (λ waits held e5.
+    let first : ThreadsHold (length sources) ([], s) = record { threads = refl; distinct = refl; numbers = record { rises = refl; below = refl } } in
+    let all = each_holds (thread_of sources) (ThreadsHold (length sources)) (thread_holds sources) given [] s threads read first in
+    subst (λ n. is_moment (length sources) n.0 ≡ true) (ok_same (record { threads = threads.0; thread = thread; output = output; waits = waits; frames = record { from = length s.scopes; to = length threads.1.scopes }; holders = record { from = length s.variables; to = length threads.1.variables } }, threads.1) next e5)
+    (and_from (nat_lt thread (length threads.0)) (list_all (is_thread (length sources)) threads.0 && (are_distinct threads.0 && is_rising (objects_of threads.0)))
+    (lt-ltb thread (length threads.0) (thread_within threads.0 d thread placed))
+    (and_from (list_all (is_thread (length sources)) threads.0) (are_distinct threads.0 && is_rising (objects_of threads.0)) all.threads (and_from (are_distinct threads.0) (is_rising (objects_of threads.0)) all.distinct all.numbers.rises))))))))
+
+-- ---- the whole
+
+abbrev is_counted : RecordedSource → Bool
+is_counted source = nat_eq source.lines (line_count source.text)
+
+source_holds : (d : Data) (source : RecordedSource) → source_of d ≡ Ok source → is_counted source ≡ true
+unfolding source_of
+source_holds d source e =
+    with_ok (required_at as_str key.Name d) _ source (then_ok (element key.Sources d) _ source e) (λ name named e1.
+    with_ok (optional_at as_str key.Path d) _ source e1 (λ path at e2.
+    with_ok (required_at as_str key.Text d) _ source e2 (λ text is e3.
+    subst (λ x. is_counted x ≡ true) (ok_same (record { name = name; path = path; text = text; lines = line_count text }) source e3) (eq-eqb (line_count text) (line_count text) refl))))
+
+sources_hold : (ds : Items) (found all : List RecordedSource) → each_source ds found ≡ Ok all → list_all is_counted found ≡ true → (list_all is_counted all ≡ true) × (length all ≡ length found + items_len ds)
+sources_hold no_items found all e p =
+    let same = ok_same found all e in
+    let count : length found ≡ length all = ap length same in
+    (subst (λ xs. list_all is_counted xs ≡ true) same p, omega (arith, count))
+sources_hold (item d ds) found all e p =
+    with_ok (source_of d) _ all e (λ source is e1.
+    let rest = sources_hold ds (found ++ source ∷ []) all e1 (all_more is_counted found source p (source_holds d source is)) in
+    let more = length-append found (source ∷ []) in
+    let count : length all ≡ length found + suc (items_len ds) = omega (arith, rest.1, more) in
+    (rest.0, count))
+
+abbrev MomentsHold : ℕ → List Moment × Numbered → Type 0
+MomentsHold sources r = list_all (is_moment sources) r.0 ≡ true
+
+pub is_read : (d : Data) (r : Recording) → recording_of d ≡ Ok r → IsRecording r
+unfolding recording_of moments_of
+is_read d r e =
+    with_ok (required_at exit_of key.Exit d) _ r e (λ exit exited e1.
+    with_ok (few_items key.Sources d) _ r e1 (λ texts few e2.
+    with_ok (each_source texts []) _ r e2 (λ sources told e3.
+    with_ok (some_items key.Moments d) _ r e3 (λ given some e4.
+    with_ok (moments_of sources given (record { scopes = []; variables = [] })) _ r e4 (λ moments read e5.
+    let counted = sources_hold texts [] sources told refl in
+    let most = few_count key.Sources d texts few in
+    let count = each_count (λ earlier. moment_of sources) given [] (record { scopes = []; variables = [] }) moments read in
+    let least = some_count key.Moments d given some in
+    let all = each_holds (λ earlier. moment_of sources) (MomentsHold (length sources)) (λ found s x next is p. all_more (is_moment (length sources)) found next.0 p (moment_holds sources x s next is)) given [] (record { scopes = []; variables = [] }) moments read refl in
+    subst IsRecording (ok_same (record { exit = exit; sources = sources; moments = moments.0; scopes = moments.1.scopes; variables = moments.1.variables }) r e5)
+    (record {
+      sources = omega (arith, counted.1, most);
+      lines = counted.0;
+      some = omega (arith, count, least);
+      moments = all;
+      holders = λ n. holders_once sources given moments read n;
+      spans = spans_read sources given moments read;
+    }))))))

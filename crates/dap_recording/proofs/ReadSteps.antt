@@ -1,0 +1,29 @@
+-- What was read, step by step, and element by element.
+use Rattle.std.proofs.Common.{◌≡◌, List, [], ◌∷◌, ◌++◌, Ok, Err, refl, subst}
+use Rattle.serde_json.specs.Data.{Data, Items, no_items, item}
+use Rattle.dap_json.specs.Steps.{◌>>=◌, ◌>>◌}
+use Rattle.dap_recording.specs.Reading.{Read, each}
+
+pub ok_same : {A : Type 0} (x y : A) → ◌≡◌ {A = Read A} (Ok x) (Ok y) → x ≡ y
+ok_same x y e = cc
+
+pub then_ok : {B : Type 0} (r : Read (Unit {0})) (next : Read B) (y : B) → (r >> next) ≡ Ok y → next ≡ Ok y
+then_ok (Ok x) next y e = e
+then_ok (Err k) next y e = absurd (cc e)
+
+pub bind_ok : {A B : Type 0} (r : Read A) (f : A → Read B) (y : B) → (r >>= f) ≡ Ok y → (x : A) × (r ≡ Ok x) × (f x ≡ Ok y)
+bind_ok (Ok x) f y e = (x, refl, e)
+bind_ok (Err k) f y e = absurd (cc e)
+
+pub with_ok : {A B : Type 0} {C : Type 0} (r : Read A) (f : A → Read B) (y : B) → (r >>= f) ≡ Ok y → ((x : A) → r ≡ Ok x → f x ≡ Ok y → C) → C
+with_ok (Ok x) f y e go = go x refl e
+with_ok (Err k) f y e go = absurd (cc e)
+
+-- what holds of those so far, and is kept by one more, holds of all
+pub each_holds : {A S : Type 0} (one : List A → Data → S → Read (A × S)) (P : List A × S → Type 0)
+    → ((found : List A) (s : S) (d : Data) (next : A × S) → one found d s ≡ Ok next → P (found, s) → P (found ++ next.0 ∷ [], next.1))
+    → (ds : Items) (found : List A) (s : S) (r : List A × S) → each one ds found s ≡ Ok r → P (found, s) → P r
+each_holds one P step no_items found s r e p = subst P (ok_same (found, s) r e) p
+each_holds one P step (item d ds) found s r e p =
+    let b = bind_ok (one found d s) (λ next. each one ds (found ++ next.0 ∷ []) next.1) r e in
+    each_holds one P step ds (found ++ b.0.0 ∷ []) b.0.1 r b.2 (step found s d b.0 b.1 p)

@@ -1,0 +1,27 @@
+//! A debuggee that plays a recorded run.
+//!
+//! [`Recorded`] reads a recording and plays it, as a `Debuggee` of `dap_debuggee`. This crate knows the format of
+//! recordings, the moments of a run, where a move goes and how output is cut; it must not know messages, references nor
+//! phases of a session.
+#![tactic(auto)]
+
+mod acts;
+mod laws;
+mod moves;
+mod paths;
+mod polls;
+mod queries;
+mod read;
+mod read_threads;
+mod reading;
+mod recorded;
+mod recording;
+mod rows;
+mod run;
+
+pub use dap_json::List;
+pub use laws::{
+    held_gives_nothing, pieces_are_the_output, polls_tell_the_pieces, recorded_stops_last,
+};
+pub use reading::{RecordingFault, RecordingKey};
+pub use recorded::Recorded;

@@ -1,0 +1,67 @@
+//! The threads of a moment, as they are read one after the other.
+ghost use Rattle.std.specs.Prelude.{◌≡◌, ◌++◌, ◌∷◌, [], is_some, IfOk};
+ghost use Rattle.dap_recording.specs.Reading.{place_of};
+
+use crate::recording::RecordedThread;
+use std::alloc::{AllocError, Global};
+use std::collections::BTreeSet;
+use std::marker::Model;
+
+/// Threads, and their ids, by which a repeated one is found at once. A contract sees the threads.
+#[derive(Drop)]
+pub(crate) struct ReadThreads {
+    threads: Vec<RecordedThread>,
+    ids: BTreeSet<i64>,
+}
+
+impl Model for ReadThreads {
+    ghost use Rattle.std.specs.Prelude.{List as Items};
+    ghost use Rattle.dap_recording.specs.declared.recording.RecordedThread.{RecordedThread as Thread};
+    ghost use Rattle.dap_recording.specs.PrivateReadThreads.{HasIds};
+
+    ghost Value = { Items Thread };
+
+    ghost view = { λ t. t.threads.items };
+
+    ghost invariant = { λ t. HasIds t.ids t.threads.items };
+}
+
+impl ReadThreads {
+    pub(crate) fn new(alloc: Global) -> ReadThreads
+        ensures { result ≡ [] }
+    {
+        ReadThreads {
+            threads: Vec::new(alloc),
+            ids: BTreeSet::new(alloc),
+        }
+    }
+
+    /// Whether one of them has the id.
+    pub(crate) fn has(&self, id: i64) -> bool
+        ensures { result ≡ is_some (place_of id self.now) }
+    {
+        self.ids.contains(&id)
+    }
+
+    /// These and one more.
+    pub(crate) fn with(self, thread: RecordedThread) -> Result<ReadThreads, AllocError>
+        ensures { IfOk result (λ t. t ≡ self ++ thread ∷ []) }
+    {
+        let ReadThreads {
+            mut threads,
+            mut ids,
+        } = self;
+        ids.insert(thread.id)?;
+        threads.push(thread)?;
+        Ok(ReadThreads { threads, ids })
+    }
+
+    /// The threads, without a copy.
+    pub(crate) fn into_vec(self) -> Vec<RecordedThread>
+        ensures { result.items ≡ self }
+    {
+        let ReadThreads { threads, ids } = self;
+        drop(ids);
+        threads
+    }
+}

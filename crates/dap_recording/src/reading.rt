@@ -1,0 +1,247 @@
+//! What stands at the keys of a recording.
+ghost use Rattle.std.specs.Prelude.{◌≡◌, [], false};
+ghost use Rattle.serde_json.specs.View.{view};
+ghost use Rattle.serde_json.specs.Find.{as_str, as_bool, as_array};
+ghost use Rattle.serde_json.specs.Data.{no_items};
+ghost use Rattle.dap_call.specs.Argument.{int_of, number_of};
+ghost use Rattle.dap_recording.specs.Reading.{Gives, GivesItems, element as element_of, exit_of, some_items as some_items_of, few_items as few_items_of, required_at, optional_at, optional_or};
+
+use dap_json::Text;
+use serde_json::Value;
+use std::alloc::{AllocError, AllocFailed, Global};
+
+/// A key of a recording.
+#[derive(Clone, Copy, Debug, PartialEq, Eq)]
+pub enum RecordingKey {
+    Exit,
+    Sources,
+    Name,
+    Path,
+    Text,
+    Moments,
+    Threads,
+    Id,
+    Frames,
+    Source,
+    Line,
+    Scopes,
+    Variables,
+    Value,
+    Thread,
+    Output,
+    Waits,
+}
+
+/// Why bytes are no recording.
+#[derive(Clone, Copy, Debug, PartialEq, Eq)]
+pub enum RecordingFault {
+    /// They are not UTF-8 or no JSON value, nest deeper than 127, or have a number too great for a float.
+    NotJson,
+    /// They are a JSON value that is no object.
+    NotObject,
+    /// The first bad key in the order of the format. An element that is no object is named by its array's key.
+    BadKey { key: RecordingKey },
+    /// Memory was refused.
+    OutOfMemory,
+}
+
+impl From<AllocError> for RecordingFault {
+    ghost use Rattle.dap_recording.specs.declared.reading.RecordingFault.TheVariants.{OutOfMemory};
+
+    ghost from_gives = { λ _ e. e ≡ OutOfMemory };
+
+    fn from(_e: AllocError) -> RecordingFault {
+        RecordingFault::OutOfMemory
+    }
+}
+
+impl<T: Drop> From<AllocFailed<T>> for RecordingFault {
+    ghost use Rattle.dap_recording.specs.declared.reading.RecordingFault.TheVariants.{OutOfMemory};
+
+    ghost from_gives = { λ _ e. e ≡ OutOfMemory };
+
+    fn from(_e: AllocFailed<T>) -> RecordingFault {
+        RecordingFault::OutOfMemory
+    }
+}
+
+impl RecordingKey {
+    ghost use Rattle.dap_recording.specs.RecordingKey.{name_of};
+
+    /// Its name in the format.
+    pub fn name(self) -> &'static str
+        ensures { result.now ≡ name_of self }
+    {
+        match self {
+            RecordingKey::Exit => "exit",
+            RecordingKey::Sources => "sources",
+            RecordingKey::Name => "name",
+            RecordingKey::Path => "path",
+            RecordingKey::Text => "text",
+            RecordingKey::Moments => "moments",
+            RecordingKey::Threads => "threads",
+            RecordingKey::Id => "id",
+            RecordingKey::Frames => "frames",
+            RecordingKey::Source => "source",
+            RecordingKey::Line => "line",
+            RecordingKey::Scopes => "scopes",
+            RecordingKey::Variables => "variables",
+            RecordingKey::Value => "value",
+            RecordingKey::Thread => "thread",
+            RecordingKey::Output => "output",
+            RecordingKey::Waits => "waits",
+        }
+    }
+}
+
+pub(crate) fn bad(key: RecordingKey) -> RecordingFault
+    ensures { result ≡ RecordingFault.BadKey key }
+{
+    RecordingFault::BadKey { key }
+}
+
+/// An element of the array at a key is an object.
+pub(crate) fn element(value: &Value, key: RecordingKey) -> Result<(), RecordingFault>
+    ensures { Gives result (element_of key (view value.now)) }
+{
+    if value.is_object() {
+        Ok(())
+    } else {
+        Err(bad(key))
+    }
+}
+
+pub(crate) fn text(alloc: Global, value: &Value, key: RecordingKey) -> Result<Text, RecordingFault>
+    ensures { Gives result (required_at as_str key (view value.now)) }
+{
+    let text = value
+        .get(key.name())
+        .and_then(Value::as_str)
+        .ok_or(bad(key))?;
+    Ok(Text::copied(alloc, text)?.shared(alloc))
+}
+
+pub(crate) fn optional_text(
+    alloc: Global,
+    value: &Value,
+    key: RecordingKey,
+) -> Result<Option<Text>, RecordingFault>
+    ensures { Gives result (optional_at as_str key (view value.now)) }
+{
+    match value.get(key.name()) {
+        None => Ok(None),
+        Some(found) => {
+            let text = found.as_str().ok_or(bad(key))?;
+            Ok(Some(Text::copied(alloc, text)?.shared(alloc)))
+        }
+    }
+}
+
+pub(crate) fn text_or_empty(
+    alloc: Global,
+    value: &Value,
+    key: RecordingKey,
+) -> Result<Text, RecordingFault>
+    ensures { Gives result (optional_or as_str [] key (view value.now)) }
+{
+    let text = match value.get(key.name()) {
+        None => "",
+        Some(found) => found.as_str().ok_or(bad(key))?,
+    };
+    Ok(Text::copied(alloc, text)?.shared(alloc))
+}
+
+pub(crate) fn flag(value: &Value, key: RecordingKey) -> Result<bool, RecordingFault>
+    ensures { Gives result (optional_or as_bool false key (view value.now)) }
+{
+    match value.get(key.name()) {
+        None => Ok(false),
+        Some(found) => found.as_bool().ok_or(bad(key)),
+    }
+}
+
+/// The greatest line, and the greatest place of a source.
+const MAX_NUMBER: u64 = 2147483647;
+
+/// The greatest id of a thread.
+const MAX_ID: i64 = 9007199254740991;
+
+/// The most sources.
+const MAX_SOURCES: usize = 65536;
+
+pub(crate) fn int(value: &Value) -> Option<i64>
+    ensures { result ≡ int_of (view value.now) }
+{
+    value.as_i64().filter(|n| -MAX_ID <= *n && *n <= MAX_ID)
+}
+
+pub(crate) fn number(value: &Value) -> Option<u32>
+    ensures { result ≡ number_of (view value.now) }
+{
+    match value.as_u64() {
+        Some(n) if n <= MAX_NUMBER => Some(n as u32),
+        _ => None,
+    }
+}
+
+fn status(value: &Value) -> Option<i32>
+    ensures { result ≡ exit_of (view value.now) }
+{
+    match value.as_i64() {
+        Some(n) if i32::MIN as i64 <= n && n <= i32::MAX as i64 => Some(n as i32),
+        _ => None,
+    }
+}
+
+pub(crate) fn exit(value: &Value, key: RecordingKey) -> Result<i32, RecordingFault>
+    ensures { Gives result (required_at exit_of key (view value.now)) }
+{
+    value.get(key.name()).and_then(status).ok_or(bad(key))
+}
+
+pub(crate) fn items(value: &Value, key: RecordingKey) -> Result<&[Value], RecordingFault>
+    ensures { GivesItems result (required_at as_array key (view value.now)) }
+{
+    let Some(found) = value.get(key.name()) else {
+        return Err(bad(key));
+    };
+    match found.as_array() {
+        Some(items) => Ok(items),
+        None => Err(bad(key)),
+    }
+}
+
+/// An absent array is empty.
+pub(crate) fn items_if_any(value: &Value, key: RecordingKey) -> Result<&[Value], RecordingFault>
+    ensures { GivesItems result (optional_or as_array no_items key (view value.now)) }
+{
+    let Some(found) = value.get(key.name()) else {
+        return Ok(&[]);
+    };
+    match found.as_array() {
+        Some(items) => Ok(items),
+        None => Err(bad(key)),
+    }
+}
+
+#[tactic(auto, using(crate::proofs::Elements::count_is_length))]
+pub(crate) fn some_items(value: &Value, key: RecordingKey) -> Result<&[Value], RecordingFault>
+    ensures { GivesItems result (some_items_of key (view value.now)) }
+{
+    let items = items(value, key)?;
+    if items.is_empty() {
+        return Err(bad(key));
+    }
+    Ok(items)
+}
+
+#[tactic(auto, using(crate::proofs::Elements::count_is_length))]
+pub(crate) fn few_items(value: &Value, key: RecordingKey) -> Result<&[Value], RecordingFault>
+    ensures { GivesItems result (few_items_of key (view value.now)) }
+{
+    let items = items(value, key)?;
+    if items.len() > MAX_SOURCES {
+        return Err(bad(key));
+    }
+    Ok(items)
+}

@@ -1,0 +1,435 @@
+//! From JSON to a recording: a function for each row of keys, which tests them in the order of the format.
+ghost use Rattle.std.specs.Prelude.{◌≡◌, [], IfOk};
+ghost use Rattle.serde_json.specs.View.{view, items_view};
+ghost use Rattle.dap_recording.specs.Recording.{line_count as line_count_of};
+ghost use Rattle.dap_recording.specs.declared.reading.RecordingKey.TheVariants as key;
+ghost use Rattle.dap_recording.specs.Reading.{Numbered, GivesListWith, GivesList, Gives, GivesWith, value_at, required_at, read_variables, variable_row, variables_of, holder_of, with_holder, each, each_source, scope_of, scopes_of, frame_of, thread_of, moment_of, moments_of, source_of, recording_of, source_place as source_place_of, line_of, lines_at, place_of, new_id as new_id_of, thread_place as thread_place_of};
+
+use crate::read_threads::ReadThreads;
+use crate::reading;
+use crate::reading::{RecordingFault, RecordingKey, bad};
+use crate::recording::{Moment, RecordedSource, RecordedThread, Recording, Span};
+use dap_debuggee::{Frame, Scope, Variable};
+use dap_json::List;
+use serde_json::Value;
+use std::alloc::{AllocError, Global};
+use std::marker::Model;
+
+// ---- variables
+
+/// Keeps variables under the next number, where there are some.
+fn holder(
+    inner: Vec<Variable>,
+    holders: &mut Vec<List<Variable>>,
+) -> Result<Option<u64>, AllocError>
+    ensures holder { IfOk result (λ o. o ≡ holder_of inner.items holders.old.items) }
+    ensures holders { IfOk result (λ _. holders.new.items ≡ with_holder inner.items holders.old.items) }
+{
+    if inner.is_empty() {
+        return Ok(None);
+    }
+    let number = holders.len() as u64;
+    holders.push(List::new(inner))?;
+    Ok(Some(number))
+}
+
+/// A variable, whose children get their numbers before it.
+#[cycle(variables)]
+fn variable(
+    alloc: Global,
+    value: &Value,
+    holders: &mut Vec<List<Variable>>,
+) -> Result<Variable, RecordingFault>
+    ensures { GivesWith result holders.new.items (variable_row (view value.now) holders.old.items) }
+{
+    reading::element(value, RecordingKey::Variables)?;
+    let name = reading::text(alloc, value, RecordingKey::Name)?;
+    let text = reading::text(alloc, value, RecordingKey::Value)?;
+    let inner = children(alloc, value, holders)?;
+    let holder = holder(inner, holders)?;
+    Ok(Variable {
+        name,
+        value: text,
+        holder,
+    })
+}
+
+/// The variables at the key for them.
+#[cycle(variables)]
+fn children(
+    alloc: Global,
+    value: &Value,
+    holders: &mut Vec<List<Variable>>,
+) -> Result<Vec<Variable>, RecordingFault>
+    ensures { GivesListWith result holders.new.items (read_variables (value_at key.Variables (view value.now)) holders.old.items) }
+{
+    match value.get(RecordingKey::Variables.name()) {
+        None => Ok(Vec::new(alloc)),
+        Some(inner) => variables(alloc, inner, holders),
+    }
+}
+
+#[cycle(variables)]
+fn variables(
+    alloc: Global,
+    value: &Value,
+    holders: &mut Vec<List<Variable>>,
+) -> Result<Vec<Variable>, RecordingFault>
+    ensures { GivesListWith result holders.new.items (variables_of (view value.now) holders.old.items) }
+{
+    let Some(items) = value.as_array() else {
+        return Err(bad(RecordingKey::Variables));
+    };
+    let mut found = Vec::new(alloc);
+    for item in items {
+        found.push(variable(alloc, item, holders)?)?;
+    }
+    Ok(found)
+}
+
+// ---- scopes, frames and threads
+
+#[tactic(auto, unfolding(crate::specs::Reading::scope_of))]
+fn scope(
+    alloc: Global,
+    value: &Value,
+    holders: &mut Vec<List<Variable>>,
+) -> Result<Scope, RecordingFault>
+    ensures { GivesWith result holders.new.items (scope_of (view value.now) holders.old.items) }
+{
+    reading::element(value, RecordingKey::Scopes)?;
+    let name = reading::text(alloc, value, RecordingKey::Name)?;
+    let inner = children(alloc, value, holders)?;
+    let holder = holders.len() as u64;
+    holders.push(List::new(inner))?;
+    Ok(Scope { name, holder })
+}
+
+fn each_scope(
+    alloc: Global,
+    items: &[Value],
+    holders: &mut Vec<List<Variable>>,
+) -> Result<Vec<Scope>, RecordingFault>
+    ensures { GivesListWith result holders.new.items (each (λ earlier. scope_of) (items_view items.now) [] holders.old.items) }
+{
+    let mut found = Vec::new(alloc);
+    for item in items {
+        found.push(scope(alloc, item, holders)?)?;
+    }
+    Ok(found)
+}
+
+/// The scopes of a frame, where it has some.
+#[tactic(auto, unfolding(crate::specs::Reading::scopes_of))]
+fn scopes(
+    alloc: Global,
+    value: &Value,
+    holders: &mut Vec<List<Variable>>,
+) -> Result<Vec<Scope>, RecordingFault>
+    ensures { GivesListWith result holders.new.items (scopes_of (view value.now) holders.old.items) }
+{
+    let items = reading::items_if_any(value, RecordingKey::Scopes)?;
+    each_scope(alloc, items, holders)
+}
+
+/// The scopes and the variables so far, by the numbers of their frames and their holders.
+#[derive(Drop)]
+struct Numbers {
+    scopes: Vec<List<Scope>>,
+    variables: Vec<List<Variable>>,
+}
+
+impl Model for Numbers {
+    ghost use Rattle.dap_recording.specs.Reading.{Numbered};
+
+    ghost Value = { Numbered };
+
+    ghost view = { λ n. record { scopes = n.scopes.items; variables = n.variables.items } };
+}
+
+/// The place of one of the sources.
+fn source_place(sources: &[RecordedSource], value: &Value) -> Result<u32, RecordingFault>
+    ensures { Gives result (required_at (source_place_of sources.now) key.Source (view value.now)) }
+{
+    match value
+        .get(RecordingKey::Source.name())
+        .and_then(reading::number)
+    {
+        Some(place) if (place as usize) < sources.len() => Ok(place),
+        _ => Err(bad(RecordingKey::Source)),
+    }
+}
+
+/// A line of a text that has so many.
+fn line(lines: u64, value: &Value) -> Result<u32, RecordingFault>
+    ensures { Gives result (required_at (line_of lines) key.Line (view value.now)) }
+{
+    match value
+        .get(RecordingKey::Line.name())
+        .and_then(reading::number)
+    {
+        Some(line) if 1 <= line && line as u64 <= lines => Ok(line),
+        _ => Err(bad(RecordingKey::Line)),
+    }
+}
+
+fn lines_of(sources: &[RecordedSource], place: u32) -> u64
+    ensures { result ≡ lines_at sources.now place }
+{
+    match sources.get(place as usize) {
+        Some(source) => source.lines,
+        None => 0,
+    }
+}
+
+/// A frame, whose number is the count of those before it.
+#[tactic(auto, unfolding(crate::specs::Reading::frame_of))]
+fn frame(
+    alloc: Global,
+    sources: &[RecordedSource],
+    value: &Value,
+    numbers: &mut Numbers,
+) -> Result<Frame, RecordingFault>
+    ensures { GivesWith result numbers.new (frame_of sources.now (view value.now) numbers.old) }
+{
+    reading::element(value, RecordingKey::Frames)?;
+    let name = reading::text(alloc, value, RecordingKey::Name)?;
+    let source = source_place(sources, value)?;
+    let line = line(lines_of(sources, source), value)?;
+    let scopes = scopes(alloc, value, &mut numbers.variables)?;
+    let object = numbers.scopes.len() as u64;
+    numbers.scopes.push(List::new(scopes))?;
+    Ok(Frame {
+        object,
+        name,
+        source,
+        line,
+    })
+}
+
+fn frames(
+    alloc: Global,
+    sources: &[RecordedSource],
+    items: &[Value],
+    numbers: &mut Numbers,
+) -> Result<Vec<Frame>, RecordingFault>
+    ensures { GivesListWith result numbers.new (each (λ earlier. frame_of sources.now) (items_view items.now) [] numbers.old) }
+{
+    let mut found = Vec::new(alloc);
+    for item in items {
+        found.push(frame(alloc, sources, item, numbers)?)?;
+    }
+    Ok(found)
+}
+
+/// The place of the thread with an id.
+fn place(id: i64, threads: &[RecordedThread]) -> Option<usize>
+    ensures { result ≡ place_of id threads.now }
+{
+    for (i, thread) in threads.iter().enumerate() {
+        if thread.id == id {
+            return Some(i);
+        }
+    }
+    None
+}
+
+/// An id that no earlier thread has.
+fn new_id(earlier: &ReadThreads, value: &Value) -> Result<i64, RecordingFault>
+    ensures { Gives result (required_at (new_id_of earlier.now) key.Id (view value.now)) }
+{
+    match value.get(RecordingKey::Id.name()).and_then(reading::int) {
+        Some(id) if !earlier.has(id) => Ok(id),
+        _ => Err(bad(RecordingKey::Id)),
+    }
+}
+
+fn thread_place(threads: &[RecordedThread], value: &Value) -> Result<usize, RecordingFault>
+    ensures { Gives result (required_at (thread_place_of threads.now) key.Thread (view value.now)) }
+{
+    match value
+        .get(RecordingKey::Thread.name())
+        .and_then(reading::int)
+    {
+        Some(id) => place(id, threads).ok_or(bad(RecordingKey::Thread)),
+        None => Err(bad(RecordingKey::Thread)),
+    }
+}
+
+#[tactic(auto, unfolding(crate::specs::Reading::thread_of))]
+fn thread(
+    alloc: Global,
+    sources: &[RecordedSource],
+    earlier: &ReadThreads,
+    value: &Value,
+    numbers: &mut Numbers,
+) -> Result<RecordedThread, RecordingFault>
+    ensures { GivesWith result numbers.new (thread_of sources.now earlier.now (view value.now) numbers.old) }
+{
+    reading::element(value, RecordingKey::Threads)?;
+    let id = new_id(earlier, value)?;
+    let name = reading::text(alloc, value, RecordingKey::Name)?;
+    let items = reading::some_items(value, RecordingKey::Frames)?;
+    let frames = frames(alloc, sources, items, numbers)?;
+    Ok(RecordedThread {
+        id,
+        name,
+        frames: List::new(frames),
+    })
+}
+
+fn threads(
+    alloc: Global,
+    sources: &[RecordedSource],
+    items: &[Value],
+    numbers: &mut Numbers,
+) -> Result<Vec<RecordedThread>, RecordingFault>
+    ensures { GivesListWith result numbers.new (each (thread_of sources.now) (items_view items.now) [] numbers.old) }
+{
+    let mut found = ReadThreads::new(alloc);
+    for item in items {
+        let thread = thread(alloc, sources, &found, item, numbers)?;
+        found = found.with(thread)?;
+    }
+    Ok(found.into_vec())
+}
+
+// ---- the whole
+
+#[tactic(auto, unfolding(crate::specs::Reading::moment_of))]
+fn moment(
+    alloc: Global,
+    sources: &[RecordedSource],
+    value: &Value,
+    numbers: &mut Numbers,
+) -> Result<Moment, RecordingFault>
+    ensures { GivesWith result numbers.new (moment_of sources.now (view value.now) numbers.old) }
+{
+    reading::element(value, RecordingKey::Moments)?;
+    let items = reading::items(value, RecordingKey::Threads)?;
+    let frames_from = numbers.scopes.len() as u64;
+    let holders_from = numbers.variables.len() as u64;
+    let threads = threads(alloc, sources, items, numbers)?;
+    let frames = Span {
+        from: frames_from,
+        to: numbers.scopes.len() as u64,
+    };
+    let holders = Span {
+        from: holders_from,
+        to: numbers.variables.len() as u64,
+    };
+    let thread = thread_place(&threads, value)?;
+    let output = reading::text_or_empty(alloc, value, RecordingKey::Output)?;
+    let waits = reading::flag(value, RecordingKey::Waits)?;
+    Ok(Moment {
+        threads: List::new(threads),
+        thread,
+        output,
+        waits,
+        frames,
+        holders,
+    })
+}
+
+#[tactic(auto, unfolding(crate::specs::Reading::moments_of))]
+fn moments(
+    alloc: Global,
+    sources: &[RecordedSource],
+    items: &[Value],
+    numbers: &mut Numbers,
+) -> Result<Vec<Moment>, RecordingFault>
+    ensures { GivesListWith result numbers.new (moments_of sources.now (items_view items.now) numbers.old) }
+{
+    let mut found = Vec::new(alloc);
+    for item in items {
+        found.push(moment(alloc, sources, item, numbers)?)?;
+    }
+    Ok(found)
+}
+
+/// How many lines a text has: pieces ended by LF, and a last one that is not empty.
+fn line_count(text: &str) -> u64
+    ensures { result ≡ line_count_of text.now }
+{
+    let mut lines = 0;
+    let mut open = false;
+    for byte in text.as_bytes() {
+        if *byte == b'\n' {
+            lines += 1;
+        }
+        open = *byte != b'\n';
+    }
+    if open { lines + 1 } else { lines }
+}
+
+#[tactic(auto, unfolding(crate::specs::Reading::source_of))]
+fn source(alloc: Global, value: &Value) -> Result<RecordedSource, RecordingFault>
+    ensures { Gives result (source_of (view value.now)) }
+{
+    reading::element(value, RecordingKey::Sources)?;
+    let name = reading::text(alloc, value, RecordingKey::Name)?;
+    let path = reading::optional_text(alloc, value, RecordingKey::Path)?;
+    let text = reading::text(alloc, value, RecordingKey::Text)?;
+    let lines = line_count(text.as_str());
+    Ok(RecordedSource {
+        name,
+        path,
+        text,
+        lines,
+    })
+}
+
+fn sources(alloc: Global, items: &[Value]) -> Result<Vec<RecordedSource>, RecordingFault>
+    ensures { GivesList result (each_source (items_view items.now) []) }
+{
+    let mut found = Vec::new(alloc);
+    for item in items {
+        found.push(source(alloc, item)?)?;
+    }
+    Ok(found)
+}
+
+impl Numbers {
+    ghost use Rattle.dap_recording.specs.Reading.{Numbered};
+
+    fn new(alloc: Global) -> Numbers
+        ensures { result ≡ record { scopes = []; variables = [] } }
+    {
+        Numbers {
+            scopes: Vec::new(alloc),
+            variables: Vec::new(alloc),
+        }
+    }
+
+    fn into_recording(
+        self,
+        exit: i32,
+        sources: Vec<RecordedSource>,
+        moments: Vec<Moment>,
+    ) -> Recording
+        ensures { result ≡ record { exit = exit; sources = sources.items; moments = moments.items; scopes = self.scopes; variables = self.variables } }
+    {
+        let Numbers { scopes, variables } = self;
+        Recording {
+            exit,
+            sources: List::new(sources),
+            moments: List::new(moments),
+            scopes: List::new(scopes),
+            variables: List::new(variables),
+        }
+    }
+}
+
+/// The recording that an object is, or its first bad key.
+#[tactic(auto, unfolding(crate::specs::Reading::recording_of))]
+pub(crate) fn recording(alloc: Global, value: &Value) -> Result<Recording, RecordingFault>
+    ensures { Gives result (recording_of (view value.now)) }
+{
+    let exit = reading::exit(value, RecordingKey::Exit)?;
+    let items = reading::few_items(value, RecordingKey::Sources)?;
+    let sources = sources(alloc, items)?;
+    let items = reading::some_items(value, RecordingKey::Moments)?;
+    let mut numbers = Numbers::new(alloc);
+    let moments = moments(alloc, &sources, items, &mut numbers)?;
+    Ok(numbers.into_recording(exit, sources, moments))
+}
