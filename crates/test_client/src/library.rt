@@ -1,28 +1,30 @@
-//! The library code of the README, as a test: an editor's side that drives an adapter in the same process.
+//! The library code of the README, as tests: an adapter in a program with a loop of its own, and a client over a connection.
 
-use dap_adapter::Adapter;
+use dap_adapter::{Adapter, AdapterFault};
+use dap_channel::Channel;
 use dap_client::Client;
+use dap_connection::Connection;
 use dap_frame::Limits;
-use dap_message::{
-    Call, Command, Initialize, Kind, Message, StackTrace, Text, Tree, Variables, frames_given,
-    holders_given,
-};
+use dap_message::{Call, Initialize, Kind, Message, StackTrace, Text, Variables};
 use dap_recording::Recorded;
 use serde_json::Value;
 use std::alloc::Global;
 use std::fmt::Write;
+use std::io;
 use std::marker::Model;
 use std::test::Fail;
 use test_kit::samples::RECORDING;
 
-/// Both ends of a session. A contract sees nothing of them.
+/// A debug adapter in a program with a loop of its own. A contract sees nothing of it.
 #[derive(Drop)]
-struct Ends {
-    client: Client,
+struct Program {
+    alloc: Global,
     adapter: Adapter<Recorded>,
+    /// What goes to the client.
+    out: Vec<u8>,
 }
 
-impl Model for Ends {
+impl Model for Program {
     ghost use Rattle.std.specs.Prelude.{ℕ};
 
     ghost Value = { ℕ };
@@ -30,92 +32,68 @@ impl Model for Ends {
     ghost view = { λ _. 0 };
 }
 
-fn adapter(alloc: Global, recording: &[u8]) -> Option<Adapter<Recorded>> {
-    let debuggee = Recorded::read(alloc, recording).ok()?;
-    Adapter::open(alloc, Limits::usual(), debuggee).ok()
-}
-
-impl Ends {
-    fn open(alloc: Global, recording: &[u8]) -> Option<Ends> {
-        let client = Client::open(alloc, Limits::usual()).ok()?;
-        Some(Ends {
-            client,
-            adapter: adapter(alloc, recording)?,
+impl Program {
+    fn open(alloc: Global, recording: &[u8]) -> Option<Program> {
+        let debuggee = Recorded::read(alloc, recording).ok()?;
+        let adapter = Adapter::open(alloc, Limits::usual(), debuggee).ok()?;
+        Some(Program {
+            alloc,
+            adapter,
+            out: Vec::new(alloc),
         })
     }
 
-    /// Sends a call, lets the adapter answer, and takes what it wrote: the body of the response.
-    fn ask(&mut self, alloc: Global, call: &Call) -> Option<Tree> {
-        if !call.plain() {
-            return None;
-        }
-        let sent = self.client.send(alloc, call).ok()?;
-        let mut written = Vec::new(alloc);
-        self.adapter.answer(alloc, &sent.bytes, &mut written).ok()?;
-        self.hear(alloc, &written, sent.seq)
+    /// Bytes came from the client: whether the session has ended.
+    fn came(&mut self, piece: &[u8]) -> Result<bool, AdapterFault> {
+        self.adapter.answer(self.alloc, piece, &mut self.out)
     }
 
-    /// Takes bytes of the adapter: the body of the response to this request, if one came with a body.
-    fn hear(&mut self, alloc: Global, written: &[u8], seq: u64) -> Option<Tree> {
-        let mut found = None;
-        let mut piece = written;
-        let mut out = Vec::new(alloc);
-        while let Some(message) = self.client.next(alloc, &mut piece, &mut out).ok()? {
-            if let Some(body) = answer_to(seq, Some(message)) {
-                found = Some(body);
-            }
-        }
-        found
-    }
-
-    /// Starts the run, which goes on to its first stop.
-    fn start(&mut self, alloc: Global) -> Option<()> {
-        self.ask(alloc, &initialize(alloc)?)?;
-        self.ask(alloc, &Call::Launch(None));
-        self.ask(alloc, &Call::ConfigurationDone);
-        Some(())
-    }
-
-    /// The newest frame of a thread.
-    fn frame(&mut self, alloc: Global, thread_id: i64) -> Option<u32> {
-        let asked = StackTrace {
-            thread_id,
-            start_frame: 0,
-            levels: 1,
-        };
-        let told = self.ask(alloc, &Call::StackTrace(asked))?;
-        frames_given(told.value()).next()
-    }
-
-    /// The variables of a frame's first scope.
-    fn variables(&mut self, alloc: Global, frame_id: u32) -> Option<Tree> {
-        let told = self.ask(alloc, &Call::Scopes { frame_id })?;
-        let asked = Variables {
-            variables_reference: holders_given(Command::Scopes, told.value()).next()?,
-            start: 0,
-            count: 0,
-        };
-        self.ask(alloc, &Call::Variables(asked))
-    }
-
-    /// The variables of the first stop, a line each.
-    fn lines(&mut self, alloc: Global) -> Option<String> {
-        self.start(alloc)?;
-        let frame = self.frame(alloc, 1)?;
-        let variables = self.variables(alloc, frame)?;
-        lines_of(alloc, variables.value())
+    /// Time went by, and the debugger may have news.
+    fn waited(&mut self) -> Result<(), AdapterFault> {
+        self.adapter.tell(self.alloc, &mut self.out)
     }
 }
 
-/// The body of a message, where it is the response to this request and has one.
-fn answer_to(seq: u64, delivered: Option<Message>) -> Option<Tree> {
-    match delivered?.kind {
-        Kind::Response {
-            request_seq,
-            body,
-            ..
-        } if request_seq == seq => body,
-        _ => None,
+/// The program as a channel of a client in the same process: what is written to it comes, and what goes out is read.
+#[derive(Drop)]
+struct Nearby {
+    program: Program,
+    at: usize,
+}
+
+impl Model for Nearby {
+    ghost use Rattle.std.specs.Prelude.{ℕ};
+
+    ghost Value = { ℕ };
+
+    ghost view = { λ _. 0 };
+}
+
+impl Channel for Nearby {
+    ghost goes = { λ _ _ _. Unit {0} };
+
+    fn read(&mut self, buf: &mut [u8]) -> io::Result<usize> {
+        if self.program.waited().is_err() {
+            return Err(io::Error::from(io::ErrorKind::Other));
+        }
+        let mut n = 0;
+        while n < buf.len() && self.at < self.program.out.len() {
+            buf[n] = self.program.out[self.at];
+            self.at += 1;
+            n += 1;
+        }
+        Ok(n)
+    }
+
+    fn write(&mut self, bytes: &[u8]) -> io::Result<usize> {
+        match self.program.came(bytes) {
+            Ok(_) => Ok(bytes.len()),
+            Err(_) => Err(io::Error::from(io::ErrorKind::Other)),
+        }
+    }
+
+    fn flush(&mut self) -> io::Result<()> {
+        Ok(())
     }
 }
 
@@ -132,38 +110,99 @@ fn initialize(alloc: Global) -> Option<Call> {
     }
 }
 
-/// Appends a variable's line.
-fn add_line(lines: &mut String, variable: &Value) -> Option<()> {
-    let name = variable.get("name")?.as_str()?;
-    let value = variable.get("value")?.as_str()?;
-    writeln!(lines, "{name} = {value}").ok()
-}
-
-fn add_lines(lines: &mut String, told: &Value) -> Option<()> {
-    for variable in told.get("variables")?.as_array()? {
-        add_line(lines, variable)?;
+/// Asks, and waits for the response.
+fn ask<C: Channel + Drop>(editor: &mut Connection<C>, call: &Call) -> Option<Message> {
+    if !call.plain() {
+        return None;
     }
-    Some(())
+    editor.ask(call).ok()
 }
 
-/// Variables, a line each.
-fn lines_of(alloc: Global, told: &Value) -> Option<String> {
+/// The body of a response.
+fn body(message: &Message) -> Option<&Value> {
+    match &message.kind {
+        Kind::Response {
+            body: Some(body),
+            ..
+        } => Some(body.value()),
+        _ => None,
+    }
+}
+
+/// Waits for an event.
+fn wait_for<C: Channel + Drop>(editor: &mut Connection<C>, name: &str) -> Option<()> {
+    for _message in 0..100 {
+        let message = editor.next().ok()??;
+        if message.event().is_some_and(|event| event.name == name) {
+            return Some(());
+        }
+    }
+    None
+}
+
+/// Starts the run, and waits for its first stop.
+fn start<C: Channel + Drop>(alloc: Global, editor: &mut Connection<C>) -> Option<()> {
+    ask(editor, &initialize(alloc)?)?;
+    editor.send(&Call::Launch(None)).ok()?;
+    wait_for(editor, "initialized")?;
+    ask(editor, &Call::ConfigurationDone)?;
+    wait_for(editor, "stopped")
+}
+
+/// The newest frame of a thread.
+fn frame<C: Channel + Drop>(
+    alloc: Global,
+    editor: &mut Connection<C>,
+    thread_id: i64,
+) -> Option<u32> {
+    let asked = StackTrace {
+        thread_id,
+        start_frame: 0,
+        levels: 1,
+    };
+    let told = ask(editor, &Call::StackTrace(asked))?;
+    let stack = dap_view::stack_trace(alloc, body(&told)?).ok()?;
+    Some(stack.stack_frames.first()?.id)
+}
+
+/// The response with the variables of a frame's first scope.
+fn variables<C: Channel + Drop>(
+    alloc: Global,
+    editor: &mut Connection<C>,
+    frame_id: u32,
+) -> Option<Message> {
+    let told = ask(editor, &Call::Scopes { frame_id })?;
+    let scopes = dap_view::scopes(alloc, body(&told)?).ok()?;
+    let variables_reference = scopes.first()?.variables_reference;
+    let asked = Variables {
+        variables_reference,
+        start: 0,
+        count: 0,
+    };
+    ask(editor, &Call::Variables(asked))
+}
+
+/// The variables of the first stop, a line each.
+fn lines<C: Channel + Drop>(alloc: Global, editor: &mut Connection<C>) -> Option<String> {
+    start(alloc, editor)?;
+    let frame_id = frame(alloc, editor, 1)?;
+    let told = variables(alloc, editor, frame_id)?;
     let mut lines = String::new(alloc);
-    add_lines(&mut lines, told)?;
+    for variable in dap_view::variables(alloc, body(&told)?).ok()?.iter() {
+        writeln!(lines, "{} = {}", variable.name, variable.value).ok()?;
+    }
     Some(lines)
 }
 
 /// The variables of a recording's first stop.
 fn told(alloc: Global, recording: &[u8]) -> Option<String> {
-    match Ends::open(alloc, recording) {
-        Some(mut ends) => {
-            let lines = ends.lines(alloc);
-            // The proof of a call is shorter than that of a value that goes out of scope.
-            drop(ends);
-            lines
-        }
-        None => None,
-    }
+    let program = Program::open(alloc, recording)?;
+    let nearby = Nearby { program, at: 0 };
+    let mut editor = Connection::open(alloc, nearby, Limits::usual()).ok()?;
+    let lines = lines(alloc, &mut editor);
+    // The proof of a call is shorter than that of a value that goes out of scope.
+    drop(editor);
+    lines
 }
 
 /// Whether these are told.
@@ -174,9 +213,30 @@ fn tells(alloc: Global, recording: &[u8], wanted: &str) -> bool {
     }
 }
 
+/// A client of its own loop: how many messages are in these bytes of an adapter.
+fn count(alloc: Global, written: &[u8]) -> Option<u64> {
+    let mut client = Client::open(alloc, Limits::usual()).ok()?;
+    let mut piece = written;
+    let mut out = Vec::new(alloc);
+    let mut count = 0;
+    while let Some(_message) = client.next(alloc, &mut piece, &mut out).ok()? {
+        count += 1;
+    }
+    Some(count)
+}
+
 #[test]
 fn the_readme_prints_variables(rt: HostRuntime) -> Result<(), Fail> {
     assert!(rt; tells(rt.alloc(), RECORDING, "x = 1\np = P\n"));
     assert!(rt; told(rt.alloc(), b"{}").is_none());
+    Ok(())
+}
+
+#[test]
+fn a_client_counts_events(rt: HostRuntime) -> Result<(), Fail> {
+    let two =
+        b"Content-Length: 46\r\n\r\n{\"event\":\"initialized\",\"seq\":2,\"type\":\"event\"}Content-Length: 46\r\n\r\n{\"event\":\"initialized\",\"seq\":3,\"type\":\"event\"}";
+    assert!(rt; count(rt.alloc(), two) == Some(2));
+    assert!(rt; count(rt.alloc(), b"") == Some(0));
     Ok(())
 }
