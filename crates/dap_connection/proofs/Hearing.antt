@@ -1,5 +1,5 @@
 -- Messages that come, one after the other.
-use Rattle.std.proofs.Common.{◌≡◌, ℕ, ◌-◌, ◌≤◌, Bool, true, false, List, [], ◌∷◌, ◌++◌, length, drop, Option, Some, None, refl, sym, ap, ◌∙◌, subst, arith, append_assoc, append-nil, length-drop, inl, inr, true≢false}
+use Rattle.std.proofs.Common.{◌≡◌, ◌≢◌, ℕ, ◌-◌, ◌≤◌, Bool, true, false, List, [], ◌∷◌, ◌++◌, length, drop, Option, Some, None, refl, sym, ap, ◌∙◌, subst, arith, append_assoc, append-nil, length-drop, inl, inr, true≢false}
 use Rattle.std.specs.Prelude.{nat_le, ◌⊎◌, is_some, option_map}
 use Rattle.std.proofs.lemmas.Bool.Decides.{nat_tests}
 use Rattle.std.proofs.Math.ListN.{drop_of_length-le}
@@ -40,7 +40,7 @@ takes_moved old old' new new' piece piece' before left left' after message a b n
 pub hears_more : {C : Type 0} (goes : C → IoEvent → C → Type 0) (v m : Wire C) (ms : List Message) → Hears goes v ms m → (ns : List Message) (u : Wire C) → Hears goes m ns u → Hears goes v (ms ++ ns) u
 hears_more goes v m ms x _ _ heard_none = subst (λ (z : List Message). Hears goes v z m) (sym (append-nil ms)) x
 hears_more goes v m ms x _ _ (then_took ns message s u y t) = subst (λ (z : List Message). Hears goes v z u) (append_assoc ms ns _) (then_took (ms ++ ns) message s u (hears_more goes v m ms x ns s y) t)
-hears_more goes v m ms x _ _ (then_read ns s u y r) = then_read (ms ++ ns) s u (hears_more goes v m ms x ns s y) r
+hears_more goes v m ms x _ _ (then_read ns s u y r some) = then_read (ms ++ ns) s u (hears_more goes v m ms x ns s y) r some
 
 -- these came, and are kept
 pub record HasHeard {C : Type 0} (goes : C → IoEvent → C → Type 0) (old : Wire C) (passed : List Message) (new : Wire C) (kept : List Message) : Type 0 where
@@ -59,9 +59,9 @@ heard_one goes v m u passed kept now message x y is = record {
 }
 
 -- no message came by this step
-pub heard_more : {C : Type 0} (goes : C → IoEvent → C → Type 0) (v m u : Wire C) → Hears goes v [] m → TakesOne goes m None u ⊎ ReadsMore goes m u → Hears goes v [] u
+pub heard_more : {C : Type 0} (goes : C → IoEvent → C → Type 0) (v m u : Wire C) → Hears goes v [] m → TakesOne goes m None u ⊎ (ReadsMore goes m u × (u.unread ≢ [])) → Hears goes v [] u
 heard_more goes v m u x (inl t) = then_took [] None m u x t
-heard_more goes v m u x (inr r) = then_read [] m u x r
+heard_more goes v m u x (inr r) = then_read [] m u x r.0 r.1
 
 pub is_some_of : {A B : Type 0} (f : A → B) (x : Option A) (y : Option B) → option_map f x ≡ y → is_some x ≡ true → is_some y ≡ true
 is_some_of f None y e h = absurd (true≢false (sym h))

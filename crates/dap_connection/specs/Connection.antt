@@ -1,6 +1,6 @@
 -- What the calls of a connection do.
 -- Overview, "Base Protocol". That messages which come before a response are kept, and in which order they are given, are this profile's choices.
-use Rattle.std.specs.Prelude.{◌≡◌, ℕ, ◌+◌, ◌<◌, List, [], ◌∷◌, ◌++◌, Bool, true, Option, Some, None, is_some, option_to_list}
+use Rattle.std.specs.Prelude.{◌≡◌, ◌≢◌, ℕ, ◌+◌, ◌<◌, List, [], ◌∷◌, ◌++◌, Bool, true, Option, Some, None, is_some, option_to_list}
 use Rattle.dap_channel.specs.Channel.{IoEvent, Gave}
 use Rattle.dap_channel.specs.Sent.{Sends}
 use Rattle.dap_message.specs.Parts.{response_parts}
@@ -30,11 +30,11 @@ pub record ReadsMore {C : Type 0} (goes : C → IoEvent → C → Type 0) (old n
   pub gave : goes old.channel (Gave room new.unread) new.channel
   pub client : new.client ≡ old.client
 
--- steps that lead from one to the other, with the messages that come by them, oldest first
+-- steps that lead from one to the other, with the messages that come by them, oldest first; nothing is read after the end of the input
 pub data Hears {C : Type 0} (goes : C → IoEvent → C → Type 0) (old : Wire C) : List Message → Wire C → Type 0 where
   heard_none : Hears goes old [] old
   then_took : (ms : List Message) (message : Option Message) (s new : Wire C) → Hears goes old ms s → TakesOne goes s message new → Hears goes old (ms ++ option_to_list message) new
-  then_read : (ms : List Message) (s new : Wire C) → Hears goes old ms s → ReadsMore goes s new → Hears goes old ms new
+  then_read : (ms : List Message) (s new : Wire C) → Hears goes old ms s → ReadsMore goes s new → new.unread ≢ [] → Hears goes old ms new
 
 -- none comes, and the last read found the end of the input
 pub record HearsEnd {C : Type 0} (goes : C → IoEvent → C → Type 0) (old new : Wire C) : Type 0 where

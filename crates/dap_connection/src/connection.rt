@@ -1,5 +1,5 @@
 //! A connection, call by call.
-ghost use Rattle.std.specs.Prelude.{◌≡◌, ℕ, ◌+◌, ◌<◌, ◌≤◌, List, [], ◌∷◌, ◌++◌, length, IfOk, IfErr, OnOk, OnErr, IfSome, IfNone, IsTrue, Some, None, Ok, Err, true, false};
+ghost use Rattle.std.specs.Prelude.{◌≡◌, ◌≢◌, ℕ, ◌+◌, ◌<◌, ◌≤◌, List, [], ◌∷◌, ◌++◌, length, IfOk, IfErr, OnOk, OnErr, IfSome, IfNone, IsTrue, Some, None, Ok, Err, true, false};
 ghost use Rattle.dap_channel.specs.Sent.{Sends};
 ghost use Rattle.dap_client.specs.Session.{fresh_session};
 ghost use Rattle.dap_message.specs.PlainCall.{is_plain_call};
@@ -126,7 +126,8 @@ impl<C: Channel + Drop> Connection<C> {
         requires none { self.old.wire.unread ≡ [] }
         ensures read { OnOk result (ReadsMore C.goes self.old.wire self.new.wire) }
         ensures kept { OnOk result ((self.new.passed ≡ self.old.passed) × (self.new.fault ≡ self.old.fault)) }
-        ensures more { IfOk result (λ more. more ≡ false → self.new.wire.unread ≡ []) }
+        ensures none { IfOk result (λ more. more ≡ false → self.new.wire.unread ≡ []) }
+        ensures some { IfOk result (λ more. more ≡ true → self.new.wire.unread ≢ []) }
         ensures latches { IfErr result (λ fault. self.new.fault ≡ Some fault) }
     {
         let mut buffer = [0; ROOM];
