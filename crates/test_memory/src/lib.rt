@@ -4,6 +4,8 @@
 #![tactic(auto)]
 
 #[cfg(test)]
+mod answering;
+#[cfg(test)]
 mod bodies;
 #[cfg(test)]
 mod calls;

@@ -17,7 +17,7 @@ use std::test::Fail;
 use test_kit::served::{Stream, stream_of};
 
 /// A session from `initialize` to `disconnect`.
-static SESSION: &str = r#"
+pub(crate) static SESSION: &str = r#"
 row a session
 > {"seq":1,"type":"request","command":"initialize","arguments":{"adapterID":"rec"}}
 < capabilities seq 1 to 1
@@ -34,7 +34,7 @@ phase Ended
 "#;
 
 /// A session that sets a breakpoint, looks into a stop and sets a variable there.
-static LOOKS: &str = r#"
+pub(crate) static LOOKS: &str = r#"
 row a session that looks into a stop
 > {"seq":1,"type":"request","command":"initialize","arguments":{"adapterID":"rec"}}
 < capabilities seq 1 to 1
@@ -69,7 +69,7 @@ phase Ended
 "#;
 
 /// A session in a terminal that the client refuses first.
-static TERMINAL: &str = r#"
+pub(crate) static TERMINAL: &str = r#"
 row a session in a terminal
 > {"seq":1,"type":"request","command":"initialize","arguments":{"adapterID":"rec","supportsRunInTerminalRequest":true}}
 < capabilities seq 1 to 1
