@@ -220,7 +220,7 @@ fn count(alloc: Global, written: &[u8]) -> Option<u64> {
     let mut out = Vec::new(alloc);
     let mut count = 0;
     while let Some(_message) = client.next(alloc, &mut piece, &mut out).ok()? {
-        count += 1;
+        count = u64::saturating_add(count, 1);
     }
     Some(count)
 }

@@ -99,7 +99,7 @@ fn count(
     let mut count = 0;
     for _message in 0..written.len() {
         if let Some(_) = client.next(alloc, &mut piece, out)? {
-            count += 1;
+            count = u64::saturating_add(count, 1);
         }
     }
     Ok(count)
