@@ -76,12 +76,11 @@ impl Channel for Nearby {
         if self.program.waited().is_err() {
             return Err(io::Error::from(io::ErrorKind::Other));
         }
-        let mut n = 0;
-        while n < buf.len() && self.at < self.program.out.len() {
-            buf[n] = self.program.out[self.at];
-            self.at += 1;
-            n += 1;
-        }
+        let start = self.at.min(self.program.out.len());
+        let (_, rest) = self.program.out.split_at(start);
+        let n = rest.len().min(buf.len());
+        buf[..n].copy_from_slice(&rest[..n]);
+        self.at = start + n;
         Ok(n)
     }
 
@@ -219,8 +218,10 @@ fn count(alloc: Global, written: &[u8]) -> Option<u64> {
     let mut piece = written;
     let mut out = Vec::new(alloc);
     let mut count = 0;
-    while let Some(_message) = client.next(alloc, &mut piece, &mut out).ok()? {
-        count = u64::saturating_add(count, 1);
+    for _message in 0..written.len() {
+        if let Some(_) = client.next(alloc, &mut piece, &mut out).ok()? {
+            count = u64::saturating_add(count, 1);
+        }
     }
     Some(count)
 }
