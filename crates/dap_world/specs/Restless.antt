@@ -47,7 +47,7 @@ restless_shown v = record {
   children = λ holder. None;
   evaluate = λ frame text. None;
   assigned = λ holder name text. None;
-  sources = record { name = codes "a.c"; path = Some (codes "/a.c") } ∷ [];
+  sources = record { name = codes "a.c"; path = Some (codes "/a.c"); on_disk = false } ∷ [];
   content = λ index. None;
   verify = λ source lines. None;
 }
