@@ -39,14 +39,8 @@ each-told _ _ s body = refl
 
 -- only inspections name references
 none-named : (c : Call) → is_inspect (class_of (command_of c)) ≡ false → references_used_by c ≡ []
-none-named (call.StackTrace a) e = cc
-none-named (call.Scopes a) e = cc
-none-named (call.Variables a) e = cc
-none-named (call.Evaluate a) e = cc
-none-named (call.SetVariable a) e = cc
-none-named (call.ExceptionInfo a) e = cc
-none-named (call.Completions a) e = cc
-none-named _ e = refl
+none-named (call.Initialize a) e = refl
+none-named _ e = cc
 
 -- ---- any message
 
