@@ -15,7 +15,7 @@ use Rattle.dap_tables.specs.declared.entry.Entry.{Entry}
 use Rattle.dap_client.specs.declared.fault.ClientFault.{ClientFault}
 use Rattle.dap_client.specs.declared.fault.ClientFault.TheVariants.{CommandMismatch, RepeatedSeq, ReferenceLimit, SeqExhausted}
 use Rattle.dap_client.specs.declared.phase.Phase.{Phase}
-use Rattle.dap_client.specs.declared.phase.Phase.TheVariants.{Fresh, Initializing, Configuring, Running, Stopped, Resuming, Exited, Ended}
+use Rattle.dap_client.specs.declared.phase.Phase.TheVariants.{Fresh}
 use Rattle.dap_client.specs.declared.signal.Signal.{Signal}
 use Rattle.dap_client.specs.declared.signal.Signal.TheVariants as signal
 use Rattle.dap_client.specs.Changes.{signal_named}
@@ -34,64 +34,13 @@ use Rattle.dap_client.proofs.TerminalRequests.{announces}
 
 each-told : (p : Phase) (x : Signal) (s : Session) (body : Option Data) → abstraction_of (record s { seen = after_signal x body (record s.seen { phase = p }) }) ≡ abstraction_after_event x (abstraction_of (at p s))
 each-told Fresh signal.Initialized s body = refl
-each-told Fresh signal.Stopped s body = refl
-each-told Fresh signal.Continued s body = refl
-each-told Fresh signal.Exited s body = refl
-each-told Fresh signal.Terminated s body = refl
-each-told Fresh signal.Capabilities s body = refl
-each-told Initializing signal.Initialized s body = refl
-each-told Initializing signal.Stopped s body = refl
-each-told Initializing signal.Continued s body = refl
-each-told Initializing signal.Exited s body = refl
-each-told Initializing signal.Terminated s body = refl
-each-told Initializing signal.Capabilities s body = refl
-each-told Configuring signal.Initialized s body = refl
-each-told Configuring signal.Stopped s body = refl
-each-told Configuring signal.Continued s body = refl
-each-told Configuring signal.Exited s body = refl
-each-told Configuring signal.Terminated s body = refl
-each-told Configuring signal.Capabilities s body = refl
-each-told Running signal.Initialized s body = refl
-each-told Running signal.Stopped s body = refl
-each-told Running signal.Continued s body = refl
-each-told Running signal.Exited s body = refl
-each-told Running signal.Terminated s body = refl
-each-told Running signal.Capabilities s body = refl
-each-told Stopped signal.Initialized s body = refl
-each-told Stopped signal.Stopped s body = refl
-each-told Stopped signal.Continued s body = refl
-each-told Stopped signal.Exited s body = refl
-each-told Stopped signal.Terminated s body = refl
-each-told Stopped signal.Capabilities s body = refl
-each-told Resuming signal.Initialized s body = refl
-each-told Resuming signal.Stopped s body = refl
-each-told Resuming signal.Continued s body = refl
-each-told Resuming signal.Exited s body = refl
-each-told Resuming signal.Terminated s body = refl
-each-told Resuming signal.Capabilities s body = refl
-each-told Exited signal.Initialized s body = refl
-each-told Exited signal.Stopped s body = refl
-each-told Exited signal.Continued s body = refl
-each-told Exited signal.Exited s body = refl
-each-told Exited signal.Terminated s body = refl
-each-told Exited signal.Capabilities s body = refl
-each-told Ended signal.Initialized s body = refl
-each-told Ended signal.Stopped s body = refl
-each-told Ended signal.Continued s body = refl
-each-told Ended signal.Exited s body = refl
-each-told Ended signal.Terminated s body = refl
-each-told Ended signal.Capabilities s body = refl
+each-told _ signal.Initialized s body = refl
+each-told _ _ s body = refl
 
 -- only inspections name references
 none-named : (c : Call) → is_inspect (class_of (command_of c)) ≡ false → references_used_by c ≡ []
-none-named (call.StackTrace a) e = cc
-none-named (call.Scopes a) e = cc
-none-named (call.Variables a) e = cc
-none-named (call.Evaluate a) e = cc
-none-named (call.SetVariable a) e = cc
-none-named (call.ExceptionInfo a) e = cc
-none-named (call.Completions a) e = cc
-none-named _ e = refl
+none-named (call.Initialize a) e = refl
+none-named _ e = cc
 
 -- ---- any message
 

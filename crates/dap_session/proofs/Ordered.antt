@@ -1,5 +1,5 @@
 -- The first test that holds, in two ways of writing it down.
-use Rattle.std.proofs.Common.{◌≡◌, ◌&&◌, not, Bool, true, false, cond, [], ◌∷◌, Option, Some, None, Ok, Err, refl, sym, ap, true≢false}
+use Rattle.std.proofs.Common.{◌≡◌, ◌&&◌, not, Bool, true, false, cond, [], ◌∷◌, Option, Some, None, Ok, Err, refl, sym, ap}
 use Rattle.std.specs.Prelude.{find}
 use Rattle.dap_message.specs.Argument.{Read}
 use Rattle.dap_message.specs.Failure.{failures_in_order}
@@ -45,15 +45,8 @@ well false false false false false e2 f2 false false false wrong same = rw (wron
 
 -- what is served where the debuggee runs is not served in stops alone
 runs-too : (c : Command) → is_served c Running ≡ true → is_of_stops c ≡ false
-runs-too command.Disconnect h = refl
-runs-too command.Terminate h = refl
-runs-too command.SetBreakpoints h = refl
-runs-too command.SetExceptionBreakpoints h = refl
-runs-too command.Threads h = refl
-runs-too command.Source h = refl
-runs-too command.LoadedSources h = refl
-runs-too command.Pause h = refl
-runs-too _ h = absurd (true≢false (sym h))
+runs-too command.Initialize h = cc
+runs-too _ h = cc
 
 serves-now : (phase : Phase) (c : Command) → is_served c phase ≡ true → waits_for_stop phase c ≡ false
 serves-now Running c h = runs-too c h

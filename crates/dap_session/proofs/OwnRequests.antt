@@ -52,14 +52,16 @@ IsIn effect.Disconnect phase = ⊤
 IsIn effect.EndAndDisconnect phase = ⊤
 IsIn _ phase = asks_none phase ≡ true
 
+abbrev may_wait_if : Option Effect → Bool
+may_wait_if None = true
+may_wait_if (Some e) = may_wait e
+
+all-wait : (c : Command) → may_wait_if (effect_in c Asked) ≡ true
+all-wait command.Initialize = refl
+all-wait _ = refl
+
 waits-in : (c : Command) (e : Effect) → effect_in c Asked ≡ Some e → may_wait e ≡ true
-waits-in command.Disconnect e h = let is : effect.Disconnect ≡ e = cc in subst (λ (x : Effect). may_wait x ≡ true) is refl
-waits-in command.SetBreakpoints e h = let is : effect.Change ≡ e = cc in subst (λ (x : Effect). may_wait x ≡ true) is refl
-waits-in command.SetExceptionBreakpoints e h = let is : effect.Query ≡ e = cc in subst (λ (x : Effect). may_wait x ≡ true) is refl
-waits-in command.Threads e h = let is : effect.Query ≡ e = cc in subst (λ (x : Effect). may_wait x ≡ true) is refl
-waits-in command.Source e h = let is : effect.Query ≡ e = cc in subst (λ (x : Effect). may_wait x ≡ true) is refl
-waits-in command.LoadedSources e h = let is : effect.Query ≡ e = cc in subst (λ (x : Effect). may_wait x ≡ true) is refl
-waits-in _ e h = absurd cc
+waits-in c e h = subst (λ (o : Option Effect). may_wait_if o ≡ true) h (all-wait c)
 
 none-at-end : (c : Command) → effect_in c Ended ≡ None
 none-at-end command.Launch = refl

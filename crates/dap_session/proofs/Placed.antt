@@ -43,30 +43,10 @@ abbrev placed_if : Option Effect → Phase → Bool
 placed_if None phase = true
 placed_if (Some e) phase = is_placed e phase
 
+-- each command in each phase: the line that names one splits, and the others hold of all the rest
 all-placed : (c : Command) (phase : Phase) → placed_if (effect_in c phase) phase ≡ true
 all-placed command.Initialize Fresh = refl
-all-placed command.Launch Fresh = refl
-all-placed command.Attach Fresh = refl
-all-placed command.ConfigurationDone Fresh = refl
-all-placed command.Disconnect Fresh = refl
-all-placed command.Terminate Fresh = refl
-all-placed command.SetBreakpoints Fresh = refl
-all-placed command.SetExceptionBreakpoints Fresh = refl
-all-placed command.Threads Fresh = refl
-all-placed command.Source Fresh = refl
-all-placed command.LoadedSources Fresh = refl
-all-placed command.Continue Fresh = refl
-all-placed command.Next Fresh = refl
-all-placed command.StepIn Fresh = refl
-all-placed command.StepOut Fresh = refl
-all-placed command.StepBack Fresh = refl
-all-placed command.ReverseContinue Fresh = refl
-all-placed command.Pause Fresh = refl
-all-placed command.StackTrace Fresh = refl
-all-placed command.Scopes Fresh = refl
-all-placed command.Variables Fresh = refl
-all-placed command.Evaluate Fresh = refl
-all-placed command.SetVariable Fresh = refl
+all-placed _ Fresh = refl
 all-placed _ _ = refl
 
 pub placed : (c : Command) (phase : Phase) (e : Effect) → effect_in c phase ≡ Some e → is_placed e phase ≡ true
