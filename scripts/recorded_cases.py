@@ -285,6 +285,13 @@ HELD = [
         [],
     ),
     (
+        "an answer that comes again with other references, as of debugpy",
+        looked(variables(7, variable("a", "1", 9)), variables(7, variable("a", "2", 10)), variables(10, variable("c")), variables(8))
+        + [scopes(5, ("A", 11), ("B", 12)), variables(11)],
+        of_looked(named("a", named("c"), value="1")),
+        [],
+    ),
+    (
         "as deep as may be",
         looked(*deep(59)[0], variables(8)),
         of_looked(nested(59)),
@@ -455,11 +462,11 @@ def limits():
             expect("record: too many sources, by name", got[2], told)
         else:
             expect("record: the most sources are served", run(["serve", os.path.join(FOLDER, "out.json")]), (0, b"", b""))
-    # A text of 30 million bytes in the transcript, which is held by three variables.
+    # A text of 23 million bytes in the transcript, which is held by three variables.
     shared = variables(7, *(variable(name, reference=9) for name in "abc"))
-    status, _, err = recorded_or_not(looked(shared, variables(9, variable("long", "v" * 30000000))))
+    status, _, err = recorded_or_not(looked(shared, variables(9, variable("long", "v" * 23000000))))
     expect("record: too long", status, 3)
-    expect_in("record: too long, by name", err, b"record: FileTooLong: the recording would have 900")
+    expect_in("record: too long, by name", err, b"record: FileTooLong: the recording would have 690")
 
 
 def recorded_or_not(steps, *words):

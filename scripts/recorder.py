@@ -40,6 +40,14 @@ def objects_of(value, key):
     return [one for one in found if isinstance(one, dict)] if isinstance(found, list) else []
 
 
+def put(there, place, thing):
+    """A scope or a variable at a place, unless there is one. Some adapters give it another reference each time that it is
+    asked for, and any of them may be asked for what it holds."""
+    first = there.setdefault(place, thing)
+    if first is not thing and first["name"] == thing["name"]:
+        first["keys"] += thing["keys"]
+
+
 class Holder:
     """What a `variablesReference` stands for: its variables, by filter and place, as far as they were asked for."""
 
@@ -51,7 +59,7 @@ class Holder:
         start = number_of(arguments, "start", 0)
         self.is_paged |= start > 0 or number_of(arguments, "count", 0) > 0
         for place, variable in enumerate(variables, start):
-            self.there.setdefault((text_of(arguments, "filter"), place), variable)
+            put(self.there, (text_of(arguments, "filter"), place), variable)
 
     def variables(self):
         """In order; where they were asked for both as a whole and by a filter, as a whole."""
@@ -72,12 +80,12 @@ class Stop:
         self.are_named = False
         self.output = output
         self.waits = waits
-        # The frames of each thread by place, and how many it has. The scopes of each frame, by its id.
+        # The frames of each thread by place, and how many it has. The scopes of each frame by its id and their place.
         self.frames = {}
         self.totals = {}
         self.scopes = {}
         # Of each number of variables the frame whose scopes gave it last, since some adapters give the same numbers for
-        # each frame. The number and that frame are the key of a holder.
+        # each frame. The number and that frame are the key of a holder; here they are by number, and then by frame.
         self.given_by = {}
         self.holders = {}
         self.evaluations = []
@@ -102,27 +110,38 @@ class Stop:
         frame = number_of(arguments, "frameId")
         scopes = objects_of(body, "scopes")
         self.given_by.update({number_of(scope, "variablesReference"): frame for scope in scopes})
-        self.scopes.setdefault(frame, [self.with_key(scope) for scope in scopes])
+        for place, scope in enumerate(scopes):
+            put(self.scopes, (frame, place), self.with_keys(scope))
 
     def take_variables(self, arguments, body):
         key = self.key_of(arguments)
         if key:
-            variables = [self.with_key(one) for one in objects_of(body, "variables")]
-            self.holders.setdefault(key, Holder()).take(arguments, variables)
+            variables = [self.with_keys(one) for one in objects_of(body, "variables")]
+            self.holders.setdefault(key[0], {}).setdefault(key[1], Holder()).take(arguments, variables)
 
     def key_of(self, value):
         number = number_of(value, "variablesReference", 0)
         return (number, self.given_by.get(number)) if number > 0 else None
 
-    def with_key(self, value):
-        """A scope or a variable, with the key of what it holds, and of how many variables the adapter spoke."""
+    def with_keys(self, value):
+        """A scope or a variable, with the keys of what it holds, and of how many variables the adapter spoke."""
         count = number_of(value, "indexedVariables", 0) + number_of(value, "namedVariables", 0)
-        return {"name": text_of(value, "name"), "value": text_of(value, "value"), "key": self.key_of(value), "count": count}
+        key = self.key_of(value)
+        return {"name": text_of(value, "name"), "value": text_of(value, "value"), "keys": [key] if key else [], "count": count}
 
-    def holder(self, key):
-        """What was asked for under this key, or else under the same number as another frame's; or nothing."""
-        others = (held for (number, _), held in self.holders.items() if number == key[0])
-        return self.holders.get(key) or next(others, None)
+    def scopes_of(self, frame):
+        return [self.scopes[place] for place in sorted(place for place in self.scopes if place[0] == frame)]
+
+    def holder(self, thing):
+        """The key of a thing that was asked for what it holds, and that; or else its first key, and what was asked for under
+        the same number as another frame's; or nothing."""
+        for number, frame in thing["keys"]:
+            if frame in self.holders.get(number, {}):
+                return (number, frame), self.holders[number][frame]
+        if not thing["keys"]:
+            return None, None
+        key = thing["keys"][0]
+        return key, next(iter(self.holders.get(key[0], {}).values()), None)
 
     def is_looked_into(self):
         return any(self.frames.values())
@@ -351,7 +370,7 @@ class Moments:
         source, line = self.sources.place_of(object_of(frame, "source"), line)
         made = {"name": text_of(frame, "name"), "source": source, "line": line}
         number = number_of(frame, "id")
-        scopes = [self.scope(stop, scope) for scope in stop.scopes.get(number, [])]
+        scopes = [self.scope(stop, scope) for scope in stop.scopes_of(number)]
         self.say_evaluations(stop, number, scopes)
         return {**made, "scopes": scopes} if scopes else made
 
@@ -361,23 +380,23 @@ class Moments:
 
     def variables(self, stop, thing, what, above):
         """What a scope or a variable holds, as deep as it was asked for. `above` has the keys that lead here."""
-        holder = stop.holder(thing["key"]) if thing["key"] else None
+        key, holder = stop.holder(thing)
         there = holder.variables() if holder else []
-        if thing["key"] in above:
+        if key in above:
             self.counts["cyclic"] += 1
             return []
         if len(above) >= DEEPEST and there:
             self.counts["deep"] += 1
             return []
-        if thing["key"] and (holder is None or holder.is_paged and len(there) < thing["count"]):
+        if key and (holder is None or holder.is_paged and len(there) < thing["count"]):
             self.counts[what] += 1
         kept = there[: self.left]
         self.counts["many"] += len(there) - len(kept)
         self.left -= len(kept)
-        return [self.variable(stop, one, (*above, thing["key"])) for one in kept]
+        return [self.variable(stop, one, (*above, key)) for one in kept]
 
     def variable(self, stop, variable, above):
-        inner = self.variables(stop, variable, "variable", above) if variable["key"] else []
+        inner = self.variables(stop, variable, "variable", above)
         return {"name": variable["name"], "value": variable["value"], **({"variables": inner} if inner else {})}
 
     def say_evaluations(self, stop, frame, scopes):
