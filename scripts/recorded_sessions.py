@@ -273,15 +273,19 @@ def live():
     def disconnects(client):
         client.ask("disconnect")
 
+    # These wait for the end, so that it is not the client's.
     def is_ended(client):
         client.child.send_signal(signal.SIGTERM)
+        client.child.stdout.read()
 
     def is_interrupted(client):
         client.child.send_signal(signal.SIGINT)
+        client.child.stdout.read()
 
     def loses_its_adapter(client):
         with open(f"/proc/{client.child.pid}/task/{client.child.pid}/children") as children:
             os.kill(int(children.read().split()[0]), signal.SIGKILL)
+        client.child.stdout.read()
 
     def sends_no_frame(client):
         client.write(b"A: b\r\n\r\n")
