@@ -84,6 +84,8 @@ class Stop:
         self.frames = {}
         self.totals = {}
         self.scopes = {}
+        # Of each frame's id the one that was given first for its place.
+        self.first_ids = {}
         # Of each number of variables the frame whose scopes gave it last, since some adapters give the same numbers for
         # each frame. The number and that frame are the key of a holder; here they are by number, and then by frame.
         self.given_by = {}
@@ -103,11 +105,17 @@ class Stop:
             return
         frames = self.frames.setdefault(thread, {})
         for place, frame in enumerate(objects_of(body, "stackFrames"), number_of(arguments, "startFrame", 0)):
-            frames.setdefault(place, frame)
+            first = frames.setdefault(place, frame)
+            self.first_ids.setdefault(number_of(frame, "id"), number_of(first, "id"))
         self.totals[thread] = max(number_of(body, "totalFrames", 0), len(frames))
 
+    def frame_of(self, arguments):
+        """The frame that a request names; of several ids the first."""
+        number = number_of(arguments, "frameId")
+        return self.first_ids.get(number, number)
+
     def take_scopes(self, arguments, body):
-        frame = number_of(arguments, "frameId")
+        frame = self.frame_of(arguments)
         scopes = objects_of(body, "scopes")
         self.given_by.update({number_of(scope, "variablesReference"): frame for scope in scopes})
         for place, scope in enumerate(scopes):
@@ -127,7 +135,8 @@ class Stop:
         """A scope or a variable, with the keys of what it holds, and of how many variables the adapter spoke."""
         count = number_of(value, "indexedVariables", 0) + number_of(value, "namedVariables", 0)
         key = self.key_of(value)
-        return {"name": text_of(value, "name"), "value": text_of(value, "value"), "keys": [key] if key else [], "count": count}
+        keys = [key] if key else []
+        return {"name": text_of(value, "name"), "value": text_of(value, "value"), "keys": keys, "count": count}
 
     def scopes_of(self, frame):
         return [self.scopes[place] for place in sorted(place for place in self.scopes if place[0] == frame)]
@@ -156,8 +165,8 @@ class Session:
         self.names = {}
         # The texts that `source` gave, by reference or by path.
         self.texts = {}
-        # What the program wrote since the last stop, and how many pieces there are of each category.
-        self.output = ""
+        # What the program wrote since the last stop, and how many pieces there are of each category in all.
+        self.output = []
         self.pieces = {}
         self.exit = None
         self.is_pausing = False
@@ -185,13 +194,13 @@ class Session:
 
     def hear_event(self, event, body):
         if event == "stopped":
-            self.stops.append(Stop(len(self.stops) + 1, body, self.names, self.output, self.is_pausing))
-            self.output = ""
+            self.stops.append(Stop(len(self.stops) + 1, body, self.names, "".join(self.output), self.is_pausing))
+            self.output = []
             self.is_pausing = False
         elif event == "output":
             category = text_of(body, "category", "console")
             self.pieces[category] = self.pieces.get(category, 0) + 1
-            self.output += text_of(body, "output") if category in PROGRAM_OUTPUT else ""
+            self.output += [text_of(body, "output")] if category in PROGRAM_OUTPUT else []
         elif event == "exited":
             self.exit = number_of(body, "exitCode", self.exit)
 
@@ -213,7 +222,7 @@ class Session:
         elif stop and command == "variables":
             stop.take_variables(arguments, body)
         elif stop and command == "evaluate":
-            asked = (number_of(arguments, "frameId"), text_of(arguments, "expression"), text_of(body, "result"))
+            asked = (stop.frame_of(arguments), text_of(arguments, "expression"), text_of(body, "result"))
             stop.evaluations.append(asked)
 
     def hear_source(self, arguments, body):
@@ -282,7 +291,7 @@ class Sources:
             self.notes.append(f"{path} is not UTF-8: each byte that is none is replaced")
         return text
 
-    def made(self):
+    def all(self):
         """The sources, each with as many lines as its frames need."""
         for source, count, needed in zip(self.sources, self.counts, self.needed):
             if count is not None and needed > count:
@@ -309,7 +318,7 @@ class Moments:
         self.left = MOST_VARIABLES
         self.counts = {}
 
-    def made(self):
+    def all(self):
         moments, before = [], ""
         for stop in self.session.stops:
             before += stop.output
@@ -318,7 +327,7 @@ class Moments:
                 continue
             moments.append(self.moment(stop, before))
             before = ""
-        after = before + self.session.output
+        after = before + "".join(self.session.output)
         if after and moments:
             self.notes.append(f"{len(after)} characters of output after the last stop are left out")
         return moments
@@ -425,7 +434,7 @@ def recording_of(session, is_remote):
     """The recording, and what it does not hold, a line each. NoRecording where there is none."""
     notes = []
     sources = Sources(session.texts, is_remote, notes)
-    moments = Moments(session, sources, notes).made()
+    moments = Moments(session, sources, notes).all()
     if not moments:
         raise NoRecording("NoStop", f"{some(len(session.stops), 'stop')}, and nobody asked for the frames of one")
     if len(sources.sources) > MOST_SOURCES:
@@ -437,5 +446,5 @@ def recording_of(session, is_remote):
             notes.append(f"{some(count, 'piece')} of output of the category stderr: as stdout")
         elif category != "stdout":
             notes.append(f"{some(count, 'piece')} of output of the category {category} left out")
-    recording = {"exit": exit_of(session, notes), "sources": sources.made(), "moments": moments}
+    recording = {"exit": exit_of(session, notes), "sources": sources.all(), "moments": moments}
     return recording, list(dict.fromkeys(notes))

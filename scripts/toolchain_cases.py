@@ -6,7 +6,7 @@ import subprocess
 from trial import FOLDER, HERE, expect, expect_in
 
 # The commands that the scripts need, and no other.
-COMMANDS = "awk bash cat chmod cmp cp cut dirname env find grep mkdir mktemp readlink rm sed sha256sum sort tail tee uname wc xargs"
+COMMANDS = "awk bash cat chmod cmp cp cut dirname env find grep mkdir mktemp readlink rm sed sha256sum sort tail wc xargs"
 LINE = "rattle-kit-0 logic 0"
 NOT_THERE = 'rt, the command of the Rattle toolchain, is not on the PATH (README.md, "What you need")'
 TAKEN = f"release: {NOT_THERE}: the line in release/made-of is taken for the toolchain's\n"
@@ -19,7 +19,8 @@ def without_rt(*words):
         os.mkdir(path)
         for command in COMMANDS.split():
             os.symlink(shutil.which(command), os.path.join(path, command))
-    done = subprocess.run(words, env={"PATH": path}, stdin=subprocess.DEVNULL, capture_output=True, text=True, timeout=60)
+    nothing = {"env": {"PATH": path}, "stdin": subprocess.DEVNULL}
+    done = subprocess.run(words, **nothing, capture_output=True, text=True, timeout=60)
     return done.returncode, done.stdout, done.stderr
 
 
@@ -30,14 +31,19 @@ def write(path, text):
     os.chmod(path, 0o755)
 
 
+def text_of(*names):
+    with open(os.path.join(HERE, *names), encoding="utf-8") as file:
+        return file.read()
+
+
 def no_toolchain():
     status, out, err = without_rt(os.path.join(HERE, ".ci", "run"))
     expect("the gate without rt", (status, out, err), (1, "", f".ci/run: {NOT_THERE}\n"))
-    with open(os.path.join(HERE, "README.md"), encoding="utf-8") as readme, open(os.path.join(HERE, "bin", "dap")) as program:
-        needs = readme.read().split("\n## What you need\n")[1].split("\n## ")[0]
-        expect_in("what is needed is in the README", needs, "Rattle toolchain", "`rt`")
-        time = "from nothing in half an hour or less on four cores"
-        expect("the time that making takes is one in the README and in bin/dap", (time in needs.replace("\n", " "), time in program.read()), (True, True))
+    needs = text_of("README.md").split("\n## What you need\n")[1].split("\n## ")[0].replace("\n", " ")
+    expect_in("what is needed is in the README", needs, "Rattle toolchain", "`rt`")
+    time = "from nothing in half an hour or less on four cores"
+    for name, text in [("the README", needs), ("bin/dap", text_of("bin", "dap"))]:
+        expect_in(f"the time that making takes, in {name}", text, time)
     released()
 
 
@@ -46,8 +52,7 @@ def released():
     top = os.path.join(FOLDER, "repository")
     script, made = os.path.join(top, "scripts", "release"), os.path.join(top, "release", "made-of")
     for name in ("release", "digest"):
-        with open(os.path.join(HERE, "scripts", name), encoding="utf-8") as file:
-            write(os.path.join(top, "scripts", name), file.read())
+        write(os.path.join(top, "scripts", name), text_of("scripts", name))
     write(os.path.join(top, "crates.txt"), "dap:\n")
     write(os.path.join(top, "crates", "dap", "src", "main.rt"), "fn main() {}\n")
     there_is_none = TAKEN + "release: there is none: run scripts/release once the gate has passed\n"
