@@ -2,10 +2,12 @@ mod RuleExamples
 mod TranscriptExamples
 mod WorkedExamples
 pub mod FirstLemmas
-pub mod WaitingLemmas
 pub mod OfferLemmas
 pub mod ReferenceLemmas
 pub mod LegalLemmas
+pub mod OpenLemmas
+pub mod InOrder
+pub mod FindingLemmas
 pub mod Outcomes
 pub mod Lines
 pub mod Judged
