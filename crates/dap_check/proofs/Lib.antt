@@ -1,6 +1,7 @@
 mod RuleExamples
 mod TranscriptExamples
 mod WorkedExamples
+mod FindingExamples
 pub mod FirstLemmas
 pub mod OfferLemmas
 pub mod ReferenceLemmas
@@ -8,6 +9,7 @@ pub mod LegalLemmas
 pub mod OpenLemmas
 pub mod InOrder
 pub mod FindingLemmas
+pub mod Listed
 pub mod Outcomes
 pub mod Lines
 pub mod Judged

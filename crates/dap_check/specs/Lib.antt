@@ -5,6 +5,7 @@ pub mod Rules
 pub mod Legal
 pub mod Findings
 pub mod Laws
+pub mod FindingLaws
 pub mod Places
 pub mod Transcript
 pub mod ReadingLaws
