@@ -28,9 +28,9 @@ use Rattle.dap_client.specs.References.{references_used_by}
 use Rattle.dap_client.specs.Sending.{first_of, refusals_in_order}
 use Rattle.dap_client.specs.Taking.{Made as ClientMade, takes as client_takes}
 use Rattle.dap_client.specs.declared.fault.ClientFault.TheVariants.{ReferenceLimit}
-use Rattle.dap_session.specs.Bodies.{query_result}
+use Rattle.dap_query.specs.Bodies.{query_result}
 use Rattle.dap_session.specs.Failures.{first_failure, name_refused, key_refused, phase_refused, read_refused, refusal}
-use Rattle.dap_session.specs.GivenLaws.{AreLive}
+use Rattle.dap_query.specs.References.{AreLive}
 use Rattle.dap_session.specs.Handling.{plan_for, turns}
 use Rattle.dap_session.specs.Plan.{Plan, at_once, asking}
 use Rattle.dap_session.specs.Polling.{after_happening, polls}
