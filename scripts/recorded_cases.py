@@ -572,7 +572,11 @@ def places(good):
     # A file of another's: a link stays a link, and a full disk changes nothing.
     link, out = os.path.join(FOLDER, "link.json"), os.path.join(FOLDER, "out.json")
     os.symlink(out, link)
-    expect("record: into a link", record(link, "--from", path)[0], 0)
+    with open(out, "wb") as file:
+        file.write(b"before")
+    with open(out, "rb") as held:
+        expect("record: into a link", record(link, "--from", path)[0], 0)
+        expect("record: who reads the file meanwhile reads all of the old one", held.read(), b"before")
     expect("record: a link is one still", (os.path.islink(link), run(["serve", out])), (True, (0, b"", b"")))
 
     def bound():

@@ -316,23 +316,25 @@ def live():
 def live_ends():
     """The recording is there before the client has the answer to its `disconnect`, or the event `terminated`."""
     first = plain(recording_of(RECORDINGS[0]))[1][:1]
-    out = os.path.join(FOLDER, "live.json")
-    client = at_a_stop(out)
-    client.ask("disconnect")
-    client.child.kill()
-    expect("record: killed after disconnect", plain(recording_of(out))[1], first)
-    client.end()
-    os.remove(out)
-    client = at_a_stop(out)
+    for name in ("disconnect", "terminated"):
+        out = os.path.join(FOLDER, name + ".json")
+        client = at_a_stop(out)
+        if name == "terminated":
+            go_to_the_end(client)
+        else:
+            client.ask("disconnect")
+        client.child.kill()
+        client.end()
+        expect(f"record: killed after {name}", os.path.exists(out) and plain(recording_of(out))[1], first)
+
+
+def go_to_the_end(client):
     client.ask("continue", {"threadId": 1})
     # The last moment waits.
     client.ask("pause", {"threadId": 1})
     client.wait_for("stopped")
     client.ask("continue", {"threadId": 1})
     client.wait_for("terminated")
-    client.child.kill()
-    expect("record: killed after the end", plain(recording_of(out))[1], first)
-    client.end()
 
 
 # Broken sessions.

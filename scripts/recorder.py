@@ -234,7 +234,7 @@ class Session:
             self.texts.setdefault(("path", source["path"]), text_of(body, "content"))
 
 
-def lines_of(text):
+def line_count(text):
     return text.count("\n") + (text != "" and not text.endswith("\n"))
 
 
@@ -277,7 +277,7 @@ class Sources:
         source = {"name": name, **({"path": path} if path else {}), "text": text or ""}
         # A source with a number is not opened by its path: Specification, `Source`.
         self.sources.append({**source, "onDisk": True} if is_there and not reference else source)
-        self.counts.append(None if text is None else lines_of(text))
+        self.counts.append(None if text is None else line_count(text))
         self.needed.append(0)
 
     def read(self, path):
@@ -297,7 +297,7 @@ class Sources:
             if count is not None and needed > count:
                 where = source.get("path", source["name"])
                 self.notes.append(f"line {needed} of {where} is past the {count} lines of its text: it gets empty lines")
-            missing = needed - lines_of(source["text"])
+            missing = needed - line_count(source["text"])
             if missing > 0:
                 ends = source["text"].endswith("\n") or not source["text"]
                 source["text"] += "\n" * (missing if ends else missing + 1)
