@@ -74,7 +74,7 @@ module _ {D : Type 0} (shown : D → Shown) (follows : Goes D) (limits : Setting
     text = s.text;
     after = s.after;
     split = s.split;
-    stands = s.stands;
+    not_skipped = s.not_skipped;
     world = s.world;
     ran = s.ran;
     stops = (s.stops.0, s.stops.1, elim s.stops.2 [ inl c ↦ absurd (no-limit r agree stops s.stops.0 s.world (ran s.before s.world s.ran) c) | inr n ↦ n ]);

@@ -101,7 +101,7 @@ module _ {D : Type 0} (drive : Driving D) where
     text = text;
     after = after;
     split = split;
-    stands = some;
+    not_skipped = some;
     world = h.world;
     ran = h.ran;
     stops = subst (λ (z : ℕ). SaysOf drive.shown drive.follows f z text h.world) count s;

@@ -42,7 +42,7 @@ pub record StopsAt {D : Type 0} (shown : D → Shown) (follows : Goes D) (limits
   pub text : List ℕ
   pub after : List (List ℕ)
   pub split : texts ≡ before ++ text ∷ after
-  pub stands : is_skipped text ≡ false
+  pub not_skipped : is_skipped text ≡ false
   pub world : World D
   pub ran : Ran shown follows limits debuggee before world
   pub stops : says (length before + 1) text world

@@ -3,6 +3,7 @@ pub mod Transcript
 pub mod PrivateFrames
 pub mod Orders
 pub mod Driven
+pub mod Laws
 pub mod PrivateLines
 pub mod PrivateHeld
 pub mod PrivateFaults

@@ -166,7 +166,7 @@ StopsAnswer drive number terminal fault start = StopsOrder drive (ToAnswer termi
 
 -- ---- a script
 
--- a line that has bytes is done
+-- a line that is not skipped is done
 abbrev pub DoesLine : {D : Type 0} → (D → Shown) → Goes D → List ℕ → World D → World D → Type 0
 DoesLine shown follows text old new = (order : Order) × (order_of text ≡ Ok order) × Does shown follows order old new
 

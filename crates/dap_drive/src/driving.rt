@@ -22,7 +22,7 @@ use dap_recording::{Recorded, RecordingFault, recorded_stops_last};
 use dap_world::laws::{each_schedule_agrees, references_agree_while_stops_last};
 use std::alloc::Global;
 
-/// Does what the line of this number asks for, which has bytes.
+/// Does what the line of this number asks for, which is not skipped.
 fn do_order<D: Debuggee + Drop>(
     alloc: Global,
     drive: &mut Drive<D>,
@@ -87,7 +87,7 @@ fn do_line<D: Debuggee + Drop>(
     ensures ran { OnOk result ((limits : Settings) (debuggee : D) (texts : List (List ℕ))
         → HasRun (driven_by D.shown D.follows limits debuggee) texts (both_of drive.old)
         → HasRun (driven_by D.shown D.follows limits debuggee) (texts ++ text.now ∷ []) (both_of drive.new)) }
-    ensures stands { IfErr result (λ fault. is_skipped text.now ≡ false) }
+    ensures not_skipped { IfErr result (λ fault. is_skipped text.now ≡ false) }
     ensures stops { IfErr result (λ fault. (limits : Settings) (debuggee : D) (start : World D)
         → IsQuiet (driven_by D.shown D.follows limits debuggee) (both_of drive.old) start
         → SaysOf D.shown D.follows fault number text.now start) }

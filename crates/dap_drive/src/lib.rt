@@ -10,6 +10,7 @@
 mod driving;
 mod ends;
 mod fault;
+pub mod laws;
 mod script;
 mod writing;
 

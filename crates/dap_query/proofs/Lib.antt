@@ -3,3 +3,4 @@ pub mod GivenNumbers
 pub mod ProtocolLists
 pub mod LiveBodies
 pub mod QueryResults
+pub mod QueryExamples

@@ -4,6 +4,7 @@ use Rattle.std.specs.Prelude.{◌≡◌, ℕ, ◌+◌, ◌≤◌, List, length, 
 use Rattle.std.specs.List.{AllZip}
 use Rattle.serde_json.specs.Data.{Data}
 use Rattle.dap_frame.specs.Settings.{Settings}
+use Rattle.dap_message.specs.CallTree.{command_of}
 use Rattle.dap_message.specs.Types.Call.{Call}
 use Rattle.dap_message.specs.Types.Command.{Command}
 use Rattle.dap_message.specs.Types.Failure.TheVariants.{Debuggee}
@@ -14,7 +15,7 @@ use Rattle.dap_tables.specs.declared.target.Target.{Target}
 use Rattle.dap_query.specs.Bodies.{QueryAnswer, QueryResult, query_result}
 use Rattle.dap_query.specs.Queries.{QueryState}
 use Rattle.dap_query.specs.QueryResults.{Grows}
-use Rattle.dap_query.specs.References.{AreLive, IsNumberOf, and_then, intern_each, targets_named, with_targets}
+use Rattle.dap_query.specs.References.{AreLive, IsNumberOf, and_then, intern_each, references_read, targets_named, with_targets}
 use Rattle.dap_query.specs.Refused.{refuses_query, objects_named}
 
 -- so many references are live, and so many numbers were given
@@ -38,18 +39,19 @@ EachAnswerIsSound = (view : Shown) (q : QueryState) (asked : Call) (answer : Que
 
 -- ---- answered or refused
 
--- whatever numbers these objects have, what the body gives is live
-abbrev pub BodyIsLive : List (Option Target) → (List ℕ → Option Data) → Type 0
-BodyIsLive objects body = (refs : LiveReferences) (ns : List ℕ) → AllZip (IsNumberOf refs) objects ns → (command : Option Command) → AreLive refs (references_given_in command (body ns))
+-- whatever numbers these objects have, the body of an answer to this command gives them, each in its place, and no others; and what it gives to any command is live
+pub record GivesNumbers (command : Command) (objects : List (Option Target)) (body : List ℕ → Option Data) : Type 0 where
+  pub just : (refs : LiveReferences) (ns : List ℕ) → AllZip (IsNumberOf refs) objects ns → references_given_in (Some command) (body ns) ≡ references_read objects ns
+  pub live : (refs : LiveReferences) (ns : List ℕ) → AllZip (IsNumberOf refs) objects ns → (any : Option Command) → AreLive refs (references_given_in any (body ns))
 
--- the failure `debuggee`, or a body made with a number for each of these objects
-pub data IsAnsweredOrRefused (q : QueryState) : Bool → List (Option Target) → QueryResult → Type 0 where
-  is_refused : (objects : List (Option Target)) → IsAnsweredOrRefused q true objects (Err Debuggee)
-  is_answered : (objects : List (Option Target)) (body : List ℕ → Option Data) → BodyIsLive objects body
-      → IsAnsweredOrRefused q false objects (and_then (intern_each q.limits objects q.references) (λ given. Ok (record { body = body given.0; names = targets_named objects; references = given.1 })))
+-- the failure `debuggee`, or a body that gives a number for each of these objects
+pub data IsAnsweredOrRefused (q : QueryState) (command : Command) : Bool → List (Option Target) → QueryResult → Type 0 where
+  is_refused : (objects : List (Option Target)) → IsAnsweredOrRefused q command true objects (Err Debuggee)
+  is_answered : (objects : List (Option Target)) (body : List ℕ → Option Data) → GivesNumbers command objects body
+      → IsAnsweredOrRefused q command false objects (and_then (intern_each q.limits objects q.references) (λ given. Ok (record { body = body given.0; names = targets_named objects; references = given.1 })))
 
 abbrev pub EachQueryIsAnsweredOrRefused : Type 0
-EachQueryIsAnsweredOrRefused = (view : Shown) (q : QueryState) (asked : Call) → IsAnsweredOrRefused q (refuses_query view q asked) (objects_named view q asked) (query_result view q asked)
+EachQueryIsAnsweredOrRefused = (view : Shown) (q : QueryState) (asked : Call) → IsAnsweredOrRefused q (command_of asked) (refuses_query view q asked) (objects_named view q asked) (query_result view q asked)
 
 -- ---- numbers
 

@@ -1,6 +1,6 @@
 -- References in answers: which numbers the objects of an answer get, and what such a number names.
 -- Overview, "Lifetime of Objects References".
-use Rattle.std.specs.Prelude.{◌≡◌, ℕ, List, [], ◌∷◌, ◌++◌, Bool, true, Option, Some, None, Result, Ok, Err, is_some, if◌then◌else◌}
+use Rattle.std.specs.Prelude.{◌≡◌, ℕ, List, [], ◌∷◌, ◌++◌, Bool, true, Option, Some, None, Result, Ok, Err, is_some, nat_le, if◌then◌else◌}
 use Rattle.dap_frame.specs.Settings.{Settings}
 use Rattle.dap_message.specs.Types.Failure.{Failure}
 use Rattle.dap_message.specs.Types.Failure.TheVariants.{TooManyReferences, ReferencesExhausted}
@@ -48,6 +48,16 @@ with_targets (t ∷ ts) live = with_targets ts (with_target t live)
 abbrev pub IsNumberOf : LiveReferences → Option Target → ℕ → Type 0
 IsNumberOf refs None n = n ≡ 0
 IsNumberOf refs (Some t) n = target_of refs n ≡ Some t
+
+-- what a client reads of the number of an object: none where there is no object, nor where the number is past those that are read
+abbrev pub reference_read : Option Target → ℕ → List (ReferenceKind × ℕ)
+reference_read None n = []
+reference_read (Some t) n = if nat_le n 2147483647 then (t.kind, n) ∷ [] else []
+
+-- of each of these objects with its number, in order
+abbrev pub references_read : List (Option Target) → List ℕ → List (ReferenceKind × ℕ)
+references_read (o ∷ os) (n ∷ ns) = reference_read o n ++ references_read os ns
+references_read _ _ = []
 
 -- each of these numbers names something of its kind
 abbrev pub AreLive : LiveReferences → List (ReferenceKind × ℕ) → Type 0

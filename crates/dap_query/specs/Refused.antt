@@ -8,7 +8,7 @@ use Rattle.dap_debuggee.specs.Shown.{Shown}
 use Rattle.dap_query.specs.Bodies.{window, page, frame_objects, scope_objects, variable_objects, value_objects}
 use Rattle.dap_query.specs.Queries.{QueryState, object_of}
 
--- the debuggee does not answer what is asked, where what is named is there
+-- the debuggee does not answer what is asked, or what is named is not there
 abbrev pub refuses_query : Shown → QueryState → Call → Bool
 refuses_query view q (call.StackTrace asked) = is_none (view.frames asked.thread_id)
 refuses_query view q (call.Scopes number) = is_none (option_and_then view.scopes (object_of q.references number))

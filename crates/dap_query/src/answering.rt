@@ -1,5 +1,5 @@
 //! The body that answers a query: what the debuggee shows, with a number for each object that it names.
-ghost use Rattle.std.specs.Prelude.{◌≡◌, IfOk};
+ghost use Rattle.std.specs.Prelude.{◌≡◌, IfOk, OnErr};
 ghost use Rattle.dap_message.specs.Body.{data_in};
 ghost use Rattle.dap_message.specs.Types.Call.{Call};
 ghost use Rattle.dap_query.specs.Bodies.{query_result, page};
@@ -156,14 +156,9 @@ impl Queries {
         Ok(Some(Body::LoadedSources { sources }))
     }
 
-    /// The body that answers a call, with a number for each object that it names; `None` where the call asks for nothing that
-    /// the debuggee shows. Where it fails, some numbers may be given: go back to a mark.
-    ///
-    /// # Errors
-    /// `NoAnswer::Fails` with `debuggee` where the debuggee refuses what is asked, `tooManyReferences` where more references
-    /// would be live than there is room for, `referencesExhausted` where no number is left; `OutOfMemory` where memory is refused.
+    /// The same as `answer`, but where it fails some numbers may be given.
     #[tactic(auto, unfolding(crate::specs::Bodies::query_result))]
-    pub fn answer<D: Debuggee>(
+    fn answer_call<D: Debuggee>(
         &mut self,
         alloc: Global,
         debuggee: &D,
@@ -185,6 +180,34 @@ impl Queries {
             ),
             Call::LoadedSources => Ok(self.answer_loaded_sources(alloc, debuggee)?),
             _ => Ok(None),
+        }
+    }
+
+    /// The body that answers a call, with a number for each object that it names; `None` where the call asks for nothing that
+    /// the debuggee shows. What the call names is tested before, by an adapter: that its number is a live one of its kind, and
+    /// its source one of the debuggee's. A number that is not live is answered as `debuggee`, and a frame of `evaluate` as none.
+    ///
+    /// # Errors
+    /// `NoAnswer::Fails` with `debuggee` where the debuggee refuses what is asked, `tooManyReferences` where more references
+    /// would be live than there is room for, `referencesExhausted` where no number is left; `OutOfMemory` where memory is
+    /// refused. Then no number is given.
+    pub fn answer<D: Debuggee>(
+        &mut self,
+        alloc: Global,
+        debuggee: &D,
+        call: &Call,
+    ) -> Result<Option<Body>, NoAnswer>
+        ensures told { IsQueryResult result (query_result (D.shown debuggee.now) self.old call.now) self.new.references }
+        ensures only { OnlyGives self.old self.new }
+        ensures err { OnErr result (self.new ≡ self.old) }
+    {
+        let mark = self.mark();
+        match self.answer_call(alloc, debuggee, call) {
+            Ok(body) => Ok(body),
+            Err(fault) => {
+                self.back_to(mark);
+                Err(fault)
+            }
         }
     }
 }

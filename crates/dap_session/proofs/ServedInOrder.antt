@@ -8,6 +8,7 @@ use Rattle.serde_json.specs.Data.{Data}
 use Rattle.dap_message.specs.ResponseBody.{source_body, threads_body, loaded_sources_body}
 use Rattle.dap_message.specs.Types.Call.{Call}
 use Rattle.dap_message.specs.Types.Call.TheVariants as call
+use Rattle.dap_message.specs.Types.Command.{Command}
 use Rattle.dap_message.specs.Types.Failure.{Failure}
 use Rattle.dap_message.specs.Types.Failure.TheVariants.{Debuggee, TooManyBreakpoints, TooManyReferences, ReferencesExhausted, TooLarge, Cancelled}
 use Rattle.dap_message.specs.Types.SetVariable.{SetVariable}
@@ -193,10 +194,10 @@ told-fails s r objects tell (Ok g) is few =
     rw (fit.0, fit.1) (size-fails (fits s r (tell g).body) _ s r _ (size-succeeds s r (tell g)))
 told-fails s r objects tell (Err f) is few = failed-so s r f (live_with s objects) _ (each-fails s.limits objects f s.references is few)
 
-pub query-fails : (s : Session) (r : Entry) (refused : Bool) (objects : List (Option Target)) (due : QueryResult) → IsAnsweredOrRefused (query_of s) refused objects due → AreFew s.limits s.references
+pub query-fails : {c : Command} (s : Session) (r : Entry) (refused : Bool) (objects : List (Option Target)) (due : QueryResult) → IsAnsweredOrRefused (query_of s) c refused objects due → AreFew s.limits s.references
     → Fails (served_first refused false (is_past_room s (live_with s objects)) (is_past_numbers s (live_with s objects)) (is_long_answer s r due)) (at_once (after_query s r due)) s r (IsSuccess (answer_to r.seq (after_query s r due).drafts))
 query-fails s r _ objects _ (is_refused _) few = fails-so Debuggee s r _
-query-fails s r _ objects _ (is_answered _ body live) few =
+query-fails s r _ objects _ (is_answered _ body gives) few =
     told-fails s r objects (λ given. record { body = body given.0; names = targets_named objects; references = given.1 }) (intern_each s.limits objects s.references) refl few
 
 -- a change
