@@ -73,6 +73,8 @@ def bad_keys_of_source(source):
     yield from bad_texts(source, "name")
     yield from bad_texts({"path": "", **source}, "path")
     yield from bad_texts(source, "text")
+    if not isinstance(source.get("onDisk", False), bool):
+        yield "onDisk"
 
 
 def bad_keys_of_moment(moment, counts):

@@ -55,6 +55,8 @@ def random_recording(choice):
     for source in sources:
         if choice.randrange(3):
             source["path"] = choice.choice(["/a", "/b", ""])
+        if choice.randrange(4) == 0:
+            source["onDisk"] = choice.choice([True, False])
 
     def variable(depth):
         told = {"name": choice.choice(TEXTS[:5]), "value": choice.choice(TEXTS)}

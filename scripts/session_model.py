@@ -622,7 +622,8 @@ class Session:
     def source(self, place):
         told = self.debuggee.sources[place]
         path = {"path": told["path"]} if "path" in told else {}
-        return {"name": told["name"], **path, "sourceReference": place + 1}
+        number = {} if path and told.get("onDisk", False) else {"sourceReference": place + 1}
+        return {"name": told["name"], **path, **number}
 
     def loaded_sources(self, _):
         return {"sources": [self.source(place) for place in range(len(self.debuggee.sources))]}

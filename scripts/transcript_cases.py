@@ -580,7 +580,7 @@ def check_files():
 
 
 def check_examples():
-    """The transcripts of real debuggers, and those that recorded streams are merged into."""
+    """The transcripts of real debuggers."""
     for name, wanted, with_any in [
         ("debugpy", LEGAL, LEGAL),
         ("delve", found(2, 1), found(6, 2)),
@@ -588,66 +588,6 @@ def check_examples():
         path = os.path.join(HERE, "examples", "transcripts", name + ".txt")
         expect(f"check: examples/transcripts/{name}.txt", run(["check", path]), wanted)
         expect(f"check: examples/transcripts/{name}.txt: any seq", run(["check", path, "--any-seq"]), with_any)
-    for up, down, wanted, with_any in [
-        ("editor-to-debugpy", "debugpy-to-editor", LEGAL, LEGAL),
-        # Delve and LLDB number nothing, and Ruby's debug writes number 29 before 28.
-        ("client-to-delve", "delve-to-client", found(2, 1), found(87, 7)),
-        ("client-to-lldb", "lldb-to-client", found(2, 1), LEGAL),
-        ("client-to-ruby", "ruby-to-client", found(52, 1), LEGAL),
-    ]:
-        streams = [os.path.join(HERE, "examples", "streams", name + ".dap") for name in (up, down)]
-        _, text, err = made("streams", *streams)
-        expect(f"transcripts streams: {down}", err, b"")
-        expect(f"transcripts streams: {down}: checked", check(text), wanted)
-        expect(f"transcripts streams: {down}: any seq", check(text, "--any-seq"), with_any)
-
-
-def made(*words, given=b""):
-    """What scripts/transcripts prints."""
-    words = [os.path.join(HERE, "scripts", "transcripts"), *words]
-    done = subprocess.run(words, input=given, capture_output=True, timeout=60)
-    return done.returncode, done.stdout, done.stderr
-
-
-LOGS = [
-    ("delve", '2026-01-01T00:00:00Z debug layer=dap [<- from client]{"a":1}\n', '> {"a":1}\n'),
-    (
-        "delve",
-        '2026-01-01T00:00:00Z debug layer=dap [-> to client]{"a":"}\\n{"}\nlayer=dap config: {\n"b": 2}\n',
-        '< {"a":"}\\n{"}\n',
-    ),
-    ("debugpy", 'D+00000.1: Client[1] --> {\n    "a": "b  c",\n    "d": [1, 2]\n}\n', '> {"a":"b  c","d":[1,2]}\n'),
-    ("debugpy", 'D+00000.1: /handling/\n   Client[1] <-- {"a": 1}\nD+00000.2: Server[1] <-- {"a": 2}\n', '< {"a": 1}\n'),
-    ("lldb", '--> \nContent-Length: 7\r\n\r\n{"a":1}\n<-- \nContent-Length: 7\r\n\r\n{"b":2}\n', '> {"a":1}\n< {"b":2}\n'),
-    ("cpptools", '1: (105) --> C (next-7): {"a":1}\n1: (107) <-- E (stopped): {"b":2}\n', '> {"a":1}\n< {"b":2}\n'),
-    ("tracker", '> {\n  "a": 1\n}\nhello > {\n< {"b":2}\n', '> {"a":1}\n< {"b":2}\n'),
-]
-
-
-def made_transcripts():
-    """What scripts/transcripts makes of logs, of streams in an order that is told, and of a session that it watches."""
-    for name, log, wanted in LOGS:
-        got = made(*with_files("log", name, log.encode()))
-        expect(f"transcripts log {name}: {log[:50]!r}", got, (0, wanted.encode(), b""))
-    ups = [ASK, req(2, "threads"), req(3, "pause"), of_other(ok(9, "x")), req(4, "disconnect")]
-    downs = [event(1, "output"), ok(1, "initialize"), of_other(req(9, "x"))]
-    downs += [ok(3, "pause"), event(4, "output"), ok(2, "threads")]
-    merged = [*downs[:1], ups[0], *downs[1:3], *ups[1:3], *downs[3:], *ups[3:]]
-    streams = [b"".join(frame(line[2:].encode()) for line in lines) for lines in (ups, downs)]
-    wanted = "".join(f"{line}\n" for line in merged).encode()
-    expect("transcripts streams", made(*with_files("streams", *streams)), (0, wanted, b""))
-    with open(os.path.join(HERE, "examples", "session.dap"), "rb") as file:
-        sent = file.read()
-    with open(os.path.join(HERE, "examples", "session.out"), "rb") as file:
-        answered = file.read()
-    watched = os.path.join(FOLDER, "watched")
-    relayed = made("relay", watched, "--", DAP, "serve", os.path.join(HERE, "examples", "a.json"), given=sent)
-    expect("transcripts relay: the bytes", relayed, (0, answered, b""))
-    with open(watched, "rb") as file:
-        lines = file.read().splitlines()
-    for side, stream in ((b">", sent), (b"<", answered)):
-        bodies = [body for _, body in split(stream)]
-        expect(f"transcripts relay: the lines {side}", [line[2:] for line in lines if line[:1] == side], bodies)
 
 
 ANSWERED = b"< " + CAPABILITIES + b'\n< {"event":"initialized","seq":2,"type":"event"}\n'
@@ -813,4 +753,4 @@ def drive_files():
         expect_in(f"usage of {' '.join(words[:1] + words[2:])}: message", err, part)
 
 
-GROUPS = {"transcripts": transcripts, "drives": drives, "made_transcripts": made_transcripts}
+GROUPS = {"transcripts": transcripts, "drives": drives}

@@ -66,8 +66,8 @@ class Scripted:
     def line(self, line):
         self.lines.append(line)
         try:
-            # An empty line is skipped.
-            if line:
+            # An empty line is skipped, and so is a comment.
+            if line and not line.startswith(b"#"):
                 script_line(self.drive, line)
         except Fault:
             self.is_over = True
@@ -131,7 +131,7 @@ class Scripted:
         elif self.choice.randrange(5) < 3:
             self.send()
         else:
-            self.line(self.choice.choice([b"run"] * 6 + [b"turn", b"turn", b"poll", b""]))
+            self.line(self.choice.choice([b"run"] * 6 + [b"turn", b"turn", b"poll", b"", b"# run"]))
 
     def refused(self):
         """A line that is refused where it stands, or mostly so."""

@@ -5,6 +5,7 @@ ghost use Rattle.std.specs.Prelude.{◌≡◌, IfOk};
 ghost use Rattle.dap_debuggee.specs.declared.answers.State.{State};
 
 mod command_line;
+mod layout;
 
 use clap::ArgMatches;
 use clap::error::{Error, ErrorKind};
@@ -100,13 +101,40 @@ fn run_subcommand(rt: &HostRuntime, matches: &ArgMatches<'_>) -> u8 {
     }
 }
 
+/// Prints help, laid out, on the stream that is due.
+fn print_help(rt: &HostRuntime, error: &Error) -> Result<(), Failure> {
+    let text = format!(in rt.alloc(); "{error}")?;
+    let help = layout::laid_out(rt.alloc(), text.as_str())?;
+    let bytes = help.as_str().as_bytes();
+    if error.use_stderr() {
+        rt.stderr().write_all(bytes)?;
+    } else {
+        print(rt, bytes)?;
+    }
+    Ok(())
+}
+
+/// Prints what the parse of the command line has to say. What is wrong with it repeats words of the caller's, and stays as it
+/// is; help is laid out.
+fn print_error(rt: &HostRuntime, error: &Error) -> Result<(), Failure> {
+    match error.kind() {
+        ErrorKind::DisplayHelp | ErrorKind::DisplayHelpOnMissingArgumentOrSubcommand => {
+            print_help(rt, error)
+        }
+        _ => {
+            error.print(rt)?;
+            Ok(())
+        }
+    }
+}
+
 /// Prints help, the version, or what is wrong with the command line, and answers the exit status.
 fn explain(rt: &HostRuntime, error: &Error) -> Result<u8, Failure> {
     if error.kind() == ErrorKind::OutOfMemory {
         return Err(Failure::Memory);
     }
     let code = error.exit_code() as u8;
-    let printed = error.print(rt);
+    let printed = print_error(rt, error);
     // Help that was asked for has to come out; a usage message may fail to.
     if code == 0 {
         printed?;

@@ -75,14 +75,18 @@ unfolding escape_byte
 all_go_on = refl
 
 abbrev with_a_path : Source
-with_a_path = record { name = codes "a.c"; path = Some (codes "/a.c"); source_reference = 1 }
+with_a_path = record { name = codes "a.c"; path = Some (codes "/a.c"); source_reference = Some 1 }
 
 abbrev without_a_path : Source
-without_a_path = record { name = codes "b.c"; path = None; source_reference = 2 }
+without_a_path = record { name = codes "b.c"; path = None; source_reference = Some 2 }
 
 path_is_written : compact_text (loaded_sources_body (with_a_path ∷ [])) ≡ codes "{\"sources\":[{\"name\":\"a.c\",\"path\":\"/a.c\",\"sourceReference\":1}]}"
 unfolding escape_byte digits
 path_is_written = refl
+
+file_on_disk_has_no_reference : compact_text (loaded_sources_body (record { name = codes "a.c"; path = Some (codes "/a.c"); source_reference = None } ∷ [])) ≡ codes "{\"sources\":[{\"name\":\"a.c\",\"path\":\"/a.c\"}]}"
+unfolding escape_byte digits
+file_on_disk_has_no_reference = refl
 
 no_path_is_written : compact_text (loaded_sources_body (without_a_path ∷ [])) ≡ codes "{\"sources\":[{\"name\":\"b.c\",\"sourceReference\":2}]}"
 unfolding escape_byte digits

@@ -87,16 +87,20 @@ int_float (negsuc n) = refl
 thread_float : (t : Thread) → has_float (thread t) ≡ false
 thread_float t = rw (int_float t.id)
 
-source_float_at : (path : Option (List ℕ)) (name : List ℕ) (reference : ℕ) → has_float (source (record { name = name; path = path; source_reference = reference })) ≡ false
-source_float_at None name reference = refl
-source_float_at (Some path) name reference = refl
+source_float_at : (path : Option (List ℕ)) (name : List ℕ) (reference : Option ℕ) → has_float (source (record { name = name; path = path; source_reference = reference })) ≡ false
+source_float_at None name None = refl
+source_float_at None name (Some n) = refl
+source_float_at (Some path) name None = refl
+source_float_at (Some path) name (Some n) = refl
 
 source_float : (s : Source) → has_float (source s) ≡ false
 source_float s = source_float_at s.path s.name s.source_reference
 
-source_depth_at : (path : Option (List ℕ)) (name : List ℕ) (reference : ℕ) → depth (source (record { name = name; path = path; source_reference = reference })) ≤ 1
-source_depth_at None name reference = omega arith
-source_depth_at (Some path) name reference = omega arith
+source_depth_at : (path : Option (List ℕ)) (name : List ℕ) (reference : Option ℕ) → depth (source (record { name = name; path = path; source_reference = reference })) ≤ 1
+source_depth_at None name None = omega arith
+source_depth_at None name (Some n) = omega arith
+source_depth_at (Some path) name None = omega arith
+source_depth_at (Some path) name (Some n) = omega arith
 
 source_depth : (s : Source) → depth (source s) ≤ 1
 source_depth s = source_depth_at s.path s.name s.source_reference

@@ -23,12 +23,14 @@ breakpoint-sound b id line = (IsUtf8-are_ascii (codes "id") refl, (refl, (refl, 
 pub thread-sound : (t : Thread) → IsSoundNumber (of_integer t.id) → IsUtf8 t.name → IsSound (thread t)
 thread-sound t id name = (IsUtf8-are_ascii (codes "id") refl, (refl, tt), id, (IsUtf8-are_ascii (codes "name") refl, tt, name, tt))
 
-source-sound-if : (name : List ℕ) (path : Option (List ℕ)) (reference : ℕ) → IsUtf8 name → HasSoundPath path → reference < 2 ^ 64 → IsSound (source (record { name = name; path = path; source_reference = reference }))
-source-sound-if name None reference n p r = (IsUtf8-are_ascii (codes "name") refl, (refl, tt), n, (IsUtf8-are_ascii (codes "sourceReference") refl, tt, r, tt))
-source-sound-if name (Some path) reference n p r =
+source-sound-if : (name : List ℕ) (path : Option (List ℕ)) (reference : Option ℕ) → IsUtf8 name → HasSoundPath path → IsSoundOptional reference → IsSound (source (record { name = name; path = path; source_reference = reference }))
+source-sound-if name None None n p r = (IsUtf8-are_ascii (codes "name") refl, tt, n, tt)
+source-sound-if name None (Some reference) n p r = (IsUtf8-are_ascii (codes "name") refl, (refl, tt), n, (IsUtf8-are_ascii (codes "sourceReference") refl, tt, r, tt))
+source-sound-if name (Some path) None n p r = (IsUtf8-are_ascii (codes "name") refl, (refl, tt), n, (IsUtf8-are_ascii (codes "path") refl, tt, p, tt))
+source-sound-if name (Some path) (Some reference) n p r =
     (IsUtf8-are_ascii (codes "name") refl, (refl, (refl, tt)), n, (IsUtf8-are_ascii (codes "path") refl, (refl, tt), p, (IsUtf8-are_ascii (codes "sourceReference") refl, tt, r, tt)))
 
-pub source-sound : (s : Source) → IsUtf8 s.name → HasSoundPath s.path → s.source_reference < 2 ^ 64 → IsSound (source s)
+pub source-sound : (s : Source) → IsUtf8 s.name → HasSoundPath s.path → IsSoundOptional s.source_reference → IsSound (source s)
 source-sound s n p r = source-sound-if s.name s.path s.source_reference n p r
 
 pub stack_frame-sound : (f : StackFrame) → f.column < 2 ^ 64 → f.id < 2 ^ 64 → f.line < 2 ^ 64 → IsUtf8 f.name → IsSound (source f.source) → IsSound (stack_frame f)

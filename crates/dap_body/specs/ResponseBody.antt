@@ -32,11 +32,16 @@ abbrev pub with_path : Option (List ℕ) → Members → Members
 with_path None rest = rest
 with_path (Some path) rest = member (codes "path") (string path) rest
 
+-- a number, where there is one, before what follows
+abbrev pub with_optional_number : List ℕ → Option ℕ → Members → Members
+with_optional_number key None rest = rest
+with_optional_number key (Some n) rest = member key (whole_number n) rest
+
 abbrev pub source : Source → Data
 source s = object (
     member (codes "name") (string s.name) (
     with_path s.path (
-    member (codes "sourceReference") (whole_number s.source_reference)
+    with_optional_number (codes "sourceReference") s.source_reference
     no_members)))
 
 abbrev pub stack_frame : StackFrame → Data
@@ -106,11 +111,6 @@ loaded_sources_body sources = only_member (codes "sources") (list_of source sour
 
 abbrev pub set_variable_body : List ℕ → Data
 set_variable_body value = only_member (codes "value") (string value)
-
--- a number, where there is one, before what follows
-abbrev pub with_optional_number : List ℕ → Option ℕ → Members → Members
-with_optional_number key None rest = rest
-with_optional_number key (Some n) rest = member key (whole_number n) rest
 
 -- a client's
 abbrev pub run_in_terminal_body : Option ℕ → Option ℕ → Data

@@ -120,7 +120,7 @@ impl Part for Source {
         out.begin_object()?;
         text(out, "name", &self.name)?;
         write_path(out, &self.path)?;
-        short(out, "sourceReference", self.source_reference)?;
+        number_if_any(out, "sourceReference", self.source_reference)?;
         out.end_object()
     }
 }

@@ -32,8 +32,9 @@ pub struct Thread {
 pub struct Source {
     pub name: Text,
     pub path: Option<Text>,
-    /// The number by which a client asks for its text.
-    pub source_reference: u32,
+    /// The number by which a client asks for its text, above 0; none where the client reads the file at `path` itself:
+    /// Specification, "Source".
+    pub source_reference: Option<u32>,
 }
 
 /// A frame of a thread's stack.

@@ -1,6 +1,6 @@
 -- A line without what no rule looks at is judged as the whole line, and tells the same of later lines.
 use Rattle.std.proofs.Common.{◌≡◌, ℕ, ◌+◌, List, [], ◌∷◌, ◌++◌, Bool, true, false, Option, Some, None, codes, refl, sym, ap, ◌∙◌, subst}
-use Rattle.std.specs.Prelude.{not, ◌&&◌, ◌||◌, cond, count_by, option_map, bytes_eq, find}
+use Rattle.std.specs.Prelude.{◌&&◌, ◌||◌, cond, count_by, option_map, bytes_eq, filter, find}
 use Rattle.std.specs.BTreeSet as sorted
 use Rattle.std.specs.List.{list_any}
 use Rattle.std.specs.Ordering.{nat_cmp}
@@ -18,11 +18,12 @@ use Rattle.dap_message.specs.declared.message.Message.{Message}
 use Rattle.dap_message.specs.declared.message.Kind.{Kind}
 use Rattle.dap_message.specs.declared.message.Kind.TheVariants.{Request, Response, Event, Other}
 use Rattle.dap_check.specs.PrivateBare.{is_looked_at, bare_kind, bare_line, IsReadBody, IsReadAs, gathered_frames, gathered_holders_for, gathered_holders, gathers_frame, gathers_holder}
-use Rattle.dap_check.specs.PrivateKept.{AreCounts, ArePending, ArePhases, AreReferences, reference_after, IsFirst, Begins, AreWaiting, IsOffered, offer_after, IsSeen, IsVerdictSoFar}
-use Rattle.dap_check.specs.Legal.{all_rules, least_broken, IsFinding}
-use Rattle.dap_check.specs.Lines.{other_side, is_among, is_of, asks, asks_as, asks_for, answers, succeeds}
-use Rattle.dap_check.specs.Rules.{breaks_answer, frames_in, initialize, disconnect, offered_since, frames_of_kind, holders_of_kind, holders_for, contains_number, gives_frame, gives_holder, resumes, naming_frames, naming_holders, is_broken}
-use Rattle.dap_check.specs.Since.{is_open, first_since, last_since, Past}
+use Rattle.dap_check.specs.PrivateKept.{AreCounts, ArePending, ArePhases, AreReferences, reference_after, IsFirst, Begins, AreWaiting, open_at, waiting_after, IsOffered, offer_after, IsSeen}
+use Rattle.dap_check.specs.Findings.{is_open_as, request_of}
+use Rattle.dap_check.specs.Legal.{all_rules, least_broken}
+use Rattle.dap_check.specs.Lines.{other_side, is_among, is_of, asks, answers, succeeds}
+use Rattle.dap_check.specs.Rules.{frames_in, initialize, disconnect, offered_since, frames_of_kind, holders_of_kind, holders_for, contains_number, gives_frame, gives_holder, resumes, naming_frames, naming_holders, is_broken}
+use Rattle.dap_check.specs.Since.{first_since, last_since, Past}
 use Rattle.dap_check.specs.declared.line.Form.{Form}
 use Rattle.dap_check.specs.declared.line.Form.TheVariants.{Whole, Bare}
 use Rattle.dap_check.specs.declared.line.Line.{Line}
@@ -30,17 +31,16 @@ use Rattle.dap_check.specs.declared.line.Side.{Side}
 use Rattle.dap_check.specs.declared.line.Side.TheVariants.{Client, Adapter}
 use Rattle.dap_check.specs.declared.first.First.{First}
 use Rattle.dap_check.specs.declared.offer.Offer.{Offer}
-use Rattle.dap_check.specs.declared.rule.Checked.{Checked}
-use Rattle.dap_check.specs.declared.rule.Checked.TheVariants.{Legal, Finding}
+use Rattle.dap_check.specs.declared.rule.AnySeq.{AnySeq}
 use Rattle.dap_check.specs.declared.rule.Rule.{Rule}
 use Rattle.dap_check.specs.declared.rule.Rule.TheVariants.{Seq, Reference}
 use Rattle.dap_check.specs.declared.references.References.{References}
 use Rattle.dap_check.specs.declared.seen.Seen.{Seen}
 use Rattle.dap_check.specs.declared.waiting.Waiting.{Waiting}
-use Rattle.dap_check.proofs.LegalLemmas.{legal_push, finding_push, answers_well}
+use Rattle.dap_check.proofs.OpenLemmas.{open_push}
 use Rattle.dap_check.proofs.OfferLemmas.{one_later}
 use Rattle.dap_check.proofs.ReferenceLemmas.{referenced_later}
-use Rattle.dap_check.specs.SinceLaws.{any_push, open_push, first_push, first_later, last_push}
+use Rattle.dap_check.specs.SinceLaws.{any_push, first_push, first_later, last_push}
 
 abbrev line_at : ℕ → Side → ℕ → Kind → Line
 line_at number side seq kind = record { number = number; side = side; message = record { seq = seq; kind = kind } }
@@ -59,7 +59,7 @@ neither false false x y e = refl
 and_alike : (a b c : Bool) → b ≡ c → (a && b) ≡ (a && c)
 and_alike a b c e = ap (λ z. a && z) e
 
-judged_alike : (any_seq : Bool) (rule : Rule) (earlier : List Line) (number : ℕ) (side : Side) (seq : ℕ) (kind : Kind) → is_looked_at kind ≡ false
+judged_alike : (any_seq : AnySeq) (rule : Rule) (earlier : List Line) (number : ℕ) (side : Side) (seq : ℕ) (kind : Kind) → is_looked_at kind ≡ false
     → is_broken any_seq rule earlier (line_at number side seq (bare_kind kind)) ≡ is_broken any_seq rule earlier (line_at number side seq kind)
 judged_alike any_seq Seq earlier number side seq kind unseen = refl
 judged_alike any_seq Reference earlier number side seq (Request c arguments) unseen = and_alike (is_of Client (line_at number side seq (Request c arguments))) _ _ (neither (is_among naming_frames c) (is_among naming_holders c) _ _ unseen)
@@ -113,11 +113,8 @@ module _ (number : ℕ) (side : Side) (seq : ℕ) where
   asks_alike : (s : Side) (kind : Kind) → Alike (asks s) kind
   asks_alike s kind = elim kind as (λ k. Alike (asks s) k) [ Request c a ↦ refl | Response n b c m d ↦ refl | Event e d ↦ refl | Other t ↦ refl ]
 
-  asks_as_alike : (s : Side) (n : ℕ) (kind : Kind) → Alike (asks_as s n) kind
-  asks_as_alike s n kind = elim kind as (λ k. Alike (asks_as s n) k) [ Request c a ↦ refl | Response m b c r d ↦ refl | Event e d ↦ refl | Other t ↦ refl ]
-
-  asks_for_alike : (s : Side) (n : ℕ) (name : List ℕ) (kind : Kind) → Alike (asks_for s n name) kind
-  asks_for_alike s n name kind = elim kind as (λ k. Alike (asks_for s n name) k) [ Request c a ↦ refl | Response m b c r d ↦ refl | Event e d ↦ refl | Other t ↦ refl ]
+  request_alike : (kind : Kind) → request_of (bare kind) ≡ request_of (whole kind)
+  request_alike kind = elim kind as (λ k. request_of (bare k) ≡ request_of (whole k)) [ Request c a ↦ refl | Response m b c r d ↦ refl | Event e d ↦ refl | Other t ↦ refl ]
 
   answers_alike : (s : Side) (n : ℕ) (kind : Kind) → Alike (answers s n) kind
   answers_alike s n kind = elim kind as (λ k. Alike (answers s n) k) [ Request c a ↦ refl | Response m b c r d ↦ refl | Event e d ↦ refl | Other t ↦ refl ]
@@ -173,9 +170,6 @@ module _ (earlier : List Line) (x y : Line) where
   count_alike : (p : Line → Bool) → p x ≡ p y → count_by p (earlier ++ x ∷ []) ≡ count_by p (earlier ++ y ∷ [])
   count_alike p e = sum_by_push (λ z. cond (p z) 1 0) earlier x ∙ ap (λ b. count_by p earlier + cond b 1 0) e ∙ sym (sum_by_push (λ z. cond (p z) 1 0) earlier y)
 
-  open_alike : (p q : Line → Bool) → p x ≡ p y → q x ≡ q y → is_open p q (earlier ++ x ∷ []) ≡ is_open p q (earlier ++ y ∷ [])
-  open_alike p q ep eq = open_push p q earlier x ∙ ap (λ b. (is_open p q earlier && not b) || p x) eq ∙ ap (λ b. (is_open p q earlier && not (q y)) || b) ep ∙ sym (open_push p q earlier y)
-
 first_none : (first : First) (b : Bool) (number : ℕ) (side : Side) (seq : ℕ) (kind : Kind)
     → IsFirst first (cond b (Some (record { line = line_at number side seq (bare_kind kind); since = [] })) None) → IsFirst first (cond b (Some (record { line = line_at number side seq kind; since = [] })) None)
 first_none first true number side seq kind is = is
@@ -200,10 +194,12 @@ module _ (earlier : List Line) (number : ℕ) (side : Side) (seq : ℕ) (kind : 
   whole_one = line_at number side seq kind
 
   waits_alike : (waiting : Waiting) (s : Side) → AreWaiting waiting s (earlier ++ bare_one ∷ []) → AreWaiting waiting s (earlier ++ whole_one ∷ [])
-  waits_alike waiting s is = record {
-    any = λ n. sym (open_alike earlier bare_one whole_one (asks_as s n) (answers (other_side s) n) (asks_as_alike number side seq s n kind) (answers_alike number side seq (other_side s) n kind)) ∙ is.any n;
-    each = λ n name. sym (open_alike earlier bare_one whole_one (asks_for s n name) (answers (other_side s) n) (asks_for_alike number side seq s n name kind) (answers_alike number side seq (other_side s) n kind)) ∙ is.each n name;
-  }
+  waits_alike waiting s is = record { kept = λ n. is.kept n ∙ open_push s n earlier bare_one ∙ same n ∙ sym (open_push s n earlier whole_one) }
+    where
+      same : (n : ℕ) → waiting_after s bare_one n (open_at s n earlier) ≡ waiting_after s whole_one n (open_at s n earlier)
+      same n =
+          ap (λ b. cond b [] (open_at s n earlier) ++ filter (is_open_as s n) (request_of bare_one)) (answers_alike number side seq (other_side s) n kind)
+          ∙ ap (λ requests. cond (answers (other_side s) n whole_one) [] (open_at s n earlier) ++ filter (is_open_as s n) requests) (request_alike number side seq kind)
 
   begins_alike : (first : First) → Begins first (earlier ++ bare_one ∷ []) → Begins first (earlier ++ whole_one ∷ [])
   begins_alike first is =
@@ -216,16 +212,16 @@ module _ (earlier : List Line) (number : ℕ) (side : Side) (seq : ℕ) (kind : 
       step : (line : Line) → option_map offered_since (last_since (succeeds initialize) (earlier ++ line ∷ [])) ≡ offer_after (succeeds initialize line) line (option_map offered_since (last_since (succeeds initialize) earlier))
       step line = ap (option_map offered_since) (last_push (succeeds initialize) earlier line) ∙ one_later (succeeds initialize line) line (last_since (succeeds initialize) earlier)
 
-  least_alike : is_looked_at kind ≡ false → (any_seq : Bool) → least_broken any_seq earlier bare_one ≡ least_broken any_seq earlier whole_one
+  least_alike : is_looked_at kind ≡ false → (any_seq : AnySeq) → least_broken any_seq earlier bare_one ≡ least_broken any_seq earlier whole_one
   least_alike unseen any_seq = find_alike (λ rule. is_broken any_seq rule earlier bare_one) (λ rule. is_broken any_seq rule earlier whole_one) (λ rule. judged_alike any_seq rule earlier number side seq kind unseen) all_rules
 
 -- ---- however it was read
 
-pub least_as : (any_seq : Bool) (earlier : List Line) (form : Form) (given : GatheredReferences) (read real : Line) → IsReadAs form given read real → least_broken any_seq earlier read ≡ least_broken any_seq earlier real
+pub least_as : (any_seq : AnySeq) (earlier : List Line) (form : Form) (given : GatheredReferences) (read real : Line) → IsReadAs form given read real → least_broken any_seq earlier read ≡ least_broken any_seq earlier real
 least_as any_seq earlier Whole given read real is = ap (least_broken any_seq earlier) is
 least_as any_seq earlier Bare given read real is = ap (least_broken any_seq earlier) is.0 ∙ least_alike earlier real.number real.side real.message.seq real.message.kind is.1 any_seq
 
-number_as : (form : Form) (given : GatheredReferences) (read real : Line) → IsReadAs form given read real → read.number ≡ real.number
+pub number_as : (form : Form) (given : GatheredReferences) (read real : Line) → IsReadAs form given read real → read.number ≡ real.number
 number_as Whole given read real is = ap (λ (l : Line). l.number) is
 number_as Bare given read real is = ap (λ (l : Line). l.number) is.0
 
@@ -290,25 +286,6 @@ module _ (old new : References) (line : Line) (earlier : List Line) (is : AreRef
       holder n =
           ap (λ b. reference_after b (gathers_holder n given line) (sorted.contains nat_cmp old.holders n)) goes
           ∙ ap (λ b. reference_after (resumes real) b (sorted.contains nat_cmp old.holders n)) (ap (gathers_holder n given) read.0 ∙ holder_alike real.number real.side real.message.seq n given real.message.kind read.2)
-
--- ---- what is told
-
-module _ (any_seq : Bool) (lines : List Line) (form : Form) (given : GatheredReferences) (read real : Line) (told : Checked) (is : IsReadAs form given read real) (e : told ≡ Legal) where
-  pub legal_as : (old new : Seen) → IsVerdictSoFar any_seq old lines told
-      → ((earlier : List Line) → IsSeen old earlier → least_broken any_seq earlier read ≡ None)
-      → ((earlier : List Line) → IsSeen old earlier → breaks_answer earlier read ≡ false → IsSeen new (earlier ++ real ∷ []))
-      → IsVerdictSoFar any_seq new (lines ++ real ∷ []) Legal
-  legal_as old new before free seen =
-      let was = subst (IsVerdictSoFar any_seq old lines) e before in
-      let none = free lines was.1 in
-      (legal_push any_seq lines real was.0 (sym (least_as any_seq lines form given read real is) ∙ none), seen lines was.1 (answers_well any_seq lines read none))
-
-  pub broken_as : (seen : Seen) (rule : Rule) → IsVerdictSoFar any_seq seen lines told
-      → ((earlier : List Line) → IsSeen seen earlier → least_broken any_seq earlier read ≡ Some rule) → IsVerdictSoFar any_seq seen (lines ++ real ∷ []) (Finding read.number rule)
-  broken_as seen rule before broken =
-      let was = subst (IsVerdictSoFar any_seq seen lines) e before in
-      subst (λ n. IsFinding any_seq (lines ++ real ∷ []) n rule) (sym (number_as form given read real is))
-      (finding_push any_seq lines real rule was.0 (sym (least_as any_seq lines form given read real is) ∙ broken lines was.1))
 
 -- ---- what is read
 

@@ -1,11 +1,15 @@
 mod RuleExamples
 mod TranscriptExamples
 mod WorkedExamples
+mod FindingExamples
 pub mod FirstLemmas
-pub mod WaitingLemmas
 pub mod OfferLemmas
 pub mod ReferenceLemmas
 pub mod LegalLemmas
+pub mod OpenLemmas
+pub mod InOrder
+pub mod FindingLemmas
+pub mod Listed
 pub mod Outcomes
 pub mod Lines
 pub mod Judged

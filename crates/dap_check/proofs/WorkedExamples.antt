@@ -12,6 +12,7 @@ use Rattle.dap_check.specs.Transcript.{AreLines, FirstRefused}
 use Rattle.dap_check.specs.declared.checking.CheckFault.TheVariants.{BadLine}
 use Rattle.dap_check.specs.declared.line.Line.{Line}
 use Rattle.dap_check.specs.declared.line.Side.TheVariants.{Client, Adapter}
+use Rattle.dap_check.specs.declared.rule.AnySeq.TheVariants.{OfNone}
 use Rattle.dap_check.specs.declared.rule.Rule.TheVariants.{Answer, FirstRequest, Initialized, Gate, Reference, Disconnect}
 use Rattle.dap_check.proofs.LegalLemmas.{legal_push, legal_nil, finding_push}
 
@@ -88,14 +89,14 @@ session_text = (
   ),
 )
 
-begins : IsLegal false (asked ∷ offered ∷ [])
-begins = legal_push false (asked ∷ []) offered (legal_push false [] asked (legal_nil false) refl) refl
+begins : IsLegal OfNone (asked ∷ offered ∷ [])
+begins = legal_push OfNone (asked ∷ []) offered (legal_push OfNone [] asked (legal_nil OfNone) refl) refl
 
-session_is_legal : IsLegal false session
+session_is_legal : IsLegal OfNone session
 session_is_legal =
-    legal_push false (asked ∷ offered ∷ ready ∷ end ∷ []) ended
-    (legal_push false (asked ∷ offered ∷ ready ∷ []) end
-    (legal_push false (asked ∷ offered ∷ []) ready begins refl) refl) refl
+    legal_push OfNone (asked ∷ offered ∷ ready ∷ end ∷ []) ended
+    (legal_push OfNone (asked ∷ offered ∷ ready ∷ []) end
+    (legal_push OfNone (asked ∷ offered ∷ []) ready begins refl) refl) refl
 
 -- ---- each rule broken once
 
@@ -112,35 +113,35 @@ ev at seq name = record { number = at; side = Adapter; message = record { seq = 
 abbrev plain : List Line
 plain = req 1 1 (codes "initialize") ∷ ok 2 1 (codes "initialize") ∷ []
 
-plain_is_legal : IsLegal false plain
-plain_is_legal = legal_push false (req 1 1 (codes "initialize") ∷ []) (ok 2 1 (codes "initialize")) (legal_push false [] (req 1 1 (codes "initialize")) (legal_nil false) refl) refl
+plain_is_legal : IsLegal OfNone plain
+plain_is_legal = legal_push OfNone (req 1 1 (codes "initialize") ∷ []) (ok 2 1 (codes "initialize")) (legal_push OfNone [] (req 1 1 (codes "initialize")) (legal_nil OfNone) refl) refl
 
-first_is_no_initialize : IsFinding false (req 1 1 (codes "threads") ∷ []) 1 FirstRequest
-first_is_no_initialize = finding_push false [] (req 1 1 (codes "threads")) FirstRequest (legal_nil false) refl
+first_is_no_initialize : IsFinding OfNone (req 1 1 (codes "threads") ∷ []) 1 FirstRequest
+first_is_no_initialize = finding_push OfNone [] (req 1 1 (codes "threads")) FirstRequest (legal_nil OfNone) refl
 
-nothing_was_asked : IsFinding false (ok 1 1 (codes "initialize") ∷ []) 1 Answer
-nothing_was_asked = finding_push false [] (ok 1 1 (codes "initialize")) Answer (legal_nil false) refl
+nothing_was_asked : IsFinding OfNone (ok 1 1 (codes "initialize") ∷ []) 1 Answer
+nothing_was_asked = finding_push OfNone [] (ok 1 1 (codes "initialize")) Answer (legal_nil OfNone) refl
 
-not_initialized_yet : IsFinding false (req 1 1 (codes "initialize") ∷ ev 2 1 (codes "initialized") ∷ []) 2 Initialized
-not_initialized_yet = finding_push false (req 1 1 (codes "initialize") ∷ []) (ev 2 1 (codes "initialized")) Initialized (legal_push false [] (req 1 1 (codes "initialize")) (legal_nil false) refl) refl
+not_initialized_yet : IsFinding OfNone (req 1 1 (codes "initialize") ∷ ev 2 1 (codes "initialized") ∷ []) 2 Initialized
+not_initialized_yet = finding_push OfNone (req 1 1 (codes "initialize") ∷ []) (ev 2 1 (codes "initialized")) Initialized (legal_push OfNone [] (req 1 1 (codes "initialize")) (legal_nil OfNone) refl) refl
 
-not_offered : IsFinding false (plain ++ req 3 2 (codes "terminate") ∷ []) 3 Gate
-not_offered = finding_push false plain (req 3 2 (codes "terminate")) Gate plain_is_legal refl
+not_offered : IsFinding OfNone (plain ++ req 3 2 (codes "terminate") ∷ []) 3 Gate
+not_offered = finding_push OfNone plain (req 3 2 (codes "terminate")) Gate plain_is_legal refl
 
 abbrev scopes : Line
 scopes = record { number = 3; side = Client; message = record { seq = 2; kind = Request (codes "scopes") (Some (object (member (codes "frameId") (number (unsigned 1)) no_members))) } }
 
-not_given : IsFinding false (plain ++ scopes ∷ []) 3 Reference
-not_given = finding_push false plain scopes Reference plain_is_legal refl
+not_given : IsFinding OfNone (plain ++ scopes ∷ []) 3 Reference
+not_given = finding_push OfNone plain scopes Reference plain_is_legal refl
 
 abbrev over : List Line
 over = plain ++ req 3 2 (codes "disconnect") ∷ ok 4 2 (codes "disconnect") ∷ []
 
-over_is_legal : IsLegal false over
-over_is_legal = legal_push false (plain ++ req 3 2 (codes "disconnect") ∷ []) (ok 4 2 (codes "disconnect")) (legal_push false plain (req 3 2 (codes "disconnect")) plain_is_legal refl) refl
+over_is_legal : IsLegal OfNone over
+over_is_legal = legal_push OfNone (plain ++ req 3 2 (codes "disconnect") ∷ []) (ok 4 2 (codes "disconnect")) (legal_push OfNone plain (req 3 2 (codes "disconnect")) plain_is_legal refl) refl
 
-after_the_end : IsFinding false (over ++ ev 5 3 (codes "output") ∷ []) 5 Disconnect
-after_the_end = finding_push false over (ev 5 3 (codes "output")) Disconnect over_is_legal refl
+after_the_end : IsFinding OfNone (over ++ ev 5 3 (codes "output") ∷ []) 5 Disconnect
+after_the_end = finding_push OfNone over (ev 5 3 (codes "output")) Disconnect over_is_legal refl
 
 -- ---- what is no line is told before a finding on an earlier line
 

@@ -4,16 +4,17 @@ use Rattle.std.specs.List.{list_any}
 use Rattle.dap_check.specs.Since.{is_open, first_since, last_since, Past}
 use Rattle.dap_check.specs.Legal.{IsVerdict}
 use Rattle.dap_check.specs.declared.line.Line.{Line}
+use Rattle.dap_check.specs.declared.rule.AnySeq.{AnySeq}
 use Rattle.dap_check.specs.declared.rule.Checked.{Checked}
 
 -- one verdict
-pub record IsOneVerdict (any_seq : Bool) (lines : List Line) : Type 0 where
+pub record IsOneVerdict (any_seq : AnySeq) (lines : List Line) : Type 0 where
   pub checked : Checked
   pub is : IsVerdict any_seq lines checked
   pub no_other : (other : Checked) → IsVerdict any_seq lines other → other ≡ checked
 
 abbrev pub EachTranscriptHasOneVerdict : Type 0
-EachTranscriptHasOneVerdict = (any_seq : Bool) (lines : List Line) → IsOneVerdict any_seq lines
+EachTranscriptHasOneVerdict = (any_seq : AnySeq) (lines : List Line) → IsOneVerdict any_seq lines
 
 -- ---- the words for earlier lines, told by places
 

@@ -3,9 +3,12 @@ pub mod SinceLaws
 pub mod Lines
 pub mod Rules
 pub mod Legal
+pub mod Findings
 pub mod Laws
+pub mod FindingLaws
 pub mod Places
 pub mod Transcript
 pub mod ReadingLaws
 pub mod PrivateKept
+pub mod PrivateOpen
 pub mod PrivateBare

@@ -1,6 +1,6 @@
 -- What the checker keeps of the lines so far, and what that tells of them.
 -- Only private clauses and proofs cite this file.
-use Rattle.std.specs.Prelude.{◌≡◌, ℕ, List, Bool, true, false, not, ◌&&◌, ◌||◌, if◌then◌else◌, count_by, codes, bytes_eq, Option, Some, None, is_some, option_map}
+use Rattle.std.specs.Prelude.{◌≡◌, ℕ, List, [], ◌∷◌, ◌++◌, Bool, true, false, not, ◌&&◌, ◌||◌, if◌then◌else◌, count_by, codes, bytes_eq, Option, Some, None, option_map, filter, Vec}
 use Rattle.std.specs.List.{list_any}
 use Rattle.std.specs.BTreeMap as tree
 use Rattle.std.specs.BTreeSet as sorted
@@ -8,10 +8,9 @@ use Rattle.std.specs.Ordering.{nat_cmp}
 use Rattle.dap_message.specs.Capabilities.{offered_by}
 use Rattle.dap_message.specs.Types.Capabilities.{Capabilities}
 use Rattle.dap_message.specs.declared.message.Kind.{Kind}
-use Rattle.dap_message.specs.declared.message.Kind.TheVariants.{Request, Response, Event, Other}
 use Rattle.dap_check.specs.Since.{first_since, last_since, Past}
-use Rattle.dap_check.specs.Lines.{other_side, is_request_among, arguments_of, body_of, is_of, asks, asks_as, answers, succeeds}
-use Rattle.dap_check.specs.Rules.{naming_frames, naming_holders, is_unknown, number_at, waits, waits_for, initialize, disconnect, offered_since, after_line, is_frame, is_holder}
+use Rattle.dap_check.specs.Lines.{other_side, is_request_among, arguments_of, body_of, is_of, asks, answers, succeeds}
+use Rattle.dap_check.specs.Rules.{naming_frames, naming_holders, is_unknown, number_at, initialize, disconnect, offered_since, after_line, is_frame, is_holder}
 use Rattle.dap_check.specs.declared.line.Line.{Line}
 use Rattle.dap_check.specs.declared.line.Side.{Side}
 use Rattle.dap_check.specs.declared.line.Side.TheVariants.{Client, Adapter}
@@ -21,9 +20,10 @@ use Rattle.dap_check.specs.declared.offer.Offer.{Offer}
 use Rattle.dap_check.specs.declared.pending.Pending.{Pending}
 use Rattle.dap_check.specs.declared.references.References.{References}
 use Rattle.dap_check.specs.declared.phases.Phases.{Phases}
-use Rattle.dap_check.specs.Legal.{IsLegal, IsFinding}
-use Rattle.dap_check.specs.declared.rule.Checked.{Checked}
-use Rattle.dap_check.specs.declared.rule.Checked.TheVariants.{Legal, Finding}
+use Rattle.dap_check.specs.Findings.{findings, request_of, open_requests, is_open_as}
+use Rattle.dap_check.specs.declared.checking.Progress.{Progress}
+use Rattle.dap_check.specs.declared.rule.AnySeq.{AnySeq}
+use Rattle.dap_check.specs.declared.rule.OpenRequest.{OpenRequest}
 use Rattle.dap_check.specs.declared.seen.Seen.{Seen}
 use Rattle.dap_check.specs.declared.waiting.Waiting.{Waiting}
 
@@ -49,25 +49,33 @@ abbrev pub first_after : First → Line → Option ℕ → First
 first_after first line None = if asks Client line then record { seq = Some line.message.seq; is_answered = false; is_past = false } else first
 first_after first line (Some seq) = record { seq = Some seq; is_answered = first.is_answered || answers Adapter seq line; is_past = first.is_past || asks Client line }
 
--- the command that waits is this one
-abbrev pub is_command : List ℕ → Option (List ℕ) → Bool
-is_command name None = false
-is_command name (Some command) = bytes_eq command name
+-- there is one
+abbrev pub is_any_there : List OpenRequest → Bool
+is_any_there [] = false
+is_any_there (request ∷ requests) = true
 
--- the requests of a side that wait, with their commands
+-- one of them is for this command
+abbrev pub is_for : List ℕ → OpenRequest → Bool
+is_for name request = bytes_eq request.command name
+
+abbrev pub items_at : {A : Type 0} → Option (Vec OpenRequest A) → List OpenRequest
+items_at None = []
+items_at (Some requests) = requests.items
+
+-- the requests that are kept under a number
+abbrev pub kept_at : Waiting → ℕ → List OpenRequest
+kept_at waiting n = items_at (tree.get nat_cmp waiting.requests n)
+
+-- the requests of a side that nothing has answered, by their numbers
+abbrev pub open_at : Side → ℕ → List Line → List OpenRequest
+open_at side n lines = filter (is_open_as side n) (open_requests lines)
+
 pub record AreWaiting (waiting : Waiting) (side : Side) (earlier : List Line) : Type 0 where
-  pub any : (n : ℕ) → waits side n earlier ≡ is_some (tree.get nat_cmp waiting.commands n)
-  pub each : (n : ℕ) (name : List ℕ) → waits_for side n name earlier ≡ is_command name (tree.get nat_cmp waiting.commands n)
+  pub kept : (n : ℕ) → kept_at waiting n ≡ open_at side n earlier
 
-abbrev pub command_of : Kind → Option (List ℕ)
-command_of (Request command arguments) = Some command
-command_of (Response request_seq success command message body) = None
-command_of (Event event body) = None
-command_of (Other tag) = None
-
--- the command that waits under a number, one line later
-abbrev pub waiting_after : Side → Line → ℕ → Option (List ℕ) → Option (List ℕ)
-waiting_after side line n before = if asks_as side n line then command_of line.message.kind else (if answers (other_side side) n line then None else before)
+-- the requests under a number, one line later
+abbrev pub waiting_after : Side → Line → ℕ → List OpenRequest → List OpenRequest
+waiting_after side line n before = (if answers (other_side side) n line then [] else before) ++ filter (is_open_as side n) (request_of line)
 
 -- the numbers that were given, and that mean something still
 pub record AreReferences (references : References) (earlier : List Line) : Type 0 where
@@ -112,7 +120,7 @@ pub record IsSeen (seen : Seen) (earlier : List Line) : Type 0 where
   pub offer : IsOffered seen.offer earlier
   pub references : AreReferences seen.references earlier
 
--- what is told so far
-abbrev pub IsVerdictSoFar : Bool → Seen → List Line → Checked → Type 0
-IsVerdictSoFar any_seq seen lines Legal = IsLegal any_seq lines × IsSeen seen lines
-IsVerdictSoFar any_seq seen lines (Finding number rule) = IsFinding any_seq lines number rule
+-- how far checking has come
+pub record IsProgress (any_seq : AnySeq) (progress : Progress) (lines : List Line) : Type 0 where
+  pub seen : IsSeen progress.seen lines
+  pub found : progress.findings.items ≡ findings any_seq lines

@@ -1,19 +1,23 @@
-//! Whether a transcript is legal.
-ghost use Rattle.std.specs.Prelude.{◌≡◌, ◌≢◌, ◌⊎◌, ◌+◌, ◌-◌, ◌^◌, ◌<◌, ◌≤◌, ◌∷◌, ◌++◌, [], List, drop, MatchOption, OnOk, IfOk, IfErr};
+//! Whether a transcript is legal, and all that is found in it.
+ghost use Rattle.std.specs.Prelude.{◌≡◌, ◌≢◌, ◌⊎◌, ◌+◌, ◌-◌, ◌^◌, ◌<◌, ◌≤◌, ◌∷◌, ◌++◌, [], List, drop, OnOk, IfOk, IfErr, IsErrAnd, MatchResult};
 ghost use Rattle.std.specs.Str.Lines.{lines};
 ghost use Rattle.dap_check.specs.PrivateBare.{IsReadAs};
-ghost use Rattle.dap_check.specs.PrivateKept.{IsVerdictSoFar};
+ghost use Rattle.dap_check.specs.PrivateKept.{IsProgress};
+ghost use Rattle.dap_check.specs.PrivateOpen.{AreFrom};
+ghost use Rattle.dap_check.specs.Findings.{finding_at, first_of, IsReport};
 ghost use Rattle.dap_check.specs.Legal.{IsVerdict};
 ghost use Rattle.dap_check.specs.Transcript.{IsLine, AreLines, Refuses, FirstRefused};
 ghost use Rattle.dap_check.specs.declared.checking.CheckFault.{CheckFault};
 ghost use Rattle.dap_check.specs.declared.line.Line.{Line as TheLine};
+ghost use Rattle.dap_check.specs.declared.rule.AnySeq.{AnySeq};
 ghost use Rattle.dap_check.specs.declared.rule.Checked.{Checked};
 
 use crate::cutting::split_line;
 use crate::line::{Form, Line};
 use crate::reading::read_bare;
-use crate::rule::Checked;
+use crate::rule::{AnySeq, Checked, Finding, Report, Rule};
 use crate::seen::Seen;
+use crate::unanswered::in_order;
 use dap_message::laws::each_body_is_one;
 use dap_message::{BodyRefusal, GatheredReferences, Scratch};
 use std::alloc::{AllocError, Global};
@@ -44,31 +48,54 @@ impl From<AllocError> for CheckFault {
     }
 }
 
-/// What is told after one more line, which may be read without its tree.
-fn take(
-    seen: &mut Seen,
-    any_seq: bool,
-    told: Checked,
-    line: &Line,
-    form: Form,
-    given: &GatheredReferences,
-) -> Result<Checked, AllocError>
-    requires { seen.old.counts.client + seen.old.counts.adapter < 2 ^ 64 - 1 }
-    ensures told { IfOk result (λ after. (lines : List TheLine) (real : TheLine) → IsReadAs form given.now line.now real → IsVerdictSoFar any_seq seen.old lines told → IsVerdictSoFar any_seq seen.new (lines ++ real ∷ []) after) }
-    ensures room { OnOk result (seen.new.counts.client + seen.new.counts.adapter ≤ seen.old.counts.client + seen.old.counts.adapter + 1) }
+fn push_broken(
+    findings: &mut Vec<Finding>,
+    line: u64,
+    broken: Option<Rule>,
+) -> Result<(), AllocError>
+    ensures { OnOk result (findings.new.items ≡ findings.old.items ++ finding_at line broken) }
 {
-    match told {
-        Checked::Finding { .. } => Ok(told),
-        Checked::Legal => match seen.least_broken(any_seq, line) {
-            Some(rule) => Ok(Checked::Finding {
-                line: line.number,
-                rule,
-            }),
-            None => {
-                seen.note(line, form, given)?;
-                Ok(Checked::Legal)
-            }
-        },
+    if let Some(rule) = broken {
+        findings.push(Finding { line, rule })?;
+    }
+    Ok(())
+}
+
+/// How far checking has come.
+#[derive(Drop)]
+pub(crate) struct Progress {
+    pub(crate) seen: Seen,
+    /// The lines so far that break a rule, in order.
+    pub(crate) findings: Vec<Finding>,
+}
+
+impl Progress {
+    fn new(alloc: Global) -> Progress
+        ensures progress { (any_seq : AnySeq) → IsProgress any_seq result [] }
+        ensures none { result.seen.counts.client + result.seen.counts.adapter ≡ 0 }
+    {
+        Progress {
+            seen: Seen::new(alloc),
+            findings: Vec::new(alloc),
+        }
+    }
+
+    /// Judges one more line, which may be read without its tree, and takes note of it.
+    fn take(
+        &mut self,
+        alloc: Global,
+        any_seq: AnySeq,
+        line: &Line,
+        form: Form,
+        given: &GatheredReferences,
+    ) -> Result<(), AllocError>
+        requires { self.old.seen.counts.client + self.old.seen.counts.adapter < 2 ^ 64 - 1 }
+        ensures progress { OnOk result ((lines : List TheLine) (real : TheLine) → IsReadAs form given.now line.now real → IsProgress any_seq self.old lines → IsProgress any_seq self.new (lines ++ real ∷ [])) }
+        ensures room { OnOk result (self.new.seen.counts.client + self.new.seen.counts.adapter ≤ self.old.seen.counts.client + self.old.seen.counts.adapter + 1) }
+    {
+        let broken = self.seen.least_broken(any_seq, line);
+        push_broken(&mut self.findings, line.number, broken)?;
+        self.seen.note(alloc, line, form, given)
     }
 }
 
@@ -77,57 +104,80 @@ fn take_text(
     alloc: Global,
     scratch: &mut Scratch,
     given: &mut GatheredReferences,
-    seen: &mut Seen,
-    any_seq: bool,
-    told: Checked,
+    progress: &mut Progress,
+    any_seq: AnySeq,
     number: u64,
     text: &[u8],
-) -> Result<Checked, CheckFault>
-    requires { seen.old.counts.client + seen.old.counts.adapter < 2 ^ 64 - 1 }
-    ensures told { IfOk result (λ after. (line : TheLine) × IsLine number text.now line × ((lines : List TheLine) → IsVerdictSoFar any_seq seen.old lines told → IsVerdictSoFar any_seq seen.new (lines ++ line ∷ []) after)) }
-    ensures room { OnOk result (seen.new.counts.client + seen.new.counts.adapter ≤ seen.old.counts.client + seen.old.counts.adapter + 1) }
+) -> Result<(), CheckFault>
+    requires { progress.old.seen.counts.client + progress.old.seen.counts.adapter < 2 ^ 64 - 1 }
+    ensures progress { OnOk result ((line : TheLine) × IsLine number text.now line × ((lines : List TheLine) → IsProgress any_seq progress.old lines → IsProgress any_seq progress.new (lines ++ line ∷ []))) }
+    ensures room { OnOk result (progress.new.seen.counts.client + progress.new.seen.counts.adapter ≤ progress.old.seen.counts.client + progress.old.seen.counts.adapter + 1) }
     ensures refused { IfErr result (Refuses number text.now) }
 {
     let (line, form) = read_bare(alloc, scratch, given, number, text)?;
-    let after = take(seen, any_seq, told, &line, form, given)?;
-    Ok(after)
+    progress.take(alloc, any_seq, &line, form, given)?;
+    Ok(())
 }
 
-/// What is told of all lines, in one pass.
-fn pass(alloc: Global, bytes: &[u8], any_seq: bool) -> Result<Checked, CheckFault>
-    ensures checked { IfOk result (λ told. (transcript : List TheLine) × AreLines 1 (lines bytes.now) transcript × IsVerdict any_seq transcript told) }
+/// All lines, in one pass.
+fn pass(alloc: Global, bytes: &[u8], any_seq: AnySeq) -> Result<Progress, CheckFault>
+    ensures progress { IfOk result (λ progress. (transcript : List TheLine) × AreLines 1 (lines bytes.now) transcript × IsProgress any_seq progress transcript) }
     ensures refused { IfErr result (FirstRefused (lines bytes.now)) }
 {
     let mut scratch = Scratch::new(alloc);
     let mut given = GatheredReferences::new(alloc);
-    let mut seen = Seen::new(alloc);
-    let mut told = Checked::Legal;
+    let mut progress = Progress::new(alloc);
     let mut rest = bytes;
     let mut number = 0;
     while !rest.is_empty() {
         let (text, later) = split_line(rest);
         number += 1;
         if !text.is_empty() {
-            told = take_text(
+            take_text(
                 alloc,
                 &mut scratch,
                 &mut given,
-                &mut seen,
+                &mut progress,
                 any_seq,
-                told,
                 number,
                 text,
             )?;
         }
         rest = later;
     }
-    Ok(told)
+    Ok(progress)
+}
+
+/// What was found, with the requests that nothing has answered.
+fn report(alloc: Global, progress: Progress) -> Result<Report, CheckFault>
+    ensures { (any_seq : AnySeq) (lines : List TheLine) → AreFrom 1 lines → IsProgress any_seq progress lines → MatchResult result (IsReport any_seq lines) (λ fault. fault ≡ CheckFault.OutOfMemory) }
+{
+    let Progress { seen, findings } = progress;
+    match in_order(alloc, seen.pending) {
+        Ok(unanswered) => Ok(Report {
+            findings,
+            unanswered,
+        }),
+        Err(_) => Err(CheckFault::OutOfMemory),
+    }
+}
+
+fn first(findings: &[Finding]) -> Checked
+    ensures { result ≡ first_of findings.now }
+{
+    match findings.first() {
+        None => Checked::Legal,
+        Some(finding) => Checked::Finding {
+            line: finding.line,
+            rule: finding.rule,
+        },
+    }
 }
 
 /// Whether a transcript keeps the rules. Of one that does not, the least line that breaks a rule is told, and the least
-/// rule that it breaks. With `any_seq` the numbers of messages are not tested. A line that is none, or no message, is
-/// told before any finding.
-pub fn check(alloc: Global, bytes: &[u8], any_seq: bool) -> Result<Checked, CheckFault>
+/// rule that it breaks. `any_seq` says whose numbers are not tested. A line that is none, or no message, is told before any
+/// finding.
+pub fn check(alloc: Global, bytes: &[u8], any_seq: AnySeq) -> Result<Checked, CheckFault>
     ensures checked { IfOk result (λ told. (transcript : List TheLine) × AreLines 1 (lines bytes.now) transcript × IsVerdict any_seq transcript told) }
     ensures refused { IfErr result (FirstRefused (lines bytes.now)) }
 
@@ -137,5 +187,27 @@ pub fn check(alloc: Global, bytes: &[u8], any_seq: bool) -> Result<Checked, Chec
 {
     // A law for the proof: no line is both a message and refused.
     each_body_is_one();
-    pass(alloc, bytes, any_seq)
+    match pass(alloc, bytes, any_seq) {
+        Ok(progress) => Ok(first(&progress.findings)),
+        Err(fault) => Err(fault),
+    }
+}
+
+/// Each line that breaks a rule, with the least rule that it breaks, and each request that nothing has answered. A line is
+/// judged by all lines before it, also by those that break a rule. The first finding is that of [`check`]; a line that is
+/// none, or no message, is reported before any.
+pub fn check_all(alloc: Global, bytes: &[u8], any_seq: AnySeq) -> Result<Report, CheckFault>
+    ensures checked { IfOk result (λ report. (transcript : List TheLine) × AreLines 1 (lines bytes.now) transcript × IsReport any_seq transcript report) }
+    ensures refused { IfErr result (λ fault. (fault ≡ CheckFault.OutOfMemory) ⊎ FirstRefused (lines bytes.now) fault) }
+
+    // And the other way, unless memory runs out.
+    ensures checks { (transcript : List TheLine) → AreLines 1 (lines bytes.now) transcript → MatchResult result (IsReport any_seq transcript) (λ fault. fault ≡ CheckFault.OutOfMemory) }
+    ensures refuses { (fault : CheckFault) → FirstRefused (lines bytes.now) fault → fault ≢ CheckFault.OutOfMemory → IsErrAnd result (λ told. (told ≡ fault) ⊎ (told ≡ CheckFault.OutOfMemory)) }
+{
+    // A law for the proof: no line is both a message and refused.
+    each_body_is_one();
+    match pass(alloc, bytes, any_seq) {
+        Ok(progress) => report(alloc, progress),
+        Err(fault) => Err(fault),
+    }
 }

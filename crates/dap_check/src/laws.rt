@@ -1,5 +1,6 @@
 //! Laws of the definitions, each on a function with nothing to run.
 ghost use Rattle.dap_check.specs.Laws.{EachTranscriptHasOneVerdict, SomeIsAPlace, OpenIsAPlace, FirstIsAPlace, LastIsAPlace};
+ghost use Rattle.dap_check.specs.FindingLaws.{FindingsAreBrokenRules, FirstFindingIsTheVerdict, OpenRequestsAreUnanswered, OpenRequestsWait};
 ghost use Rattle.dap_check.specs.ReadingLaws.{TextsHaveOneLine, TextsHaveOneTranscript, TranscriptsGrow};
 ghost use Rattle.dap_check.specs.Places.{AnswerIsByPlaces, FirstRequestIsByPlaces, OfferIsByPlaces, ReferencesAreByPlaces};
 
@@ -38,3 +39,17 @@ pub fn texts_are_read_in_one_way()
     // A law for the proof: no text is two messages.
     each_body_is_one();
 }
+
+/// Which lines are listed as findings: those that break a rule, each with the least that it breaks; and the first of them is
+/// what `check` answers.
+pub fn findings_are_broken_rules()
+    ensures listed { FindingsAreBrokenRules }
+    ensures first { FirstFindingIsTheVerdict }
+{}
+
+/// Which requests are listed as unanswered: those that no later line answers, which are those that wait for a response by the
+/// words of the second rule.
+pub fn open_requests_are_unanswered()
+    ensures listed { OpenRequestsAreUnanswered }
+    ensures wait { OpenRequestsWait }
+{}

@@ -18,11 +18,12 @@ mod reading;
 mod references;
 mod rule;
 mod seen;
+mod unanswered;
 mod waiting;
 pub mod words;
 
-pub use checking::{CheckFault, check};
+pub use checking::{CheckFault, check, check_all};
 pub use cutting::split_line;
 pub use line::{Line, Side};
 pub use reading::read_line;
-pub use rule::{Checked, Rule};
+pub use rule::{AnySeq, Checked, Finding, OpenRequest, Report, Rule};

@@ -148,6 +148,8 @@ pub struct Source {
     pub name: Text,
     /// `None` where it has none; then it is named by its number alone.
     pub path: Option<Text>,
+    /// Whether the client reads the file at `path` itself, where there is a path. Else it asks for the text by a number.
+    pub on_disk: bool,
 }
 
 impl Category {

@@ -58,7 +58,7 @@ module _ {D : Type 0} (shown : D → Shown) (follows : Goes D) (limits : Setting
   -- lines of a script
   pub ran : (texts : List (List ℕ)) (w : World D) → Ran shown follows limits debuggee texts w → Leads w
   ran texts w starts = begins_so
-  ran texts w (skips ts x r) = ran ts w r
+  ran texts w (skips ts text x r e) = ran ts w r
   ran texts w (does ts text order v x r some is d) = done-order order v w (ran ts v r) d
 
   -- ---- where a stop lasts
@@ -74,7 +74,7 @@ module _ {D : Type 0} (shown : D → Shown) (follows : Goes D) (limits : Setting
     text = s.text;
     after = s.after;
     split = s.split;
-    has_bytes = s.has_bytes;
+    stands = s.stands;
     world = s.world;
     ran = s.ran;
     stops = (s.stops.0, s.stops.1, elim s.stops.2 [ inl c ↦ absurd (no-limit r agree stops s.stops.0 s.world (ran s.before s.world s.ran) c) | inr n ↦ n ]);

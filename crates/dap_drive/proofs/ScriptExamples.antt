@@ -1,5 +1,5 @@
 -- Worked examples of a script's lines and of a transcript's, each shown by computation.
-use Rattle.std.proofs.Common.{◌≡◌, [], ◌∷◌, ◌++◌, codes, None, Some, Ok, Err, pos, refl}
+use Rattle.std.proofs.Common.{◌≡◌, [], ◌∷◌, ◌++◌, codes, true, false, None, Some, Ok, Err, pos, refl}
 use Rattle.std.specs.Str.{is_utf8, chars}
 use Rattle.serde_json.specs.Data.{object, no_members}
 use Rattle.serde_json.proofs.OnLiterals.{serde_json_on_literals}
@@ -8,7 +8,7 @@ use Rattle.dap_message.specs.Call.{thread_of}
 use Rattle.dap_message.specs.Types.Call.TheVariants as call
 use Rattle.dap_client.specs.declared.terminal.Terminal.TheVariants.{Started, Refused}
 use Rattle.dap_check.specs.declared.line.Side.TheVariants.{Client, Adapter}
-use Rattle.dap_drive.specs.Script.{order_of, text_before, text_after}
+use Rattle.dap_drive.specs.Script.{is_skipped, order_of, text_before, text_after}
 use Rattle.dap_drive.specs.PrivateLines.{lines_of}
 use Rattle.dap_drive.specs.Transcript.{text_of}
 use Rattle.dap_drive.specs.declared.script.LineFault.TheVariants.{Script, Call}
@@ -18,6 +18,10 @@ use Rattle.dap_drive.specs.declared.script.Order.TheVariants.{Send, Answer, Turn
 
 single_words : (order_of (codes "turn") ≡ Ok Turn) × (order_of (codes "poll") ≡ Ok Poll) × (order_of (codes "run") ≡ Ok Run)
 single_words = (refl, refl, refl)
+
+-- a space before it makes it no comment
+skipped : (is_skipped [] ≡ true) × (is_skipped (codes "# then it stops") ≡ true) × (is_skipped (codes "#") ≡ true) × (is_skipped (codes "run # to the end") ≡ false) × (is_skipped (codes " # run") ≡ false)
+skipped = (refl, refl, refl, refl, refl)
 
 no_words : (order_of (codes "jump") ≡ Err Script) × (order_of (codes "Turn") ≡ Err Script) × (order_of (codes "turn ") ≡ Err Script) × (order_of (codes " run") ≡ Err Script) × (order_of (codes "send") ≡ Err Script)
 no_words = (refl, refl, refl, refl, refl)

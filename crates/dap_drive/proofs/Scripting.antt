@@ -11,7 +11,7 @@ use Rattle.dap_world.specs.Transcripts.{EachTranscriptKeepsRules}
 use Rattle.dap_world.specs.World.{World, fresh_world}
 use Rattle.dap_drive.specs.PrivateHeld.{Driving, BothEnds, IsQuiet, HasDone, HasTurned, HasPolled, DoesLine, HasRun, StopsOrder, StopsSend, StopsAnswer}
 use Rattle.dap_drive.specs.Orders.{Does, DoesTurn, Ran, idle, handles, starts, skips, does}
-use Rattle.dap_drive.specs.Script.{order_of}
+use Rattle.dap_drive.specs.Script.{is_skipped, order_of}
 use Rattle.dap_drive.proofs.Reading.{is_read}
 use Rattle.dap_drive.specs.declared.fault.DriveFault.{DriveFault}
 use Rattle.dap_drive.specs.declared.fault.DriveFault.TheVariants as fault
@@ -66,15 +66,15 @@ module _ {D : Type 0} (drive : Driving D) where
 
   -- ---- one line
 
-  pub line_skipped : (texts : List (List ℕ)) (text : List ℕ) (ends : BothEnds D) → text ≡ [] → HasRun drive texts ends
+  pub line_skipped : (texts : List (List ℕ)) (text : List ℕ) (ends : BothEnds D) → is_skipped text ≡ true → HasRun drive texts ends
       → HasRun drive (texts ++ text ∷ []) ends
-  line_skipped texts text ends empty h = record {
+  line_skipped texts text ends skipped h = record {
     world = h.world;
-    ran = subst (λ (z : List ℕ). Ran drive.shown drive.follows drive.limits drive.debuggee (texts ++ z ∷ []) h.world) (sym empty) (skips texts h.world h.ran);
+    ran = skips texts text h.world h.ran skipped;
     quiet = h.quiet;
   }
 
-  pub line_ran : (texts : List (List ℕ)) (text : List ℕ) (ends next : BothEnds D) → 0 < length text → (h : HasRun drive texts ends)
+  pub line_ran : (texts : List (List ℕ)) (text : List ℕ) (ends next : BothEnds D) → is_skipped text ≡ false → (h : HasRun drive texts ends)
       → HasDone drive (DoesLine drive.shown drive.follows text) h.world next → HasRun drive (texts ++ text ∷ []) next
   line_ran texts text ends next some h d = record {
     world = d.world;
@@ -94,20 +94,20 @@ module _ {D : Type 0} (drive : Driving D) where
         (λ all is. keeps drive.limits drive.debuggee h.world all h.quiet.at.in_range h.quiet.at.schedule is);
   }
 
-  stops_at : (all before after : List (List ℕ)) (text : List ℕ) (number : ℕ) (f : DriveFault) (ends : BothEnds D) → all ≡ before ++ text ∷ after → number ≡ length before + 1 → 0 < length text
+  stops_at : (all before after : List (List ℕ)) (text : List ℕ) (number : ℕ) (f : DriveFault) (ends : BothEnds D) → all ≡ before ++ text ∷ after → number ≡ length before + 1 → is_skipped text ≡ false
       → (h : HasRun drive before ends) → SaysOf drive.shown drive.follows f number text h.world → StopsAt drive.shown drive.follows drive.limits drive.debuggee all (SaysOf drive.shown drive.follows f)
   stops_at all before after text number f ends split count some h s = record {
     before = before;
     text = text;
     after = after;
     split = split;
-    has_bytes = some;
+    stands = some;
     world = h.world;
     ran = h.ran;
     stops = subst (λ (z : ℕ). SaysOf drive.shown drive.follows f z text h.world) count s;
   }
 
-  pub line_stops : (all before after : List (List ℕ)) (text : List ℕ) (number : ℕ) (f : DriveFault) (ends : BothEnds D) → all ≡ before ++ text ∷ after → number ≡ length before + 1 → 0 < length text
+  pub line_stops : (all before after : List (List ℕ)) (text : List ℕ) (number : ℕ) (f : DriveFault) (ends : BothEnds D) → all ≡ before ++ text ∷ after → number ≡ length before + 1 → is_skipped text ≡ false
       → (h : HasRun drive before ends) → SaysOf drive.shown drive.follows f number text h.world → Stops drive.shown drive.follows drive.limits drive.debuggee all f
   line_stops all before after text number fault.Recording ends split count some h s = absurd s
   line_stops all before after text number (fault.Script line) ends split count some h s = stops_at all before after text number (fault.Script line) ends split count some h s
@@ -135,7 +135,7 @@ module _ {D : Type 0} (drive : Driving D) where
     run = go p.run;
   }
 
-  pub part_way_stops : (all rest later : List ℕ) (text : List ℕ) (number : ℕ) (f : DriveFault) (ends : BothEnds D) → lines rest ≡ text ∷ lines later → 0 < length text → (p : IsPartWay all rest number ends)
+  pub part_way_stops : (all rest later : List ℕ) (text : List ℕ) (number : ℕ) (f : DriveFault) (ends : BothEnds D) → lines rest ≡ text ∷ lines later → is_skipped text ≡ false → (p : IsPartWay all rest number ends)
       → ((start : World D) → IsQuiet drive ends start → SaysOf drive.shown drive.follows f (number + 1) text start) → Stops drive.shown drive.follows drive.limits drive.debuggee (lines all) f
   part_way_stops all rest later text number f ends cut some p says =
       line_stops (lines all) p.before (lines later) text (number + 1) f ends (p.split ∙ ap (λ (z : List (List ℕ)). p.before ++ z) cut) (omega (arith, p.count)) some p.run (says p.run.world p.run.quiet)

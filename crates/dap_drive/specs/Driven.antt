@@ -1,5 +1,5 @@
 -- What comes of a script: the transcript, or why it is not run to its end. The formats are this profile's own.
-use Rattle.std.specs.Prelude.{◌≡◌, ◌⊎◌, ◌+◌, ◌<◌, ℕ, List, ◌∷◌, ◌++◌, length, false, Some, None, Ok, Err}
+use Rattle.std.specs.Prelude.{◌≡◌, ◌⊎◌, ◌+◌, ℕ, List, ◌∷◌, ◌++◌, length, false, Some, None, Ok, Err}
 use Rattle.dap_frame.specs.Settings.{Settings}
 use Rattle.dap_message.specs.Types.Call.{Call as TheCall}
 use Rattle.dap_json.specs.Read.{json_of}
@@ -17,7 +17,7 @@ use Rattle.dap_client.specs.declared.terminal.Terminal.{Terminal}
 use Rattle.dap_adapter.specs.Run.{Next, to_take}
 use Rattle.dap_world.specs.World.{World, Schedule}
 use Rattle.dap_drive.specs.Orders.{Ran, Reaches, LacksNumbers, HasTooManyReferences}
-use Rattle.dap_drive.specs.Script.{order_of}
+use Rattle.dap_drive.specs.Script.{is_skipped, order_of}
 use Rattle.dap_drive.specs.Transcript.{text_of, IsReadAs}
 use Rattle.dap_drive.specs.declared.fault.DriveFault.{DriveFault}
 use Rattle.dap_drive.specs.declared.fault.DriveFault.TheVariants.{Recording, Script, Call, Send, Adapter, Client, OutOfMemory}
@@ -36,13 +36,13 @@ pub record Drives {D : Type 0} (shown : D → Shown) (follows : Goes D) (limits 
 
 -- ---- faults
 
--- the lines before one that has bytes lead somewhere, where this is to be said of its text; lines are counted from 1
+-- the lines before one that is not skipped lead somewhere, where this is to be said of its text; lines are counted from 1
 pub record StopsAt {D : Type 0} (shown : D → Shown) (follows : Goes D) (limits : Settings) (debuggee : D) (texts : List (List ℕ)) (says : ℕ → List ℕ → World D → Type 0) : Type 0 where
   pub before : List (List ℕ)
   pub text : List ℕ
   pub after : List (List ℕ)
   pub split : texts ≡ before ++ text ∷ after
-  pub has_bytes : 0 < length text
+  pub stands : is_skipped text ≡ false
   pub world : World D
   pub ran : Ran shown follows limits debuggee before world
   pub stops : says (length before + 1) text world

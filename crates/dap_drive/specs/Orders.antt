@@ -1,5 +1,5 @@
 -- What each order of a script does, and a script line by line: each is steps of a schedule. The format is this profile's own.
-use Rattle.std.specs.Prelude.{◌≡◌, ◌+◌, ◌<◌, ℕ, List, [], ◌∷◌, ◌++◌, length, Some, Ok, Err}
+use Rattle.std.specs.Prelude.{◌≡◌, ◌+◌, ◌<◌, ℕ, List, [], ◌∷◌, ◌++◌, length, true, false, Some, Ok, Err}
 use Rattle.dap_frame.specs.Settings.{Settings}
 use Rattle.dap_message.specs.Types.Call.{Call}
 use Rattle.dap_message.specs.declared.message.Message.{Message}
@@ -16,7 +16,7 @@ use Rattle.dap_client.specs.Taking.{takes as client_takes}
 use Rattle.dap_client.specs.declared.fault.ClientFault.TheVariants.{ReferenceLimit}
 use Rattle.dap_client.specs.declared.terminal.Terminal.{Terminal}
 use Rattle.dap_world.specs.World.{World, fresh_world, Sends, Answers, ComesUp, ComesDown, Turns, IsIdle, Polls}
-use Rattle.dap_drive.specs.Script.{order_of}
+use Rattle.dap_drive.specs.Script.{is_skipped, order_of}
 use Rattle.dap_drive.specs.declared.script.Order.{Order}
 use Rattle.dap_drive.specs.declared.script.Order.TheVariants.{Send, Answer, Turn, Poll, Run}
 
@@ -82,11 +82,11 @@ Does shown follows Run old new = RunsTo shown follows old to_take new
 
 -- ---- a script
 
--- these lines of a script lead from two fresh ends to here; a line without bytes does nothing
+-- these lines of a script lead from two fresh ends to here; one that is skipped does nothing
 pub data Ran {D : Type 0} (shown : D → Shown) (follows : Goes D) (limits : Settings) (debuggee : D) : List (List ℕ) → World D → Type 0 where
   starts : Ran shown follows limits debuggee [] (fresh_world limits debuggee)
-  skips : (texts : List (List ℕ)) (w : World D) → Ran shown follows limits debuggee texts w → Ran shown follows limits debuggee (texts ++ [] ∷ []) w
-  does : (texts : List (List ℕ)) (text : List ℕ) (order : Order) (v w : World D) → Ran shown follows limits debuggee texts v → 0 < length text → order_of text ≡ Ok order → Does shown follows order v w
+  skips : (texts : List (List ℕ)) (text : List ℕ) (w : World D) → Ran shown follows limits debuggee texts w → is_skipped text ≡ true → Ran shown follows limits debuggee (texts ++ text ∷ []) w
+  does : (texts : List (List ℕ)) (text : List ℕ) (order : Order) (v w : World D) → Ran shown follows limits debuggee texts v → is_skipped text ≡ false → order_of text ≡ Ok order → Does shown follows order v w
       → Ran shown follows limits debuggee (texts ++ text ∷ []) w
 
 -- ---- in the midst of an order

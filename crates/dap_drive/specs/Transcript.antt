@@ -8,6 +8,7 @@ use Rattle.dap_check.specs.Transcript.{AreLines}
 use Rattle.dap_check.specs.declared.line.Line.{Line}
 use Rattle.dap_check.specs.declared.line.Side.{Side}
 use Rattle.dap_check.specs.declared.line.Side.TheVariants.{Client, Adapter}
+use Rattle.dap_check.specs.declared.rule.AnySeq.TheVariants.{OfNone}
 use Rattle.dap_check.specs.declared.rule.Checked.TheVariants.{Legal}
 use Rattle.dap_world.specs.Transcripts.{said_of, KeepsRules}
 use Rattle.dap_world.specs.World.{Said}
@@ -35,4 +36,4 @@ pub record IsReadAs (transcript : List ℕ) (said : List Said) : Type 0 where
 pub record IsLegalText (transcript : List ℕ) : Type 0 where
   pub all : List Line
   pub are : AreLines 1 (lines transcript) all
-  pub legal : IsVerdict false all Legal
+  pub legal : IsVerdict OfNone all Legal

@@ -1,11 +1,12 @@
 //! A script, line by line, and the transcript of what both ends wrote.
-ghost use Rattle.std.specs.Prelude.{◌≡◌, ◌∷◌, ◌++◌, ◌<◌, ℕ, List, [], length, IfOk, IfErr, OnOk};
+ghost use Rattle.std.specs.Prelude.{◌≡◌, ◌∷◌, ◌++◌, ℕ, List, [], false, IfOk, IfErr, OnOk};
 ghost use Rattle.std.specs.Str.Lines.{lines};
 ghost use Rattle.dap_debuggee.specs.Laws.{StopsLast};
 ghost use Rattle.dap_debuggee.specs.declared.answers.State.{State};
 ghost use Rattle.dap_frame.specs.Intake.{IsUnderWay};
 ghost use Rattle.dap_frame.specs.Settings.{Settings};
 ghost use Rattle.dap_drive.specs.Driven.{Drives, Stops, StopsAt, LacksNumberOnLine, SaysOf, DrivesRecording, StopsOver};
+ghost use Rattle.dap_drive.specs.Script.{is_skipped};
 ghost use Rattle.dap_drive.specs.PrivateHeld.{driven_by, both_of, IsQuiet, HasDone, DoesLine, HasRun};
 ghost use Rattle.dap_drive.specs.Transcript.{IsLegalText};
 ghost use Rattle.dap_world.specs.World.{World};
@@ -64,7 +65,17 @@ fn do_order<D: Debuggee + Drop>(
     }
 }
 
-/// Does what the line of this number asks for, if it has bytes.
+/// Whether a line is skipped: it has no bytes, or is a comment.
+fn is_skipped(text: &[u8]) -> bool
+    ensures { result ≡ is_skipped text.now }
+{
+    match text.first() {
+        None => true,
+        Some(byte) => *byte == b'#',
+    }
+}
+
+/// Does what the line of this number asks for, unless it is skipped.
 fn do_line<D: Debuggee + Drop>(
     alloc: Global,
     drive: &mut Drive<D>,
@@ -76,12 +87,12 @@ fn do_line<D: Debuggee + Drop>(
     ensures ran { OnOk result ((limits : Settings) (debuggee : D) (texts : List (List ℕ))
         → HasRun (driven_by D.shown D.follows limits debuggee) texts (both_of drive.old)
         → HasRun (driven_by D.shown D.follows limits debuggee) (texts ++ text.now ∷ []) (both_of drive.new)) }
-    ensures bytes { IfErr result (λ fault. 0 < length text.now) }
+    ensures stands { IfErr result (λ fault. is_skipped text.now ≡ false) }
     ensures stops { IfErr result (λ fault. (limits : Settings) (debuggee : D) (start : World D)
         → IsQuiet (driven_by D.shown D.follows limits debuggee) (both_of drive.old) start
         → SaysOf D.shown D.follows fault number text.now start) }
 {
-    if text.is_empty() {
+    if is_skipped(text) {
         return Ok(());
     }
     match do_order(alloc, drive, text, number) {
@@ -94,7 +105,7 @@ fn do_line<D: Debuggee + Drop>(
 /// wrote, in order, with the mark of its side.
 ///
 /// A line of the script is `send COMMAND`, `send COMMAND JSON`, `terminal ok`, `terminal no`, `turn`, `poll` or `run`; a line
-/// without bytes is skipped, and counted. Each message is delivered once it is written. `terminal` answers the oldest request
+/// without bytes, and one that begins with `#`, is skipped, and counted. Each message is delivered once it is written. `terminal` answers the oldest request
 /// of the adapter that the client keeps, which wants a terminal: it runs, without numbers of processes, or is refused. `run`
 /// lets the adapter handle all requests, then tells what happens until nothing does, the debuggee stops, or it was asked 65536
 /// times.

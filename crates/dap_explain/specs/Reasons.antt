@@ -16,6 +16,7 @@ use Rattle.dap_explain.specs.declared.reason.Reason.{Reason}
 use Rattle.dap_explain.specs.declared.reason.Reason.TheVariants.{Numbered, NotAsked, Answered, OtherCommand, Waits, NotInitialize, FirstWaits, NeverAsked, InitializeWaits, InitializeFailed, NotInitialized, NotOffered, Negative, NeverGiven, OtherKind, Gone, Ended}
 use Rattle.dap_explain.specs.declared.reason.ReferenceKind.{ReferenceKind}
 use Rattle.dap_explain.specs.declared.reason.ReferenceKind.TheVariants.{Frame, Variables}
+use Rattle.dap_check.specs.declared.rule.AnySeq.TheVariants.{OfNone}
 use Rattle.dap_check.specs.declared.rule.Rule.{Rule}
 use Rattle.dap_check.specs.declared.rule.Rule.TheVariants.{Seq, Answer, FirstRequest, Initialized, Gate as GateRule, Reference, Disconnect}
 use Rattle.dap_explain.specs.declared.trail.Opened.{Opened}
@@ -188,4 +189,4 @@ reason_of Disconnect earlier line = end_reason earlier line
 
 -- a line has a reason just where it breaks the rule
 abbrev pub BrokenRulesHaveReasons : Type 0
-BrokenRulesHaveReasons = (rule : Rule) (earlier : List Line) (line : Line) → is_some (reason_of rule earlier line) ≡ is_broken false rule earlier line
+BrokenRulesHaveReasons = (rule : Rule) (earlier : List Line) (line : Line) → is_some (reason_of rule earlier line) ≡ is_broken OfNone rule earlier line

@@ -259,7 +259,8 @@ source_holds d source e =
     with_ok (required_at as_str key.Name d) _ source (then_ok (element key.Sources d) _ source e) (λ name named e1.
     with_ok (optional_at as_str key.Path d) _ source e1 (λ path at e2.
     with_ok (required_at as_str key.Text d) _ source e2 (λ text is e3.
-    subst (λ x. is_counted x ≡ true) (ok_same (record { name = name; path = path; text = text; lines = line_count text }) source e3) (eq-eqb (line_count text) (line_count text) refl))))
+    with_ok (optional_or as_bool false key.OnDisk d) _ source e3 (λ on_disk on e4.
+    subst (λ x. is_counted x ≡ true) (ok_same (record { name = name; path = path; text = text; on_disk = on_disk; lines = line_count text }) source e4) (eq-eqb (line_count text) (line_count text) refl)))))
 
 sources_hold : (ds : Items) (found all : List RecordedSource) → each_source ds found ≡ Ok all → list_all is_counted found ≡ true → (list_all is_counted all ≡ true) × (length all ≡ length found + items_len ds)
 sources_hold no_items found all e p =

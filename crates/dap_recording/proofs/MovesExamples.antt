@@ -34,7 +34,7 @@ moments =
     ∷ []
 
 abbrev sources : List RecordedSource
-sources = record { name = codes "a.c"; path = Some (codes "/a.c"); text = codes "\n\n\n\n\n\n\n\n\n"; lines = 9 } ∷ []
+sources = record { name = codes "a.c"; path = Some (codes "/a.c"); text = codes "\n\n\n\n\n\n\n\n\n"; on_disk = false; lines = 9 } ∷ []
 
 abbrev move : List (OfSource ℕ) → How → ℕ → Move
 move set how i = move_of sources moments (lines_in set) how i
@@ -109,14 +109,14 @@ abbrev in_second : Moment
 in_second = record { threads = record { id = pos 1; name = codes "main"; frames = record { object = 0; name = codes "f"; source = 1; line = 4 } ∷ [] } ∷ []; thread = 0; output = []; waits = false; frames = record { from = 0; to = 0 }; holders = record { from = 0; to = 0 } }
 
 abbrev from_first : List (OfSource ℕ) → Move
-from_first set = move_of (record { name = codes "a"; path = Some (codes "/a.c"); text = codes "\n\n\n"; lines = 3 } ∷ record { name = codes "b"; path = Some (codes "/a.c"); text = codes "\n\n\n\n"; lines = 4 } ∷ []) (moment false (1 ∷ []) ∷ in_second ∷ []) (lines_in set) Continue 0
+from_first set = move_of (record { name = codes "a"; path = Some (codes "/a.c"); text = codes "\n\n\n"; on_disk = false; lines = 3 } ∷ record { name = codes "b"; path = Some (codes "/a.c"); text = codes "\n\n\n\n"; on_disk = false; lines = 4 } ∷ []) (moment false (1 ∷ []) ∷ in_second ∷ []) (lines_in set) Continue 0
 
 -- by their path both stop, by its number the second alone
 of_two_sources : (from_first (by_path (4 ∷ [])) ≡ to 1 Breakpoint) × (from_first (by_number 2 (4 ∷ [])) ≡ to 1 Breakpoint) × (from_first (by_number 1 (4 ∷ [])) ≡ to 2 Breakpoint)
 of_two_sources = (refl, refl, refl)
 
 abbrev unnamed : List (OfSource ℕ) → Move
-unnamed set = move_of (record { name = codes "a"; path = None; text = codes "\n"; lines = 1 } ∷ []) (moment false (1 ∷ []) ∷ moment false (1 ∷ []) ∷ []) (lines_in set) Continue 0
+unnamed set = move_of (record { name = codes "a"; path = None; text = codes "\n"; on_disk = false; lines = 1 } ∷ []) (moment false (1 ∷ []) ∷ moment false (1 ∷ []) ∷ []) (lines_in set) Continue 0
 
 without_a_path : (unnamed (by_number 1 (1 ∷ [])) ≡ to 1 Breakpoint) × (unnamed (by_path (1 ∷ [])) ≡ to 2 Breakpoint) × (unnamed (record { source = Path []; set = 1 ∷ [] } ∷ []) ≡ to 2 Breakpoint)
 without_a_path = (refl, refl, refl)

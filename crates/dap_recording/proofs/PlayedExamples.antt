@@ -143,7 +143,7 @@ told = told_can_be_asked at_first three_moments_is_recording tt
 asked_for_what_it_holds : ((shown_of at_first).frames (pos 1) ≡ Some (main_frame ∷ [])) × IsSome ((shown_of at_first).scopes main_frame.object) × IsSome ((shown_of at_first).children 1) × IsSome ((shown_of at_first).children 0)
 asked_for_what_it_holds = (refl, told.frames (pos 1) (main_frame ∷ []) 0 main_frame refl refl, told.scopes 0 (locals ∷ []) 0 locals refl refl, told.values (Some 0) (codes "p") (record { value = codes "P"; holder = Some 0 }) 0 refl refl)
 
-sources : ((shown_of fresh).sources ≡ record { name = codes "a.c"; path = Some (codes "/a.c") } ∷ []) × ((shown_of fresh).content 0 ≡ Some (codes "one\ntwo\nthree\n")) × ((shown_of fresh).content 1 ≡ None)
+sources : ((shown_of fresh).sources ≡ record { name = codes "a.c"; path = Some (codes "/a.c"); on_disk = false } ∷ []) × ((shown_of fresh).content 0 ≡ Some (codes "one\ntwo\nthree\n")) × ((shown_of fresh).content 1 ≡ None)
 sources = (refl, refl, refl)
 
 verified : ((shown_of fresh).verify (Path (codes "/a.c")) (3 ∷ 4 ∷ 0 ∷ 1 ∷ 4294967295 ∷ []) ≡ Some (true ∷ false ∷ false ∷ true ∷ false ∷ [])) × ((shown_of fresh).verify (Reference 1) (3 ∷ 4 ∷ []) ≡ Some (true ∷ false ∷ [])) × ((shown_of fresh).verify (Reference 2) (1 ∷ []) ≡ Some (false ∷ [])) × ((shown_of fresh).verify (Reference 0) (1 ∷ []) ≡ Some (false ∷ [])) × ((shown_of fresh).verify (Path (codes "a.c")) (1 ∷ []) ≡ Some (false ∷ [])) × ((shown_of fresh).verify (Reference 1) [] ≡ Some [])
@@ -247,7 +247,7 @@ kept_behind : with_variables 3 [] (record { holder = 2; variables = [] } ∷ [])
 kept_behind = refl
 
 abbrev named : ℕ → RecordedSource
-named lines = record { name = codes "a.c"; path = Some (codes "/a.c"); text = replicate lines 10; lines = lines }
+named lines = record { name = codes "a.c"; path = Some (codes "/a.c"); text = replicate lines 10; on_disk = false; lines = lines }
 
 abbrev one_path : Played
 one_path = fresh_played (record { exit = pos 0; sources = named 3 ∷ named 5 ∷ []; moments = three_moments.moments; scopes = []; variables = [] })

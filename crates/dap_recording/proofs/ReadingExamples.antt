@@ -1,5 +1,5 @@
 -- Worked examples of reading a recording, each shown by computation.
-use Rattle.std.proofs.Common.{◌≡◌, List, ℕ, [], ◌∷◌, codes, true, Some, None, Ok, Err, negsuc, refl}
+use Rattle.std.proofs.Common.{◌≡◌, List, ℕ, [], ◌∷◌, codes, true, false, Some, None, Ok, Err, negsuc, refl}
 use Rattle.serde_json.specs.Data.{Data, boolean, null, number, unsigned, negative, string, array, object, Items, no_items, item, Members, no_members, put}
 use Rattle.dap_recording.proofs.IsRead.{is_read}
 use Rattle.dap_recording.proofs.ThreeMoments.{three_moments}
@@ -100,9 +100,19 @@ no_exits = (refl, refl, refl, refl)
 abbrev source_with : Members → Data
 source_with ms = object (put (codes "name") (text (codes "b")) ms)
 
-path_may_be_absent : source_of (source_with (put (codes "text") (text (codes "x")) no_members)) ≡ Ok (record { name = codes "b"; path = None; text = codes "x"; lines = 1 })
+path_may_be_absent : source_of (source_with (put (codes "text") (text (codes "x")) no_members)) ≡ Ok (record { name = codes "b"; path = None; text = codes "x"; on_disk = false; lines = 1 })
 unfolding recording_of source_of moments_of moment_of thread_of frame_of scopes_of scope_of
 path_may_be_absent = refl
+
+-- a file that the client reads itself
+file_on_disk : source_of (source_with (put (codes "onDisk") (boolean true) (put (codes "path") (text (codes "/b")) (put (codes "text") (text (codes "x")) no_members)))) ≡ Ok (record { name = codes "b"; path = Some (codes "/b"); text = codes "x"; on_disk = true; lines = 1 })
+unfolding recording_of source_of moments_of moment_of thread_of frame_of scopes_of scope_of
+file_on_disk = refl
+
+-- it is read after the text, and null is bad there
+on_disk_comes_last : (source_of (source_with (put (codes "onDisk") null (put (codes "text") (text (codes "x")) no_members))) ≡ Err key.OnDisk) × (source_of (source_with (put (codes "onDisk") null no_members)) ≡ Err key.Text)
+unfolding recording_of source_of moments_of moment_of thread_of frame_of scopes_of scope_of
+on_disk_comes_last = (refl, refl)
 
 null_is_no_path : source_of (source_with (put (codes "path") null (put (codes "text") (text (codes "x")) no_members))) ≡ Err key.Path
 unfolding recording_of source_of moments_of moment_of thread_of frame_of scopes_of scope_of

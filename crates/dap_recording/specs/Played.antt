@@ -250,7 +250,7 @@ abbrev pub assigned_in : Played → ℕ → List ℕ → List ℕ → Option Ass
 assigned_in v holder name text = option_map (λ variable. record { value = text }) (option_and_then (variable_named name) (children_shown v holder))
 
 abbrev pub source_shown : RecordedSource → Source
-source_shown source = record { name = source.name; path = source.path }
+source_shown source = record { name = source.name; path = source.path; on_disk = source.on_disk }
 
 -- a source of the path has the line
 abbrev pub path_has_line : List ℕ → ℕ → RecordedSource → Bool

@@ -255,7 +255,8 @@ source_of d = do
   name ← required_at as_str key.Name d
   path ← optional_at as_str key.Path d
   text ← required_at as_str key.Text d
-  Ok (record { name = name; path = path; text = text; lines = line_count text })
+  on_disk ← optional_or as_bool false key.OnDisk d
+  Ok (record { name = name; path = path; text = text; on_disk = on_disk; lines = line_count text })
 
 abbrev pub each_source : Items → List RecordedSource → Read (List RecordedSource)
 each_source no_items found = Ok found

@@ -1,7 +1,7 @@
 -- The keys of a recording, by their names. The format is this profile's own.
 use Rattle.std.specs.Prelude.{List, ℕ, codes}
 use Rattle.dap_recording.specs.declared.reading.RecordingKey.{RecordingKey}
-use Rattle.dap_recording.specs.declared.reading.RecordingKey.TheVariants.{Exit, Sources, Name, Path, Text, Moments, Threads, Id, Frames, Source, Line, Scopes, Variables, Value, Thread, Output, Waits}
+use Rattle.dap_recording.specs.declared.reading.RecordingKey.TheVariants.{Exit, Sources, Name, Path, Text, OnDisk, Moments, Threads, Id, Frames, Source, Line, Scopes, Variables, Value, Thread, Output, Waits}
 
 abbrev pub name_of : RecordingKey → List ℕ
 name_of Exit = codes "exit"
@@ -9,6 +9,7 @@ name_of Sources = codes "sources"
 name_of Name = codes "name"
 name_of Path = codes "path"
 name_of Text = codes "text"
+name_of OnDisk = codes "onDisk"
 name_of Moments = codes "moments"
 name_of Threads = codes "threads"
 name_of Id = codes "id"

@@ -85,6 +85,7 @@ fn sources(alloc: Global, sources: &[RecordedSource]) -> Result<Vec<Source>, All
         shown.push(Source {
             name: source.name.clone()?,
             path: copied_path(&source.path)?,
+            on_disk: source.on_disk,
         })?;
     }
     Ok(shown)

@@ -10,6 +10,8 @@ pub(crate) struct RecordedSource {
     pub(crate) name: Text,
     pub(crate) path: Option<Text>,
     pub(crate) text: Text,
+    /// Whether a client reads the file at `path` itself.
+    pub(crate) on_disk: bool,
     /// How many lines the text has.
     pub(crate) lines: u64,
 }

@@ -370,11 +370,13 @@ fn source(alloc: Global, value: &Value) -> Result<RecordedSource, RecordingFault
     let name = reading::text(alloc, value, RecordingKey::Name)?;
     let path = reading::optional_text(alloc, value, RecordingKey::Path)?;
     let text = reading::text(alloc, value, RecordingKey::Text)?;
+    let on_disk = reading::flag(value, RecordingKey::OnDisk)?;
     let lines = line_count(text.as_str());
     Ok(RecordedSource {
         name,
         path,
         text,
+        on_disk,
         lines,
     })
 }

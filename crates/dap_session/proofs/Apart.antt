@@ -7,7 +7,7 @@ use Rattle.dap_session.specs.ReferenceLaws.{KeepsApart, IsStep, Runs, References
 use Rattle.dap_session.specs.Session.{Session}
 use Rattle.dap_session.proofs.Deliveries.{delivery-is}
 use Rattle.dap_session.proofs.Happenings.{poll-is}
-use Rattle.dap_session.proofs.Interned.{dead, interned-each, grown-names}
+use Rattle.dap_query.proofs.Interned.{dead}
 use Rattle.dap_session.proofs.Turns.{turn-is}
 
 step-apart : (s : Session) (made : Made) → IsStep s made → KeepsApart s made
@@ -34,7 +34,5 @@ references_are_apart = record {
   take = λ s m plan made e is. (delivery-is s m plan made e is).sound.moves.apart;
   turn = λ view s plan made e is. ((turn-is view s plan e).row.outcomes made is).sound.moves.apart;
   poll = λ s made is. (poll-is s made is).moves.apart;
-  named = λ limits objects refs given e. (interned-each limits objects refs given e).names;
-  kept = λ limits objects refs given e n t h. grown-names refs given.1 n t (interned-each limits objects refs given e).grows h;
   stays_dead = stays_dead;
 }

@@ -10,7 +10,7 @@ use Rattle.dap_session.specs.SessionState.{NamesNone, NamesOne}
 use Rattle.dap_session.specs.Session.{Session}
 use Rattle.dap_session.specs.Taking.{after_cancel}
 use Rattle.dap_session.proofs.Kept.{false-left, false-right, all-without, none-parked}
-use Rattle.dap_session.proofs.Interned.{is-eq}
+use Rattle.dap_query.proofs.Interned.{is-eq}
 
 pub and-false : (b : Bool) → (b && false) ≡ false
 and-false true = refl

@@ -32,7 +32,7 @@ use Rattle.dap_session.specs.Table.{is_phase}
 use Rattle.dap_session.specs.Taking.{after_answering_at_once, is_cancel, id_in, named_by, unnamed_by, after_cancel, after_cancel_call, after_cancel_request, after_keeping, after_taking, after_terminal, after_late_terminal, plan_of_terminal, plan_of_response, takes_as, takes}
 use Rattle.dap_session.proofs.Distinct.{AreDistinct, asks-distinct, asks-more}
 use Rattle.dap_session.proofs.Happenings.{no_change-sound}
-use Rattle.dap_session.proofs.Interned.{lt-of}
+use Rattle.dap_query.proofs.Interned.{lt-of}
 use Rattle.dap_session.proofs.Kept.{Walked, walked-none, walked-append, walked-each, walked-one, asks-append, distinct-more, distinct-filter, contains-filter, length-filtered}
 use Rattle.dap_session.proofs.Moves.{IsPlain, is-plain, moves-plain}
 use Rattle.dap_session.proofs.OwnRequests.{none-started}

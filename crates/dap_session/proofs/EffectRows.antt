@@ -13,23 +13,23 @@ use Rattle.dap_session.specs.StateLaws.{IsStateOf}
 use Rattle.dap_debuggee.specs.Shown.{Shown, to_start, to_resume, to_end, Reply, done, refused, happened}
 use Rattle.dap_session.specs.declared.effect.Effect.{Effect}
 use Rattle.dap_session.specs.declared.effect.Effect.TheVariants as effect
-use Rattle.dap_session.specs.Bodies.{query_result}
+use Rattle.dap_query.specs.Bodies.{query_result}
 use Rattle.dap_session.specs.Handling.{after_launch, after_parked_launch, after_disconnect, after_terminate, start_phase, thread_of, after_resume, after_query, by_reply, change_result, plan_for}
 use Rattle.dap_session.specs.Plan.{emit, at_once, after_answering}
-use Rattle.dap_session.specs.Session.{Session}
+use Rattle.dap_session.specs.Session.{Session, query_of}
 use Rattle.dap_session.specs.PrivateChanging.{Suits}
 use Rattle.dap_session.proofs.Fewer.{IsHandled}
 use Rattle.dap_session.proofs.OwnRequests.{asks_none, IsIn}
 use Rattle.dap_session.proofs.Outcomes.{after_answering-outcome, each-clean, IsRow, once-row, asking-row}
-use Rattle.dap_session.proofs.QueryResults.{query_result-well}
+use Rattle.dap_query.proofs.QueryResults.{each_answer_is_sound, each_query_is_answered_or_refused}
 use Rattle.dap_message.specs.MessageParts.{terminated}
 use Rattle.dap_tables.specs.declared.entry.Entry.{Entry}
-use Rattle.dap_session.specs.OrderLaws.{refuses_query, objects_told}
+use Rattle.dap_query.specs.Refused.{refuses_query, objects_named}
 use Rattle.dap_session.specs.Within.{IsWithin}
 use Rattle.dap_session.specs.declared.phase.Phase.{Phase}
 use Rattle.dap_session.specs.declared.phase.Phase.TheVariants.{Configured}
 use Rattle.dap_session.proofs.Rows.{IsNoSetVariable, after_initialize-outcome, after_park-outcome, after_asking-outcome, after_asking_parked-outcome, after_launch-outcome, after_configuration_done-outcome, after_parked_launch-outcome, after_disconnect-outcome, after_disconnect-clean, after_terminate-outcome, after_resume-outcome, after_resume-clean, change-row, change-stands, change-bare, change-keeps, after_query-row, one-clean, reply-clean, bare-by_reply}
-use Rattle.dap_session.proofs.ServedInOrder.{Fails, DoesWell, first_of, query-told, query-fails, change-fails, well-so, succeeds-first, succeeds-initialize, starts-so, starts-parked-so, asks-so, asks-parked-so, disconnects-so, resumes-so, pauses-so}
+use Rattle.dap_session.proofs.ServedInOrder.{Fails, DoesWell, first_of, query-fails, change-fails, well-so, succeeds-first, succeeds-initialize, starts-so, starts-parked-so, asks-so, asks-parked-so, disconnects-so, resumes-so, pauses-so}
 
 -- a query answers no command that sets something
 abbrev pub Answers : Effect → Entry → Type 0
@@ -42,9 +42,9 @@ pub record EffectRow (e : Effect) (view : Shown) (s : Session) (asked : Call) : 
   -- it fails with the first failure whose test holds, or asks and answers what the effect says
   pub order : (r : Entry) → IsWithin s → Fails (first_of view s r e asked) (plan_for e view s r asked) s r (DoesWell e s r asked (plan_for e view s r asked))
 
-query-order : (view : Shown) (s : Session) (r : Entry) (asked : Call) → IsWithin s → Fails (first_of view s r effect.Query asked) (at_once (after_query s r (query_result view s asked))) s r (DoesWell effect.Query s r asked (at_once (after_query s r (query_result view s asked))))
+query-order : (view : Shown) (s : Session) (r : Entry) (asked : Call) → IsWithin s → Fails (first_of view s r effect.Query asked) (at_once (after_query s r (query_result view (query_of s) asked))) s r (DoesWell effect.Query s r asked (at_once (after_query s r (query_result view (query_of s) asked))))
 query-order view s r asked w =
-    let q = query-fails s r (refuses_query view s asked) (objects_told view s asked) (query_result view s asked) (query-told view s asked) (record { references = w.references; numbers = w.numbers }) in
+    let q = query-fails s r (refuses_query view (query_of s) asked) (objects_named view (query_of s) asked) (query_result view (query_of s) asked) (each_query_is_answered_or_refused view (query_of s) asked) (record { references = w.references; numbers = w.numbers }) in
     record { some = q.some; none = λ e. record { asks = refl; answered = λ last. q.none e } }
 
 -- no own request waits in Configured
@@ -130,6 +130,6 @@ effect-row effect.Pause view s asked n p q = record {
   order = λ r w. well-so effect.Pause s r asked _ refl (λ last. pauses-so s r last);
 }
 effect-row effect.Query view s asked n p q = record {
-  outcome = λ k i o. after_query-row s k (query_result view s asked) (query_result-well view s asked) o i;
+  outcome = λ k i o. after_query-row s k (query_result view (query_of s) asked) (each_answer_is_sound view (query_of s) asked) o i;
   order = λ r w. query-order view s r asked w;
 }

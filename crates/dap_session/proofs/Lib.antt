@@ -1,13 +1,11 @@
 pub mod Steps
 pub mod Kept
 pub mod Rows
-pub mod QueryResults
 pub mod Going
 pub mod Outboxes
 pub mod Sessions
 pub mod Turning
 pub mod Unasked
-pub mod Interned
 pub mod Moves
 pub mod Outcomes
 pub mod ServedRows
@@ -24,7 +22,6 @@ pub mod Cancels
 pub mod TakingRequests
 pub mod Disconnects
 pub mod Fewer
-pub mod GivenNumbers
 pub mod ChangeResults
 pub mod Refusals
 pub mod Stale
@@ -34,7 +31,6 @@ pub mod Starts
 pub mod OwnRequests
 pub mod EffectRows
 pub mod OrderedAnswers
-pub mod ProtocolLists
 pub mod Offers
 pub mod GivenBodies
 pub mod Gives

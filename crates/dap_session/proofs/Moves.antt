@@ -9,8 +9,9 @@ use Rattle.dap_session.specs.Plan.{Made, references_end_if}
 use Rattle.dap_session.specs.ReferenceLaws.{KeepsApart}
 use Rattle.dap_session.specs.References.{references_after}
 use Rattle.dap_session.specs.Session.{Session}
-use Rattle.dap_session.specs.QueryResults.{Grows}
-use Rattle.dap_session.proofs.Interned.{AreFew, grown-names, live-at-most}
+use Rattle.dap_query.specs.QueryResults.{Grows}
+use Rattle.dap_query.specs.Laws.{AreFew}
+use Rattle.dap_query.proofs.Interned.{grown-names, live-at-most}
 
 -- so many breakpoints stand, and so many ids were given
 pub record StandFew (limits : Settings) (points : SetBreakpoints) : Type 0 where

@@ -12,7 +12,8 @@ use Rattle.dap_tables.specs.References.{LiveReferences}
 use Rattle.dap_tables.specs.declared.entry.Entry.{Entry}
 use Rattle.dap_debuggee.specs.Shown.{Act, Reply, done}
 use Rattle.dap_session.specs.Answering.{GoesWell}
-use Rattle.dap_session.specs.GivenLaws.{AreLive, given_by, answers_set_variable, AllGiveLive}
+use Rattle.dap_query.specs.References.{AreLive}
+use Rattle.dap_session.specs.GivenLaws.{given_by, answers_set_variable, AllGiveLive}
 use Rattle.dap_session.specs.Handling.{answer_each}
 use Rattle.dap_session.specs.Laws.{CanMake}
 use Rattle.dap_session.specs.Plan.{Answer, success, failure, plain_success, Draft, reply, emit, ask, requests_in, names_in, names_of, outs, Made, Plan, at_once, asking, after_answering, messages_due, entries_of, references_end_if}

@@ -21,23 +21,25 @@ use Rattle.dap_debuggee.specs.declared.answers.State.{State}
 use Rattle.dap_session.specs.StateLaws.{IsStateOf}
 use Rattle.dap_debuggee.specs.Shown.{Shown, Act, Reply, done, refused, happened}
 use Rattle.dap_debuggee.specs.declared.answers.How.{How}
-use Rattle.dap_session.specs.declared.options.Options.{Options}
-use Rattle.dap_session.specs.Bodies.{QueryAnswer, QueryResult, object_of}
+use Rattle.dap_query.specs.declared.options.Options.{Options}
+use Rattle.dap_query.specs.Bodies.{QueryAnswer, QueryResult}
+use Rattle.dap_query.specs.Laws.{IsSoundAnswer}
+use Rattle.dap_query.specs.Queries.{object_of}
+use Rattle.dap_query.specs.References.{AreLive}
 use Rattle.dap_session.specs.Breakpoints.{are_too_many}
 use Rattle.dap_session.specs.Failures.{command_of}
-use Rattle.dap_session.specs.GivenLaws.{AreLive, is_set_variable}
+use Rattle.dap_session.specs.GivenLaws.{is_set_variable}
 use Rattle.dap_session.specs.Handling.{lines_change, lines_result, after_initialize, after_park, after_asking, after_asking_parked, after_launch, after_configuration_done, after_parked_launch, after_disconnect, after_terminate, after_resume, resume_body, after_query, fits, by_reply, answer_each, lines_asked, Change, ChangeResult, change_asked, after_change, change_result}
 use Rattle.dap_session.specs.Plan.{Answer, success, failure, plain_success, reply, emit, ask, requests_in, Made, at_once, after_answering}
-use Rattle.dap_session.specs.Session.{Session, own_request}
+use Rattle.dap_session.specs.Session.{Session, own_request, query_of}
 use Rattle.dap_session.proofs.ChangeResults.{lines-due, value-due}
 use Rattle.dap_session.proofs.Fewer.{IsHandled, fewer-handled, fewer-park, fewer-unparked, fewer-none}
-use Rattle.dap_session.proofs.Interned.{le-not}
+use Rattle.dap_query.proofs.Interned.{le-not}
 use Rattle.dap_session.proofs.Kept.{Walked, walked-none, walked-event, walked-ask, walked-append, walked-each, walked-kept, walked-one, rejected, IsKept, distinct-without, apart, eqb-self, false-left, false-right}
 use Rattle.dap_session.proofs.Moves.{StandFew, moves-grown, moves-set, moves-plain, is-plain}
 use Rattle.dap_session.proofs.OwnRequests.{asks_none, none-in, none-started}
 use Rattle.dap_session.proofs.GivenBodies.{offers-none, bare-resume, lines-bare, value-bare}
 use Rattle.dap_session.proofs.Outcomes.{IsBare, bare-failure, bare-success, IsOutcome, outcome, asks-nothing, AsksWell, each-asks-none, append-asks-none, references-plain, replied, plain-reply, plain-outcome, after_answering-outcome, each-bare, append-bare, is_refused, AreClean, each-clean, append-clean, IsRow, once-row, failed-row, asking-row, either-row}
-use Rattle.dap_session.proofs.QueryResults.{TellsWell}
 
 -- ---- forms
 
@@ -260,15 +262,15 @@ change-bare view s _ c e = absurd (cc e)
 abbrev pub IsNoSetVariable : Entry → Type 0
 IsNoSetVariable r = is_set_variable (command_of r) ≡ true → ⊥
 
-after_query-once : (s : Session) (k : Kept) (t : QueryAnswer) → TellsWell s t → IsNoSetVariable k.entry → IsHandled s k
+after_query-once : (s : Session) (k : Kept) (t : QueryAnswer) → IsSoundAnswer (query_of s) t → IsNoSetVariable k.entry → IsHandled s k
     → IsOutcome s 1 (record { drafts = reply k.entry (success t.body t.names) ∷ []; drops = false; after = record s { kept = without k.entry.seq s.kept; references = t.references; used = s.used + 1 } })
 after_query-once s k t w o i = replied s k (success t.body t.names) _ i (moves-grown s _ refl w.grows w.few refl refl) w.references refl refl refl refl (λ suits. suits) (w.gives (command_of k.entry)) (λ setter. absurd (o setter))
 
-after_query-if : (b : Bool) (s : Session) (k : Kept) (t : QueryAnswer) → TellsWell s t → IsNoSetVariable k.entry → IsHandled s k
+after_query-if : (b : Bool) (s : Session) (k : Kept) (t : QueryAnswer) → IsSoundAnswer (query_of s) t → IsNoSetVariable k.entry → IsHandled s k
     → IsRow s (at_once (if b then record { drafts = reply k.entry (success t.body t.names) ∷ []; drops = false; after = record s { kept = without k.entry.seq s.kept; references = t.references; used = s.used + 1 } } else after_answering k.entry (failure TooLarge) s))
 after_query-if true s k t w o i = once-row s 1 _ (after_query-once s k t w o i) refl (λ first before h. h)
 after_query-if false s k t w o i = failed-row s k TooLarge i
 
-pub after_query-row : (s : Session) (k : Kept) (given : QueryResult) → ((t : QueryAnswer) → given ≡ Ok t → TellsWell s t) → IsNoSetVariable k.entry → IsHandled s k → IsRow s (at_once (after_query s k.entry given))
+pub after_query-row : (s : Session) (k : Kept) (given : QueryResult) → ((t : QueryAnswer) → given ≡ Ok t → IsSoundAnswer (query_of s) t) → IsNoSetVariable k.entry → IsHandled s k → IsRow s (at_once (after_query s k.entry given))
 after_query-row s k (Err f) w o i = failed-row s k f i
 after_query-row s k (Ok t) w o i = after_query-if (fits s k.entry t.body) s k t (w t refl) o i

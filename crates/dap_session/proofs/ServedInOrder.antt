@@ -24,15 +24,17 @@ use Rattle.dap_session.specs.declared.effect.Effect.{Effect}
 use Rattle.dap_session.specs.declared.effect.Effect.TheVariants as effect
 use Rattle.dap_session.specs.declared.phase.Phase.{Phase}
 use Rattle.dap_session.specs.declared.phase.Phase.TheVariants.{Configured}
-use Rattle.dap_session.specs.Bodies.{QueryAnswer, QueryResult, query_result, result_without_references, unless_refused, protocol_thread, protocol_sources, frame_objects, scope_objects, variable_objects, value_objects, scopes_result, evaluate_result, window, page, object_of}
+use Rattle.dap_query.specs.Bodies.{QueryAnswer, QueryResult}
+use Rattle.dap_query.specs.Laws.{AreFew, IsAnsweredOrRefused, is_refused, is_answered}
+use Rattle.dap_query.specs.Queries.{object_of}
 use Rattle.dap_session.specs.Breakpoints.{are_too_many}
 use Rattle.dap_session.specs.Handling.{after_query, after_initialize, after_asking, after_asking_parked, after_launch, after_parked_launch, after_resume, after_disconnect, by_reply, answer_each, fits, lines_asked, Change, ChangeResult, change_asked, after_change, change_result, lines_change, lines_result, value_change, assigned_result, value_result}
-use Rattle.dap_session.specs.OrderLaws.{refuses, refuses_query, sets_too_many, objects_in, objects_told, live_with, is_past_room, is_past_numbers, names_too_many, exhausts_numbers, is_too_large, is_long_answer, is_long_change, act_in, act_of, answer_to, comes_to, IsSuccess, IsByReply, IsDoneOrRefused, ParksAndAsks, AnswersAndAsks, IsAnswered}
+use Rattle.dap_session.specs.OrderLaws.{refuses, sets_too_many, live_with, is_past_room, is_past_numbers, names_too_many, exhausts_numbers, is_too_large, is_long_answer, is_long_change, act_in, act_of, answer_to, comes_to, IsSuccess, IsByReply, IsDoneOrRefused, ParksAndAsks, AnswersAndAsks, IsAnswered}
 use Rattle.dap_session.specs.Plan.{Answer, Draft, reply, ask, failure, plain_success, Made, Plan, at_once, after_answering}
 use Rattle.dap_session.specs.PrivateChanging.{IsChange}
-use Rattle.dap_session.specs.References.{intern_each, and_then, onto_first, targets_named, with_target, with_targets}
-use Rattle.dap_session.specs.Session.{Session, own_request}
-use Rattle.dap_session.proofs.Interned.{AreFew, interned-each, is-lt, no-lt, lt-of}
+use Rattle.dap_query.specs.References.{intern_each, and_then, onto_first, targets_named, with_target, with_targets}
+use Rattle.dap_session.specs.Session.{Session, own_request, query_of}
+use Rattle.dap_query.proofs.Interned.{interned-each, is-lt, no-lt, lt-of}
 use Rattle.dap_session.proofs.Fewer.{middle-contained}
 use Rattle.dap_session.proofs.Kept.{eqb-self, false-left, false-right, same-seq, contains-append, contains-filter}
 use Rattle.dap_session.proofs.Cancels.{and-false}
@@ -116,35 +118,6 @@ each-fails limits [] f refs e few = cc
 each-fails limits (None ∷ ts) f refs e few = each-fails limits ts f refs (onto-fails 0 (intern_each limits ts refs) f e) few
 each-fails limits (Some t ∷ ts) f refs e few = at-place-fails (place_of t refs.live) limits t ts refs f refl few (λ more is fits. each-fails limits ts f more is fits) e
 
--- ---- what a query is told
-
--- what the debuggee refuses, or a body with numbers for these objects
-pub data Told (s : Session) : Bool → List (Option Target) → QueryResult → Type 0 where
-  is_refused : (objects : List (Option Target)) → Told s true objects (Err Debuggee)
-  is_told : (objects : List (Option Target)) (tell : List ℕ × LiveReferences → QueryAnswer) → Told s false objects (and_then (intern_each s.limits objects s.references) (λ given. Ok (tell given)))
-
-if-told : {A : Type 0} (s : Session) (o : Option A) (of : A → List (Option Target)) (tell : A → QueryResult) → ((x : A) → Told s false (of x) (tell x)) → Told s (is_none o) (objects_in of o) (unless_refused o tell)
-if-told s (Some x) of tell k = k x
-if-told s None of tell k = is_refused []
-
-without-told : (s : Session) (body : Option Data) → Told s false [] (result_without_references s body)
-without-told s body = is_told [] (λ given. record { body = body; names = []; references = given.1 })
-
-content-told : (s : Session) (o : Option (List ℕ)) → Told s (is_none o) [] (unless_refused o (λ text. result_without_references s (Some (source_body text))))
-content-told s (Some text) = without-told s (Some (source_body text))
-content-told s None = is_refused []
-
-pub query-told : (view : Shown) (s : Session) (asked : Call) → Told s (refuses_query view s asked) (objects_told view s asked) (query_result view s asked)
-unfolding query_result
-query-told view s (call.StackTrace asked) = if-told s (view.frames asked.thread_id) (λ frames. frame_objects (window asked.start_frame asked.levels frames)) _ (λ frames. is_told _ _)
-query-told view s (call.Scopes number) = if-told s (option_and_then view.scopes (object_of s.references number)) scope_objects (scopes_result s) (λ scopes. is_told _ _)
-query-told view s (call.Variables asked) = if-told s (option_and_then view.children (object_of s.references asked.variables_reference)) (λ variables. variable_objects (page s.options asked.start asked.count variables)) _ (λ variables. is_told _ _)
-query-told view s (call.Evaluate asked) = if-told s (view.evaluate (option_and_then (object_of s.references) asked.frame_id) asked.expression) value_objects (evaluate_result s) (λ value. is_told _ _)
-query-told view s (call.Source number) = content-told s (view.content (number - 1))
-query-told view s call.Threads = without-told s (Some (threads_body (map protocol_thread view.threads)))
-query-told view s call.LoadedSources = without-told s (Some (loaded_sources_body (protocol_sources view.sources)))
-query-told view s _ = without-told s None
-
 -- ---- the tests of a request that is served, in their order
 
 abbrev pub served_first : Bool → Bool → Bool → Bool → Bool → Option Failure
@@ -220,10 +193,11 @@ told-fails s r objects tell (Ok g) is few =
     rw (fit.0, fit.1) (size-fails (fits s r (tell g).body) _ s r _ (size-succeeds s r (tell g)))
 told-fails s r objects tell (Err f) is few = failed-so s r f (live_with s objects) _ (each-fails s.limits objects f s.references is few)
 
-pub query-fails : (s : Session) (r : Entry) (refused : Bool) (objects : List (Option Target)) (q : QueryResult) → Told s refused objects q → AreFew s.limits s.references
-    → Fails (served_first refused false (is_past_room s (live_with s objects)) (is_past_numbers s (live_with s objects)) (is_long_answer s r q)) (at_once (after_query s r q)) s r (IsSuccess (answer_to r.seq (after_query s r q).drafts))
+pub query-fails : (s : Session) (r : Entry) (refused : Bool) (objects : List (Option Target)) (due : QueryResult) → IsAnsweredOrRefused (query_of s) refused objects due → AreFew s.limits s.references
+    → Fails (served_first refused false (is_past_room s (live_with s objects)) (is_past_numbers s (live_with s objects)) (is_long_answer s r due)) (at_once (after_query s r due)) s r (IsSuccess (answer_to r.seq (after_query s r due).drafts))
 query-fails s r _ objects _ (is_refused _) few = fails-so Debuggee s r _
-query-fails s r _ objects _ (is_told _ tell) few = told-fails s r objects tell (intern_each s.limits objects s.references) refl few
+query-fails s r _ objects _ (is_answered _ body live) few =
+    told-fails s r objects (λ given. record { body = body given.0; names = targets_named objects; references = given.1 }) (intern_each s.limits objects s.references) refl few
 
 -- a change
 

@@ -6,7 +6,8 @@ use Rattle.dap_message.specs.Types.Command.TheVariants as command
 use Rattle.dap_message.specs.declared.message.Message.{Message}
 use Rattle.dap_debuggee.specs.Shown.{Shown}
 use Rattle.dap_tables.specs.Given.{references_given_in}
-use Rattle.dap_tables.specs.References.{LiveReferences, target_of, is_of_kind}
+use Rattle.dap_query.specs.References.{AreLive}
+use Rattle.dap_tables.specs.References.{LiveReferences}
 use Rattle.dap_tables.specs.declared.reference_kind.ReferenceKind.{ReferenceKind}
 use Rattle.dap_session.specs.Failures.{command_of}
 use Rattle.dap_session.specs.Handling.{turns}
@@ -15,11 +16,6 @@ use Rattle.dap_session.specs.Plan.{success, failure, Draft, reply, emit, ask, Ma
 use Rattle.dap_session.specs.Polling.{polls}
 use Rattle.dap_session.specs.Session.{Session}
 use Rattle.dap_session.specs.Taking.{takes}
-
--- each names something of its kind
-abbrev pub AreLive : LiveReferences → List (ReferenceKind × ℕ) → Type 0
-AreLive refs [] = Unit {0}
-AreLive refs (p ∷ ps) = (is_of_kind p.0 (target_of refs p.1) ≡ true) × AreLive refs ps
 
 -- as a client reads what is written: a success by the body and the request's command
 abbrev pub given_by : Draft → List (ReferenceKind × ℕ)

@@ -29,15 +29,16 @@ use Rattle.dap_session.specs.declared.phase.Phase.{Phase}
 use Rattle.dap_session.specs.declared.phase.Phase.TheVariants.{Ready, Configured, Parked, Asked, Running, Exited, Ended}
 use Rattle.dap_session.specs.declared.effect.Effect.{Effect}
 use Rattle.dap_session.specs.declared.effect.Effect.TheVariants as effect
-use Rattle.dap_session.specs.declared.options.Options.{Options}
+use Rattle.dap_query.specs.declared.options.Options.{Options}
 use Rattle.dap_session.specs.declared.fault.AdapterFault.{AdapterFault}
-use Rattle.dap_session.specs.Bodies.{QueryResult, query_result, object_of}
+use Rattle.dap_query.specs.Bodies.{QueryResult, query_result}
+use Rattle.dap_query.specs.Queries.{object_of, usual_options}
 use Rattle.dap_session.specs.Breakpoints.{are_too_many}
 use Rattle.dap_tables.specs.Breakpoints.{SetBreakpoints, breakpoints_with}
 use Rattle.dap_session.specs.Failures.{command_of, call_in, refusal, thread_named}
 use Rattle.dap_session.specs.Plan.{Answer, success, failure, plain_success, Draft, reply, emit, ask, Made, Plan, at_once, asking, no_change, after_answering, plan_within_numbers}
 use Rattle.dap_tables.specs.References.{without_references}
-use Rattle.dap_session.specs.Session.{Session, usual_options, oldest}
+use Rattle.dap_session.specs.Session.{Session, oldest, query_of}
 use Rattle.dap_tables.specs.Outstanding.{parked_ones, unparked_ones}
 use Rattle.dap_session.specs.Table.{effect_in}
 
@@ -287,7 +288,7 @@ plan_for effect.Terminate view s r asked = asking to_end (λ last. after_termina
 plan_for effect.Change view s r asked = after_change s r (change_result view s asked)
 plan_for (effect.Resume h) view s r asked = asking (to_resume h (thread_of asked)) (after_resume h s r)
 plan_for effect.Pause view s r asked = asking to_pause (λ last. after_answering r (by_reply None last) s)
-plan_for effect.Query view s r asked = at_once (after_query s r (query_result view s asked))
+plan_for effect.Query view s r asked = at_once (after_query s r (query_result view (query_of s) asked))
 
 -- ---- a request, and a turn
 

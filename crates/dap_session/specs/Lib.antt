@@ -6,7 +6,6 @@ pub mod Failures
 pub mod Plan
 pub mod InRange
 pub mod Carried
-pub mod Bodies
 pub mod Handling
 pub mod Taking
 pub mod Polling
@@ -18,7 +17,7 @@ pub mod Answering
 pub mod PrivateOutbox
 pub mod SessionState
 pub mod PrivateSeveral
-pub mod QueryResults
+pub mod PrivateQuerying
 pub mod PrivateChanging
 pub mod RefusalLaws
 pub mod StaleLaws

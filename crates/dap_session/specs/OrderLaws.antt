@@ -18,13 +18,15 @@ use Rattle.dap_session.specs.declared.effect.Effect.{Effect}
 use Rattle.dap_session.specs.declared.effect.Effect.TheVariants as effect
 use Rattle.dap_session.specs.declared.phase.Phase.{Phase}
 use Rattle.dap_session.specs.declared.phase.Phase.TheVariants.{Fresh, Asked}
-use Rattle.dap_session.specs.Bodies.{QueryResult, query_result, object_of, window, page, frame_objects, scope_objects, variable_objects, value_objects}
+use Rattle.dap_query.specs.Bodies.{QueryResult, query_result}
+use Rattle.dap_query.specs.Queries.{object_of}
+use Rattle.dap_query.specs.References.{targets_named, with_targets}
+use Rattle.dap_query.specs.Refused.{refuses_query, objects_named}
 use Rattle.dap_session.specs.Breakpoints.{are_too_many}
 use Rattle.dap_session.specs.Failures.{command_of, call_in, of_known, is_early, is_initialize, waits_for_stop, lacks_thread, thread_named, lacks_reference, reference_named, lacks_source, source_named, refusal}
 use Rattle.dap_session.specs.Handling.{ChangeResult, change_result, plan, fits, lines_asked, thread_of, after_park, effect_of}
 use Rattle.dap_session.specs.Plan.{Answer, success, failure, Draft, reply, emit, ask, Made, Plan, at_once, asking, after_answering, requests_in}
-use Rattle.dap_session.specs.References.{targets_named, with_targets}
-use Rattle.dap_session.specs.Session.{Session, own_request}
+use Rattle.dap_session.specs.Session.{Session, own_request, query_of}
 use Rattle.dap_session.specs.Table.{effect_in, is_phase, is_served, is_never_served}
 use Rattle.dap_session.specs.Within.{IsWithin}
 
@@ -74,17 +76,8 @@ abbrev pub of_served : (Effect → Call → Bool) → Session → Entry → Opti
 of_served test s r None = false
 of_served test s r (Some c) = of_effect test (effect_in c s.phase) (call_in r c)
 
--- the debuggee does not tell what is asked, where what is named is there
-abbrev pub refuses_query : Shown → Session → Call → Bool
-refuses_query view s (call.StackTrace asked) = is_none (view.frames asked.thread_id)
-refuses_query view s (call.Scopes number) = is_none (option_and_then view.scopes (object_of s.references number))
-refuses_query view s (call.Variables asked) = is_none (option_and_then view.children (object_of s.references asked.variables_reference))
-refuses_query view s (call.Evaluate asked) = is_none (view.evaluate (option_and_then (object_of s.references) asked.frame_id) asked.expression)
-refuses_query view s (call.Source number) = is_none (view.content (number - 1))
-refuses_query view s _ = false
-
 abbrev pub refuses : Shown → Session → Effect → Call → Bool
-refuses view s effect.Query asked = refuses_query view s asked
+refuses view s effect.Query asked = refuses_query view (query_of s) asked
 refuses view s effect.Change (call.SetBreakpoints key lines) = is_none (view.verify key (lines_asked s.options lines))
 refuses view s effect.Change (call.SetVariable asked) = is_none (option_and_then (λ holder. view.assigned holder asked.name asked.value) (object_of s.references asked.variables_reference))
 refuses view s _ asked = false
@@ -92,18 +85,6 @@ refuses view s _ asked = false
 abbrev pub sets_too_many : Session → Effect → Call → Bool
 sets_too_many s effect.Change (call.SetBreakpoints key lines) = are_too_many s.limits key lines s.breakpoints
 sets_too_many s _ asked = false
-
--- the objects that the answer names, in order
-abbrev pub objects_in : {A : Type 0} → (A → List (Option Target)) → Option A → List (Option Target)
-objects_in of None = []
-objects_in of (Some x) = of x
-
-abbrev pub objects_told : Shown → Session → Call → List (Option Target)
-objects_told view s (call.StackTrace asked) = objects_in (λ frames. frame_objects (window asked.start_frame asked.levels frames)) (view.frames asked.thread_id)
-objects_told view s (call.Scopes number) = objects_in scope_objects (option_and_then view.scopes (object_of s.references number))
-objects_told view s (call.Variables asked) = objects_in (λ variables. variable_objects (page s.options asked.start asked.count variables)) (option_and_then view.children (object_of s.references asked.variables_reference))
-objects_told view s (call.Evaluate asked) = objects_in value_objects (view.evaluate (option_and_then (object_of s.references) asked.frame_id) asked.expression)
-objects_told view s _ = []
 
 -- so many references are live once each of them has a number
 abbrev pub live_with : Session → List (Option Target) → ℕ
@@ -118,11 +99,11 @@ abbrev pub is_past_numbers : Session → ℕ → Bool
 is_past_numbers s n = nat_lt s.limits.reference (s.references.base + n)
 
 abbrev pub names_too_many : Shown → Session → Effect → Call → Bool
-names_too_many view s effect.Query asked = is_past_room s (live_with s (objects_told view s asked))
+names_too_many view s effect.Query asked = is_past_room s (live_with s (objects_named view (query_of s) asked))
 names_too_many view s _ asked = false
 
 abbrev pub exhausts_numbers : Shown → Session → Effect → Call → Bool
-exhausts_numbers view s effect.Query asked = is_past_numbers s (live_with s (objects_told view s asked))
+exhausts_numbers view s effect.Query asked = is_past_numbers s (live_with s (objects_named view (query_of s) asked))
 exhausts_numbers view s _ asked = false
 
 -- the answer, where there is one, is longer than a body may be
@@ -135,7 +116,7 @@ is_long_change s r (Ok c) = not (fits s r c.body)
 is_long_change s r (Err f) = false
 
 abbrev pub is_too_large : Shown → Session → Entry → Effect → Call → Bool
-is_too_large view s r effect.Query asked = is_long_answer s r (query_result view s asked)
+is_too_large view s r effect.Query asked = is_long_answer s r (query_result view (query_of s) asked)
 is_too_large view s r effect.Change asked = is_long_change s r (change_result view s asked)
 is_too_large view s r _ asked = false
 

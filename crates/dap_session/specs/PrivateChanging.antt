@@ -13,11 +13,11 @@ use Rattle.dap_session.specs.declared.decision.Decision.TheVariants.{Refuses, Se
 use Rattle.dap_session.specs.declared.effect.Effect.{Effect}
 use Rattle.dap_session.specs.declared.effect.Effect.TheVariants as effect
 use Rattle.dap_session.specs.declared.outbox.Outbox.{Outbox}
-use Rattle.dap_session.specs.declared.no_answer.NoAnswer.{NoAnswer}
-use Rattle.dap_session.specs.declared.no_answer.NoAnswer.TheVariants.{Fails, OutOfMemory}
+use Rattle.dap_query.specs.declared.no_answer.NoAnswer.{NoAnswer}
+use Rattle.dap_query.specs.declared.no_answer.NoAnswer.TheVariants.{Fails, OutOfMemory}
 use Rattle.dap_session.specs.Handling.{Change, ChangeResult, fits}
 use Rattle.dap_session.specs.Plan.{Plan, at_once, after_answering, failure, success, reply}
-use Rattle.dap_session.specs.QueryResults.{Says}
+use Rattle.dap_query.specs.QueryResults.{Says}
 use Rattle.dap_session.specs.Session.{Session}
 use Rattle.dap_session.specs.PrivateOutbox.{Holds}
 

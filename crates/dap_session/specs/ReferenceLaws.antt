@@ -1,4 +1,4 @@
--- References that live at different times stay apart, and the numbers of an answer name its objects.
+-- References that live at different times stay apart.
 -- Overview, "Lifetime of Objects References".
 use Rattle.std.specs.Prelude.{◌≡◌, ◌⊎◌, ℕ, ◌≤◌, List, [], ◌∷◌, true, false, Option, Some, None, Ok}
 use Rattle.std.specs.List.{AllZip}
@@ -10,15 +10,9 @@ use Rattle.dap_session.specs.Handling.{turns}
 use Rattle.dap_session.specs.Laws.{CanMake}
 use Rattle.dap_session.specs.Plan.{Made, Plan}
 use Rattle.dap_session.specs.Polling.{polls}
-use Rattle.dap_session.specs.References.{intern_each}
 use Rattle.dap_tables.specs.References.{LiveReferences, target_of}
 use Rattle.dap_session.specs.Session.{Session}
 use Rattle.dap_session.specs.Taking.{takes}
-
--- the number of an object is a live reference to it, and 0 where there is no object
-abbrev pub IsNumberOf : LiveReferences → Option Target → ℕ → Type 0
-IsNumberOf refs None n = n ≡ 0
-IsNumberOf refs (Some t) n = target_of refs n ≡ Some t
 
 -- a step keeps the references before it and after it apart
 pub record KeepsApart (s : Session) (made : Made) : Type 0 where
@@ -59,10 +53,5 @@ pub record ReferencesAreApart : Type 0 where
   pub take : (s : Session) (m : Message) (plan : Plan) (made : Made) → takes m s ≡ Ok plan → CanMake plan made → KeepsApart s made
   pub turn : (view : Shown) (s : Session) (plan : Plan) (made : Made) → turns view s ≡ Ok (Some plan) → CanMake plan made → KeepsApart s made
   pub poll : (s : Session) (made : Made) → CanMake (polls s) made → KeepsApart s made
-  -- the numbers that an answer's objects are given name them, each in its place
-  pub named : (limits : Settings) (objects : List (Option Target)) (refs : LiveReferences) (given : List ℕ × LiveReferences) → intern_each limits objects refs ≡ Ok given → AllZip (IsNumberOf given.1) objects given.0
-  -- and a number that named something before names it still
-  pub kept : (limits : Settings) (objects : List (Option Target)) (refs : LiveReferences) (given : List ℕ × LiveReferences) → intern_each limits objects refs ≡ Ok given
-      → (n : ℕ) (t : Target) → target_of refs n ≡ Some t → target_of given.1 n ≡ Some t
   -- a number that was live before all died names nothing ever after, whatever steps come
   pub stays_dead : (s new : Session) (made : Made) (later : List Made) (n : ℕ) (t : Target) → IsStep s made → made.drops ≡ true → target_of s.references n ≡ Some t → Runs later made.after new → target_of new.references n ≡ None

@@ -7,7 +7,8 @@ use Rattle.dap_message.specs.Types.TerminalCall.{TerminalCall}
 use Rattle.dap_tables.specs.Outstanding.{Kept, unparked_ones, HasDistinctSeqs}
 use Rattle.dap_session.specs.declared.phase.Phase.{Phase}
 use Rattle.dap_session.specs.declared.phase.Phase.TheVariants.{Fresh, Asked as AskedPhase, Ended}
-use Rattle.dap_session.specs.declared.options.Options.{Options}
+use Rattle.dap_query.specs.Queries.{QueryState, usual_options}
+use Rattle.dap_query.specs.declared.options.Options.{Options}
 use Rattle.dap_tables.specs.References.{LiveReferences, no_references}
 use Rattle.dap_tables.specs.Breakpoints.{SetBreakpoints, no_breakpoints}
 
@@ -24,10 +25,6 @@ pub record Session : Type 0 where
   -- own sequence numbers that were given
   pub used : ℕ
 
--- what holds before `initialize` said anything else
-abbrev pub usual_options : Options
-usual_options = record { lines_start_at_1 = true; columns_start_at_1 = true; supports_variable_paging = false; supports_run_in_terminal_request = false }
-
 abbrev pub fresh_session : Settings → Session
 fresh_session limits = record {
   limits = limits;
@@ -39,6 +36,10 @@ fresh_session limits = record {
   asked = None;
   used = 0;
 }
+
+-- what its answers to queries are made with
+abbrev pub query_of : Session → QueryState
+query_of s = record { limits = s.limits; options = s.options; references = s.references }
 
 -- ---- kept requests
 

@@ -2,7 +2,6 @@
 use Rattle.std.specs.Prelude.{◌≡◌, ℕ, ◌+◌, ◌≤◌, ◌<◌, ⊤, List, [], ◌∷◌, length, Bool, true, false, Option, Some, None, Result, Ok, Err}
 use Rattle.dap_frame.specs.Settings.{Settings}
 use Rattle.dap_tables.specs.Outstanding.{Kept, KeptRequests, IsOrderlyRequests, without}
-use Rattle.dap_tables.specs.References.{ReferenceTable}
 use Rattle.dap_tables.specs.Breakpoints.{BreakpointTable}
 use Rattle.dap_tables.specs.Seq.{Numbers}
 use Rattle.dap_tables.specs.declared.entry.Entry.{Entry}
@@ -29,17 +28,11 @@ pub record SessionStep {D : Type 0} (follows : Goes D) (plan : Plan) (old new : 
   pub carried : CarriedOut follows plan old.debuggee made new.debuggee
   pub after : new.session ≡ made.after
 
--- the tables of references and of breakpoints have the limits' room
-pub record HaveRooms (limits : Settings) (references : ReferenceTable) (breakpoints : BreakpointTable) : Type 0 where
-  pub live : references.room ≡ limits.references
-  pub greatest : references.greatest ≡ limits.reference
-  pub set : breakpoints.room ≡ limits.breakpoints
-
--- what holds of every session
-pub record IsSession (limits : Settings) (table : KeptRequests) (references : ReferenceTable) (breakpoints : BreakpointTable) (numbers : Numbers) : Type 0 where
+-- what holds of every session: its tables have the limits' room
+pub record IsSession (limits : Settings) (table : KeptRequests) (breakpoints : BreakpointTable) (numbers : Numbers) : Type 0 where
   pub room : table.room ≡ limits.requests
   pub orderly : IsOrderlyRequests table
-  pub others : HaveRooms limits references breakpoints
+  pub set : breakpoints.room ≡ limits.breakpoints
   pub last : numbers.last ≡ limits.seq
   pub used : numbers.used ≤ numbers.last
 

@@ -19,7 +19,6 @@ ghost use Rattle.dap_session.specs.Taking.{after_terminal, plan_of_response, pla
 use crate::effect::Effect;
 use crate::effects::start_phase;
 use crate::fault::AdapterFault;
-use crate::options::Options;
 use crate::outbox::{Answer, Outbox};
 use crate::phase::Phase;
 use crate::session::Session;
@@ -28,6 +27,7 @@ use crate::starting::start_failure;
 use dap_debuggee::Debuggee;
 use dap_json::field;
 use dap_message::{Command, RUN_IN_TERMINAL, Text, Tree};
+use dap_query::Options;
 use dap_tables::{Entry, InOrder, Outstanding};
 use std::alloc::{AllocError, Global};
 
@@ -96,7 +96,7 @@ impl<D: Debuggee + Drop> Session<D> {
     fn parked_wants_terminal(&self) -> bool
         ensures { result ≡ parked_wants_terminal self.now.session.options self.now.session.kept }
     {
-        are_wanting(&self.kept, self.kept.in_order(), self.options)
+        are_wanting(&self.kept, self.kept.in_order(), self.options())
     }
 
     /// What the table says, unless a terminal is asked for first.
@@ -105,7 +105,7 @@ impl<D: Debuggee + Drop> Session<D> {
     {
         match effect {
             Effect::Start => {
-                if wants_terminal(self.options, request) {
+                if wants_terminal(self.options(), request) {
                     Effect::Ask
                 } else {
                     Effect::Start

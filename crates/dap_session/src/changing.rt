@@ -5,7 +5,7 @@ ghost use Rattle.std.specs.Prelude.{◌≡◌, ◌+◌, ◌≤◌, map, length, 
 ghost use Rattle.dap_message.specs.Types.Call.{Call};
 ghost use Rattle.dap_tables.specs.Breakpoints.{max_id, breakpoints_with};
 ghost use Rattle.dap_debuggee.specs.Shown.{to_set_breakpoints, to_assign, done};
-ghost use Rattle.dap_session.specs.Bodies.{object_of};
+ghost use Rattle.dap_query.specs.Queries.{object_of};
 ghost use Rattle.dap_session.specs.Breakpoints.{are_too_many};
 ghost use Rattle.dap_session.specs.Handling.{after_change, answers_to, change_result, lines_asked, lines_result, value_result};
 ghost use Rattle.dap_session.specs.Plan.{messages_due};
@@ -13,11 +13,11 @@ ghost use Rattle.dap_session.specs.SessionState.{Carries, IsRefusedFor, IsUnaske
 ghost use Rattle.dap_session.specs.PrivateChanging.{AreLines, CanChange, IsChange, IsChangeBody, IsMeasured, IsToFail, Changes, lines_given};
 
 use crate::fault::AdapterFault;
-use crate::no_answer::NoAnswer;
 use crate::outbox::{Answer, Outbox};
 use crate::session::Session;
 use dap_debuggee::Debuggee;
 use dap_message::{Body, Breakpoint, Call, Failure, SetVariable, SourceKey};
+use dap_query::NoAnswer;
 use dap_tables::{BpFault, Entry};
 use std::alloc::{AllocError, Global};
 
@@ -246,7 +246,7 @@ impl<D: Debuggee + Drop> Session<D> {
         ensures err { OnErr result (self.new.session ≡ self.old.session) }
     {
         let lines = lines_given(call);
-        if self.options.lines_start_at_1 {
+        if self.options().lines_start_at_1 {
             return self.change_or_fail(alloc, request, call, lines);
         }
         let asked = raised(alloc, lines)?;

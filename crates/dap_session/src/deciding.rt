@@ -134,7 +134,7 @@ impl<D: Debuggee + Drop> Session<D> {
     {
         match reference_named(call) {
             None => false,
-            Some((kind, number)) => !is_of_kind(kind, self.references.target(number)),
+            Some((kind, number)) => !is_of_kind(kind, self.queries.target(number)),
         }
     }
 

@@ -10,12 +10,12 @@ ghost use Rattle.dap_session.specs.Handling.{after_initialize, after_park, after
 ghost use Rattle.dap_session.specs.Plan.{reply, emit, after_answering, asking};
 ghost use Rattle.dap_session.specs.PrivateOutbox.{Holds, answer_of, event_of, shape_of};
 
-use crate::options::Options;
 use crate::outbox::{Answer, Event, Fixed, Outbox};
 use crate::phase::Phase;
 use crate::session::Session;
 use dap_debuggee::{Debuggee, How};
 use dap_message::{Call, Capabilities, Failure};
+use dap_query::Options;
 use dap_tables::Entry;
 use std::alloc::{AllocError, Global};
 
@@ -96,8 +96,9 @@ impl<D: Debuggee + Drop> Session<D> {
         ensures holds { Holds result self.now.session.limits.body self.now.session.used [] }
     {
         // For the proof: these limits are in their ranges.
-        let _ = self.limits.body();
-        let _ = self.limits.seq();
+        let limits = self.limits();
+        let _ = limits.body();
+        let _ = limits.seq();
         Outbox::open(alloc, self.numbers())
     }
 

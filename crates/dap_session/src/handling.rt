@@ -175,7 +175,7 @@ impl<D: Debuggee + Drop> Session<D> {
         ensures fewer { IfOk result (λ o. IfSome o (λ bytes. to_handle self.new.session.kept < to_handle self.old.session.kept)) }
         ensures limits { self.new.session.limits ≡ self.old.session.limits }
     {
-        let _ = &self.limits;
+        let _ = &self.queries;
         match self.next_request() {
             Err(_) => Err(AdapterFault::OutOfMemory),
             Ok(None) => Ok(None),

@@ -6,7 +6,6 @@
 #![tactic(auto)]
 
 mod asking;
-mod bodies;
 mod changing;
 mod deciding;
 mod decision;
@@ -16,9 +15,6 @@ mod effects;
 mod fault;
 mod handling;
 pub mod laws;
-mod no_answer;
-mod numbering;
-mod options;
 mod outbox;
 mod phase;
 mod polling;
@@ -29,7 +25,7 @@ mod starting;
 mod table;
 mod taking;
 
+pub use dap_query::Options;
 pub use fault::AdapterFault;
-pub use options::Options;
 pub use phase::Phase;
 pub use session::Session;

@@ -70,7 +70,7 @@ impl<D: Debuggee + Drop> Session<D> {
         ensures debuggee { self.new.debuggee ≡ self.old.debuggee }
         ensures limits { self.new.session.limits ≡ self.old.session.limits }
     {
-        let _ = &self.limits;
+        let _ = &self.queries;
         match happening {
             Happening::Nothing => Ok(Vec::new(alloc)),
             Happening::Output { category, text } => {

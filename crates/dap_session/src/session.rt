@@ -2,27 +2,27 @@
 ghost use Rattle.std.specs.Prelude.{◌≡◌, ◌+◌, ◌≤◌, ◌<◌, [], ◌∷◌, ◌++◌, length, IfOk, OnOk, OnErr, IsTrue, true, false, not, nat_lt, None};
 ghost use Rattle.dap_tables.specs.Outstanding.{without, with_mark, contains_seq, kept_unparked, unparked_ones, IsOrderlyRequests};
 ghost use Rattle.dap_tables.specs.SourceMap.{count};
+ghost use Rattle.dap_query.specs.Queries.{object_of};
 ghost use Rattle.dap_session.specs.Session.{fresh_session, own_requests};
 ghost use Rattle.dap_debuggee.specs.Laws.{is_short};
 ghost use Rattle.dap_debuggee.specs.Shown.{to_start, to_resume, to_pause, to_poll, to_end, done, happened};
 
-use crate::options::Options;
 use crate::outbox::Outbox;
 use crate::phase::Phase;
 use dap_debuggee::{Debuggee, DebuggeeFault, Happening, How};
 use dap_frame::Limits;
-use dap_tables::{Breakpoints, Entry, Outstanding, PutFault, References, Seq};
+use dap_query::{Options, Queries};
+use dap_tables::{Breakpoints, Entry, Outstanding, PutFault, Seq};
 use std::alloc::{AllocError, Global};
 use std::marker::Model;
 
 /// A session with its debuggee.
 #[derive(Drop)]
 pub struct Session<D: Debuggee + Drop> {
-    pub(crate) limits: Limits,
     pub(crate) phase: Phase,
-    pub(crate) options: Options,
+    /// The limits, what the client said of itself, and the references.
+    pub(crate) queries: Queries,
     pub(crate) kept: Outstanding,
-    pub(crate) references: References,
     pub(crate) breakpoints: Breakpoints,
     /// The number of the own request that is not answered.
     pub(crate) asked: Option<u64>,
@@ -41,11 +41,11 @@ impl<D: Debuggee + Drop> Model for Session<D> {
 
     ghost view = { λ a. record {
       session = record {
-        limits = a.limits;
+        limits = a.queries.limits;
         phase = a.phase;
-        options = a.options;
+        options = a.queries.options;
         kept = a.kept.kept;
-        references = a.references.references;
+        references = a.queries.references;
         breakpoints = a.breakpoints.breakpoints;
         asked = a.asked;
         used = a.numbers.used;
@@ -53,7 +53,7 @@ impl<D: Debuggee + Drop> Model for Session<D> {
       debuggee = a.debuggee;
     } };
 
-    ghost invariant = { λ a. IsSession a.limits a.kept a.references a.breakpoints a.numbers };
+    ghost invariant = { λ a. IsSession a.queries.limits a.kept a.breakpoints a.numbers };
 }
 
 impl<D: Debuggee + Drop> Session<D> {
@@ -65,20 +65,13 @@ impl<D: Debuggee + Drop> Session<D> {
         ensures { IfOk result (λ state. state ≡ record { session = fresh_session limits; debuggee = debuggee }) }
     {
         let kept = Outstanding::open(alloc, limits.requests())?;
-        let references = References::open(alloc, limits.references(), limits.reference())?;
         let breakpoints = Breakpoints::open(alloc, limits.breakpoints())?;
         let numbers = Seq::open(limits.seq());
+        let queries = Queries::open(alloc, limits)?;
         Ok(Session {
-            limits,
             phase: Phase::Fresh,
-            options: Options {
-                lines_start_at_1: true,
-                columns_start_at_1: true,
-                supports_variable_paging: false,
-                supports_run_in_terminal_request: false,
-            },
+            queries,
             kept,
-            references,
             breakpoints,
             asked: None,
             numbers,
@@ -105,7 +98,7 @@ impl<D: Debuggee + Drop> Session<D> {
         ensures live { result ≡ length self.now.session.references.live }
         ensures bound { result ≤ self.now.session.limits.references }
     {
-        self.references.len()
+        self.queries.len()
     }
 
     /// How many breakpoints are set.
@@ -126,11 +119,30 @@ impl<D: Debuggee + Drop> Session<D> {
         }
     }
 
+    pub(crate) fn limits(&self) -> Limits
+        ensures { result ≡ self.now.session.limits }
+    {
+        self.queries.limits()
+    }
+
+    pub(crate) fn options(&self) -> Options
+        ensures { result ≡ self.now.session.options }
+    {
+        self.queries.options()
+    }
+
+    /// The object of a live number.
+    pub(crate) fn object(&self, number: u32) -> Option<u64>
+        ensures { result ≡ object_of self.now.session.references number }
+    {
+        self.queries.object(number)
+    }
+
     /// Whether there is no room for one more request.
     pub(crate) fn is_full(&self) -> bool
         ensures { result ≡ not (nat_lt (length self.now.session.kept) self.now.session.limits.requests) }
     {
-        self.kept.len() >= self.limits.requests()
+        self.kept.len() >= self.limits().requests()
     }
 
     /// Keeps a request.
@@ -231,14 +243,14 @@ impl<D: Debuggee + Drop> Session<D> {
     pub(crate) fn set_options(&mut self, options: Options)
         ensures { self.new ≡ record self.old { session = record self.old.session { options = options } } }
     {
-        self.options = options;
+        self.queries.set_options(options);
     }
 
     /// All references die.
     pub(crate) fn clear_references(&mut self)
         ensures { self.new ≡ record self.old { session = record self.old.session { references = without_references self.old.session.references } } }
     {
-        self.references.clear();
+        self.queries.clear();
     }
 
     pub(crate) fn park(&mut self, seq: u64)

@@ -61,6 +61,8 @@ impl<D: Debuggee + Drop> Session<D> {
         ensures refused { IfErr result (λ fault. IsRefusedFor fault (asking to_start (after_parked_launch self.old.session request.now)) self.old self.new) }
         ensures err { OnErr result (self.new.session ≡ self.old.session) }
     {
+        // For the proof: this limit is in its range.
+        let _ = self.limits().requests();
         self.room(1 + self.kept.parked() as u64)?;
         let ok = self.ask_start(alloc)?;
         let outbox = self.start_responses(alloc, request, ok)?;

@@ -201,7 +201,7 @@ impl<D: Debuggee + Drop> Session<D> {
         ensures debuggee { self.new.debuggee ≡ self.old.debuggee }
         ensures limits { self.new.session.limits ≡ self.old.session.limits }
     {
-        let _ = &self.limits;
+        let _ = &self.queries;
         if has_ended(self.phase) {
             return Err(AdapterFault::Ended);
         }
@@ -227,7 +227,7 @@ impl<D: Debuggee + Drop> Session<D> {
         ensures err { OnErr result (self.new.session ≡ self.old.session) }
         ensures limits { self.new.session.limits ≡ self.old.session.limits }
     {
-        let _ = &self.limits;
+        let _ = &self.queries;
         match &message.kind {
             Kind::Request { command, arguments } => {
                 self.take_request(alloc, message.seq, command, arguments)

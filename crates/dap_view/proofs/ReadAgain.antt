@@ -34,10 +34,12 @@ thread_again : (t : Thread) → thread_fits t ≡ true → thread_of (thread t) 
 unfolding thread_of
 thread_again t e = rw (int_again t.id e)
 
-source_again : (s : Source) (path : Option (List ℕ)) → s.path ≡ path → source_fits s ≡ true → source_in (source s) ≡ Ok (source_read s)
+source_again : (s : Source) (path : Option (List ℕ)) (reference : Option ℕ) → s.path ≡ path → s.source_reference ≡ reference → source_fits s ≡ true → source_in (source s) ≡ Ok (source_read s)
 unfolding source_in
-source_again s None is e = rw (is, e)
-source_again s (Some path) is e = rw (is, e)
+source_again s None None is by e = rw (is, by) refl
+source_again s None (Some n) is by e = rw (is, by) (rw (rw by at e) refl)
+source_again s (Some path) None is by e = rw (is, by) refl
+source_again s (Some path) (Some n) is by e = rw (is, by) (rw (rw by at e) refl)
 
 stack_frame_again : (f : StackFrame) → stack_frame_fits f ≡ true → stack_frame_of (stack_frame f) ≡ Ok (stack_frame_read f)
 unfolding stack_frame_of
@@ -45,7 +47,7 @@ stack_frame_again f e =
     let halves = and_parts (is_number f.id && is_number f.line) (is_number f.column && source_fits f.source) e in
     let front = and_parts (is_number f.id) (is_number f.line) halves.0 in
     let back = and_parts (is_number f.column) (source_fits f.source) halves.1 in
-    rw (front.0, front.1, back.0, source_again f.source f.source.path refl back.1)
+    rw (front.0, front.1, back.0, source_again f.source f.source.path f.source.source_reference refl refl back.1)
 
 scope_again : (s : Scope) → scope_fits s ≡ true → scope_of (scope s) ≡ Ok (scope_read s)
 unfolding scope_of
@@ -93,7 +95,7 @@ breakpoints_again bs e = each_again breakpoint breakpoint_read breakpoint_fits b
 
 sources_again : (ss : List Source) → list_all source_fits ss ≡ true → sources_in (loaded_sources_body ss) ≡ Ok (map source_read ss)
 unfolding sources_in
-sources_again ss e = each_again source source_read source_fits source_in (λ s. source_again s s.path refl) 0 ss e
+sources_again ss e = each_again source source_read source_fits source_in (λ s. source_again s s.path s.source_reference refl refl) 0 ss e
 
 evaluation_again : (text : List ℕ) (reference : ℕ) → is_number reference ≡ true → evaluation_in (evaluate_body text reference) ≡ Ok (record { result = text; variables_reference = reference })
 unfolding evaluation_of

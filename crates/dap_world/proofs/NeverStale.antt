@@ -11,7 +11,7 @@ use Rattle.dap_message.specs.Types.Failure.{Failure}
 use Rattle.dap_message.specs.Types.Failure.TheVariants.{NotInitialized, AlreadyInitialized, UnknownCommand, Unsupported, BadArguments, WrongPhase, NotStopped, UnknownThread, StaleReference, UnknownSource}
 use Rattle.dap_debuggee.specs.Shown.{Shown}
 use Rattle.dap_session.specs.Failures.{command_of, call_in, of_known, is_early, is_initialize, waits_for_stop, thread_named, reference_named, source_named, lacks_thread, lacks_reference, lacks_source, when, or_else, first_failure, key_refused, phase_refused, read_refused, known_refused, refusal}
-use Rattle.dap_session.specs.GivenLaws.{AreLive}
+use Rattle.dap_query.specs.References.{AreLive}
 use Rattle.dap_session.specs.Session.{Session}
 use Rattle.dap_session.specs.Table.{is_phase, is_served, is_never_served}
 use Rattle.dap_session.specs.declared.phase.Phase.TheVariants.{Fresh}

@@ -21,9 +21,9 @@ use Rattle.dap_debuggee.specs.Laws.{ends_a_stop}
 use Rattle.dap_recording.specs.Played.{Played, with_ask, fresh_played, act_on, shown_of, IsAllowed, FollowsPlayed}
 use Rattle.dap_debuggee.specs.Shown.{Act, to_start, to_resume, to_pause, to_poll, to_set_breakpoints, to_assign, to_end, Reply}
 use Rattle.dap_recording.proofs.ThreeMoments.{three_moments}
-use Rattle.dap_session.specs.Bodies.{query_result}
+use Rattle.dap_query.specs.Bodies.{query_result}
 use Rattle.dap_session.specs.Carried.{Goes}
-use Rattle.dap_session.specs.GivenLaws.{AreLive}
+use Rattle.dap_query.specs.References.{AreLive}
 use Rattle.dap_session.specs.Handling.{plan_for}
 use Rattle.dap_session.specs.Plan.{Plan, at_once, asking}
 use Rattle.dap_session.specs.Polling.{after_happening}

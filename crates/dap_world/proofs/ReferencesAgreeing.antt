@@ -20,6 +20,7 @@ use Rattle.dap_tables.specs.declared.entry.Entry.{Entry}
 use Rattle.dap_check.specs.Legal.{least_broken}
 use Rattle.dap_check.specs.Rules.{is_broken}
 use Rattle.dap_check.specs.declared.line.Line.{Line}
+use Rattle.dap_check.specs.declared.rule.AnySeq.TheVariants.{OfNone}
 use Rattle.dap_check.specs.declared.rule.Rule.TheVariants.{Seq, Answer, FirstRequest, Initialized, Gate, Reference, Disconnect}
 use Rattle.dap_check.specs.declared.line.Side.{Side}
 use Rattle.dap_check.specs.declared.line.Side.TheVariants.{Client, Adapter}
@@ -29,7 +30,7 @@ use Rattle.dap_client.specs.declared.fault.ClientFault.TheVariants.{ReferenceLim
 use Rattle.dap_debuggee.specs.Laws.{Answers, Moves}
 use Rattle.dap_debuggee.specs.Shown.{Shown}
 use Rattle.dap_session.specs.Carried.{Goes}
-use Rattle.dap_session.specs.GivenLaws.{AreLive}
+use Rattle.dap_query.specs.References.{AreLive}
 use Rattle.dap_session.specs.StateLaws.{EachStepKeepsState}
 use Rattle.dap_world.specs.MessageReferences.{references_used_by_request, references_used_by_kind}
 use Rattle.dap_world.specs.Projection.{notes_seen, all_kept, references_seen, table_of, pair_of, written_seen}
@@ -150,8 +151,8 @@ references-agree {D} laws states shown follows answers moves limits debuggee w r
     }
 
 -- with the other six rules
-none-broken : (earlier : List Line) (line : Line) → is_broken false Seq earlier line ≡ false → is_broken false Answer earlier line ≡ false → is_broken false FirstRequest earlier line ≡ false → is_broken false Initialized earlier line ≡ false → is_broken false Gate earlier line ≡ false
-    → is_broken false Reference earlier line ≡ false → is_broken false Disconnect earlier line ≡ false → least_broken false earlier line ≡ None
+none-broken : (earlier : List Line) (line : Line) → is_broken OfNone Seq earlier line ≡ false → is_broken OfNone Answer earlier line ≡ false → is_broken OfNone FirstRequest earlier line ≡ false → is_broken OfNone Initialized earlier line ≡ false → is_broken OfNone Gate earlier line ≡ false
+    → is_broken OfNone Reference earlier line ≡ false → is_broken OfNone Disconnect earlier line ≡ false → least_broken OfNone earlier line ≡ None
 none-broken earlier line a b c d e f g = rw (a, b, c, d, e, f, g) refl
 
 pub transcripts-are-legal : {D : Type 0} (laws : Laws) (states : EachStepKeepsState) (shown : D → Shown) (follows : Goes D) → Answers shown follows → Moves shown follows → EachTranscriptIsLegalWhileStopsLast shown follows

@@ -12,7 +12,7 @@ use Rattle.dap_message.specs.Canon.{canon, tree_of, response_members, event_memb
 use Rattle.dap_message.specs.MessageParts.{failure_response}
 use Rattle.dap_message.specs.Types.Failure.TheVariants.{UnknownThread, StaleReference, UnknownSource, Debuggee, TooManyBreakpoints, TooManyReferences, ReferencesExhausted, TooLarge, NotStopped}
 use Rattle.dap_message.specs.Types.SourceKey.TheVariants.{Path}
-use Rattle.dap_session.specs.Bodies.{query_result}
+use Rattle.dap_query.specs.Bodies.{query_result}
 use Rattle.dap_session.specs.Handling.{plan_for}
 use Rattle.dap_session.specs.Polling.{after_happening}
 use Rattle.dap_world.proofs.PlayedSessions.{At, Calls, turn, poll, run, fresh_at, request, request_with, texts_of, initialized, written_after}

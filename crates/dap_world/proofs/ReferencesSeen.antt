@@ -14,7 +14,7 @@ use Rattle.dap_tables.specs.declared.reference_kind.ReferenceKind.{ReferenceKind
 use Rattle.dap_tables.specs.declared.reference_kind.ReferenceKind.TheVariants.{Frame, Holder}
 use Rattle.dap_tables.specs.declared.target.Target.{Target}
 use Rattle.dap_tables.proofs.KnownLemmas.{known_is_a_set}
-use Rattle.dap_session.specs.GivenLaws.{AreLive}
+use Rattle.dap_query.specs.References.{AreLive}
 use Rattle.dap_world.specs.Projection.{is_frame, reference_seen, references_seen, kinds_of, table_of}
 use Rattle.dap_world.proofs.Booleans.{and-false, and-left, and-right, or-false, or-left-true, or-right-true}
 

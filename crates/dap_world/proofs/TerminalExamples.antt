@@ -19,7 +19,7 @@ use Rattle.dap_session.specs.declared.fault.AdapterFault.{AdapterFault}
 use Rattle.dap_session.specs.declared.fault.AdapterFault.TheVariants.{Unmatched, CommandMismatch, SeqExhausted, Ended}
 use Rattle.dap_session.specs.declared.phase.Phase.{Phase}
 use Rattle.dap_session.specs.declared.phase.Phase.TheVariants.{Ready, Configured, Parked, Asked, Running, Stopped, Ended as EndedPhase}
-use Rattle.dap_session.specs.Bodies.{query_result}
+use Rattle.dap_query.specs.Bodies.{query_result}
 use Rattle.dap_session.specs.Handling.{plan_for}
 use Rattle.dap_session.specs.Polling.{after_happening}
 use Rattle.dap_session.specs.Session.{own_requests}

@@ -31,7 +31,7 @@ use Rattle.dap_session.specs.GivenLaws.{given_by, AllGiveLive}
 use Rattle.dap_session.specs.Handling.{is_launch, names_terminal, wants_terminal, parked_wants_terminal}
 use Rattle.dap_session.specs.Plan.{Draft, reply, emit, ask, Made, message_of, numbered_messages, requests_in}
 use Rattle.dap_session.specs.Session.{Session, own_request, own_requests}
-use Rattle.dap_session.specs.declared.options.Options.{Options}
+use Rattle.dap_query.specs.declared.options.Options.{Options}
 use Rattle.dap_session.specs.declared.phase.Phase.{Phase}
 use Rattle.dap_session.specs.declared.phase.Phase.TheVariants as adapter
 use Rattle.dap_world.specs.Projection.{class_of, class_if, ask_of, entry_ask, note_seen, notes_seen, written_seen, adapter_model_phase, all_kept, adapter_model_of, announces, wanted_by, wanted_of, own_seen, table_of, ByNumber, pair_of, kept_seen}

@@ -14,7 +14,7 @@ use Rattle.dap_recording.specs.Played.{Played, fresh_played, shown_of}
 use Rattle.dap_debuggee.specs.Shown.{Shown}
 use Rattle.dap_recording.specs.declared.recording.Recording.{Recording}
 use Rattle.dap_session.specs.declared.fault.AdapterFault.TheVariants.{SeqExhausted}
-use Rattle.dap_session.specs.Bodies.{query_result}
+use Rattle.dap_query.specs.Bodies.{query_result}
 use Rattle.dap_session.specs.Handling.{plan_for, turns}
 use Rattle.dap_session.specs.Taking.{takes}
 use Rattle.dap_tables.specs.Outstanding.{parked_ones}

@@ -5,6 +5,7 @@ use Rattle.std.specs.List.{AllByRecursion}
 use Rattle.dap_frame.specs.Settings.{Settings, AreInRange}
 use Rattle.dap_check.specs.Legal.{IsLegal}
 use Rattle.dap_check.specs.declared.line.Line.{Line}
+use Rattle.dap_check.specs.declared.rule.AnySeq.TheVariants.{OfNone}
 use Rattle.dap_check.specs.declared.rule.Rule.TheVariants.{Reference}
 use Rattle.dap_client.specs.Taking.{takes as client_takes}
 use Rattle.dap_client.specs.declared.fault.ClientFault.{ClientFault}
@@ -14,7 +15,7 @@ use Rattle.dap_message.specs.Types.Failure.TheVariants.{StaleReference}
 use Rattle.dap_message.specs.declared.message.Message.{Message}
 use Rattle.dap_session.specs.Carried.{Goes}
 use Rattle.dap_session.specs.Failures.{refusal}
-use Rattle.dap_session.specs.GivenLaws.{AreLive}
+use Rattle.dap_query.specs.References.{AreLive}
 use Rattle.dap_world.specs.MessageReferences.{references_used_by_request, references_used_by_kind}
 use Rattle.dap_world.specs.Transcripts.{said_of, Keeps}
 use Rattle.dap_world.specs.World.{World, Schedule}
@@ -48,4 +49,4 @@ ReferencesAgreeWhileStopsLast {D} shown follows = (limits : Settings) (debuggee 
 
 -- then no line of what both have written breaks a rule
 abbrev pub EachTranscriptIsLegalWhileStopsLast : {D : Type 0} → (D → Shown) → Goes D → Type 0
-EachTranscriptIsLegalWhileStopsLast {D} shown follows = (limits : Settings) (debuggee : D) (w : World D) (lines : List Line) → AreInRange limits → Schedule shown (LastingStops shown follows) limits debuggee w → said_of lines ≡ w.said → IsLegal false lines
+EachTranscriptIsLegalWhileStopsLast {D} shown follows = (limits : Settings) (debuggee : D) (w : World D) (lines : List Line) → AreInRange limits → Schedule shown (LastingStops shown follows) limits debuggee w → said_of lines ≡ w.said → IsLegal OfNone lines

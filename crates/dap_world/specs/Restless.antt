@@ -14,7 +14,7 @@ use Rattle.dap_message.specs.declared.message.Message.{Message}
 use Rattle.dap_client.specs.Taking.{takes}
 use Rattle.dap_client.specs.declared.fault.ClientFault.TheVariants.{ReferenceLimit}
 use Rattle.dap_session.specs.Failures.{refusal}
-use Rattle.dap_session.specs.GivenLaws.{AreLive}
+use Rattle.dap_query.specs.References.{AreLive}
 use Rattle.dap_session.specs.Session.{oldest}
 use Rattle.dap_tables.specs.Outstanding.{Kept}
 use Rattle.dap_world.specs.MessageReferences.{references_used_by_request}
@@ -47,7 +47,7 @@ restless_shown v = record {
   children = λ holder. None;
   evaluate = λ frame text. None;
   assigned = λ holder name text. None;
-  sources = record { name = codes "a.c"; path = Some (codes "/a.c") } ∷ [];
+  sources = record { name = codes "a.c"; path = Some (codes "/a.c"); on_disk = false } ∷ [];
   content = λ index. None;
   verify = λ source lines. None;
 }

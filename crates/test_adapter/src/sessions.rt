@@ -5,7 +5,7 @@ use dap_recording::Recorded;
 use std::test::Fail;
 use test_kit::rows::play_rows;
 
-pub(crate) static ROWS: [&str; 43] = [
+pub(crate) static ROWS: [&str; 44] = [
     r#"
 row initializes
 > {"seq":1,"type":"request","command":"initialize","arguments":{"adapterID":"rec"}}
@@ -375,6 +375,37 @@ turn
 > {"seq":9,"type":"request","command":"source","arguments":{"sourceReference":2}}
 turn
 < unknownSource seq 13 to 9 source
+"#,
+    r#"
+# A file that the client reads by its path has no number; what has no path keeps its own. Each can be asked for still.
+row sources on disk
+recording {"exit":0,"sources":[{"name":"a.c","path":"/a.c","text":"one","onDisk":true},{"name":"b.c","text":"two","onDisk":true},{"name":"c.c","path":"/c.c","text":"three","onDisk":false}],"moments":[{"thread":1,"threads":[{"id":1,"name":"main","frames":[{"name":"f","source":0,"line":1},{"name":"g","source":1,"line":1},{"name":"h","source":2,"line":1}]}]}]}
+> {"seq":1,"type":"request","command":"initialize","arguments":{"adapterID":"rec"}}
+turn
+< capabilities seq 1 to 1
+< {"event":"initialized","seq":2,"type":"event"}
+> {"seq":2,"type":"request","command":"configurationDone"}
+turn
+< {"command":"configurationDone","request_seq":2,"seq":3,"success":true,"type":"response"}
+> {"seq":3,"type":"request","command":"launch"}
+turn
+< {"command":"launch","request_seq":3,"seq":4,"success":true,"type":"response"}
+poll
+< {"body":{"allThreadsStopped":true,"reason":"entry","threadId":1},"event":"stopped","seq":5,"type":"event"}
+> {"seq":4,"type":"request","command":"stackTrace","arguments":{"threadId":1}}
+turn
+< {"body":{"stackFrames":[{"column":1,"id":1,"line":1,"name":"f","source":{"name":"a.c","path":"/a.c"}},{"column":1,"id":2,"line":1,"name":"g","source":{"name":"b.c","sourceReference":2}},{"column":1,"id":3,"line":1,"name":"h","source":{"name":"c.c","path":"/c.c","sourceReference":3}}],"totalFrames":3},"command":"stackTrace","request_seq":4,"seq":6,"success":true,"type":"response"}
+> {"seq":5,"type":"request","command":"loadedSources"}
+turn
+< {"body":{"sources":[{"name":"a.c","path":"/a.c"},{"name":"b.c","sourceReference":2},{"name":"c.c","path":"/c.c","sourceReference":3}]},"command":"loadedSources","request_seq":5,"seq":7,"success":true,"type":"response"}
+> {"seq":6,"type":"request","command":"source","arguments":{"sourceReference":1}}
+turn
+< {"body":{"content":"one"},"command":"source","request_seq":6,"seq":8,"success":true,"type":"response"}
+> {"seq":7,"type":"request","command":"setBreakpoints","arguments":{"source":{"path":"/a.c"},"breakpoints":[{"line":1}]}}
+turn
+< {"body":{"breakpoints":[{"id":1,"line":1,"verified":true}]},"command":"setBreakpoints","request_seq":7,"seq":9,"success":true,"type":"response"}
+references 3
+breakpoints 1
 "#,
     r#"
 # Lines replace those of the same source, ids never come again, and an answer that is too large changes nothing.

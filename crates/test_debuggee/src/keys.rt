@@ -84,7 +84,15 @@ static EXIT_AND_SOURCES: &str = r#""exit":3,||Exit
 "text":"x\ny"|"text":""|Line
 "text":"x\ny"|"text":"x\n"|Line
 "text":"x\ny"|"text":"\n\n"|none
-"text":"x\ny"|"text":"\r\n\r"|none"#;
+"text":"x\ny"|"text":"\r\n\r"|none
+"text":"x\ny"|"text":"x\ny","onDisk":true|none
+"text":"x\ny"|"text":"x\ny","onDisk":false|none
+"text":"x\ny"|"text":"x\ny","onDisk":null|OnDisk
+"text":"x\ny"|"text":"x\ny","onDisk":1|OnDisk
+"text":"x\ny"|"text":"x\ny","onDisk":"true"|OnDisk
+"text":"x\ny"|"onDisk":null|Text
+"path":"/a","text":"x\ny"|"text":"x\ny","onDisk":true|none
+"sources":[{"name":"a","path":"/a","text":"x\ny"}]|"sources":[{"name":"a","path":"/a","text":"x\ny","onDisk":0},{"text":"x"}]|OnDisk"#;
 
 /// The exit code and the sources.
 #[test]

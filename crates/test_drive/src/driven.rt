@@ -3,7 +3,7 @@
 //! | a line | says |
 //! |---|---|
 //! | `send ..`, `terminal ..`, `turn`, `poll`, `run`, or anything else | a line of the script |
-//! | `.` | a line of the script without bytes |
+//! | `.` and what follows it | a line of the script that is skipped: without bytes, or a comment |
 //! | `> BODY`, `< BODY` | the next line of the transcript |
 //! | `= legal` | the transcript keeps every rule |
 //! | `! FAULT` | the script stops with this fault |
@@ -48,10 +48,12 @@ fn order_of(line: &str) -> Option<&str> {
         || line.starts_with("< ")
         || line.starts_with("= ")
         || line.starts_with("! ");
-    match line {
-        _ if is_other => None,
-        "." => Some(""),
-        order => Some(order),
+    if is_other {
+        return None;
+    }
+    match line.strip_prefix('.') {
+        Some(skipped) => Some(skipped),
+        None => Some(line),
     }
 }
 

@@ -8,7 +8,7 @@ use std::alloc::Global;
 use std::test::Fail;
 use test_kit::rows::play_rows;
 
-pub(crate) static ROWS: [&str; 28] = [
+pub(crate) static ROWS: [&str; 31] = [
     r#"
 row no line
 "#,
@@ -379,6 +379,25 @@ terminal ok 1
     r#"
 row a terminal in capitals
 Terminal ok
+! Script { line: 1 }
+"#,
+    r#"
+row comments are skipped and counted
+.# the client is not heard yet
+.
+.#turn
+.#
+jump
+! Script { line: 5 }
+"#,
+    r#"
+row a comment behind an order
+run # to the end
+! Script { line: 1 }
+"#,
+    r#"
+row a comment behind a space
+. # run
 ! Script { line: 1 }
 "#,
 ];

@@ -79,7 +79,7 @@ fn source(alloc: Global) -> Result<Source, AllocError> {
         Ok((name, path)) => Ok(Source {
             name,
             path: Some(path),
-            source_reference: 1,
+            source_reference: Some(1),
         }),
         Err(fault) => Err(fault),
     }

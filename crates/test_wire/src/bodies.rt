@@ -273,6 +273,20 @@ static EMPTY: [(Response, &str); 6] = [
     (Response::Sources(&[]), "{\"sources\":[]}"),
 ];
 
+/// A file that the client reads by its path has no number.
+static ON_DISK: [(Response, &str); 1] = [(
+    Response::Sources(&[("a.c", Some("/a.c"), 0), ("b.c", None, 2)]),
+    "{\"sources\":[{\"name\":\"a.c\",\"path\":\"/a.c\"},{\"name\":\"b.c\",\"sourceReference\":2}]}",
+)];
+
+#[test]
+fn sources_on_disk(rt: HostRuntime) {
+    for (of, wanted) in &ON_DISK {
+        let body = built_response(rt.alloc(), *of);
+        check(&rt, is_written(rt.alloc(), body, wanted), *wanted);
+    }
+}
+
 #[test]
 fn empty_lists(rt: HostRuntime) {
     for (of, wanted) in &EMPTY {

@@ -4,7 +4,7 @@ use dap_body::{Breakpoint, Scope, Source, StackFrame, Thread, Variable};
 use dap_json::Text;
 use std::alloc::{AllocError, Global};
 
-/// The name, path and reference of a source.
+/// The name, path and reference of a source, 0 where it has none.
 pub(crate) type SourceRow = (&'static str, Option<&'static str>, u32);
 
 /// The number, name, source, line and column of a frame.
@@ -73,7 +73,8 @@ pub(crate) fn variables(
 }
 
 fn source(alloc: Global, row: SourceRow) -> Result<Source, AllocError> {
-    let (name, path, source_reference) = row;
+    let (name, path, reference) = row;
+    let source_reference = if reference > 0 { Some(reference) } else { None };
     let path = match path {
         None => None,
         Some(path) => Some(Text::copied(alloc, path)?),

@@ -26,7 +26,7 @@ loop-rest-preserved g c = record {
 pub returns-in-Err-clause-stops : goal.returns-in-Err-clause-stops
 returns-in-Err-clause-stops g c =
     part_way_stops (driven_by g.D.Debuggee.shown g.D.Debuggee.follows c.args.limits c.args.debuggee) c.args.script.now c.loop-rest.rest.now c.split_line.result.1.now c.split_line.result.0.now c.loop-rest.number c.in-Err.fault (both_of c.loop-rest.drive)
-    c.split_line.ensures.lines c.in-Err.ensures.bytes c.loop-rest.invariant.part (c.in-Err.ensures.stops c.args.limits c.args.debuggee)
+    c.split_line.ensures.lines c.in-Err.ensures.stands c.loop-rest.invariant.part (c.in-Err.ensures.stops c.args.limits c.args.debuggee)
 
 pub returns-clause-drives : goal.returns-clause-drives
 returns-clause-drives g c =

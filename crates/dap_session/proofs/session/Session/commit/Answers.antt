@@ -2,4 +2,4 @@ use Rattle.dap_session.proofs.Sessions.{session-without}
 use Rattle.dap_session.proofs.session.Session.commit.Goals as goal
 
 pub invariant_of-self : goal.invariant_of-self
-invariant_of-self g c = session-without _ _ _ _ _ _ _ c.args.seq c.self.invariant c.take.ensures.others c.take.ensures.orderly (rw (← c.self.view_is) at c.requires.last) c.requires.used
+invariant_of-self g c = session-without _ _ _ _ _ _ c.args.seq c.self.invariant c.take.ensures.others c.take.ensures.orderly (rw (← c.self.view_is) at c.requires.last) c.requires.used

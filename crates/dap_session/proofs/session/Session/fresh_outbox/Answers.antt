@@ -1,12 +1,10 @@
-use Rattle.std.proofs.Common.{◌≡◌, ◌≤◌, ap}
+use Rattle.std.proofs.Common.{◌≤◌}
 use Rattle.dap_json.specs.Field.{max_seq}
 use Rattle.dap_message.specs.Lengths.{max_fixed}
-use Rattle.dap_session.specs.SessionState.{SessionState}
 use Rattle.dap_session.proofs.session.Session.fresh_outbox.Goals as goal
 
 pub returns-clause-holds : goal.returns-clause-holds
 returns-clause-holds g c =
-    let same : c.self.inside.limits ≡ c.args.self.now.session.limits = ap (λ (x : SessionState _). x.session.limits) c.self.view_is in
-    let room : max_fixed ≤ c.args.self.now.session.limits.body = rw (c.body.ensures.value, same) at c.body.ensures.in_range.0 in
-    let last : c.args.self.now.session.limits.seq ≤ max_seq = rw (c.seq.ensures.value, same) at c.seq.ensures.in_range.1 in
+    let room : max_fixed ≤ c.args.self.now.session.limits.body = rw (c.body.ensures.value, c.limits-limits.ensures) at c.body.ensures.in_range.0 in
+    let last : c.args.self.now.session.limits.seq ≤ max_seq = rw (c.seq.ensures.value, c.limits-limits.ensures) at c.seq.ensures.in_range.1 in
     rw c.numbers.ensures.numbers at (c.open.ensures.holds c.args.self.now.session.limits.body room (rw c.numbers.ensures.numbers last))

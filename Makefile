@@ -1,0 +1,35 @@
+# Installs the program `dap`, its manual pages, and completions for bash, zsh and fish. Nothing is proved or built by a plain
+# `make`: `.ci/run` does that.
+#
+#     make install PREFIX=$HOME/.local    (below /usr/local, where PREFIX is left out)
+#     make install DESTDIR=/tmp/stage     (the same paths, below another root, for a package)
+#     make uninstall PREFIX=$HOME/.local  (removes what the same words installed; folders stay)
+
+PREFIX ?= /usr/local
+DESTDIR ?=
+BINDIR ?= $(PREFIX)/bin
+MANDIR ?= $(PREFIX)/share/man/man1
+BASHDIR ?= $(PREFIX)/share/bash-completion/completions
+ZSHDIR ?= $(PREFIX)/share/zsh/site-functions
+FISHDIR ?= $(PREFIX)/share/fish/vendor_completions.d
+INSTALL ?= install
+
+# What is installed as the program: release/dap, or what bin/dap becomes where the toolchain is there, which may make it first.
+PROGRAM = $(shell if command -v rt >/dev/null; then DAP_WHICH=yes bin/dap; else echo release/dap; fi)
+PAGES := $(wildcard release/man/*.1)
+
+.PHONY: help install uninstall
+
+help:
+	@sed -n '1,/^$$/s/^# \{0,1\}//p' Makefile
+
+install:
+	program="$(PROGRAM)" && test -x "$$program" && $(INSTALL) -D -m 755 "$$program" "$(DESTDIR)$(BINDIR)/dap"
+	$(INSTALL) -D -m 644 -t "$(DESTDIR)$(MANDIR)" $(PAGES)
+	$(INSTALL) -D -m 644 release/completions/dap.bash "$(DESTDIR)$(BASHDIR)/dap"
+	$(INSTALL) -D -m 644 release/completions/_dap "$(DESTDIR)$(ZSHDIR)/_dap"
+	$(INSTALL) -D -m 644 release/completions/dap.fish "$(DESTDIR)$(FISHDIR)/dap.fish"
+
+uninstall:
+	rm -f "$(DESTDIR)$(BINDIR)/dap" $(foreach page,$(notdir $(PAGES)),"$(DESTDIR)$(MANDIR)/$(page)")
+	rm -f "$(DESTDIR)$(BASHDIR)/dap" "$(DESTDIR)$(ZSHDIR)/_dap" "$(DESTDIR)$(FISHDIR)/dap.fish"

@@ -1,0 +1,70 @@
+-- Each query, once: what it names, and that what its body gives is live. The laws are read off it.
+use Rattle.std.proofs.Common.{◌≡◌, ℕ, ◌-◌, List, [], ◌∷◌, map, Bool, true, false, Option, Some, None, Result, Ok, Err, length, refl, subst}
+use Rattle.std.specs.Prelude.{is_none, option_and_then}
+use Rattle.serde_json.specs.Data.{Data}
+use Rattle.dap_message.specs.ResponseBody.{source_body, threads_body, loaded_sources_body}
+use Rattle.dap_message.specs.Types.Call.{Call}
+use Rattle.dap_message.specs.Types.Call.TheVariants as call
+use Rattle.dap_message.specs.Types.Command.{Command}
+use Rattle.dap_message.specs.Types.Failure.{Failure}
+use Rattle.dap_debuggee.specs.Shown.{Shown}
+use Rattle.dap_tables.specs.Given.{references_given_in}
+use Rattle.dap_tables.specs.References.{LiveReferences}
+use Rattle.dap_tables.specs.declared.target.Target.{Target}
+use Rattle.dap_query.specs.Bodies.{protocol_thread, protocol_sources, QueryAnswer, QueryResult, query_result, result_without_references, unless_refused, scopes_result, evaluate_result, window, page, frame_objects, scope_objects, variable_objects, value_objects}
+use Rattle.dap_query.specs.Laws.{AreFew, IsSoundAnswer, EachAnswerIsSound, BodyIsLive, IsAnsweredOrRefused, is_refused, is_answered, EachQueryIsAnsweredOrRefused}
+use Rattle.dap_query.specs.Queries.{QueryState, object_of}
+use Rattle.dap_query.specs.References.{AreLive, intern_each, targets_named, and_then}
+use Rattle.dap_query.specs.Refused.{refuses_query, objects_in, objects_named}
+use Rattle.dap_query.proofs.Interned.{interned-each}
+use Rattle.dap_query.proofs.LiveBodies.{frames-live, scopes-live, variables-live, value-live, threads-live, source-live, sources-live}
+
+-- ---- each query
+
+-- what the debuggee refuses, or what is answered of what it shows
+if-shown : {A : Type 0} (q : QueryState) (o : Option A) (of : A → List (Option Target)) (tell : A → QueryResult) → ((x : A) → IsAnsweredOrRefused q false (of x) (tell x)) → IsAnsweredOrRefused q (is_none o) (objects_in of o) (unless_refused o tell)
+if-shown q (Some x) of tell k = k x
+if-shown q None of tell k = is_refused []
+
+-- a body that gives nothing, however many are live
+without-references : (q : QueryState) (body : Option Data) → ((refs : LiveReferences) (o : Option Command) → AreLive refs (references_given_in o body)) → IsAnsweredOrRefused q false [] (result_without_references q body)
+without-references q body live = is_answered [] (λ ns. body) (λ refs ns h o. live refs o)
+
+source-answered : (q : QueryState) (o : Option (List ℕ)) → IsAnsweredOrRefused q (is_none o) [] (unless_refused o (λ text. result_without_references q (Some (source_body text))))
+source-answered q (Some text) = without-references q (Some (source_body text)) (λ refs o. source-live refs text o)
+source-answered q None = is_refused []
+
+pub each_query_is_answered_or_refused : EachQueryIsAnsweredOrRefused
+unfolding query_result
+each_query_is_answered_or_refused view q (call.StackTrace asked) =
+    if-shown q (view.frames asked.thread_id) (λ frames. frame_objects (window asked.start_frame asked.levels frames)) _
+    (λ frames. is_answered _ _ (λ refs ids h. frames-live refs q.options view.sources (window asked.start_frame asked.levels frames) (length frames) ids h))
+each_query_is_answered_or_refused view q (call.Scopes number) =
+    if-shown q (option_and_then view.scopes (object_of q.references number)) scope_objects (scopes_result q) (λ scopes. is_answered _ _ (λ refs ns h. scopes-live refs scopes ns h))
+each_query_is_answered_or_refused view q (call.Variables asked) =
+    if-shown q (option_and_then view.children (object_of q.references asked.variables_reference)) (λ variables. variable_objects (page q.options asked.start asked.count variables)) _
+    (λ variables. is_answered _ _ (λ refs ns h. variables-live refs (page q.options asked.start asked.count variables) ns h))
+each_query_is_answered_or_refused view q (call.Evaluate asked) =
+    if-shown q (view.evaluate (option_and_then (object_of q.references) asked.frame_id) asked.expression) value_objects (evaluate_result q) (λ value. is_answered _ _ (λ refs ns h. value-live refs value ns h))
+each_query_is_answered_or_refused view q (call.Source number) = source-answered q (view.content (number - 1))
+each_query_is_answered_or_refused view q call.Threads = without-references q _ (λ refs o. threads-live refs (map protocol_thread view.threads) o)
+each_query_is_answered_or_refused view q call.LoadedSources = without-references q _ (λ refs o. sources-live refs (protocol_sources view.sources) o)
+each_query_is_answered_or_refused view q _ = without-references q None (λ refs o. tt)
+
+-- ---- each answer
+
+with-sound : (q : QueryState) (objects : List (Option Target)) (body : List ℕ → Option Data) → BodyIsLive objects body → (given : Result (List ℕ × LiveReferences) Failure) → intern_each q.limits objects q.references ≡ given
+    → (answer : QueryAnswer) → (let due : QueryResult = and_then given (λ r. Ok (record { body = body r.0; names = targets_named objects; references = r.1 })) in due) ≡ Ok answer → IsSoundAnswer q answer
+with-sound q objects body live (Ok r) is t e =
+    let same : record { body = body r.0; names = targets_named objects; references = r.1 } ≡ t = cc in
+    let each = interned-each q.limits objects q.references r is in
+    subst (λ (x : QueryAnswer). IsSoundAnswer q x) same (record { references = each.live; grows = each.grows; few = each.few; gives = live r.1 r.0 each.names })
+with-sound q objects body live (Err f) is t e = cc
+
+sound-so : (q : QueryState) (refused : Bool) (objects : List (Option Target)) (due : QueryResult) → IsAnsweredOrRefused q refused objects due → (answer : QueryAnswer) → due ≡ Ok answer → IsSoundAnswer q answer
+sound-so q _ objects _ (is_refused _) t e = cc
+sound-so q _ objects _ (is_answered _ body live) t e = with-sound q objects body live (intern_each q.limits objects q.references) refl t e
+
+pub each_answer_is_sound : EachAnswerIsSound
+each_answer_is_sound view q asked answer e =
+    sound-so q (refuses_query view q asked) (objects_named view q asked) (query_result view q asked) (each_query_is_answered_or_refused view q asked) answer e

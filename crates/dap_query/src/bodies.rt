@@ -1,0 +1,341 @@
+//! What a debuggee answers, in the forms that bodies have: its lists, each with the numbers that were given for it.
+ghost use Rattle.std.specs.Prelude.{◌≡◌, ◌≤◌, map, length, take, drop, Some, IfOk, option_map};
+ghost use Rattle.std.specs.List.{zip};
+ghost use Rattle.dap_debuggee.specs.declared.answers.Frame.{Frame as FrameWord};
+ghost use Rattle.dap_debuggee.specs.declared.answers.Scope.{Scope as ScopeWord};
+ghost use Rattle.dap_debuggee.specs.declared.answers.Variable.{Variable as VariableWord};
+ghost use Rattle.dap_tables.specs.References.{frame_of, holder_of};
+ghost use Rattle.dap_query.specs.Bodies.{protocol_thread, numbered_source, reference_of, protocol_sources, source_of_frame, line_shown, column_shown, frame_with, protocol_frame, protocol_scope, protocol_variable, with_numbers, window};
+
+use crate::options::Options;
+use dap_debuggee::{Frame, Scope, Source, Thread, Variable};
+use dap_message::{StackFrame, Text};
+use dap_tables::{ReferenceKind, Target};
+use std::alloc::{AllocError, Global};
+
+fn from_start<T: Drop>(alloc: Global, start: u32, items: Vec<T>) -> Result<Vec<T>, AllocError>
+    ensures { IfOk result (λ part. part.items ≡ drop start items.items) }
+{
+    if start == 0 {
+        return Ok(items);
+    }
+    items.into_iter().skip(start as usize).collect(alloc)
+}
+
+fn part<T: Drop>(alloc: Global, start: u32, count: u32, items: Vec<T>) -> Result<Vec<T>, AllocError>
+    ensures { IfOk result (λ part. part.items ≡ take count (drop start items.items)) }
+{
+    items
+        .into_iter()
+        .skip(start as usize)
+        .take(count as usize)
+        .collect(alloc)
+}
+
+/// From `start` on, at most `count` where that is above 0.
+pub(crate) fn window<T: Drop>(
+    alloc: Global,
+    start: u32,
+    count: u32,
+    items: Vec<T>,
+) -> Result<Vec<T>, AllocError>
+    ensures { IfOk result (λ part. part.items ≡ window start count items.items) }
+{
+    if 0 < count {
+        part(alloc, start, count, items)
+    } else {
+        from_start(alloc, start, items)
+    }
+}
+
+// ---- what has a number
+
+fn frame(object: u64) -> Target
+    ensures { result ≡ frame_of object }
+{
+    Target {
+        kind: ReferenceKind::Frame,
+        object,
+    }
+}
+
+fn holder(object: u64) -> Target
+    ensures { result ≡ holder_of object }
+{
+    Target {
+        kind: ReferenceKind::Holder,
+        object,
+    }
+}
+
+/// What holds the parts of a value, where it has some.
+pub(crate) fn holder_in(object: Option<u64>) -> Option<Target>
+    ensures { result ≡ option_map holder_of object }
+{
+    match object {
+        None => None,
+        Some(object) => Some(holder(object)),
+    }
+}
+
+/// What the numbers of frames name.
+pub(crate) fn frames_named(
+    alloc: Global,
+    frames: &[Frame],
+) -> Result<Vec<Option<Target>>, AllocError>
+    ensures { IfOk result (λ named. named.items ≡ map (λ (f : FrameWord). Some (frame_of f.object)) frames.now) }
+{
+    frames
+        .iter()
+        .map(|told| Some(frame(told.object)))
+        .collect(alloc)
+}
+
+/// What the numbers of scopes name.
+pub(crate) fn scopes_named(
+    alloc: Global,
+    scopes: &[Scope],
+) -> Result<Vec<Option<Target>>, AllocError>
+    ensures { IfOk result (λ named. named.items ≡ map (λ (x : ScopeWord). Some (holder_of x.holder)) scopes.now) }
+{
+    scopes
+        .iter()
+        .map(|told| Some(holder(told.holder)))
+        .collect(alloc)
+}
+
+/// What the numbers of variables name.
+pub(crate) fn variables_named(
+    alloc: Global,
+    variables: &[Variable],
+) -> Result<Vec<Option<Target>>, AllocError>
+    ensures { IfOk result (λ named. named.items ≡ map (λ (x : VariableWord). option_map holder_of x.holder) variables.now) }
+{
+    variables
+        .iter()
+        .map(|told| holder_in(told.holder))
+        .collect(alloc)
+}
+
+// ---- lists of bodies
+
+fn protocol_thread(thread: Thread) -> dap_message::Thread
+    ensures { result ≡ protocol_thread thread }
+{
+    let Thread { id, name } = thread;
+    dap_message::Thread { id, name }
+}
+
+pub(crate) fn protocol_threads(
+    alloc: Global,
+    threads: Vec<Thread>,
+) -> Result<Vec<dap_message::Thread>, AllocError>
+    ensures { IfOk result (λ told. told.items ≡ map protocol_thread threads.items) }
+{
+    threads
+        .into_iter()
+        .map(|told| protocol_thread(told))
+        .collect(alloc)
+}
+
+/// The number by which a client asks for the text of a source; none where it reads the file itself.
+fn reference_of(number: u32, source: &Source) -> Option<u32>
+    ensures { result ≡ reference_of number source.now }
+{
+    if source.on_disk && source.path.is_some() {
+        None
+    } else {
+        Some(number)
+    }
+}
+
+fn numbered_source(number: u32, source: Source) -> dap_message::Source
+    ensures { result ≡ numbered_source number source }
+{
+    let source_reference = reference_of(number, &source);
+    let Source { name, path, .. } = source;
+    dap_message::Source {
+        name,
+        path,
+        source_reference,
+    }
+}
+
+/// Sources with their numbers, from 1.
+pub(crate) fn protocol_sources(
+    alloc: Global,
+    sources: Vec<Source>,
+) -> Result<Vec<dap_message::Source>, AllocError>
+    requires { length sources.items ≤ 65536 }
+    ensures { IfOk result (λ told. told.items ≡ protocol_sources sources.items) }
+{
+    let past = sources.len() as u32 + 1;
+    (1..past)
+        .zip(sources)
+        .map(|(number, source)| numbered_source(number, source))
+        .collect(alloc)
+}
+
+/// A copy of the source of a frame. At an index past the sources it has no name, and the number 0.
+fn source_of_frame(
+    alloc: Global,
+    sources: &[Source],
+    index: u32,
+) -> Result<dap_message::Source, AllocError>
+    requires { length sources.now ≤ 65536 }
+    ensures { IfOk result (λ told. told ≡ source_of_frame sources.now index) }
+{
+    let Some(source) = sources.get(index as usize) else {
+        return Ok(dap_message::Source {
+            name: Text::copied(alloc, "")?,
+            path: None,
+            source_reference: Some(0),
+        });
+    };
+    let name = source.name.clone()?;
+    let path = match &source.path {
+        None => None,
+        Some(path) => Some(path.clone()?),
+    };
+    Ok(dap_message::Source {
+        name,
+        path,
+        source_reference: reference_of(index + 1, source),
+    })
+}
+
+/// The source of each frame.
+fn sources_of_frames(
+    alloc: Global,
+    sources: &[Source],
+    frames: &[Frame],
+) -> Result<Vec<dap_message::Source>, AllocError>
+    requires { length sources.now ≤ 65536 }
+    ensures { IfOk result (λ told. told.items ≡ map (λ (f : FrameWord). source_of_frame sources.now f.source) frames.now) }
+{
+    let mut told = Vec::with_capacity(alloc, frames.len())?;
+    for frame in frames {
+        told.push(source_of_frame(alloc, sources, frame.source)?)?;
+    }
+    Ok(told)
+}
+
+/// A line as the client counts it.
+fn line_shown(options: Options, line: u32) -> u32
+    ensures { result ≡ line_shown options line }
+{
+    if options.lines_start_at_1 {
+        line
+    } else {
+        line.saturating_sub(1)
+    }
+}
+
+fn column_shown(options: Options) -> u32
+    ensures { result ≡ column_shown options }
+{
+    if options.columns_start_at_1 { 1 } else { 0 }
+}
+
+fn frame_with(options: Options, id: u32, frame: Frame, source: dap_message::Source) -> StackFrame
+    ensures { result ≡ frame_with options id frame source }
+{
+    let Frame {
+        object: _,
+        name,
+        source: _,
+        line,
+    } = frame;
+    StackFrame {
+        id,
+        name,
+        source,
+        line: line_shown(options, line),
+        column: column_shown(options),
+    }
+}
+
+fn frames_with(
+    alloc: Global,
+    options: Options,
+    ids: Vec<u32>,
+    frames: Vec<Frame>,
+    sources: Vec<dap_message::Source>,
+) -> Result<Vec<StackFrame>, AllocError>
+    ensures { IfOk result (λ told. told.items ≡ map (λ p. frame_with options p.0 p.1.0 p.1.1) (zip ids.items (zip frames.items sources.items))) }
+{
+    ids.into_iter()
+        .zip(frames.into_iter().zip(sources))
+        .map(|(id, (frame, source))| frame_with(options, id, frame, source))
+        .collect(alloc)
+}
+
+/// Frames with their numbers and their sources.
+pub(crate) fn protocol_frames(
+    alloc: Global,
+    options: Options,
+    sources: &[Source],
+    ids: Vec<u32>,
+    frames: Vec<Frame>,
+) -> Result<Vec<StackFrame>, AllocError>
+    requires { length sources.now ≤ 65536 }
+    ensures { IfOk result (λ told. told.items ≡ with_numbers (protocol_frame options sources.now) ids.items frames.items) }
+{
+    let sources = sources_of_frames(alloc, sources, &frames)?;
+    frames_with(alloc, options, ids, frames, sources)
+}
+
+fn protocol_scope(number: u32, scope: Scope) -> dap_message::Scope
+    ensures { result ≡ protocol_scope number scope }
+{
+    let Scope { name, holder: _ } = scope;
+    dap_message::Scope {
+        name,
+        variables_reference: number,
+    }
+}
+
+/// Scopes with their numbers.
+pub(crate) fn protocol_scopes(
+    alloc: Global,
+    numbers: Vec<u32>,
+    scopes: Vec<Scope>,
+) -> Result<Vec<dap_message::Scope>, AllocError>
+    ensures { IfOk result (λ told. told.items ≡ with_numbers protocol_scope numbers.items scopes.items) }
+{
+    numbers
+        .into_iter()
+        .zip(scopes)
+        .map(|(number, scope)| protocol_scope(number, scope))
+        .collect(alloc)
+}
+
+fn protocol_variable(number: u32, variable: Variable) -> dap_message::Variable
+    ensures { result ≡ protocol_variable number variable }
+{
+    let Variable {
+        name,
+        value,
+        holder: _,
+    } = variable;
+    dap_message::Variable {
+        name,
+        value,
+        variables_reference: number,
+    }
+}
+
+/// Variables with their numbers.
+pub(crate) fn protocol_variables(
+    alloc: Global,
+    numbers: Vec<u32>,
+    variables: Vec<Variable>,
+) -> Result<Vec<dap_message::Variable>, AllocError>
+    ensures { IfOk result (λ told. told.items ≡ with_numbers protocol_variable numbers.items variables.items) }
+{
+    numbers
+        .into_iter()
+        .zip(variables)
+        .map(|(number, variable)| protocol_variable(number, variable))
+        .collect(alloc)
+}

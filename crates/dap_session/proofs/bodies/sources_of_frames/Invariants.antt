@@ -1,7 +1,0 @@
-use Rattle.std.proofs.Common.{◌≡◌, map, take}
-use Rattle.dap_debuggee.specs.declared.answers.Frame.{Frame}
-use Rattle.dap_session.specs.Bodies.{source_of_frame}
-use Rattle.dap_session.proofs.bodies.sources_of_frames.Given as goal
-
-abbrev pub invariant-loop-frame : goal.invariant-loop-frame
-invariant-loop-frame l = l.told.items ≡ map (λ (f : Frame). source_of_frame l.sources f.source) (take l.frame-index l.frames)

@@ -1,0 +1,29 @@
+# Made by scripts/man of scripts/help: change the help, and run it.
+_dap() {
+    local word=${COMP_WORDS[COMP_CWORD]} before=${COMP_WORDS[COMP_CWORD - 1]} command=${COMP_WORDS[1]} options
+    COMPREPLY=()
+    if ((COMP_CWORD == 1)); then
+        COMPREPLY=($(compgen -W 'serve show wrap check drive help -h --help -V --version' -- "$word"))
+        return
+    fi
+    # A number comes after these, as a word of its own or after a sign of equality.
+    case $before in --max-body | --max-breakpoints | --max-header | --max-reference | --max-references | --max-requests | --max-seq | =) return ;; esac
+    case $command in
+        serve) options='--max-header --max-body --max-requests --max-references --max-breakpoints --max-seq --max-reference -h --help' ;;
+        show) options='--max-header --max-body -h --help' ;;
+        wrap) options='--max-body -h --help' ;;
+        check) options='--any-seq --explain -h --help' ;;
+        drive) options='--max-header --max-body --max-requests --max-references --max-breakpoints --max-seq --max-reference -h --help' ;;
+        help)
+            if ((COMP_CWORD == 2)); then COMPREPLY=($(compgen -W 'serve show wrap check drive' -- "$word")); fi
+            return
+            ;;
+        *) return ;;
+    esac
+    if [[ $word == -* ]]; then
+        COMPREPLY=($(compgen -W "$options" -- "$word"))
+    else
+        compopt -o default
+    fi
+}
+complete -F _dap dap

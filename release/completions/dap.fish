@@ -1,0 +1,40 @@
+# Made by scripts/man of scripts/help: change the help, and run it.
+complete -c dap -f
+complete -c dap -n __fish_use_subcommand -a serve -d 'Debugs a recorded run: answers the Debug Adapter Protocol requests of standard input on standard output'
+complete -c dap -n __fish_use_subcommand -a show -d 'Lists the messages of a stream, one a line'
+complete -c dap -n __fish_use_subcommand -a wrap -d 'Writes the messages of a file, one a line, as a stream of frames'
+complete -c dap -n __fish_use_subcommand -a check -d 'Checks a transcript: which line breaks which rule of the protocol'
+complete -c dap -n __fish_use_subcommand -a drive -d 'Runs a client and an adapter against each other by a script, and prints the transcript'
+complete -c dap -n __fish_use_subcommand -a help -d 'Print this message or the help of the given subcommand(s)'
+complete -c dap -n __fish_use_subcommand -s h -l help -d 'Print help'
+complete -c dap -n __fish_use_subcommand -s V -l version -d 'Print version'
+complete -c dap -n '__fish_seen_subcommand_from serve; and not __fish_seen_subcommand_from help' -F
+complete -c dap -n '__fish_seen_subcommand_from serve; and not __fish_seen_subcommand_from help' -l max-header -x -d 'Greatest length of a header block, 32 to 65536 [default: 8192]'
+complete -c dap -n '__fish_seen_subcommand_from serve; and not __fish_seen_subcommand_from help' -l max-body -x -d 'Greatest length of a body, 1024 to 16777216 [default: 4194304]'
+complete -c dap -n '__fish_seen_subcommand_from serve; and not __fish_seen_subcommand_from help' -l max-requests -x -d 'Requests kept unanswered at once, 2 to 4096 [default: 64]'
+complete -c dap -n '__fish_seen_subcommand_from serve; and not __fish_seen_subcommand_from help' -l max-references -x -d 'Frames and variables referred to at once, 1 to 1048576 [default: 65536]'
+complete -c dap -n '__fish_seen_subcommand_from serve; and not __fish_seen_subcommand_from help' -l max-breakpoints -x -d 'Breakpoints set at once, 1 to 65536 [default: 4096]'
+complete -c dap -n '__fish_seen_subcommand_from serve; and not __fish_seen_subcommand_from help' -l max-seq -x -d 'Greatest sequence number given, 1 to 9007199254740991 [default: 9007199254740991]'
+complete -c dap -n '__fish_seen_subcommand_from serve; and not __fish_seen_subcommand_from help' -l max-reference -x -d 'Greatest number of a reference, 1 to 2147483647 [default: 2147483647]'
+complete -c dap -n '__fish_seen_subcommand_from serve; and not __fish_seen_subcommand_from help' -s h -l help -d 'Print help'
+complete -c dap -n '__fish_seen_subcommand_from show; and not __fish_seen_subcommand_from help' -F
+complete -c dap -n '__fish_seen_subcommand_from show; and not __fish_seen_subcommand_from help' -l max-header -x -d 'Greatest length of a header block, 32 to 65536 [default: 8192]'
+complete -c dap -n '__fish_seen_subcommand_from show; and not __fish_seen_subcommand_from help' -l max-body -x -d 'Greatest length of a body, 1024 to 16777216 [default: 4194304]'
+complete -c dap -n '__fish_seen_subcommand_from show; and not __fish_seen_subcommand_from help' -s h -l help -d 'Print help'
+complete -c dap -n '__fish_seen_subcommand_from wrap; and not __fish_seen_subcommand_from help' -F
+complete -c dap -n '__fish_seen_subcommand_from wrap; and not __fish_seen_subcommand_from help' -l max-body -x -d 'Greatest length of a body, 1024 to 16777216 [default: 4194304]'
+complete -c dap -n '__fish_seen_subcommand_from wrap; and not __fish_seen_subcommand_from help' -s h -l help -d 'Print help'
+complete -c dap -n '__fish_seen_subcommand_from check; and not __fish_seen_subcommand_from help' -F
+complete -c dap -n '__fish_seen_subcommand_from check; and not __fish_seen_subcommand_from help' -l any-seq -d 'Leaves out rule 1, since some adapters give every message the number 0'
+complete -c dap -n '__fish_seen_subcommand_from check; and not __fish_seen_subcommand_from help' -l explain -d 'Says in a second line why the rule is broken, and against which earlier lines'
+complete -c dap -n '__fish_seen_subcommand_from check; and not __fish_seen_subcommand_from help' -s h -l help -d 'Print help'
+complete -c dap -n '__fish_seen_subcommand_from drive; and not __fish_seen_subcommand_from help' -F
+complete -c dap -n '__fish_seen_subcommand_from drive; and not __fish_seen_subcommand_from help' -l max-header -x -d 'Greatest length of a header block, 32 to 65536 [default: 8192]'
+complete -c dap -n '__fish_seen_subcommand_from drive; and not __fish_seen_subcommand_from help' -l max-body -x -d 'Greatest length of a body, 1024 to 16777216 [default: 4194304]'
+complete -c dap -n '__fish_seen_subcommand_from drive; and not __fish_seen_subcommand_from help' -l max-requests -x -d 'Requests kept unanswered at once, 2 to 4096 [default: 64]'
+complete -c dap -n '__fish_seen_subcommand_from drive; and not __fish_seen_subcommand_from help' -l max-references -x -d 'Frames and variables referred to at once, 1 to 1048576 [default: 65536]'
+complete -c dap -n '__fish_seen_subcommand_from drive; and not __fish_seen_subcommand_from help' -l max-breakpoints -x -d 'Breakpoints set at once, 1 to 65536 [default: 4096]'
+complete -c dap -n '__fish_seen_subcommand_from drive; and not __fish_seen_subcommand_from help' -l max-seq -x -d 'Greatest sequence number given, 1 to 9007199254740991 [default: 9007199254740991]'
+complete -c dap -n '__fish_seen_subcommand_from drive; and not __fish_seen_subcommand_from help' -l max-reference -x -d 'Greatest number of a reference, 1 to 2147483647 [default: 2147483647]'
+complete -c dap -n '__fish_seen_subcommand_from drive; and not __fish_seen_subcommand_from help' -s h -l help -d 'Print help'
+complete -c dap -n '__fish_seen_subcommand_from help' -a 'serve show wrap check drive'

@@ -1,0 +1,380 @@
+"""Sessions that scripts/record hears, and the recordings of them played again: parts of the group `recorded`.
+
+What is compared is what another session answered, of a real debugger or of a recording that was written by hand.
+"""
+import copy
+import json
+import os
+import random
+import signal
+import subprocess
+import sys
+import threading
+
+import recorder
+from trial import DAP, FOLDER, HERE, RECORDINGS, expect, expect_in, frame, recording_of, request, run
+
+RECORD = os.path.join(HERE, "scripts", "record")
+TRANSCRIPTS = os.path.join(HERE, "scripts", "transcripts")
+FOLLOW = os.path.join(HERE, "scripts", "follow-session")
+SECONDS = 60
+
+
+class Client:
+    """Asks one thing after the other. Events are kept until they are waited for."""
+
+    def __init__(self, words):
+        self.errors = os.path.join(FOLDER, "errors")
+        with open(self.errors, "wb") as errors:
+            self.child = subprocess.Popen(words, stdin=subprocess.PIPE, stdout=subprocess.PIPE, stderr=errors)
+        self.watch = threading.Timer(SECONDS, self.child.kill)
+        self.watch.daemon = True
+        self.watch.start()
+        self.seq = 0
+        self.events = []
+
+    def write(self, stream):
+        self.child.stdin.write(stream)
+        self.child.stdin.flush()
+
+    def next(self):
+        """The next message; nothing where the stream has ended."""
+        length = 0
+        while (line := self.child.stdout.readline()) not in (b"\r\n", b""):
+            length = int(line.split(b":")[1])
+        return json.loads(self.child.stdout.read(length)) if line else None
+
+    def send(self, command, arguments=None):
+        self.seq += 1
+        self.write(frame(json.dumps(request(self.seq, command, arguments or {})).encode()))
+
+    def ask(self, command, arguments=None):
+        """The answer's body; nothing where it fails, or the stream ends."""
+        self.send(command, arguments)
+        while (message := self.next()) and message.get("request_seq") != self.seq:
+            self.events += [message] if message["type"] == "event" else []
+        return message.get("body", {}) if message and message["success"] else None
+
+    def wait_for(self, *names):
+        """The next event of one of these names; nothing where the stream ends before it."""
+        while True:
+            for place, event in enumerate(self.events):
+                if event["event"] in names:
+                    return self.events.pop(place)
+            if (message := self.next()) is None:
+                return None
+            self.events += [message] if message["type"] == "event" else []
+
+    def start(self):
+        """Up to the first stop."""
+        self.ask("initialize", {"adapterID": "rec"})
+        # It is answered after the next one.
+        self.send("launch")
+        self.ask("configurationDone")
+        return self.wait_for("stopped")
+
+    def end(self):
+        """The status, and what was said on standard error."""
+        self.child.stdin.close()
+        self.child.stdout.read()
+        self.child.stdout.close()
+        status = self.child.wait(SECONDS)
+        self.watch.cancel()
+        with open(self.errors, encoding="utf-8") as errors:
+            return status, errors.read().splitlines()
+
+
+# What a client looked at, in the streams of real debuggers.
+
+# The streams of each debugger, and whether its recording is in examples/recordings.
+STREAMS = [
+    ("debugpy", "editor-to-debugpy", "debugpy-to-editor", True),
+    ("delve", "client-to-delve", "delve-to-client", True),
+    ("lldb", "client-to-lldb", "lldb-to-client", True),
+    ("ruby", "client-to-ruby", "ruby-to-client", False),
+]
+
+
+def looks_of(transcript):
+    """Of each stop what was asked there with success: the command, its arguments and the body. And the exit code."""
+    asked, stops, code = {}, [], 0
+    for line in transcript.decode().splitlines():
+        message, is_client = json.loads(line[2:]), line[0] == ">"
+        if is_client and message["type"] == "request":
+            asked[message["seq"]] = message
+        if not is_client and message["type"] == "event":
+            stops += [[]] if message["event"] == "stopped" else []
+            code = message["body"]["exitCode"] if message["event"] == "exited" else code
+        if not is_client and message["type"] == "response" and message["success"] and stops:
+            request = asked[message["request_seq"]]
+            stops[-1].append((request["command"], request.get("arguments") or {}, message.get("body") or {}))
+    return stops, code
+
+
+class Played:
+    """A recording that is played, and asked what its session was asked, with the numbers that it gave itself."""
+
+    def __init__(self, path):
+        self.client = Client([DAP, "serve", path])
+        self.frames = {}
+        self.holders = {}
+
+    def look(self, command, arguments, body, threads):
+        """What was answered then and what is answered now, as far as a recording has it; nothing where it has no such."""
+        if command == "threads" and set(threads) & set(ids(body["threads"])):
+            told = self.client.ask(command)
+            return [[(one["id"], one["name"]) for one in each["threads"] if one["id"] in threads] for each in (body, told)]
+        if command == "stackTrace":
+            told = self.client.ask(command, arguments)
+            self.frames.update(zip(ids(body["stackFrames"]), ids(told["stackFrames"])))
+            return [list(places_of(each["stackFrames"], body["stackFrames"])) for each in (body, told)]
+        if command == "scopes":
+            told = self.client.ask(command, {"frameId": self.frames[arguments["frameId"]]})
+            self.holders.update(zip(references(body["scopes"]), references(told["scopes"])))
+            return [[one["name"] for one in each["scopes"]] for each in (body, told)]
+        if command == "variables" and (body["variables"] or self.holders[arguments["variablesReference"]]):
+            told = self.client.ask(command, {"variablesReference": self.holders[arguments["variablesReference"]]})
+            self.holders.update(zip(references(body["variables"]), references(told["variables"])))
+            return [[(one["name"], one["value"]) for one in each["variables"]] for each in (body, told)]
+        return None
+
+
+def ids(those):
+    return [one["id"] for one in those]
+
+
+def references(those):
+    return [one["variablesReference"] for one in those]
+
+
+def places_of(frames, asked):
+    """The names, lines and sources of frames; no name of a source that has none in the session. Line 0 becomes line 1."""
+    for place, one in enumerate(frames):
+        source = one.get("source", {})
+        is_named = place >= len(asked) or {"name", "path"} & set(asked[place].get("source", {}))
+        name = source.get("name") or os.path.basename(source.get("path", ""))
+        yield one["name"], one["line"] or 1, source.get("path"), name if is_named else None
+
+
+def examples():
+    """The recordings of real debuggers' streams show at each stop what the session showed."""
+    for name, up, down, is_stored in STREAMS:
+        streams = [os.path.join(HERE, "examples", "streams", one + ".dap") for one in (up, down)]
+        transcript = subprocess.run([TRANSCRIPTS, "streams", *streams], capture_output=True, timeout=SECONDS).stdout
+        path = os.path.join(FOLDER, name + ".json")
+        words = [RECORD, path, "--remote", "--from", "/dev/stdin"]
+        done = subprocess.run(words, input=transcript, capture_output=True, timeout=SECONDS)
+        expect(f"record: {name}", (done.returncode, done.stdout), (0, b""))
+        if is_stored:
+            stored = os.path.join(HERE, "examples", "recordings", name + ".json")
+            with open(stored, "rb") as one, open(path, "rb") as other:
+                expect(f"record: examples/recordings/{name}.json is this recording", one.read() == other.read(), True)
+        played_as(name, path, *looks_of(transcript))
+        words = [FOLLOW, "--program", DAP, "--recording", path]
+        done = subprocess.run(words, capture_output=True, timeout=SECONDS)
+        expect(f"record: {name}: is followed", (done.returncode, done.stderr), (0, b""))
+
+
+def played_as(name, path, stops, code):
+    played = Played(path)
+    stop = played.client.start()
+    then, now, counts = [], [], {"stops": [0, 0]}
+    for place, looks in enumerate(stops):
+        threads = [arguments["threadId"] for command, arguments, _ in looks if command == "stackTrace"]
+        counts["stops"][0] += 1
+        counts["stops"][1] += stop is not None
+        for command, arguments, body in looks:
+            pair = played.look(command, arguments, body, threads)
+            if pair:
+                then.append((place, command, pair[0]))
+                now.append((place, command, pair[1]))
+                old, new = counts.get(command, [0, 0])
+                counts[command] = [old + len(pair[0]), new + len(pair[1])]
+        played.client.ask("stepIn", {"threadId": threads[0]})
+        stop = played.client.wait_for("stopped", "exited")
+    expect(f"record: {name}: what is shown at each stop", [pair for pair in zip(then, now) if pair[0] != pair[1]], [])
+    told = ", ".join(f"{new} {command}" for command, (_, new) in sorted(counts.items()))
+    expect(f"record: {name}: {told}", [new for _, new in counts.values()], [old for old, _ in counts.values()])
+    expect(f"record: {name}: it has stops, frames, scopes and variables", min(old for old, _ in counts.values()) > 0, True)
+    expect(f"record: {name}: it exits", stop["body"], {"exitCode": code})
+    played.client.ask("disconnect")
+    expect(f"record: {name}: and ends", played.client.end(), (0, []))
+
+
+# Recordings that were written by hand, played to a client, and recorded again.
+
+
+def look_around(client, thread, texts):
+    """Asks at a stop for all that there is, and once for the text of each source."""
+    for one in client.ask("threads")["threads"]:
+        for here in client.ask("stackTrace", {"threadId": one["id"]})["stackFrames"]:
+            source = here["source"]
+            number = source.get("sourceReference", 0)
+            if number and number not in texts:
+                texts[number] = client.ask("source", {"source": source, "sourceReference": number})
+            left = references(client.ask("scopes", {"frameId": here["id"]})["scopes"])
+            while left:
+                told = client.ask("variables", {"variablesReference": left.pop()})["variables"]
+                left += [number for number in references(told) if number]
+
+
+def plain(recording):
+    """A recording without the places of its sources, and with each key that may be left out; no moment waits."""
+
+    def variables(those):
+        return [(one["name"], one["value"], variables(one.get("variables", []))) for one in those]
+
+    def frames(those):
+        for one in those:
+            source = recording["sources"][one["source"]]
+            scopes = [(scope["name"], variables(scope.get("variables", []))) for scope in one.get("scopes", [])]
+            yield one["name"], one["line"], source["name"], source.get("path"), source["text"], scopes
+
+    def moments():
+        for one in recording["moments"]:
+            threads = [(thread["id"], thread["name"], list(frames(thread["frames"]))) for thread in one["threads"]]
+            yield threads, one["thread"], one.get("output", "")
+
+    return recording["exit"], list(moments())
+
+
+def again():
+    """A session over a recording, recorded as it goes on, is that recording."""
+    for path in RECORDINGS:
+        name, out = os.path.basename(path), os.path.join(FOLDER, "again.json")
+        client = Client([RECORD, out, "--", DAP, "serve", path])
+        stop, texts = client.start(), {}
+        while stop and stop["event"] == "stopped":
+            look_around(client, stop["body"]["threadId"], texts)
+            client.ask("stepIn", {"threadId": stop["body"]["threadId"]})
+            stop = client.wait_for("stopped", "terminated")
+        client.ask("disconnect")
+        status, errors = client.end()
+        expect(f"record {name} again: ends well", (status, len(errors)), (0, 1))
+        expect(f"record {name} again", plain(recording_of(out)), plain(recording_of(path)))
+
+
+# A session as it goes on, and its ends.
+
+
+def at_a_stop(out, recording=RECORDINGS[0]):
+    """A client of a recorded session at its first stop, which it has looked into."""
+    client = Client([RECORD, out, "--", DAP, "serve", recording])
+    stop = client.start()
+    look_around(client, stop["body"]["threadId"], {})
+    return client
+
+
+def live():
+    """The ends of a session that give a recording."""
+    first = plain(recording_of(RECORDINGS[0]))[1][:1]
+
+    def closes(client):
+        return None
+
+    def disconnects(client):
+        client.ask("disconnect")
+
+    # These wait for the end, so that it is not the client's.
+    def is_ended(client):
+        client.child.send_signal(signal.SIGTERM)
+        client.child.stdout.read()
+
+    def is_interrupted(client):
+        client.child.send_signal(signal.SIGINT)
+        client.child.stdout.read()
+
+    def loses_its_adapter(client):
+        with open(f"/proc/{client.child.pid}/task/{client.child.pid}/children") as children:
+            os.kill(int(children.read().split()[0]), signal.SIGKILL)
+        client.child.stdout.read()
+
+    def sends_no_frame(client):
+        client.write(b"A: b\r\n\r\n")
+
+    no_frame = "record: the client's stream has a header without Content-Length: what comes after it is not heard"
+    for end, status, said in [
+        (closes, 0, []),
+        (disconnects, 0, []),
+        (is_ended, 143, []),
+        (is_interrupted, 130, []),
+        (loses_its_adapter, 137, []),
+        (sends_no_frame, 3, ["dap: NoLength at ", no_frame]),
+    ]:
+        out = os.path.join(FOLDER, "live.json")
+        client = at_a_stop(out)
+        end(client)
+        got, errors = client.end()
+        name = f"record: a client that {end.__name__.replace('_', ' ')}"
+        expect(f"{name}: the status", got, status)
+        said = [*said, "no event `exited` came", "1 moment, 1 source, exit code 0"]
+        expect_in(name + ": what is said", "\n".join(errors), *said)
+        expect(name, plain(recording_of(out))[1], first)
+        os.remove(out)
+
+
+def live_ends():
+    """The recording is there before the client has the answer to its `disconnect`, or the event `terminated`."""
+    first = plain(recording_of(RECORDINGS[0]))[1][:1]
+    for name in ("disconnect", "terminated"):
+        out = os.path.join(FOLDER, name + ".json")
+        client = at_a_stop(out)
+        if name == "terminated":
+            go_to_the_end(client)
+        else:
+            client.ask("disconnect")
+        client.child.kill()
+        client.end()
+        expect(f"record: killed after {name}", os.path.exists(out) and plain(recording_of(out))[1], first)
+
+
+def go_to_the_end(client):
+    client.ask("continue", {"threadId": 1})
+    # The last moment waits.
+    client.ask("pause", {"threadId": 1})
+    client.wait_for("stopped")
+    client.ask("continue", {"threadId": 1})
+    client.wait_for("terminated")
+
+
+# Broken sessions.
+
+ODD = [None, True, -1, 0, 1, 7, 59, 2**31, 2**53, 2**64, 1.5, "", "x", "\ud800", "a\0b"]
+ODD += [[], {}, [{}], [None], {"id": 1}, {"name": 1}]
+
+
+def places_in(value):
+    """Each place within: an array or an object, and the key."""
+    keys = value if isinstance(value, dict) else range(len(value)) if isinstance(value, list) else ()
+    for key in keys:
+        yield value, key
+        yield from places_in(value[key])
+
+
+def broken():
+    """Whatever an adapter answers: a recording that is served, or none; and no other end."""
+    path = os.path.join(HERE, "examples", "transcripts", "debugpy.txt")
+    with open(path, encoding="utf-8") as file:
+        lines = [line for line in file.read().splitlines() if line]
+    out, wrong, made = os.path.join(FOLDER, "broken.json"), [], 0
+    for seed in range(200):
+        choice = random.Random(seed)
+        session = recorder.Session()
+        for line in lines:
+            message = json.loads(line[2:])
+            for _ in range(choice.choice([0, 0, 0, 1, 2])):
+                value, key = choice.choice(list(places_in(message)))
+                value[key] = copy.deepcopy(choice.choice(ODD))
+            session.hear(line[0] == ">", message)
+        try:
+            recording, _ = recorder.recording_of(session, True)
+        except recorder.NoRecording:
+            continue
+        made += 1
+        with open(out, "wb") as file:
+            file.write(json.dumps(recording, ensure_ascii=False).encode("utf-8", "replace"))
+        if run(["serve", out]) != (0, b"", b""):
+            wrong.append(seed)
+    expect("record: broken sessions are served", wrong, [])
+    expect("record: broken sessions that have a recording", made > 20, True)
+    sys.stdout.flush()
