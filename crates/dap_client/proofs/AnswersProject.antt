@@ -1,5 +1,5 @@
 -- What a response changes is a step of the smaller client: the tables compared, each command in each phase.
-use Rattle.std.proofs.Common.{[], ◌≡◌, ℕ, List, Bool, true, false, Option, Some, None, refl, sym, ap, ◌∙◌}
+use Rattle.std.proofs.Common.{[], ◌≡◌, ℕ, List, Bool, true, false, Option, Some, None, refl, ap, ◌∙◌}
 use Rattle.std.specs.Prelude.{◌==◌, ◌&&◌, if◌then◌else◌}
 use Rattle.serde_json.specs.Data.{Data}
 use Rattle.dap_message.specs.Types.Command.{Command}

@@ -1,5 +1,5 @@
 -- The first test that holds, in two ways of writing it down.
-use Rattle.std.proofs.Common.{◌≡◌, ◌&&◌, not, Bool, true, false, cond, [], ◌∷◌, Option, Some, None, Ok, Err, refl, sym, ap}
+use Rattle.std.proofs.Common.{◌≡◌, ◌&&◌, not, Bool, true, false, cond, [], ◌∷◌, Option, Some, None, Ok, Err, refl, ap}
 use Rattle.std.specs.Prelude.{find}
 use Rattle.dap_message.specs.Argument.{Read}
 use Rattle.dap_message.specs.Failure.{failures_in_order}

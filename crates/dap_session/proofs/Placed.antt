@@ -4,6 +4,7 @@ use Rattle.std.specs.Prelude.{if◌then◌else◌}
 use Rattle.dap_message.specs.Types.Command.{Command}
 use Rattle.dap_message.specs.Types.Command.TheVariants as command
 use Rattle.dap_tables.specs.declared.entry.Entry.{Entry}
+use Rattle.dap_debuggee.specs.declared.answers.How.{How}
 use Rattle.dap_debuggee.specs.declared.answers.State.{State}
 use Rattle.dap_session.specs.declared.effect.Effect.{Effect}
 use Rattle.dap_session.specs.declared.effect.Effect.TheVariants as effect
@@ -93,3 +94,40 @@ no-setter-queries _ h = cc
 
 pub queries-no-setter : (c : Command) (phase : Phase) → effect_in c phase ≡ Some effect.Query → c ≡ command.SetVariable → ⊥
 queries-no-setter c phase h is = no-setter-queries phase (subst (λ (x : Command). effect_in x phase ≡ Some effect.Query) is h)
+
+-- ---- each effect by a name of its own, for the crates above, to which those of the type are not open
+
+abbrev pub TableEffect : Type 0
+TableEffect = Effect
+
+pub data EffectCase : Effect → Type 0 where
+  initializes : EffectCase effect.Initialize
+  parks : EffectCase effect.Park
+  starts : EffectCase effect.Start
+  configures : EffectCase effect.ConfigurationDone
+  starts_parked : EffectCase effect.StartParked
+  asks : EffectCase effect.Ask
+  asks_parked : EffectCase effect.AskParked
+  disconnects : EffectCase effect.Disconnect
+  ends_and_disconnects : EffectCase effect.EndAndDisconnect
+  terminates : EffectCase effect.Terminate
+  changes : EffectCase effect.Change
+  resumes : (how : How) → EffectCase (effect.Resume how)
+  pauses : EffectCase effect.Pause
+  queries : EffectCase effect.Query
+
+abbrev pub effect_case : (e : Effect) → EffectCase e
+effect_case effect.Initialize = initializes
+effect_case effect.Park = parks
+effect_case effect.Start = starts
+effect_case effect.ConfigurationDone = configures
+effect_case effect.StartParked = starts_parked
+effect_case effect.Ask = asks
+effect_case effect.AskParked = asks_parked
+effect_case effect.Disconnect = disconnects
+effect_case effect.EndAndDisconnect = ends_and_disconnects
+effect_case effect.Terminate = terminates
+effect_case effect.Change = changes
+effect_case (effect.Resume how) = resumes how
+effect_case effect.Pause = pauses
+effect_case effect.Query = queries

@@ -32,36 +32,11 @@ frame-live refs None h = refl
 frame-live refs (Some number) h = named-live refs Frame number h
 
 names-live : (refs : LiveReferences) (asked : Call) → AreLive refs (references_used_by asked) → lacks_reference refs (reference_named asked) ≡ false
-names-live refs (call.Initialize a) h = refl
-names-live refs (call.Launch a) h = refl
-names-live refs (call.Attach a) h = refl
-names-live refs call.ConfigurationDone h = refl
-names-live refs call.Disconnect h = refl
-names-live refs call.Threads h = refl
-names-live refs call.Terminate h = refl
-names-live refs (call.Cancel a) h = refl
-names-live refs (call.SetBreakpoints a b) h = refl
-names-live refs (call.SetFunctionBreakpoints a) h = refl
-names-live refs (call.SetExceptionBreakpoints a) h = refl
-names-live refs (call.Continue a) h = refl
-names-live refs (call.Next a) h = refl
-names-live refs (call.StepIn a) h = refl
-names-live refs (call.StepOut a) h = refl
-names-live refs (call.Pause a) h = refl
-names-live refs (call.StepBack a) h = refl
-names-live refs (call.ReverseContinue a) h = refl
-names-live refs (call.StackTrace a) h = refl
 names-live refs (call.Scopes number) h = named-live refs Frame number h
 names-live refs (call.Variables a) h = named-live refs Holder a.variables_reference h
 names-live refs (call.Evaluate a) h = frame-live refs a.frame_id h
-names-live refs (call.Source a) h = refl
-names-live refs call.LoadedSources h = refl
 names-live refs (call.SetVariable a) h = named-live refs Holder a.variables_reference h
-names-live refs call.Restart h = refl
-names-live refs (call.Modules a) h = refl
-names-live refs (call.ExceptionInfo a) h = refl
-names-live refs (call.BreakpointLocations a) h = refl
-names-live refs (call.Completions a) h = refl
+names-live refs _ h = refl
 
 -- ---- no other test says so
 

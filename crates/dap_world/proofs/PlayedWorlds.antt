@@ -1,5 +1,5 @@
 -- Schedules that are played out, step by step: each world is computed from the one before, where a debuggee's answers are.
-use Rattle.std.proofs.Common.{◌≡◌, ℕ, true, codes, List, [], ◌∷◌, Option, Some, None, Result, Ok, Err, refl, sym, subst}
+use Rattle.std.proofs.Common.{◌≡◌, ℕ, Bool, true, codes, List, [], ◌∷◌, Option, Some, None, Result, Ok, Err, refl, sym, subst}
 use Rattle.std.specs.Prelude.{◌++◌, ◌≤◌, IsTrue, false}
 use Rattle.std.specs.List.{AllByRecursion}
 use Rattle.dap_frame.specs.Settings.{Settings}
@@ -186,6 +186,23 @@ module _ {D : Type 0} (shown : D → Shown) (follows : Goes D) (replies : Replie
         step = step_by plan w w on (subst (λ (z : Settings). AllReadBack z.body (out_of replies plan w)) (sym same) p.1);
         within = within;
       }))
+
+  -- of a debuggee that goes on where this test of the plan holds
+  pub record Steps (may : Plan → D → Bool) : Type 0 where
+    pub sends : (c : Call) (w : World D) → IsTrue (is_plain_call c) → first_of refusals_in_order c false w.client ≡ None → w.client.limits ≡ limits → LeadsBy w → LeadsBy (sent c w)
+    pub comes-up : (w : World D) (m : Message) (later : List Message) (plan : Plan) → w.up ≡ m ∷ later → takes m w.adapter.session ≡ Ok plan → may plan w.adapter.debuggee ≡ true → w.adapter.session.limits ≡ limits → LeadsBy w → LeadsBy (up replies w)
+    pub comes-down : (w : World D) (m : Message) (later : List Message) (made : ClientMade) → w.down ≡ m ∷ later → client_takes m w.client ≡ Ok made → w.client.limits ≡ limits → LeadsBy w → LeadsBy (down w)
+    pub turns-once : (w : World D) (plan : Plan) → turns (shown w.adapter.debuggee) w.adapter.session ≡ Ok (Some plan) → may plan w.adapter.debuggee ≡ true → w.adapter.session.limits ≡ limits → LeadsBy w → LeadsBy (turned shown replies w)
+    pub polls-once : (w : World D) → may (polls w.adapter.session) w.adapter.debuggee ≡ true → (seat_after replies (polls w.adapter.session) w).session.used ≤ w.adapter.session.limits.seq → w.adapter.session.limits ≡ limits → LeadsBy w → LeadsBy (polled replies w)
+
+  pub steps_where : (may : Plan → D → Bool) → ((plan : Plan) (v : D) → may plan v ≡ true → GoesOn plan v) → Steps may
+  steps_where may on = record {
+    sends = sends_by;
+    comes-up = λ w m later plan first taken h. comes_up_by w m later plan first taken (on plan w.adapter.debuggee h);
+    comes-down = comes_down_by;
+    turns-once = λ w plan is h. turns_once_by w plan is (on plan w.adapter.debuggee h);
+    polls-once = λ w h. polls_once_by w (on (polls w.adapter.session) w.adapter.debuggee h);
+  }
 
 -- of a debuggee that goes on just by what it replies
 module _ {D : Type 0} (shown : D → Shown) (replies : Replies D) (limits : Settings) (d : D) where

@@ -1,6 +1,6 @@
 -- A worked session over a recording of three moments: a frame of the stop before is refused by the client, as long as it waits for the resumption and after it.
-use Rattle.std.proofs.Common.{◌≡◌, List, [], ◌∷◌, Bool, true, false, None, Some, pos, refl, ap, arith, true≢false}
-use Rattle.std.specs.Prelude.{◌&&◌, ◌≤◌, not, map, IsTrue, Ok}
+use Rattle.std.proofs.Common.{◌≡◌, [], ◌∷◌, Bool, true, false, None, Some, pos, refl, ap, arith, true≢false}
+use Rattle.std.specs.Prelude.{◌&&◌, not, map}
 use Rattle.std.specs.Fmt.{digits}
 use Rattle.std.specs.Str.{is_utf8, chars}
 use Rattle.json.specs.Print.{escape_byte}
@@ -12,10 +12,9 @@ use Rattle.dap_message.specs.CallTree.{initialize_members, stack_trace_members}
 use Rattle.dap_message.specs.Canon.{canon, tree_of, request_members, response_members, event_members}
 use Rattle.dap_message.specs.Argument.{Read}
 use Rattle.dap_message.specs.Laws.{WrittenIsReadAgain}
-use Rattle.dap_message.specs.PlainCall.{is_plain_call, WrittenCallIsReadAgain}
+use Rattle.dap_message.specs.PlainCall.{WrittenCallIsReadAgain}
 use Rattle.dap_message.specs.Types.Call.{Call}
 use Rattle.dap_message.specs.Types.Call.TheVariants as call
-use Rattle.dap_message.specs.declared.message.Message.{Message}
 use Rattle.dap_tables.specs.Given.{frame}
 use Rattle.dap_ends.proofs.Counts.{and-left, and-right}
 use Rattle.dap_debuggee.specs.Laws.{ends_a_stop}
@@ -25,17 +24,15 @@ use Rattle.dap_recording.proofs.ThreeMoments.{three_moments}
 use Rattle.dap_query.specs.Bodies.{query_result}
 use Rattle.dap_session.specs.Carried.{Goes}
 use Rattle.dap_query.specs.References.{AreLive}
-use Rattle.dap_session.specs.Handling.{plan_for, turns}
+use Rattle.dap_session.specs.Handling.{plan_for}
 use Rattle.dap_session.specs.Plan.{Plan, at_once, asking}
-use Rattle.dap_session.specs.Polling.{after_happening, polls}
-use Rattle.dap_session.specs.Taking.{takes}
+use Rattle.dap_session.specs.Polling.{after_happening}
 use Rattle.dap_client.specs.Sending.{first_of, refusals_in_order}
-use Rattle.dap_client.specs.Taking.{Made as ClientMade, takes as client_takes}
 use Rattle.dap_client.specs.declared.fault.SendFault.TheVariants.{NotStopped, UnknownReference}
 use Rattle.dap_world.specs.MessageReferences.{references_used_by_read, references_used_by_request}
 use Rattle.dap_world.specs.References.{LastingStops}
 use Rattle.dap_world.specs.World.{World, messages_of, fresh_world, Schedule, starts}
-use Rattle.dap_world.proofs.PlayedWorlds.{initialize, sent, up, down, turned, polled, seat_after, LeadsBy, GoesOn, sends_by, comes_up_by, comes_down_by, turns_once_by, polls_once_by}
+use Rattle.dap_world.proofs.PlayedWorlds.{initialize, sent, up, down, turned, polled, LeadsBy, GoesOn, Steps, steps_where}
 use Rattle.dap_world.proofs.ReadAgain.{all_read_again, all-read-again}
 use Rattle.dap_world.proofs.Booleans.{not-true}
 
@@ -82,20 +79,10 @@ goes-on (asking act makes) v h = (
 abbrev Leads : World Played → Type 0
 Leads w = LeadsBy shown_of Follows replies usual_settings at_first w
 
-sends : (c : Call) (w : World Played) → IsTrue (is_plain_call c) → first_of refusals_in_order c false w.client ≡ None → w.client.limits ≡ usual_settings → Leads w → Leads (sent c w)
-sends = sends_by shown_of Follows replies usual_settings at_first
+steps : Steps shown_of Follows replies usual_settings at_first is_calm
+steps = steps_where shown_of Follows replies usual_settings at_first is_calm goes-on
 
-comes-up : (w : World Played) (m : Message) (later : List Message) (plan : Plan) → w.up ≡ m ∷ later → takes m w.adapter.session ≡ Ok plan → is_calm plan w.adapter.debuggee ≡ true → w.adapter.session.limits ≡ usual_settings → Leads w → Leads (up replies w)
-comes-up w m later plan first taken h = comes_up_by shown_of Follows replies usual_settings at_first w m later plan first taken (goes-on plan w.adapter.debuggee h)
-
-comes-down : (w : World Played) (m : Message) (later : List Message) (made : ClientMade) → w.down ≡ m ∷ later → client_takes m w.client ≡ Ok made → w.client.limits ≡ usual_settings → Leads w → Leads (down w)
-comes-down = comes_down_by shown_of Follows replies usual_settings at_first
-
-turns-once : (w : World Played) (plan : Plan) → turns (shown_of w.adapter.debuggee) w.adapter.session ≡ Ok (Some plan) → is_calm plan w.adapter.debuggee ≡ true → w.adapter.session.limits ≡ usual_settings → Leads w → Leads (turned shown_of replies w)
-turns-once w plan is h = turns_once_by shown_of Follows replies usual_settings at_first w plan is (goes-on plan w.adapter.debuggee h)
-
-polls-once : (w : World Played) → is_calm (polls w.adapter.session) w.adapter.debuggee ≡ true → (seat_after replies (polls w.adapter.session) w).session.used ≤ w.adapter.session.limits.seq → w.adapter.session.limits ≡ usual_settings → Leads w → Leads (polled replies w)
-polls-once w h = polls_once_by shown_of Follows replies usual_settings at_first w (goes-on (polls w.adapter.session) w.adapter.debuggee h)
+open steps use {sends, comes-up, comes-down, turns-once, polls-once}
 
 abbrev stack_trace : Call
 stack_trace = call.StackTrace (record { thread_id = pos 1; start_frame = 0; levels = 0 })

@@ -1,6 +1,6 @@
 -- What the client names was given since the debuggee last went on: what the smaller pair's transcript keeps, told by the words of the checker.
 use Rattle.std.proofs.Common.{◌≡◌, ℕ, zero, suc, List, [], ◌∷◌, ◌++◌, map, Bool, true, false, Option, Some, None, refl, sym, ap, ◌∙◌, subst, inl, inr, true≢false}
-use Rattle.std.specs.Prelude.{◌⊎◌, ◌==◌, ◌&&◌, ◌||◌, not, codes, bytes_eq, cond, find, option_map, if◌then◌else◌}
+use Rattle.std.specs.Prelude.{◌⊎◌, ◌==◌, ◌&&◌, ◌||◌, not, codes, bytes_eq, option_map, if◌then◌else◌}
 use Rattle.std.specs.List.{list_any}
 use Rattle.std.specs.Set.{is_member}
 use Rattle.std.proofs.lemmas.List.{append-nil}
@@ -12,7 +12,7 @@ use Rattle.dap_ends.specs.References.{Ref, Note, same_ref, IsWithin, given_by as
 use Rattle.dap_ends.specs.Pair.{in_client_dialogue, client_dialogue}
 use Rattle.dap_ends.proofs.Counts.{and-left, and-right, names-same}
 use Rattle.dap_message.specs.CallTree.{command_of, call_tree, variables_members, evaluate_members, set_variable_members, completions_members, if_any}
-use Rattle.dap_message.specs.Command.{all_commands, command_named, name_of}
+use Rattle.dap_message.specs.Command.{command_named, name_of}
 use Rattle.dap_message.specs.GivenReferences.{frame_ids, holders_of}
 use Rattle.dap_message.specs.PlainCall.{WrittenCallIsReadAgain}
 use Rattle.dap_message.specs.Types.Call.{Call}
@@ -42,7 +42,7 @@ use Rattle.dap_world.specs.Transcripts.{said_of}
 use Rattle.dap_world.proofs.ClientSeen.{named-back}
 use Rattle.dap_world.proofs.GateStepping.{IsWritten}
 use Rattle.dap_world.proofs.ReferencesSeen.{has-member, seen-self}
-use Rattle.dap_world.proofs.RulesSeen.{is-false}
+use Rattle.dap_world.proofs.RulesSeen.{is-false, named-so}
 use Rattle.dap_world.proofs.Booleans.{from-or-false, or-either, or-true}
 
 -- ---- the lines, as the smaller pair has them
@@ -131,18 +131,6 @@ holder-among n (m ∷ ids) = ap (λ (b : Bool). (m == n) || b) (holder-among n i
 no-holder : (n : ℕ) (ids : List ℕ) → has_pair (Holder, n) (map frame ids) ≡ false
 no-holder n [] = refl
 no-holder n (m ∷ ids) = no-holder n ids
-
-found-if : (b : Bool) (p : Command → Bool) (x c : Command) (o : Option Command) → p x ≡ b → cond b (Some x) o ≡ Some c → (o ≡ Some c → p c ≡ true) → p c ≡ true
-found-if true p x c o h e ih = let same : x ≡ c = cc in ap p (sym same) ∙ h
-found-if false p x c o h e ih = ih e
-
-found-passes : (p : Command → Bool) (cs : List Command) (c : Command) → find p cs ≡ Some c → p c ≡ true
-found-passes p [] c e = cc
-found-passes p (x ∷ cs) c e = found-if (p x) p x c (find p cs) refl e (found-passes p cs c)
-
--- a command is known by its name
-pub named-so : (name : List ℕ) (c : Command) → command_named name ≡ Some c → bytes_eq name (name_of c) ≡ true
-named-so name c e = found-passes (λ x. bytes_eq name (name_of x)) all_commands c e
 
 frames-if : (b : Bool) (n : ℕ) (ids : List ℕ) → b ≡ true → contains_number n ids ≡ true → contains_number n (if b then ids else []) ≡ true
 frames-if true n ids e h = h

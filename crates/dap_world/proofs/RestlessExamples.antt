@@ -1,6 +1,6 @@
 -- A worked schedule in which a request crosses the events that the debuggee went on by itself and stopped again: what it uses is dead when it comes.
 use Rattle.std.proofs.Common.{None, ◌≡◌, [], ◌∷◌, Bool, true, false, Option, Some, codes, pos, refl, sym, subst, arith, true≢false}
-use Rattle.std.specs.Prelude.{◌&&◌, ◌≤◌, IsTrue, List, Ok, Err}
+use Rattle.std.specs.Prelude.{◌&&◌, Err}
 use Rattle.std.specs.Fmt.{digits}
 use Rattle.std.specs.Str.{is_utf8, chars}
 use Rattle.json.specs.Print.{escape_byte}
@@ -12,7 +12,7 @@ use Rattle.dap_message.specs.CallTree.{call_tree, initialize_members, stack_trac
 use Rattle.dap_message.specs.Canon.{canon, tree_of, request_members, response_members, event_members}
 use Rattle.dap_message.specs.Argument.{Read}
 use Rattle.dap_message.specs.Laws.{WrittenIsReadAgain}
-use Rattle.dap_message.specs.PlainCall.{is_plain_call, WrittenCallIsReadAgain}
+use Rattle.dap_message.specs.PlainCall.{WrittenCallIsReadAgain}
 use Rattle.dap_message.specs.Types.Call.{Call}
 use Rattle.dap_message.specs.Types.Call.TheVariants as call
 use Rattle.dap_message.specs.Types.Command.TheVariants as command
@@ -23,24 +23,21 @@ use Rattle.dap_debuggee.specs.Shown.{Act, to_start, to_resume, to_pause, to_poll
 use Rattle.dap_debuggee.specs.declared.answers.Happening.TheVariants as happening
 use Rattle.dap_debuggee.specs.declared.answers.State.{State}
 use Rattle.dap_debuggee.specs.declared.answers.State.TheVariants.{NotStarted, Running, Stopped}
-use Rattle.dap_message.specs.declared.message.Message.{Message}
 use Rattle.dap_client.specs.References.{references_used_by}
-use Rattle.dap_client.specs.Sending.{first_of, refusals_in_order}
-use Rattle.dap_client.specs.Taking.{Made as ClientMade, takes as client_takes}
+use Rattle.dap_client.specs.Taking.{takes as client_takes}
 use Rattle.dap_client.specs.declared.fault.ClientFault.TheVariants.{ReferenceLimit}
 use Rattle.dap_query.specs.Bodies.{query_result}
 use Rattle.dap_session.specs.Failures.{first_failure, name_refused, key_refused, phase_refused, read_refused, refusal}
 use Rattle.dap_query.specs.References.{AreLive}
-use Rattle.dap_session.specs.Handling.{plan_for, turns}
+use Rattle.dap_session.specs.Handling.{plan_for}
 use Rattle.dap_session.specs.Plan.{Plan, at_once, asking}
-use Rattle.dap_session.specs.Polling.{after_happening, polls}
+use Rattle.dap_session.specs.Polling.{after_happening}
 use Rattle.dap_session.specs.Session.{oldest}
-use Rattle.dap_session.specs.Taking.{takes}
 use Rattle.dap_tables.specs.Outstanding.{Kept}
 use Rattle.dap_world.specs.MessageReferences.{references_used_by_read, references_used_by_request}
 use Rattle.dap_world.specs.Restless.{Restless, restless_shown, is_possible, restless_after, RestlessFollows, PremiseIsNeeded}
 use Rattle.dap_world.specs.World.{World, messages_of, fresh_world, starts}
-use Rattle.dap_world.proofs.PlayedWorlds.{initialize, first_message, Replies, sent, up, down, turned, polled, seat_after, LeadsBy, GoesOn, sends_by, comes_up_by, comes_down_by, turns_once_by, polls_once_by}
+use Rattle.dap_world.proofs.PlayedWorlds.{initialize, first_message, Replies, sent, up, down, turned, polled, LeadsBy, GoesOn, Steps, steps_where}
 use Rattle.dap_world.proofs.ReadAgain.{all_read_again, all-read-again}
 use Rattle.dap_world.proofs.RestlessLaws.{keeps-laws}
 
@@ -91,20 +88,10 @@ goes-on (asking act makes) v h = (reply_in v.state act, (h, refl), refl)
 abbrev Leads : World Restless → Type 0
 Leads w = LeadsBy restless_shown RestlessFollows replies limits at_first w
 
-sends : (c : Call) (w : World Restless) → IsTrue (is_plain_call c) → first_of refusals_in_order c false w.client ≡ None → w.client.limits ≡ limits → Leads w → Leads (sent c w)
-sends = sends_by restless_shown RestlessFollows replies limits at_first
+steps : Steps restless_shown RestlessFollows replies limits at_first (λ plan v. is_carried plan v.state)
+steps = steps_where restless_shown RestlessFollows replies limits at_first (λ plan v. is_carried plan v.state) goes-on
 
-comes-up : (w : World Restless) (m : Message) (later : List Message) (plan : Plan) → w.up ≡ m ∷ later → takes m w.adapter.session ≡ Ok plan → is_carried plan w.adapter.debuggee.state ≡ true → w.adapter.session.limits ≡ limits → Leads w → Leads (up replies w)
-comes-up w m later plan first taken h = comes_up_by restless_shown RestlessFollows replies limits at_first w m later plan first taken (goes-on plan w.adapter.debuggee h)
-
-comes-down : (w : World Restless) (m : Message) (later : List Message) (made : ClientMade) → w.down ≡ m ∷ later → client_takes m w.client ≡ Ok made → w.client.limits ≡ limits → Leads w → Leads (down w)
-comes-down = comes_down_by restless_shown RestlessFollows replies limits at_first
-
-turns-once : (w : World Restless) (plan : Plan) → turns (restless_shown w.adapter.debuggee) w.adapter.session ≡ Ok (Some plan) → is_carried plan w.adapter.debuggee.state ≡ true → w.adapter.session.limits ≡ limits → Leads w → Leads (turned restless_shown replies w)
-turns-once w plan is h = turns_once_by restless_shown RestlessFollows replies limits at_first w plan is (goes-on plan w.adapter.debuggee h)
-
-polls-once : (w : World Restless) → is_carried (polls w.adapter.session) w.adapter.debuggee.state ≡ true → (seat_after replies (polls w.adapter.session) w).session.used ≤ w.adapter.session.limits.seq → w.adapter.session.limits ≡ limits → Leads w → Leads (polled replies w)
-polls-once w h = polls_once_by restless_shown RestlessFollows replies limits at_first w (goes-on (polls w.adapter.session) w.adapter.debuggee h)
+open steps use {sends, comes-up, comes-down, turns-once, polls-once}
 
 -- ---- the schedule
 

@@ -103,10 +103,11 @@ would-is : (p : Phase) (c : Command) (s : Session) (r : Entry) (by : ByNumber) (
 would-is adapter.Configured command.Launch s r by used named w o l n =
     ap (λ (x : Bool). s.options.supports_run_in_terminal_request && x) (w ∙ launch-wants (command_named r.command) r.arguments (ap (λ (x : Option Command). code (class_if x)) named))
 would-is adapter.Configured command.Attach s r by used named w o l n =
-    ap (λ (x : Bool). s.options.supports_run_in_terminal_request && x) (w ∙ ap (λ (x : Option Command). wanted_by x r.arguments) named) ∙ and-false s.options.supports_run_in_terminal_request
+    ap (λ (x : Bool). s.options.supports_run_in_terminal_request && x) (w ∙ launch-wants (command_named r.command) r.arguments (ap (λ (x : Option Command). code (class_if x)) named))
 would-is adapter.Parked command.ConfigurationDone s r by used named w o l n =
     let many = length-asks (parked_of (all_kept s.kept)) in
     ap (λ (x : Bool). s.options.supports_run_in_terminal_request && x) (sym (one-wants s.options by used (entry_ask r) (small_asks (parked_of (all_kept s.kept))) (many ∙ n))) ∙ sym (parked-wants s.options by used s.kept o l)
+would-is _ command.Launch s r by used named w o l n = refl
 would-is _ _ s r by used named w o l n = refl
 
 pub turn-asks : {D : Type 0} (w : World D) (known : List Ref) (by : ByNumber) (used : ℕ) (h : Handled w.adapter.session) → by.wants h.k.entry.seq ≡ wanted_of h.k.entry → AllOwn by used (all_asks w.adapter.session.kept)
@@ -127,6 +128,7 @@ read-announces a r c e = ap announces e
 announced-by : (p : Phase) (asked : Call) (s : Session) (wanted : Bool) (arguments : Option Data) → call_of (command_in asked) arguments ≡ Ok asked → wanted ≡ wanted_by (Some (command_in asked)) arguments
     → terminal_after_command (adapter_model_phase p) (class_of (command_in asked)) wanted s.options.supports_run_in_terminal_request ≡ (options_by p asked s).supports_run_in_terminal_request
 announced-by adapter.Fresh (call.Initialize a) s wanted arguments r w = w ∙ ap announces r
+announced-by _ (call.Initialize a) s wanted arguments r w = refl
 announced-by _ _ s wanted arguments r w = refl
 
 pub turn-announced : {D : Type 0} (w : World D) (wants : ℕ → Bool) (h : Handled w.adapter.session) (options : Options) → wants h.k.entry.seq ≡ wanted_of h.k.entry → options ≡ options_by w.adapter.session.phase h.call w.adapter.session
