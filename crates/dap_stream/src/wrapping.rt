@@ -5,9 +5,9 @@ ghost use Rattle.std.specs.Str.Lines.{lines};
 ghost use Rattle.dap_frame.specs.Written.{frame_of};
 ghost use Rattle.dap_message.specs.Meaning.{Msg};
 ghost use Rattle.dap_message.specs.declared.message.Message.{Message};
-ghost use Rattle.dap_tool.specs.PrivateShowSteps.{IsUnread};
-ghost use Rattle.dap_tool.specs.declared.wrapping.WrapFault.{WrapFault};
-ghost use Rattle.dap_tool.specs.Wrapping.{IsBody, AreBodies, frames_of_bodies, Refuses, FirstRefused};
+ghost use Rattle.dap_stream.specs.PrivateShowSteps.{IsUnread};
+ghost use Rattle.dap_stream.specs.declared.wrapping.WrapFault.{WrapFault};
+ghost use Rattle.dap_stream.specs.Wrapping.{IsBody, AreBodies, frames_of_bodies, Refuses, FirstRefused};
 
 use dap_check::split_line;
 use dap_frame::{Limits, write_frame};
@@ -31,7 +31,7 @@ pub enum WrapFault {
 }
 
 impl From<AllocError> for WrapFault {
-    ghost use Rattle.dap_tool.specs.declared.wrapping.WrapFault.TheVariants.{OutOfMemory};
+    ghost use Rattle.dap_stream.specs.declared.wrapping.WrapFault.TheVariants.{OutOfMemory};
 
     ghost from_gives = { λ _ fault. fault ≡ OutOfMemory };
 

@@ -1,7 +1,7 @@
 use Rattle.std.proofs.Common.{◌-◌, ◌≤◌, length}
 use Rattle.dap_frame.specs.Intake.{IsUnderWay}
-use Rattle.dap_tool.specs.PrivateShowSteps.{ListedTo}
-use Rattle.dap_tool.proofs.listing.show.Given as goal
+use Rattle.dap_stream.specs.PrivateShowSteps.{ListedTo}
+use Rattle.dap_stream.proofs.listing.show.Given as goal
 
 abbrev pub invariant-loop-at : goal.invariant-loop-at
 invariant-loop-at l = record {

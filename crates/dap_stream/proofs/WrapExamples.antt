@@ -13,8 +13,8 @@ use Rattle.dap_message.specs.Meaning.{Msg}
 use Rattle.dap_message.specs.Refusals.{first_refusal}
 use Rattle.dap_message.specs.declared.fault.BodyRefusal.TheVariants.{NotJson, BadSeq}
 use Rattle.dap_message.specs.declared.message.Kind.TheVariants.{Other}
-use Rattle.dap_tool.specs.Wrapping.{bodies, frames_of_bodies, IsBody, FirstRefused}
-use Rattle.dap_tool.specs.declared.wrapping.WrapFault.TheVariants.{Body, BodyTooLong}
+use Rattle.dap_stream.specs.Wrapping.{bodies, frames_of_bodies, IsBody, FirstRefused}
+use Rattle.dap_stream.specs.declared.wrapping.WrapFault.TheVariants.{Body, BodyTooLong}
 
 -- ---- lines
 

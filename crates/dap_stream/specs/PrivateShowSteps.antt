@@ -8,7 +8,7 @@ use Rattle.dap_message.specs.declared.fault.BodyFault.TheVariants.{Refused as Bo
 use Rattle.dap_message.specs.declared.heading.HeadingKind.{HeadingKind}
 use Rattle.dap_message.specs.declared.heading.HeadingKind.TheVariants.{Request, Response, Event, Other}
 use Rattle.dap_message.specs.declared.message.Kind.TheVariants as kind
-use Rattle.dap_tool.specs.Listing.{Listed, kind_text}
+use Rattle.dap_stream.specs.Listing.{Listed, kind_text}
 
 -- the words of a heading: those of such a message, whatever else it has
 abbrev pub kind_words : HeadingKind → List ℕ

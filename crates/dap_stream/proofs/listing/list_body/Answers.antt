@@ -1,7 +1,7 @@
 use Rattle.std.proofs.Common.{ap, refl, sym, ◌∙◌, subst}
 use Rattle.dap_frame.specs.Intake.{StandsFor}
-use Rattle.dap_tool.proofs.ShowLemmas.{released}
-use Rattle.dap_tool.proofs.listing.list_body.Goals as goal
+use Rattle.dap_stream.proofs.ShowLemmas.{released}
+use Rattle.dap_stream.proofs.listing.list_body.Goals as goal
 
 pub returns-clause-ok : goal.returns-clause-ok
 returns-clause-ok c = λ limits bytes old at small l.

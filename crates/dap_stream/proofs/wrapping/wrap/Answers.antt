@@ -1,10 +1,10 @@
 use Rattle.std.proofs.Common.{◌≡◌, ◌⊎◌, IfErr, Err, sym, subst, arith}
 use Rattle.std.specs.Str.Lines.{lines}
 use Rattle.std.proofs.lemmas.Bool.Decides.{nat_tests}
-use Rattle.dap_tool.specs.declared.wrapping.WrapFault.TheVariants.{OutOfMemory}
-use Rattle.dap_tool.proofs.OneFault.{no_fault, only_memory, one_told, is_told}
-use Rattle.dap_tool.proofs.Wrapped.{all_accepted, refused, Wrapped-skipped, Wrapped-more}
-use Rattle.dap_tool.proofs.wrapping.wrap.Goals as goal
+use Rattle.dap_stream.specs.declared.wrapping.WrapFault.TheVariants.{OutOfMemory}
+use Rattle.dap_stream.proofs.OneFault.{no_fault, only_memory, one_told, is_told}
+use Rattle.dap_stream.proofs.Wrapped.{all_accepted, refused, Wrapped-skipped, Wrapped-more}
+use Rattle.dap_stream.proofs.wrapping.wrap.Goals as goal
 
 pub loop-rest-preserved-in_ok-wrap_line : goal.loop-rest-preserved-in_ok-wrap_line
 loop-rest-preserved-in_ok-wrap_line c =

@@ -10,9 +10,9 @@ use Rattle.dap_message.specs.Meaning.{Msg}
 use Rattle.dap_message.specs.Refusals.{Bad}
 use Rattle.dap_message.specs.declared.fault.BodyRefusal.{BodyRefusal}
 use Rattle.dap_message.specs.declared.message.Message.{Message}
-use Rattle.dap_tool.specs.Wrapping.{bodies, IsBody, AreBodies, Refuses, FirstRefused}
-use Rattle.dap_tool.specs.declared.wrapping.WrapFault.{WrapFault}
-use Rattle.dap_tool.specs.declared.wrapping.WrapFault.TheVariants.{Body, BodyTooLong, OutOfMemory}
+use Rattle.dap_stream.specs.Wrapping.{bodies, IsBody, AreBodies, Refuses, FirstRefused}
+use Rattle.dap_stream.specs.declared.wrapping.WrapFault.{WrapFault}
+use Rattle.dap_stream.specs.declared.wrapping.WrapFault.TheVariants.{Body, BodyTooLong, OutOfMemory}
 
 -- ---- lines among bodies
 

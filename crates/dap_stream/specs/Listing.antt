@@ -14,8 +14,8 @@ use Rattle.dap_message.specs.declared.fault.BodyRefusal.{BodyRefusal}
 use Rattle.dap_message.specs.declared.message.Message.{Message}
 use Rattle.dap_message.specs.declared.message.Kind.{Kind}
 use Rattle.dap_message.specs.declared.message.Kind.TheVariants.{Request, Response, Event, Other}
-use Rattle.dap_tool.specs.declared.listing.ShowFault.{ShowFault}
-use Rattle.dap_tool.specs.declared.listing.ShowFault.TheVariants.{Frame as BadFrame, Body, OutOfMemory}
+use Rattle.dap_stream.specs.declared.listing.ShowFault.{ShowFault}
+use Rattle.dap_stream.specs.declared.listing.ShowFault.TheVariants.{Frame as BadFrame, Body, OutOfMemory}
 
 -- ---- a line
 

@@ -11,9 +11,9 @@ use Rattle.dap_frame.specs.Intake.{Intake, IsReady, StandsFor, Shut, StartsAt, L
 use Rattle.dap_frame.specs.Feeds.{Completes, Gathers, Closes}
 use Rattle.dap_message.specs.Meaning.{Msg}
 use Rattle.dap_message.specs.declared.message.Message.{Message}
-use Rattle.dap_tool.specs.Listing.{none, one_more, Listed, Shows, line_of_message}
-use Rattle.dap_tool.specs.PrivateShowSteps.{ListedTo, ListedBefore}
-use Rattle.dap_tool.specs.declared.listing.ShowFault.TheVariants.{Frame, OutOfMemory}
+use Rattle.dap_stream.specs.Listing.{none, one_more, Listed, Shows, line_of_message}
+use Rattle.dap_stream.specs.PrivateShowSteps.{ListedTo, ListedBefore}
+use Rattle.dap_stream.specs.declared.listing.ShowFault.TheVariants.{Frame, OutOfMemory}
 
 -- ---- how far a listing has come
 

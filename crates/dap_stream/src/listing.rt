@@ -6,8 +6,8 @@ ghost use Rattle.dap_frame.specs.Intake.{IsReady, IsUnderWay};
 ghost use Rattle.dap_message.specs.Heading.{IsHeadingOf};
 ghost use Rattle.dap_message.specs.Meaning.{Msg};
 ghost use Rattle.dap_message.specs.declared.message.Message.{Message};
-ghost use Rattle.dap_tool.specs.Listing.{Shows, shown_text, shown_byte, outcome_text, line_of_message};
-ghost use Rattle.dap_tool.specs.PrivateShowSteps.{kind_words, IsUnread, ListedBefore, ListedTo};
+ghost use Rattle.dap_stream.specs.Listing.{Shows, shown_text, shown_byte, outcome_text, line_of_message};
+ghost use Rattle.dap_stream.specs.PrivateShowSteps.{kind_words, IsUnread, ListedBefore, ListedTo};
 
 use dap_frame::{End, FrameFault, Frames, Limits};
 use dap_message::{
@@ -32,7 +32,7 @@ pub enum ShowFault {
 }
 
 impl From<AllocError> for ShowFault {
-    ghost use Rattle.dap_tool.specs.declared.listing.ShowFault.TheVariants.{OutOfMemory};
+    ghost use Rattle.dap_stream.specs.declared.listing.ShowFault.TheVariants.{OutOfMemory};
 
     ghost from_gives = { λ _ fault. fault ≡ OutOfMemory };
 

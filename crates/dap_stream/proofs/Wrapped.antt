@@ -8,8 +8,8 @@ use Rattle.std.proofs.lemmas.List.Concat.{flat_map-append}
 use Rattle.std.proofs.lemmas.List.Elements.{filter-append, All-append, All-nil, All-cons}
 use Rattle.dap_frame.specs.Settings.{Settings}
 use Rattle.dap_frame.specs.Written.{frame_of}
-use Rattle.dap_tool.specs.Wrapping.{bodies, frames_of_bodies, IsBody, AreBodies, Refuses, FirstRefused}
-use Rattle.dap_tool.specs.declared.wrapping.WrapFault.{WrapFault}
+use Rattle.dap_stream.specs.Wrapping.{bodies, frames_of_bodies, IsBody, AreBodies, Refuses, FirstRefused}
+use Rattle.dap_stream.specs.declared.wrapping.WrapFault.{WrapFault}
 
 -- the lines before rest are bodies, of this number, and their frames are out
 pub record Wrapped (limits : Settings) (bytes rest out : List ℕ) (number : ℕ) : Type 0 where

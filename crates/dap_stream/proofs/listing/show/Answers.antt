@@ -1,6 +1,6 @@
 use Rattle.std.proofs.Common.{arith}
-use Rattle.dap_tool.proofs.ShowLemmas.{ListedTo-start, completed, gathered, closed, out_of_memory_first, within_rest, gathers_within}
-use Rattle.dap_tool.proofs.listing.show.Goals as goal
+use Rattle.dap_stream.proofs.ShowLemmas.{ListedTo-start, completed, gathered, closed, out_of_memory_first, within_rest, gathers_within}
+use Rattle.dap_stream.proofs.listing.show.Goals as goal
 
 pub returns-in_default : goal.returns-in_default
 returns-in_default c = out_of_memory_first c.args.limits c.args.bytes.now _

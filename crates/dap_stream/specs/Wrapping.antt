@@ -6,8 +6,8 @@ use Rattle.dap_frame.specs.Written.{frame_of}
 use Rattle.dap_message.specs.Meaning.{Msg}
 use Rattle.dap_message.specs.Refusals.{Bad}
 use Rattle.dap_message.specs.declared.message.Message.{Message}
-use Rattle.dap_tool.specs.declared.wrapping.WrapFault.{WrapFault}
-use Rattle.dap_tool.specs.declared.wrapping.WrapFault.TheVariants.{Body, BodyTooLong, OutOfMemory}
+use Rattle.dap_stream.specs.declared.wrapping.WrapFault.{WrapFault}
+use Rattle.dap_stream.specs.declared.wrapping.WrapFault.TheVariants.{Body, BodyTooLong, OutOfMemory}
 
 -- the lines that have bytes
 abbrev pub bodies : List (List ℕ) → List (List ℕ)
