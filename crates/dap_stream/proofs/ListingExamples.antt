@@ -3,7 +3,7 @@ use Rattle.std.proofs.Common.{◌≡◌, [], ◌∷◌, ◌++◌, codes, true, f
 use Rattle.std.specs.Fmt.{digits}
 use Rattle.serde_json.specs.Data.{null, object, no_members}
 use Rattle.dap_message.specs.declared.message.Kind.TheVariants.{Request, Response, Event, Other}
-use Rattle.dap_stream.specs.Listing.{shown_text, line_of_message}
+use Rattle.dap_stream.specs.Lines.{shown_text, line_of_message}
 
 -- ---- names
 

@@ -8,7 +8,9 @@ use Rattle.dap_message.specs.declared.fault.BodyFault.TheVariants.{Refused as Bo
 use Rattle.dap_message.specs.declared.heading.HeadingKind.{HeadingKind}
 use Rattle.dap_message.specs.declared.heading.HeadingKind.TheVariants.{Request, Response, Event, Other}
 use Rattle.dap_message.specs.declared.message.Kind.TheVariants as kind
-use Rattle.dap_stream.specs.Listing.{Listed, kind_text}
+use Rattle.dap_stream.specs.Lines.{kind_text}
+use Rattle.dap_stream.specs.Listing.{Listed}
+use Rattle.dap_stream.specs.declared.listing.Form.{Form}
 
 -- the words of a heading: those of such a message, whatever else it has
 abbrev pub kind_words : HeadingKind → List ℕ
@@ -23,16 +25,16 @@ IsUnread body (BodyRefused cause) = Bad body cause
 IsUnread body NoMemoryForBody = Unit {0}
 
 -- the first `at` bytes were listed
-pub record ListedTo (limits : Settings) (frames : Intake) (bytes : List ℕ) (at : ℕ) (old new : List ℕ) : Type 0 where
+pub record ListedTo (form : Form) (limits : Settings) (frames : Intake) (bytes : List ℕ) (at : ℕ) (old new : List ℕ) : Type 0 where
   pub bodies : List (List ℕ)
   pub rest : List ℕ
   pub bounds : frames.bounds ≡ bounds_of limits
   pub stands : StandsFor frames (take at bytes) bodies rest
-  pub listed : Listed limits bytes bodies old new
+  pub listed : Listed form limits bytes bodies old new
 
 -- the same, save for the last body, which is ready
-pub record ListedBefore (limits : Settings) (frames : Intake) (bytes : List ℕ) (at : ℕ) (old new : List ℕ) : Type 0 where
+pub record ListedBefore (form : Form) (limits : Settings) (frames : Intake) (bytes : List ℕ) (at : ℕ) (old new : List ℕ) : Type 0 where
   pub bodies : List (List ℕ)
   pub bounds : frames.bounds ≡ bounds_of limits
   pub stands : StandsFor frames (take at bytes) (bodies ++ frames.held ∷ []) []
-  pub listed : Listed limits bytes bodies old new
+  pub listed : Listed form limits bytes bodies old new

@@ -4,8 +4,10 @@
 //! statuses, the lines of faults, and sessions. It relies on the public contracts of the crates below alone.
 #![tactic(auto)]
 
+mod bodies;
+pub mod laws;
 mod listing;
 mod wrapping;
 
-pub use listing::{ShowFault, show};
+pub use listing::{Form, ShowFault, show, unwrap};
 pub use wrapping::{WrapFault, wrap};

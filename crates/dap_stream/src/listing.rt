@@ -6,9 +6,11 @@ ghost use Rattle.dap_frame.specs.Intake.{IsReady, IsUnderWay};
 ghost use Rattle.dap_message.specs.Heading.{IsHeadingOf};
 ghost use Rattle.dap_message.specs.Meaning.{Msg};
 ghost use Rattle.dap_message.specs.declared.message.Message.{Message};
-ghost use Rattle.dap_stream.specs.Listing.{Shows, shown_text, shown_byte, outcome_text, line_of_message};
+ghost use Rattle.dap_stream.specs.Lines.{shown_text, shown_byte, outcome_text, line_of_message, line_of_body};
+ghost use Rattle.dap_stream.specs.Listing.{IsLineOf, Shows};
 ghost use Rattle.dap_stream.specs.PrivateShowSteps.{kind_words, IsUnread, ListedBefore, ListedTo};
 
+use crate::bodies::{push_unbroken, test_message};
 use dap_frame::{End, FrameFault, Frames, Limits};
 use dap_message::{
     BodyFault, BodyRefusal, Heading, HeadingKind, Scratch, read_heading, read_message,
@@ -16,6 +18,15 @@ use dap_message::{
 use itoa::Buffer;
 use std::alloc::{AllocError, Global};
 use thiserror::Error;
+
+/// What the line of a message is.
+#[derive(Clone, Copy, Debug, PartialEq, Eq)]
+pub enum Form {
+    /// For the eye: the offset of the frame, the message's number, its kind and its names.
+    Line,
+    /// The body, without its line feeds and carriage returns.
+    Body,
+}
 
 /// Why a stream is not listed to its end.
 #[derive(Clone, Copy, Debug, PartialEq, Eq, Error)]
@@ -134,23 +145,59 @@ fn make_line_of(
     Ok(())
 }
 
-/// Makes the line of the message that the ready body is.
+/// Makes the line that the body is, where it is a message.
+fn make_body_line(
+    alloc: Global,
+    scratch: &mut Scratch,
+    line: &mut Vec<u8>,
+    body: &[u8],
+) -> Result<(), BodyFault>
+    ensures made { OnOk result ((m : Message) × Msg body.now m × (line.new.items ≡ line_of_body body.now)) }
+    ensures fault { IfErr result (IsUnread body.now) }
+{
+    test_message(alloc, scratch, body)?;
+    line.clear();
+    push_unbroken(line, body)?;
+    line.extend_from_slice(b"\n")?;
+    Ok(())
+}
+
+/// Makes the line of a body in a form.
+fn make_line_in(
+    alloc: Global,
+    scratch: &mut Scratch,
+    line: &mut Vec<u8>,
+    form: Form,
+    offset: u64,
+    body: &[u8],
+) -> Result<(), BodyFault>
+    ensures made { OnOk result (IsLineOf form offset body.now line.new.items) }
+    ensures fault { IfErr result (IsUnread body.now) }
+{
+    match form {
+        Form::Line => make_line_of(alloc, scratch, line, offset, body),
+        Form::Body => make_body_line(alloc, scratch, line, body),
+    }
+}
+
+/// Makes the line of the ready body.
 fn make_line_of_ready(
     alloc: Global,
     frames: &mut Frames,
     scratch: &mut Scratch,
     line: &mut Vec<u8>,
+    form: Form,
 ) -> Result<(), BodyFault>
     requires { IsReady frames.old }
     ensures same { frames.new ≡ frames.old }
-    ensures made { OnOk result ((m : Message) × Msg frames.old.held m × (line.new.items ≡ line_of_message frames.old.start m)) }
+    ensures made { OnOk result (IsLineOf form frames.old.start frames.old.held line.new.items) }
     ensures fault { IfErr result (IsUnread frames.old.held) }
 {
     let offset = frames.offset();
     let Some(body) = frames.body() else {
         unreachable!()
     };
-    make_line_of(alloc, scratch, line, offset, body)
+    make_line_in(alloc, scratch, line, form, offset, body)
 }
 
 /// Appends the line of the ready body, and gives the body up.
@@ -159,17 +206,18 @@ fn list_body(
     frames: &mut Frames,
     scratch: &mut Scratch,
     line: &mut Vec<u8>,
+    form: Form,
     out: &mut Vec<u8>,
 ) -> Result<(), ShowFault>
     requires { IsReady frames.old }
     ensures under_way { OnOk result (IsUnderWay frames.new) }
-    ensures ok { OnOk result ((limits : Settings) (bytes old : List ℕ) (at : ℕ) → length bytes < 2 ^ 64 → ListedBefore limits frames.old bytes at old out.old.items
-        → ListedTo limits frames.new bytes at old out.new.items) }
-    ensures err { IfErr result (λ fault. (limits : Settings) (bytes old : List ℕ) (at : ℕ) → ListedBefore limits frames.old bytes at old out.old.items
-        → Shows limits bytes old out.new.items (Err fault)) }
+    ensures ok { OnOk result ((limits : Settings) (bytes old : List ℕ) (at : ℕ) → length bytes < 2 ^ 64 → ListedBefore form limits frames.old bytes at old out.old.items
+        → ListedTo form limits frames.new bytes at old out.new.items) }
+    ensures err { IfErr result (λ fault. (limits : Settings) (bytes old : List ℕ) (at : ℕ) → ListedBefore form limits frames.old bytes at old out.old.items
+        → Shows form limits bytes old out.new.items (Err fault)) }
 {
     let offset = frames.offset();
-    match make_line_of_ready(alloc, frames, scratch, line) {
+    match make_line_of_ready(alloc, frames, scratch, line, form) {
         Ok(()) => {}
         Err(BodyFault::Refused(cause)) => return Err(ShowFault::Body { cause, offset }),
         Err(BodyFault::OutOfMemory) => return Err(ShowFault::OutOfMemory),
@@ -179,19 +227,16 @@ fn list_body(
     Ok(())
 }
 
-/// Appends a line for each message of a stream, up to the first refusal: `OFFSET SEQ request COMMAND`,
-/// `OFFSET SEQ response COMMAND REQUEST_SEQ ok` or `failed`, `OFFSET SEQ event EVENT`, `OFFSET SEQ other TAG`. Offsets
-/// count bytes from the stream's start; control characters are shown as `?`. The end is `Clean` or `Truncated`.
-///
-/// At a fault the lines of all messages before it stay. At want of memory the lines of some first messages stay, each of
-/// them whole.
-pub fn show(
+/// Appends the line of each message of a stream in a form, up to the first refusal. Offsets count bytes from the stream's
+/// start. The end is `Clean` or `Truncated`.
+fn list(
     alloc: Global,
     bytes: &[u8],
     limits: Limits,
+    form: Form,
     out: &mut Vec<u8>,
 ) -> Result<End, ShowFault>
-    ensures { Shows limits bytes.now out.old.items out.new.items result }
+    ensures { Shows form limits bytes.now out.old.items out.new.items result }
 {
     let Ok(mut frames) = Frames::open(alloc, &limits) else {
         return Err(ShowFault::OutOfMemory);
@@ -207,11 +252,45 @@ pub fn show(
         };
         at += fed.used;
         if fed.ready {
-            match list_body(alloc, &mut frames, &mut scratch, &mut line, out) {
+            match list_body(alloc, &mut frames, &mut scratch, &mut line, form, out) {
                 Ok(()) => {}
                 Err(fault) => return Err(fault),
             }
         }
     }
     Ok(frames.finish())
+}
+
+/// Appends a line for each message of a stream, up to the first refusal: `OFFSET SEQ request COMMAND`,
+/// `OFFSET SEQ response COMMAND REQUEST_SEQ ok` or `failed`, `OFFSET SEQ event EVENT`, `OFFSET SEQ other TAG`. Offsets
+/// count bytes from the stream's start; control characters are shown as `?`. The end is `Clean` or `Truncated`.
+///
+/// At a fault the lines of all messages before it stay. Where memory is refused the lines of some first messages stay, each
+/// of them whole.
+pub fn show(
+    alloc: Global,
+    bytes: &[u8],
+    limits: Limits,
+    out: &mut Vec<u8>,
+) -> Result<End, ShowFault>
+    ensures { Shows Form.Line limits bytes.now out.old.items out.new.items result }
+{
+    list(alloc, bytes, limits, Form::Line, out)
+}
+
+/// Appends the body of each message of a stream, one a line, up to the first refusal, as `wrap` reads them. A body is
+/// appended byte for byte, but for line feeds and carriage returns, which are left out: in a message they are nowhere but
+/// between its tokens. The end is `Clean` or `Truncated`.
+///
+/// At a fault the lines of all bodies before it stay. Where memory is refused the lines of some first bodies stay, each of
+/// them whole.
+pub fn unwrap(
+    alloc: Global,
+    bytes: &[u8],
+    limits: Limits,
+    out: &mut Vec<u8>,
+) -> Result<End, ShowFault>
+    ensures { Shows Form.Body limits bytes.now out.old.items out.new.items result }
+{
+    list(alloc, bytes, limits, Form::Body, out)
 }

@@ -3,16 +3,14 @@
 ghost use Rattle.std.specs.Prelude.{◌≡◌, ◌≢◌, ◌⊎◌, ◌++◌, OnOk, IfOk, IfErr};
 ghost use Rattle.std.specs.Str.Lines.{lines};
 ghost use Rattle.dap_frame.specs.Written.{frame_of};
-ghost use Rattle.dap_message.specs.Meaning.{Msg};
-ghost use Rattle.dap_message.specs.declared.message.Message.{Message};
-ghost use Rattle.dap_stream.specs.PrivateShowSteps.{IsUnread};
 ghost use Rattle.dap_stream.specs.declared.wrapping.WrapFault.{WrapFault};
 ghost use Rattle.dap_stream.specs.Wrapping.{IsBody, AreBodies, frames_of_bodies, Refuses, FirstRefused};
 
+use crate::bodies::test_message;
 use dap_check::split_line;
 use dap_frame::{Limits, write_frame};
 use dap_message::laws::each_body_is_one;
-use dap_message::{BodyFault, BodyRefusal, Scratch, read_heading, read_message};
+use dap_message::{BodyFault, BodyRefusal, Scratch};
 use std::alloc::{AllocError, Global};
 use thiserror::Error;
 
@@ -38,18 +36,6 @@ impl From<AllocError> for WrapFault {
     fn from(_refused: AllocError) -> WrapFault {
         WrapFault::OutOfMemory
     }
-}
-
-/// Whether a line is a message. Only where its heading cannot be read, it is asked why.
-fn test_message(alloc: Global, scratch: &mut Scratch, text: &[u8]) -> Result<(), BodyFault>
-    ensures message { OnOk result ((m : Message) × Msg text.now m) }
-    ensures fault { IfErr result (IsUnread text.now) }
-{
-    if let Some(_heading) = read_heading(scratch, text) {
-        return Ok(());
-    }
-    let _message = read_message(alloc, text)?;
-    Ok(())
 }
 
 /// Appends the frame of the line of this number, which has bytes.

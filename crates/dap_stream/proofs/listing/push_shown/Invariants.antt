@@ -1,5 +1,5 @@
 use Rattle.std.proofs.Common.{◌≡◌, ◌++◌, take}
-use Rattle.dap_stream.specs.Listing.{shown_text}
+use Rattle.dap_stream.specs.Lines.{shown_text}
 use Rattle.dap_stream.proofs.listing.push_shown.Given as goal
 
 abbrev pub invariant-loop-byte : goal.invariant-loop-byte
