@@ -36,6 +36,20 @@ failed_response_line : line_of_message 68 (record { seq = 1; kind = Response 1 f
 unfolding digits
 failed_response_line = refl
 
+reason_is_listed : line_of_message 68 (record { seq = 1; kind = Response 1 false (codes "threads") (Some (codes "not stopped")) None }) ≡ codes "68 1 response threads 1 failed not stopped\n"
+unfolding digits
+reason_is_listed = refl
+
+controls_of_a_reason_are_hidden : line_of_message 68 (record { seq = 1; kind = Response 1 false (codes "next") (Some (codes "a\nb")) None }) ≡ codes "68 1 response next 1 failed a?b\n"
+unfolding digits
+controls_of_a_reason_are_hidden = refl
+
+-- with a space, as before any other
+empty_reason : line_of_message 68 (record { seq = 1; kind = Response 1 false (codes "next") (Some []) None }) ≡ codes "68 1 response next 1 failed \n"
+unfolding digits
+empty_reason = refl
+
+-- what succeeded has no reason, whatever it says
 response_line : line_of_message 1000 (record { seq = 9007199254740991; kind = Response 12 true (codes "threads") (Some (codes "why")) (Some null) }) ≡ codes "1000 9007199254740991 response threads 12 ok\n"
 unfolding digits
 response_line = refl

@@ -1,5 +1,5 @@
 -- The line of a message, in each form. All are this profile's choice.
-use Rattle.std.specs.Prelude.{ℕ, ◌==◌, ◌||◌, not, nat_lt, Bool, true, false, List, [], ◌∷◌, ◌++◌, map, filter, codes, decimal, if◌then◌else◌}
+use Rattle.std.specs.Prelude.{ℕ, ◌==◌, ◌||◌, not, nat_lt, Bool, true, false, List, [], ◌∷◌, ◌++◌, map, filter, codes, decimal, Option, Some, None, if◌then◌else◌}
 use Rattle.dap_message.specs.declared.message.Message.{Message}
 use Rattle.dap_message.specs.declared.message.Kind.{Kind}
 use Rattle.dap_message.specs.declared.message.Kind.TheVariants.{Request, Response, Event, Other}
@@ -15,13 +15,18 @@ shown_byte b = if nat_lt b 32 || b == 127 then 63 else b
 abbrev pub shown_text : List ℕ → List ℕ
 shown_text text = map shown_byte text
 
-abbrev pub outcome_text : Bool → List ℕ
-outcome_text true = codes " ok"
-outcome_text false = codes " failed"
+-- why a request failed, where the response says so
+abbrev pub reason_text : Option (List ℕ) → List ℕ
+reason_text None = []
+reason_text (Some reason) = codes " " ++ shown_text reason
+
+abbrev pub outcome_text : Bool → Option (List ℕ) → List ℕ
+outcome_text true reason = codes " ok"
+outcome_text false reason = codes " failed" ++ reason_text reason
 
 abbrev pub kind_text : Kind → List ℕ
 kind_text (Request command arguments) = codes " request " ++ shown_text command
-kind_text (Response request_seq success command message body) = codes " response " ++ shown_text command ++ codes " " ++ decimal request_seq ++ outcome_text success
+kind_text (Response request_seq success command message body) = codes " response " ++ shown_text command ++ codes " " ++ decimal request_seq ++ outcome_text success message
 kind_text (Event event body) = codes " event " ++ shown_text event
 kind_text (Other tag) = codes " other " ++ shown_text tag
 

@@ -1,19 +1,20 @@
 //! A stream of messages as a listing: a line for each.
 
-ghost use Rattle.std.specs.Prelude.{◌≡◌, ◌++◌, ℕ, List, ◌^◌, ◌<◌, length, OnOk, IfErr, Err, decimal};
+ghost use Rattle.std.specs.Prelude.{◌≡◌, ◌++◌, ℕ, List, ◌^◌, ◌<◌, length, OnOk, IfErr, Err, decimal, option_map};
 ghost use Rattle.dap_frame.specs.Settings.{Settings};
 ghost use Rattle.dap_frame.specs.Intake.{IsReady, IsUnderWay};
 ghost use Rattle.dap_message.specs.Heading.{IsHeadingOf};
 ghost use Rattle.dap_message.specs.Meaning.{Msg};
 ghost use Rattle.dap_message.specs.declared.message.Message.{Message};
-ghost use Rattle.dap_stream.specs.Lines.{shown_text, shown_byte, outcome_text, line_of_message, line_of_body};
+ghost use Rattle.dap_stream.specs.Lines.{shown_text, shown_byte, reason_text, outcome_text, line_of_message, line_of_body};
 ghost use Rattle.dap_stream.specs.Listing.{IsLineOf, Shows};
-ghost use Rattle.dap_stream.specs.PrivateShowSteps.{kind_words, IsUnread, ListedBefore, ListedTo};
+ghost use Rattle.dap_stream.specs.PrivateShowSteps.{kind_words, is_failure, reason_of, IsUnread, ListedBefore, ListedTo};
 
 use crate::bodies::{push_unbroken, test_message};
 use dap_frame::{End, FrameFault, Frames, Limits};
 use dap_message::{
-    BodyFault, BodyRefusal, Heading, HeadingKind, Scratch, read_heading, read_message,
+    BodyFault, BodyRefusal, Heading, HeadingKind, Kind, Message, Scratch, read_heading,
+    read_message,
 };
 use itoa::Buffer;
 use std::alloc::{AllocError, Global};
@@ -74,17 +75,38 @@ fn push_number(line: &mut Vec<u8>, number: u64) -> Result<(), AllocError>
     line.extend_from_slice(buffer.format(number).as_bytes())
 }
 
-fn push_outcome(line: &mut Vec<u8>, success: bool) -> Result<(), AllocError>
-    ensures { OnOk result (line.new.items ≡ line.old.items ++ outcome_text success) }
+fn push_reason(line: &mut Vec<u8>, reason: Option<&str>) -> Result<(), AllocError>
+    ensures { OnOk result (line.new.items ≡ line.old.items ++ reason_text (option_map (λ text. text.now) reason.entry)) }
 {
-    match success {
-        true => line.extend_from_slice(b" ok"),
-        false => line.extend_from_slice(b" failed"),
+    match reason {
+        None => Ok(()),
+        Some(text) => {
+            line.extend_from_slice(b" ")?;
+            push_shown(line, text.as_bytes())
+        }
     }
 }
 
-fn push_kind(line: &mut Vec<u8>, kind: &HeadingKind<'_>) -> Result<(), AllocError>
-    ensures { OnOk result (line.new.items ≡ line.old.items ++ kind_words kind.now) }
+fn push_outcome(
+    line: &mut Vec<u8>,
+    success: bool,
+    reason: Option<&str>,
+) -> Result<(), AllocError>
+    ensures { OnOk result (line.new.items ≡ line.old.items ++ outcome_text success (option_map (λ text. text.now) reason.entry)) }
+{
+    if success {
+        return line.extend_from_slice(b" ok");
+    }
+    line.extend_from_slice(b" failed")?;
+    push_reason(line, reason)
+}
+
+fn push_kind(
+    line: &mut Vec<u8>,
+    kind: &HeadingKind<'_>,
+    reason: Option<&str>,
+) -> Result<(), AllocError>
+    ensures { OnOk result (line.new.items ≡ line.old.items ++ kind_words kind.now (option_map (λ text. text.now) reason.entry)) }
 {
     match kind {
         HeadingKind::Request { command } => {
@@ -100,7 +122,7 @@ fn push_kind(line: &mut Vec<u8>, kind: &HeadingKind<'_>) -> Result<(), AllocErro
             push_shown(line, command.as_bytes())?;
             line.extend_from_slice(b" ")?;
             push_number(line, *request_seq)?;
-            push_outcome(line, *success)
+            push_outcome(line, *success, reason)
         }
         HeadingKind::Event { event } => {
             line.extend_from_slice(b" event ")?;
@@ -113,19 +135,64 @@ fn push_kind(line: &mut Vec<u8>, kind: &HeadingKind<'_>) -> Result<(), AllocErro
     }
 }
 
-/// Makes the line of the message with this heading, whose frame starts at an offset.
-fn make_line(line: &mut Vec<u8>, offset: u64, heading: &Heading<'_>) -> Result<(), AllocError>
-    ensures { OnOk result ((m : Message) → IsHeadingOf heading.now m → line.new.items ≡ line_of_message offset m) }
+/// Makes the line of the message with this heading and this reason, whose frame starts at an offset.
+fn make_line(
+    line: &mut Vec<u8>,
+    offset: u64,
+    heading: &Heading<'_>,
+    reason: Option<&str>,
+) -> Result<(), AllocError>
+    ensures { OnOk result ((m : Message) → IsHeadingOf heading.now m → option_map (λ text. text.now) reason.entry ≡ reason_of m.kind → line.new.items ≡ line_of_message offset m) }
 {
     line.clear();
     push_number(line, offset)?;
     line.extend_from_slice(b" ")?;
     push_number(line, heading.seq)?;
-    push_kind(line, &heading.kind)?;
+    push_kind(line, &heading.kind, reason)?;
     line.extend_from_slice(b"\n")
 }
 
-/// Makes the line of the message that a body is. Only where its heading cannot be read, it is asked why.
+/// Whether a request failed, so that the response may say why.
+fn failed(kind: &HeadingKind<'_>) -> bool
+    ensures { result ≡ is_failure kind.now }
+{
+    match kind {
+        HeadingKind::Response { success, .. } => !*success,
+        _ => false,
+    }
+}
+
+/// Why the request failed, where the message is a response that says so.
+fn reason_in(message: &Message) -> Option<&str>
+    ensures { option_map (λ text. text.now) result ≡ reason_of message.now.kind }
+{
+    match &message.kind {
+        Kind::Response {
+            success: false,
+            message: Some(text),
+            ..
+        } => Some(text.as_str()),
+        _ => None,
+    }
+}
+
+/// Makes the line of the message that a body is, read whole.
+fn make_line_of_whole(
+    alloc: Global,
+    line: &mut Vec<u8>,
+    offset: u64,
+    body: &[u8],
+) -> Result<(), BodyFault>
+    ensures made { OnOk result ((m : Message) × Msg body.now m × (line.new.items ≡ line_of_message offset m)) }
+    ensures fault { IfErr result (IsUnread body.now) }
+{
+    let message = read_message(alloc, body)?;
+    make_line(line, offset, &message.heading(), reason_in(&message))?;
+    Ok(())
+}
+
+/// Makes the line of the message that a body is. A body is read whole only where a request failed, so that its reason is
+/// there, and where its heading cannot be read, so that the fault is.
 fn make_line_of(
     alloc: Global,
     scratch: &mut Scratch,
@@ -137,12 +204,12 @@ fn make_line_of(
     ensures fault { IfErr result (IsUnread body.now) }
 {
     if let Some(heading) = read_heading(scratch, body) {
-        make_line(line, offset, &heading)?;
-        return Ok(());
+        if !failed(&heading.kind) {
+            make_line(line, offset, &heading, None)?;
+            return Ok(());
+        }
     }
-    let message = read_message(alloc, body)?;
-    make_line(line, offset, &message.heading())?;
-    Ok(())
+    make_line_of_whole(alloc, line, offset, body)
 }
 
 /// Makes the line that the body is, where it is a message.
@@ -262,8 +329,9 @@ fn list(
 }
 
 /// Appends a line for each message of a stream, up to the first refusal: `OFFSET SEQ request COMMAND`,
-/// `OFFSET SEQ response COMMAND REQUEST_SEQ ok` or `failed`, `OFFSET SEQ event EVENT`, `OFFSET SEQ other TAG`. Offsets
-/// count bytes from the stream's start; control characters are shown as `?`. The end is `Clean` or `Truncated`.
+/// `OFFSET SEQ response COMMAND REQUEST_SEQ ok` or `failed`, `OFFSET SEQ event EVENT`, `OFFSET SEQ other TAG`. Behind
+/// `failed` is the `message` of the response, where it has one. Offsets count bytes from the stream's start; control
+/// characters are shown as `?`. The end is `Clean` or `Truncated`.
 ///
 /// At a fault the lines of all messages before it stay. Where memory is refused the lines of some first messages stay, each
 /// of them whole.
