@@ -3,7 +3,7 @@ use Rattle.std.proofs.Common.{◌≡◌, [], ◌∷◌, ◌++◌, codes, true, f
 use Rattle.std.specs.Fmt.{digits}
 use Rattle.serde_json.specs.Data.{null, object, no_members}
 use Rattle.dap_message.specs.declared.message.Kind.TheVariants.{Request, Response, Event, Other}
-use Rattle.dap_stream.specs.Lines.{shown_text, line_of_message}
+use Rattle.dap_stream.specs.Lines.{shown_text, line_of_message, line_of_object}
 
 -- ---- names
 
@@ -61,3 +61,14 @@ event_line = refl
 other_line : line_of_message 233 (record { seq = 3; kind = Other (codes "x") }) ≡ codes "233 3 other x\n"
 unfolding digits
 other_line = refl
+
+-- ---- objects
+
+object_line : line_of_object 0 (codes "{\"seq\":3,\"type\":\"x\"}") ≡ codes "{\"offset\":0,\"bytes\":20,\"message\":{\"seq\":3,\"type\":\"x\"}}\n"
+unfolding digits
+object_line = refl
+
+-- the bytes are those of the body as it came
+breaks_count : line_of_object 68 (codes "{\"seq\":3,\r\n\"type\":\"x\"}") ≡ codes "{\"offset\":68,\"bytes\":22,\"message\":{\"seq\":3,\"type\":\"x\"}}\n"
+unfolding digits
+breaks_count = refl

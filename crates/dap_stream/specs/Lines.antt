@@ -1,10 +1,10 @@
 -- The line of a message, in each form. All are this profile's choice.
-use Rattle.std.specs.Prelude.{ℕ, ◌==◌, ◌||◌, not, nat_lt, Bool, true, false, List, [], ◌∷◌, ◌++◌, map, filter, codes, decimal, Option, Some, None, if◌then◌else◌}
+use Rattle.std.specs.Prelude.{ℕ, ◌==◌, ◌||◌, not, nat_lt, Bool, true, false, List, [], ◌∷◌, ◌++◌, length, map, filter, codes, decimal, Option, Some, None, if◌then◌else◌}
 use Rattle.dap_message.specs.declared.message.Message.{Message}
 use Rattle.dap_message.specs.declared.message.Kind.{Kind}
 use Rattle.dap_message.specs.declared.message.Kind.TheVariants.{Request, Response, Event, Other}
 use Rattle.dap_stream.specs.declared.listing.Form.{Form}
-use Rattle.dap_stream.specs.declared.listing.Form.TheVariants.{Line, Body}
+use Rattle.dap_stream.specs.declared.listing.Form.TheVariants.{Line, Object, Body}
 
 -- ---- by eye
 
@@ -46,8 +46,15 @@ unbroken body = filter (λ b. not (is_break b)) body
 abbrev pub line_of_body : List ℕ → List ℕ
 line_of_body body = unbroken body ++ 10 ∷ []
 
+-- ---- for programs
+
+-- a JSON object: where the frame starts, how many bytes the body has, and the message
+abbrev pub line_of_object : ℕ → List ℕ → List ℕ
+line_of_object offset body = codes "{\"offset\":" ++ decimal offset ++ codes ",\"bytes\":" ++ decimal (length body) ++ codes ",\"message\":" ++ unbroken body ++ codes "}\n"
+
 -- ---- in each form
 
 abbrev pub line_in : Form → ℕ → List ℕ → Message → List ℕ
 line_in Line offset body m = line_of_message offset m
+line_in Object offset body m = line_of_object offset body
 line_in Body offset body m = line_of_body body

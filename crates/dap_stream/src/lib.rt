@@ -9,5 +9,5 @@ pub mod laws;
 mod listing;
 mod wrapping;
 
-pub use listing::{Form, ShowFault, show, unwrap};
+pub use listing::{Form, ShowFault, list, show, unwrap};
 pub use wrapping::{WrapFault, wrap};

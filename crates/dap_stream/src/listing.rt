@@ -6,7 +6,7 @@ ghost use Rattle.dap_frame.specs.Intake.{IsReady, IsUnderWay};
 ghost use Rattle.dap_message.specs.Heading.{IsHeadingOf};
 ghost use Rattle.dap_message.specs.Meaning.{Msg};
 ghost use Rattle.dap_message.specs.declared.message.Message.{Message};
-ghost use Rattle.dap_stream.specs.Lines.{shown_text, shown_byte, reason_text, outcome_text, line_of_message, line_of_body};
+ghost use Rattle.dap_stream.specs.Lines.{shown_text, shown_byte, reason_text, outcome_text, line_of_message, line_of_object, line_of_body};
 ghost use Rattle.dap_stream.specs.Listing.{IsLineOf, Shows};
 ghost use Rattle.dap_stream.specs.PrivateShowSteps.{kind_words, is_failure, reason_of, IsUnread, ListedBefore, ListedTo};
 
@@ -25,6 +25,9 @@ use thiserror::Error;
 pub enum Form {
     /// For the eye: the offset of the frame, the message's number, its kind and its names.
     Line,
+    /// For programs: a JSON object with the frame's `offset`, the length of the body in `bytes`, and the `message`, which is the
+    /// body without its line feeds and carriage returns.
+    Object,
     /// The body, without its line feeds and carriage returns.
     Body,
 }
@@ -229,6 +232,29 @@ fn make_body_line(
     Ok(())
 }
 
+/// Makes the object of the message that a body is.
+fn make_object(
+    alloc: Global,
+    scratch: &mut Scratch,
+    line: &mut Vec<u8>,
+    offset: u64,
+    body: &[u8],
+) -> Result<(), BodyFault>
+    ensures made { OnOk result ((m : Message) × Msg body.now m × (line.new.items ≡ line_of_object offset body.now)) }
+    ensures fault { IfErr result (IsUnread body.now) }
+{
+    test_message(alloc, scratch, body)?;
+    line.clear();
+    line.extend_from_slice(b"{\"offset\":")?;
+    push_number(line, offset)?;
+    line.extend_from_slice(b",\"bytes\":")?;
+    push_number(line, body.len() as u64)?;
+    line.extend_from_slice(b",\"message\":")?;
+    push_unbroken(line, body)?;
+    line.extend_from_slice(b"}\n")?;
+    Ok(())
+}
+
 /// Makes the line of a body in a form.
 fn make_line_in(
     alloc: Global,
@@ -243,6 +269,7 @@ fn make_line_in(
 {
     match form {
         Form::Line => make_line_of(alloc, scratch, line, offset, body),
+        Form::Object => make_object(alloc, scratch, line, offset, body),
         Form::Body => make_body_line(alloc, scratch, line, body),
     }
 }
@@ -296,7 +323,10 @@ fn list_body(
 
 /// Appends the line of each message of a stream in a form, up to the first refusal. Offsets count bytes from the stream's
 /// start. The end is `Clean` or `Truncated`.
-fn list(
+///
+/// At a fault the lines of all messages before it stay. Where memory is refused the lines of some first messages stay, each
+/// of them whole.
+pub fn list(
     alloc: Global,
     bytes: &[u8],
     limits: Limits,
@@ -331,10 +361,7 @@ fn list(
 /// Appends a line for each message of a stream, up to the first refusal: `OFFSET SEQ request COMMAND`,
 /// `OFFSET SEQ response COMMAND REQUEST_SEQ ok` or `failed`, `OFFSET SEQ event EVENT`, `OFFSET SEQ other TAG`. Behind
 /// `failed` is the `message` of the response, where it has one. Offsets count bytes from the stream's start; control
-/// characters are shown as `?`. The end is `Clean` or `Truncated`.
-///
-/// At a fault the lines of all messages before it stay. Where memory is refused the lines of some first messages stay, each
-/// of them whole.
+/// characters are shown as `?`. This is [`list`] in the form `Line`.
 pub fn show(
     alloc: Global,
     bytes: &[u8],
@@ -348,10 +375,7 @@ pub fn show(
 
 /// Appends the body of each message of a stream, one a line, up to the first refusal, as `wrap` reads them. A body is
 /// appended byte for byte, but for line feeds and carriage returns, which are left out: in a message they are nowhere but
-/// between its tokens. The end is `Clean` or `Truncated`.
-///
-/// At a fault the lines of all bodies before it stay. Where memory is refused the lines of some first bodies stay, each of
-/// them whole.
+/// between its tokens. This is [`list`] in the form `Body`.
 pub fn unwrap(
     alloc: Global,
     bytes: &[u8],

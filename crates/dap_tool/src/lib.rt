@@ -2,7 +2,7 @@
 //!
 //! What this crate knows: files, statuses, and the lines that a program tells. What it must not know: header bytes, sessions,
 //! the rules of a transcript, and how a debuggee runs. It relies on the public contracts of the crates below alone, and hands
-//! on `show`, `unwrap`, `wrap`, `check`, `drive` and the laws of both ends together.
+//! on `list`, `show`, `unwrap`, `wrap`, `check`, `drive` and the laws of both ends together.
 #![tactic(auto)]
 
 mod fault;
@@ -13,7 +13,7 @@ mod verdict;
 pub use dap_check::{CheckFault, Checked, Rule, check};
 pub use dap_client::SendFault;
 pub use dap_drive::{DriveFault, drive};
-pub use dap_stream::{ShowFault, WrapFault, show, unwrap, wrap};
+pub use dap_stream::{Form, ShowFault, WrapFault, list, show, unwrap, wrap};
 pub use dap_world::laws;
 pub use fault::{ToolFault, fault_line, status};
 pub use files::{FileFault, MAX_FILE, read_channel, read_whole, reading_is_of_the_log};
