@@ -1,7 +1,3 @@
+mod FaultExamples
 mod FileExamples
-mod ListingExamples
-pub mod OneFault
-pub mod ShowLemmas
 pub mod WholeFiles
-mod WrapExamples
-pub mod Wrapped

@@ -18,10 +18,10 @@ use Rattle.dap_drive.specs.declared.fault.DriveFault.{DriveFault}
 use Rattle.dap_drive.specs.declared.fault.DriveFault.TheVariants as driven
 use Rattle.dap_tool.specs.declared.fault.ToolFault.{ToolFault}
 use Rattle.dap_tool.specs.declared.fault.ToolFault.TheVariants.{Serve, Recording, Show, Wrap, Check, Drive, File, Truncated, Write as OutputFailed, OutOfMemory as NoMemoryAtAll}
-use Rattle.dap_tool.specs.declared.listing.ShowFault.{ShowFault}
-use Rattle.dap_tool.specs.declared.listing.ShowFault.TheVariants.{Frame as ShownFrame, Body as ShownBody, OutOfMemory as NoMemoryToShow}
-use Rattle.dap_tool.specs.declared.wrapping.WrapFault.{WrapFault}
-use Rattle.dap_tool.specs.declared.wrapping.WrapFault.TheVariants.{Body as WrappedBody, BodyTooLong as LongLine, OutOfMemory as NoMemoryToWrap}
+use Rattle.dap_stream.specs.declared.listing.ShowFault.{ShowFault}
+use Rattle.dap_stream.specs.declared.listing.ShowFault.TheVariants.{Frame as ShownFrame, Body as ShownBody, OutOfMemory as NoMemoryToShow}
+use Rattle.dap_stream.specs.declared.wrapping.WrapFault.{WrapFault}
+use Rattle.dap_stream.specs.declared.wrapping.WrapFault.TheVariants.{Body as WrappedBody, BodyTooLong as LongLine, OutOfMemory as NoMemoryToWrap}
 use Rattle.dap_tool.specs.declared.files.FileFault.{FileFault}
 use Rattle.dap_tool.specs.declared.files.FileFault.TheVariants.{Read as FileUnread, FileTooLong, OutOfMemory as NoMemoryForFile}
 

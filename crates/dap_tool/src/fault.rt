@@ -4,8 +4,6 @@ ghost use Rattle.std.specs.Prelude.{◌≡◌, IfOk, string_bytes};
 ghost use Rattle.dap_tool.specs.Faults.{status_of, status_of_adapter, status_of_serve, status_of_recording, status_of_show, status_of_check, status_of_send, status_of_drive, line_of, line_of_adapter, line_of_serve, line_of_recording, line_of_show, line_of_wrap, line_of_check, line_of_drive, line_of_file, named_line, line_at, line_at_line, name_of_refusal, name_of_body_refusal, name_of_send};
 
 use crate::files::FileFault;
-use crate::listing::ShowFault;
-use crate::wrapping::WrapFault;
 use dap_adapter::{AdapterFault, ServeFault};
 use dap_check::CheckFault;
 use dap_client::SendFault;
@@ -13,6 +11,7 @@ use dap_drive::DriveFault;
 use dap_frame::Refusal;
 use dap_message::BodyRefusal;
 use dap_recording::RecordingFault;
+use dap_stream::{ShowFault, WrapFault};
 use std::alloc::{AllocError, Global};
 use thiserror::Error;
 

@@ -1,24 +1,21 @@
 //! Tools over whole files, and faults as a program tells them.
 //!
-//! What this crate knows: files, listings, statuses, and the lines that a program tells. What it must not know: header
-//! bytes, sessions, the rules of a transcript, and how a debuggee runs. It relies on the public contracts of the crates below
-//! alone, and hands on `check`, `drive` and the laws of both ends together.
+//! What this crate knows: files, statuses, and the lines that a program tells. What it must not know: header bytes, sessions,
+//! the rules of a transcript, and how a debuggee runs. It relies on the public contracts of the crates below alone, and hands
+//! on `list`, `show`, `unwrap`, `wrap`, `check`, `drive` and the laws of both ends together.
 #![tactic(auto)]
 
 mod fault;
 mod files;
-mod listing;
 mod reads;
 mod verdict;
-mod wrapping;
 
 pub use dap_check::{CheckFault, Checked, Rule, check};
 pub use dap_client::SendFault;
 pub use dap_drive::{DriveFault, drive};
+pub use dap_stream::{Form, ShowFault, WrapFault, list, show, unwrap, wrap};
 pub use dap_world::laws;
 pub use fault::{ToolFault, fault_line, status};
 pub use files::{FileFault, MAX_FILE, read_channel, read_whole, reading_is_of_the_log};
-pub use listing::{ShowFault, show};
 pub use reads::most_reads;
 pub use verdict::{explanation_line, verdict_line};
-pub use wrapping::{WrapFault, wrap};

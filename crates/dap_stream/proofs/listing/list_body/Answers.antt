@@ -1,0 +1,14 @@
+use Rattle.std.proofs.Common.{ap, refl, sym, ◌∙◌, subst}
+use Rattle.dap_frame.specs.Intake.{StandsFor}
+use Rattle.dap_stream.specs.Listing.{IsLineOf}
+use Rattle.dap_stream.proofs.ShowLemmas.{released}
+use Rattle.dap_stream.proofs.listing.list_body.Goals as goal
+
+pub returns-clause-ok : goal.returns-clause-ok
+returns-clause-ok c = λ limits bytes old at small l.
+    let same = c.in-Ok.ensures.same in
+    let line_is = subst (IsLineOf c.args.form c.args.frames.now.start c.args.frames.now.held) (sym c.deref.ensures.value) c.in-Ok.ensures.made in
+    released c.args.form limits c.args.frames.now bytes at old c.args.out.now.items l c.requires c.args.frames.now.start refl small c.release.new.self
+    (c.release.ensures.bounds ∙ ap (λ f. f.bounds) same)
+    (λ s xs rest f. c.release.ensures.stands s xs rest (subst (λ v. StandsFor v s xs rest) (sym same) f))
+    c.deref.result.now c.extend_from_slice.new.self.items line_is c.in_ok-extend_from_slice.ensures.items

@@ -1,0 +1,60 @@
+-- The line of a message, in each form. All are this profile's choice.
+use Rattle.std.specs.Prelude.{ℕ, ◌==◌, ◌||◌, not, nat_lt, Bool, true, false, List, [], ◌∷◌, ◌++◌, length, map, filter, codes, decimal, Option, Some, None, if◌then◌else◌}
+use Rattle.dap_message.specs.declared.message.Message.{Message}
+use Rattle.dap_message.specs.declared.message.Kind.{Kind}
+use Rattle.dap_message.specs.declared.message.Kind.TheVariants.{Request, Response, Event, Other}
+use Rattle.dap_stream.specs.declared.listing.Form.{Form}
+use Rattle.dap_stream.specs.declared.listing.Form.TheVariants.{Line, Object, Body}
+
+-- ---- by eye
+
+-- control characters, U+0000 to U+001F and U+007F, are shown as `?`
+abbrev pub shown_byte : ℕ → ℕ
+shown_byte b = if nat_lt b 32 || b == 127 then 63 else b
+
+abbrev pub shown_text : List ℕ → List ℕ
+shown_text text = map shown_byte text
+
+-- why a request failed, where the response says so
+abbrev pub reason_text : Option (List ℕ) → List ℕ
+reason_text None = []
+reason_text (Some reason) = codes " " ++ shown_text reason
+
+abbrev pub outcome_text : Bool → Option (List ℕ) → List ℕ
+outcome_text true reason = codes " ok"
+outcome_text false reason = codes " failed" ++ reason_text reason
+
+abbrev pub kind_text : Kind → List ℕ
+kind_text (Request command arguments) = codes " request " ++ shown_text command
+kind_text (Response request_seq success command message body) = codes " response " ++ shown_text command ++ codes " " ++ decimal request_seq ++ outcome_text success message
+kind_text (Event event body) = codes " event " ++ shown_text event
+kind_text (Other tag) = codes " other " ++ shown_text tag
+
+abbrev pub line_of_message : ℕ → Message → List ℕ
+line_of_message offset m = decimal offset ++ codes " " ++ decimal m.seq ++ kind_text m.kind ++ codes "\n"
+
+-- ---- the body
+
+-- RFC 8259: a text has neither of the two in it, so they stand between tokens alone
+abbrev pub is_break : ℕ → Bool
+is_break b = b == 10 || b == 13
+
+-- without line feeds and carriage returns
+abbrev pub unbroken : List ℕ → List ℕ
+unbroken body = filter (λ b. not (is_break b)) body
+
+abbrev pub line_of_body : List ℕ → List ℕ
+line_of_body body = unbroken body ++ 10 ∷ []
+
+-- ---- for programs
+
+-- a JSON object: where the frame starts, how many bytes the body has, and the message
+abbrev pub line_of_object : ℕ → List ℕ → List ℕ
+line_of_object offset body = codes "{\"offset\":" ++ decimal offset ++ codes ",\"bytes\":" ++ decimal (length body) ++ codes ",\"message\":" ++ unbroken body ++ codes "}\n"
+
+-- ---- in each form
+
+abbrev pub line_in : Form → ℕ → List ℕ → Message → List ℕ
+line_in Line offset body m = line_of_message offset m
+line_in Object offset body m = line_of_object offset body
+line_in Body offset body m = line_of_body body

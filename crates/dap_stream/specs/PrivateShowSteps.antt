@@ -1,0 +1,56 @@
+-- Words for the steps that listing and wrapping are made of: they serve private functions alone.
+use Rattle.std.specs.Prelude.{◌≡◌, ℕ, Bool, true, false, not, List, [], ◌∷◌, ◌++◌, take, Option, Some, None}
+use Rattle.dap_frame.specs.Settings.{Settings, bounds_of}
+use Rattle.dap_frame.specs.Intake.{Intake, StandsFor}
+use Rattle.dap_message.specs.Refusals.{Bad}
+use Rattle.dap_message.specs.declared.fault.BodyFault.{BodyFault}
+use Rattle.dap_message.specs.declared.fault.BodyFault.TheVariants.{Refused as BodyRefused, OutOfMemory as NoMemoryForBody}
+use Rattle.dap_message.specs.declared.heading.HeadingKind.{HeadingKind}
+use Rattle.dap_message.specs.declared.heading.HeadingKind.TheVariants.{Request, Response, Event, Other}
+use Rattle.dap_message.specs.declared.message.Kind.{Kind}
+use Rattle.dap_message.specs.declared.message.Kind.TheVariants as kind
+use Rattle.dap_stream.specs.Lines.{kind_text}
+use Rattle.dap_stream.specs.Listing.{Listed}
+use Rattle.dap_stream.specs.declared.listing.Form.{Form}
+
+-- why the request failed, where the message is a response that says so
+abbrev pub reason_of : Kind → Option (List ℕ)
+reason_of (kind.Request command arguments) = None
+reason_of (kind.Response request_seq true command message body) = None
+reason_of (kind.Response request_seq false command message body) = message
+reason_of (kind.Event event body) = None
+reason_of (kind.Other tag) = None
+
+-- the heading is that of a request that failed
+abbrev pub is_failure : HeadingKind → Bool
+is_failure (Request name) = false
+is_failure (Response request_seq success name) = not success
+is_failure (Event name) = false
+is_failure (Other name) = false
+
+-- the words of a heading, with a reason: those of such a message, whatever else it has
+abbrev pub kind_words : HeadingKind → Option (List ℕ) → List ℕ
+kind_words (Request name) reason = kind_text (kind.Request name.now None)
+kind_words (Response request_seq success name) reason = kind_text (kind.Response request_seq success name.now reason None)
+kind_words (Event name) reason = kind_text (kind.Event name.now None)
+kind_words (Other name) reason = kind_text (kind.Other name.now)
+
+-- why a ready body is not read
+abbrev pub IsUnread : List ℕ → BodyFault → Type 0
+IsUnread body (BodyRefused cause) = Bad body cause
+IsUnread body NoMemoryForBody = Unit {0}
+
+-- the first `at` bytes were listed
+pub record ListedTo (form : Form) (limits : Settings) (frames : Intake) (bytes : List ℕ) (at : ℕ) (old new : List ℕ) : Type 0 where
+  pub bodies : List (List ℕ)
+  pub rest : List ℕ
+  pub bounds : frames.bounds ≡ bounds_of limits
+  pub stands : StandsFor frames (take at bytes) bodies rest
+  pub listed : Listed form limits bytes bodies old new
+
+-- the same, save for the last body, which is ready
+pub record ListedBefore (form : Form) (limits : Settings) (frames : Intake) (bytes : List ℕ) (at : ℕ) (old new : List ℕ) : Type 0 where
+  pub bodies : List (List ℕ)
+  pub bounds : frames.bounds ≡ bounds_of limits
+  pub stands : StandsFor frames (take at bytes) (bodies ++ frames.held ∷ []) []
+  pub listed : Listed form limits bytes bodies old new

@@ -1,0 +1,13 @@
+//! Streams of frames, as they are listed and made.
+//!
+//! What this crate knows: the lines of a listing, and files that have a body a line. What it must not know: header bytes,
+//! statuses, the lines of faults, and sessions. It relies on the public contracts of the crates below alone.
+#![tactic(auto)]
+
+mod bodies;
+pub mod laws;
+mod listing;
+mod wrapping;
+
+pub use listing::{Form, ShowFault, list, show, unwrap};
+pub use wrapping::{WrapFault, wrap};
