@@ -5,3 +5,4 @@ pub mod ShowLemmas
 pub mod WholeFiles
 mod WrapExamples
 pub mod Wrapped
+pub mod VerdictTexts

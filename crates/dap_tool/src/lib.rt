@@ -12,7 +12,7 @@ mod reads;
 mod verdict;
 mod wrapping;
 
-pub use dap_check::{CheckFault, Checked, Rule, check};
+pub use dap_check::{AnySeq, CheckFault, Checked, Rule, check};
 pub use dap_client::SendFault;
 pub use dap_drive::{DriveFault, drive};
 pub use dap_world::laws;
@@ -20,5 +20,5 @@ pub use fault::{ToolFault, fault_line, status};
 pub use files::{FileFault, MAX_FILE, read_channel, read_whole, reading_is_of_the_log};
 pub use listing::{ShowFault, show};
 pub use reads::most_reads;
-pub use verdict::{explanation_line, verdict_line};
+pub use verdict::{CheckOptions, VerdictText, check_text};
 pub use wrapping::{WrapFault, wrap};

@@ -47,7 +47,7 @@ fn shown_as(byte: u8) -> u8
     if byte < 32 || byte == 127 { b'?' } else { byte }
 }
 
-fn push_shown(line: &mut Vec<u8>, text: &[u8]) -> Result<(), AllocError>
+pub(crate) fn push_shown(line: &mut Vec<u8>, text: &[u8]) -> Result<(), AllocError>
     ensures { OnOk result (line.new.items ≡ line.old.items ++ shown_text text.now) }
 {
     for byte in text {
@@ -56,7 +56,7 @@ fn push_shown(line: &mut Vec<u8>, text: &[u8]) -> Result<(), AllocError>
     Ok(())
 }
 
-fn push_number(line: &mut Vec<u8>, number: u64) -> Result<(), AllocError>
+pub(crate) fn push_number(line: &mut Vec<u8>, number: u64) -> Result<(), AllocError>
     ensures { OnOk result (line.new.items ≡ line.old.items ++ decimal number) }
 {
     let mut buffer = Buffer::new();
