@@ -9,5 +9,5 @@ pub mod laws;
 mod listing;
 mod wrapping;
 
-pub use listing::{Form, ShowFault, list, show, unwrap};
+pub use listing::{Form, ShowFault, list, push_number, push_shown, show, unwrap};
 pub use wrapping::{WrapFault, wrap};

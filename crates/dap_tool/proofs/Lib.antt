@@ -1,3 +1,4 @@
 mod FaultExamples
 mod FileExamples
 pub mod WholeFiles
+pub mod VerdictTexts

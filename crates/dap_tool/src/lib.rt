@@ -10,7 +10,7 @@ mod files;
 mod reads;
 mod verdict;
 
-pub use dap_check::{CheckFault, Checked, Rule, check};
+pub use dap_check::{AnySeq, CheckFault, Checked, Rule, check};
 pub use dap_client::SendFault;
 pub use dap_drive::{DriveFault, drive};
 pub use dap_stream::{Form, ShowFault, WrapFault, list, show, unwrap, wrap};
@@ -18,4 +18,4 @@ pub use dap_world::laws;
 pub use fault::{ToolFault, fault_line, status};
 pub use files::{FileFault, MAX_FILE, read_channel, read_whole, reading_is_of_the_log};
 pub use reads::most_reads;
-pub use verdict::{explanation_line, verdict_line};
+pub use verdict::{CheckOptions, VerdictText, check_text};

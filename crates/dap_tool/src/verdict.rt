@@ -1,15 +1,45 @@
-//! What a program tells of a transcript.
+//! What a program prints of a transcript that it checks.
 
-ghost use Rattle.std.specs.Prelude.{◌≡◌, ◌⊎◌, ◌∷◌, ◌++◌, [], List, IfOk, IfErr, IsOk, string_bytes};
+ghost use Rattle.std.specs.Prelude.{◌≡◌, ◌≢◌, ◌⊎◌, ◌∷◌, ◌++◌, [], List, if◌then◌else◌, length, take, flat_map, OnOk, IfOk, IfErr, IsErrAnd, MatchResult, string_bytes};
 ghost use Rattle.std.specs.Str.Lines.{lines};
-ghost use Rattle.dap_explain.specs.Reasons.{reason_of};
-ghost use Rattle.dap_check.specs.Transcript.{AreLines, IsRefusedIn};
+ghost use Rattle.dap_check.specs.Findings.{findings, IsReport};
+ghost use Rattle.dap_check.specs.Transcript.{AreLines, FirstRefused};
+ghost use Rattle.dap_check.specs.declared.checking.CheckFault.{CheckFault};
 ghost use Rattle.dap_check.specs.declared.line.Line.{Line};
-ghost use Rattle.dap_tool.specs.Verdicts.{text_of_finding, text_of_checked, text_of_reason, text_of_why};
+ghost use Rattle.dap_check.specs.declared.rule.AnySeq.{AnySeq};
+ghost use Rattle.dap_check.specs.declared.rule.Finding.{Finding as TheFinding};
+ghost use Rattle.dap_explain.specs.Reasons.{reason_of};
+ghost use Rattle.dap_explain.specs.Sentences.{joined_text};
+ghost use Rattle.dap_tool.specs.Verdicts.{text_of_finding, text_of_reason, text_of_why, text_at, texts_of, count_text, closing_text, text_of_open, open_text, text_of_verdict, IsVerdictText};
 
-use dap_check::{CheckFault, Checked, Rule};
+use dap_check::laws::findings_are_broken_rules;
+use dap_check::{AnySeq, CheckFault, Finding, OpenRequest, Report, Rule, check_all};
 use dap_explain::{Reason, explain, sentence};
+use dap_stream::{push_number, push_shown};
 use std::alloc::{AllocError, Global};
+
+/// What is to be printed of a transcript.
+#[derive(Clone, Copy, Debug, PartialEq, Eq)]
+pub struct CheckOptions {
+    /// Whose numbers are not tested.
+    pub any_seq: AnySeq,
+    /// Every line that breaks a rule, and how many there are; else the first one alone.
+    pub all: bool,
+    /// Why each of them breaks its rule.
+    pub explained: bool,
+    /// Each request that nothing has answered.
+    pub unanswered: bool,
+}
+
+/// What is printed of a transcript.
+#[derive(Debug, Drop)]
+pub struct VerdictText {
+    /// Whole lines.
+    pub text: Vec<u8>,
+    pub is_legal: bool,
+}
+
+// ---- lines that break a rule
 
 fn finding_text(alloc: Global, line: u64, rule: Rule) -> Result<String, AllocError>
     ensures { IfOk result (λ text. string_bytes text ≡ text_of_finding line rule) }
@@ -18,48 +48,206 @@ fn finding_text(alloc: Global, line: u64, rule: Rule) -> Result<String, AllocErr
     Ok(format!(in alloc; "line {line} rule {number}\n")?)
 }
 
-/// The line, with its line feed, that a program writes of a transcript: that it is legal, or the first line that breaks a
-/// rule, counted from 1, and the first rule that it breaks.
-pub fn verdict_line(alloc: Global, checked: Checked) -> Result<Vec<u8>, AllocError>
-    ensures { IfOk result (λ text. text.items ≡ text_of_checked checked) }
+fn push_line(alloc: Global, text: &mut Vec<u8>, finding: Finding) -> Result<(), AllocError>
+    ensures { OnOk result (text.new.items ≡ text.old.items ++ text_of_finding finding.line finding.rule) }
 {
-    let text = match checked {
-        Checked::Legal => format!(in alloc; "legal\n")?,
-        Checked::Finding { line, rule } => finding_text(alloc, line, rule)?,
-    };
-    Ok(text.into_bytes())
+    let line = finding_text(alloc, finding.line, finding.rule)?;
+    text.extend_from_slice(line.as_bytes())
 }
 
-fn reason_text(alloc: Global, reason: Reason) -> Result<String, AllocError>
-    ensures { IfOk result (λ text. string_bytes text ≡ text_of_reason reason) }
+fn push_reason(alloc: Global, text: &mut Vec<u8>, reason: Reason) -> Result<(), AllocError>
+    ensures { OnOk result (text.new.items ≡ text.old.items ++ text_of_reason reason) }
 {
     let words = sentence(alloc, reason)?;
-    format!(in alloc; "{words}\n")
+    text.extend_from_slice(words.as_bytes())?;
+    text.extend_from_slice(b"\n")
 }
 
-/// The line, with its line feed, that says why a finding of this text is one, and against which earlier lines it stands. Of
-/// a legal transcript there is none, and of a line that keeps the rule neither.
-///
-/// # Errors
-/// Those of `check`, where the text is no transcript; `OutOfMemory` where memory is refused.
-pub fn explanation_line(
+/// Appends why a line breaks a rule.
+fn push_why(
+    alloc: Global,
+    text: &mut Vec<u8>,
+    bytes: &[u8],
+    finding: Finding,
+) -> Result<(), CheckFault>
+    ensures { (earlier : List Line) (line : Line) (later : List Line) → AreLines 1 (lines bytes.now) (earlier ++ line ∷ later) → line.number ≡ finding.line
+        → MatchResult result (λ done. text.new.items ≡ text.old.items ++ text_of_why (reason_of finding.rule earlier line)) (λ fault. fault ≡ CheckFault.OutOfMemory) }
+{
+    match explain(alloc, bytes, finding.line, finding.rule) {
+        Ok(None) => Ok(()),
+        Ok(Some(reason)) => Ok(push_reason(alloc, text, reason)?),
+        Err(fault) => Err(fault),
+    }
+}
+
+/// Appends a line that breaks a rule, and the reason where it is asked for.
+fn push_finding(
+    alloc: Global,
+    text: &mut Vec<u8>,
+    bytes: &[u8],
+    explained: bool,
+    finding: Finding,
+) -> Result<(), CheckFault>
+    ensures { (earlier : List Line) (line : Line) (later : List Line) → AreLines 1 (lines bytes.now) (earlier ++ line ∷ later) → line.number ≡ finding.line
+        → MatchResult result (λ done. text.new.items ≡ text.old.items ++ text_at explained earlier line finding.rule) (λ fault. fault ≡ CheckFault.OutOfMemory) }
+{
+    push_line(alloc, text, finding)?;
+    if !explained {
+        return Ok(());
+    }
+    push_why(alloc, text, bytes, finding)
+}
+
+/// Appends the first findings of a transcript.
+fn push_findings(
+    alloc: Global,
+    text: &mut Vec<u8>,
+    bytes: &[u8],
+    explained: bool,
+    first: &[Finding],
+) -> Result<(), CheckFault>
+    ensures { (any_seq : AnySeq) (transcript : List Line) (rest : List TheFinding) → AreLines 1 (lines bytes.now) transcript → findings any_seq transcript ≡ first.now ++ rest
+        → MatchResult result (λ done. text.new.items ≡ text.old.items ++ joined_text (take (length first.now) (texts_of any_seq explained transcript))) (λ fault. fault ≡ CheckFault.OutOfMemory) }
+{
+    for finding in first {
+        push_finding(alloc, text, bytes, explained, *finding)?;
+    }
+    Ok(())
+}
+
+fn push_count(text: &mut Vec<u8>, count: usize) -> Result<(), AllocError>
+    ensures { OnOk result (text.new.items ≡ text.old.items ++ count_text count) }
+{
+    if count == 1 {
+        return text.extend_from_slice(b"1 finding\n");
+    }
+    push_number(text, count as u64)?;
+    text.extend_from_slice(b" findings\n")
+}
+
+fn push_closing(text: &mut Vec<u8>, all: bool, count: usize) -> Result<(), AllocError>
+    ensures { OnOk result (text.new.items ≡ text.old.items ++ closing_text all count) }
+{
+    if count == 0 {
+        return text.extend_from_slice(b"legal\n");
+    }
+    if all {
+        return push_count(text, count);
+    }
+    Ok(())
+}
+
+// ---- requests that nothing has answered
+
+fn push_open(text: &mut Vec<u8>, request: &OpenRequest) -> Result<(), AllocError>
+    ensures { OnOk result (text.new.items ≡ text.old.items ++ text_of_open request.now) }
+{
+    text.extend_from_slice(b"line ")?;
+    push_number(text, request.line)?;
+    text.extend_from_slice(b" request ")?;
+    push_number(text, request.seq)?;
+    text.extend_from_slice(b" ")?;
+    push_shown(text, request.command.as_str().as_bytes())?;
+    text.extend_from_slice(b" is not answered\n")
+}
+
+fn push_each_open(text: &mut Vec<u8>, requests: &[OpenRequest]) -> Result<(), AllocError>
+    ensures { OnOk result (text.new.items ≡ text.old.items ++ flat_map text_of_open requests.now) }
+{
+    for request in requests {
+        push_open(text, request)?;
+    }
+    Ok(())
+}
+
+/// The same where it is asked for.
+fn push_unanswered(
+    text: &mut Vec<u8>,
+    unanswered: bool,
+    requests: &[OpenRequest],
+) -> Result<(), AllocError>
+    ensures { OnOk result (text.new.items ≡ text.old.items ++ open_text unanswered requests.now) }
+{
+    if unanswered {
+        return push_each_open(text, requests);
+    }
+    Ok(())
+}
+
+// ---- of a transcript
+
+/// Those that are printed: all, or the first.
+fn printed(all: bool, found: &[Finding]) -> &[Finding]
+    ensures { result.now ≡ (if all then found.now else take 1 found.now) }
+{
+    if all {
+        return found;
+    }
+    match found {
+        [] => found,
+        _ => &found[..1],
+    }
+}
+
+/// What is printed of what was found in a transcript.
+fn text_of(
     alloc: Global,
     bytes: &[u8],
-    checked: Checked,
+    options: CheckOptions,
+    report: &Report,
 ) -> Result<Vec<u8>, CheckFault>
-    ensures legal { checked ≡ Checked.Legal → IfOk result (λ text. text.items ≡ []) }
-    ensures finding { (earlier : List Line) (line : Line) (later : List Line) (rule : Rule) → AreLines 1 (lines bytes.now) (earlier ++ line ∷ later)
-        → checked ≡ Checked.Finding line.number rule → IfOk result (λ text. text.items ≡ text_of_why (reason_of rule earlier line)) }
-
-    // A legal transcript is never refused, and any other only for memory or for what `check` refuses it for.
-    ensures told { checked ≡ Checked.Legal → IsOk result }
-    ensures refused { IfErr result (λ fault. (fault ≡ CheckFault.OutOfMemory) ⊎ IsRefusedIn (lines bytes.now) fault) }
+    ensures { (transcript : List Line) → AreLines 1 (lines bytes.now) transcript → IsReport options.any_seq transcript report.now
+        → MatchResult result (λ text. text.items ≡ text_of_verdict options transcript) (λ fault. fault ≡ CheckFault.OutOfMemory) }
 {
-    let Checked::Finding { line, rule } = checked else {
-        return Ok(Vec::new(alloc));
-    };
-    match explain(alloc, bytes, line, rule)? {
-        None => Ok(Vec::new(alloc)),
-        Some(reason) => Ok(reason_text(alloc, reason)?.into_bytes()),
+    let mut text = Vec::new(alloc);
+    let found = report.findings.as_slice();
+    let first = printed(options.all, found);
+    push_findings(alloc, &mut text, bytes, options.explained, first)?;
+    push_closing(&mut text, options.all, found.len())?;
+    push_unanswered(&mut text, options.unanswered, &report.unanswered)?;
+    Ok(text)
+}
+
+fn verdict(
+    alloc: Global,
+    bytes: &[u8],
+    options: CheckOptions,
+    report: &Report,
+) -> Result<VerdictText, CheckFault>
+    ensures { (transcript : List Line) → AreLines 1 (lines bytes.now) transcript → IsReport options.any_seq transcript report.now
+        → MatchResult result (IsVerdictText options transcript) (λ fault. fault ≡ CheckFault.OutOfMemory) }
+{
+    // A law for the proof: which lines are findings.
+    findings_are_broken_rules();
+    let found = report.findings.as_slice();
+    let is_legal = found.is_empty();
+    match text_of(alloc, bytes, options, report) {
+        Ok(text) => Ok(VerdictText { text, is_legal }),
+        Err(fault) => Err(fault),
+    }
+}
+
+/// What a program prints of a transcript: that it is legal, or the first line that breaks a rule, counted from 1, and the
+/// first rule that it breaks; as the options say it, each such line and how many there are, why each breaks its rule, and
+/// after all that each request that nothing has answered. Control characters of a command are shown as `?`. The texts of
+/// reasons take as long as the lines before them once more, each.
+///
+/// # Errors
+/// Those of [`check`](dap_check::check): the first line that is of neither side or no message, before any finding.
+pub fn check_text(
+    alloc: Global,
+    bytes: &[u8],
+    options: CheckOptions,
+) -> Result<VerdictText, CheckFault>
+    ensures checked { IfOk result (λ printed. (transcript : List Line) × AreLines 1 (lines bytes.now) transcript × IsVerdictText options transcript printed) }
+    ensures refused { IfErr result (λ fault. (fault ≡ CheckFault.OutOfMemory) ⊎ FirstRefused (lines bytes.now) fault) }
+
+    // And the other way, unless memory runs out.
+    ensures checks { (transcript : List Line) → AreLines 1 (lines bytes.now) transcript → MatchResult result (IsVerdictText options transcript) (λ fault. fault ≡ CheckFault.OutOfMemory) }
+    ensures refuses { (fault : CheckFault) → FirstRefused (lines bytes.now) fault → fault ≢ CheckFault.OutOfMemory → IsErrAnd result (λ told. (told ≡ fault) ⊎ (told ≡ CheckFault.OutOfMemory)) }
+{
+    match check_all(alloc, bytes, options.any_seq) {
+        Ok(report) => verdict(alloc, bytes, options, &report),
+        Err(fault) => Err(fault),
     }
 }
