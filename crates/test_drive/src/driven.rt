@@ -10,7 +10,7 @@
 //!
 //! A script ends in a line feed where pieces have a size, and does not where they have none.
 
-use dap_check::{CheckFault, Checked, check};
+use dap_check::{AnySeq, CheckFault, Checked, check};
 use dap_drive::{DriveFault, drive};
 use dap_frame::Limits;
 use std::alloc::{AllocError, Global};
@@ -100,7 +100,7 @@ fn without_line_feed(script: &[u8]) -> &[u8] {
 
 /// Right where a transcript keeps every rule; where it does not, that is appended.
 fn judge(alloc: Global, transcript: &[u8], came: &mut String) -> Outcome {
-    match check(alloc, transcript, false) {
+    match check(alloc, transcript, AnySeq::OfNone) {
         Ok(Checked::Legal) => Outcome::Right,
         Ok(found) => {
             tell(came, &found);
