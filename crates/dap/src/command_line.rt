@@ -3,6 +3,7 @@
 use clap::builder::ValueParser;
 use clap::{Arg, ArgAction, ArgMatches, Command};
 use dap_frame::{LimitFault, Limits};
+use dap_tool::{AnySeq, CheckOptions};
 use std::alloc::{AllocError, Global};
 
 /// An option that sets a limit.
@@ -179,11 +180,28 @@ fn flag<'a>(alloc: Global, name: &'static str, help: &'static str) -> Arg<'a> {
         .action(ArgAction::SetTrue)
 }
 
+/// The sides whose numbers may be left untested, and both, which no value means.
+static SIDES: [&str; 3] = ["client", "adapter", "both"];
+
+fn any_seq<'a>(alloc: Global) -> Arg<'a> {
+    Arg::new(alloc, "any-seq")
+        .long("any-seq")
+        .value_name("SIDE")
+        .help(
+            "Leaves out rule 1, for one side or for both, since some adapters give every message the number 0",
+        )
+        .action(ArgAction::Set)
+        .num_args(0..=1)
+        .require_equals(true)
+        .default_missing_value("both")
+        .value_parser(SIDES.as_slice())
+}
+
 fn check<'a>(alloc: Global) -> Result<Command<'a>, AllocError> {
     Command::new(alloc, "check")
         .about("Checks a transcript: which line breaks which rule of the protocol")
         .after_help(
-            "Prints `legal`, or `line L rule K`: the first line that breaks a rule, and the first rule that it breaks. Empty lines are skipped, and counted.\n\nRules:\n  1 the messages of each side are numbered from 1, without a gap\n  2 a response answers a request that waits, with its number and command; a request has no number of one that waits\n  3 the first request of the client is `initialize`, and the second comes after its response\n  4 `initialized` comes after `initialize` has succeeded\n  5 the client asks only what the adapter offers\n  6 the client names only references that were given since the debuggee last went on or ended\n  7 once `disconnect` has succeeded, the client asks nothing more, and the adapter writes nothing more\n\nStatuses: 0 legal, 2 usage, 3 a rule is broken, a line is no message, or the file is too long, 5 read or write, 6 memory",
+            "Prints `legal`, or `line L rule K`: the first line that breaks a rule, and the first rule that it breaks; with `--all` each such line, and then `N findings`. A line is judged by all lines before it, also by those that break a rule. With `--open` there follow lines `line L request N COMMAND is not answered`, in the order of the requests; they change no status. Empty lines are skipped, and counted.\n\nRules:\n  1 the messages of each side are numbered from 1, without a gap\n  2 a response answers a request that waits, with its number and command; a request has no number of one that waits\n  3 the first request of the client is `initialize`, and the second comes after its response\n  4 `initialized` comes after `initialize` has succeeded\n  5 the client asks only what the adapter offers\n  6 the client names only references that were given since the debuggee last went on or ended\n  7 once `disconnect` has succeeded, the client asks nothing more, and the adapter writes nothing more\n\nStatuses: 0 legal, 2 usage, 3 a rule is broken, a line is no message, or the file is too long, 5 read or write, 6 memory",
         )
         .arg(file_of(
             alloc,
@@ -191,13 +209,19 @@ fn check<'a>(alloc: Global) -> Result<Command<'a>, AllocError> {
         ))?
         .arg(flag(
             alloc,
-            "any-seq",
-            "Leaves out rule 1, since some adapters give every message the number 0",
+            "all",
+            "Prints every line that breaks a rule, and then how many there are",
         ))?
+        .arg(any_seq(alloc))?
         .arg(flag(
             alloc,
             "explain",
-            "Says in a second line why the rule is broken, and against which earlier lines",
+            "Says in a further line why a rule is broken, and against which earlier lines",
+        ))?
+        .arg(flag(
+            alloc,
+            "open",
+            "Prints after that each request that nothing has answered",
         ))
 }
 
@@ -263,4 +287,20 @@ pub(crate) fn limits(matches: &ArgMatches<'_>) -> Result<Limits, LimitFault> {
         set(seq),
         set(reference),
     )
+}
+
+/// What is to be printed of a transcript.
+pub(crate) fn check_options(matches: &ArgMatches<'_>) -> CheckOptions {
+    let any_seq = match matches.get_str("any-seq") {
+        None => AnySeq::OfNone,
+        Some("client") => AnySeq::OfClient,
+        Some("adapter") => AnySeq::OfAdapter,
+        Some(_) => AnySeq::OfBoth,
+    };
+    CheckOptions {
+        any_seq,
+        all: matches.get_flag("all"),
+        explained: matches.get_flag("explain"),
+        unanswered: matches.get_flag("open"),
+    }
 }

@@ -12,11 +12,8 @@ use clap::error::{Error, ErrorKind};
 use dap_channel::{Input, Pipe};
 use dap_frame::End;
 use dap_recording::Recorded;
-use dap_tool::{
-    Checked, FileFault, ToolFault, explanation_line, fault_line, most_reads, read_whole, status,
-    verdict_line,
-};
-use std::alloc::{AllocError, AllocFailed, Global};
+use dap_tool::{FileFault, ToolFault, check_text, fault_line, most_reads, read_whole, status};
+use std::alloc::{AllocError, AllocFailed};
 use std::fs::File;
 use std::io;
 use std::io::Write;
@@ -202,45 +199,19 @@ fn wrap(rt: &HostRuntime, matches: &ArgMatches<'_>) -> u8 {
     }
 }
 
-/// What is told of a transcript, and why, where that is asked for.
-fn judge(
-    alloc: Global,
-    bytes: &[u8],
-    checked: Checked,
-    explains: bool,
-) -> Result<Vec<u8>, ToolFault> {
-    let Ok(mut text) = verdict_line(alloc, checked) else {
-        return Err(ToolFault::OutOfMemory);
-    };
-    if explains {
-        match explanation_line(alloc, bytes, checked) {
-            Ok(why) => {
-                if text.extend_from_slice(&why).is_err() {
-                    return Err(ToolFault::OutOfMemory);
-                }
-            }
-            Err(fault) => return Err(ToolFault::Check(fault)),
-        }
-    }
-    Ok(text)
-}
-
-/// Tells whether the transcript that a file is keeps the rules, and answers the exit status.
+/// Prints what the options ask for of the transcript that a file is, and answers the exit status.
 fn check(rt: &HostRuntime, matches: &ArgMatches<'_>) -> u8 {
     let bytes = match read_file(rt, matches, "file") {
         Ok(bytes) => bytes,
         Err(fault) => return tell(rt, &ToolFault::File(fault)),
     };
-    let checked = match dap_tool::check(rt.alloc(), &bytes, matches.get_flag("any-seq")) {
-        Ok(checked) => checked,
+    let options = command_line::check_options(matches);
+    let verdict = match check_text(rt.alloc(), &bytes, options) {
+        Ok(verdict) => verdict,
         Err(fault) => return tell(rt, &ToolFault::Check(fault)),
     };
-    let text = match judge(rt.alloc(), &bytes, checked, matches.get_flag("explain")) {
-        Ok(text) => text,
-        Err(fault) => return tell(rt, &fault),
-    };
-    match print(rt, &text) {
-        Ok(()) if checked == Checked::Legal => 0,
+    match print(rt, &verdict.text) {
+        Ok(()) if verdict.is_legal => 0,
         Ok(()) => FINDING,
         Err(_) => tell(rt, &ToolFault::Write),
     }
