@@ -3,19 +3,20 @@ _dap() {
     local word=${COMP_WORDS[COMP_CWORD]} before=${COMP_WORDS[COMP_CWORD - 1]} command=${COMP_WORDS[1]} options
     COMPREPLY=()
     if ((COMP_CWORD == 1)); then
-        COMPREPLY=($(compgen -W 'serve show wrap check drive help -h --help -V --version' -- "$word"))
+        COMPREPLY=($(compgen -W 'serve show wrap unwrap check drive help -h --help -V --version' -- "$word"))
         return
     fi
     # A number comes after these, as a word of its own or after a sign of equality.
     case $before in --max-body | --max-breakpoints | --max-header | --max-reference | --max-references | --max-requests | --max-seq | =) return ;; esac
     case $command in
         serve) options='--max-header --max-body --max-requests --max-references --max-breakpoints --max-seq --max-reference -h --help' ;;
-        show) options='--max-header --max-body -h --help' ;;
+        show) options='--json --keep-going --max-header --max-body -h --help' ;;
         wrap) options='--max-body -h --help' ;;
+        unwrap) options='--max-header --max-body -h --help' ;;
         check) options='--any-seq --explain -h --help' ;;
         drive) options='--max-header --max-body --max-requests --max-references --max-breakpoints --max-seq --max-reference -h --help' ;;
         help)
-            if ((COMP_CWORD == 2)); then COMPREPLY=($(compgen -W 'serve show wrap check drive' -- "$word")); fi
+            if ((COMP_CWORD == 2)); then COMPREPLY=($(compgen -W 'serve show wrap unwrap check drive' -- "$word")); fi
             return
             ;;
         *) return ;;

@@ -3,6 +3,7 @@ complete -c dap -f
 complete -c dap -n __fish_use_subcommand -a serve -d 'Debugs a recorded run: answers the Debug Adapter Protocol requests of standard input on standard output'
 complete -c dap -n __fish_use_subcommand -a show -d 'Lists the messages of a stream, one a line'
 complete -c dap -n __fish_use_subcommand -a wrap -d 'Writes the messages of a file, one a line, as a stream of frames'
+complete -c dap -n __fish_use_subcommand -a unwrap -d 'Writes the bodies of a stream, one a line, as `wrap` reads them'
 complete -c dap -n __fish_use_subcommand -a check -d 'Checks a transcript: which line breaks which rule of the protocol'
 complete -c dap -n __fish_use_subcommand -a drive -d 'Runs a client and an adapter against each other by a script, and prints the transcript'
 complete -c dap -n __fish_use_subcommand -a help -d 'Print this message or the help of the given subcommand(s)'
@@ -18,12 +19,18 @@ complete -c dap -n '__fish_seen_subcommand_from serve; and not __fish_seen_subco
 complete -c dap -n '__fish_seen_subcommand_from serve; and not __fish_seen_subcommand_from help' -l max-reference -x -d 'Greatest number of a reference, 1 to 2147483647 [default: 2147483647]'
 complete -c dap -n '__fish_seen_subcommand_from serve; and not __fish_seen_subcommand_from help' -s h -l help -d 'Print help'
 complete -c dap -n '__fish_seen_subcommand_from show; and not __fish_seen_subcommand_from help' -F
+complete -c dap -n '__fish_seen_subcommand_from show; and not __fish_seen_subcommand_from help' -l json -d 'Writes a JSON object a line, with `offset`, `bytes` and `message`'
+complete -c dap -n '__fish_seen_subcommand_from show; and not __fish_seen_subcommand_from help' -l keep-going -d 'Lists a body that is no message as refused, and goes on; the status is then 3'
 complete -c dap -n '__fish_seen_subcommand_from show; and not __fish_seen_subcommand_from help' -l max-header -x -d 'Greatest length of a header block, 32 to 65536 [default: 8192]'
 complete -c dap -n '__fish_seen_subcommand_from show; and not __fish_seen_subcommand_from help' -l max-body -x -d 'Greatest length of a body, 1024 to 16777216 [default: 4194304]'
 complete -c dap -n '__fish_seen_subcommand_from show; and not __fish_seen_subcommand_from help' -s h -l help -d 'Print help'
 complete -c dap -n '__fish_seen_subcommand_from wrap; and not __fish_seen_subcommand_from help' -F
 complete -c dap -n '__fish_seen_subcommand_from wrap; and not __fish_seen_subcommand_from help' -l max-body -x -d 'Greatest length of a body, 1024 to 16777216 [default: 4194304]'
 complete -c dap -n '__fish_seen_subcommand_from wrap; and not __fish_seen_subcommand_from help' -s h -l help -d 'Print help'
+complete -c dap -n '__fish_seen_subcommand_from unwrap; and not __fish_seen_subcommand_from help' -F
+complete -c dap -n '__fish_seen_subcommand_from unwrap; and not __fish_seen_subcommand_from help' -l max-header -x -d 'Greatest length of a header block, 32 to 65536 [default: 8192]'
+complete -c dap -n '__fish_seen_subcommand_from unwrap; and not __fish_seen_subcommand_from help' -l max-body -x -d 'Greatest length of a body, 1024 to 16777216 [default: 4194304]'
+complete -c dap -n '__fish_seen_subcommand_from unwrap; and not __fish_seen_subcommand_from help' -s h -l help -d 'Print help'
 complete -c dap -n '__fish_seen_subcommand_from check; and not __fish_seen_subcommand_from help' -F
 complete -c dap -n '__fish_seen_subcommand_from check; and not __fish_seen_subcommand_from help' -l any-seq -d 'Leaves out rule 1, since some adapters give every message the number 0'
 complete -c dap -n '__fish_seen_subcommand_from check; and not __fish_seen_subcommand_from help' -l explain -d 'Says in a second line why the rule is broken, and against which earlier lines'
@@ -37,4 +44,4 @@ complete -c dap -n '__fish_seen_subcommand_from drive; and not __fish_seen_subco
 complete -c dap -n '__fish_seen_subcommand_from drive; and not __fish_seen_subcommand_from help' -l max-seq -x -d 'Greatest sequence number given, 1 to 9007199254740991 [default: 9007199254740991]'
 complete -c dap -n '__fish_seen_subcommand_from drive; and not __fish_seen_subcommand_from help' -l max-reference -x -d 'Greatest number of a reference, 1 to 2147483647 [default: 2147483647]'
 complete -c dap -n '__fish_seen_subcommand_from drive; and not __fish_seen_subcommand_from help' -s h -l help -d 'Print help'
-complete -c dap -n '__fish_seen_subcommand_from help' -a 'serve show wrap check drive'
+complete -c dap -n '__fish_seen_subcommand_from help' -a 'serve show wrap unwrap check drive'

@@ -145,13 +145,36 @@ fn show<'a>(alloc: Global, limit_texts: &'a [String]) -> Result<Command<'a>, All
     let show = Command::new(alloc, "show")
         .about("Lists the messages of a stream, one a line")
         .after_help(
-            "A line has the offset of the frame, the sequence number, then `request` COMMAND, `event` EVENT, `response` COMMAND REQUEST_SEQ `ok` or `failed`, or `other` TYPE.\n\nStatuses: 0 all is listed, 2 usage, 3 a frame, a body or the length of the file is refused, 4 the file ends within a frame, 5 read or write, 6 memory",
+            "A line has the offset of the frame, the sequence number, then `request` COMMAND, `event` EVENT, `response` COMMAND REQUEST_SEQ `ok` or `failed`, behind which is why, or `other` TYPE. A refused body is OFFSET `refused` CAUSE.\n\nStatuses: 0 all is listed, 2 usage, 3 a frame, a body or the length of the file is refused, 4 the file ends within a frame, 5 read or write, 6 memory",
         )
         .arg(file_of(
             alloc,
-            "The stream, as one side wrote it, of at most 67108864 bytes",
+            "The stream, as one side wrote it, of at most 67108864 bytes; `-` is standard input",
+        ))?
+        .arg(flag(
+            alloc,
+            "json",
+            "Writes a JSON object a line, with `offset`, `bytes` and `message`",
+        ))?
+        .arg(flag(
+            alloc,
+            "keep-going",
+            "Lists a body that is no message as refused, and goes on; the status is then 3",
         ))?;
     with_limits(alloc, show, limit_texts, FRAME_OPTIONS)
+}
+
+fn unwrap<'a>(alloc: Global, limit_texts: &'a [String]) -> Result<Command<'a>, AllocError> {
+    let unwrap = Command::new(alloc, "unwrap")
+        .about("Writes the bodies of a stream, one a line, as `wrap` reads them")
+        .after_help(
+            "Line feeds and carriage returns between the tokens of a body are left out. What comes before a fault is written.\n\nStatuses: 0 all is written, 2 usage, 3 a frame, a body or the length of the file is refused, 4 the file ends within a frame, 5 read or write, 6 memory",
+        )
+        .arg(file_of(
+            alloc,
+            "The stream, as one side wrote it, of at most 67108864 bytes; `-` is standard input",
+        ))?;
+    with_limits(alloc, unwrap, limit_texts, FRAME_OPTIONS)
 }
 
 fn wrap<'a>(alloc: Global, limit_texts: &'a [String]) -> Result<Command<'a>, AllocError> {
@@ -162,7 +185,7 @@ fn wrap<'a>(alloc: Global, limit_texts: &'a [String]) -> Result<Command<'a>, All
         )
         .arg(file_of(
             alloc,
-            "The messages, as JSON, one a line, of at most 67108864 bytes",
+            "The messages, as JSON, one a line, of at most 67108864 bytes; `-` is standard input",
         ))?;
     for (option, help) in LIMIT_OPTIONS.iter().zip(limit_texts).take(FRAME_OPTIONS) {
         // No header block is read. The option may be given, since a script gives both tools the same.
@@ -205,7 +228,7 @@ fn check<'a>(alloc: Global) -> Result<Command<'a>, AllocError> {
         )
         .arg(file_of(
             alloc,
-            "The transcript: one message a line, `> ` before those of the client, `< ` before those of the adapter; of at most 67108864 bytes",
+            "The transcript: one message a line, `> ` before those of the client, `< ` before those of the adapter; of at most 67108864 bytes; `-` is standard input",
         ))?
         .arg(flag(
             alloc,
@@ -257,6 +280,7 @@ pub(crate) fn command<'a>(
         .subcommand(serve(alloc, limit_texts)?)?
         .subcommand(show(alloc, limit_texts)?)?
         .subcommand(wrap(alloc, limit_texts)?)?
+        .subcommand(unwrap(alloc, limit_texts)?)?
         .subcommand(check(alloc)?)?
         .subcommand(drive(alloc, limit_texts)?)
 }

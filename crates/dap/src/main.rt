@@ -12,7 +12,7 @@ use clap::error::{Error, ErrorKind};
 use dap_channel::{Input, Pipe};
 use dap_frame::End;
 use dap_recording::Recorded;
-use dap_tool::{FileFault, ToolFault, check_text, fault_line, most_reads, read_whole, status};
+use dap_tool::{FileFault, Form, Style, ToolFault, check_text, fault_line, most_reads, read_whole, status};
 use std::alloc::{AllocError, AllocFailed};
 use std::fs::File;
 use std::io;
@@ -22,7 +22,7 @@ use std::process::ExitCode;
 /// The status of a wrong command line.
 const USAGE: u8 = 2;
 
-/// The status where a transcript breaks a rule.
+/// The status where a transcript breaks a rule, or a refused body is listed.
 const FINDING: u8 = 3;
 
 /// What keeps the program from telling how it ended.
@@ -92,6 +92,7 @@ fn run_subcommand(rt: &HostRuntime, matches: &ArgMatches<'_>) -> u8 {
         Some(("serve", matches)) => serve(rt, matches),
         Some(("show", matches)) => show(rt, matches),
         Some(("wrap", matches)) => wrap(rt, matches),
+        Some(("unwrap", matches)) => unwrap(rt, matches),
         Some(("check", matches)) => check(rt, matches),
         Some(("drive", matches)) => drive(rt, matches),
         _ => USAGE,
@@ -158,23 +159,43 @@ fn serve(rt: &HostRuntime, matches: &ArgMatches<'_>) -> u8 {
     }
 }
 
-/// Lists the messages of a file on standard output, and answers the exit status. What was listed is printed before a
-/// fault is told.
+/// Lists the messages of a file on standard output, and answers the exit status.
 fn show(rt: &HostRuntime, matches: &ArgMatches<'_>) -> u8 {
+    let form = if matches.get_flag("json") {
+        Form::Object
+    } else {
+        Form::Line
+    };
+    let keeps_going = matches.get_flag("keep-going");
+    list(rt, matches, Style { form, keeps_going })
+}
+
+/// Writes the bodies of a file on standard output, one a line, and answers the exit status.
+fn unwrap(rt: &HostRuntime, matches: &ArgMatches<'_>) -> u8 {
+    let style = Style {
+        form: Form::Body,
+        keeps_going: false,
+    };
+    list(rt, matches, style)
+}
+
+/// Lists a file on standard output, and answers the exit status. What was listed is printed before a fault is told.
+fn list(rt: &HostRuntime, matches: &ArgMatches<'_>, style: Style) -> u8 {
     let Ok(limits) = command_line::limits(matches) else {
         return USAGE;
     };
-    let bytes = match read_file(rt, matches, "file") {
+    let bytes = match read_input(rt, matches) {
         Ok(bytes) => bytes,
         Err(fault) => return tell(rt, &ToolFault::File(fault)),
     };
     let mut listing = Vec::new(rt.alloc());
-    let shown = dap_tool::show(rt.alloc(), &bytes, limits, &mut listing);
+    let shown = dap_tool::list(rt.alloc(), &bytes, limits, style, &mut listing);
     if print(rt, &listing).is_err() {
         return tell(rt, &ToolFault::Write);
     }
     match shown {
-        Ok(End::Truncated) => tell(rt, &ToolFault::Truncated),
+        Ok(shown) if shown.end == End::Truncated => tell(rt, &ToolFault::Truncated),
+        Ok(shown) if shown.refused => FINDING,
         Ok(_) => 0,
         Err(fault) => tell(rt, &ToolFault::Show(fault)),
     }
@@ -185,7 +206,7 @@ fn wrap(rt: &HostRuntime, matches: &ArgMatches<'_>) -> u8 {
     let Ok(limits) = command_line::limits(matches) else {
         return USAGE;
     };
-    let bytes = match read_file(rt, matches, "file") {
+    let bytes = match read_input(rt, matches) {
         Ok(bytes) => bytes,
         Err(fault) => return tell(rt, &ToolFault::File(fault)),
     };
@@ -201,7 +222,7 @@ fn wrap(rt: &HostRuntime, matches: &ArgMatches<'_>) -> u8 {
 
 /// Prints what the options ask for of the transcript that a file is, and answers the exit status.
 fn check(rt: &HostRuntime, matches: &ArgMatches<'_>) -> u8 {
-    let bytes = match read_file(rt, matches, "file") {
+    let bytes = match read_input(rt, matches) {
         Ok(bytes) => bytes,
         Err(fault) => return tell(rt, &ToolFault::File(fault)),
     };
@@ -254,6 +275,20 @@ fn read_recording(rt: &HostRuntime, matches: &ArgMatches<'_>) -> Result<Recorded
     match read {
         Ok(recording) => Ok(recording),
         Err(fault) => Err(ToolFault::Recording(fault)),
+    }
+}
+
+/// The bytes of the file that the command line names, or of standard input, where that is `-`.
+fn read_input(rt: &HostRuntime, matches: &ArgMatches<'_>) -> Result<Vec<u8>, FileFault> {
+    match matches.get_str("file") {
+        Some("-") => read_whole(
+            rt.alloc(),
+            &mut Input {
+                reader: rt.reader(),
+            },
+            0,
+        ),
+        _ => read_file(rt, matches, "file"),
     }
 }
 

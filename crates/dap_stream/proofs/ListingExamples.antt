@@ -2,8 +2,9 @@
 use Rattle.std.proofs.Common.{◌≡◌, [], ◌∷◌, ◌++◌, codes, true, false, Some, None, refl}
 use Rattle.std.specs.Fmt.{digits}
 use Rattle.serde_json.specs.Data.{null, object, no_members}
+use Rattle.dap_message.specs.declared.fault.BodyRefusal.TheVariants.{BadSeq}
 use Rattle.dap_message.specs.declared.message.Kind.TheVariants.{Request, Response, Event, Other}
-use Rattle.dap_stream.specs.Lines.{shown_text, line_of_message, line_of_object}
+use Rattle.dap_stream.specs.Lines.{shown_text, line_of_message, line_of_object, line_of_refused, object_of_refused}
 
 -- ---- names
 
@@ -72,3 +73,13 @@ object_line = refl
 breaks_count : line_of_object 68 (codes "{\"seq\":3,\r\n\"type\":\"x\"}") ≡ codes "{\"offset\":68,\"bytes\":22,\"message\":{\"seq\":3,\"type\":\"x\"}}\n"
 unfolding digits
 breaks_count = refl
+
+-- ---- bodies that are refused, where the listing goes on
+
+refused_line : line_of_refused 68 BadSeq ≡ codes "68 refused BadSeq\n"
+unfolding digits
+refused_line = refl
+
+refused_object : object_of_refused 68 (codes "{}") BadSeq ≡ codes "{\"offset\":68,\"bytes\":2,\"refused\":\"BadSeq\"}\n"
+unfolding digits
+refused_object = refl

@@ -1,17 +1,18 @@
 -- A listing that goes on.
-use Rattle.std.proofs.Common.{◌≡◌, ℕ, ◌+◌, ◌<◌, ◌≤◌, ◌^◌, List, [], ◌∷◌, ◌++◌, length, take, drop, Err, sym, ap, ◌∙◌, subst, arith, length-drop}
+use Rattle.std.proofs.Common.{◌≡◌, ℕ, ◌+◌, ◌<◌, ◌≤◌, ◌^◌, List, [], ◌∷◌, ◌++◌, length, take, drop, Err, ◌||◌, Bool, false, refl, sym, ap, ap₂, ◌∙◌, subst, arith, length-drop}
 use Rattle.std.proofs.lemmas.List.{length-append, append_assoc, append-nil, take_all, take-append-drop, append_cancel_right}
 use Rattle.std.proofs.Math.Seq.{take-add}
 use Rattle.dap_frame.specs.declared.Refusal.{Refusal}
 use Rattle.dap_frame.specs.declared.frames.FrameFault.{FrameFault}
+use Rattle.dap_frame.specs.declared.limits.Bounds.{Bounds}
 use Rattle.dap_frame.specs.Settings.{Settings, bounds_of}
 use Rattle.dap_frame.specs.Stream.{FramesThen, Split}
 use Rattle.dap_frame.specs.Verdict.{verdict, Refused as Refuses}
 use Rattle.dap_frame.specs.Intake.{Intake, IsReady, StandsFor, Shut, StartsAt, LastStartsAt}
 use Rattle.dap_frame.specs.Feeds.{Completes, Gathers, Closes}
-use Rattle.dap_stream.specs.Listing.{none, one_more, Listed, IsLineOf, Shows}
+use Rattle.dap_stream.specs.Listing.{IsLineOf, of_message, of_refused, Lists, none, one_more, Listed, Shows}
 use Rattle.dap_stream.specs.PrivateShowSteps.{ListedTo, ListedBefore}
-use Rattle.dap_stream.specs.declared.listing.Form.{Form}
+use Rattle.dap_stream.specs.declared.lines.Style.{Style}
 use Rattle.dap_stream.specs.declared.listing.ShowFault.TheVariants.{Frame, OutOfMemory}
 
 -- ---- how far a listing has come
@@ -19,8 +20,8 @@ use Rattle.dap_stream.specs.declared.listing.ShowFault.TheVariants.{Frame, OutOf
 taken : (bytes rest : List ℕ) (at n : ℕ) → rest ≡ drop at bytes → take at bytes ++ take n rest ≡ take (at + n) bytes
 taken bytes rest at n e = ap (λ r. take at bytes ++ take n r) e ∙ sym (take-add at n bytes)
 
-pub ListedTo-start : (form : Form) (limits : Settings) (frames : Intake) (bytes old : List ℕ) → frames.bounds ≡ bounds_of limits → StandsFor frames [] [] [] → ListedTo form limits frames bytes 0 old old
-ListedTo-start form limits frames bytes old bounds fresh = record {
+pub ListedTo-start : (style : Style) (limits : Settings) (frames : Intake) (bytes old : List ℕ) → frames.bounds ≡ bounds_of limits → StandsFor frames [] [] [] → ListedTo style limits frames bytes 0 old old false
+ListedTo-start style limits frames bytes old bounds fresh = record {
   bodies = [];
   rest = [];
   bounds = bounds;
@@ -30,8 +31,8 @@ ListedTo-start form limits frames bytes old bounds fresh = record {
 
 -- ---- a call of feed
 
-module _ (form : Form) (limits : Settings) (frames : Intake) (bytes rest : List ℕ) (at : ℕ) (old new : List ℕ) (cut : rest ≡ drop at bytes) (l : ListedTo form limits frames bytes at old new) (after : Intake) (bounds : after.bounds ≡ frames.bounds) where
-  pub completed : (n : ℕ) → Completes frames after rest n → ListedBefore form limits after bytes (at + n) old new
+module _ (style : Style) (limits : Settings) (frames : Intake) (bytes rest : List ℕ) (at : ℕ) (old new : List ℕ) (refused : Bool) (cut : rest ≡ drop at bytes) (l : ListedTo style limits frames bytes at old new refused) (after : Intake) (bounds : after.bounds ≡ frames.bounds) where
+  pub completed : (n : ℕ) → Completes frames after rest n → ListedBefore style limits after bytes (at + n) old new refused
   completed n done = record {
     bodies = l.bodies;
     bounds = bounds ∙ l.bounds;
@@ -39,7 +40,7 @@ module _ (form : Form) (limits : Settings) (frames : Intake) (bytes rest : List 
     listed = l.listed;
   }
 
-  pub gathered : (n : ℕ) → Gathers frames after rest n → ListedTo form limits after bytes (at + n) old new
+  pub gathered : (n : ℕ) → Gathers frames after rest n → ListedTo style limits after bytes (at + n) old new refused
   gathered n done =
       let whole : take n rest ≡ rest = take_all n rest (omega (arith, done.all)) in
       let e : take at bytes ++ rest ≡ take (at + n) bytes = ap (λ z. take at bytes ++ z) (sym whole) ∙ taken bytes rest at n cut in
@@ -51,18 +52,19 @@ module _ (form : Form) (limits : Settings) (frames : Intake) (bytes rest : List 
         listed = l.listed;
       }
 
-  closed_by : (cause : Refusal) (offset n : ℕ) (left : List ℕ) → StandsFor after (take n bytes) l.bodies left → Shut after (take n bytes) l.bodies left cause → offset ≡ after.start → Shows form limits bytes old new (Err (Frame (record { cause = cause; offset = offset })))
+  closed_by : (cause : Refusal) (offset n : ℕ) (left : List ℕ) → StandsFor after (take n bytes) l.bodies left → Shut after (take n bytes) l.bodies left cause → offset ≡ after.start → Shows style limits bytes old new (Err (Frame (record { cause = cause; offset = offset })))
   closed_by cause offset n left f shut starts = record {
     n = n;
     bodies = l.bodies;
     rest = left;
+    refused = refused;
     split = subst (λ b. Split b (take n bytes) l.bodies left) (bounds ∙ l.bounds) f.split;
     listed = l.listed;
     verdict_is = subst (λ b. verdict b left ≡ Refuses cause (length left)) (bounds ∙ l.bounds) shut.verdict_is;
     offset = subst (λ b. StartsAt b offset (take n bytes) l.bodies left) (bounds ∙ l.bounds) (subst (λ k. StartsAt after.bounds k (take n bytes) l.bodies left) (sym starts) shut.starts);
   }
 
-  pub closed : (fault : FrameFault) → Closes frames after rest fault → Shows form limits bytes old new (Err (Frame fault))
+  pub closed : (fault : FrameFault) → Closes frames after rest fault → Shows style limits bytes old new (Err (Frame fault))
   closed fault done =
       let f : StandsFor after (take (at + done.n) bytes) l.bodies (l.rest ++ take done.n rest) =
       subst (λ z. StandsFor after z l.bodies (l.rest ++ take done.n rest)) (taken bytes rest at done.n cut) (done.stands (take at bytes) l.bodies l.rest l.stands) in
@@ -70,7 +72,7 @@ module _ (form : Form) (limits : Settings) (frames : Intake) (bytes rest : List 
 
 -- ---- a ready body
 
-module _ (form : Form) (limits : Settings) (frames : Intake) (bytes : List ℕ) (at : ℕ) (old new : List ℕ) (l : ListedBefore form limits frames bytes at old new) (ready : IsReady frames) where
+module _ (style : Style) (limits : Settings) (frames : Intake) (bytes : List ℕ) (at : ℕ) (old new : List ℕ) (before : Bool) (l : ListedBefore style limits frames bytes at old new before) (ready : IsReady frames) where
   last_here : LastStartsAt frames.bounds frames.start (take at bytes) (l.bodies ++ frames.held ∷ []) frames.held
   last_here = (l.stands.ready ready).last
 
@@ -87,26 +89,40 @@ module _ (form : Form) (limits : Settings) (frames : Intake) (bytes : List ℕ) 
     offset_is : offset ≡ length last.starts.front
     offset_is = omega (arith, starts, last.starts.place, small, ap length whole, length-append last.starts.front (last.frame ++ drop at bytes))
 
-    pub listed_more : (line new' : List ℕ) → IsLineOf form offset frames.held line → new' ≡ new ++ line → Listed form limits bytes (l.bodies ++ frames.held ∷ []) old new'
-    listed_more line new' line_is more = record {
+    pub listed_more : (line new' : List ℕ) (refused : Bool) → IsLineOf style offset frames.held line refused → new' ≡ new ++ line → Listed style limits bytes (l.bodies ++ frames.held ∷ []) old new' (before || refused)
+    listed_more line new' refused line_is more = record {
       text = l.listed.text ++ line;
-      lists = one_more l.bodies l.listed.text frames.held line last.starts.front last.frame (drop at bytes) l.listed.lists whole (subst (λ xs. FramesThen (bounds_of limits) xs [] last.starts.front) before_is last.starts.frames) last.frame_is (subst (λ k. IsLineOf form k frames.held line) offset_is line_is);
+      lists = one_more l.bodies l.listed.text frames.held line last.starts.front last.frame (drop at bytes) before refused l.listed.lists whole (subst (λ xs. FramesThen (bounds_of limits) xs [] last.starts.front) before_is last.starts.frames) last.frame_is (subst (λ k. IsLineOf style k frames.held line refused) offset_is line_is);
       appended = more ∙ ap (λ z. z ++ line) l.listed.appended ∙ append_assoc old l.listed.text line;
     }
 
-    pub released : (after : Intake) → after.bounds ≡ frames.bounds → ((s : List ℕ) (xs : List (List ℕ)) (rest : List ℕ) → StandsFor frames s xs rest → StandsFor after s xs rest) → (line new' : List ℕ) → IsLineOf form offset frames.held line → new' ≡ new ++ line → ListedTo form limits after bytes at old new'
-    released after bounds stands line new' line_is more = record {
+    pub released : (after : Intake) → after.bounds ≡ frames.bounds → ((s : List ℕ) (xs : List (List ℕ)) (rest : List ℕ) → StandsFor frames s xs rest → StandsFor after s xs rest) → (line new' : List ℕ) (refused : Bool) → IsLineOf style offset frames.held line refused → new' ≡ new ++ line → ListedTo style limits after bytes at old new' (before || refused)
+    released after bounds stands line new' refused line_is more = record {
       bodies = l.bodies ++ frames.held ∷ [];
       rest = [];
       bounds = bounds ∙ l.bounds;
       stands = stands (take at bytes) (l.bodies ++ frames.held ∷ []) [] l.stands;
-      listed = listed_more line new' line_is more;
+      listed = listed_more line new' refused line_is more;
     }
 
 -- ---- the end
 
-pub out_of_memory_first : (form : Form) (limits : Settings) (bytes old : List ℕ) → Shows form limits bytes old old (Err OutOfMemory)
-out_of_memory_first form limits bytes old = record { bodies = []; listed = record { text = []; lists = none; appended = sym (append-nil old) } }
+pub out_of_memory_first : (style : Style) (limits : Settings) (bytes old : List ℕ) → Shows style limits bytes old old (Err OutOfMemory)
+out_of_memory_first style limits bytes old = record { bodies = []; refused = false; listed = record { text = []; lists = none; appended = sym (append-nil old) } }
+
+-- ---- a listing that stops
+
+stops_none : (style : Style) (offset : ℕ) (x line : List ℕ) (refused : Bool) → style.keeps_going ≡ false → IsLineOf style offset x line refused → refused ≡ false
+stops_none style offset x line _ stops (of_message m is line_is) = refl
+stops_none style offset x line _ stops (of_refused cause goes bad line_is) = absurd (cc (stops, goes))
+
+lists_none : (style : Style) (bounds : Bounds) (s : List ℕ) (xs : List (List ℕ)) (text : List ℕ) (refused : Bool) → style.keeps_going ≡ false → Lists style bounds s xs text refused → refused ≡ false
+lists_none style bounds s _ _ _ stops none = refl
+lists_none style bounds s _ _ _ stops (one_more xs text x line front frame after before refused l cut frames is_frame is_line) =
+    ap₂ (λ (a b : Bool). a || b) (lists_none style bounds s xs text before stops l) (stops_none style (length front) x line refused stops is_line)
+
+pub none_refused : (style : Style) (limits : Settings) (bytes : List ℕ) (xs : List (List ℕ)) (old new : List ℕ) (refused : Bool) → style.keeps_going ≡ false → Listed style limits bytes xs old new refused → refused ≡ false
+none_refused style limits bytes xs old new refused stops l = lists_none style (bounds_of limits) bytes xs l.text refused stops l.lists
 
 -- ---- what is used
 

@@ -17,10 +17,11 @@ use Rattle.dap_json.specs.Read.{json_of}
 use Rattle.dap_message.specs.Meaning.{Msg}
 use Rattle.dap_message.specs.declared.message.Message.{Message}
 use Rattle.dap_stream.specs.Lines.{is_break, unbroken, line_of_body}
-use Rattle.dap_stream.specs.Listing.{Lists, none, one_more, Listed}
+use Rattle.dap_stream.specs.Listing.{IsLineOf, of_message, of_refused, Lists, none, one_more, Listed, stops_in}
 use Rattle.dap_stream.specs.Unwrapping.{lines_of_bodies}
 use Rattle.dap_stream.specs.Wrapping.{bodies, frames_of_bodies, IsBody, AreBodies}
-use Rattle.dap_stream.specs.declared.listing.Form.TheVariants.{Body}
+use Rattle.dap_stream.specs.declared.lines.Form.TheVariants.{Body}
+use Rattle.dap_stream.specs.declared.lines.Style.{Style}
 use Rattle.dap_stream.proofs.UnbrokenTexts.{kept}
 use Rattle.dap_stream.proofs.UnbrokenBodies.{value_stays}
 
@@ -70,19 +71,27 @@ lines_are (x ∷ xs) =
 
 -- ---- what is listed
 
-listed_text : (bounds : Bounds) (s : List ℕ) (xs : List (List ℕ)) (text : List ℕ) → Lists Body bounds s xs text → text ≡ lines_of_bodies xs
-listed_text bounds s _ _ none = refl
-listed_text bounds s _ _ (one_more xs text x line front frame after l whole frames is_frame is_line) =
-    ap₂ (λ (a b : List ℕ). a ++ b) (listed_text bounds s xs text l) (is_line.line_is ∙ sym (append-nil (line_of_body x))) ∙ sym (flat_map-append line_of_body xs (x ∷ []))
+abbrev plain : Style
+plain = stops_in Body
 
-listed_bodies : (limits : Settings) (s : List ℕ) (xs : List (List ℕ)) (text : List ℕ) → Lists Body (bounds_of limits) s xs text → All (IsBody limits) xs
-listed_bodies limits s _ _ none = All-nil (IsBody limits)
-listed_bodies limits s _ _ (one_more xs text x line front frame after l whole frames is_frame is_line) =
-    All-append (IsBody limits) xs (x ∷ []) (listed_bodies limits s xs text l)
-    (All-cons (IsBody limits) x [] (record { message = is_line.message; message_is = is_line.is; within = is_frame.body_fits }) (All-nil (IsBody limits)))
+a_line : (offset : ℕ) (x line : List ℕ) (refused : Bool) → IsLineOf plain offset x line refused → (m : Message) × Msg x m × (line ≡ line_of_body x)
+a_line offset x line _ (of_message m is line_is) = (m, is, line_is)
+a_line offset x line _ (of_refused cause goes bad line_is) = absurd (cc goes)
 
-pub is_listed : (limits : Settings) (bytes : List ℕ) (xs : List (List ℕ)) (old new : List ℕ) → Listed Body limits bytes xs old new → (new ≡ old ++ lines_of_bodies xs) × All (IsBody limits) xs
-is_listed limits bytes xs old new l = (l.appended ∙ ap (λ z. old ++ z) (listed_text _ bytes xs l.text l.lists), listed_bodies limits bytes xs l.text l.lists)
+listed_text : (bounds : Bounds) (s : List ℕ) (xs : List (List ℕ)) (text : List ℕ) (refused : Bool) → Lists plain bounds s xs text refused → text ≡ lines_of_bodies xs
+listed_text bounds s _ _ _ none = refl
+listed_text bounds s _ _ _ (one_more xs text x line front frame after before refused l cut frames is_frame is_line) =
+    ap₂ (λ (a b : List ℕ). a ++ b) (listed_text bounds s xs text before l) ((a_line (length front) x line refused is_line).2 ∙ sym (append-nil (line_of_body x))) ∙ sym (flat_map-append line_of_body xs (x ∷ []))
+
+listed_bodies : (limits : Settings) (s : List ℕ) (xs : List (List ℕ)) (text : List ℕ) (refused : Bool) → Lists plain (bounds_of limits) s xs text refused → All (IsBody limits) xs
+listed_bodies limits s _ _ _ none = All-nil (IsBody limits)
+listed_bodies limits s _ _ _ (one_more xs text x line front frame after before refused l cut frames is_frame is_line) =
+    let body = a_line (length front) x line refused is_line in
+    All-append (IsBody limits) xs (x ∷ []) (listed_bodies limits s xs text before l)
+    (All-cons (IsBody limits) x [] (record { message = body.0; message_is = body.1; within = is_frame.body_fits }) (All-nil (IsBody limits)))
+
+pub is_listed : (limits : Settings) (bytes : List ℕ) (xs : List (List ℕ)) (old new : List ℕ) → Listed plain limits bytes xs old new false → (new ≡ old ++ lines_of_bodies xs) × All (IsBody limits) xs
+is_listed limits bytes xs old new l = (l.appended ∙ ap (λ z. old ++ z) (listed_text _ bytes xs l.text false l.lists), listed_bodies limits bytes xs l.text false l.lists)
 
 -- ---- the frames
 

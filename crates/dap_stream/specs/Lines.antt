@@ -1,10 +1,12 @@
 -- The line of a message, in each form. All are this profile's choice.
 use Rattle.std.specs.Prelude.{ℕ, ◌==◌, ◌||◌, not, nat_lt, Bool, true, false, List, [], ◌∷◌, ◌++◌, length, map, filter, codes, decimal, Option, Some, None, if◌then◌else◌}
+use Rattle.dap_message.specs.declared.fault.BodyRefusal.{BodyRefusal}
+use Rattle.dap_message.specs.declared.fault.BodyRefusal.TheVariants.{NotJson, NotObject, BadSeq, BadType, BadCommand, BadRequestSeq, BadSuccess, BadEvent, BadMessage}
 use Rattle.dap_message.specs.declared.message.Message.{Message}
 use Rattle.dap_message.specs.declared.message.Kind.{Kind}
 use Rattle.dap_message.specs.declared.message.Kind.TheVariants.{Request, Response, Event, Other}
-use Rattle.dap_stream.specs.declared.listing.Form.{Form}
-use Rattle.dap_stream.specs.declared.listing.Form.TheVariants.{Line, Object, Body}
+use Rattle.dap_stream.specs.declared.lines.Form.{Form}
+use Rattle.dap_stream.specs.declared.lines.Form.TheVariants.{Line, Object, Body}
 
 -- ---- by eye
 
@@ -52,9 +54,34 @@ line_of_body body = unbroken body ++ 10 ∷ []
 abbrev pub line_of_object : ℕ → List ℕ → List ℕ
 line_of_object offset body = codes "{\"offset\":" ++ decimal offset ++ codes ",\"bytes\":" ++ decimal (length body) ++ codes ",\"message\":" ++ unbroken body ++ codes "}\n"
 
+-- ---- a body that is no message
+
+abbrev pub name_of_body_refusal : BodyRefusal → List ℕ
+name_of_body_refusal NotJson = codes "NotJson"
+name_of_body_refusal NotObject = codes "NotObject"
+name_of_body_refusal BadSeq = codes "BadSeq"
+name_of_body_refusal BadType = codes "BadType"
+name_of_body_refusal BadCommand = codes "BadCommand"
+name_of_body_refusal BadRequestSeq = codes "BadRequestSeq"
+name_of_body_refusal BadSuccess = codes "BadSuccess"
+name_of_body_refusal BadEvent = codes "BadEvent"
+name_of_body_refusal BadMessage = codes "BadMessage"
+
+abbrev pub line_of_refused : ℕ → BodyRefusal → List ℕ
+line_of_refused offset cause = decimal offset ++ codes " refused " ++ name_of_body_refusal cause ++ codes "\n"
+
+abbrev pub object_of_refused : ℕ → List ℕ → BodyRefusal → List ℕ
+object_of_refused offset body cause = codes "{\"offset\":" ++ decimal offset ++ codes ",\"bytes\":" ++ decimal (length body) ++ codes ",\"refused\":\"" ++ name_of_body_refusal cause ++ codes "\"}\n"
+
 -- ---- in each form
 
 abbrev pub line_in : Form → ℕ → List ℕ → Message → List ℕ
 line_in Line offset body m = line_of_message offset m
 line_in Object offset body m = line_of_object offset body
 line_in Body offset body m = line_of_body body
+
+-- as a body alone it has no line
+abbrev pub refused_in : Form → ℕ → List ℕ → BodyRefusal → List ℕ
+refused_in Line offset body cause = line_of_refused offset cause
+refused_in Object offset body cause = object_of_refused offset body cause
+refused_in Body offset body cause = []

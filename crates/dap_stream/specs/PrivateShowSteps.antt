@@ -1,5 +1,5 @@
 -- Words for the steps that listing and wrapping are made of: they serve private functions alone.
-use Rattle.std.specs.Prelude.{◌≡◌, ℕ, Bool, true, false, not, List, [], ◌∷◌, ◌++◌, take, Option, Some, None}
+use Rattle.std.specs.Prelude.{◌≡◌, ℕ, Bool, true, false, not, List, [], ◌∷◌, ◌++◌, take, Option, None}
 use Rattle.dap_frame.specs.Settings.{Settings, bounds_of}
 use Rattle.dap_frame.specs.Intake.{Intake, StandsFor}
 use Rattle.dap_message.specs.Refusals.{Bad}
@@ -11,7 +11,7 @@ use Rattle.dap_message.specs.declared.message.Kind.{Kind}
 use Rattle.dap_message.specs.declared.message.Kind.TheVariants as kind
 use Rattle.dap_stream.specs.Lines.{kind_text}
 use Rattle.dap_stream.specs.Listing.{Listed}
-use Rattle.dap_stream.specs.declared.listing.Form.{Form}
+use Rattle.dap_stream.specs.declared.lines.Style.{Style}
 
 -- why the request failed, where the message is a response that says so
 abbrev pub reason_of : Kind → Option (List ℕ)
@@ -40,17 +40,22 @@ abbrev pub IsUnread : List ℕ → BodyFault → Type 0
 IsUnread body (BodyRefused cause) = Bad body cause
 IsUnread body NoMemoryForBody = Unit {0}
 
+-- why a listing stops at a ready body
+abbrev pub IsStopped : Style → List ℕ → BodyFault → Type 0
+IsStopped style body (BodyRefused cause) = Bad body cause × (style.keeps_going ≡ false)
+IsStopped style body NoMemoryForBody = Unit {0}
+
 -- the first `at` bytes were listed
-pub record ListedTo (form : Form) (limits : Settings) (frames : Intake) (bytes : List ℕ) (at : ℕ) (old new : List ℕ) : Type 0 where
+pub record ListedTo (style : Style) (limits : Settings) (frames : Intake) (bytes : List ℕ) (at : ℕ) (old new : List ℕ) (refused : Bool) : Type 0 where
   pub bodies : List (List ℕ)
   pub rest : List ℕ
   pub bounds : frames.bounds ≡ bounds_of limits
   pub stands : StandsFor frames (take at bytes) bodies rest
-  pub listed : Listed form limits bytes bodies old new
+  pub listed : Listed style limits bytes bodies old new refused
 
 -- the same, save for the last body, which is ready
-pub record ListedBefore (form : Form) (limits : Settings) (frames : Intake) (bytes : List ℕ) (at : ℕ) (old new : List ℕ) : Type 0 where
+pub record ListedBefore (style : Style) (limits : Settings) (frames : Intake) (bytes : List ℕ) (at : ℕ) (old new : List ℕ) (refused : Bool) : Type 0 where
   pub bodies : List (List ℕ)
   pub bounds : frames.bounds ≡ bounds_of limits
   pub stands : StandsFor frames (take at bytes) (bodies ++ frames.held ∷ []) []
-  pub listed : Listed form limits bytes bodies old new
+  pub listed : Listed style limits bytes bodies old new refused

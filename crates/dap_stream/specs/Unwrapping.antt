@@ -8,9 +8,9 @@ use Rattle.dap_json.specs.Read.{json_of}
 use Rattle.dap_message.specs.Meaning.{Msg}
 use Rattle.dap_message.specs.declared.message.Message.{Message}
 use Rattle.dap_stream.specs.Lines.{is_break, unbroken, line_of_body}
-use Rattle.dap_stream.specs.Listing.{Listed}
+use Rattle.dap_stream.specs.Listing.{Listed, stops_in}
 use Rattle.dap_stream.specs.Wrapping.{IsBody, AreBodies, frames_of_bodies}
-use Rattle.dap_stream.specs.declared.listing.Form.TheVariants.{Body}
+use Rattle.dap_stream.specs.declared.lines.Form.TheVariants.{Body}
 
 abbrev pub lines_of_bodies : List (List ℕ) → List ℕ
 lines_of_bodies xs = flat_map line_of_body xs
@@ -21,7 +21,7 @@ IsUnbroken body = All (λ b. is_break b ≡ false) body
 
 -- what is listed of a stream is a line for each body, and nothing else; the lines of that text are these
 pub record EachBodyIsALine : Type 0 where
-  pub listed : (limits : Settings) (bytes : List ℕ) (xs : List (List ℕ)) (old new : List ℕ) → Listed Body limits bytes xs old new → (new ≡ old ++ lines_of_bodies xs) × All (IsBody limits) xs
+  pub listed : (limits : Settings) (bytes : List ℕ) (xs : List (List ℕ)) (old new : List ℕ) → Listed (stops_in Body) limits bytes xs old new false → (new ≡ old ++ lines_of_bodies xs) × All (IsBody limits) xs
   pub lines : (xs : List (List ℕ)) → lines (lines_of_bodies xs) ≡ map unbroken xs
 
 -- a body on one line is the same JSON and the same message, and it is the body as it stands where that has no break;

@@ -6,8 +6,10 @@
 
 mod bodies;
 pub mod laws;
+mod lines;
 mod listing;
 mod wrapping;
 
-pub use listing::{Form, ShowFault, list, push_number, push_shown, show, unwrap};
+pub use lines::{Form, Style, body_refusal_name, push_number, push_shown};
+pub use listing::{ShowFault, Shown, list, show, unwrap};
 pub use wrapping::{WrapFault, wrap};

@@ -2,8 +2,6 @@
 use Rattle.std.specs.Prelude.{ℕ, List, ◌++◌, codes, decimal}
 use Rattle.dap_frame.specs.declared.Refusal.{Refusal}
 use Rattle.dap_frame.specs.declared.Refusal.TheVariants.{HeaderTooLong, BadHeader, NoLength, TwoLengths, BadLength, BodyTooLong}
-use Rattle.dap_message.specs.declared.fault.BodyRefusal.{BodyRefusal}
-use Rattle.dap_message.specs.declared.fault.BodyRefusal.TheVariants.{NotJson, NotObject, BadSeq, BadType, BadCommand, BadRequestSeq, BadSuccess, BadEvent, BadMessage}
 use Rattle.dap_session.specs.declared.fault.AdapterFault.{AdapterFault}
 use Rattle.dap_session.specs.declared.fault.AdapterFault.TheVariants.{Frame, Body, RepeatedSeq, Unmatched, CommandMismatch, Ended, SeqExhausted, OutOfMemory as NoMemoryToAnswer}
 use Rattle.dap_adapter.specs.declared.served.ServeFault.{ServeFault}
@@ -18,6 +16,7 @@ use Rattle.dap_drive.specs.declared.fault.DriveFault.{DriveFault}
 use Rattle.dap_drive.specs.declared.fault.DriveFault.TheVariants as driven
 use Rattle.dap_tool.specs.declared.fault.ToolFault.{ToolFault}
 use Rattle.dap_tool.specs.declared.fault.ToolFault.TheVariants.{Serve, Recording, Show, Wrap, Check, Drive, File, Truncated, Write as OutputFailed, OutOfMemory as NoMemoryAtAll}
+use Rattle.dap_stream.specs.Lines.{name_of_body_refusal}
 use Rattle.dap_stream.specs.declared.listing.ShowFault.{ShowFault}
 use Rattle.dap_stream.specs.declared.listing.ShowFault.TheVariants.{Frame as ShownFrame, Body as ShownBody, OutOfMemory as NoMemoryToShow}
 use Rattle.dap_stream.specs.declared.wrapping.WrapFault.{WrapFault}
@@ -105,17 +104,6 @@ name_of_refusal NoLength = codes "NoLength"
 name_of_refusal TwoLengths = codes "TwoLengths"
 name_of_refusal BadLength = codes "BadLength"
 name_of_refusal BodyTooLong = codes "BodyTooLong"
-
-abbrev pub name_of_body_refusal : BodyRefusal → List ℕ
-name_of_body_refusal NotJson = codes "NotJson"
-name_of_body_refusal NotObject = codes "NotObject"
-name_of_body_refusal BadSeq = codes "BadSeq"
-name_of_body_refusal BadType = codes "BadType"
-name_of_body_refusal BadCommand = codes "BadCommand"
-name_of_body_refusal BadRequestSeq = codes "BadRequestSeq"
-name_of_body_refusal BadSuccess = codes "BadSuccess"
-name_of_body_refusal BadEvent = codes "BadEvent"
-name_of_body_refusal BadMessage = codes "BadMessage"
 
 abbrev pub named_line : List ℕ → List ℕ
 named_line name = codes "dap: " ++ name ++ codes "\n"

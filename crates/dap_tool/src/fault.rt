@@ -1,7 +1,7 @@
 //! Why a tool stops, and how a program tells it.
 
 ghost use Rattle.std.specs.Prelude.{◌≡◌, IfOk, string_bytes};
-ghost use Rattle.dap_tool.specs.Faults.{status_of, status_of_adapter, status_of_serve, status_of_recording, status_of_show, status_of_check, status_of_send, status_of_drive, line_of, line_of_adapter, line_of_serve, line_of_recording, line_of_show, line_of_wrap, line_of_check, line_of_drive, line_of_file, named_line, line_at, line_at_line, name_of_refusal, name_of_body_refusal, name_of_send};
+ghost use Rattle.dap_tool.specs.Faults.{status_of, status_of_adapter, status_of_serve, status_of_recording, status_of_show, status_of_check, status_of_send, status_of_drive, line_of, line_of_adapter, line_of_serve, line_of_recording, line_of_show, line_of_wrap, line_of_check, line_of_drive, line_of_file, named_line, line_at, line_at_line, name_of_refusal, name_of_send};
 
 use crate::files::FileFault;
 use dap_adapter::{AdapterFault, ServeFault};
@@ -9,9 +9,8 @@ use dap_check::CheckFault;
 use dap_client::SendFault;
 use dap_drive::DriveFault;
 use dap_frame::Refusal;
-use dap_message::BodyRefusal;
 use dap_recording::RecordingFault;
-use dap_stream::{ShowFault, WrapFault};
+use dap_stream::{ShowFault, WrapFault, body_refusal_name};
 use std::alloc::{AllocError, Global};
 use thiserror::Error;
 
@@ -166,22 +165,6 @@ fn refusal_name(refusal: Refusal) -> &'static str
         Refusal::TwoLengths => "TwoLengths",
         Refusal::BadLength => "BadLength",
         Refusal::BodyTooLong => "BodyTooLong",
-    }
-}
-
-fn body_refusal_name(refusal: BodyRefusal) -> &'static str
-    ensures { result.now ≡ name_of_body_refusal refusal }
-{
-    match refusal {
-        BodyRefusal::NotJson => "NotJson",
-        BodyRefusal::NotObject => "NotObject",
-        BodyRefusal::BadSeq => "BadSeq",
-        BodyRefusal::BadType => "BadType",
-        BodyRefusal::BadCommand => "BadCommand",
-        BodyRefusal::BadRequestSeq => "BadRequestSeq",
-        BodyRefusal::BadSuccess => "BadSuccess",
-        BodyRefusal::BadEvent => "BadEvent",
-        BodyRefusal::BadMessage => "BadMessage",
     }
 }
 

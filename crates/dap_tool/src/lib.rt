@@ -13,7 +13,9 @@ mod verdict;
 pub use dap_check::{AnySeq, CheckFault, Checked, Rule, check};
 pub use dap_client::SendFault;
 pub use dap_drive::{DriveFault, drive};
-pub use dap_stream::{Form, ShowFault, WrapFault, list, show, unwrap, wrap};
+pub use dap_stream::{
+    Form, ShowFault, Shown, Style, WrapFault, list, show, unwrap, wrap,
+};
 pub use dap_world::laws;
 pub use fault::{ToolFault, fault_line, status};
 pub use files::{FileFault, MAX_FILE, read_channel, read_whole, reading_is_of_the_log};

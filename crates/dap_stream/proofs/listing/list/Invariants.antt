@@ -7,7 +7,7 @@ abbrev pub invariant-loop-at : goal.invariant-loop-at
 invariant-loop-at l = record {
   within : l.at ≤ length l.bytes;
   under_way : IsUnderWay l.frames;
-  listed : ListedTo l.form l.fn.limits l.frames l.bytes l.at l.fn.out.items l.out.items;
+  listed : ListedTo l.style l.fn.limits l.frames l.bytes l.at l.fn.out.items l.out.items l.refused;
 }
 
 abbrev pub decreases-loop-at : goal.decreases-loop-at
