@@ -6,12 +6,12 @@
 //! | `.` | a line of the transcript without bytes |
 //! | `bytes TEXT` | the bytes of this JSON text stand in the transcript, without a line feed of their own |
 //! | `unended` | the last line of the transcript has no line feed |
-//! | `any seq` | the numbers are not tested |
+//! | `any seq`, `any seq client`, `any seq adapter` | the numbers of both sides, or of one, are not tested |
 //! | `= legal` | the transcript keeps every rule |
 //! | `= line L rule N: SENTENCE` | the first line that breaks a rule, the rule, and the sentence that explains it |
 //! | `! FAULT` | the text is no transcript |
 
-use dap_check::{CheckFault, Checked, check};
+use dap_check::{AnySeq, CheckFault, Checked, check};
 use dap_explain::{explain, sentence};
 use std::alloc::{AllocError, Global};
 use std::marker::Model;
@@ -86,7 +86,7 @@ fn add_plain(text: &mut String, line: &str) -> Result<(), Outcome> {
 
 /// Appends the line of a transcript that a line of a row is, if it is one.
 fn add_said(alloc: Global, text: &mut String, line: &str) -> Result<(), Outcome> {
-    if is_heading(line) || line == "any seq" || line == "unended" {
+    if is_heading(line) || line.starts_with("any seq") || line == "unended" {
         return Ok(());
     }
     match line.split_once(' ') {
@@ -156,7 +156,20 @@ fn text_of_verdict(alloc: Global, text: &str, checked: Checked) -> Result<String
     }
 }
 
-fn judge(alloc: Global, text: &str, any_seq: bool) -> Result<Judged, Outcome> {
+/// Whose numbers a row does not test.
+fn any_seq_of(row: &str) -> AnySeq {
+    if has_line(row, "any seq") {
+        AnySeq::OfBoth
+    } else if has_line(row, "any seq client") {
+        AnySeq::OfClient
+    } else if has_line(row, "any seq adapter") {
+        AnySeq::OfAdapter
+    } else {
+        AnySeq::OfNone
+    }
+}
+
+fn judge(alloc: Global, text: &str, any_seq: AnySeq) -> Result<Judged, Outcome> {
     match check(alloc, text.as_bytes(), any_seq) {
         Ok(checked) => match text_of_verdict(alloc, text, checked) {
             Ok(told) => Ok(Judged {
@@ -205,7 +218,7 @@ impl Player for Judged {
                 if has_line(setting.row, "unended") {
                     let _ = text.pop();
                 }
-                judge(alloc, text.as_str(), has_line(setting.row, "any seq"))
+                judge(alloc, text.as_str(), any_seq_of(setting.row))
             }
             Err(outcome) => Err(outcome),
         }

@@ -7,7 +7,7 @@ use dap_explain::laws::broken_rules_have_reasons;
 use std::test::Fail;
 use test_kit::rows::play_rows;
 
-pub(crate) static ROWS: [&str; 28] = [
+pub(crate) static ROWS: [&str; 31] = [
     r#"
 row no bytes
 = legal
@@ -18,6 +18,26 @@ any seq
 > {"seq":1,"type":"request","command":"initialize"}
 < {"seq":0,"type":"response","request_seq":1,"success":true,"command":"initialize"}
 = legal
+"#,
+    r#"
+row numbers of the adapter that are not tested
+any seq adapter
+> {"seq":1,"type":"request","command":"initialize"}
+< {"seq":0,"type":"response","request_seq":1,"success":true,"command":"initialize"}
+= legal
+"#,
+    r#"
+row numbers of the client are tested where those of the adapter are not
+any seq adapter
+> {"seq":2,"type":"request","command":"initialize"}
+= line 1 rule 1: seq 1 was due, in the first message of its side
+"#,
+    r#"
+row numbers of the adapter are tested where those of the client are not
+any seq client
+> {"seq":5,"type":"request","command":"initialize"}
+< {"seq":0,"type":"response","request_seq":5,"success":true,"command":"initialize"}
+= line 2 rule 1: seq 1 was due, in the first message of its side
 "#,
     r#"
 row a session from its beginning to its end
