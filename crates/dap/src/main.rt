@@ -12,7 +12,9 @@ use clap::error::{Error, ErrorKind};
 use dap_channel::{Input, Pipe};
 use dap_frame::End;
 use dap_recording::Recorded;
-use dap_tool::{FileFault, Form, Style, ToolFault, check_text, fault_line, most_reads, read_whole, status};
+use dap_tool::{
+    FileFault, Form, Style, ToolFault, check_text, fault_line, most_reads, read_whole, status,
+};
 use std::alloc::{AllocError, AllocFailed};
 use std::fs::File;
 use std::io;

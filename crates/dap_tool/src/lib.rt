@@ -13,9 +13,7 @@ mod verdict;
 pub use dap_check::{AnySeq, CheckFault, Checked, Rule, check};
 pub use dap_client::SendFault;
 pub use dap_drive::{DriveFault, drive};
-pub use dap_stream::{
-    Form, ShowFault, Shown, Style, WrapFault, list, show, unwrap, wrap,
-};
+pub use dap_stream::{Form, ShowFault, Shown, Style, WrapFault, list, show, unwrap, wrap};
 pub use dap_world::laws;
 pub use fault::{ToolFault, fault_line, status};
 pub use files::{FileFault, MAX_FILE, read_channel, read_whole, reading_is_of_the_log};
