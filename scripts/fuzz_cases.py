@@ -92,7 +92,11 @@ def header_limit(choice):
 
 def listing_case(choice):
     options = {**header_limit(choice), **({"max_body": 1024} if chance(choice, 6) else {})}
-    return Case("show", [stream_of(choice, messages(choice), options)], options)
+    tool = choice.choice(["show", "show", "unwrap"])
+    for option in ("json", "keep_going") if tool == "show" else ():
+        if chance(choice, 3):
+            options[option] = True
+    return Case(tool, [stream_of(choice, messages(choice), options)], options)
 
 
 def lines_case(choice):

@@ -1,7 +1,7 @@
-"""A model of `dap show` and `dap wrap`: from the bytes of a file to a status, an output and the line of a fault.
+"""A model of `dap show`, `dap unwrap` and `dap wrap`: from the bytes of a file to a status, an output and the line of a fault.
 
-It is written from docs/PROFILE.md, "Streams and frames", "Refusals of framing", "Listing a stream" and "Framing the lines of a
-file", and shares nothing with the crates. Lines, JSON and messages are those of slow_check.py.
+It is written from docs/PROFILE.md, "Streams and frames", "Refusals of framing", "Listing a stream", "The bodies of a stream" and
+"Framing the lines of a file", and shares nothing with the crates. Lines, JSON and messages are those of slow_check.py.
 """
 import re
 
@@ -61,27 +61,63 @@ def line_for(offset, message):
     if message.type == "request":
         return f"{told}request {without_controls(message.command)}\n"
     if message.type == "response":
-        outcome = "ok" if message.success else "failed"
-        return f"{told}response {without_controls(message.command)} {message.request_seq} {outcome}\n"
+        return f"{told}response {without_controls(message.command)} {message.request_seq} {outcome_of(message)}\n"
     if message.type == "event":
         return f"{told}event {without_controls(message.event)}\n"
     return f"{told}other {without_controls(message.type)}\n"
+
+
+def outcome_of(response):
+    """Whether it succeeded, and why not, where it says so."""
+    if response.success:
+        return "ok"
+    return "failed" if response.reason is None else f"failed {without_controls(response.reason)}"
 
 
 def without_controls(text):
     return CONTROL.sub("?", text)
 
 
-def show(stream, max_header=MAX_HEADER, max_body=MAX_BODY):
+def on_one_line(body):
+    return body.replace(b"\n", b"").replace(b"\r", b"")
+
+
+# The line of a body, by its form; then that of one which is no message.
+FORMS = {
+    "line": lambda offset, body, message: line_for(offset, message).encode(),
+    "object": lambda offset, body, message: b'{"offset":%d,"bytes":%d,"message":%b}\n' % (offset, len(body), on_one_line(body)),
+    "body": lambda offset, body, message: on_one_line(body) + b"\n",
+}
+REFUSED_FORMS = {
+    "line": lambda offset, body, name: f"{offset} refused {name}\n".encode(),
+    "object": lambda offset, body, name: b'{"offset":%d,"bytes":%d,"refused":"%b"}\n' % (offset, len(body), name.encode()),
+}
+
+
+def listing(stream, form, keep_going, max_header, max_body):
     """What was listed before a refusal stays."""
-    lines = []
+    lines, status = [], 0
     try:
         for offset, body in frames_in(stream, max_header, max_body):
-            lines.append(line_for(offset, given_at(f"at {offset}", read_message, None, None, body)))
+            try:
+                lines.append(FORMS[form](offset, body, read_message(None, None, body)))
+            except Refused as refused:
+                if not keep_going:
+                    raise Refused(f"{refused} at {offset}") from None
+                lines.append(REFUSED_FORMS[form](offset, body, str(refused)))
+                status = 3
     except Refused as refused:
         status, line = refusal_of(refused)
-        return status, "".join(lines).encode(), line
-    return 0, "".join(lines).encode(), b""
+        return status, b"".join(lines), line
+    return status, b"".join(lines), b""
+
+
+def show(stream, max_header=MAX_HEADER, max_body=MAX_BODY, json=False, keep_going=False):
+    return listing(stream, "object" if json else "line", keep_going, max_header, max_body)
+
+
+def unwrap(stream, max_header=MAX_HEADER, max_body=MAX_BODY):
+    return listing(stream, "body", False, max_header, max_body)
 
 
 def wrap(content, max_header=MAX_HEADER, max_body=MAX_BODY):

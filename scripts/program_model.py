@@ -1,7 +1,7 @@
 #!/usr/bin/env python3
 """A model of the program `dap`: from its words, its files and its standard input to a status, an output and a fault's line.
 
-`show` and `wrap` are in listing_model.py, `check` in slow_check.py, `drive` in drive_model.py. What stands here is how a
+`show`, `unwrap` and `wrap` are in listing_model.py, `check` in slow_check.py, `drive` in drive_model.py. What stands here is how a
 recording is read, from "Keys" and "What is refused" of docs/RECORDINGS.md, and `serve`, from "Requests as they come", "Faults
 of an adapter", "Serving" and "The program" of docs/PROFILE.md. It shares nothing with the crates. Not in the model: how files
 are read, help and wrong words, memory that is refused, and the words of `check --explain`.
@@ -13,7 +13,7 @@ import sys
 
 import slow_check
 from drive_model import Adapter, Fault, drive_of
-from listing_model import MAX_BODY, MAX_HEADER, given_at, frames_in, refusal_of, show, wrap
+from listing_model import MAX_BODY, MAX_HEADER, given_at, frames_in, refusal_of, show, unwrap, wrap
 from session_model import GREATEST, Closed, frame
 from slow_check import MAX_FILE, Refused, is_text, is_whole, need, read_json, read_message
 
@@ -198,7 +198,7 @@ def check(content, any_seq=False, explain=False):
 
 
 # Each with how many files it has as words; `serve` has the standard input too.
-TOOLS = {"serve": (serve, 1), "show": (show, 1), "wrap": (wrap, 1), "check": (check, 1), "drive": (drive, 2)}
+TOOLS = {"serve": (serve, 1), "show": (show, 1), "unwrap": (unwrap, 1), "wrap": (wrap, 1), "check": (check, 1), "drive": (drive, 2)}
 LIMITS = ("header", "body", "requests", "references", "breakpoints", "seq", "reference")
 
 
@@ -214,13 +214,13 @@ def main():
     words.add_argument("files", nargs="+")
     for name in LIMITS:
         words.add_argument(f"--max-{name}", type=int, default=argparse.SUPPRESS)
-    for name in ("any-seq", "explain"):
+    for name in ("any-seq", "explain", "json", "keep-going"):
         words.add_argument(f"--{name}", action="store_true", default=argparse.SUPPRESS)
     options = vars(words.parse_args())
     tool, files = options.pop("tool"), options.pop("files")
     contents = []
     for name in files + ["/dev/stdin"] * (tool == "serve"):
-        with open(name, "rb") as file:
+        with open("/dev/stdin" if name == "-" else name, "rb") as file:
             contents.append(file.read(MAX_FILE))
     status, out, err = answer(tool, contents, options)
     sys.stdout.buffer.write(out)

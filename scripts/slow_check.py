@@ -80,6 +80,7 @@ class Message:
     success: bool = None
     body: object = None
     event: str = None
+    reason: str = None
 
 
 def lines_of(content):
@@ -125,6 +126,7 @@ def read_message(number, side, body):
         message.event = told["event"]
     if message.type == "response":
         need(told.get("message") is None or is_text(told["message"]), "BadMessage")
+        message.reason = told.get("message")
     if message.type in ("response", "event"):
         message.body = told.get("body")
     return message
