@@ -7,11 +7,14 @@
 //! | `bytes TEXT` | the bytes of this JSON text stand in the transcript, without a line feed of their own |
 //! | `unended` | the last line of the transcript has no line feed |
 //! | `any seq`, `any seq client`, `any seq adapter` | the numbers of both sides, or of one, are not tested |
+//! | `all` | the row names all lines that break a rule, and all requests that nothing has answered |
 //! | `= legal` | the transcript keeps every rule |
 //! | `= line L rule N: SENTENCE` | the first line that breaks a rule, the rule, and the sentence that explains it |
+//! | `+ line L rule N: SENTENCE` | the next line that breaks one |
+//! | `? line L request N COMMAND of SIDE` | the next request that nothing has answered |
 //! | `! FAULT` | the text is no transcript |
 
-use dap_check::{AnySeq, CheckFault, Checked, check};
+use dap_check::{AnySeq, CheckFault, Checked, Finding, OpenRequest, Report, Side, check, check_all};
 use dap_explain::{explain, sentence};
 use std::alloc::{AllocError, Global};
 use std::marker::Model;
@@ -26,10 +29,17 @@ use test_kit::rows::is_heading;
 /// What is told of a transcript. A contract sees nothing of it.
 #[derive(Drop)]
 pub(crate) struct Judged {
-    /// As a row writes it; no text at a fault.
-    told: String,
+    /// The lines that break a rule, as a row writes them; none at a fault.
+    found: Vec<String>,
+    /// The requests that nothing has answered, as a row writes them; none at a fault.
+    unanswered: Vec<String>,
     fault: Option<CheckFault>,
     is_named: bool,
+    /// How many of each the row has named.
+    named: usize,
+    asked: usize,
+    /// Whether it names all.
+    names_all: bool,
 }
 
 impl Model for Judged {
@@ -84,17 +94,23 @@ fn add_plain(text: &mut String, line: &str) -> Result<(), Outcome> {
     }
 }
 
+fn is_setting(line: &str) -> bool {
+    matches!(
+        line,
+        "any seq" | "any seq client" | "any seq adapter" | "all" | "unended"
+    )
+}
+
 /// Appends the line of a transcript that a line of a row is, if it is one.
 fn add_said(alloc: Global, text: &mut String, line: &str) -> Result<(), Outcome> {
-    if is_heading(line) || line.starts_with("any seq") || line == "unended" {
+    if is_heading(line) || is_setting(line) {
         return Ok(());
     }
     match line.split_once(' ') {
         Some((">", body)) => add_body(alloc, text, "> ", body),
         Some(("<", body)) => add_body(alloc, text, "< ", body),
         Some(("bytes", json)) => add_bytes(alloc, text, json),
-        Some(("=", _)) => Ok(()),
-        Some(("!", _)) => Ok(()),
+        Some(("=" | "+" | "?" | "!", _)) => Ok(()),
         _ if line == "." => add_plain(text, ""),
         _ => add_plain(text, line),
     }
@@ -111,51 +127,6 @@ fn has_line(row: &str, wanted: &str) -> bool {
     row.split('\n').any(|line| line == wanted)
 }
 
-/// The sentence that explains a finding; wrong where there is none.
-fn sentence_of(alloc: Global, text: &str, found: Checked) -> Result<String, Outcome> {
-    let Checked::Finding { line, rule } = found else {
-        return Err(Outcome::Wrong);
-    };
-    match explain(alloc, text.as_bytes(), line, rule) {
-        Ok(Some(reason)) => match sentence(alloc, reason) {
-            Ok(told) => Ok(told),
-            Err(_) => Err(Outcome::Refused),
-        },
-        Ok(None) => Err(Outcome::Wrong),
-        Err(CheckFault::OutOfMemory) => Err(Outcome::Refused),
-        Err(_) => Err(Outcome::Wrong),
-    }
-}
-
-/// A finding, as a row writes it.
-fn text_of_finding(alloc: Global, text: &str, found: Checked) -> Result<String, Outcome> {
-    let Checked::Finding { line, rule } = found else {
-        return Err(Outcome::Wrong);
-    };
-    match sentence_of(alloc, text, found) {
-        Ok(told) => {
-            let written = format!(in alloc; "line {line} rule {}: {told}", rule.number());
-            drop(told);
-            match written {
-                Ok(written) => Ok(written),
-                Err(_) => Err(Outcome::Refused),
-            }
-        }
-        Err(outcome) => Err(outcome),
-    }
-}
-
-/// What is told, as a row writes it.
-fn text_of_verdict(alloc: Global, text: &str, checked: Checked) -> Result<String, Outcome> {
-    match checked {
-        Checked::Legal => match String::from_str(alloc, "legal") {
-            Ok(told) => Ok(told),
-            Err(_) => Err(Outcome::Refused),
-        },
-        found => text_of_finding(alloc, text, found),
-    }
-}
-
 /// Whose numbers a row does not test.
 fn any_seq_of(row: &str) -> AnySeq {
     if has_line(row, "any seq") {
@@ -169,44 +140,179 @@ fn any_seq_of(row: &str) -> AnySeq {
     }
 }
 
-fn judge(alloc: Global, text: &str, any_seq: AnySeq) -> Result<Judged, Outcome> {
-    match check(alloc, text.as_bytes(), any_seq) {
-        Ok(checked) => match text_of_verdict(alloc, text, checked) {
-            Ok(told) => Ok(Judged {
-                told,
-                fault: None,
-                is_named: false,
-            }),
-            Err(outcome) => Err(outcome),
+/// The sentence that explains a finding; wrong where there is none.
+fn sentence_of(alloc: Global, text: &str, found: Finding) -> Result<String, Outcome> {
+    match explain(alloc, text.as_bytes(), found.line, found.rule) {
+        Ok(Some(reason)) => match sentence(alloc, reason) {
+            Ok(told) => Ok(told),
+            Err(_) => Err(Outcome::Refused),
         },
+        Ok(None) => Err(Outcome::Wrong),
         Err(CheckFault::OutOfMemory) => Err(Outcome::Refused),
-        Err(fault) => Ok(Judged {
-            told: String::new(alloc),
+        Err(_) => Err(Outcome::Wrong),
+    }
+}
+
+/// A finding, as a row writes it.
+fn text_of_finding(alloc: Global, text: &str, found: Finding) -> Result<String, Outcome> {
+    match sentence_of(alloc, text, found) {
+        Ok(told) => {
+            let line = found.line;
+            let written = format!(in alloc; "line {line} rule {}: {told}", found.rule.number());
+            drop(told);
+            match written {
+                Ok(written) => Ok(written),
+                Err(_) => Err(Outcome::Refused),
+            }
+        }
+        Err(outcome) => Err(outcome),
+    }
+}
+
+fn texts_of_findings(
+    alloc: Global,
+    text: &str,
+    findings: &[Finding],
+) -> Result<Vec<String>, Outcome> {
+    let mut texts = Vec::new(alloc);
+    for found in findings {
+        let written = text_of_finding(alloc, text, *found)?;
+        if texts.push(written).is_err() {
+            return Err(Outcome::Refused);
+        }
+    }
+    Ok(texts)
+}
+
+/// A request that nothing has answered, as a row writes it.
+fn text_of_request(alloc: Global, request: &OpenRequest) -> Result<String, AllocError> {
+    let line = request.line;
+    let seq = request.seq;
+    let command = request.command.as_str();
+    let side = match request.side {
+        Side::Client => "the client",
+        Side::Adapter => "the adapter",
+    };
+    format!(in alloc; "line {line} request {seq} {command} of {side}")
+}
+
+fn texts_of_requests(alloc: Global, requests: &[OpenRequest]) -> Result<Vec<String>, AllocError> {
+    let mut texts = Vec::new(alloc);
+    for request in requests {
+        texts.push(text_of_request(alloc, request)?)?;
+    }
+    Ok(texts)
+}
+
+/// What was found of a transcript, before the row says what should be.
+fn judged(alloc: Global, text: &str, report: &Report, names_all: bool) -> Result<Judged, Outcome> {
+    let found = texts_of_findings(alloc, text, &report.findings)?;
+    match texts_of_requests(alloc, &report.unanswered) {
+        Ok(unanswered) => Ok(Judged {
+            found,
+            unanswered,
+            fault: None,
+            is_named: false,
+            named: 0,
+            asked: 0,
+            names_all,
+        }),
+        Err(_) => Err(Outcome::Refused),
+    }
+}
+
+fn refused(alloc: Global, fault: CheckFault) -> Result<Judged, Outcome> {
+    match fault {
+        CheckFault::OutOfMemory => Err(Outcome::Refused),
+        fault => Ok(Judged {
+            found: Vec::new(alloc),
+            unanswered: Vec::new(alloc),
             fault: Some(fault),
             is_named: false,
+            named: 0,
+            asked: 0,
+            names_all: false,
         }),
     }
 }
 
+/// Whether the first of what was found is what `check` answers.
+fn is_first(checked: Checked, report: &Report) -> bool {
+    match (checked, report.findings.first()) {
+        (Checked::Legal, None) => true,
+        (Checked::Finding { line, rule }, Some(found)) => line == found.line && rule == found.rule,
+        _ => false,
+    }
+}
+
+fn judge(alloc: Global, text: &str, any_seq: AnySeq, names_all: bool) -> Result<Judged, Outcome> {
+    let checked = match check(alloc, text.as_bytes(), any_seq) {
+        Ok(checked) => checked,
+        Err(fault) => return refused(alloc, fault),
+    };
+    match check_all(alloc, text.as_bytes(), any_seq) {
+        Ok(report) if is_first(checked, &report) => judged(alloc, text, &report, names_all),
+        Ok(_) => Err(Outcome::Wrong),
+        Err(CheckFault::OutOfMemory) => Err(Outcome::Refused),
+        Err(_) => Err(Outcome::Wrong),
+    }
+}
+
+/// Whether a text is at its place in a list.
+fn is_at(texts: &[String], place: usize, text: &str, came: &mut String) -> Outcome {
+    match texts.get(place) {
+        Some(found) => {
+            note(came, found.as_str());
+            Outcome::of(found.as_str() == text)
+        }
+        None => wrong(came, "there are no more"),
+    }
+}
+
 impl Judged {
-    /// Whether this is told.
+    /// Whether this is the verdict.
     fn is_told(&mut self, text: &str, came: &mut String) -> Outcome {
         self.is_named = true;
-        note(came, self.told.as_str());
         if let Some(fault) = self.fault {
             tell(came, &fault);
+            return Outcome::Wrong;
         }
-        Outcome::of(self.fault.is_none() && self.told.as_str() == text)
+        if text == "legal" {
+            if let Some(found) = self.found.first() {
+                note(came, found.as_str());
+            }
+            return Outcome::of(self.found.is_empty());
+        }
+        self.named = 1;
+        is_at(&self.found, 0, text, came)
+    }
+
+    /// Whether this is the next finding.
+    fn is_found(&mut self, text: &str, came: &mut String) -> Outcome {
+        let place = self.named;
+        self.named = place.saturating_add(1);
+        is_at(&self.found, place, text, came)
+    }
+
+    /// Whether this is the next request that nothing has answered.
+    fn is_unanswered(&mut self, text: &str, came: &mut String) -> Outcome {
+        let place = self.asked;
+        self.asked = place.saturating_add(1);
+        is_at(&self.unanswered, place, text, came)
     }
 
     fn is_refused(&mut self, alloc: Global, name: &str, came: &mut String) -> Outcome {
         self.is_named = true;
-        note(came, self.told.as_str());
         let Some(fault) = self.fault else {
-            return Outcome::Wrong;
+            return wrong(came, "it is a transcript");
         };
         tell(came, &fault);
         Outcome::of_tried(is_printed(alloc, &fault, name))
+    }
+
+    /// Whether the row has named all, where it says so.
+    fn is_complete(&self) -> bool {
+        !self.names_all || (self.named == self.found.len() && self.asked == self.unanswered.len())
     }
 }
 
@@ -218,7 +324,12 @@ impl Player for Judged {
                 if has_line(setting.row, "unended") {
                     let _ = text.pop();
                 }
-                judge(alloc, text.as_str(), any_seq_of(setting.row))
+                judge(
+                    alloc,
+                    text.as_str(),
+                    any_seq_of(setting.row),
+                    has_line(setting.row, "all"),
+                )
             }
             Err(outcome) => Err(outcome),
         }
@@ -227,16 +338,21 @@ impl Player for Judged {
     fn follow(&mut self, alloc: Global, line: &str, came: &mut String) -> Outcome {
         match line.split_once(' ') {
             Some(("=", text)) => self.is_told(text, came),
+            Some(("+", text)) => self.is_found(text, came),
+            Some(("?", text)) => self.is_unanswered(text, came),
             Some(("!", name)) => self.is_refused(alloc, name, came),
             _ => Outcome::Right,
         }
     }
 
     fn finish(&mut self, _alloc: Global, came: &mut String) -> Outcome {
-        if self.is_named {
-            return Outcome::Right;
+        if !self.is_named {
+            return wrong(came, "the row does not say what is told");
         }
-        wrong(came, "the row does not say what is told")
+        if !self.is_complete() {
+            return wrong(came, "the row does not name all");
+        }
+        Outcome::Right
     }
 
     fn forget(&mut self) {}

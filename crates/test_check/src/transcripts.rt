@@ -7,7 +7,7 @@ use dap_explain::laws::broken_rules_have_reasons;
 use std::test::Fail;
 use test_kit::rows::play_rows;
 
-pub(crate) static ROWS: [&str; 31] = [
+pub(crate) static ROWS: [&str; 40] = [
     r#"
 row no bytes
 = legal
@@ -18,26 +18,6 @@ any seq
 > {"seq":1,"type":"request","command":"initialize"}
 < {"seq":0,"type":"response","request_seq":1,"success":true,"command":"initialize"}
 = legal
-"#,
-    r#"
-row numbers of the adapter that are not tested
-any seq adapter
-> {"seq":1,"type":"request","command":"initialize"}
-< {"seq":0,"type":"response","request_seq":1,"success":true,"command":"initialize"}
-= legal
-"#,
-    r#"
-row numbers of the client are tested where those of the adapter are not
-any seq adapter
-> {"seq":2,"type":"request","command":"initialize"}
-= line 1 rule 1: seq 1 was due, in the first message of its side
-"#,
-    r#"
-row numbers of the adapter are tested where those of the client are not
-any seq client
-> {"seq":5,"type":"request","command":"initialize"}
-< {"seq":0,"type":"response","request_seq":5,"success":true,"command":"initialize"}
-= line 2 rule 1: seq 1 was due, in the first message of its side
 "#,
     r#"
 row a session from its beginning to its end
@@ -223,6 +203,133 @@ any seq
 bytes "\n< "
 ! Body { line: 2, cause: NotJson }
 "#,
+    r#"
+row the numbers of the adapter alone are not tested
+any seq adapter
+all
+> {"seq":1,"type":"request","command":"initialize"}
+< {"seq":0,"type":"response","request_seq":1,"success":true,"command":"initialize"}
+> {"seq":3,"type":"request","command":"threads"}
+< {"seq":0,"type":"response","request_seq":3,"success":true,"command":"threads"}
+= line 3 rule 1: seq 2 was due, after the message of line 1
+"#,
+    r#"
+row the numbers of the client alone are not tested
+any seq client
+all
+> {"seq":7,"type":"request","command":"initialize"}
+< {"seq":0,"type":"response","request_seq":7,"success":true,"command":"initialize"}
+= line 2 rule 1: seq 1 was due, in the first message of its side
+"#,
+    r#"
+row each later number of the side is another one than was due
+all
+> {"seq":1,"type":"request","command":"initialize"}
+< {"seq":1,"type":"response","request_seq":1,"success":true,"command":"initialize"}
+< {"seq":3,"type":"event","event":"output"}
+.
+< {"seq":4,"type":"event","event":"output"}
+> {"seq":2,"type":"request","command":"disconnect"}
+< {"seq":4,"type":"response","request_seq":2,"success":true,"command":"disconnect"}
+= line 3 rule 1: seq 2 was due, after the message of line 2
++ line 5 rule 1: seq 3 was due, after the message of line 3
+"#,
+    r#"
+row two lines break two rules
+all
+> {"seq":1,"type":"request","command":"initialize"}
+< {"seq":1,"type":"event","event":"initialized"}
+< {"seq":2,"type":"response","request_seq":1,"success":true,"command":"initialize"}
+> {"seq":2,"type":"request","command":"scopes","arguments":{"frameId":1}}
+< {"seq":3,"type":"response","request_seq":2,"success":false,"command":"scopes"}
+= line 2 rule 4: event initialized, before the response to the initialize request of line 1
++ line 4 rule 6: frameId 1, which no response has given
+"#,
+    r#"
+row a line with two faults is listed once, by the least rule
+all
+> {"seq":2,"type":"request","command":"threads"}
+< {"seq":1,"type":"response","request_seq":2,"success":true,"command":"threads"}
+= line 1 rule 1: seq 1 was due, in the first message of its side
+"#,
+    r#"
+row a response for another command, and then the right one
+all
+> {"seq":1,"type":"request","command":"initialize"}
+< {"seq":1,"type":"response","request_seq":1,"success":true,"command":"threads"}
+< {"seq":2,"type":"response","request_seq":1,"success":true,"command":"initialize"}
+= line 2 rule 2: response to request 1, which line 1 made for another command
++ line 3 rule 2: response to request 1 of line 1, which line 2 answered already
+"#,
+    r#"
+row a number that is asked again waits for either command
+any seq
+all
+> {"seq":1,"type":"request","command":"initialize"}
+< {"seq":0,"type":"response","request_seq":1,"success":true,"command":"initialize"}
+> {"seq":2,"type":"request","command":"threads"}
+> {"seq":2,"type":"request","command":"stackTrace"}
+< {"seq":0,"type":"response","request_seq":2,"success":true,"command":"threads"}
+= line 4 rule 2: request 2 again, while request 2 of line 3 has no response
+"#,
+    r#"
+row a request that breaks a rule gives what its response gives
+any seq
+all
+> {"seq":1,"type":"request","command":"threads"}
+< {"seq":0,"type":"response","request_seq":1,"success":true,"command":"threads"}
+> {"seq":2,"type":"request","command":"stackTrace"}
+< {"seq":0,"type":"response","request_seq":2,"success":true,"command":"stackTrace","body":{"stackFrames":[{"id":4}]}}
+< {"seq":0,"type":"response","request_seq":2,"success":true,"command":"stackTrace","body":{"stackFrames":[{"id":5}]}}
+> {"seq":3,"type":"request","command":"scopes","arguments":{"frameId":5}}
+< {"seq":0,"type":"response","request_seq":3,"success":true,"command":"scopes"}
+= line 1 rule 3: the first request of the client is not initialize
++ line 5 rule 2: response to request 2 of line 3, which line 4 answered already
+"#,
+    r#"
+row a request without an answer is legal
+all
+> {"seq":1,"type":"request","command":"initialize"}
+< {"seq":1,"type":"response","request_seq":1,"success":true,"command":"initialize"}
+> {"seq":2,"type":"request","command":"threads"}
+> {"seq":3,"type":"request","command":"next"}
+< {"seq":2,"type":"response","request_seq":2,"success":true,"command":"threads"}
+= legal
+? line 4 request 3 next of the client
+"#,
+    r#"
+row requests of both sides without an answer, by their lines
+all
+> {"seq":1,"type":"request","command":"initialize"}
+< {"seq":1,"type":"response","request_seq":1,"success":true,"command":"initialize"}
+< {"seq":2,"type":"request","command":"runInTerminal"}
+> {"seq":2,"type":"request","command":"launch"}
+< {"seq":3,"type":"request","command":"runInTerminal"}
+> {"seq":3,"type":"response","request_seq":3,"success":true,"command":"runInTerminal"}
+= legal
+? line 3 request 2 runInTerminal of the adapter
+? line 4 request 2 launch of the client
+"#,
+    r#"
+row requests by their lines, and not by their numbers
+any seq
+all
+> {"seq":9,"type":"request","command":"initialize"}
+> {"seq":4,"type":"request","command":"threads"}
+> {"seq":4,"type":"request","command":"next"}
+= line 2 rule 3: the second request of the client, before a response to the first, of line 1
++ line 3 rule 2: request 4 again, while request 4 of line 2 has no response
+? line 1 request 9 initialize of the client
+? line 2 request 4 threads of the client
+? line 3 request 4 next of the client
+"#,
+    r#"
+row a fault comes before all findings
+all
+> {"seq":5,"type":"request","command":"threads"}
+x
+! BadLine { line: 2 }
+"#,
 ];
 
 #[test]
@@ -237,6 +344,8 @@ fn laws_run_nothing(rt: HostRuntime) {
     laws::earlier_lines_are_places();
     laws::rules_are_told_by_places();
     laws::texts_are_read_in_one_way();
+    laws::findings_are_broken_rules();
+    laws::open_requests_are_unanswered();
     broken_rules_have_reasons();
     assert!(rt; Rule::Reference.number() == 6);
 }
