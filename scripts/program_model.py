@@ -189,11 +189,9 @@ def drive(recording, script, **limits):
     return drive_of(told, script, **limits)
 
 
-def check(content, any_seq=False, explain=False):
+def check(content, **options):
     """Why a line breaks a rule is said in other words than the program's."""
-    status, out, err = slow_check.check(content, any_seq)
-    if explain and status and out:
-        out += slow_check.facts(content, any_seq).way + "\n"
+    status, out, err = slow_check.check(content, **options)
     return status, out.encode(), err.encode()
 
 
@@ -214,9 +212,10 @@ def main():
     words.add_argument("files", nargs="+")
     for name in LIMITS:
         words.add_argument(f"--max-{name}", type=int, default=argparse.SUPPRESS)
-    for name in ("any-seq", "explain", "json", "keep-going"):
+    for name in ("explain", "all", "open", "json", "keep-going"):
         words.add_argument(f"--{name}", action="store_true", default=argparse.SUPPRESS)
-    options = vars(words.parse_args())
+    words.add_argument("--any-seq", choices=("client", "adapter", "both"), default=argparse.SUPPRESS)
+    options = vars(words.parse_args(["--any-seq=both" if word == "--any-seq" else word for word in sys.argv[1:]]))
     tool, files = options.pop("tool"), options.pop("files")
     contents = []
     for name in files + ["/dev/stdin"] * (tool == "serve"):

@@ -2,7 +2,10 @@
 """Checks a transcript of a debug session against seven rules: slowly, each rule a statement on places in the list of lines.
 
     scripts/slow_check.py session.txt            (`legal`, or `line L rule K` of the first finding)
-    scripts/slow_check.py session.txt --any-seq  (numbers may come in any order: rule 1 is not tested)
+    scripts/slow_check.py session.txt --any-seq  (numbers may come in any order: rule 1 is not tested; `=client` or
+                                                  `=adapter`: not for that side)
+    scripts/slow_check.py session.txt --all      (every line that breaks a rule, and how many there are)
+    scripts/slow_check.py session.txt --open     (after that each request that nothing has answered)
     scripts/slow_check.py session.txt --facts    (after a finding, in which way the rule is broken, and by which lines)
 
 It says what `dap check` says, with the same statuses, shares nothing with it and keeps nothing from line to line. Each line
@@ -21,6 +24,7 @@ is `> ` and a message of the client, or `< ` and one of the adapter. The rules:
 """
 import argparse
 import dataclasses
+import itertools
 import json
 import re
 import sys
@@ -385,41 +389,77 @@ def rule_7(said, place):
 RULES = {1: rule_1, 2: rule_2, 3: rule_3, 4: rule_4, 5: rule_5, 6: rule_6, 7: rule_7}
 
 
-def finding(said, any_seq=False):
-    """The least line, and of it the least rule, that is broken: its place, the rule and how; None where all is legal."""
+# Whose numbers rule 1 does not ask for, by the value of --any-seq; no value means both.
+FREE = {None: "", "client": CLIENT, "adapter": ADAPTER, "both": CLIENT + ADAPTER, True: CLIENT + ADAPTER}
+
+
+def findings(said, any_seq=None):
+    """Each place where a rule is broken, with the least rule and how, in order. A line that breaks a rule counts for those
+    after it as any other does."""
     for place in range(len(said)):
         for rule, test in RULES.items():
-            broken = None if rule == 1 and any_seq else test(said, place)
+            broken = None if rule == 1 and said[place].side in FREE[any_seq] else test(said, place)
             if broken is not None:
-                return place, rule, broken
-    return None
+                yield place, rule, broken
+                break
 
 
-def check(content, any_seq=False):
-    """What `dap check` prints of these bytes: the status, its output and its errors."""
+def unanswered(said):
+    """The requests of both sides that no later line answers, in order."""
+    return [
+        message
+        for place, message in enumerate(said)
+        if message.type == "request" and answered(said, place, len(said)) is None
+    ]
+
+
+def shown(text):
+    """Control characters, U+0000 to U+001F and U+007F, are shown as `?`."""
+    return "".join("?" if ord(sign) < 32 or ord(sign) == 127 else sign for sign in text)
+
+
+def count_of(number):
+    return {0: "legal", 1: "1 finding"}.get(number, f"{number} findings")
+
+
+def lines_of_check(said, any_seq=None, explain=False, every=False, unanswered_too=False):
+    """What is printed of a transcript. Why a rule is broken is said in other words than those of `dap check`."""
+    found = findings(said, any_seq)
+    found = list(found) if every else list(itertools.islice(found, 1))
+    for place, rule, broken in found:
+        yield f"line {said[place].line} rule {rule}"
+        if explain:
+            yield broken.way
+    if every or not found:
+        yield count_of(len(found))
+    for message in unanswered(said) if unanswered_too else []:
+        yield f"line {message.line} request {message.seq} {shown(message.command)} is not answered"
+
+
+def check(content, any_seq=None, explain=False, all=False, open=False):
+    """What `dap check` prints of these bytes, by its options: the status, its output and its errors."""
     try:
         said = read_transcript(content)
     except Refused as refusal:
         return 3, "", f"dap: {refusal}\n"
-    found = finding(said, any_seq)
-    if found is None:
-        return 0, "legal\n", ""
-    place, rule, _ = found
-    return 3, f"line {said[place].line} rule {rule}\n", ""
+    out = "".join(line + "\n" for line in lines_of_check(said, any_seq, explain, all, open))
+    return (0 if next(findings(said, any_seq), None) is None else 3), out, ""
 
 
-def facts(content, any_seq=False):
+def facts(content, any_seq=None):
     """How the first finding's rule is broken, by which earlier lines, and what was wanted; None where all is legal."""
-    found = finding(read_transcript(content), any_seq)
+    found = next(findings(read_transcript(content), any_seq), None)
     return found[2] if found else None
 
 
 def main():
     words = argparse.ArgumentParser(description=__doc__, formatter_class=argparse.RawDescriptionHelpFormatter)
     words.add_argument("file", metavar="FILE")
-    words.add_argument("--any-seq", action="store_true", help="do not test rule 1")
+    words.add_argument("--any-seq", choices=("client", "adapter", "both"), help="do not test rule 1, for a side or for both")
+    words.add_argument("--all", action="store_true", help="each line that breaks a rule, and how many there are")
+    words.add_argument("--open", action="store_true", help="after that each request that nothing has answered")
     words.add_argument("--facts", action="store_true", help="tell how the rule is broken, and by which earlier lines")
-    told = words.parse_args()
+    told = words.parse_args(["--any-seq=both" if word == "--any-seq" else word for word in sys.argv[1:]])
     try:
         with open(told.file, "rb") as file:
             content = file.read(MAX_FILE + 1)
@@ -429,7 +469,7 @@ def main():
     if len(content) > MAX_FILE:
         print("dap: FileTooLong", file=sys.stderr)
         return 3
-    status, out, err = check(content, told.any_seq)
+    status, out, err = check(content, told.any_seq, all=told.all, open=told.open)
     sys.stdout.write(out)
     sys.stderr.write(err)
     if told.facts and out and status:

@@ -425,6 +425,7 @@ def transcripts():
         expect(f"check: {name}: any seq", check(lines, "--any-seq"), wanted if with_any is None else with_any)
     check_lines()
     check_explained()
+    check_all()
     check_bodies()
     check_files()
     check_examples()
@@ -506,6 +507,84 @@ def check_explained():
         expect(f"check: {name}: explained", check(lines, *words, "--explain"), (status, told + why.encode() + b"\n", err))
     expect("check: legal: explained", check(OPEN, "--explain"), LEGAL)
     expect("check: no message: explained", check(["x"], "--explain"), refused("BadLine at line 1"))
+
+
+# Of each its lines, the words, whether it is legal, and what is printed.
+TWICE = [*OPEN, event(3, "output"), event(4, "output"), req(2, "threads")]
+WAITING = [*OPEN, of_other(req(2, "runInTerminal")), req(2, "launch"), req(3, "next"), answer(3, 3, "next")]
+ALL = [
+    ("nothing", [], ["--all", "--open"], True, ["legal"]),
+    ("legal", OPEN, ["--all", "--open", "--explain"], True, ["legal"]),
+    ("one finding", [ASK, req(3, "x")], ["--all", "--any-seq"], False, ["line 2 rule 3", "1 finding"]),
+    ("two findings", TWICE, ["--all"], False, ["line 3 rule 1", "line 4 rule 1", "2 findings"]),
+    ("two findings, the first", TWICE, [], False, ["line 3 rule 1"]),
+    (
+        "two findings, explained",
+        TWICE,
+        ["--all", "--explain"],
+        False,
+        [
+            "line 3 rule 1",
+            "seq 2 was due, after the message of line 2",
+            "line 4 rule 1",
+            "seq 3 was due, after the message of line 3",
+            "2 findings",
+        ],
+    ),
+    ("the adapter's numbers", TWICE, ["--all", "--any-seq=adapter"], True, ["legal"]),
+    ("the client's numbers", TWICE, ["--all", "--any-seq=client"], False, ["line 3 rule 1", "line 4 rule 1", "2 findings"]),
+    ("both sides' numbers", TWICE, ["--all", "--any-seq=both"], True, ["legal"]),
+    (
+        "what waits",
+        WAITING,
+        ["--open"],
+        True,
+        ["legal", "line 3 request 2 runInTerminal is not answered", "line 4 request 2 launch is not answered"],
+    ),
+    ("what waits, behind a finding", TWICE, ["--open"], False, ["line 3 rule 1", "line 5 request 2 threads is not answered"]),
+    (
+        "what waits, behind all findings",
+        TWICE,
+        ["--open", "--all"],
+        False,
+        ["line 3 rule 1", "line 4 rule 1", "2 findings", "line 5 request 2 threads is not answered"],
+    ),
+    (
+        "what waits, by lines and not by numbers",
+        [req(9, "initialize"), req(4, "x"), req(4, "y")],
+        ["--open", "--any-seq"],
+        False,
+        [
+            "line 2 rule 3",
+            "line 1 request 9 initialize is not answered",
+            "line 2 request 4 x is not answered",
+            "line 3 request 4 y is not answered",
+        ],
+    ),
+    (
+        "a command with control characters",
+        [*OPEN, req(2, "a\nb\x7f\u00e9")],
+        ["--open"],
+        True,
+        ["legal", "line 3 request 2 a?b?\u00e9 is not answered"],
+    ),
+]
+
+
+def check_all():
+    """Every line that breaks a rule, each request that nothing has answered, and the numbers of one side."""
+    for name, lines, words, is_legal, out in ALL:
+        wanted = (0 if is_legal else 3, "".join(line + "\n" for line in out).encode(), b"")
+        expect(f"check: {name}: {' '.join(words)}", check(lines, *words), wanted)
+    for words in (["--all"], ["--open"], ["--all", "--open", "--explain"]):
+        expect(f"check: no message: {' '.join(words)}", check([*TWICE, "x"], *words), refused("BadLine at line 6"))
+    for word in ("--any-seq=both", "--any-seq=adapter", "--any-seq=client"):
+        status, out, err = run(with_files("check", word, OPEN[0].encode()))
+        expect(f"check: {word} before the file", (status, out, err), LEGAL)
+    for word in ("--any-seq=x", "--any-seq=", "--all=x", "--open=x", "--any-seq=adapter,client"):
+        status, out, err = run(with_files("check", OPEN[0].encode(), word))
+        expect(f"usage of check {word}", (status, out), (2, b""))
+        expect_in(f"usage of check {word}: message", err, b"error: ")
 
 
 def full_device():

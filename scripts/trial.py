@@ -28,10 +28,14 @@ def run(words, given=b""):
 
 
 def words_of(options):
-    """The words of options: each name with its value, or alone where that is true."""
+    """The words of options: each name with its value, in one word where that is a text, or alone where it is true."""
     words = []
     for name, value in options.items():
-        words += ["--" + name.replace("_", "-"), *([] if value is True else [str(value)])]
+        word = "--" + name.replace("_", "-")
+        if isinstance(value, str):
+            words.append(f"{word}={value}")
+        else:
+            words += [word, *([] if value is True else [str(value)])]
     return words
 
 

@@ -410,10 +410,22 @@ def edited(choice, transcript):
 # The trial
 
 
+# Words of `check`, and the same for the slow checker.
+OPTIONS = {
+    (): {},
+    ("--any-seq",): {"any_seq": "both"},
+    ("--any-seq=adapter", "--all"): {"any_seq": "adapter", "all": True},
+    ("--any-seq=client", "--open"): {"any_seq": "client", "open": True},
+    ("--any-seq=both", "--all", "--open"): {"any_seq": "both", "all": True, "open": True},
+    ("--all", "--open"): {"all": True, "open": True},
+}
+
+
 def kind_of(verdict):
-    """What a verdict is counted as."""
+    """What a verdict is counted as: the rule of its first finding."""
     status, out, err = verdict
-    return (out.split(" ", 2)[-1] if status else out).strip() or err.split()[1]
+    first = out.partition("\n")[0]
+    return (first.split(" ", 2)[-1] if status else first).strip() or err.split()[1]
 
 
 class Trial:
@@ -424,7 +436,7 @@ class Trial:
 
     def compare(self, name, text, words=()):
         """What the program says of a transcript, and what the slow checker does."""
-        wanted = slow_check.check(text, "--any-seq" in words)
+        wanted = slow_check.check(text, **OPTIONS[words])
         self.counts[kind_of(wanted)] += 1
         got = run(with_files("check", text, *words))
         if got != (wanted[0], wanted[1].encode(), wanted[2].encode()):
@@ -453,7 +465,7 @@ class Trial:
         if self.compare(f"{seed}: legal", wanted[1])[0]:
             self.wrong.append(f"{seed}: what `drive` makes is not legal")
         for place in range(EDITS):
-            words = choice.choice([(), ("--any-seq",)])
+            words = choice.choice(list(OPTIONS))
             self.compare(f"{seed}: edit {place} {' '.join(words)}", edited(choice, wanted[1]), words)
 
 

@@ -205,7 +205,7 @@ fn texts_of_requests(alloc: Global, requests: &[OpenRequest]) -> Result<Vec<Stri
 }
 
 /// What was found of a transcript, before the row says what should be.
-fn judged(alloc: Global, text: &str, report: &Report, names_all: bool) -> Result<Judged, Outcome> {
+fn with_texts(alloc: Global, text: &str, report: &Report, names_all: bool) -> Result<Judged, Outcome> {
     let found = texts_of_findings(alloc, text, &report.findings)?;
     match texts_of_requests(alloc, &report.unanswered) {
         Ok(unanswered) => Ok(Judged {
@@ -251,7 +251,7 @@ fn judge(alloc: Global, text: &str, any_seq: AnySeq, names_all: bool) -> Result<
         Err(fault) => return refused(alloc, fault),
     };
     match check_all(alloc, text.as_bytes(), any_seq) {
-        Ok(report) if is_first(checked, &report) => judged(alloc, text, &report, names_all),
+        Ok(report) if is_first(checked, &report) => with_texts(alloc, text, &report, names_all),
         Ok(_) => Err(Outcome::Wrong),
         Err(CheckFault::OutOfMemory) => Err(Outcome::Refused),
         Err(_) => Err(Outcome::Wrong),
