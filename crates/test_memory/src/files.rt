@@ -5,7 +5,10 @@ use dap_adapter::{AdapterFault, ServeFault};
 use dap_channel::Input;
 use dap_frame::{Fed, Frames, Limits, write_frame};
 use dap_message::BodyRefusal;
-use dap_tool::{FileFault, ShowFault, ToolFault, WrapFault, fault_line, read_whole, show, wrap};
+use dap_tool::{
+    FileFault, Form, ShowFault, Style, ToolFault, WrapFault, fault_line, list, read_whole, show,
+    wrap,
+};
 use std::alloc::Global;
 use std::io;
 use std::io::Read;
@@ -93,6 +96,37 @@ fn lists(alloc: Global) -> Option<bool> {
 #[test]
 fn listing(rt: HostRuntime) -> Result<(), Fail> {
     judge(&rt, lists(rt.alloc()))
+}
+
+fn lists_in(alloc: Global, form: Form, lines: &[u8]) -> Option<bool> {
+    let style = Style {
+        form,
+        keeps_going: true,
+    };
+    let mut out = Vec::new(alloc);
+    match list(alloc, INPUT, Limits::usual(), style, &mut out) {
+        Ok(_) => Some(out.as_slice() == lines),
+        Err(ShowFault::OutOfMemory) => {
+            let is_whole = out.is_empty() || out.ends_with(b"\n");
+            refused(lines.starts_with(&out) && is_whole)
+        }
+        Err(_) => Some(false),
+    }
+}
+
+/// The bodies of `INPUT` as objects.
+static OBJECTS: &[u8; 199] =
+    b"{\"offset\":0,\"bytes\":81,\"message\":{\"seq\":1,\"type\":\"request\",\"command\":\"initialize\",\"arguments\":{\"adapterID\":\"rec\"}}}\n{\"offset\":103,\"bytes\":46,\"message\":{\"seq\":1,\"type\":\"request\",\"command\":\"threads\"}}\n";
+
+/// The same as lines.
+static BODIES: &[u8; 129] =
+    b"{\"seq\":1,\"type\":\"request\",\"command\":\"initialize\",\"arguments\":{\"adapterID\":\"rec\"}}\n{\"seq\":1,\"type\":\"request\",\"command\":\"threads\"}\n";
+
+/// Two messages are listed in each other form, or some whole lines in front of theirs.
+#[test]
+fn other_listings(rt: HostRuntime) -> Result<(), Fail> {
+    let first = lists_in(rt.alloc(), Form::Object, OBJECTS);
+    judge(&rt, both(first, lists_in(rt.alloc(), Form::Body, BODIES)))
 }
 
 fn reads_whole(alloc: Global, expected: u64) -> Option<bool> {

@@ -106,7 +106,7 @@ fn needs_no_tree(alloc: Global, body: &[u8]) -> bool {
     }
 }
 
-static CATCHES: [(&[u8], &[u8]); 10] = [
+static CATCHES: [(&[u8], &[u8]); 12] = [
     // of equal keys the last counts
     (
         b"{\"seq\":1,\"type\":\"event\",\"event\":\"a\",\"event\":\"b\",\"seq\":2}",
@@ -135,6 +135,14 @@ static CATCHES: [(&[u8], &[u8]); 10] = [
     (
         b"{\"message\":\"m\",\"seq\":1,\"type\":\"response\",\"request_seq\":5,\"success\":true,\"command\":\"c\"}",
         b"0 1 response c 5 ok\n",
+    ),
+    (
+        b"{\"message\":\"m\\nn\",\"seq\":1,\"type\":\"response\",\"request_seq\":5,\"success\":false,\"command\":\"c\"}",
+        b"0 1 response c 5 failed m?n\n",
+    ),
+    (
+        b"{\"seq\":1,\"type\":\"response\",\"request_seq\":5,\"success\":false,\"command\":\"c\",\"message\":null}",
+        b"0 1 response c 5 failed\n",
     ),
     // a command of 64 bytes
     (
