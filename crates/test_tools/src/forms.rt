@@ -94,8 +94,14 @@ fn each_form_has_its_lines(rt: HostRuntime) -> Result<(), Fail> {
 
 /// Bodies, and what they are on one line.
 static UNWRAPPED: [(&[u8], &[u8]); 5] = [
-    (b"{\"seq\":3,\"type\":\"x\"}", b"{\"seq\":3,\"type\":\"x\"}\n"),
-    (b"\r\n{\n\"seq\":3,\r\"type\":\"x\"\n}\r\n", b"{\"seq\":3,\"type\":\"x\"}\n"),
+    (
+        b"{\"seq\":3,\"type\":\"x\"}",
+        b"{\"seq\":3,\"type\":\"x\"}\n",
+    ),
+    (
+        b"\r\n{\n\"seq\":3,\r\"type\":\"x\"\n}\r\n",
+        b"{\"seq\":3,\"type\":\"x\"}\n",
+    ),
     // of what indents a member the blanks stay
     (
         b"{\n\t \"seq\": 3,\n\t \"type\": \"x\"\n}",
@@ -119,7 +125,10 @@ fn is_unwrapped(alloc: Global, input: &[u8], line: &[u8]) -> bool {
         return false;
     }
     let (body, _) = line.split_at(line.len().saturating_sub(1));
-    match (wrap(alloc, &lines, Limits::usual()), frames_of(alloc, &[body])) {
+    match (
+        wrap(alloc, &lines, Limits::usual()),
+        frames_of(alloc, &[body]),
+    ) {
         (Ok(frames), Some(wanted)) => {
             lines.as_slice() == line && frames.as_slice() == wanted.as_slice()
         }
