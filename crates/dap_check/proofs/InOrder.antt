@@ -287,7 +287,7 @@ module _ (waiting : Waiting) (side : Side) (lines : List Line) (is : AreWaiting 
   kept_within ordered r h =
       let at = flat_has r waiting.requests.entries h in
       let found : tree.get nat_cmp waiting.requests at.0.0 ≡ Some at.0.1 =
-          All-contains (λ e. tree.get nat_cmp waiting.requests e.0 ≡ Some e.1) waiting.requests.entries at.0 (All-found nat_cmp_total waiting.requests ordered) (contains at.0 waiting.requests.entries at.1)
+      All-contains (λ e. tree.get nat_cmp waiting.requests e.0 ≡ Some e.1) waiting.requests.entries at.0 (All-found nat_cmp_total waiting.requests ordered) (contains at.0 waiting.requests.entries at.1)
       in
       let there : Has r (kept_at waiting at.0.0) = subst (λ o. Has r (items_at o)) (sym found) at.2 in
       has_all (is_open_as side at.0.0) r (open_requests lines) (subst (Has r) (is.kept at.0.0) there)

@@ -163,7 +163,7 @@ waits_for_there side n name (line ∷ since) =
     ap (list_any (is_for name)) (open_step side n line since)
     ∙ list_any-append (is_for name) (left_in side n line since) (open_at side n since)
     ∙ ap (λ b. b || list_any (is_for name) (open_at side n since))
-      (for_if (is_for name) (is_answered side n since) (asks_for side n name line) (asked_in side n line) (for_asked side line.side line.number line.message.seq n name line.message.kind))
+    (for_if (is_for name) (is_answered side n since) (asks_for side n name line) (asked_in side n line) (for_asked side line.side line.number line.message.seq n name line.message.kind))
     ∙ ap (λ b. (asks_for side n name line && not (is_answered side n since)) || b) (waits_for_there side n name since)
 
 -- ---- of both sides

@@ -28,10 +28,7 @@ fn gather(all: &mut Vec<OpenRequest>, waiting: Waiting) -> Result<(), AllocError
 }
 
 /// The same requests, by their lines.
-fn by_line(
-    alloc: Global,
-    all: Vec<OpenRequest>,
-) -> Result<BTreeMap<u64, OpenRequest>, AllocError>
+fn by_line(alloc: Global, all: Vec<OpenRequest>) -> Result<BTreeMap<u64, OpenRequest>, AllocError>
     ensures { IfOk result (IsInOrder all.items) }
 {
     let mut lines = BTreeMap::new(alloc);
@@ -43,10 +40,7 @@ fn by_line(
     Ok(lines)
 }
 
-fn values(
-    alloc: Global,
-    lines: BTreeMap<u64, OpenRequest>,
-) -> Result<Vec<OpenRequest>, AllocError>
+fn values(alloc: Global, lines: BTreeMap<u64, OpenRequest>) -> Result<Vec<OpenRequest>, AllocError>
     ensures { IfOk result (λ requests. requests.items ≡ tree.values lines) }
 {
     let mut requests = Vec::new(alloc);

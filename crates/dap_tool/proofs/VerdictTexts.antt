@@ -132,11 +132,11 @@ module _ (any_seq : AnySeq) (explained : Bool) where
       let many : length texts ≤ n = omega (arith, so.count) in
       so.so_far
       ∙ ap (λ z. old ++ joined_text z)
-        (sym
-        (ap (λ z. take n (texts_of any_seq explained z)) so.split
-        ∙ ap (λ z. take n z) (texts_append [] so.before so.after)
-        ∙ take-append-le n texts (texts_after any_seq explained so.before so.after) few
-        ∙ take_all n texts many))
+      (sym
+      (ap (λ z. take n (texts_of any_seq explained z)) so.split
+      ∙ ap (λ z. take n z) (texts_append [] so.before so.after)
+      ∙ take-append-le n texts (texts_after any_seq explained so.before so.after) few
+      ∙ take_all n texts many))
 
   module _ (bytes : List ℕ) (transcript : List Line) (first rest : List Finding) (i : ℕ) (d : Finding) (below : i < length first) (old new : List ℕ) (are : AreLines 1 (lines bytes) transcript)
       (so : Pushed transcript (drop i first ++ rest) i old new) where
