@@ -14,7 +14,9 @@
 //! | `? line L request N COMMAND of SIDE` | the next request that nothing has answered |
 //! | `! FAULT` | the text is no transcript |
 
-use dap_check::{AnySeq, CheckFault, Checked, Finding, OpenRequest, Report, Side, check, check_all};
+use dap_check::{
+    AnySeq, CheckFault, Checked, Finding, OpenRequest, Report, Side, check, check_all,
+};
 use dap_explain::{explain, sentence};
 use std::alloc::{AllocError, Global};
 use std::marker::Model;
@@ -205,7 +207,12 @@ fn texts_of_requests(alloc: Global, requests: &[OpenRequest]) -> Result<Vec<Stri
 }
 
 /// What was found of a transcript, before the row says what should be.
-fn with_texts(alloc: Global, text: &str, report: &Report, names_all: bool) -> Result<Judged, Outcome> {
+fn with_texts(
+    alloc: Global,
+    text: &str,
+    report: &Report,
+    names_all: bool,
+) -> Result<Judged, Outcome> {
     let found = texts_of_findings(alloc, text, &report.findings)?;
     match texts_of_requests(alloc, &report.unanswered) {
         Ok(unanswered) => Ok(Judged {
