@@ -1,10 +1,10 @@
 -- What was put into a buffer that is lent, and what the adapter is then.
-use Rattle.std.proofs.Common.{◌≡◌, ◌≢◌, ◌⊎◌, ℕ, List, [], ◌++◌, Bool, true, None, refl, sym, ap, ◌∙◌, subst, append_assoc, append-nil, inl, inr}
+use Rattle.std.proofs.Common.{◌≡◌, ◌⊎◌, ℕ, List, [], ◌++◌, Bool, true, None, refl, sym, ap, ◌∙◌, subst, append_assoc, append-nil, inl, inr}
 use Rattle.dap_message.specs.declared.message.Message.{Message}
 use Rattle.dap_debuggee.specs.Shown.{Shown}
 use Rattle.dap_session.specs.Carried.{Goes}
 use Rattle.dap_session.specs.Handling.{turns}
-use Rattle.dap_session.specs.Plan.{bytes_of}
+use Rattle.dap_outbox.specs.Draft.{bytes_of}
 use Rattle.dap_session.specs.Polling.{polls}
 use Rattle.dap_session.specs.SessionState.{SessionState, IsUnasked, HasTooMany}
 use Rattle.dap_session.specs.declared.fault.AdapterFault.{AdapterFault}
@@ -15,7 +15,6 @@ use Rattle.dap_adapter.specs.Parts.{AnswersPiece, PollsOn, CallRefused, StopsAtC
 use Rattle.dap_adapter.specs.PrivateServing.{Way, way_of, Point, Puts, none_put, more_put, Breaks, BreaksAtCall, BreaksAtBytes, UsesUp, Quietly, serve_fault_of, adapter_fault_of}
 use Rattle.dap_adapter.specs.Run.{Next, to_take, to_turn, to_poll, has_ended}
 use Rattle.dap_adapter.specs.declared.served.ServeFault.{ServeFault}
-use Rattle.dap_adapter.specs.declared.served.ServeFault.TheVariants.{OutOfMemory as NoMemory}
 use Rattle.dap_adapter.proofs.Outgoing.{bytes_of-append}
 use Rattle.dap_adapter.proofs.RunningOn.{runs_on_none}
 
@@ -29,9 +28,9 @@ fault_back Ended = refl
 fault_back SeqExhausted = refl
 fault_back OutOfMemory = refl
 
-either : {A B R : Type 0} → (A → R) → (B → R) → A ⊎ B → R
-either f g (inl x) = f x
-either f g (inr x) = g x
+first : {A B : Type 0} → (B → ⊥) → A ⊎ B → A
+first no (inl x) = x
+first no (inr y) = absurd (no y)
 
 -- ---- a refused call, of an adapter that is closed then
 
@@ -89,17 +88,17 @@ nothing_used shown follows e piece before is = record {
 
 -- ---- a buffer
 
-module _ {C S D : Type 0} (items : S → List ℕ) (shown : D → Shown) (follows : Goes D) where
-  -- a buffer takes bytes at its end, or memory is refused
-  abbrev pub buffer_way : Way C S D
-  buffer_way = way_of (λ c s bytes d t. items t ≡ items s ++ bytes) (λ c s bytes d t fault. (fault ≡ NoMemory) × (bytes ≢ []) × (items t ≡ items s)) shown follows
+module _ {C D : Type 0} (shown : D → Shown) (follows : Goes D) where
+  -- a buffer takes bytes at its end
+  abbrev pub buffer_way : Way C (List ℕ) D
+  buffer_way = way_of (λ c s bytes d t. t ≡ s ++ bytes) (λ c s bytes d t fault. ⊥) shown follows
 
-  appended : (c : C) (s : S) (outs : List Message) (d : C) (t : S) → Puts buffer_way.puts c s outs d t → items t ≡ items s ++ bytes_of outs
-  appended c s _ _ _ none_put = sym (append-nil (items s))
+  appended : (c : C) (s : List ℕ) (outs : List Message) (d : C) (t : List ℕ) → Puts buffer_way.puts c s outs d t → t ≡ s ++ bytes_of outs
+  appended c s _ _ _ none_put = sym (append-nil s)
   appended c s _ _ _ (more_put outs now bytes d e t u x is put) =
-      put ∙ (ap (λ z. z ++ bytes) (appended c s outs d t x) ∙ (append_assoc (items s) (bytes_of outs) bytes ∙ ap (λ z. items s ++ z) (ap (λ z. bytes_of outs ++ z) is ∙ sym (bytes_of-append outs now))))
+      put ∙ (ap (λ z. z ++ bytes) (appended c s outs d t x) ∙ (append_assoc s (bytes_of outs) bytes ∙ ap (λ z. s ++ z) (ap (λ z. bytes_of outs ++ z) is ∙ sym (bytes_of-append outs now))))
 
-  pub polled_on : (v u : Point C S D) → Quietly buffer_way v (to_poll 0) u to_take → PollsOn shown follows v.end (items v.sink) u.end (items u.sink)
+  pub polled_on : (v u : Point C (List ℕ) D) → Quietly buffer_way v (to_poll 0) u to_take → PollsOn shown follows v.end v.sink u.end u.sink
   polled_on v u x = record {
     outs = x.leads.outs;
     runs_on = x.leads.runs_on;
@@ -107,7 +106,7 @@ module _ {C S D : Type 0} (items : S → List ℕ) (shown : D → Shown) (follow
     appended = appended v.channel v.sink x.leads.outs u.channel u.sink x.leads.put;
   }
 
-  pub answered_piece : (v u : Point C S D) (piece : List ℕ) (ended : Bool) → UsesUp buffer_way v piece u ended → AnswersPiece shown follows v.end piece (items v.sink) u.end (items u.sink) ended
+  pub answered_piece : (v u : Point C (List ℕ) D) (piece : List ℕ) (ended : Bool) → UsesUp buffer_way v piece u ended → AnswersPiece shown follows v.end piece v.sink u.end u.sink ended
   answered_piece v u piece ended x = record {
     used = x.used;
     later = x.later;
@@ -119,18 +118,17 @@ module _ {C S D : Type 0} (items : S → List ℕ) (shown : D → Shown) (follow
     all = x.all;
   }
 
-  module _ (v u : Point C S D) (from : Next) (piece : List ℕ) (fault : ServeFault) (x : Breaks buffer_way v from piece u fault) (none : v.end.fault ≡ None) where
-    pub limits_at : u.end.session.limits ≡ v.end.session.limits
-    limits_at = either
-        (λ (y : BreaksAtCall buffer_way x.there x.next x.later u fault). ap (λ (s : _). s.limits) (y.stops (x.leads.runs_on.stays_open none)).tables ∙ x.leads.runs_on.limits)
-        (λ (y : BreaksAtBytes buffer_way x.there x.next x.later u fault). y.runs_on.limits ∙ x.leads.runs_on.limits)
-        x.why
+  module _ (v u : Point C (List ℕ) D) (from : Next) (piece : List ℕ) (fault : ServeFault) (x : Breaks buffer_way v from piece u fault) (none : v.end.fault ≡ None) where
+    -- no bytes are refused
+    at_call : BreaksAtCall buffer_way x.there x.next x.later u fault
+    at_call = first (λ (y : BreaksAtBytes buffer_way x.there x.next x.later u fault). y.refused) x.why
 
-    pub stopped_after : (new : AdapterState D) → new.session ≡ u.end.session → new.debuggee ≡ u.end.debuggee → StopsAfter shown follows v.end from piece (items v.sink) (adapter_fault_of fault) new (items u.sink)
+    pub limits_at : u.end.session.limits ≡ v.end.session.limits
+    limits_at = ap (λ (s : _). s.limits) (at_call.stops (x.leads.runs_on.stays_open none)).tables ∙ x.leads.runs_on.limits
+
+    pub stopped_after : (new : AdapterState D) → new.session ≡ u.end.session → new.debuggee ≡ u.end.debuggee → StopsAfter shown follows v.end from piece v.sink (adapter_fault_of fault) new u.sink
     stopped_after new session debuggee =
-        let made = appended v.channel v.sink x.leads.outs x.there.channel x.there.sink x.leads.put in
-        either
-        (λ (y : BreaksAtCall buffer_way x.there x.next x.later u fault).
+        let y = at_call in
         let cause : y.cause ≡ adapter_fault_of fault = sym (ap adapter_fault_of y.is ∙ fault_back y.cause) in
         record {
           used = x.used;
@@ -140,19 +138,6 @@ module _ {C S D : Type 0} (items : S → List ℕ) (shown : D → Shown) (follow
           there = x.there.end;
           next = x.next;
           runs_on = x.leads.runs_on;
-          appended = ap items y.sink ∙ made;
-          why = inl (subst (λ (f : AdapterFault). StopsAtCall shown follows x.there.end x.next x.later f new) cause (stops_is shown follows x.there.end u.end new session debuggee x.next x.later y.cause (y.stops (x.leads.runs_on.stays_open none))));
-        })
-        (λ (y : BreaksAtBytes buffer_way x.there x.next x.later u fault).
-        record {
-          used = x.used;
-          later = x.later;
-          piece_is = x.piece_is;
-          outs = x.leads.outs;
-          there = x.there.end;
-          next = x.next;
-          runs_on = x.leads.runs_on;
-          appended = y.refused.2 ∙ made;
-          why = inr (record { is = ap adapter_fault_of y.refused.0; there = u.end; bytes = y.bytes; made = y.made; some = y.refused.1; session = session; debuggee = debuggee });
-        })
-        x.why
+          appended = y.sink ∙ appended v.channel v.sink x.leads.outs x.there.channel x.there.sink x.leads.put;
+          why = subst (λ (f : AdapterFault). StopsAtCall shown follows x.there.end x.next x.later f new) cause (stops_is shown follows x.there.end u.end new session debuggee x.next x.later y.cause (y.stops (x.leads.runs_on.stays_open none)));
+        }

@@ -16,7 +16,7 @@ use Rattle.dap_frame.specs.declared.limits.Bounds.{Bounds}
 use Rattle.dap_message.specs.declared.message.Message.{Message}
 use Rattle.dap_session.specs.declared.phase.Phase.{Phase}
 use Rattle.dap_session.specs.declared.phase.Phase.TheVariants.{Ended}
-use Rattle.dap_session.specs.Plan.{bytes_of}
+use Rattle.dap_outbox.specs.Draft.{bytes_of}
 use Rattle.dap_session.specs.Session.{fresh_session}
 use Rattle.dap_session.specs.Table.{is_phase}
 use Rattle.dap_adapter.specs.AdapterState.{AdapterState}

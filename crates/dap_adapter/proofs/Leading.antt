@@ -4,7 +4,7 @@ use Rattle.std.proofs.lemmas.List.{take-append-drop}
 use Rattle.std.proofs.Math.Seq.{take-add}
 use Rattle.std.proofs.Math.ListN.{drop_of_length-le}
 use Rattle.dap_message.specs.declared.message.Message.{Message}
-use Rattle.dap_session.specs.Plan.{bytes_of}
+use Rattle.dap_outbox.specs.Draft.{bytes_of}
 use Rattle.dap_session.specs.declared.fault.AdapterFault.{AdapterFault}
 use Rattle.dap_adapter.specs.AdapterState.{AdapterState}
 use Rattle.dap_adapter.specs.Parts.{RunsOn, CallMade, StopsAtCall}
@@ -85,30 +85,6 @@ module _ {C S D : Type 0} (w : Way C S D) where
     leads = leads_none v next;
     why = inr (record { used = used; later = later; piece_is = refl; now = now; to = to; runs_on = r; bytes = bytes; bytes_are = is; made = made; refused = refused });
   }
-
-  -- ---- a message that was taken, whose bytes are due
-
-  first_of_both : (v m : Point C S D) (bytes : List ℕ) → w.puts v.channel v.sink bytes m.channel m.sink → m.end ≡ v.end → (old : AdapterState D) (used : List ℕ) (now : List Message) → RunsOn w.shown w.follows old to_take used now v.end to_turn → bytes ≡ bytes_of now
-      → Leads w (record v { end = old }) to_take used m to_turn
-  first_of_both v m bytes put same old used now r is =
-      leads_step (record v { end = old }) m to_take to_turn used bytes now (subst (λ (z : AdapterState D). RunsOn w.shown w.follows old to_take used now z to_turn) (sym same) r) is put
-
-  pub after_put : (v m t u : Point C S D) (bytes : List ℕ) → w.puts v.channel v.sink bytes m.channel m.sink → m.end ≡ v.end → Leads w m to_turn [] t (to_poll 0) → Leads w t (to_poll 0) [] u to_take → LeadsAfter w v bytes u
-  after_put v m t u bytes put same x y = λ old used now r is.
-      subst (λ (z : List ℕ). Leads w (record v { end = old }) to_take z u to_take) (append-nil used)
-      (leads_then (record v { end = old }) m u to_take to_turn to_take used [] (first_of_both v m bytes put same old used now r is) (leads_then m t u to_turn (to_poll 0) to_take [] [] x y))
-
-  pub breaks_turning : (v m u : Point C S D) (bytes : List ℕ) (fault : ServeFault) → w.puts v.channel v.sink bytes m.channel m.sink → m.end ≡ v.end → ((piece : List ℕ) → Breaks w m to_turn piece u fault) → BreaksAfter w v bytes u fault
-  breaks_turning v m u bytes fault put same x = λ old used later now r is made.
-      leads_breaks (record v { end = old }) m u to_take to_turn used later fault (first_of_both v m bytes put same old used now r is) (x later)
-
-  pub breaks_polling : (v m t u : Point C S D) (bytes : List ℕ) (fault : ServeFault) → w.puts v.channel v.sink bytes m.channel m.sink → m.end ≡ v.end → Leads w m to_turn [] t (to_poll 0) → ((piece : List ℕ) → Breaks w t (to_poll 0) piece u fault) → BreaksAfter w v bytes u fault
-  breaks_polling v m t u bytes fault put same x y = breaks_turning v m u bytes fault put same (λ piece. leads_breaks m t u to_turn (to_poll 0) [] piece fault x (y piece))
-
-  pub breaks_putting : (v u : Point C S D) (bytes : List ℕ) (fault : ServeFault) → u.end ≡ v.end → w.refuses v.channel v.sink bytes u.channel u.sink fault → BreaksAfter w v bytes u fault
-  breaks_putting v u bytes fault same refused = λ old used later now r is made.
-      breaks_at_bytes (record v { end = old }) u to_take to_turn used later bytes now fault (subst (λ (z : AdapterState D). RunsOn w.shown w.follows old to_take used now z to_turn) (sym same) r) is
-      (subst (λ (z : AdapterState D). CallMade w.shown w.follows old to_take (used ++ later) bytes z) (sym same) made) refused
 
   -- ---- a piece, part by part
 

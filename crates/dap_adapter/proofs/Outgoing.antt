@@ -13,7 +13,7 @@ use Rattle.dap_frame.specs.declared.limits.Bounds.{Bounds}
 use Rattle.dap_message.specs.declared.message.Message.{Message}
 use Rattle.dap_debuggee.specs.Shown.{Shown}
 use Rattle.dap_session.specs.Carried.{Goes}
-use Rattle.dap_session.specs.Plan.{bytes_of}
+use Rattle.dap_outbox.specs.Draft.{bytes_of}
 use Rattle.dap_adapter.specs.declared.served.ServeFault.{ServeFault}
 use Rattle.dap_adapter.specs.declared.served.ServeFault.TheVariants.{Read, Write, Adapter, TooManyReads, OutOfMemory}
 use Rattle.dap_adapter.specs.AdapterState.{AdapterState}

@@ -19,7 +19,6 @@ use Rattle.dap_adapter.specs.Calls.{Takes}
 use Rattle.dap_adapter.specs.AdapterState.{AdapterState, state_of}
 use Rattle.dap_adapter.specs.PrivateReceives.{HasReceived}
 use Rattle.dap_adapter.specs.StandsFor.{GoesOn}
-use Rattle.dap_adapter.specs.declared.taken.Taken.{Taken}
 use Rattle.dap_adapter.proofs.Adapting.{orderly}
 use Rattle.dap_adapter.proofs.Readable.{step-reads}
 
@@ -69,11 +68,11 @@ delivers-goes_on grow laws within old new ready piece n m plan made c read gathe
     }
 
 -- what became of the reader and of the session, said of the adapter
-pub received : {D : Type 0} (grow : HistoriesGrow) (ranges : ReadIsInRange) (laws : EachStepGoesOn) (within : EachStepStaysWithin) (follows : Goes D) (old new : AdapterState D) (from to : SessionState D) (piece : List ℕ) (taken : Taken) (delivered : Option Message)
+pub received : {D : Type 0} (grow : HistoriesGrow) (ranges : ReadIsInRange) (laws : EachStepGoesOn) (within : EachStepStaysWithin) (follows : Goes D) (old new : AdapterState D) (from to : SessionState D) (piece : List ℕ) (used : ℕ) (bytes : List ℕ) (delivered : Option Message)
     → from ≡ state_of old → to ≡ state_of new
     → new.intake.bounds ≡ old.intake.bounds → new.session.limits ≡ old.session.limits → new.fault ≡ None
-    → HasReceived follows old.intake new.intake from to piece taken delivered → Takes follows old piece taken delivered new
-received grow ranges laws within follows old new from to piece taken None a b bounds limits fault w =
+    → HasReceived follows old.intake new.intake from to piece used bytes delivered → Takes follows old piece used bytes delivered new
+received grow ranges laws within follows old new from to piece used bytes None a b bounds limits fault w =
     let same = sym b ∙ (w.same ∙ a) in
     let session = ap (λ (x : SessionState _). x.session) same in
     record {
@@ -81,13 +80,13 @@ received grow ranges laws within follows old new from to piece taken None a b bo
       none_written = w.none_written;
       session = session;
       debuggee = ap (λ (x : SessionState _). x.debuggee) same;
-      goes_on = waits-goes_on old new piece taken.used w.gathers session fault;
+      goes_on = waits-goes_on old new piece used w.gathers session fault;
     }
-received grow ranges laws within follows old new from to piece taken (Some m) a b bounds limits fault d =
+received grow ranges laws within follows old new from to piece used bytes (Some m) a b bounds limits fault d =
     let has = rw (a, b) at d.has_taken in
     let step = has.carries.step in
     let can = can_make follows has.plan _ _ step.made step.carried in
-    let goes = delivers-goes_on grow laws within old new d.gives.whole.ready piece taken.used m has.plan step.made d.gives.whole.completes d.gives.read d.gives.under_way bounds d.gives.stands has.is can step.after limits fault in
+    let goes = delivers-goes_on grow laws within old new d.gives.whole.ready piece used m has.plan step.made d.gives.whole.completes d.gives.read d.gives.under_way bounds d.gives.stands has.is can step.after limits fault in
     record {
       whole = d.gives.whole;
       read = d.gives.read;
@@ -98,6 +97,6 @@ received grow ranges laws within follows old new from to piece taken (Some m) a 
         bytes_are = has.carries.tells.bytes_are;
         goes_on = goes;
         went = λ h. grow.outs_append h (In m ∷ entries_of old.session.used step.made) ∙ ap (λ (ms : List Message). outs_of h ++ ms) (laws.all_go old.session.used step.made);
-        reads_back = step-reads ranges old new (take taken.used piece) (In m ∷ []) step.made goes has.carries.tells.reads_back;
+        reads_back = step-reads ranges old new (take used piece) (In m ∷ []) step.made goes has.carries.tells.reads_back;
       };
     }

@@ -1,5 +1,5 @@
 -- Each call of an adapter is a part of a run, and one part after the other is one.
-use Rattle.std.proofs.Common.{◌≡◌, ℕ, ◌+◌, List, [], ◌∷◌, ◌++◌, take, Bool, true, false, Option, Some, None, Ok, refl, sym, ap, ◌∙◌, subst, arith, append_assoc, append-nil}
+use Rattle.std.proofs.Common.{◌≡◌, ℕ, ◌+◌, List, [], ◌∷◌, ◌++◌, take, Bool, true, false, Option, Some, None, is_some, Ok, refl, sym, ap, ◌∙◌, subst, arith, append_assoc, append-nil}
 use Rattle.std.specs.List.{AllByRecursion}
 use Rattle.std.proofs.lemmas.List.{take_all}
 use Rattle.dap_frame.specs.Intake.{Intake, StandsFor as StandsForStream}
@@ -13,15 +13,16 @@ use Rattle.dap_message.specs.declared.message.Message.{Message}
 use Rattle.dap_debuggee.specs.Shown.{Shown}
 use Rattle.dap_session.specs.Carried.{Goes}
 use Rattle.dap_session.specs.Handling.{turns}
-use Rattle.dap_session.specs.Plan.{written_by, bytes_of}
+use Rattle.dap_session.specs.Plan.{written_by}
+use Rattle.dap_outbox.specs.Draft.{bytes_of}
 use Rattle.dap_session.specs.Session.{Session}
 use Rattle.dap_session.specs.SessionState.{SessionState}
-use Rattle.dap_adapter.specs.Parts.{MayBeHeld, RunsOn, PartsJoin, CallMade, InTurn, none_made, answered, told as told_since, StandsInTurn, CallsInTurnAddUp}
+use Rattle.dap_adapter.specs.PrivateServing.{next_if}
+use Rattle.dap_adapter.specs.Parts.{MayBeHeld, RunsOn, PartsJoin, InTurn, none_made, answered, told as told_since, StandsInTurn, CallsInTurnAddUp}
 use Rattle.dap_adapter.specs.Calls.{Handled, Saw, Delivers, Waits, Takes}
 use Rattle.dap_adapter.specs.AdapterState.{AdapterState, state_of}
 use Rattle.dap_adapter.specs.StandsFor.{StandsFor}
 use Rattle.dap_adapter.specs.Run.{Next, to_take, to_turn, to_poll, has_ended, after_poll, Run, begins, handles as one_handled, idles, sees, delivers}
-use Rattle.dap_adapter.specs.declared.taken.Taken.{Taken}
 
 -- ---- runs
 
@@ -168,15 +169,15 @@ module _ {D : Type 0} (shown : D → Shown) (follows : Goes D) where
   -- ---- bytes that come
 
   -- a message was taken
-  took : (one : EachStreamHasOneSplit) (e f : AdapterState D) (piece : List ℕ) (taken : Taken) (m : Message) → has_ended e.session ≡ false → (x : Delivers follows e piece taken m f) → f.fault ≡ None → f.session.limits ≡ e.session.limits
-      → RunsOn shown follows e to_take (take taken.used piece) (written_by e.session x.step.session.made) f to_turn
-  took one e f piece taken m going x none limits =
+  took : (one : EachStreamHasOneSplit) (e f : AdapterState D) (piece : List ℕ) (used : ℕ) (bytes : List ℕ) (m : Message) → has_ended e.session ≡ false → (x : Delivers follows e piece used bytes m f) → f.fault ≡ None → f.session.limits ≡ e.session.limits
+      → RunsOn shown follows e to_take (take used piece) (written_by e.session x.step.session.made) f to_turn
+  took one e f piece used bytes m going x none limits =
       let ready = x.whole.ready in
       record {
         bodies = ready.held ∷ [];
         run = delivers [] [] (state_of e) (state_of f) ready.held m x.plan begins going x.read x.is x.step.session;
         stands = λ s h xs before stands stream.
-            let at = s ++ take taken.used piece in
+            let at = s ++ take used piece in
             let got = x.step.goes_on s h stands in
             let bounds = x.whole.completes.bounds ∙ stands.bounds in
             let whole : Split (bounds_of e.session.limits) at (xs ++ ready.held ∷ []) [] = subst (λ (z : Bounds). Split z at (xs ++ ready.held ∷ []) []) bounds (x.whole.completes.stands s xs before stream).split in
@@ -196,15 +197,15 @@ module _ {D : Type 0} (shown : D → Shown) (follows : Goes D) where
       }
 
   -- none became whole
-  waited : (e f : AdapterState D) (piece : List ℕ) (taken : Taken) → has_ended e.session ≡ false → Waits e piece taken f → f.fault ≡ None → RunsOn shown follows e to_take (take taken.used piece) [] f to_take
-  waited e f piece taken going x none =
-      let all : take taken.used piece ≡ piece = take_all taken.used piece (let k = x.gathers.all in omega (arith, k)) in
+  waited : (e f : AdapterState D) (piece : List ℕ) (used : ℕ) (bytes : List ℕ) → has_ended e.session ≡ false → Waits e piece used bytes f → f.fault ≡ None → RunsOn shown follows e to_take (take used piece) [] f to_take
+  waited e f piece used bytes going x none =
+      let all : take used piece ≡ piece = take_all used piece (let k = x.gathers.all in omega (arith, k)) in
       let run : Run shown follows to_take (state_of e) [] [] to_take (state_of f) = rw (x.session, x.debuggee) begins in
       record {
         bodies = [];
         run = run;
         stands = λ s h xs before stands stream.
-            let at : s ++ take taken.used piece ≡ s ++ piece = ap (λ z. s ++ z) all in
+            let at : s ++ take used piece ≡ s ++ piece = ap (λ z. s ++ z) all in
             record {
               more = [];
               stands = subst (λ (z : List ℕ). StandsFor f z (h ++ [])) (sym at) (x.goes_on s h stands);
@@ -218,30 +219,17 @@ module _ {D : Type 0} (shown : D → Shown) (follows : Goes D) where
         limits = ap (λ (z : Session). z.limits) x.session;
       }
 
-  -- the same, with the bytes as they are handed on
-  pub record HandsOn (e f : AdapterState D) (piece sent : List ℕ) (k : ℕ) : Type 0 where
+  -- a piece that comes, and what the run does next
+  pub record HandsOn (e f : AdapterState D) (piece bytes : List ℕ) (used : ℕ) (next : Next) : Type 0 where
     pub now : List Message
-    pub runs_on : RunsOn shown follows e to_take (take k piece) now f to_turn
-    pub bytes_are : sent ≡ bytes_of now
-    pub made : CallMade shown follows e to_take piece sent f
+    pub runs_on : RunsOn shown follows e to_take (take used piece) now f next
+    pub bytes_are : bytes ≡ bytes_of now
 
-  pub took_sent : (one : EachStreamHasOneSplit) (e f : AdapterState D) (piece : List ℕ) (taken : Taken) (delivered : Option Message) (m : Message) (k : ℕ) (sent : List ℕ)
-      → has_ended e.session ≡ false → Takes follows e piece taken delivered f → f.fault ≡ None → f.session.limits ≡ e.session.limits → delivered ≡ Some m → k ≡ taken.used → sent ≡ taken.bytes.items → HandsOn e f piece sent k
-  took_sent one e f piece taken delivered m k sent going x none limits is same bytes =
-      let d : Takes follows e piece taken (Some m) f = subst (λ (o : Option Message). Takes follows e piece taken o f) is x in
-      let now = written_by e.session d.step.session.made in
-      record {
-        now = now;
-        runs_on = subst (λ (z : ℕ). RunsOn shown follows e to_take (take z piece) now f to_turn) (sym same) (took one e f piece taken m going d none limits);
-        bytes_are = bytes ∙ d.step.bytes_are;
-        made = (taken, m, d, bytes);
-      }
-
-  pub waited_sent : (e f : AdapterState D) (piece : List ℕ) (taken : Taken) (delivered : Option Message) (k : ℕ) → has_ended e.session ≡ false → Takes follows e piece taken delivered f → f.fault ≡ None → delivered ≡ None → k ≡ taken.used
-      → RunsOn shown follows e to_take (take k piece) [] f to_take
-  waited_sent e f piece taken delivered k going x none is same =
-      let d : Waits e piece taken f = subst (λ (o : Option Message). Takes follows e piece taken o f) is x in
-      subst (λ (z : ℕ). RunsOn shown follows e to_take (take z piece) [] f to_take) (sym same) (waited e f piece taken going d none)
+  pub hands_on : (one : EachStreamHasOneSplit) (e f : AdapterState D) (piece : List ℕ) (used : ℕ) (bytes : List ℕ) (delivered : Option Message)
+      → has_ended e.session ≡ false → Takes follows e piece used bytes delivered f → f.fault ≡ None → f.session.limits ≡ e.session.limits → HandsOn e f piece bytes used (next_if (is_some delivered))
+  hands_on one e f piece used bytes None going x none limits = record { now = []; runs_on = waited e f piece used bytes going x none; bytes_are = x.none_written }
+  hands_on one e f piece used bytes (Some m) going x none limits =
+      record { now = written_by e.session x.step.session.made; runs_on = took one e f piece used bytes m going x none limits; bytes_are = x.step.bytes_are }
 
 -- ---- calls in turn
 

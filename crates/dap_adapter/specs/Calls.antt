@@ -12,12 +12,12 @@ use Rattle.dap_debuggee.specs.Shown.{Shown}
 use Rattle.dap_tables.specs.Outstanding.{Kept}
 use Rattle.dap_session.specs.declared.fault.AdapterFault.{AdapterFault}
 use Rattle.dap_session.specs.declared.fault.AdapterFault.TheVariants.{Frame, Body, SeqExhausted, OutOfMemory}
-use Rattle.dap_adapter.specs.declared.taken.Taken.{Taken}
 use Rattle.dap_adapter.specs.declared.taken.Turned.{Turned}
 use Rattle.dap_adapter.specs.declared.taken.Turned.TheVariants.{Idle, Done}
 use Rattle.dap_session.specs.Carried.{Goes}
 use Rattle.dap_session.specs.Handling.{some_plan, turns}
-use Rattle.dap_session.specs.Plan.{Plan, written_by, bytes_of, entries_of}
+use Rattle.dap_session.specs.Plan.{Plan, written_by, entries_of}
+use Rattle.dap_outbox.specs.Draft.{bytes_of}
 use Rattle.dap_session.specs.Polling.{polls, has_debuggee}
 use Rattle.dap_session.specs.SessionState.{SessionState, SessionStep, IsUnasked, HasTooMany}
 use Rattle.dap_session.specs.Session.{Session, to_handle}
@@ -38,24 +38,24 @@ pub record Step {D : Type 0} (follows : Goes D) (plan : Plan) (old new : Adapter
 -- ---- take
 
 -- a message came whole, and this was made of it
-pub record Delivers {D : Type 0} (follows : Goes D) (old : AdapterState D) (piece : List ℕ) (taken : Taken) (m : Message) (new : AdapterState D) : Type 0 where
-  pub whole : Whole old.intake piece taken.used
+pub record Delivers {D : Type 0} (follows : Goes D) (old : AdapterState D) (piece : List ℕ) (used : ℕ) (bytes : List ℕ) (m : Message) (new : AdapterState D) : Type 0 where
+  pub whole : Whole old.intake piece used
   pub read : Msg whole.ready.held m
   pub plan : Plan
   pub is : takes m old.session ≡ Ok plan
-  pub step : Step follows plan old new (take taken.used piece) (In m ∷ []) taken.bytes.items
+  pub step : Step follows plan old new (take used piece) (In m ∷ []) bytes
 
 -- the frame is still under way, and nothing else changed
-pub record Waits {D : Type 0} (old : AdapterState D) (piece : List ℕ) (taken : Taken) (new : AdapterState D) : Type 0 where
-  pub gathers : Gathers old.intake new.intake piece taken.used
-  pub none_written : taken.bytes.items ≡ []
+pub record Waits {D : Type 0} (old : AdapterState D) (piece : List ℕ) (used : ℕ) (bytes : List ℕ) (new : AdapterState D) : Type 0 where
+  pub gathers : Gathers old.intake new.intake piece used
+  pub none_written : bytes ≡ []
   pub session : new.session ≡ old.session
   pub debuggee : new.debuggee ≡ old.debuggee
   pub goes_on : GoesOn old new piece []
 
-abbrev pub Takes : {D : Type 0} → Goes D → AdapterState D → List ℕ → Taken → Option Message → AdapterState D → Type 0
-Takes follows old piece taken None new = Waits old piece taken new
-Takes follows old piece taken (Some m) new = Delivers follows old piece taken m new
+abbrev pub Takes : {D : Type 0} → Goes D → AdapterState D → List ℕ → ℕ → List ℕ → Option Message → AdapterState D → Type 0
+Takes follows old piece used bytes None new = Waits old piece used bytes new
+Takes follows old piece used bytes (Some m) new = Delivers follows old piece used bytes m new
 
 -- a message came whole that closes the adapter
 pub record ClosedBy (old : Intake) (s : Session) (piece : List ℕ) (fault : AdapterFault) : Type 0 where

@@ -1,13 +1,13 @@
 -- What an adapter does over several of its calls, which are those of a run and in its order, and so what `answer` and `tell` come to.
 -- Overview, "Base Protocol". The order of the calls is this profile's choice.
-use Rattle.std.specs.Prelude.{◌≡◌, ◌≢◌, ◌⊎◌, ℕ, List, [], ◌++◌, Bool, true, false, None}
+use Rattle.std.specs.Prelude.{◌≡◌, ◌≢◌, ℕ, List, [], ◌++◌, Bool, true, false, None}
 use Rattle.dap_frame.specs.Intake.{StandsFor as StandsForStream}
 use Rattle.dap_history.specs.History.{Entry, outs_of}
 use Rattle.dap_message.specs.ReadBack.{AllReadBack}
 use Rattle.dap_message.specs.declared.message.Message.{Message}
 use Rattle.dap_debuggee.specs.Shown.{Shown}
 use Rattle.dap_session.specs.Carried.{Goes}
-use Rattle.dap_session.specs.Plan.{bytes_of}
+use Rattle.dap_outbox.specs.Draft.{bytes_of}
 use Rattle.dap_session.specs.Session.{Session}
 use Rattle.dap_session.specs.declared.fault.AdapterFault.{AdapterFault}
 use Rattle.dap_session.specs.declared.fault.AdapterFault.TheVariants.{OutOfMemory}
@@ -15,7 +15,6 @@ use Rattle.dap_adapter.specs.AdapterState.{AdapterState, state_of}
 use Rattle.dap_adapter.specs.Calls.{Delivers, Handled, Saw, TakeRefused, TurnRefused, PollRefused}
 use Rattle.dap_adapter.specs.Run.{Next, to_take, to_turn, to_poll, has_ended, Run}
 use Rattle.dap_adapter.specs.StandsFor.{StandsFor}
-use Rattle.dap_adapter.specs.declared.taken.Taken.{Taken}
 
 -- ---- a part of a run
 
@@ -105,19 +104,9 @@ pub record StopsAtCall {D : Type 0} (shown : D → Shown) (follows : Goes D) (ol
 
 -- the next call hands out these bytes
 abbrev pub CallMade : {D : Type 0} → (D → Shown) → Goes D → AdapterState D → Next → List ℕ → List ℕ → AdapterState D → Type 0
-CallMade shown follows old to_take piece bytes new = (taken : Taken) × (m : Message) × Delivers follows old piece taken m new × (bytes ≡ taken.bytes.items)
+CallMade shown follows old to_take piece bytes new = (used : ℕ) × (m : Message) × Delivers follows old piece used bytes m new
 CallMade shown follows old to_turn piece bytes new = Handled shown follows old bytes new
 CallMade shown follows old (to_poll asks) piece bytes new = Saw follows old bytes new
-
--- memory is refused for the bytes of the next call: it is made, and they are lost
-pub record StopsAtBytes {D : Type 0} (shown : D → Shown) (follows : Goes D) (old : AdapterState D) (next : Next) (piece : List ℕ) (fault : AdapterFault) (new : AdapterState D) : Type 0 where
-  pub is : fault ≡ OutOfMemory
-  pub there : AdapterState D
-  pub bytes : List ℕ
-  pub made : CallMade shown follows old next piece bytes there
-  pub some : bytes ≢ []
-  pub session : new.session ≡ there.session
-  pub debuggee : new.debuggee ≡ there.debuggee
 
 -- it stops after a part of the run, and what that made, all of it and nothing else, is appended
 pub record StopsAfter {D : Type 0} (shown : D → Shown) (follows : Goes D) (old : AdapterState D) (from : Next) (piece before : List ℕ) (fault : AdapterFault) (new : AdapterState D) (after : List ℕ) : Type 0 where
@@ -129,4 +118,4 @@ pub record StopsAfter {D : Type 0} (shown : D → Shown) (follows : Goes D) (old
   pub next : Next
   pub runs_on : RunsOn shown follows old from used outs there next
   pub appended : after ≡ before ++ bytes_of outs
-  pub why : StopsAtCall shown follows there next later fault new ⊎ StopsAtBytes shown follows there next later fault new
+  pub why : StopsAtCall shown follows there next later fault new

@@ -11,22 +11,21 @@ use Rattle.dap_session.specs.declared.fault.AdapterFault.TheVariants as fault
 use Rattle.dap_reader.specs.Reader.{GivesOne}
 use Rattle.dap_reader.specs.declared.fault.ReadFault.{ReadFault}
 use Rattle.dap_reader.specs.declared.fault.ReadFault.TheVariants.{Frame, Body, OutOfMemory, Closed}
-use Rattle.dap_adapter.specs.declared.taken.Taken.{Taken}
 
 -- nothing came whole
-pub record StillWaits {D : Type 0} (i j : Intake) (old new : SessionState D) (piece : List ℕ) (taken : Taken) : Type 0 where
-  pub gathers : Gathers i j piece taken.used
-  pub none_written : taken.bytes.items ≡ []
+pub record StillWaits {D : Type 0} (i j : Intake) (old new : SessionState D) (piece : List ℕ) (used : ℕ) (bytes : List ℕ) : Type 0 where
+  pub gathers : Gathers i j piece used
+  pub none_written : bytes ≡ []
   pub same : new ≡ old
 
 -- a message came whole, and the session took it
-pub record HasDelivered {D : Type 0} (follows : Goes D) (i j : Intake) (old new : SessionState D) (piece : List ℕ) (taken : Taken) (m : Message) : Type 0 where
-  pub gives : GivesOne i j piece taken.used m
-  pub has_taken : HasTaken follows (takes m old.session) old new taken.bytes.items
+pub record HasDelivered {D : Type 0} (follows : Goes D) (i j : Intake) (old new : SessionState D) (piece : List ℕ) (used : ℕ) (bytes : List ℕ) (m : Message) : Type 0 where
+  pub gives : GivesOne i j piece used m
+  pub has_taken : HasTaken follows (takes m old.session) old new bytes
 
-abbrev pub HasReceived : {D : Type 0} → Goes D → Intake → Intake → SessionState D → SessionState D → List ℕ → Taken → Option Message → Type 0
-HasReceived follows i j old new piece taken None = StillWaits i j old new piece taken
-HasReceived follows i j old new piece taken (Some m) = HasDelivered follows i j old new piece taken m
+abbrev pub HasReceived : {D : Type 0} → Goes D → Intake → Intake → SessionState D → SessionState D → List ℕ → ℕ → List ℕ → Option Message → Type 0
+HasReceived follows i j old new piece used bytes None = StillWaits i j old new piece used bytes
+HasReceived follows i j old new piece used bytes (Some m) = HasDelivered follows i j old new piece used bytes m
 
 -- the fault of an adapter is that of its reader
 abbrev pub IsBy : ReadFault → AdapterFault → Type 0

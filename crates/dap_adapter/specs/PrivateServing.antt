@@ -9,8 +9,7 @@ use Rattle.dap_debuggee.specs.Shown.{Shown}
 use Rattle.dap_session.specs.declared.fault.AdapterFault.{AdapterFault}
 use Rattle.dap_session.specs.declared.fault.AdapterFault.TheVariants.{OutOfMemory as NoMemory}
 use Rattle.dap_session.specs.Carried.{Goes}
-use Rattle.dap_session.specs.Plan.{bytes_of}
-use Rattle.dap_adapter.specs.declared.outlet.Outlet.{Outlet}
+use Rattle.dap_outbox.specs.Draft.{bytes_of}
 use Rattle.dap_adapter.specs.declared.served.Served.{Served}
 use Rattle.dap_adapter.specs.declared.served.ServeFault.{ServeFault}
 use Rattle.dap_adapter.specs.declared.served.ServeFault.TheVariants.{Read, Write, Adapter, TooManyReads, OutOfMemory}
@@ -33,21 +32,26 @@ pub record Serving (C D : Type 0) : Type 1 where
 abbrev pub served_by : {C D : Type 0} → (C → IoEvent → C → Type 0) → (D → Shown) → Goes D → Start C D → Serving C D
 served_by goes shown follows b = record { goes = goes; shown = shown; follows = follows; start = b }
 
--- the channel, the bytes that are gathered for it, and how many others went out
+-- the bytes that are gathered, and how many others went out
+pub record OutletState : Type 0 where
+  pub gathered : List ℕ
+  pub written : ℕ
+
+-- the same with the channel
 pub record Sink (C : Type 0) : Type 0 where
   pub channel : C
   pub gathered : List ℕ
   pub written : ℕ
 
-abbrev pub sink_of : {C : Type 0} → C → Outlet → Sink C
-sink_of c o = record { channel = c; gathered = o.gathered.items; written = o.written }
+abbrev pub sink_of : {C : Type 0} → C → OutletState → Sink C
+sink_of c o = record { channel = c; gathered = o.gathered; written = o.written }
 
 -- with the adapter
 pub record Progress (C D : Type 0) : Type 0 where
   pub sink : Sink C
   pub end : AdapterState D
 
-abbrev pub progress_of : {C D : Type 0} → C → AdapterState D → Outlet → Progress C D
+abbrev pub progress_of : {C D : Type 0} → C → AdapterState D → OutletState → Progress C D
 progress_of c e o = record { sink = sink_of c o; end = e }
 
 -- what was read, in so many reads
@@ -85,10 +89,14 @@ pub record Gathers {C : Type 0} (goes : C → IoEvent → C → Type 0) (s : Sin
   pub all : bytes_written log ++ t.gathered ≡ s.gathered ++ bytes
   pub count : (others : ℕ) → s.written ≡ saturating_count others → t.written ≡ saturating_count (others + length (bytes_written log))
 
--- memory was refused, and nothing was done, or the writer failed
+-- the writer failed
 abbrev pub GathersNot : {C : Type 0} → (C → IoEvent → C → Type 0) → Sink C → List ℕ → Sink C → ServeFault → Type 0
-GathersNot goes s bytes t OutOfMemory = (t.channel ≡ s.channel) × (t.gathered ≡ s.gathered) × (t.written ≡ s.written)
 GathersNot goes s bytes t fault = FallsShort goes s t.channel (s.gathered ++ bytes) fault
+
+-- what is gathered is lent
+pub record IsLent (s : OutletState) (before : List ℕ) (t : OutletState) : Type 0 where
+  pub gathered : before ≡ s.gathered
+  pub written : t.written ≡ s.written
 
 -- ---- how far serving has come
 
@@ -171,6 +179,16 @@ pub record IsThrough {C D : Type 0} (b : Serving C D) (v : Progress C D) (i : In
 abbrev pub next_after_polls : ℕ → Next
 next_after_polls made = if made == 65536 then to_take else to_poll made
 
+-- after one poll more: more may be due, or not
+abbrev pub next_after : Bool → ℕ → Next
+next_after true asks = next_after_polls (asks + 1)
+next_after false asks = to_take
+
+-- a message came, whose requests are handled next, or none did
+abbrev pub next_if : Bool → Next
+next_if true = to_turn
+next_if false = to_take
+
 -- memory is a fault of its own
 abbrev pub serve_fault_of : AdapterFault → ServeFault
 serve_fault_of NoMemory = OutOfMemory
@@ -248,17 +266,6 @@ pub record UsesUp {C S D : Type 0} (w : Way C S D) (v : Point C S D) (piece : Li
   pub ended_is : has_ended u.end.session ≡ ended
   pub all : ended ≡ false → later ≡ []
 
--- a message was taken whose bytes are due, and then all is handled
-abbrev pub LeadsAfter : {C S D : Type 0} → Way C S D → Point C S D → List ℕ → Point C S D → Type 0
-LeadsAfter w v bytes u =
-    (old : AdapterState _) (used : List ℕ) (now : List Message) → RunsOn w.shown w.follows old to_take used now v.end to_turn → bytes ≡ bytes_of now
-    → Leads w (record v { end = old }) to_take used u to_take
-
-abbrev pub BreaksAfter : {C S D : Type 0} → Way C S D → Point C S D → List ℕ → Point C S D → ServeFault → Type 0
-BreaksAfter w v bytes u fault =
-    (old : AdapterState _) (used later : List ℕ) (now : List Message) → RunsOn w.shown w.follows old to_take used now v.end to_turn → bytes ≡ bytes_of now
-    → CallMade w.shown w.follows old to_take (used ++ later) bytes v.end → Breaks w (record v { end = old }) to_take (used ++ later) u fault
-
 -- no message comes
 pub record Quietly {C S D : Type 0} (w : Way C S D) (v : Point C S D) (from : Next) (u : Point C S D) (to : Next) : Type 0 where
   pub leads : Leads w v from [] u to
@@ -287,9 +294,9 @@ EndsIn {C} {D} by v d piece fault =
 abbrev pub Appends : List ℕ → List ℕ → List ℕ → Type 0
 Appends old bytes new = new ≡ old ++ bytes
 
--- memory was refused for some bytes, and nothing was done
-abbrev pub AppendsNot : List ℕ → List ℕ → List ℕ → ServeFault → Type 0
-AppendsNot old bytes new fault = (fault ≡ OutOfMemory) × (bytes ≢ []) × (new ≡ old)
+-- all of it is lent
+abbrev pub IsLentAll : List ℕ → List ℕ → List ℕ → Type 0
+IsLentAll s before t = before ≡ s
 
 -- the fault of an adapter that has no channel
 abbrev pub adapter_fault_of : ServeFault → AdapterFault

@@ -10,7 +10,8 @@ use Rattle.dap_session.specs.declared.phase.Phase.{Phase}
 use Rattle.dap_session.specs.declared.phase.Phase.TheVariants.{Stopped, Ended}
 use Rattle.dap_session.specs.Carried.{Goes}
 use Rattle.dap_session.specs.Handling.{turns}
-use Rattle.dap_session.specs.Plan.{Plan, written_by, bytes_of}
+use Rattle.dap_session.specs.Plan.{Plan, written_by}
+use Rattle.dap_outbox.specs.Draft.{bytes_of}
 use Rattle.dap_session.specs.Polling.{polls}
 use Rattle.dap_session.specs.SessionState.{SessionState, SessionStep}
 use Rattle.dap_session.specs.Session.{Session, fresh_session}

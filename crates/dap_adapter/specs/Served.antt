@@ -21,7 +21,8 @@ use Rattle.dap_session.specs.declared.fault.AdapterFault.{AdapterFault}
 use Rattle.dap_session.specs.declared.fault.AdapterFault.TheVariants.{Frame, Body, SeqExhausted, OutOfMemory as NoMemory}
 use Rattle.dap_session.specs.Carried.{Goes, CarriedOut}
 use Rattle.dap_session.specs.Handling.{turns}
-use Rattle.dap_session.specs.Plan.{Made, bytes_of}
+use Rattle.dap_session.specs.Plan.{Made}
+use Rattle.dap_outbox.specs.Draft.{bytes_of}
 use Rattle.dap_session.specs.Polling.{polls}
 use Rattle.dap_session.specs.SessionState.{SessionState}
 use Rattle.dap_session.specs.Table.{is_phase}

@@ -1,5 +1,5 @@
 //! An adapter, call by call.
-ghost use Rattle.std.specs.Prelude.{◌≡◌, ◌≢◌, ℕ, List, ◌<◌, ◌≤◌, [], length, max, IfOk, IfErr, OnOk, OnErr, IfSome, Some, None, Ok, Err, IsOk, false};
+ghost use Rattle.std.specs.Prelude.{◌≡◌, ◌≢◌, ℕ, List, ◌<◌, ◌≤◌, [], length, max, IfOk, IfErr, OnOk, OnErr, IfSome, Some, None, Ok, Err, IsOk, IsTrue, false};
 ghost use Rattle.dap_debuggee.specs.declared.answers.State.{State};
 ghost use Rattle.dap_frame.specs.Ends.{EndsWith};
 ghost use Rattle.dap_frame.specs.Intake.{StandsFor as StandsForStream};
@@ -9,11 +9,12 @@ ghost use Rattle.dap_adapter.specs.Calls.{TakeRefused};
 ghost use Rattle.dap_adapter.specs.PrivateReceives.{HasReceived, IsBy};
 ghost use Rattle.dap_reader.specs.declared.fault.ReadFault.{ReadFault};
 ghost use Rattle.dap_tables.specs.SourceMap.{count};
-ghost use Rattle.dap_session.specs.Session.{fresh_session, oldest, own_requests};
+ghost use Rattle.dap_session.specs.Session.{fresh_session, oldest, own_requests, to_handle};
+ghost use Rattle.dap_session.specs.SessionState.{AppendsSome};
 ghost use Rattle.dap_session.specs.Table.{is_phase};
 ghost use Rattle.dap_session.specs.declared.phase.Phase.TheVariants.{Asked};
 
-use crate::taken::{Taken, Turned};
+use crate::taken::{Came, Taken, Turned};
 use dap_debuggee::Debuggee;
 use dap_frame::{End, Limits};
 use dap_history::laws::histories_grow;
@@ -49,7 +50,7 @@ impl<D: Debuggee + Drop> Model for Adapter<D> {
 
 impl<D: Debuggee + Drop> Adapter<D> {
     ghost use Rattle.dap_adapter.specs.AdapterState.{state_of};
-    ghost use Rattle.dap_adapter.specs.Calls.{Takes, TurnGives, TurnRefused, AreFewer, Saw, PollRefused};
+    ghost use Rattle.dap_adapter.specs.Calls.{Takes, TurnGives, Handled, TurnRefused, AreFewer, Saw, PollRefused};
     ghost use Rattle.dap_session.specs.Polling.{has_debuggee};
     ghost use Rattle.dap_adapter.specs.StandsFor.{StandsFor};
     ghost use Rattle.dap_adapter.specs.declared.taken.Turned.{Turned};
@@ -135,7 +136,7 @@ impl<D: Debuggee + Drop> Adapter<D> {
     /// a body is whole: a piece that makes no frame whole takes none. The debuggee is as it was, unless memory is refused to a
     /// response that lets it start.
     pub fn take(&mut self, alloc: Global, piece: &[u8]) -> Result<Taken, AdapterFault>
-        ensures takes { IfOk result (λ taken. Takes D.follows self.old piece.now taken taken.delivered self.new) }
+        ensures takes { IfOk result (λ taken. Takes D.follows self.old piece.now taken.used taken.bytes.items taken.delivered self.new) }
         ensures progress { IfOk result (λ taken. 0 < length piece.now → 0 < taken.used) }
         ensures within { IfOk result (λ taken. taken.used ≤ length piece.now) }
         ensures open { OnOk result (self.new.fault ≡ None) }
@@ -150,6 +151,38 @@ impl<D: Debuggee + Drop> Adapter<D> {
         ensures latches { IfErr result (λ fault. self.new.fault ≡ Some fault) }
         ensures latched { IfSome self.old.fault (λ fault. (result ≡ Err fault) × (self.new ≡ self.old)) }
     {
+        let mut bytes = Vec::new(alloc);
+        match self.take_into(alloc, piece, &mut bytes) {
+            Ok(Came { used, delivered }) => Ok(Taken {
+                used,
+                delivered,
+                bytes,
+            }),
+            Err(fault) => Err(fault),
+        }
+    }
+
+    /// The same, with what is to be written appended to a buffer, which stays as it was where the call is refused.
+    pub(crate) fn take_into(
+        &mut self,
+        alloc: Global,
+        piece: &[u8],
+        out: &mut Vec<u8>,
+    ) -> Result<Came, AdapterFault>
+        ensures takes { IfOk result (λ came. AppendsSome (λ bytes. Takes D.follows self.old piece.now came.used bytes came.delivered self.new) out.old.items out.new.items) }
+        ensures progress { IfOk result (λ came. 0 < length piece.now → 0 < came.used) }
+        ensures within { IfOk result (λ came. came.used ≤ length piece.now) }
+        ensures open { OnOk result (self.new.fault ≡ None) }
+        ensures limits { self.new.session.limits ≡ self.old.session.limits }
+        ensures refused { IfErr result (λ fault. self.old.fault ≡ None → TakeRefused self.old.intake (state_of self.old) piece.now fault self.new.debuggee) }
+        ensures tables { OnErr result (self.new.session ≡ self.old.session) }
+        ensures debuggee { IfErr result (λ fault. fault ≢ AdapterFault.OutOfMemory → self.new.debuggee ≡ self.old.debuggee) }
+        ensures unasked { is_phase Asked self.old.session.phase ≡ false → OnErr result (self.new.debuggee ≡ self.old.debuggee) }
+        ensures held { OnErr result (self.new.intake.held ≡ []) }
+        ensures latches { IfErr result (λ fault. self.new.fault ≡ Some fault) }
+        ensures latched { IfSome self.old.fault (λ fault. (result ≡ Err fault) × (self.new ≡ self.old)) }
+        ensures buffer { OnErr result (out.new.items ≡ out.old.items) }
+    {
         if let Some(fault) = self.fault {
             return Err(fault);
         }
@@ -157,8 +190,8 @@ impl<D: Debuggee + Drop> Adapter<D> {
         read_is_in_range();
         each_step_goes_on();
         each_step_stays_within();
-        match receive(alloc, &mut self.reader, &mut self.session, piece) {
-            Ok(taken) => Ok(taken),
+        match receive(alloc, &mut self.reader, &mut self.session, piece, out) {
+            Ok(came) => Ok(came),
             Err(fault) => {
                 self.reader.close();
                 self.fault = Some(fault);
@@ -192,6 +225,34 @@ impl<D: Debuggee + Drop> Adapter<D> {
         // Where no request waits, memory is not asked for.
         ensures idle { self.old.fault ≡ None → oldest self.old.session.kept ≡ None → result ≡ Ok Turned.Idle }
     {
+        let mut bytes = Vec::new(alloc);
+        match self.turn_into(alloc, &mut bytes) {
+            Ok(true) => Ok(Turned::Done { bytes }),
+            Ok(false) => Ok(Turned::Idle),
+            Err(fault) => Err(fault),
+        }
+    }
+
+    /// The same, with what is to be written appended to a buffer, which stays as it was where the call is refused: whether a
+    /// request was handled.
+    pub(crate) fn turn_into(
+        &mut self,
+        alloc: Global,
+        out: &mut Vec<u8>,
+    ) -> Result<bool, AdapterFault>
+        ensures idle { IfOk result (λ done. done ≡ false → TurnGives D.shown D.follows self.old Turned.Idle self.new × (out.new.items ≡ out.old.items)) }
+        ensures done { IfOk result (λ done. IsTrue done → AppendsSome (λ bytes. Handled D.shown D.follows self.old bytes self.new) out.old.items out.new.items) }
+        ensures open { OnOk result (self.new.fault ≡ None) }
+        ensures limits { self.new.session.limits ≡ self.old.session.limits }
+        ensures refused { IfErr result (λ fault. self.old.fault ≡ None → TurnRefused D.shown self.old fault self.new) }
+        ensures tables { OnErr result (self.new.session ≡ self.old.session) }
+        ensures held { OnErr result (self.new.intake.held ≡ []) }
+        ensures latches { IfErr result (λ fault. self.new.fault ≡ Some fault) }
+        ensures latched { IfSome self.old.fault (λ fault. (result ≡ Err fault) × (self.new ≡ self.old)) }
+        ensures fewer { IfOk result (λ done. IsTrue done → to_handle self.new.session.kept < to_handle self.old.session.kept) }
+        ensures none { self.old.fault ≡ None → oldest self.old.session.kept ≡ None → result ≡ Ok false }
+        ensures buffer { OnErr result (out.new.items ≡ out.old.items) }
+    {
         if let Some(fault) = self.fault {
             return Err(fault);
         }
@@ -199,9 +260,8 @@ impl<D: Debuggee + Drop> Adapter<D> {
         read_is_in_range();
         each_step_goes_on();
         each_step_stays_within();
-        match self.session.turn(alloc) {
-            Ok(Some(bytes)) => Ok(Turned::Done { bytes }),
-            Ok(None) => Ok(Turned::Idle),
+        match self.session.turn(alloc, out) {
+            Ok(done) => Ok(done),
             Err(fault) => {
                 self.close(fault);
                 Err(fault)
@@ -230,6 +290,26 @@ impl<D: Debuggee + Drop> Adapter<D> {
         // Where there is no debuggee to ask, memory is not asked for.
         ensures apart { self.old.fault ≡ None → has_debuggee self.old.session.phase ≡ false → IsOk result }
     {
+        let mut bytes = Vec::new(alloc);
+        match self.poll_into(alloc, &mut bytes) {
+            Ok(()) => Ok(bytes),
+            Err(fault) => Err(fault),
+        }
+    }
+
+    /// The same, with what is to be written appended to a buffer, which stays as it was where the call is refused.
+    pub(crate) fn poll_into(&mut self, alloc: Global, out: &mut Vec<u8>) -> Result<(), AdapterFault>
+        ensures saw { OnOk result (AppendsSome (λ bytes. Saw D.follows self.old bytes self.new) out.old.items out.new.items) }
+        ensures open { OnOk result (self.new.fault ≡ None) }
+        ensures limits { self.new.session.limits ≡ self.old.session.limits }
+        ensures refused { IfErr result (λ fault. self.old.fault ≡ None → PollRefused D.follows self.old fault self.new) }
+        ensures tables { OnErr result (self.new.session ≡ self.old.session) }
+        ensures held { OnErr result (self.new.intake.held ≡ []) }
+        ensures latches { IfErr result (λ fault. self.new.fault ≡ Some fault) }
+        ensures latched { IfSome self.old.fault (λ fault. (result ≡ Err fault) × (self.new ≡ self.old)) }
+        ensures apart { self.old.fault ≡ None → has_debuggee self.old.session.phase ≡ false → IsOk result }
+        ensures buffer { OnErr result (out.new.items ≡ out.old.items) }
+    {
         if let Some(fault) = self.fault {
             return Err(fault);
         }
@@ -237,8 +317,8 @@ impl<D: Debuggee + Drop> Adapter<D> {
         read_is_in_range();
         each_step_goes_on();
         each_step_stays_within();
-        match self.session.poll(alloc) {
-            Ok(bytes) => Ok(bytes),
+        match self.session.poll(alloc, out) {
+            Ok(()) => Ok(()),
             Err(fault) => {
                 self.close(fault);
                 Err(fault)
@@ -289,40 +369,40 @@ fn refused_by(fault: ReadFault) -> AdapterFault
     }
 }
 
-/// Takes bytes up to the end of a frame at most, and hands its message to the session.
+/// Takes bytes up to the end of a frame at most, and hands its message to the session, which appends to a buffer.
 fn receive<D: Debuggee + Drop>(
     alloc: Global,
     reader: &mut MessageReader,
     session: &mut Session<D>,
     piece: &[u8],
-) -> Result<Taken, AdapterFault>
+    out: &mut Vec<u8>,
+) -> Result<Came, AdapterFault>
     requires { reader.old.fault ≡ None }
     ensures bounds { reader.new.intake.bounds ≡ reader.old.intake.bounds }
     ensures open { OnOk result (reader.new.fault ≡ None) }
-    ensures received { IfOk result (λ taken. HasReceived D.follows reader.old.intake reader.new.intake session.old session.new piece.now taken taken.delivered) }
-    ensures progress { IfOk result (λ taken. 0 < length piece.now → 0 < taken.used) }
-    ensures within { IfOk result (λ taken. taken.used ≤ length piece.now) }
+    ensures received { IfOk result (λ came. AppendsSome (λ bytes. HasReceived D.follows reader.old.intake reader.new.intake session.old session.new piece.now came.used bytes came.delivered) out.old.items out.new.items) }
+    ensures progress { IfOk result (λ came. 0 < length piece.now → 0 < came.used) }
+    ensures within { IfOk result (λ came. came.used ≤ length piece.now) }
     ensures refused { IfErr result (λ fault. TakeRefused reader.old.intake session.old piece.now fault session.new.debuggee) }
     ensures err { OnErr result (session.new.session ≡ session.old.session) }
     ensures debuggee { IfErr result (λ fault. fault ≢ AdapterFault.OutOfMemory → session.new.debuggee ≡ session.old.debuggee) }
     ensures unasked { is_phase Asked session.old.session.phase ≡ false → OnErr result (session.new.debuggee ≡ session.old.debuggee) }
     ensures limits { session.new.session.limits ≡ session.old.session.limits }
+    ensures buffer { OnErr result (out.new.items ≡ out.old.items) }
 {
     let Next { used, message } = match reader.next(alloc, piece) {
         Ok(next) => next,
         Err(fault) => return Err(refused_by(fault)),
     };
     let Some(message) = message else {
-        return Ok(Taken {
+        return Ok(Came {
             used,
             delivered: None,
-            bytes: Vec::new(alloc),
         });
     };
-    let bytes = session.take(alloc, &message)?;
-    Ok(Taken {
+    session.take(alloc, &message, out)?;
+    Ok(Came {
         used,
         delivered: Some(message),
-        bytes,
     })
 }

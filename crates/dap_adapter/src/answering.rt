@@ -6,11 +6,13 @@ ghost use Rattle.dap_adapter.specs.Run.{to_take, to_poll, has_ended};
 ghost use Rattle.dap_session.specs.Polling.{has_debuggee};
 
 use crate::adapter::Adapter;
+use crate::outlet::Gathered;
 use crate::served::ServeFault;
 use crate::serving::{is_ended, polls, serve_piece};
 use dap_debuggee::Debuggee;
 use dap_session::{AdapterFault, Phase};
 use std::alloc::Global;
+use std::mem;
 
 /// The fault of an adapter that has no channel.
 fn adapter_fault(fault: ServeFault) -> AdapterFault
@@ -39,9 +41,8 @@ impl<D: Debuggee + Drop> Adapter<D> {
     /// and a later call uses nothing and appends nothing.
     ///
     /// # Errors
-    /// Those of `take`, `turn` and `poll`, as they come, and `OutOfMemory` where memory is refused for `out`: then the step
-    /// whose bytes found no room was made, and they are lost. At each, what was made before is in `out`, and the adapter is
-    /// closed: each later call answers the same fault.
+    /// Those of `take`, `turn` and `poll`, as they come; `OutOfMemory` too where memory is refused for `out`. At each, what was
+    /// made before the refused step is in `out`, and the adapter is closed: each later call answers the same fault.
     pub fn answer(
         &mut self,
         alloc: Global,
@@ -65,7 +66,10 @@ impl<D: Debuggee + Drop> Adapter<D> {
         if is_ended(self.phase()) {
             return Ok(true);
         }
-        match serve_piece(alloc, self, &mut (), out, piece) {
+        let mut gathered = Gathered::behind(mem::replace(out, Vec::new(alloc)));
+        let served = serve_piece(alloc, self, &mut (), &mut gathered, piece);
+        *out = gathered.into_buffer();
+        match served {
             Ok(ended) => Ok(ended),
             Err(fault) => {
                 let fault = adapter_fault(fault);
@@ -80,8 +84,8 @@ impl<D: Debuggee + Drop> Adapter<D> {
     /// program calls it when its debugger may have news: by a timer, or while it waits for input.
     ///
     /// # Errors
-    /// Those of `poll`, and `OutOfMemory` where memory is refused for `out`: then the events whose bytes found no room are
-    /// lost. At each, what was made before is in `out`, and the adapter is closed: each later call answers the same fault.
+    /// Those of `poll`; `OutOfMemory` too where memory is refused for `out`. At each, what was made before is in `out`, and the
+    /// adapter is closed: each later call answers the same fault.
     pub fn tell(&mut self, alloc: Global, out: &mut Vec<u8>) -> Result<(), AdapterFault>
         ensures tells { has_debuggee self.old.session.phase ≡ true → OnOk result (PollsOn D.shown D.follows self.old out.old.items self.new out.new.items) }
         ensures apart { self.old.fault ≡ None → has_debuggee self.old.session.phase ≡ false → IsOk result × (self.new ≡ self.old) × (out.new ≡ out.old) }
@@ -101,7 +105,10 @@ impl<D: Debuggee + Drop> Adapter<D> {
         if !is_in_a_run(self.phase()) {
             return Ok(());
         }
-        match polls(alloc, self, &mut (), out) {
+        let mut gathered = Gathered::behind(mem::replace(out, Vec::new(alloc)));
+        let told = polls(alloc, self, &mut (), &mut gathered);
+        *out = gathered.into_buffer();
+        match told {
             Ok(()) => Ok(()),
             Err(fault) => {
                 let fault = adapter_fault(fault);

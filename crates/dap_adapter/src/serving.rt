@@ -1,7 +1,7 @@
 //! A debuggee served over a channel.
-ghost use Rattle.std.specs.Prelude.{◌≡◌, ℕ, ◌+◌, ◌<◌, ◌≤◌, List, [], length, take, false, IfOk, OnOk, IfErr, IfNone, IfSome, None, Some, Result};
-ghost use Rattle.dap_message.specs.declared.message.Message.{Message};
+ghost use Rattle.std.specs.Prelude.{◌≡◌, ℕ, ◌+◌, ◌<◌, ◌≤◌, List, [], length, take, IsTrue, false, IfOk, OnOk, IfErr, Result};
 ghost use Rattle.dap_debuggee.specs.declared.answers.State.{State};
+ghost use Rattle.dap_session.specs.Session.{to_handle};
 ghost use Rattle.dap_session.specs.Table.{is_phase};
 ghost use Rattle.dap_session.specs.declared.phase.Phase.{Phase};
 ghost use Rattle.dap_adapter.specs.Run.{to_take, to_turn, to_poll, has_ended};
@@ -9,12 +9,11 @@ ghost use Rattle.dap_channel.specs.Channel.{IoEvent, Pipes, bytes_read, bytes_wr
 ghost use Rattle.dap_adapter.specs.declared.served.Served.{Served};
 ghost use Rattle.dap_adapter.specs.declared.served.ServeFault.{ServeFault};
 ghost use Rattle.dap_adapter.specs.Served.{Start, Serves, ServesBytes, Comes, ReadsInTurn, AreSmall, HasReason};
-ghost use Rattle.dap_adapter.specs.PrivateServing.{served_by, progress_of, place_at, way_of, point_of, Reaches, Leads, Breaks, LeadsAfter, BreaksAfter, Quietly, Uses, UsesUp, EndsIn, serve_fault_of};
+ghost use Rattle.dap_adapter.specs.PrivateServing.{served_by, progress_of, place_at, way_of, point_of, Reaches, Leads, Breaks, Quietly, next_after, next_if, Uses, UsesUp, EndsIn, serve_fault_of};
 
 use crate::adapter::Adapter;
 use crate::outlet::{Outgoing, Outlet};
 use crate::served::{ServeFault, Served};
-use crate::taken::{Taken, Turned};
 use dap_channel::{Channel, Pipe, calls_add_up, calls_are_the_log, pipes_tell_their_bytes};
 use dap_debuggee::Debuggee;
 use dap_frame::{End, Limits, each_stream_has_one_split};
@@ -66,6 +65,35 @@ fn serve_fault(fault: AdapterFault) -> ServeFault
     }
 }
 
+/// Handles the request that is next, and hands out what is written: whether there was one.
+fn turn_out<C, S: Outgoing<C>, D: Debuggee + Drop>(
+    alloc: Global,
+    adapter: &mut Adapter<D>,
+    channel: &mut C,
+    sink: &mut S,
+) -> Result<bool, ServeFault>
+    ensures done { IfOk result (λ done. IsTrue done → Leads (way_of S.puts S.refuses D.shown D.follows) (point_of channel.old sink.old adapter.old) to_turn [] (point_of channel.new sink.new adapter.new) to_turn) }
+    ensures idle { IfOk result (λ done. done ≡ false → Leads (way_of S.puts S.refuses D.shown D.follows) (point_of channel.old sink.old adapter.old) to_turn [] (point_of channel.new sink.new adapter.new) (to_poll 0)) }
+    ensures fewer { IfOk result (λ done. IsTrue done → to_handle adapter.new.session.kept < to_handle adapter.old.session.kept) }
+    ensures halts { IfErr result (λ fault. (piece : List ℕ) → Breaks (way_of S.puts S.refuses D.shown D.follows) (point_of channel.old sink.old adapter.old) to_turn piece (point_of channel.new sink.new adapter.new) fault) }
+{
+    let mut buffer = sink.lend(alloc);
+    match adapter.turn_into(alloc, &mut buffer) {
+        Ok(true) => match sink.put(channel, buffer) {
+            Ok(()) => Ok(true),
+            Err(fault) => Err(fault),
+        },
+        Ok(false) => {
+            sink.restore(buffer);
+            Ok(false)
+        }
+        Err(fault) => {
+            sink.restore(buffer);
+            Err(serve_fault(fault))
+        }
+    }
+}
+
 /// Handles all requests that are kept and not parked.
 fn turns<C, S: Outgoing<C>, D: Debuggee + Drop>(
     alloc: Global,
@@ -77,14 +105,35 @@ fn turns<C, S: Outgoing<C>, D: Debuggee + Drop>(
     ensures halts { IfErr result (λ fault. (piece : List ℕ) → Breaks (way_of S.puts S.refuses D.shown D.follows) (point_of channel.old sink.old adapter.old) to_turn piece (point_of channel.new sink.new adapter.new) fault) }
 {
     'turns: loop {
-        let bytes = match adapter.turn(alloc) {
-            Ok(Turned::Idle) => return Ok(()),
-            Ok(Turned::Done { bytes }) => bytes,
-            Err(fault) => return Err(serve_fault(fault)),
-        };
-        if let Err(fault) = sink.put(channel, &bytes) {
-            return Err(fault);
+        match turn_out(alloc, adapter, channel, sink) {
+            Ok(true) => {}
+            Ok(false) => return Ok(()),
+            Err(fault) => return Err(fault),
         }
+    }
+}
+
+/// Asks the debuggee once what happened, and hands out what is told: whether more may be due.
+fn poll_out<C, S: Outgoing<C>, D: Debuggee + Drop>(
+    alloc: Global,
+    adapter: &mut Adapter<D>,
+    channel: &mut C,
+    sink: &mut S,
+) -> Result<bool, ServeFault>
+    ensures goes { IfOk result (λ more. (asks : ℕ) → Quietly (way_of S.puts S.refuses D.shown D.follows) (point_of channel.old sink.old adapter.old) (to_poll asks) (point_of channel.new sink.new adapter.new) (next_after more asks)) }
+    ensures halts { IfErr result (λ fault. (asks : ℕ) (piece : List ℕ) → Breaks (way_of S.puts S.refuses D.shown D.follows) (point_of channel.old sink.old adapter.old) (to_poll asks) piece (point_of channel.new sink.new adapter.new) fault) }
+    ensures intake { OnOk result (adapter.new.intake ≡ adapter.old.intake) }
+{
+    let mut buffer = sink.lend(alloc);
+    let before = buffer.len();
+    if let Err(fault) = adapter.poll_into(alloc, &mut buffer) {
+        sink.restore(buffer);
+        return Err(serve_fault(fault));
+    }
+    let tells = buffer.len() > before;
+    match sink.put(channel, buffer) {
+        Ok(()) => Ok(tells && !is_stopped(adapter.phase())),
+        Err(fault) => Err(fault),
     }
 }
 
@@ -100,60 +149,63 @@ pub(crate) fn polls<C, S: Outgoing<C>, D: Debuggee + Drop>(
     ensures intake { OnOk result (adapter.new.intake ≡ adapter.old.intake) }
 {
     for _poll in 0..MAX_POLLS {
-        let bytes = match adapter.poll(alloc) {
-            Ok(bytes) => bytes,
-            Err(fault) => return Err(serve_fault(fault)),
-        };
-        if let Err(fault) = sink.put(channel, &bytes) {
-            return Err(fault);
-        }
-        if bytes.is_empty() {
-            return Ok(());
-        }
-        if is_stopped(adapter.phase()) {
-            return Ok(());
+        match poll_out(alloc, adapter, channel, sink) {
+            Ok(true) => {}
+            Ok(false) => return Ok(()),
+            Err(fault) => return Err(fault),
         }
     }
     Ok(())
 }
 
-/// Hands out the bytes of a message that was taken, handles all requests, and tells what happened.
+/// Uses the bytes of a piece up to the end of a frame at most, and hands out what its message leads to at once. It answers how
+/// many were used, and whether a message came.
+fn take_out<C, S: Outgoing<C>, D: Debuggee + Drop>(
+    alloc: Global,
+    adapter: &mut Adapter<D>,
+    channel: &mut C,
+    sink: &mut S,
+    piece: &[u8],
+) -> Result<(usize, bool), ServeFault>
+    ensures some { IfOk result (λ taken. 0 < length piece.now → 0 < taken.0) }
+    ensures within { IfOk result (λ taken. taken.0 ≤ length piece.now) }
+    ensures came { IfOk result (λ taken. has_ended adapter.old.session ≡ false → Leads (way_of S.puts S.refuses D.shown D.follows) (point_of channel.old sink.old adapter.old) to_take (take taken.0 piece.now) (point_of channel.new sink.new adapter.new) (next_if taken.1)) }
+    ensures halts { IfErr result (λ fault. has_ended adapter.old.session ≡ false → Breaks (way_of S.puts S.refuses D.shown D.follows) (point_of channel.old sink.old adapter.old) to_take piece.now (point_of channel.new sink.new adapter.new) fault) }
+{
+    // A law for the proof: what was read is one list of frames.
+    each_stream_has_one_split();
+    let mut buffer = sink.lend(alloc);
+    match adapter.take_into(alloc, piece, &mut buffer) {
+        Ok(came) => {
+            let taken = (came.used, came.delivered.is_some());
+            match sink.put(channel, buffer) {
+                Ok(()) => Ok(taken),
+                Err(fault) => Err(fault),
+            }
+        }
+        Err(fault) => {
+            sink.restore(buffer);
+            Err(serve_fault(fault))
+        }
+    }
+}
+
+/// Handles all requests, and tells what happened.
 fn handle<C, S: Outgoing<C>, D: Debuggee + Drop>(
     alloc: Global,
     adapter: &mut Adapter<D>,
     channel: &mut C,
     sink: &mut S,
-    bytes: &[u8],
 ) -> Result<(), ServeFault>
-    ensures handled { OnOk result (LeadsAfter (way_of S.puts S.refuses D.shown D.follows) (point_of channel.old sink.old adapter.old) bytes.now (point_of channel.new sink.new adapter.new)) }
-    ensures halts { IfErr result (BreaksAfter (way_of S.puts S.refuses D.shown D.follows) (point_of channel.old sink.old adapter.old) bytes.now (point_of channel.new sink.new adapter.new)) }
+    ensures handled { OnOk result (Leads (way_of S.puts S.refuses D.shown D.follows) (point_of channel.old sink.old adapter.old) to_turn [] (point_of channel.new sink.new adapter.new) to_take) }
+    ensures halts { IfErr result (λ fault. (piece : List ℕ) → Breaks (way_of S.puts S.refuses D.shown D.follows) (point_of channel.old sink.old adapter.old) to_turn piece (point_of channel.new sink.new adapter.new) fault) }
 {
-    if let Err(fault) = sink.put(channel, bytes) {
-        return Err(fault);
-    }
     if let Err(fault) = turns(alloc, adapter, channel, sink) {
         return Err(fault);
     }
     match polls(alloc, adapter, channel, sink) {
         Ok(()) => Ok(()),
         Err(fault) => Err(fault),
-    }
-}
-
-/// How many bytes were used, and what is to be written if a message was delivered.
-fn handed_out(taken: Taken) -> (usize, Option<Vec<u8>>)
-    ensures used { result.0 ≡ taken.used }
-    ensures none { IfNone result.1 (taken.delivered ≡ None) }
-    ensures some { IfSome result.1 (λ bytes. (m : Message) × (taken.delivered ≡ Some m) × (bytes ≡ taken.bytes)) }
-{
-    let Taken {
-        used,
-        delivered,
-        bytes,
-    } = taken;
-    match delivered {
-        None => (used, None),
-        Some(_) => (used, Some(bytes)),
     }
 }
 
@@ -170,16 +222,10 @@ fn serve_frame<C, S: Outgoing<C>, D: Debuggee + Drop>(
     ensures uses { IfOk result (λ k. has_ended adapter.old.session ≡ false → Leads (way_of S.puts S.refuses D.shown D.follows) (point_of channel.old sink.old adapter.old) to_take (take k piece.now) (point_of channel.new sink.new adapter.new) to_take) }
     ensures halts { IfErr result (λ fault. has_ended adapter.old.session ≡ false → Breaks (way_of S.puts S.refuses D.shown D.follows) (point_of channel.old sink.old adapter.old) to_take piece.now (point_of channel.new sink.new adapter.new) fault) }
 {
-    // A law for the proof: what was read is one list of frames.
-    each_stream_has_one_split();
-    let taken = match adapter.take(alloc, piece) {
-        Ok(taken) => taken,
-        Err(fault) => return Err(serve_fault(fault)),
-    };
-    let (used, handed) = handed_out(taken);
-    match handed {
-        None => Ok(used),
-        Some(bytes) => match handle(alloc, adapter, channel, sink, &bytes) {
+    match take_out(alloc, adapter, channel, sink, piece) {
+        Err(fault) => Err(fault),
+        Ok((used, false)) => Ok(used),
+        Ok((used, true)) => match handle(alloc, adapter, channel, sink) {
             Ok(()) => Ok(used),
             Err(fault) => Err(fault),
         },
@@ -220,7 +266,7 @@ fn serve_read<C: Channel, D: Debuggee + Drop>(
     piece: &[u8],
 ) -> Result<bool, ServeFault>
     ensures uses_up { IfOk result (Uses (served_by C.goes D.shown D.follows) (progress_of channel.old adapter.old outlet.old) (progress_of channel.new adapter.new outlet.new) piece.now) }
-    ensures none_left { OnOk result (outlet.new.gathered.items ≡ []) }
+    ensures none_left { OnOk result (outlet.new.gathered ≡ []) }
     ensures stops { IfErr result (EndsIn (served_by C.goes D.shown D.follows) (progress_of channel.old adapter.old outlet.old) channel.new piece.now) }
 {
     calls_add_up::<C>();
@@ -248,7 +294,7 @@ fn serve_reads<C: Channel, D: Debuggee + Drop>(
     max_reads: u64,
 ) -> Result<Served, ServeFault>
     requires going { has_ended adapter.old.session ≡ false }
-    requires none { outlet.old.gathered.items ≡ [] }
+    requires none { outlet.old.gathered ≡ [] }
     ensures { (b : Start C D) → max_reads ≡ b.most → Reaches (served_by C.goes D.shown D.follows b) (progress_of channel.old adapter.old outlet.old) (place_at 0 [] [] []) to_take → Serves C.goes D.shown D.follows b channel.new result }
 {
     let mut buffer = [0; 4096];

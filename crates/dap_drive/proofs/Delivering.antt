@@ -14,7 +14,8 @@ use Rattle.dap_message.specs.Refusals.{Bad}
 use Rattle.dap_message.specs.declared.fault.BodyRefusal.{BodyRefusal}
 use Rattle.dap_message.specs.declared.message.Message.{Message}
 use Rattle.dap_session.specs.Carried.{CarriedOut}
-use Rattle.dap_session.specs.Plan.{Plan, written_by, bytes_of, entries_of}
+use Rattle.dap_session.specs.Plan.{Plan, written_by, entries_of}
+use Rattle.dap_outbox.specs.Draft.{bytes_of}
 use Rattle.dap_session.specs.SessionState.{SessionState, SessionStep}
 use Rattle.dap_session.specs.Session.{Session}
 use Rattle.dap_session.specs.Taking.{takes}
@@ -308,7 +309,7 @@ module _ {D : Type 0} (laws : FrameLaws) (drive : Driving D) (agrees : EachSched
       first_whole laws drive.limits ends.adapter.intake a.came a.stands.received.bodies x xs rest n (adapter_bounds laws drive.limits ends.adapter h.world.adapter a) (adapter_stream laws drive.limits ends.adapter h.world.adapter a) (subst (λ (z : List Message). AreFramesOf drive.limits z rest) first h.up_is) read.0 w
 
   up_delivered : (ends : BothEnds D) (next : AdapterState D) (rest down : List ℕ) (h : At ends rest down) → (x : Message) (xs : List Message) → h.world.up ≡ x ∷ xs
-      → (taken : Taken) (m : Message) → AdapterDelivers drive.follows ends.adapter rest taken m next → next.session.limits ≡ ends.adapter.session.limits
+      → (taken : Taken) (m : Message) → AdapterDelivers drive.follows ends.adapter rest taken.used taken.bytes.items m next → next.session.limits ≡ ends.adapter.session.limits
       → (later : Intake) (longer_transcript : List ℕ) → WritesLines drive.limits later Adapter taken.bytes.items ends.transcript longer_transcript
       → At (record ends { adapter = next; reader = later; transcript = longer_transcript }) (drop taken.used rest) (down ++ taken.bytes.items)
   up_delivered ends next rest down h x xs first taken m d keeps later longer_transcript w =
@@ -358,7 +359,7 @@ module _ {D : Type 0} (laws : FrameLaws) (drive : Driving D) (agrees : EachSched
       }
 
   pub took_up : (ends : BothEnds D) (next : AdapterState D) (rest down : List ℕ) → At ends rest down
-      → 0 < length rest → (taken : Taken) (delivered : Option Message) → AdapterTakes drive.follows ends.adapter rest taken delivered next → next.session.limits ≡ ends.adapter.session.limits
+      → 0 < length rest → (taken : Taken) (delivered : Option Message) → AdapterTakes drive.follows ends.adapter rest taken.used taken.bytes.items delivered next → next.session.limits ≡ ends.adapter.session.limits
       → (later : Intake) (longer_transcript : List ℕ) → (IsBetween drive.limits ends.reader → WritesLines drive.limits later Adapter taken.bytes.items ends.transcript longer_transcript)
       → At (record ends { adapter = next; reader = later; transcript = longer_transcript }) (drop taken.used rest) (down ++ taken.bytes.items)
   took_up ends next rest down h some taken None t keeps later longer_transcript w =
@@ -370,7 +371,7 @@ module _ {D : Type 0} (laws : FrameLaws) (drive : Driving D) (agrees : EachSched
       up_delivered ends next rest down h first.0 first.1 first.2 taken m t keeps later longer_transcript (w h.at.reader_at)
 
   pub served : (ends : BothEnds D) (next : AdapterState D) (rest down : List ℕ) → At ends rest down
-      → 0 < length rest → (taken : Taken) (delivered : Option Message) → AdapterTakes drive.follows ends.adapter rest taken delivered next → next.session.limits ≡ ends.adapter.session.limits
+      → 0 < length rest → (taken : Taken) (delivered : Option Message) → AdapterTakes drive.follows ends.adapter rest taken.used taken.bytes.items delivered next → next.session.limits ≡ ends.adapter.session.limits
       → (later : Intake) (longer_transcript bytes more : List ℕ) (n : ℕ) → n ≡ taken.used → bytes ≡ taken.bytes.items → more ≡ down ++ bytes → (IsBetween drive.limits ends.reader → WritesLines drive.limits later Adapter bytes ends.transcript longer_transcript)
       → At (record ends { adapter = next; reader = later; transcript = longer_transcript }) (drop n rest) more
   served ends next rest down h some taken delivered t keeps later longer_transcript bytes more n used is sum w =
@@ -387,7 +388,7 @@ module _ {D : Type 0} (laws : FrameLaws) (drive : Driving D) (agrees : EachSched
       let p = h.world.adapter in
       not_unwritten laws drive.limits (written_by p.session s.session.made) given ends.reader h.at.in_range (step_within ends.adapter next p a plan used came bytes s) (is ∙ step_bytes ends.adapter next p a plan used came bytes s) h.at.reader_at refuses
 
-  pub served_framed : (ends : BothEnds D) (next : AdapterState D) (rest down : List ℕ) → At ends rest down → (taken : Taken) (delivered : Option Message) → AdapterTakes drive.follows ends.adapter rest taken delivered next
+  pub served_framed : (ends : BothEnds D) (next : AdapterState D) (rest down : List ℕ) → At ends rest down → (taken : Taken) (delivered : Option Message) → AdapterTakes drive.follows ends.adapter rest taken.used taken.bytes.items delivered next
       → (bytes : List ℕ) → bytes ≡ taken.bytes.items → IsUnwritten unwritten.Frames ends.reader bytes → ⊥
   served_framed ends next rest down h taken None t bytes is refuses = not_unwritten laws drive.limits [] bytes ends.reader h.at.in_range tt (is ∙ t.none_written) h.at.reader_at refuses
   served_framed ends next rest down h taken (Some m) t bytes is refuses = step_framed ends next rest down h t.plan (take taken.used rest) (In m ∷ []) taken.bytes.items t.step bytes is refuses

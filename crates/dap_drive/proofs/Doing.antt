@@ -16,7 +16,8 @@ use Rattle.dap_message.specs.PlainCall.{is_plain_call}
 use Rattle.dap_message.specs.Types.Call.{Call}
 use Rattle.dap_session.specs.Handling.{turns}
 use Rattle.dap_session.specs.Carried.{CarriedOut}
-use Rattle.dap_session.specs.Plan.{Plan, Made, written_by, bytes_of}
+use Rattle.dap_session.specs.Plan.{Plan, Made, written_by}
+use Rattle.dap_outbox.specs.Draft.{bytes_of}
 use Rattle.dap_session.specs.Polling.{polls}
 use Rattle.dap_session.specs.SessionState.{SessionState}
 use Rattle.dap_session.specs.Session.{Session, to_handle, fresh_session as fresh_adapter}

@@ -6,7 +6,8 @@ use Rattle.dap_history.specs.History.{Entry}
 use Rattle.dap_debuggee.specs.Shown.{Shown}
 use Rattle.dap_message.specs.Types.Call.{Call as TheCall}
 use Rattle.dap_session.specs.Carried.{Goes}
-use Rattle.dap_session.specs.Plan.{written_by, bytes_of}
+use Rattle.dap_session.specs.Plan.{written_by}
+use Rattle.dap_outbox.specs.Draft.{bytes_of}
 use Rattle.dap_session.specs.SessionState.{SessionState}
 use Rattle.dap_session.specs.Session.{to_handle}
 use Rattle.dap_session.specs.Table.{is_phase}

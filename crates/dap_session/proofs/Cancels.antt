@@ -5,7 +5,7 @@ use Rattle.dap_message.specs.Types.Failure.TheVariants.{Cancelled}
 use Rattle.dap_tables.specs.Outstanding.{Kept, contains_seq, entry_with, is_parked, HasDistinctSeqs}
 use Rattle.dap_tables.specs.declared.entry.Entry.{Entry}
 use Rattle.dap_session.specs.Handling.{answer_each}
-use Rattle.dap_session.specs.Plan.{failure, plain_success, reply}
+use Rattle.dap_outbox.specs.Draft.{failure, plain_success, reply}
 use Rattle.dap_session.specs.SessionState.{NamesNone, NamesOne}
 use Rattle.dap_session.specs.Session.{Session}
 use Rattle.dap_session.specs.Taking.{after_cancel}

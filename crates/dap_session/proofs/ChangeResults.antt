@@ -32,10 +32,10 @@ use Rattle.dap_session.specs.Carried.{Goes}
 use Rattle.dap_session.specs.Handling.{Change, ChangeResult, after_change, answers_to, lines_asked, lines_change, lines_result, value_change, assigned_result, value_result}
 use Rattle.dap_session.specs.Session.{Session}
 use Rattle.dap_session.specs.SessionState.{SessionState, Carries}
-use Rattle.dap_session.specs.declared.outbox.Outbox.{Outbox}
 use Rattle.dap_session.specs.declared.effect.Effect.{Effect}
 use Rattle.dap_session.specs.declared.effect.Effect.TheVariants as effect
 use Rattle.dap_session.specs.declared.phase.Phase.{Phase}
+use Rattle.dap_outbox.specs.Outbox.{OutboxState}
 use Rattle.dap_session.specs.PrivateChanging.{AreLines, IsChange, Suits, IsMeasured, Changes}
 use Rattle.dap_session.specs.Table.{Row, rows_of, effect_in, is_among}
 
@@ -217,8 +217,8 @@ value-told view s asked o holder name text a is n t told =
 
 -- ---- a change that is made
 
-pub change-carries : {D : Type 0} (follows : Goes D) (due : ChangeResult) (old mid new : SessionState D) (r : Entry) (outbox : Outbox) (bytes : List ℕ) → (m : IsMeasured due old.session r outbox) → Changes follows due old mid
-    → new ≡ record mid { session = record mid.session { kept = without r.seq mid.session.kept; used = outbox.numbers.used } } → bytes ≡ outbox.bytes.items → Carries follows (after_change old.session r due) old new bytes
+pub change-carries : {D : Type 0} (follows : Goes D) (due : ChangeResult) (old mid new : SessionState D) (r : Entry) (outbox : OutboxState) (bytes : List ℕ) → (m : IsMeasured due old.session r outbox) → Changes follows due old mid
+    → new ≡ record mid { session = record mid.session { kept = without r.seq mid.session.kept; used = outbox.numbers.used } } → bytes ≡ outbox.bytes → Carries follows (after_change old.session r due) old new bytes
 change-carries follows due old mid new r outbox bytes m c n b =
     let same : m.change ≡ c.change = (let e = sym m.is ∙ c.is in cc) in
     let debuggee : new.debuggee ≡ mid.debuggee = ap (λ (x : SessionState _). x.debuggee) n in

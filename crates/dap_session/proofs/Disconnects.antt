@@ -13,12 +13,12 @@ use Rattle.dap_session.specs.declared.phase.Phase.TheVariants.{Ended}
 use Rattle.dap_session.specs.declared.fault.AdapterFault.{AdapterFault}
 use Rattle.dap_session.specs.declared.fault.AdapterFault.TheVariants.{SeqExhausted}
 use Rattle.dap_session.specs.SessionState.{SessionState, MadeBy, IsRefusedFor}
-use Rattle.dap_session.specs.Plan.{Plan, messages_due, Answer, Draft, failure, plain_success, reply}
+use Rattle.dap_session.specs.Plan.{Plan, messages_due}
+use Rattle.dap_outbox.specs.Draft.{Answer, Draft, failure, plain_success, reply}
 use Rattle.dap_session.specs.Session.{Session}
 use Rattle.dap_session.specs.Taking.{after_terminal}
-use Rattle.dap_session.specs.PrivateSeveral.{answer_where, WritesAll}
-use Rattle.dap_session.specs.PrivateOutbox.{Holds, AppendsDraft}
-use Rattle.dap_session.specs.declared.outbox.Outbox.{Outbox}
+use Rattle.dap_outbox.specs.Several.{answer_where, WritesAll}
+use Rattle.dap_outbox.specs.Outbox.{OutboxState, Holds, AppendsDraft}
 use Rattle.dap_session.proofs.Rows.{length-each}
 use Rattle.dap_session.proofs.SeveralAnswers.{answers-kept, others-kept, length-without, answers-parked, count-parked, parked-without}
 
@@ -38,10 +38,10 @@ count-answers passes answer rs = length-map (filter (λ (r : Entry). passes r.se
 room-after_disconnect : (seq : ℕ) (kept : List Kept) → HasDistinctSeqs kept → contains_seq seq kept ≡ true → length (filter (λ (r : Entry). not (r.seq == seq)) (entries kept)) + 1 ≡ length kept
 room-after_disconnect seq kept d h = let e = others-kept seq kept in let one = length-without seq kept d h in omega arith
 
-pub room-first : (seq : ℕ) (kept : List Kept) (fresh : Outbox) (limit used last : ℕ) → HasDistinctSeqs kept → contains_seq seq kept ≡ true → Holds fresh limit used [] → fresh.numbers.last ≡ last → used + length kept ≤ last → fresh.numbers.used + length (filter (λ (r : Entry). not (r.seq == seq)) (entries kept)) ≤ fresh.numbers.last
+pub room-first : (seq : ℕ) (kept : List Kept) (fresh : OutboxState) (limit used last : ℕ) → HasDistinctSeqs kept → contains_seq seq kept ≡ true → Holds fresh limit used [] → fresh.numbers.last ≡ last → used + length kept ≤ last → fresh.numbers.used + length (filter (λ (r : Entry). not (r.seq == seq)) (entries kept)) ≤ fresh.numbers.last
 room-first seq kept fresh limit used last d c h l room = let others = room-after_disconnect seq kept d c in let count = h.count in omega arith
 
-pub room-last : (seq : ℕ) (kept : List Kept) (fresh mid : Outbox) (limit used last : ℕ) → HasDistinctSeqs kept → contains_seq seq kept ≡ true → Holds fresh limit used [] → fresh.numbers.last ≡ last → used + length kept ≤ last → WritesAll fresh mid (answer_where (λ n. not (n == seq)) (failure Cancelled) (entries kept)) → mid.numbers.used < mid.numbers.last
+pub room-last : (seq : ℕ) (kept : List Kept) (fresh mid : OutboxState) (limit used last : ℕ) → HasDistinctSeqs kept → contains_seq seq kept ≡ true → Holds fresh limit used [] → fresh.numbers.last ≡ last → used + length kept ≤ last → WritesAll fresh mid (answer_where (λ n. not (n == seq)) (failure Cancelled) (entries kept)) → mid.numbers.used < mid.numbers.last
 room-last seq kept fresh mid limit used last d c h l room w =
     let others = room-after_disconnect seq kept d c in
     let drafts = count-answers (λ n. not (n == seq)) (failure Cancelled) (entries kept) in
@@ -49,7 +49,7 @@ room-last seq kept fresh mid limit used last d c h l room w =
     let same = w.last in
     omega arith
 
-pub holds-after_disconnect : (s : Session) (r : Entry) (fresh mid last : Outbox) (limit : ℕ) → Holds fresh limit s.used [] → WritesAll fresh mid (answer_where (λ seq. not (seq == r.seq)) (failure Cancelled) (entries s.kept)) → AppendsDraft max_fixed mid last (reply r plain_success) → Holds last limit s.used (after_disconnect s r).drafts
+pub holds-after_disconnect : (s : Session) (r : Entry) (fresh mid last : OutboxState) (limit : ℕ) → Holds fresh limit s.used [] → WritesAll fresh mid (answer_where (λ seq. not (seq == r.seq)) (failure Cancelled) (entries s.kept)) → AppendsDraft max_fixed mid last (reply r plain_success) → Holds last limit s.used (after_disconnect s r).drafts
 holds-after_disconnect s r fresh mid last limit h w v =
     let so_far : Holds mid limit s.used (answer_each (failure Cancelled) (without r.seq s.kept)) = subst (λ (ds : List Draft). Holds mid limit s.used ds) (answers-kept r.seq (failure Cancelled) s.kept) (w.holds limit s.used [] h) in
     v.holds limit s.used (answer_each (failure Cancelled) (without r.seq s.kept)) so_far.room so_far
@@ -61,10 +61,10 @@ messages_due-started s r last h =
     let same = ap (λ (ks : List Kept). length ks) (parked-without r.seq s.kept h) in
     omega arith
 
-pub room-started : (kept : List Kept) (one : Outbox) (limit used last : ℕ) (r : Entry) → HasDistinctSeqs kept → Holds one limit used (reply r plain_success ∷ []) → one.numbers.last ≡ last → used + (1 + length (parked_ones kept)) ≤ last → one.numbers.used + length (filter (λ (x : Entry). is_parked x.seq kept) (entries kept)) ≤ one.numbers.last
+pub room-started : (kept : List Kept) (one : OutboxState) (limit used last : ℕ) (r : Entry) → HasDistinctSeqs kept → Holds one limit used (reply r plain_success ∷ []) → one.numbers.last ≡ last → used + (1 + length (parked_ones kept)) ≤ last → one.numbers.used + length (filter (λ (x : Entry). is_parked x.seq kept) (entries kept)) ≤ one.numbers.last
 room-started kept one limit used last r d h l room = let others = count-parked kept d in let count = h.count in omega arith
 
-pub holds-started : (s : Session) (r : Entry) (last : Reply) (answer : Answer) (one all : Outbox) (limit : ℕ) → HasDistinctSeqs s.kept → is_parked r.seq s.kept ≡ false → Holds one limit s.used (reply r plain_success ∷ []) → WritesAll one all (answer_where (λ seq. is_parked seq s.kept) answer (entries s.kept)) → Holds all limit s.used (reply r plain_success ∷ answer_each answer (parked_ones (without r.seq s.kept)))
+pub holds-started : (s : Session) (r : Entry) (last : Reply) (answer : Answer) (one all : OutboxState) (limit : ℕ) → HasDistinctSeqs s.kept → is_parked r.seq s.kept ≡ false → Holds one limit s.used (reply r plain_success ∷ []) → WritesAll one all (answer_where (λ seq. is_parked seq s.kept) answer (entries s.kept)) → Holds all limit s.used (reply r plain_success ∷ answer_each answer (parked_ones (without r.seq s.kept)))
 holds-started s r last answer one all limit d h o w =
     subst (λ (ds : List Draft). Holds all limit s.used (reply r plain_success ∷ ds)) (answers-parked answer s.kept d ∙ ap (λ (ks : List Kept). answer_each answer ks) (sym (parked-without r.seq s.kept h))) (w.holds limit s.used (reply r plain_success ∷ []) o)
 
@@ -75,10 +75,10 @@ count-started s r last = let each = length-each (by_reply None last) (parked_one
 pub count-terminal : (s : Session) (last : Reply) → length (after_terminal s last).drafts ≡ length (parked_ones s.kept)
 count-terminal s last = length-each (by_reply None last) (parked_ones s.kept)
 
-pub room-terminal : (kept : List Kept) (fresh : Outbox) (limit used last : ℕ) → HasDistinctSeqs kept → Holds fresh limit used [] → fresh.numbers.last ≡ last → used + length (parked_ones kept) ≤ last → fresh.numbers.used + length (filter (λ (x : Entry). is_parked x.seq kept) (entries kept)) ≤ fresh.numbers.last
+pub room-terminal : (kept : List Kept) (fresh : OutboxState) (limit used last : ℕ) → HasDistinctSeqs kept → Holds fresh limit used [] → fresh.numbers.last ≡ last → used + length (parked_ones kept) ≤ last → fresh.numbers.used + length (filter (λ (x : Entry). is_parked x.seq kept) (entries kept)) ≤ fresh.numbers.last
 room-terminal kept fresh limit used last d h l room = let others = count-parked kept d in let count = h.count in omega arith
 
-pub holds-terminal : (s : Session) (answer : Answer) (fresh all : Outbox) (limit : ℕ) → HasDistinctSeqs s.kept → Holds fresh limit s.used [] → WritesAll fresh all (answer_where (λ seq. is_parked seq s.kept) answer (entries s.kept)) → Holds all limit s.used (answer_each answer (parked_ones s.kept))
+pub holds-terminal : (s : Session) (answer : Answer) (fresh all : OutboxState) (limit : ℕ) → HasDistinctSeqs s.kept → Holds fresh limit s.used [] → WritesAll fresh all (answer_where (λ seq. is_parked seq s.kept) answer (entries s.kept)) → Holds all limit s.used (answer_each answer (parked_ones s.kept))
 holds-terminal s answer fresh all limit d o w = subst (λ (ds : List Draft). Holds all limit s.used ds) (answers-parked answer s.kept d) (w.holds limit s.used [] o)
 
 -- ---- more messages than own numbers
@@ -91,16 +91,16 @@ refused-for fault plan old n e h d = rw (e, d) (h, refl)
 count-disconnected : (s : Session) (r : Entry) → length (after_disconnect s r).drafts ≡ length (without r.seq s.kept) + 1
 count-disconnected s r = length-append (answer_each (failure Cancelled) (without r.seq s.kept)) (reply r plain_success ∷ []) ∙ ap (λ (n : ℕ). n + 1) (length-each (failure Cancelled) (without r.seq s.kept))
 
-pub disconnect-made : (s : Session) (r : Entry) (outbox : Outbox) (new : Session) (bytes : List ℕ) → Holds outbox s.limits.body s.used (after_disconnect s r).drafts
-    → new ≡ record s { phase = Ended; kept = []; references = without_references s.references; used = outbox.numbers.used } → bytes ≡ outbox.bytes.items → MadeBy (after_disconnect s r) s new bytes
+pub disconnect-made : (s : Session) (r : Entry) (outbox : OutboxState) (new : Session) (bytes : List ℕ) → Holds outbox s.limits.body s.used (after_disconnect s r).drafts
+    → new ≡ record s { phase = Ended; kept = []; references = without_references s.references; used = outbox.numbers.used } → bytes ≡ outbox.bytes → MadeBy (after_disconnect s r) s new bytes
 disconnect-made s r outbox new bytes h n b =
     record {
       session = n ∙ ap (λ (u : ℕ). let x : Session = record s { phase = Ended; kept = []; references = without_references s.references; used = u } in x) (h.count ∙ ap (λ (k : ℕ). s.used + k) (count-disconnected s r));
       tells = record { bytes_are = b ∙ h.bytes; reads_back = h.reads_back };
     }
 
-pub terminal-made : (s : Session) (last : Reply) (outbox : Outbox) (new : Session) (bytes : List ℕ) → Holds outbox s.limits.body s.used (after_terminal s last).drafts
-    → new ≡ record s { phase = start_phase last; kept = unparked_ones s.kept; asked = None; used = outbox.numbers.used } → bytes ≡ outbox.bytes.items → MadeBy (after_terminal s last) s new bytes
+pub terminal-made : (s : Session) (last : Reply) (outbox : OutboxState) (new : Session) (bytes : List ℕ) → Holds outbox s.limits.body s.used (after_terminal s last).drafts
+    → new ≡ record s { phase = start_phase last; kept = unparked_ones s.kept; asked = None; used = outbox.numbers.used } → bytes ≡ outbox.bytes → MadeBy (after_terminal s last) s new bytes
 terminal-made s last outbox new bytes h n b =
     record {
       session = n ∙ ap (λ (u : ℕ). let x : Session = record s { phase = start_phase last; kept = unparked_ones s.kept; asked = None; used = u } in x) (h.count ∙ ap (λ (k : ℕ). s.used + k) (count-terminal s last));

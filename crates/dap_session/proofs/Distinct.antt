@@ -6,7 +6,7 @@ use Rattle.dap_history.specs.Requests.{asked_of, asks}
 use Rattle.dap_tables.specs.Outstanding.{Kept, contains_seq, HasDistinctSeqs}
 use Rattle.dap_tables.specs.declared.entry.Entry.{Entry as Request}
 use Rattle.dap_session.specs.Answering.{answered_by, open_after}
-use Rattle.dap_session.specs.Plan.{Draft}
+use Rattle.dap_outbox.specs.Draft.{Draft}
 use Rattle.dap_session.proofs.Kept.{false-left, false-right, both-false, same-seq, length-filtered}
 
 abbrev pub has_seq : ℕ → List Asked → Bool

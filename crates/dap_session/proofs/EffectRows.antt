@@ -15,7 +15,8 @@ use Rattle.dap_session.specs.declared.effect.Effect.{Effect}
 use Rattle.dap_session.specs.declared.effect.Effect.TheVariants as effect
 use Rattle.dap_query.specs.Bodies.{query_result}
 use Rattle.dap_session.specs.Handling.{after_launch, after_parked_launch, after_disconnect, after_terminate, start_phase, thread_of, after_resume, after_query, by_reply, change_result, plan_for}
-use Rattle.dap_session.specs.Plan.{emit, at_once, after_answering}
+use Rattle.dap_session.specs.Plan.{at_once, after_answering}
+use Rattle.dap_outbox.specs.Draft.{emit}
 use Rattle.dap_session.specs.Session.{Session, query_of}
 use Rattle.dap_session.specs.PrivateChanging.{Suits}
 use Rattle.dap_session.proofs.Fewer.{IsHandled}

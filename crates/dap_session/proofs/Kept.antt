@@ -10,7 +10,7 @@ use Rattle.dap_tables.specs.Outstanding.{Kept, contains_seq, without, HasDistinc
 use Rattle.dap_tables.specs.declared.entry.Entry.{Entry as Request}
 use Rattle.dap_session.specs.Answering.{answered_by, with_seq, AnswersEach, open_after}
 use Rattle.dap_session.specs.Handling.{answer_each}
-use Rattle.dap_session.specs.Plan.{Answer, Draft, reply, emit, ask}
+use Rattle.dap_outbox.specs.Draft.{Answer, Draft, reply, emit, ask}
 use Rattle.dap_history.specs.Requests.{asked_of, asks}
 use Rattle.dap_message.specs.MessageParts.{AdapterEvent}
 use Rattle.std.proofs.lemmas.List.Sums.{length-filter, count_by-le-length}

@@ -15,7 +15,8 @@ use Rattle.dap_session.specs.declared.phase.Phase.TheVariants.{Fresh}
 use Rattle.dap_session.specs.Failures.{command_of, call_in, call_refused, first_failure, key_refused, known_refused, name_refused, or_else, phase_refused, read_refused, refusal, waits_for_stop}
 use Rattle.dap_session.specs.Handling.{effect_of, plan, plan_of_call, plan_of_command, plan_unless}
 use Rattle.dap_session.specs.OrderLaws.{holds_before, holds, of_effect, of_served, refuses, sets_too_many, names_too_many, exhausts_numbers, is_too_large, act_in, act_of, comes_to, IsAnswered, IsServed, IsBadKey, FailuresComeInOrder}
-use Rattle.dap_session.specs.Plan.{failure, Plan, at_once, after_answering}
+use Rattle.dap_session.specs.Plan.{Plan, at_once, after_answering}
+use Rattle.dap_outbox.specs.Draft.{failure}
 use Rattle.dap_session.specs.Session.{Session}
 use Rattle.dap_session.specs.Table.{effect_in, is_phase, is_served}
 use Rattle.dap_session.specs.Within.{IsWithin}

@@ -16,7 +16,8 @@ use Rattle.dap_query.specs.References.{AreLive}
 use Rattle.dap_session.specs.GivenLaws.{given_by, answers_set_variable, AllGiveLive}
 use Rattle.dap_session.specs.Handling.{answer_each}
 use Rattle.dap_session.specs.Laws.{CanMake}
-use Rattle.dap_session.specs.Plan.{Answer, success, failure, plain_success, Draft, reply, emit, ask, requests_in, names_in, names_of, outs, Made, Plan, at_once, asking, after_answering, messages_due, entries_of, references_end_if}
+use Rattle.dap_session.specs.Plan.{Made, Plan, at_once, asking, after_answering, messages_due, entries_of, references_end_if}
+use Rattle.dap_outbox.specs.Draft.{Answer, success, failure, plain_success, Draft, reply, emit, ask, requests_in, names_in, names_of, outs}
 use Rattle.dap_session.specs.References.{references_after}
 use Rattle.dap_session.specs.RefusalLaws.{is_for_room}
 use Rattle.dap_debuggee.specs.declared.answers.State.{State}

@@ -5,7 +5,8 @@ use Rattle.std.specs.List.{list_any}
 use Rattle.dap_message.specs.Types.Failure.{Failure}
 use Rattle.dap_tables.specs.declared.entry.Entry.{Entry}
 use Rattle.dap_session.specs.Laws.{CanMake}
-use Rattle.dap_session.specs.Plan.{failure, Draft, reply, Made, Plan, at_once, after_answering}
+use Rattle.dap_session.specs.Plan.{Made, Plan, at_once, after_answering}
+use Rattle.dap_outbox.specs.Draft.{failure, Draft, reply}
 use Rattle.dap_session.specs.RefusalLaws.{is_for_room, RefusalsChangeNothing}
 use Rattle.dap_session.specs.Session.{Session}
 use Rattle.dap_session.proofs.Outcomes.{refuses, IsClean, IsFailure}

@@ -30,8 +30,10 @@ use Rattle.dap_session.specs.Breakpoints.{are_too_many}
 use Rattle.dap_session.specs.Failures.{command_of}
 use Rattle.dap_session.specs.GivenLaws.{is_set_variable}
 use Rattle.dap_session.specs.Handling.{lines_change, lines_result, after_initialize, after_park, after_asking, after_asking_parked, after_launch, after_configuration_done, after_parked_launch, after_disconnect, after_terminate, after_resume, resume_body, after_query, fits, by_reply, answer_each, lines_asked, Change, ChangeResult, change_asked, after_change, change_result}
-use Rattle.dap_session.specs.Plan.{Answer, success, failure, plain_success, reply, emit, ask, requests_in, Made, at_once, after_answering}
-use Rattle.dap_session.specs.Session.{Session, own_request, query_of}
+use Rattle.dap_session.specs.Plan.{Made, at_once, after_answering}
+use Rattle.dap_outbox.specs.Draft.{Answer, success, failure, plain_success, reply, emit, ask, requests_in}
+use Rattle.dap_session.specs.Session.{Session, query_of}
+use Rattle.dap_outbox.specs.Draft.{own_request}
 use Rattle.dap_session.proofs.ChangeResults.{lines-due, value-due}
 use Rattle.dap_session.proofs.Fewer.{IsHandled, fewer-handled, fewer-park, fewer-unparked, fewer-none}
 use Rattle.dap_query.proofs.Interned.{le-not}

@@ -31,10 +31,12 @@ use Rattle.dap_query.specs.Queries.{object_of}
 use Rattle.dap_session.specs.Breakpoints.{are_too_many}
 use Rattle.dap_session.specs.Handling.{after_query, after_initialize, after_asking, after_asking_parked, after_launch, after_parked_launch, after_resume, after_disconnect, by_reply, answer_each, fits, lines_asked, Change, ChangeResult, change_asked, after_change, change_result, lines_change, lines_result, value_change, assigned_result, value_result}
 use Rattle.dap_session.specs.OrderLaws.{refuses, sets_too_many, live_with, is_past_room, is_past_numbers, names_too_many, exhausts_numbers, is_too_large, is_long_answer, is_long_change, act_in, act_of, answer_to, comes_to, IsSuccess, IsByReply, IsDoneOrRefused, ParksAndAsks, AnswersAndAsks, IsAnswered}
-use Rattle.dap_session.specs.Plan.{Answer, Draft, reply, ask, failure, plain_success, Made, Plan, at_once, after_answering}
+use Rattle.dap_session.specs.Plan.{Made, Plan, at_once, after_answering}
+use Rattle.dap_outbox.specs.Draft.{Answer, Draft, reply, ask, failure, plain_success}
 use Rattle.dap_session.specs.PrivateChanging.{IsChange}
 use Rattle.dap_query.specs.References.{intern_each, and_then, onto_first, targets_named, with_target, with_targets}
-use Rattle.dap_session.specs.Session.{Session, own_request, query_of}
+use Rattle.dap_session.specs.Session.{Session, query_of}
+use Rattle.dap_outbox.specs.Draft.{own_request}
 use Rattle.dap_query.proofs.Interned.{interned-each, is-lt, no-lt, lt-of}
 use Rattle.dap_session.proofs.Fewer.{middle-contained}
 use Rattle.dap_session.proofs.Kept.{eqb-self, false-left, false-right, same-seq, contains-append, contains-filter}

@@ -7,7 +7,8 @@ use Rattle.dap_history.specs.History.{Entry, In, Out, ReferencesEnd, Came, Asked
 use Rattle.dap_history.specs.HistoryLaws.{HistoriesGrow}
 use Rattle.dap_message.specs.declared.message.Message.{Message}
 use Rattle.dap_session.specs.Answering.{answered_by, AnswersEach, open_after, GoesWell}
-use Rattle.dap_session.specs.Plan.{success, failure, Draft, reply, emit, ask, request_of, requests_in, message_of, names_of, numbered_messages, outs, Made, entries_of, references_end_if}
+use Rattle.dap_session.specs.Plan.{Made, entries_of, references_end_if}
+use Rattle.dap_outbox.specs.Draft.{success, failure, Draft, reply, emit, ask, request_of, requests_in, message_of, names_of, numbered_messages, outs}
 use Rattle.dap_session.specs.References.{references_then, references_after, references_of}
 use Rattle.dap_tables.specs.References.{LiveReferences, no_references}
 use Rattle.dap_session.specs.Session.{Session, own_requests}

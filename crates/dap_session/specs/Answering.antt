@@ -8,7 +8,8 @@ use Rattle.dap_tables.specs.Outstanding.{HasDistinctSeqs}
 use Rattle.dap_debuggee.specs.Shown.{Shown}
 use Rattle.dap_session.specs.Handling.{turns}
 use Rattle.dap_session.specs.Laws.{CanMake}
-use Rattle.dap_session.specs.Plan.{Draft, reply, emit, ask, Made, Plan, requests_in, entries_of}
+use Rattle.dap_session.specs.Plan.{Made, Plan, entries_of}
+use Rattle.dap_outbox.specs.Draft.{Draft, reply, emit, ask, requests_in}
 use Rattle.dap_session.specs.Polling.{polls}
 use Rattle.dap_session.specs.References.{references_after}
 use Rattle.dap_session.specs.Session.{Session, own_requests, to_handle, IsOrderly}

@@ -12,7 +12,8 @@ use Rattle.dap_tables.specs.declared.reference_kind.ReferenceKind.{ReferenceKind
 use Rattle.dap_session.specs.Failures.{command_of}
 use Rattle.dap_session.specs.Handling.{turns}
 use Rattle.dap_session.specs.Laws.{CanMake}
-use Rattle.dap_session.specs.Plan.{success, failure, Draft, reply, emit, ask, Made, Plan}
+use Rattle.dap_session.specs.Plan.{Made, Plan}
+use Rattle.dap_outbox.specs.Draft.{success, failure, Draft, reply, emit, ask}
 use Rattle.dap_session.specs.Polling.{polls}
 use Rattle.dap_session.specs.Session.{Session}
 use Rattle.dap_session.specs.Taking.{takes}

@@ -36,7 +36,8 @@ use Rattle.dap_query.specs.Queries.{object_of, usual_options}
 use Rattle.dap_session.specs.Breakpoints.{are_too_many}
 use Rattle.dap_tables.specs.Breakpoints.{SetBreakpoints, breakpoints_with}
 use Rattle.dap_session.specs.Failures.{command_of, call_in, refusal, thread_named}
-use Rattle.dap_session.specs.Plan.{Answer, success, failure, plain_success, Draft, reply, emit, ask, Made, Plan, at_once, asking, no_change, after_answering, plan_within_numbers}
+use Rattle.dap_session.specs.Plan.{Made, Plan, at_once, asking, no_change, after_answering, plan_within_numbers}
+use Rattle.dap_outbox.specs.Draft.{Answer, success, failure, plain_success, Draft, reply, emit, ask}
 use Rattle.dap_tables.specs.References.{without_references}
 use Rattle.dap_session.specs.Session.{Session, oldest, query_of}
 use Rattle.dap_tables.specs.Outstanding.{parked_ones, unparked_ones}

@@ -5,7 +5,8 @@ use Rattle.dap_message.specs.declared.message.Message.{Message}
 use Rattle.dap_debuggee.specs.Shown.{Shown, Reply}
 use Rattle.dap_session.specs.Carried.{Goes, CarriedOut}
 use Rattle.dap_session.specs.Handling.{turns}
-use Rattle.dap_session.specs.Plan.{Made, Plan, at_once, asking, entries_of, numbered_messages}
+use Rattle.dap_session.specs.Plan.{Made, Plan, at_once, asking, entries_of}
+use Rattle.dap_outbox.specs.Draft.{numbered_messages}
 use Rattle.dap_session.specs.Polling.{polls}
 use Rattle.dap_session.specs.Session.{Session, IsOrderly}
 use Rattle.dap_session.specs.Follows.{Follows}

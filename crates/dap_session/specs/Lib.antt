@@ -4,7 +4,6 @@ pub mod Breakpoints
 pub mod Session
 pub mod Failures
 pub mod Plan
-pub mod InRange
 pub mod Carried
 pub mod Handling
 pub mod Taking
@@ -14,9 +13,7 @@ pub mod Laws
 pub mod Within
 pub mod ReferenceLaws
 pub mod Answering
-pub mod PrivateOutbox
 pub mod SessionState
-pub mod PrivateSeveral
 pub mod PrivateQuerying
 pub mod PrivateChanging
 pub mod RefusalLaws

@@ -25,8 +25,10 @@ use Rattle.dap_query.specs.Refused.{refuses_query, objects_named}
 use Rattle.dap_session.specs.Breakpoints.{are_too_many}
 use Rattle.dap_session.specs.Failures.{command_of, call_in, of_known, is_early, is_initialize, waits_for_stop, lacks_thread, thread_named, lacks_reference, reference_named, lacks_source, source_named, refusal}
 use Rattle.dap_session.specs.Handling.{ChangeResult, change_result, plan, fits, lines_asked, thread_of, after_park, effect_of}
-use Rattle.dap_session.specs.Plan.{Answer, success, failure, Draft, reply, emit, ask, Made, Plan, at_once, asking, after_answering, requests_in}
-use Rattle.dap_session.specs.Session.{Session, own_request, query_of}
+use Rattle.dap_session.specs.Plan.{Made, Plan, at_once, asking, after_answering}
+use Rattle.dap_outbox.specs.Draft.{Answer, success, failure, Draft, reply, emit, ask, requests_in}
+use Rattle.dap_session.specs.Session.{Session, query_of}
+use Rattle.dap_outbox.specs.Draft.{own_request}
 use Rattle.dap_session.specs.Table.{effect_in, is_phase, is_served, is_never_served}
 use Rattle.dap_session.specs.Within.{IsWithin}
 

@@ -7,7 +7,8 @@ use Rattle.dap_debuggee.specs.declared.answers.Happening.{Happening}
 use Rattle.dap_debuggee.specs.declared.answers.Happening.TheVariants as happening
 use Rattle.dap_session.specs.declared.phase.Phase.{Phase}
 use Rattle.dap_session.specs.declared.phase.Phase.TheVariants.{Running, Stopped, Exited}
-use Rattle.dap_session.specs.Plan.{emit, Made, Plan, at_once, asking, no_change}
+use Rattle.dap_session.specs.Plan.{Made, Plan, at_once, asking, no_change}
+use Rattle.dap_outbox.specs.Draft.{emit}
 use Rattle.dap_tables.specs.References.{without_references}
 use Rattle.dap_session.specs.Session.{Session}
 use Rattle.dap_session.specs.Table.{is_phase}

@@ -12,14 +12,14 @@ use Rattle.dap_session.specs.declared.decision.Decision.{Decision}
 use Rattle.dap_session.specs.declared.decision.Decision.TheVariants.{Refuses, Serves}
 use Rattle.dap_session.specs.declared.effect.Effect.{Effect}
 use Rattle.dap_session.specs.declared.effect.Effect.TheVariants as effect
-use Rattle.dap_session.specs.declared.outbox.Outbox.{Outbox}
 use Rattle.dap_query.specs.declared.no_answer.NoAnswer.{NoAnswer}
 use Rattle.dap_query.specs.declared.no_answer.NoAnswer.TheVariants.{Fails, OutOfMemory}
 use Rattle.dap_session.specs.Handling.{Change, ChangeResult, fits}
-use Rattle.dap_session.specs.Plan.{Plan, at_once, after_answering, failure, success, reply}
+use Rattle.dap_session.specs.Plan.{Plan, at_once, after_answering}
+use Rattle.dap_outbox.specs.Draft.{failure, success, reply}
 use Rattle.dap_query.specs.QueryResults.{Says}
 use Rattle.dap_session.specs.Session.{Session}
-use Rattle.dap_session.specs.PrivateOutbox.{Holds}
+use Rattle.dap_outbox.specs.Outbox.{OutboxState, Holds}
 
 -- ---- what is asked for
 
@@ -58,7 +58,7 @@ IsChangeBody (Ok body) due = (c : Change) × (due ≡ Ok c) × (c.body ≡ Some 
 IsChangeBody (Err fault) due = Says fault due
 
 -- its answer fits, and the outbox holds it
-pub record IsMeasured (due : ChangeResult) (s : Session) (r : Entry) (outbox : Outbox) : Type 0 where
+pub record IsMeasured (due : ChangeResult) (s : Session) (r : Entry) (outbox : OutboxState) : Type 0 where
   pub change : Change
   pub is : due ≡ Ok change
   pub fits : fits s r change.body ≡ true

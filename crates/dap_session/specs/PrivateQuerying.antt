@@ -6,11 +6,11 @@ use Rattle.dap_query.specs.declared.no_answer.NoAnswer.TheVariants.{Fails, OutOf
 use Rattle.dap_tables.specs.Outstanding.{without}
 use Rattle.dap_tables.specs.References.{LiveReferences}
 use Rattle.dap_tables.specs.declared.entry.Entry.{Entry}
-use Rattle.dap_session.specs.Plan.{Made, failure, after_answering}
-use Rattle.dap_session.specs.PrivateOutbox.{Holds}
+use Rattle.dap_session.specs.Plan.{Made, after_answering}
+use Rattle.dap_outbox.specs.Draft.{failure}
+use Rattle.dap_outbox.specs.Outbox.{OutboxState, Holds}
 use Rattle.dap_session.specs.Session.{Session}
 use Rattle.dap_session.specs.SessionState.{SessionState}
-use Rattle.dap_session.specs.declared.outbox.Outbox.{Outbox}
 
 -- where a request fails, just this is made
 abbrev pub MakesFailure : NoAnswer → Entry → Session → Made → Type 0
@@ -24,7 +24,7 @@ pub record OnlyGives {D : Type 0} (old new : SessionState D) : Type 0 where
   pub grows : Grows old.session.references new.session.references
 
 -- the outbox holds all of what is made, of one answer and with these references, and nothing else is done
-pub record IsOutboxOf (outbox : Outbox) (s : Session) (r : Entry) (references : LiveReferences) (made : Made) : Type 0 where
+pub record IsOutboxOf (outbox : OutboxState) (s : Session) (r : Entry) (references : LiveReferences) (made : Made) : Type 0 where
   pub last : outbox.numbers.last ≡ s.limits.seq
   pub holds : Holds outbox s.limits.body s.used made.drafts
   pub count : length made.drafts ≡ 1

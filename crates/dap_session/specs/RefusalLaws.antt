@@ -7,7 +7,8 @@ use Rattle.dap_tables.specs.declared.entry.Entry.{Entry}
 use Rattle.dap_debuggee.specs.Shown.{Shown}
 use Rattle.dap_session.specs.Handling.{turns}
 use Rattle.dap_session.specs.Laws.{CanMake}
-use Rattle.dap_session.specs.Plan.{Draft, reply, failure, Made, Plan, at_once, after_answering}
+use Rattle.dap_session.specs.Plan.{Made, Plan, at_once, after_answering}
+use Rattle.dap_outbox.specs.Draft.{Draft, reply, failure}
 use Rattle.dap_session.specs.Session.{Session}
 
 abbrev pub is_for_room : Failure → Bool

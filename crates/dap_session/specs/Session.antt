@@ -1,12 +1,12 @@
 -- The state of a session at the adapter, without the bytes that come and without the debuggee.
-use Rattle.std.specs.Prelude.{◌≡◌, ℕ, ◌==◌, ◌&&◌, not, ⊤, IsTrue, List, [], ◌∷◌, length, filter, find, codes, Bool, true, false, Option, Some, None, is_some}
+use Rattle.std.specs.Prelude.{◌≡◌, ℕ, ◌==◌, ◌&&◌, not, ⊤, IsTrue, List, [], ◌∷◌, length, filter, find, Bool, true, false, Option, Some, None, is_some}
 use Rattle.dap_frame.specs.Settings.{Settings}
 use Rattle.dap_history.specs.History.{Asked}
-use Rattle.dap_message.specs.Terminal.{run_in_terminal, terminal_tree}
-use Rattle.dap_message.specs.Types.TerminalCall.{TerminalCall}
 use Rattle.dap_tables.specs.Outstanding.{Kept, unparked_ones, HasDistinctSeqs}
 use Rattle.dap_session.specs.declared.phase.Phase.{Phase}
 use Rattle.dap_session.specs.declared.phase.Phase.TheVariants.{Fresh, Asked as AskedPhase, Ended}
+use Rattle.dap_tables.specs.Seq.{Numbers}
+use Rattle.dap_outbox.specs.Draft.{own_request}
 use Rattle.dap_query.specs.Queries.{QueryState, usual_options}
 use Rattle.dap_query.specs.declared.options.Options.{Options}
 use Rattle.dap_tables.specs.References.{LiveReferences, no_references}
@@ -41,6 +41,10 @@ fresh_session limits = record {
 abbrev pub query_of : Session → QueryState
 query_of s = record { limits = s.limits; options = s.options; references = s.references }
 
+-- the own numbers that are left
+abbrev pub numbers_of : Session → Numbers
+numbers_of s = record { last = s.limits.seq; used = s.used }
+
 -- ---- kept requests
 
 -- those that a cancel of that number answers
@@ -62,14 +66,6 @@ to_handle kept = length (unparked_ones kept)
 -- ---- own requests
 
 -- Specification, "RunInTerminal Request". That no more than one waits, and what it names, is this profile's choice.
-
--- what the client's terminal is to run
-abbrev pub recorded_terminal : TerminalCall
-recorded_terminal = record { kind = Some (codes "integrated"); title = Some (codes "recorded"); cwd = codes "/"; args = codes "recorded" ∷ [] }
-
--- the own request of a number, as a history has it
-abbrev pub own_request : ℕ → Asked
-own_request seq = record { seq = seq; command = run_in_terminal; arguments = Some (terminal_tree recorded_terminal) }
 
 abbrev pub own_requests : Option ℕ → List Asked
 own_requests None = []

@@ -1,5 +1,5 @@
 -- A session with its debuggee, one step of it, and what the three calls are made of.
-use Rattle.std.specs.Prelude.{◌≡◌, ℕ, ◌+◌, ◌≤◌, ◌<◌, ⊤, List, [], ◌∷◌, length, Bool, true, false, Option, Some, None, Result, Ok, Err}
+use Rattle.std.specs.Prelude.{◌≡◌, ℕ, ◌+◌, ◌≤◌, ◌<◌, ⊤, List, [], ◌∷◌, ◌++◌, length, Bool, true, false, Option, Some, None, Result, Ok, Err}
 use Rattle.dap_frame.specs.Settings.{Settings}
 use Rattle.dap_tables.specs.Outstanding.{Kept, KeptRequests, IsOrderlyRequests, without}
 use Rattle.dap_tables.specs.Breakpoints.{BreakpointTable}
@@ -11,9 +11,10 @@ use Rattle.dap_session.specs.declared.decision.Decision.TheVariants.{Refuses, Se
 use Rattle.dap_session.specs.declared.fault.AdapterFault.{AdapterFault}
 use Rattle.dap_session.specs.declared.fault.AdapterFault.TheVariants.{SeqExhausted, OutOfMemory}
 use Rattle.dap_session.specs.Carried.{Goes, CarriedOut}
-use Rattle.dap_session.specs.InRange.{AnswersInRange}
+use Rattle.dap_outbox.specs.InRange.{AnswersInRange}
 use Rattle.dap_session.specs.Handling.{plan_for, some_plan, turns}
-use Rattle.dap_session.specs.Plan.{Made, Plan, at_once, asking, messages_due, plan_within_numbers, after_answering, failure, written_by, bytes_of}
+use Rattle.dap_session.specs.Plan.{Made, Plan, at_once, asking, messages_due, plan_within_numbers, after_answering, written_by}
+use Rattle.dap_outbox.specs.Draft.{failure, bytes_of}
 use Rattle.dap_session.specs.Session.{Session, cancelled_by, not_cancelled_by}
 use Rattle.dap_message.specs.ReadBack.{AllReadBack}
 
@@ -108,6 +109,14 @@ abbrev pub IsRefusedPoll : {D : Type 0} → Goes D → AdapterFault → Plan →
 IsRefusedPoll follows SeqExhausted plan old new = HasTooMany follows plan old new
 IsRefusedPoll follows OutOfMemory plan old new = ⊤
 IsRefusedPoll follows fault plan old new = ⊥
+
+-- ---- a buffer that is lent
+
+-- bytes were appended, of which this holds
+pub record AppendsSome (Holds : List ℕ → Type 0) (old new : List ℕ) : Type 0 where
+  pub bytes : List ℕ
+  pub items : new ≡ old ++ bytes
+  pub holds : Holds bytes
 
 -- ---- a message that is delivered
 

@@ -12,7 +12,8 @@ use Rattle.dap_debuggee.specs.Shown.{Shown}
 use Rattle.dap_session.specs.declared.phase.Phase.TheVariants.{Stopped}
 use Rattle.dap_session.specs.Failures.{command_of, call_in, reference_named}
 use Rattle.dap_session.specs.Handling.{plan}
-use Rattle.dap_session.specs.Plan.{Made, failure, at_once, after_answering}
+use Rattle.dap_session.specs.Plan.{Made, at_once, after_answering}
+use Rattle.dap_outbox.specs.Draft.{failure}
 use Rattle.dap_session.specs.ReferenceLaws.{IsStep, Runs}
 use Rattle.dap_session.specs.Session.{Session}
 use Rattle.dap_session.specs.Table.{is_served}

@@ -21,7 +21,8 @@ use Rattle.dap_session.specs.declared.fault.AdapterFault.{AdapterFault}
 use Rattle.dap_session.specs.declared.fault.AdapterFault.TheVariants.{RepeatedSeq, Unmatched, CommandMismatch, Ended as EndedFault}
 use Rattle.dap_session.specs.Failures.{command_of, of_known}
 use Rattle.dap_session.specs.Handling.{answer_each, by_reply, start_phase}
-use Rattle.dap_session.specs.Plan.{Answer, failure, plain_success, reply, Made, Plan, at_once, asking, no_change, plan_within_numbers}
+use Rattle.dap_session.specs.Plan.{Made, Plan, at_once, asking, no_change, plan_within_numbers}
+use Rattle.dap_outbox.specs.Draft.{Answer, failure, plain_success, reply}
 use Rattle.dap_session.specs.Session.{Session, cancelled_by, not_cancelled_by, is_asked}
 use Rattle.dap_session.specs.Table.{is_phase}
 

@@ -8,9 +8,10 @@ ghost use Rattle.dap_message.specs.Command.{command_named};
 ghost use Rattle.dap_tables.specs.Outstanding.{contains_seq, is_parked, parked_ones};
 ghost use Rattle.dap_debuggee.specs.Shown.{to_start};
 ghost use Rattle.dap_session.specs.Handling.{after_asking, after_asking_parked, effect_of, is_launch, names_terminal, parked_wants_terminal, some_plan, wants_terminal};
-ghost use Rattle.dap_session.specs.Plan.{ask, asking, messages_due, plain_success, reply};
-ghost use Rattle.dap_session.specs.PrivateOutbox.{Holds};
-ghost use Rattle.dap_session.specs.Session.{is_asked};
+ghost use Rattle.dap_session.specs.Plan.{asking, messages_due};
+ghost use Rattle.dap_outbox.specs.Draft.{ask, plain_success, reply};
+ghost use Rattle.dap_outbox.specs.Outbox.{Holds, IsReady};
+ghost use Rattle.dap_session.specs.Session.{is_asked, numbers_of};
 ghost use Rattle.dap_session.specs.Table.{is_phase};
 ghost use Rattle.dap_session.specs.declared.phase.Phase.TheVariants.{Asked};
 ghost use Rattle.dap_session.specs.SessionState.{MadeBy, Carries, HasTaken, IsRefusedFor, IsUnasked, NotTaken, reply_of};
@@ -19,14 +20,13 @@ ghost use Rattle.dap_session.specs.Taking.{after_terminal, plan_of_response, pla
 use crate::effect::Effect;
 use crate::effects::start_phase;
 use crate::fault::AdapterFault;
-use crate::outbox::{Answer, Outbox};
 use crate::phase::Phase;
 use crate::session::Session;
-use crate::several::{Chosen, answer_chosen};
 use crate::starting::start_failure;
 use dap_debuggee::Debuggee;
 use dap_json::field;
 use dap_message::{Command, RUN_IN_TERMINAL, Text, Tree};
+use dap_outbox::{Answer, Chosen, Outbox, answer_chosen};
 use dap_query::Options;
 use dap_tables::{Entry, InOrder, Outstanding};
 use std::alloc::{AllocError, Global};
@@ -124,152 +124,186 @@ impl<D: Debuggee + Drop> Session<D> {
 
     // ---- the request
 
-    /// An outbox with a request for a terminal, and its number.
-    fn request_alone(&self, alloc: Global) -> Result<(Outbox, u64), AllocError>
-        requires { self.now.session.used + 1 ≤ self.now.session.limits.seq }
-        ensures last { IfOk result (λ made. made.0.numbers.last ≡ self.now.session.limits.seq) }
-        ensures holds { IfOk result (λ made. Holds made.0 self.now.session.limits.body self.now.session.used (ask ∷ [])) }
-        ensures number { IfOk result (λ made. made.1 ≡ self.now.session.used + 1) }
+    /// Writes a request for a terminal: its number.
+    fn request_alone(&self, alloc: Global, out: &mut Outbox) -> Result<u64, AllocError>
+        requires ready { IsReady out.old (numbers_of self.now.session) }
+        requires room { self.now.session.used + 1 ≤ self.now.session.limits.seq }
+        ensures last { OnOk result (out.new.numbers.last ≡ self.now.session.limits.seq) }
+        ensures holds { OnOk result (Holds out.new self.now.session.limits.body self.now.session.used (ask ∷ [])) }
+        ensures number { IfOk result (λ seq. seq ≡ self.now.session.used + 1) }
+        ensures before { out.new.before ≡ out.old.before }
     {
-        let mut outbox = self.fresh_outbox(alloc);
-        let seq = outbox.ask(alloc)?;
-        Ok((outbox, seq))
+        self.begin(out);
+        out.ask(alloc)
     }
 
-    /// An outbox with a response, and a request for a terminal behind it, and its number.
-    fn request_behind(&self, alloc: Global, request: &Entry) -> Result<(Outbox, u64), AllocError>
-        requires { self.now.session.used + 2 ≤ self.now.session.limits.seq }
-        ensures last { IfOk result (λ made. made.0.numbers.last ≡ self.now.session.limits.seq) }
-        ensures holds { IfOk result (λ made. Holds made.0 self.now.session.limits.body self.now.session.used (reply request.now plain_success ∷ ask ∷ [])) }
-        ensures number { IfOk result (λ made. made.1 ≡ self.now.session.used + 2) }
+    /// Writes a response, and a request for a terminal behind it: its number.
+    fn request_behind(
+        &self,
+        alloc: Global,
+        out: &mut Outbox,
+        request: &Entry,
+    ) -> Result<u64, AllocError>
+        requires ready { IsReady out.old (numbers_of self.now.session) }
+        requires room { self.now.session.used + 2 ≤ self.now.session.limits.seq }
+        ensures last { OnOk result (out.new.numbers.last ≡ self.now.session.limits.seq) }
+        ensures holds { OnOk result (Holds out.new self.now.session.limits.body self.now.session.used (reply request.now plain_success ∷ ask ∷ [])) }
+        ensures number { IfOk result (λ seq. seq ≡ self.now.session.used + 2) }
+        ensures before { out.new.before ≡ out.old.before }
     {
-        let mut outbox = self.one(alloc, request, Answer::Success(None))?;
-        let seq = outbox.ask(alloc)?;
-        Ok((outbox, seq))
+        self.one(alloc, out, request, Answer::Success(None))?;
+        out.ask(alloc)
     }
 
     /// Parks the request, and asks for a terminal.
     pub(crate) fn ask_terminal(
         &mut self,
         alloc: Global,
+        out: &mut Outbox,
         request: &Entry,
-    ) -> Result<Vec<u8>, AllocError>
+    ) -> Result<(), AllocError>
+        requires ready { IsReady out.old (numbers_of self.old.session) }
         requires kept { IsTrue (contains_seq request.now.seq self.old.session.kept) }
         requires room { self.old.session.used + 1 ≤ self.old.session.limits.seq }
-        ensures made { IfOk result (λ bytes. MadeBy (after_asking self.old.session request.now) self.old.session self.new.session bytes.items) }
+        ensures made { OnOk result (MadeBy (after_asking self.old.session request.now) self.old.session self.new.session out.new.bytes) }
         ensures debuggee { self.new.debuggee ≡ self.old.debuggee }
         ensures err { OnErr result (self.new.session ≡ self.old.session) }
+        ensures before { out.new.before ≡ out.old.before }
     {
-        let (outbox, seq) = self.request_alone(alloc)?;
-        let bytes = self.spend(outbox);
+        let seq = self.request_alone(alloc, out)?;
+        self.spend(out);
         self.park(request.seq);
         self.set_asked(Some(seq));
         self.set_phase(Phase::Asked);
-        Ok(bytes)
+        Ok(())
     }
 
     /// Answers the request, and asks for a terminal for what is parked.
     pub(crate) fn ask_terminal_parked(
         &mut self,
         alloc: Global,
+        out: &mut Outbox,
         request: &Entry,
-    ) -> Result<Vec<u8>, AllocError>
+    ) -> Result<(), AllocError>
+        requires ready { IsReady out.old (numbers_of self.old.session) }
         requires room { self.old.session.used + 2 ≤ self.old.session.limits.seq }
-        ensures made { IfOk result (λ bytes. MadeBy (after_asking_parked self.old.session request.now) self.old.session self.new.session bytes.items) }
+        ensures made { OnOk result (MadeBy (after_asking_parked self.old.session request.now) self.old.session self.new.session out.new.bytes) }
         ensures debuggee { self.new.debuggee ≡ self.old.debuggee }
         ensures err { OnErr result (self.new.session ≡ self.old.session) }
+        ensures before { out.new.before ≡ out.old.before }
     {
-        let (outbox, seq) = self.request_behind(alloc, request)?;
-        let bytes = self.commit(request.seq, outbox);
+        let seq = self.request_behind(alloc, out, request)?;
+        self.commit(request.seq, out);
         self.set_asked(Some(seq));
         self.set_phase(Phase::Asked);
-        Ok(bytes)
+        Ok(())
     }
 
     // ---- the response
 
     /// What is parked is answered.
-    fn terminal_responses(&self, alloc: Global, ok: bool) -> Result<Outbox, AllocError>
-        requires { self.now.session.used + length (parked_ones self.now.session.kept) ≤ self.now.session.limits.seq }
-        ensures last { IfOk result (λ outbox. outbox.numbers.last ≡ self.now.session.limits.seq) }
-        ensures holds { IfOk result (λ outbox. Holds outbox self.now.session.limits.body self.now.session.used (after_terminal self.now.session (reply_of ok)).drafts) }
+    fn terminal_responses(
+        &self,
+        alloc: Global,
+        out: &mut Outbox,
+        ok: bool,
+    ) -> Result<(), AllocError>
+        requires ready { IsReady out.old (numbers_of self.now.session) }
+        requires room { self.now.session.used + length (parked_ones self.now.session.kept) ≤ self.now.session.limits.seq }
+        ensures last { OnOk result (out.new.numbers.last ≡ self.now.session.limits.seq) }
+        ensures holds { OnOk result (Holds out.new self.now.session.limits.body self.now.session.used (after_terminal self.now.session (reply_of ok)).drafts) }
+        ensures before { out.new.before ≡ out.old.before }
     {
-        let mut outbox = self.fresh_outbox(alloc);
-        answer_chosen(
-            alloc,
-            &mut outbox,
-            &self.kept,
-            Chosen::Parked,
-            start_failure(ok),
-        )?;
-        Ok(outbox)
+        self.begin(out);
+        answer_chosen(alloc, out, &self.kept, Chosen::Parked, start_failure(ok))
     }
 
     /// Ends the waiting for a terminal, where the debuggee started or not.
-    fn end_waiting(&mut self, alloc: Global, ok: bool) -> Result<Vec<u8>, AllocError>
-        requires { self.old.session.used + length (parked_ones self.old.session.kept) ≤ self.old.session.limits.seq }
-        ensures made { IfOk result (λ bytes. MadeBy (after_terminal self.old.session (reply_of ok)) self.old.session self.new.session bytes.items) }
+    fn end_waiting(&mut self, alloc: Global, out: &mut Outbox, ok: bool) -> Result<(), AllocError>
+        requires ready { IsReady out.old (numbers_of self.old.session) }
+        requires room { self.old.session.used + length (parked_ones self.old.session.kept) ≤ self.old.session.limits.seq }
+        ensures made { OnOk result (MadeBy (after_terminal self.old.session (reply_of ok)) self.old.session self.new.session out.new.bytes) }
         ensures debuggee { self.new.debuggee ≡ self.old.debuggee }
         ensures err { OnErr result (self.new ≡ self.old) }
+        ensures before { out.new.before ≡ out.old.before }
     {
-        let outbox = self.terminal_responses(alloc, ok)?;
-        let bytes = self.commit_asked(outbox);
+        self.terminal_responses(alloc, out, ok)?;
+        self.commit_asked(out);
         self.set_phase(start_phase(ok));
-        Ok(bytes)
+        Ok(())
     }
 
     /// Starts the debuggee in the terminal that there is.
-    fn start_in_terminal(&mut self, alloc: Global) -> Result<Vec<u8>, AllocError>
-        requires { self.old.session.used + length (parked_ones self.old.session.kept) ≤ self.old.session.limits.seq }
-        ensures carries { IfOk result (λ bytes. Carries D.follows (asking to_start (after_terminal self.old.session)) self.old self.new bytes.items) }
+    fn start_in_terminal(&mut self, alloc: Global, out: &mut Outbox) -> Result<(), AllocError>
+        requires ready { IsReady out.old (numbers_of self.old.session) }
+        requires room { self.old.session.used + length (parked_ones self.old.session.kept) ≤ self.old.session.limits.seq }
+        ensures carries { OnOk result (Carries D.follows (asking to_start (after_terminal self.old.session)) self.old self.new out.new.bytes) }
         ensures err { OnErr result (self.new.session ≡ self.old.session) }
+        ensures before { out.new.before ≡ out.old.before }
     {
         let ok = self.ask_start(alloc)?;
-        self.end_waiting(alloc, ok)
+        self.end_waiting(alloc, out, ok)
     }
 
-    fn take_terminal(&mut self, alloc: Global, success: bool) -> Result<Vec<u8>, AllocError>
-        requires { self.old.session.used + length (parked_ones self.old.session.kept) ≤ self.old.session.limits.seq }
-        ensures carries { IfOk result (λ bytes. Carries D.follows (plan_of_terminal success self.old.session) self.old self.new bytes.items) }
+    fn take_terminal(
+        &mut self,
+        alloc: Global,
+        out: &mut Outbox,
+        success: bool,
+    ) -> Result<(), AllocError>
+        requires ready { IsReady out.old (numbers_of self.old.session) }
+        requires room { self.old.session.used + length (parked_ones self.old.session.kept) ≤ self.old.session.limits.seq }
+        ensures carries { OnOk result (Carries D.follows (plan_of_terminal success self.old.session) self.old self.new out.new.bytes) }
         ensures unasked { OnErr result (IsUnasked (Ok (Some (plan_of_terminal success self.old.session))) self.old.debuggee self.new.debuggee) }
         ensures err { OnErr result (self.new.session ≡ self.old.session) }
+        ensures before { out.new.before ≡ out.old.before }
     {
         if success {
-            return self.start_in_terminal(alloc);
+            return self.start_in_terminal(alloc, out);
         }
-        self.end_waiting(alloc, false)
+        self.end_waiting(alloc, out, false)
     }
 
     /// Does what a response to the own request says.
-    fn take_answer(&mut self, alloc: Global, success: bool) -> Result<Vec<u8>, AdapterFault>
-        ensures carries { IfOk result (λ bytes. Carries D.follows (plan_of_response success self.old.session) self.old self.new bytes.items) }
+    fn take_answer(
+        &mut self,
+        alloc: Global,
+        out: &mut Outbox,
+        success: bool,
+    ) -> Result<(), AdapterFault>
+        requires ready { IsReady out.old (numbers_of self.old.session) }
+        ensures carries { OnOk result (Carries D.follows (plan_of_response success self.old.session) self.old self.new out.new.bytes) }
         ensures within { OnOk result (self.old.session.used + messages_due (plan_of_response success self.old.session) ≤ self.old.session.limits.seq) }
         ensures refused { IfErr result (λ fault. IsRefusedFor fault (plan_of_response success self.old.session) self.old self.new) }
         ensures memory { IsErrOf result AdapterFault.OutOfMemory → is_phase Asked self.old.session.phase ≡ true }
         ensures err { OnErr result (self.new.session ≡ self.old.session) }
+        ensures before { out.new.before ≡ out.old.before }
     {
         if is_waiting(self.phase) {
             self.room(self.kept.parked() as u64)?;
-            return Ok(self.take_terminal(alloc, success)?);
+            return Ok(self.take_terminal(alloc, out, success)?);
         }
         let _ = self.numbers();
         self.set_asked(None);
-        Ok(Vec::new(alloc))
+        Ok(())
     }
 
     /// Takes a response.
     pub(crate) fn take_response(
         &mut self,
         alloc: Global,
+        out: &mut Outbox,
         request_seq: u64,
         success: bool,
         command: &Text,
-    ) -> Result<Vec<u8>, AdapterFault>
-        ensures taken { IfOk result (λ bytes. HasTaken D.follows (takes_response request_seq success command.now self.old.session) self.old self.new bytes.items) }
+    ) -> Result<(), AdapterFault>
+        requires ready { IsReady out.old (numbers_of self.old.session) }
+        ensures taken { OnOk result (HasTaken D.follows (takes_response request_seq success command.now self.old.session) self.old self.new out.new.bytes) }
         ensures refused { IfErr result (λ fault. NotTaken fault (takes_response request_seq success command.now self.old.session)) }
         ensures unasked { OnErr result (IsUnasked (some_plan (takes_response request_seq success command.now self.old.session)) self.old.debuggee self.new.debuggee) }
         ensures memory { IsErrOf result AdapterFault.OutOfMemory → is_phase Asked self.old.session.phase ≡ true }
         ensures err { OnErr result (self.new.session ≡ self.old.session) }
+        ensures before { out.new.before ≡ out.old.before }
     {
         if !is_asked(self.asked, request_seq) {
             return Err(AdapterFault::Unmatched { request_seq });
@@ -277,6 +311,6 @@ impl<D: Debuggee + Drop> Session<D> {
         if command.as_str() != RUN_IN_TERMINAL {
             return Err(AdapterFault::CommandMismatch { request_seq });
         }
-        self.take_answer(alloc, success)
+        self.take_answer(alloc, out, success)
     }
 }

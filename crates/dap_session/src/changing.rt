@@ -1,7 +1,10 @@
 //! What a request changes: the lines of a source, or the value of a variable.
 //!
 //! The debuggee is queried and the answer measured; then the debuggee is asked, and the answer given.
-ghost use Rattle.std.specs.Prelude.{◌≡◌, ◌+◌, ◌≤◌, map, length, Ok, Some, IfOk, IfErr, IfSome, IfNone, OnOk, OnErr, IsTrue, false};
+ghost use Rattle.std.specs.Prelude.{◌≡◌, ◌+◌, ◌≤◌, map, length, Ok, Some, IfOk, IfErr, IfSome, IfNone, OnOk, OnErr, IsTrue, false, ◌≢◌};
+ghost use Rattle.dap_query.specs.declared.no_answer.NoAnswer.{NoAnswer};
+ghost use Rattle.dap_session.specs.Session.{numbers_of};
+ghost use Rattle.dap_outbox.specs.Outbox.{IsReady};
 ghost use Rattle.dap_message.specs.Types.Call.{Call};
 ghost use Rattle.dap_tables.specs.Breakpoints.{max_id, breakpoints_with};
 ghost use Rattle.dap_debuggee.specs.Shown.{to_set_breakpoints, to_assign, done};
@@ -13,10 +16,10 @@ ghost use Rattle.dap_session.specs.SessionState.{Carries, IsRefusedFor, IsUnaske
 ghost use Rattle.dap_session.specs.PrivateChanging.{AreLines, CanChange, IsChange, IsChangeBody, IsMeasured, IsToFail, Changes, lines_given};
 
 use crate::fault::AdapterFault;
-use crate::outbox::{Answer, Outbox};
 use crate::session::Session;
 use dap_debuggee::Debuggee;
 use dap_message::{Body, Breakpoint, Call, Failure, SetVariable, SourceKey};
+use dap_outbox::{Answer, Outbox};
 use dap_query::NoAnswer;
 use dap_tables::{BpFault, Entry};
 use std::alloc::{AllocError, Global};
@@ -112,24 +115,28 @@ impl<D: Debuggee + Drop> Session<D> {
         }
     }
 
-    /// What is written where the change is made, or why it is not.
+    /// Writes what is due where the change is made, or answers why it is not made; then nothing is written.
     fn weigh(
         &self,
         alloc: Global,
+        out: &mut Outbox,
         request: &Entry,
         call: &Call,
         asked: &[u32],
-    ) -> Result<Outbox, NoAnswer>
+    ) -> Result<(), NoAnswer>
+        requires ready { IsReady out.old (numbers_of self.now.session) }
         requires room { self.now.session.used + 1 ≤ self.now.session.limits.seq }
         requires asked { asked.now ≡ lines_asked self.now.session.options (lines_given call.now) }
-        ensures measured { IfOk result (λ outbox. IsMeasured (change_result (D.shown self.now.debuggee) self.now.session call.now) self.now.session request.now outbox) }
+        ensures measured { OnOk result (IsMeasured (change_result (D.shown self.now.debuggee) self.now.session call.now) self.now.session request.now out.new) }
         ensures fails { IfErr result (λ untold. IsToFail untold (after_change self.now.session request.now (change_result (D.shown self.now.debuggee) self.now.session call.now)) self.now.session request.now) }
+        ensures before { out.new.before ≡ out.old.before }
+        ensures unwritten { IfErr result (λ untold. untold ≢ NoAnswer.OutOfMemory → out.new ≡ out.old) }
     {
         let body = self.change_body(alloc, call, asked)?;
-        match self.measured(alloc, request, Some(body))? {
-            Some(outbox) => Ok(outbox),
-            None => Err(NoAnswer::Fails(Failure::TooLarge)),
+        if self.measured(alloc, out, request, Some(body))? {
+            return Ok(());
         }
+        Err(NoAnswer::Fails(Failure::TooLarge))
     }
 
     // ---- what is asked
@@ -213,22 +220,28 @@ impl<D: Debuggee + Drop> Session<D> {
     fn change_or_fail(
         &mut self,
         alloc: Global,
+        out: &mut Outbox,
         request: &Entry,
         call: &Call,
         asked: &[u32],
-    ) -> Result<Vec<u8>, AllocError>
+    ) -> Result<(), AllocError>
+        requires ready { IsReady out.old (numbers_of self.old.session) }
         requires room { self.old.session.used + 1 ≤ self.old.session.limits.seq }
         requires asked { asked.now ≡ lines_asked self.old.session.options (lines_given call.now) }
-        ensures carries { IfOk result (λ bytes. Carries D.follows (after_change self.old.session request.now (change_result (D.shown self.old.debuggee) self.old.session call.now)) self.old self.new bytes.items) }
+        ensures carries { OnOk result (Carries D.follows (after_change self.old.session request.now (change_result (D.shown self.old.debuggee) self.old.session call.now)) self.old self.new out.new.bytes) }
         ensures unasked { OnErr result (IsUnasked (Ok (Some (after_change self.old.session request.now (change_result (D.shown self.old.debuggee) self.old.session call.now)))) self.old.debuggee self.new.debuggee) }
         ensures err { OnErr result (self.new.session ≡ self.old.session) }
+        ensures before { out.new.before ≡ out.old.before }
     {
-        match self.weigh(alloc, request, call, asked) {
-            Ok(outbox) => {
+        match self.weigh(alloc, out, request, call, asked) {
+            Ok(()) => {
                 self.make_change(alloc, call, asked)?;
-                Ok(self.commit(request.seq, outbox))
+                self.commit(request.seq, out);
+                Ok(())
             }
-            Err(NoAnswer::Fails(failure)) => self.answer(alloc, request, Answer::Failure(failure)),
+            Err(NoAnswer::Fails(failure)) => {
+                self.answer(alloc, out, request, Answer::Failure(failure))
+            }
             Err(NoAnswer::OutOfMemory) => Err(AllocError),
         }
     }
@@ -236,37 +249,43 @@ impl<D: Debuggee + Drop> Session<D> {
     fn change_counted(
         &mut self,
         alloc: Global,
+        out: &mut Outbox,
         request: &Entry,
         call: &Call,
-    ) -> Result<Vec<u8>, AllocError>
+    ) -> Result<(), AllocError>
+        requires ready { IsReady out.old (numbers_of self.old.session) }
         requires room { self.old.session.used + 1 ≤ self.old.session.limits.seq }
         requires change { IsChange call.now }
-        ensures carries { IfOk result (λ bytes. Carries D.follows (after_change self.old.session request.now (change_result (D.shown self.old.debuggee) self.old.session call.now)) self.old self.new bytes.items) }
+        ensures carries { OnOk result (Carries D.follows (after_change self.old.session request.now (change_result (D.shown self.old.debuggee) self.old.session call.now)) self.old self.new out.new.bytes) }
         ensures unasked { OnErr result (IsUnasked (Ok (Some (after_change self.old.session request.now (change_result (D.shown self.old.debuggee) self.old.session call.now)))) self.old.debuggee self.new.debuggee) }
         ensures err { OnErr result (self.new.session ≡ self.old.session) }
+        ensures before { out.new.before ≡ out.old.before }
     {
         let lines = lines_given(call);
         if self.options().lines_start_at_1 {
-            return self.change_or_fail(alloc, request, call, lines);
+            return self.change_or_fail(alloc, out, request, call, lines);
         }
         let asked = raised(alloc, lines)?;
-        self.change_or_fail(alloc, request, call, &asked)
+        self.change_or_fail(alloc, out, request, call, &asked)
     }
 
     /// Changes what a call asks for, or answers why not.
     pub(crate) fn change(
         &mut self,
         alloc: Global,
+        out: &mut Outbox,
         request: &Entry,
         call: &Call,
-    ) -> Result<Vec<u8>, AdapterFault>
+    ) -> Result<(), AdapterFault>
+        requires ready { IsReady out.old (numbers_of self.old.session) }
         requires change { IsChange call.now }
-        ensures carries { IfOk result (λ bytes. Carries D.follows (after_change self.old.session request.now (change_result (D.shown self.old.debuggee) self.old.session call.now)) self.old self.new bytes.items) }
+        ensures carries { OnOk result (Carries D.follows (after_change self.old.session request.now (change_result (D.shown self.old.debuggee) self.old.session call.now)) self.old self.new out.new.bytes) }
         ensures within { OnOk result (self.old.session.used + messages_due (after_change self.old.session request.now (change_result (D.shown self.old.debuggee) self.old.session call.now)) ≤ self.old.session.limits.seq) }
         ensures refused { IfErr result (λ fault. IsRefusedFor fault (after_change self.old.session request.now (change_result (D.shown self.old.debuggee) self.old.session call.now)) self.old self.new) }
         ensures err { OnErr result (self.new.session ≡ self.old.session) }
+        ensures before { out.new.before ≡ out.old.before }
     {
         self.room(1)?;
-        Ok(self.change_counted(alloc, request, call)?)
+        Ok(self.change_counted(alloc, out, request, call)?)
     }
 }

@@ -1,5 +1,6 @@
 //! What requests do in the phases that serve them, an effect of the table each.
-ghost use Rattle.std.specs.Prelude.{◌≡◌, ◌+◌, ◌≤◌, ◌<◌, [], ◌∷◌, IfOk, OnErr, IsTrue, None, Some, true};
+ghost use Rattle.std.specs.Prelude.{◌≡◌, ◌+◌, ◌≤◌, ◌<◌, [], ◌∷◌, IfOk, OnErr, IsTrue, None, Some, true, OnOk};
+ghost use Rattle.dap_session.specs.Session.{numbers_of};
 ghost use Rattle.dap_message.specs.Body.{data_in};
 ghost use Rattle.dap_message.specs.Lengths.{IsWithin};
 ghost use Rattle.dap_message.specs.Types.Call.{Call};
@@ -7,14 +8,15 @@ ghost use Rattle.dap_tables.specs.Outstanding.{contains_seq};
 ghost use Rattle.dap_debuggee.specs.Shown.{to_start, to_resume, to_pause, to_end};
 ghost use Rattle.dap_session.specs.SessionState.{MadeBy, Carries, reply_of};
 ghost use Rattle.dap_session.specs.Handling.{after_initialize, after_park, after_launch, after_configuration_done, after_terminate, after_resume, by_reply, options_of, start_phase, adapter_capabilities, resume_body as resume_body_word};
-ghost use Rattle.dap_session.specs.Plan.{reply, emit, after_answering, asking};
-ghost use Rattle.dap_session.specs.PrivateOutbox.{Holds, answer_of, event_of, shape_of};
+ghost use Rattle.dap_session.specs.Plan.{after_answering, asking};
+ghost use Rattle.dap_outbox.specs.Draft.{reply, emit};
+ghost use Rattle.dap_outbox.specs.Outbox.{Holds, answer_of, event_of, shape_of, IsReady};
 
-use crate::outbox::{Answer, Event, Fixed, Outbox};
 use crate::phase::Phase;
 use crate::session::Session;
 use dap_debuggee::{Debuggee, How};
 use dap_message::{Call, Capabilities, Failure};
+use dap_outbox::{Answer, Event, Fixed, Outbox};
 use dap_query::Options;
 use dap_tables::Entry;
 use std::alloc::{AllocError, Global};
@@ -90,174 +92,221 @@ fn resume_body(how: How) -> Option<Fixed>
 }
 
 impl<D: Debuggee + Drop> Session<D> {
-    /// An outbox with nothing in it.
-    pub(crate) fn fresh_outbox(&self, alloc: Global) -> Outbox
-        ensures last { result.numbers.last ≡ self.now.session.limits.seq }
-        ensures holds { Holds result self.now.session.limits.body self.now.session.used [] }
+    /// An outbox without a message holds none.
+    pub(crate) fn begin(&self, out: &Outbox)
+        requires ready { IsReady out.now (numbers_of self.now.session) }
+        ensures last { out.now.numbers.last ≡ self.now.session.limits.seq }
+        ensures holds { Holds out.now self.now.session.limits.body self.now.session.used [] }
     {
         // For the proof: these limits are in their ranges.
         let limits = self.limits();
         let _ = limits.body();
         let _ = limits.seq();
-        Outbox::open(alloc, self.numbers())
+        let _ = out.numbers();
     }
 
-    /// An outbox with one response.
+    /// Writes one response.
     pub(crate) fn one(
         &self,
         alloc: Global,
+        out: &mut Outbox,
         request: &Entry,
         answer: Answer,
-    ) -> Result<Outbox, AllocError>
-        requires { self.now.session.used + 1 ≤ self.now.session.limits.seq }
-        ensures last { IfOk result (λ outbox. outbox.numbers.last ≡ self.now.session.limits.seq) }
-        ensures holds { IfOk result (λ outbox. Holds outbox self.now.session.limits.body self.now.session.used (reply request.now (answer_of answer) ∷ [])) }
+    ) -> Result<(), AllocError>
+        requires ready { IsReady out.old (numbers_of self.now.session) }
+        requires room { self.now.session.used + 1 ≤ self.now.session.limits.seq }
+        ensures last { OnOk result (out.new.numbers.last ≡ self.now.session.limits.seq) }
+        ensures holds { OnOk result (Holds out.new self.now.session.limits.body self.now.session.used (reply request.now (answer_of answer) ∷ [])) }
+        ensures before { out.new.before ≡ out.old.before }
+        ensures kept { OnErr result (out.new ≡ out.old) }
     {
-        let mut outbox = self.fresh_outbox(alloc);
-        outbox.reply(alloc, request, answer)?;
-        Ok(outbox)
+        self.begin(out);
+        out.reply(alloc, request, answer)
     }
 
-    /// An outbox with one response and an event.
+    /// Writes one response and an event.
     fn two(
         &self,
         alloc: Global,
+        out: &mut Outbox,
         request: &Entry,
         answer: Answer,
         event: Event,
-    ) -> Result<Outbox, AllocError>
+    ) -> Result<(), AllocError>
+        requires ready { IsReady out.old (numbers_of self.now.session) }
         requires room { self.now.session.used + 2 ≤ self.now.session.limits.seq }
         requires short { IsWithin (event_of event) }
-        ensures last { IfOk result (λ outbox. outbox.numbers.last ≡ self.now.session.limits.seq) }
-        ensures holds { IfOk result (λ outbox. Holds outbox self.now.session.limits.body self.now.session.used (reply request.now (answer_of answer) ∷ emit (event_of event) ∷ [])) }
+        ensures last { OnOk result (out.new.numbers.last ≡ self.now.session.limits.seq) }
+        ensures holds { OnOk result (Holds out.new self.now.session.limits.body self.now.session.used (reply request.now (answer_of answer) ∷ emit (event_of event) ∷ [])) }
+        ensures before { out.new.before ≡ out.old.before }
     {
-        let mut outbox = self.one(alloc, request, answer)?;
-        outbox.emit(alloc, event)?;
-        Ok(outbox)
+        self.one(alloc, out, request, answer)?;
+        out.emit(alloc, event)
     }
 
     /// Answers one request.
     pub(crate) fn answer(
         &mut self,
         alloc: Global,
+        out: &mut Outbox,
         request: &Entry,
         answer: Answer,
-    ) -> Result<Vec<u8>, AllocError>
-        requires { self.old.session.used + 1 ≤ self.old.session.limits.seq }
-        ensures made { IfOk result (λ bytes. MadeBy (after_answering request.now (answer_of answer) self.old.session) self.old.session self.new.session bytes.items) }
+    ) -> Result<(), AllocError>
+        requires ready { IsReady out.old (numbers_of self.old.session) }
+        requires room { self.old.session.used + 1 ≤ self.old.session.limits.seq }
+        ensures made { OnOk result (MadeBy (after_answering request.now (answer_of answer) self.old.session) self.old.session self.new.session out.new.bytes) }
         ensures debuggee { self.new.debuggee ≡ self.old.debuggee }
         ensures err { OnErr result (self.new.session ≡ self.old.session) }
+        ensures before { out.new.before ≡ out.old.before }
     {
-        let outbox = self.one(alloc, request, answer)?;
-        Ok(self.commit(request.seq, outbox))
+        self.one(alloc, out, request, answer)?;
+        self.commit(request.seq, out);
+        Ok(())
     }
 
     /// Tells what is offered, and that the session is initialized.
     pub(crate) fn initialize(
         &mut self,
         alloc: Global,
+        out: &mut Outbox,
         request: &Entry,
         call: &Call,
-    ) -> Result<Vec<u8>, AllocError>
+    ) -> Result<(), AllocError>
+        requires ready { IsReady out.old (numbers_of self.old.session) }
         requires room { self.old.session.used + 2 ≤ self.old.session.limits.seq }
-        ensures made { IfOk result (λ bytes. MadeBy (after_initialize self.old.session request.now call.now) self.old.session self.new.session bytes.items) }
+        ensures made { OnOk result (MadeBy (after_initialize self.old.session request.now call.now) self.old.session self.new.session out.new.bytes) }
         ensures debuggee { self.new.debuggee ≡ self.old.debuggee }
         ensures err { OnErr result (self.new.session ≡ self.old.session) }
+        ensures before { out.new.before ≡ out.old.before }
     {
         let body = Some(Fixed::Initialize(capabilities()));
-        let outbox = self.two(alloc, request, Answer::Success(body), Event::Initialized)?;
-        let bytes = self.commit(request.seq, outbox);
+        self.two(
+            alloc,
+            out,
+            request,
+            Answer::Success(body),
+            Event::Initialized,
+        )?;
+        self.commit(request.seq, out);
         self.set_options(options_of(call));
         self.set_phase(Phase::Ready);
-        Ok(bytes)
+        Ok(())
     }
 
     /// Ends the configuration.
     pub(crate) fn configuration_done(
         &mut self,
         alloc: Global,
+        out: &mut Outbox,
         request: &Entry,
-    ) -> Result<Vec<u8>, AllocError>
+    ) -> Result<(), AllocError>
+        requires ready { IsReady out.old (numbers_of self.old.session) }
         requires room { self.old.session.used + 1 ≤ self.old.session.limits.seq }
-        ensures made { IfOk result (λ bytes. MadeBy (after_configuration_done self.old.session request.now) self.old.session self.new.session bytes.items) }
+        ensures made { OnOk result (MadeBy (after_configuration_done self.old.session request.now) self.old.session self.new.session out.new.bytes) }
         ensures debuggee { self.new.debuggee ≡ self.old.debuggee }
         ensures err { OnErr result (self.new.session ≡ self.old.session) }
+        ensures before { out.new.before ≡ out.old.before }
     {
-        let bytes = self.answer(alloc, request, Answer::Success(None))?;
+        self.answer(alloc, out, request, Answer::Success(None))?;
         self.set_phase(Phase::Configured);
-        Ok(bytes)
+        Ok(())
     }
 
     /// Parks the request.
-    pub(crate) fn park_request(&mut self, alloc: Global, request: &Entry) -> Vec<u8>
+    pub(crate) fn park_request(&mut self, request: &Entry)
         requires { IsTrue (contains_seq request.now.seq self.old.session.kept) }
-        ensures made { MadeBy (after_park self.old.session request.now) self.old.session self.new.session result.items }
+        ensures made { MadeBy (after_park self.old.session request.now) self.old.session self.new.session [] }
         ensures debuggee { self.new.debuggee ≡ self.old.debuggee }
     {
         self.park(request.seq);
         self.set_phase(Phase::Parked);
-        Vec::new(alloc)
     }
 
     /// Starts the debuggee.
-    pub(crate) fn start(&mut self, alloc: Global, request: &Entry) -> Result<Vec<u8>, AllocError>
+    pub(crate) fn start(
+        &mut self,
+        alloc: Global,
+        out: &mut Outbox,
+        request: &Entry,
+    ) -> Result<(), AllocError>
+        requires ready { IsReady out.old (numbers_of self.old.session) }
         requires room { self.old.session.used + 1 ≤ self.old.session.limits.seq }
-        ensures carries { IfOk result (λ bytes. Carries D.follows (asking to_start (after_launch self.old.session request.now)) self.old self.new bytes.items) }
+        ensures carries { OnOk result (Carries D.follows (asking to_start (after_launch self.old.session request.now)) self.old self.new out.new.bytes) }
         ensures err { OnErr result (self.new.session ≡ self.old.session) }
+        ensures before { out.new.before ≡ out.old.before }
     {
         let ok = self.ask_start(alloc)?;
-        let bytes = self.answer(alloc, request, by_reply(ok, None))?;
+        self.answer(alloc, out, request, by_reply(ok, None))?;
         self.set_phase(start_phase(ok));
-        Ok(bytes)
+        Ok(())
     }
 
     /// Ends the debuggee.
     pub(crate) fn terminate(
         &mut self,
         alloc: Global,
+        out: &mut Outbox,
         request: &Entry,
-    ) -> Result<Vec<u8>, AllocError>
+    ) -> Result<(), AllocError>
+        requires ready { IsReady out.old (numbers_of self.old.session) }
         requires room { self.old.session.used + 2 ≤ self.old.session.limits.seq }
-        ensures carries { IfOk result (λ bytes. Carries D.follows (asking to_end (λ last. after_terminate self.old.session request.now)) self.old self.new bytes.items) }
+        ensures carries { OnOk result (Carries D.follows (asking to_end (λ last. after_terminate self.old.session request.now)) self.old self.new out.new.bytes) }
         ensures err { OnErr result (self.new ≡ self.old) }
+        ensures before { out.new.before ≡ out.old.before }
     {
-        let outbox = self.two(alloc, request, Answer::Success(None), Event::Terminated)?;
+        self.two(
+            alloc,
+            out,
+            request,
+            Answer::Success(None),
+            Event::Terminated,
+        )?;
         self.end();
-        let bytes = self.commit(request.seq, outbox);
+        self.commit(request.seq, out);
         self.clear_references();
         self.set_phase(Phase::Exited);
-        Ok(bytes)
+        Ok(())
     }
 
     /// Lets the debuggee go on.
     pub(crate) fn resume(
         &mut self,
         alloc: Global,
+        out: &mut Outbox,
         request: &Entry,
         how: How,
         thread: i64,
-    ) -> Result<Vec<u8>, AllocError>
+    ) -> Result<(), AllocError>
+        requires ready { IsReady out.old (numbers_of self.old.session) }
         requires room { self.old.session.used + 1 ≤ self.old.session.limits.seq }
-        ensures carries { IfOk result (λ bytes. Carries D.follows (asking (to_resume how thread) (after_resume how self.old.session request.now)) self.old self.new bytes.items) }
+        ensures carries { OnOk result (Carries D.follows (asking (to_resume how thread) (after_resume how self.old.session request.now)) self.old self.new out.new.bytes) }
         ensures err { OnErr result (self.new.session ≡ self.old.session) }
+        ensures before { out.new.before ≡ out.old.before }
     {
         let body = resume_body(how);
         if self.ask_resume(alloc, how, thread)? {
-            let bytes = self.answer(alloc, request, Answer::Success(body))?;
+            self.answer(alloc, out, request, Answer::Success(body))?;
             self.clear_references();
             self.set_phase(Phase::Running);
-            return Ok(bytes);
+            return Ok(());
         }
-        self.answer(alloc, request, Answer::Failure(Failure::Debuggee))
+        self.answer(alloc, out, request, Answer::Failure(Failure::Debuggee))
     }
 
     /// Asks the debuggee to stop.
-    pub(crate) fn pause(&mut self, alloc: Global, request: &Entry) -> Result<Vec<u8>, AllocError>
+    pub(crate) fn pause(
+        &mut self,
+        alloc: Global,
+        out: &mut Outbox,
+        request: &Entry,
+    ) -> Result<(), AllocError>
+        requires ready { IsReady out.old (numbers_of self.old.session) }
         requires room { self.old.session.used + 1 ≤ self.old.session.limits.seq }
-        ensures carries { IfOk result (λ bytes. Carries D.follows (asking to_pause (λ last. after_answering request.now (by_reply None last) self.old.session)) self.old self.new bytes.items) }
+        ensures carries { OnOk result (Carries D.follows (asking to_pause (λ last. after_answering request.now (by_reply None last) self.old.session)) self.old self.new out.new.bytes) }
         ensures err { OnErr result (self.new.session ≡ self.old.session) }
+        ensures before { out.new.before ≡ out.old.before }
     {
         let ok = self.ask_pause(alloc)?;
-        self.answer(alloc, request, by_reply(ok, None))
+        self.answer(alloc, out, request, by_reply(ok, None))
     }
 }

@@ -1,8 +1,9 @@
 //! How a request is handled.
 ghost use Rattle.std.specs.Prelude.{◌≡◌, ◌+◌, ◌≤◌, ◌<◌, IfOk, IfErr, OnOk, OnErr, IsTrue, IfSome, IfNone, None, option_map, false};
+ghost use Rattle.dap_outbox.specs.Outbox.{IsReady};
 ghost use Rattle.dap_tables.specs.Outstanding.{contains_seq, is_parked};
-ghost use Rattle.dap_session.specs.SessionState.{Carries, IsRefusedFor, plan_of_decision, IsIdle, HasTurned, NotTurned};
-ghost use Rattle.dap_session.specs.Session.{oldest, to_handle};
+ghost use Rattle.dap_session.specs.SessionState.{Carries, IsRefusedFor, plan_of_decision, IsIdle, HasTurned, NotTurned, AppendsSome};
+ghost use Rattle.dap_session.specs.Session.{oldest, to_handle, numbers_of};
 ghost use Rattle.dap_session.specs.Handling.{plan, plan_for};
 ghost use Rattle.dap_session.specs.Plan.{messages_due};
 ghost use Rattle.dap_session.specs.PrivateChanging.{Suits};
@@ -11,10 +12,10 @@ use crate::deciding::thread_of;
 use crate::decision::Decision;
 use crate::effect::Effect;
 use crate::fault::AdapterFault;
-use crate::outbox::Answer;
-use crate::session::Session;
+use crate::session::{Session, give_back};
 use dap_debuggee::Debuggee;
 use dap_message::{Call, Failure};
+use dap_outbox::{Answer, Outbox};
 use dap_tables::Entry;
 use std::alloc::{AllocError, Global};
 
@@ -45,106 +46,127 @@ impl<D: Debuggee + Drop> Session<D> {
     fn serve(
         &mut self,
         alloc: Global,
+        out: &mut Outbox,
         request: &Entry,
         effect: Effect,
         call: &Call,
-    ) -> Result<Vec<u8>, AdapterFault>
+    ) -> Result<(), AdapterFault>
+        requires ready { IsReady out.old (numbers_of self.old.session) }
         requires kept { IsTrue (contains_seq request.now.seq self.old.session.kept) }
         requires unparked { is_parked request.now.seq self.old.session.kept ≡ false }
         requires suits { Suits effect call.now }
-        ensures carries { IfOk result (λ bytes. Carries D.follows (plan_for effect (D.shown self.old.debuggee) self.old.session request.now call.now) self.old self.new bytes.items) }
+        ensures carries { OnOk result (Carries D.follows (plan_for effect (D.shown self.old.debuggee) self.old.session request.now call.now) self.old self.new out.new.bytes) }
         ensures within { OnOk result (self.old.session.used + messages_due (plan_for effect (D.shown self.old.debuggee) self.old.session request.now call.now) ≤ self.old.session.limits.seq) }
         ensures refused { IfErr result (λ fault. IsRefusedFor fault (plan_for effect (D.shown self.old.debuggee) self.old.session request.now call.now) self.old self.new) }
         ensures err { OnErr result (self.new.session ≡ self.old.session) }
+        ensures before { out.new.before ≡ out.old.before }
     {
         match effect {
             Effect::Initialize => {
                 self.room(2)?;
-                Ok(self.initialize(alloc, request, call)?)
+                Ok(self.initialize(alloc, out, request, call)?)
             }
             Effect::Park => {
                 self.room(0)?;
-                Ok(self.park_request(alloc, request))
+                self.park_request(request);
+                Ok(())
             }
             Effect::Start => {
                 self.room(1)?;
-                Ok(self.start(alloc, request)?)
+                Ok(self.start(alloc, out, request)?)
             }
             Effect::ConfigurationDone => {
                 self.room(1)?;
-                Ok(self.configuration_done(alloc, request)?)
+                Ok(self.configuration_done(alloc, out, request)?)
             }
             Effect::Ask => {
                 self.room(1)?;
-                Ok(self.ask_terminal(alloc, request)?)
+                Ok(self.ask_terminal(alloc, out, request)?)
             }
             Effect::AskParked => {
                 self.room(2)?;
-                Ok(self.ask_terminal_parked(alloc, request)?)
+                Ok(self.ask_terminal_parked(alloc, out, request)?)
             }
             Effect::Terminate => {
                 self.room(2)?;
-                Ok(self.terminate(alloc, request)?)
+                Ok(self.terminate(alloc, out, request)?)
             }
             Effect::Resume(how) => {
                 self.room(1)?;
-                Ok(self.resume(alloc, request, how, thread_of(call))?)
+                Ok(self.resume(alloc, out, request, how, thread_of(call))?)
             }
             Effect::Pause => {
                 self.room(1)?;
-                Ok(self.pause(alloc, request)?)
+                Ok(self.pause(alloc, out, request)?)
             }
             Effect::Query => {
                 self.room(1)?;
-                Ok(self.query(alloc, request, call)?)
+                Ok(self.query(alloc, out, request, call)?)
             }
-            Effect::StartParked => self.start_parked(alloc, request),
-            Effect::Disconnect => self.disconnect(alloc, request),
-            Effect::EndAndDisconnect => self.end_and_disconnect(alloc, request),
-            Effect::Change => self.change(alloc, request, call),
+            Effect::StartParked => self.start_parked(alloc, out, request),
+            Effect::Disconnect => self.disconnect(alloc, out, request),
+            Effect::EndAndDisconnect => self.end_and_disconnect(alloc, out, request),
+            Effect::Change => self.change(alloc, out, request, call),
         }
     }
 
     /// Handles a request that is kept.
-    fn handle(&mut self, alloc: Global, request: &Entry) -> Result<Vec<u8>, AdapterFault>
+    fn handle(
+        &mut self,
+        alloc: Global,
+        out: &mut Outbox,
+        request: &Entry,
+    ) -> Result<(), AdapterFault>
+        requires ready { IsReady out.old (numbers_of self.old.session) }
         requires kept { IsTrue (contains_seq request.now.seq self.old.session.kept) }
         requires unparked { is_parked request.now.seq self.old.session.kept ≡ false }
-        ensures carries { IfOk result (λ bytes. Carries D.follows (plan (D.shown self.old.debuggee) self.old.session request.now) self.old self.new bytes.items) }
+        ensures carries { OnOk result (Carries D.follows (plan (D.shown self.old.debuggee) self.old.session request.now) self.old self.new out.new.bytes) }
         ensures within { OnOk result (self.old.session.used + messages_due (plan (D.shown self.old.debuggee) self.old.session request.now) ≤ self.old.session.limits.seq) }
         ensures refused { IfErr result (λ fault. IsRefusedFor fault (plan (D.shown self.old.debuggee) self.old.session request.now) self.old self.new) }
         ensures err { OnErr result (self.new.session ≡ self.old.session) }
+        ensures before { out.new.before ≡ out.old.before }
     {
         match self.decide(alloc, request)? {
-            Decision::Refuses(failure) => self.refuse(alloc, request, failure),
-            Decision::Serves(effect, call) => self.serve(alloc, request, effect, &call),
+            Decision::Refuses(failure) => self.refuse(alloc, out, request, failure),
+            Decision::Serves(effect, call) => self.serve(alloc, out, request, effect, &call),
         }
     }
 
-    fn handle_copy(&mut self, alloc: Global, request: Entry) -> Result<Vec<u8>, AdapterFault>
+    fn handle_copy(
+        &mut self,
+        alloc: Global,
+        out: &mut Outbox,
+        request: Entry,
+    ) -> Result<(), AdapterFault>
+        requires ready { IsReady out.old (numbers_of self.old.session) }
         requires kept { IsTrue (contains_seq request.seq self.old.session.kept) }
         requires unparked { is_parked request.seq self.old.session.kept ≡ false }
-        ensures carries { IfOk result (λ bytes. Carries D.follows (plan (D.shown self.old.debuggee) self.old.session request) self.old self.new bytes.items) }
+        ensures carries { OnOk result (Carries D.follows (plan (D.shown self.old.debuggee) self.old.session request) self.old self.new out.new.bytes) }
         ensures within { OnOk result (self.old.session.used + messages_due (plan (D.shown self.old.debuggee) self.old.session request) ≤ self.old.session.limits.seq) }
         ensures refused { IfErr result (λ fault. IsRefusedFor fault (plan (D.shown self.old.debuggee) self.old.session request) self.old self.new) }
         ensures err { OnErr result (self.new.session ≡ self.old.session) }
+        ensures before { out.new.before ≡ out.old.before }
     {
-        self.handle(alloc, &request)
+        self.handle(alloc, out, &request)
     }
 
     /// Answers a request with a failure.
     fn refuse(
         &mut self,
         alloc: Global,
+        out: &mut Outbox,
         request: &Entry,
         failure: Failure,
-    ) -> Result<Vec<u8>, AdapterFault>
-        ensures carries { IfOk result (λ bytes. Carries D.follows (plan_of_decision (Decision.Refuses failure) (D.shown self.old.debuggee) self.old.session request.now) self.old self.new bytes.items) }
+    ) -> Result<(), AdapterFault>
+        requires ready { IsReady out.old (numbers_of self.old.session) }
+        ensures carries { OnOk result (Carries D.follows (plan_of_decision (Decision.Refuses failure) (D.shown self.old.debuggee) self.old.session request.now) self.old self.new out.new.bytes) }
         ensures within { OnOk result (self.old.session.used + 1 ≤ self.old.session.limits.seq) }
         ensures refused { IfErr result (λ fault. IsRefusedFor fault (plan_of_decision (Decision.Refuses failure) (D.shown self.old.debuggee) self.old.session request.now) self.old self.new) }
         ensures err { OnErr result (self.new.session ≡ self.old.session) }
+        ensures before { out.new.before ≡ out.old.before }
     {
         self.room(1)?;
-        Ok(self.answer(alloc, request, Answer::Failure(failure))?)
+        Ok(self.answer(alloc, out, request, Answer::Failure(failure))?)
     }
 
     /// A copy of the request that is to be handled next.
@@ -163,26 +185,45 @@ impl<D: Debuggee + Drop> Session<D> {
         }
     }
 
-    /// Handles the request that came first of those that are not parked, if there is one.
-    pub fn turn(&mut self, alloc: Global) -> Result<Option<Vec<u8>>, AdapterFault>
-        ensures idle { IfOk result (λ o. IfNone o (IsIdle (D.shown self.old.debuggee) self.old self.new)) }
-        ensures done { IfOk result (λ o. IfSome o (λ bytes. HasTurned D.shown D.follows self.old self.new bytes.items)) }
+    /// Handles the request that came first of those that are not parked: whether there is one.
+    fn turn_with(&mut self, alloc: Global, out: &mut Outbox) -> Result<bool, AdapterFault>
+        requires ready { IsReady out.old (numbers_of self.old.session) }
+        ensures idle { IfOk result (λ done. done ≡ false → IsIdle (D.shown self.old.debuggee) self.old self.new × (out.new ≡ out.old)) }
+        ensures done { IfOk result (λ done. IsTrue done → HasTurned D.shown D.follows self.old self.new out.new.bytes) }
         ensures refused { IfErr result (λ fault. NotTurned D.shown fault self.old self.new) }
         ensures waiting { OnErr result (oldest self.old.session.kept ≡ None → ⊥) }
         ensures err { OnErr result (self.new.session ≡ self.old.session) }
-
-        // Then fewer requests wait to be handled.
-        ensures fewer { IfOk result (λ o. IfSome o (λ bytes. to_handle self.new.session.kept < to_handle self.old.session.kept)) }
+        ensures fewer { IfOk result (λ done. IsTrue done → to_handle self.new.session.kept < to_handle self.old.session.kept) }
         ensures limits { self.new.session.limits ≡ self.old.session.limits }
+        ensures before { out.new.before ≡ out.old.before }
     {
         let _ = &self.queries;
         match self.next_request() {
             Err(_) => Err(AdapterFault::OutOfMemory),
-            Ok(None) => Ok(None),
-            Ok(Some(request)) => match self.handle_copy(alloc, request) {
+            Ok(None) => Ok(false),
+            Ok(Some(request)) => match self.handle_copy(alloc, out, request) {
                 Err(fault) => Err(fault),
-                Ok(bytes) => Ok(Some(bytes)),
+                Ok(()) => Ok(true),
             },
         }
+    }
+
+    /// Handles the request that came first of those that are not parked: whether there is one. What is written is appended to
+    /// `out`; where it fails, `out` is as it was.
+    pub fn turn(&mut self, alloc: Global, out: &mut Vec<u8>) -> Result<bool, AdapterFault>
+        ensures idle { IfOk result (λ done. done ≡ false → IsIdle (D.shown self.old.debuggee) self.old self.new × (out.new.items ≡ out.old.items)) }
+        ensures done { IfOk result (λ done. IsTrue done → AppendsSome (λ bytes. HasTurned D.shown D.follows self.old self.new bytes) out.old.items out.new.items) }
+        ensures refused { IfErr result (λ fault. NotTurned D.shown fault self.old self.new) }
+        ensures waiting { OnErr result (oldest self.old.session.kept ≡ None → ⊥) }
+        ensures err { OnErr result ((self.new.session ≡ self.old.session) × (out.new.items ≡ out.old.items)) }
+
+        // Then fewer requests wait to be handled.
+        ensures fewer { IfOk result (λ done. IsTrue done → to_handle self.new.session.kept < to_handle self.old.session.kept) }
+        ensures limits { self.new.session.limits ≡ self.old.session.limits }
+    {
+        let mut outbox = self.outbox_behind(alloc, out);
+        let result = self.turn_with(alloc, &mut outbox);
+        give_back(outbox, result.is_ok(), out);
+        result
     }
 }

@@ -1,19 +1,20 @@
 //! What happened to the debuggee, told to the client.
 ghost use Rattle.std.specs.Prelude.{◌≡◌, ◌+◌, ◌≤◌, ◌<◌, [], ◌∷◌, length, IfOk, IfErr, OnOk, OnErr, IsOk, IsTrue, false};
+ghost use Rattle.dap_session.specs.Session.{numbers_of};
 ghost use Rattle.dap_message.specs.Lengths.{IsWithin};
 ghost use Rattle.dap_debuggee.specs.Laws.{is_short};
-ghost use Rattle.dap_session.specs.SessionState.{MadeBy, Carries, LacksRoom, IsRefusedPoll};
-ghost use Rattle.dap_session.specs.Plan.{emit};
+ghost use Rattle.dap_session.specs.SessionState.{MadeBy, Carries, LacksRoom, IsRefusedPoll, AppendsSome};
+ghost use Rattle.dap_outbox.specs.Draft.{emit};
 ghost use Rattle.dap_session.specs.Polling.{after_happening, after_poll_reply, polls, has_debuggee};
 ghost use Rattle.dap_debuggee.specs.Shown.{to_poll};
 ghost use Rattle.dap_session.specs.Plan.{asking};
-ghost use Rattle.dap_session.specs.PrivateOutbox.{Holds, event_of};
+ghost use Rattle.dap_outbox.specs.Outbox.{Holds, event_of, IsReady};
 
 use crate::fault::AdapterFault;
-use crate::outbox::{Event, Outbox};
 use crate::phase::Phase;
-use crate::session::Session;
+use crate::session::{Session, give_back};
 use dap_debuggee::{Debuggee, Happening};
+use dap_outbox::{Event, Outbox};
 use std::alloc::{AllocError, Global};
 
 /// Whether there is a debuggee to ask.
@@ -34,100 +35,133 @@ fn has_debuggee(phase: Phase) -> bool
 }
 
 impl<D: Debuggee + Drop> Session<D> {
-    /// An outbox with one event.
-    fn event(&self, alloc: Global, event: Event) -> Result<Outbox, AllocError>
+    /// Writes one event.
+    fn event(&self, alloc: Global, out: &mut Outbox, event: Event) -> Result<(), AllocError>
+        requires ready { IsReady out.old (numbers_of self.now.session) }
         requires room { self.now.session.used + 1 ≤ self.now.session.limits.seq }
         requires short { IsWithin (event_of event) }
-        ensures last { IfOk result (λ outbox. outbox.numbers.last ≡ self.now.session.limits.seq) }
-        ensures holds { IfOk result (λ outbox. Holds outbox self.now.session.limits.body self.now.session.used (emit (event_of event) ∷ [])) }
+        ensures last { OnOk result (out.new.numbers.last ≡ self.now.session.limits.seq) }
+        ensures holds { OnOk result (Holds out.new self.now.session.limits.body self.now.session.used (emit (event_of event) ∷ [])) }
+        ensures before { out.new.before ≡ out.old.before }
     {
-        let mut outbox = self.fresh_outbox(alloc);
-        outbox.emit(alloc, event)?;
-        Ok(outbox)
+        self.begin(out);
+        out.emit(alloc, event)
     }
 
-    /// An outbox with two events.
-    fn events(&self, alloc: Global, first: Event, second: Event) -> Result<Outbox, AllocError>
+    /// Writes two events.
+    fn events(
+        &self,
+        alloc: Global,
+        out: &mut Outbox,
+        first: Event,
+        second: Event,
+    ) -> Result<(), AllocError>
+        requires ready { IsReady out.old (numbers_of self.now.session) }
         requires room { self.now.session.used + 2 ≤ self.now.session.limits.seq }
         requires first_short { IsWithin (event_of first) }
         requires second_short { IsWithin (event_of second) }
-        ensures last { IfOk result (λ outbox. outbox.numbers.last ≡ self.now.session.limits.seq) }
-        ensures holds { IfOk result (λ outbox. Holds outbox self.now.session.limits.body self.now.session.used (emit (event_of first) ∷ emit (event_of second) ∷ [])) }
+        ensures last { OnOk result (out.new.numbers.last ≡ self.now.session.limits.seq) }
+        ensures holds { OnOk result (Holds out.new self.now.session.limits.body self.now.session.used (emit (event_of first) ∷ emit (event_of second) ∷ [])) }
+        ensures before { out.new.before ≡ out.old.before }
     {
-        let mut outbox = self.event(alloc, first)?;
-        outbox.emit(alloc, second)?;
-        Ok(outbox)
+        self.event(alloc, out, first)?;
+        out.emit(alloc, second)
     }
 
     /// Tells what happened.
     #[tactic(auto, unfolding(crate::specs::Polling::after_happening))]
-    fn see(&mut self, alloc: Global, happening: Happening) -> Result<Vec<u8>, AdapterFault>
-        requires { IsTrue (is_short happening) }
-        ensures made { IfOk result (λ bytes. MadeBy (after_happening happening self.old.session) self.old.session self.new.session bytes.items) }
+    fn see(
+        &mut self,
+        alloc: Global,
+        out: &mut Outbox,
+        happening: Happening,
+    ) -> Result<(), AdapterFault>
+        requires ready { IsReady out.old (numbers_of self.old.session) }
+        requires room { IsTrue (is_short happening) }
+        ensures made { OnOk result (MadeBy (after_happening happening self.old.session) self.old.session self.new.session out.new.bytes) }
         ensures within { OnOk result (self.new.session.used ≤ self.old.session.limits.seq) }
         ensures refused { IfErr result (λ fault. LacksRoom fault self.old.session (length (after_happening happening self.old.session).drafts)) }
         ensures err { OnErr result (self.new.session ≡ self.old.session) }
         ensures debuggee { self.new.debuggee ≡ self.old.debuggee }
         ensures limits { self.new.session.limits ≡ self.old.session.limits }
+        ensures before { out.new.before ≡ out.old.before }
     {
         let _ = &self.queries;
         match happening {
-            Happening::Nothing => Ok(Vec::new(alloc)),
+            Happening::Nothing => Ok(()),
             Happening::Output { category, text } => {
                 self.room(1)?;
-                let outbox = self.event(alloc, Event::Output { category, text })?;
-                Ok(self.spend(outbox))
+                self.event(alloc, out, Event::Output { category, text })?;
+                self.spend(out);
+                Ok(())
             }
             Happening::Stopped { reason, thread } => {
                 self.room(1)?;
-                let outbox = self.event(alloc, Event::Stopped { reason, thread })?;
-                let bytes = self.spend(outbox);
+                self.event(alloc, out, Event::Stopped { reason, thread })?;
+                self.spend(out);
                 self.set_phase(Phase::Stopped);
-                Ok(bytes)
+                Ok(())
             }
             Happening::Continued { thread } => {
                 self.room(1)?;
-                let outbox = self.event(alloc, Event::Continued { thread })?;
-                let bytes = self.spend(outbox);
+                self.event(alloc, out, Event::Continued { thread })?;
+                self.spend(out);
                 self.clear_references();
                 self.set_phase(Phase::Running);
-                Ok(bytes)
+                Ok(())
             }
             Happening::Exited { code } => {
                 self.room(2)?;
-                let outbox = self.events(alloc, Event::Exited { code }, Event::Terminated)?;
-                let bytes = self.spend(outbox);
+                self.events(alloc, out, Event::Exited { code }, Event::Terminated)?;
+                self.spend(out);
                 self.clear_references();
                 self.set_phase(Phase::Exited);
-                Ok(bytes)
+                Ok(())
             }
         }
     }
 
-    /// Asks the debuggee what happened, where there is one, and tells it.
-    pub fn poll(&mut self, alloc: Global) -> Result<Vec<u8>, AdapterFault>
-        ensures carries { IfOk result (λ bytes. Carries D.follows (polls self.old.session) self.old self.new bytes.items) }
+    /// Asks the debuggee what happened, where there is one, and appends what is told of it to `out`. Where it fails, `out` is as
+    /// it was.
+    pub fn poll(&mut self, alloc: Global, out: &mut Vec<u8>) -> Result<(), AdapterFault>
+        ensures carries { OnOk result (AppendsSome (λ bytes. Carries D.follows (polls self.old.session) self.old self.new bytes) out.old.items out.new.items) }
         ensures within { OnOk result (self.new.session.used ≤ self.old.session.limits.seq) }
         ensures refused { IfErr result (λ fault. IsRefusedPoll D.follows fault (polls self.old.session) self.old self.new) }
-        ensures err { OnErr result (self.new.session ≡ self.old.session) }
+        ensures err { OnErr result ((self.new.session ≡ self.old.session) × (out.new.items ≡ out.old.items)) }
         ensures limits { self.new.session.limits ≡ self.old.session.limits }
-        ensures apart { has_debuggee self.old.session.phase ≡ false → (IfOk result (λ bytes. bytes.items ≡ [])) × (self.new ≡ self.old) × IsOk result }
+        ensures apart { has_debuggee self.old.session.phase ≡ false → (out.new.items ≡ out.old.items) × (self.new ≡ self.old) × IsOk result }
     {
         let _ = self.numbers();
         if has_debuggee(self.phase()) {
-            return self.poll_debuggee(alloc);
+            return self.poll_into(alloc, out);
         }
-        Ok(Vec::new(alloc))
+        Ok(())
     }
 
-    fn poll_debuggee(&mut self, alloc: Global) -> Result<Vec<u8>, AdapterFault>
-        ensures carries { IfOk result (λ bytes. Carries D.follows (asking to_poll (after_poll_reply self.old.session)) self.old self.new bytes.items) }
+    /// The same where there is a debuggee.
+    fn poll_into(&mut self, alloc: Global, out: &mut Vec<u8>) -> Result<(), AdapterFault>
+        ensures carries { OnOk result (AppendsSome (λ bytes. Carries D.follows (asking to_poll (after_poll_reply self.old.session)) self.old self.new bytes) out.old.items out.new.items) }
+        ensures within { OnOk result (self.new.session.used ≤ self.old.session.limits.seq) }
+        ensures refused { IfErr result (λ fault. IsRefusedPoll D.follows fault (asking to_poll (after_poll_reply self.old.session)) self.old self.new) }
+        ensures err { OnErr result ((self.new.session ≡ self.old.session) × (out.new.items ≡ out.old.items)) }
+        ensures limits { self.new.session.limits ≡ self.old.session.limits }
+    {
+        let mut outbox = self.outbox_behind(alloc, out);
+        let result = self.poll_debuggee(alloc, &mut outbox);
+        give_back(outbox, result.is_ok(), out);
+        result
+    }
+
+    fn poll_debuggee(&mut self, alloc: Global, out: &mut Outbox) -> Result<(), AdapterFault>
+        requires ready { IsReady out.old (numbers_of self.old.session) }
+        ensures carries { OnOk result (Carries D.follows (asking to_poll (after_poll_reply self.old.session)) self.old self.new out.new.bytes) }
         ensures within { OnOk result (self.new.session.used ≤ self.old.session.limits.seq) }
         ensures refused { IfErr result (λ fault. IsRefusedPoll D.follows fault (asking to_poll (after_poll_reply self.old.session)) self.old self.new) }
         ensures err { OnErr result (self.new.session ≡ self.old.session) }
         ensures limits { self.new.session.limits ≡ self.old.session.limits }
+        ensures before { out.new.before ≡ out.old.before }
     {
         let happening = self.ask_poll(alloc)?;
-        self.see(alloc, happening)
+        self.see(alloc, out, happening)
     }
 }

@@ -1,6 +1,7 @@
 //! A query: what the debuggee shows is written to the client. The numbers of its objects are given while the answer is made,
 //! and taken back where it fails.
-ghost use Rattle.std.specs.Prelude.{◌≡◌, ◌+◌, ◌≤◌, [], ◌∷◌, length, IfOk, IfErr, IfSome, IfNone, OnErr, true, false};
+ghost use Rattle.std.specs.Prelude.{◌≡◌, ◌+◌, ◌≤◌, [], ◌∷◌, length, IfOk, IfErr, IfSome, IfNone, OnErr, true, false, IsTrue, OnOk, ◌≢◌};
+ghost use Rattle.dap_query.specs.declared.no_answer.NoAnswer.{NoAnswer};
 ghost use Rattle.dap_message.specs.Body.{data_in};
 ghost use Rattle.dap_message.specs.Types.Call.{Call};
 ghost use Rattle.dap_query.specs.Bodies.{query_result};
@@ -8,15 +9,15 @@ ghost use Rattle.dap_query.specs.QueryResults.{IsQueryResult};
 ghost use Rattle.dap_tables.specs.References.{back_to};
 ghost use Rattle.dap_session.specs.SessionState.{MadeBy};
 ghost use Rattle.dap_session.specs.Handling.{after_query, fits};
-ghost use Rattle.dap_session.specs.Session.{query_of};
-ghost use Rattle.dap_session.specs.Plan.{reply, success};
-ghost use Rattle.dap_session.specs.PrivateOutbox.{Holds};
+ghost use Rattle.dap_session.specs.Session.{query_of, numbers_of};
+ghost use Rattle.dap_outbox.specs.Draft.{reply, success};
+ghost use Rattle.dap_outbox.specs.Outbox.{Holds, IsReady};
 ghost use Rattle.dap_session.specs.PrivateQuerying.{IsOutboxOf, MakesFailure, OnlyGives};
 
-use crate::outbox::{Answer, Outbox};
 use crate::session::Session;
 use dap_debuggee::Debuggee;
 use dap_message::{Body, Call, Failure};
+use dap_outbox::{Answer, Outbox};
 use dap_query::NoAnswer;
 use dap_tables::{Entry, Mark};
 use std::alloc::{AllocError, Global};
@@ -30,24 +31,24 @@ impl<D: Debuggee + Drop> Session<D> {
         self.queries.answer(alloc, &self.debuggee, call)
     }
 
-    /// An outbox with a success, unless it is too large.
+    /// Writes a success, unless it is too large: whether it was written.
     pub(crate) fn measured(
         &self,
         alloc: Global,
+        out: &mut Outbox,
         request: &Entry,
         body: Option<Body>,
-    ) -> Result<Option<Outbox>, AllocError>
+    ) -> Result<bool, AllocError>
+        requires ready { IsReady out.old (numbers_of self.now.session) }
         requires room { self.now.session.used + 1 ≤ self.now.session.limits.seq }
-        ensures fits { IfOk result (λ o. IfSome o (λ outbox. fits self.now.session request.now (data_in body) ≡ true)) }
-        ensures last { IfOk result (λ o. IfSome o (λ outbox. outbox.numbers.last ≡ self.now.session.limits.seq)) }
-        ensures holds { IfOk result (λ o. IfSome o (λ outbox. Holds outbox self.now.session.limits.body self.now.session.used (reply request.now (success (data_in body) []) ∷ []))) }
-        ensures too_large { IfOk result (λ o. IfNone o (fits self.now.session request.now (data_in body) ≡ false)) }
+        ensures fits { IfOk result (λ ok. ok ≡ fits self.now.session request.now (data_in body)) }
+        ensures last { OnOk result (out.new.numbers.last ≡ self.now.session.limits.seq) }
+        ensures holds { IfOk result (λ ok. IsTrue ok → Holds out.new self.now.session.limits.body self.now.session.used (reply request.now (success (data_in body) []) ∷ [])) }
+        ensures before { out.new.before ≡ out.old.before }
+        ensures too_large { IfOk result (λ ok. ok ≡ false → out.new ≡ out.old) }
     {
-        let mut outbox = self.fresh_outbox(alloc);
-        if outbox.reply_within(alloc, request, body, self.limits().body())? {
-            return Ok(Some(outbox));
-        }
-        Ok(None)
+        self.begin(out);
+        out.reply_within(alloc, request, body, self.limits().body())
     }
 
     /// Takes back the numbers that were given since a mark.
@@ -58,40 +59,55 @@ impl<D: Debuggee + Drop> Session<D> {
         self.queries.back_to(mark);
     }
 
-    /// An outbox with what a call is answered. Where it fails, some numbers may be given.
-    fn try_query(&mut self, alloc: Global, request: &Entry, call: &Call) -> Result<Outbox, NoAnswer>
+    /// Writes what a call is answered. Where it fails, some numbers may be given, and nothing is written.
+    fn try_query(
+        &mut self,
+        alloc: Global,
+        out: &mut Outbox,
+        request: &Entry,
+        call: &Call,
+    ) -> Result<(), NoAnswer>
+        requires ready { IsReady out.old (numbers_of self.old.session) }
         requires room { self.old.session.used + 1 ≤ self.old.session.limits.seq }
-        ensures made { IfOk result (λ outbox. IsOutboxOf outbox self.old.session request.now self.new.session.references (after_query self.old.session request.now (query_result (D.shown self.old.debuggee) (query_of self.old.session) call.now))) }
+        ensures made { OnOk result (IsOutboxOf out.new self.old.session request.now self.new.session.references (after_query self.old.session request.now (query_result (D.shown self.old.debuggee) (query_of self.old.session) call.now))) }
         ensures fails { IfErr result (λ untold. MakesFailure untold request.now self.old.session (after_query self.old.session request.now (query_result (D.shown self.old.debuggee) (query_of self.old.session) call.now))) }
         ensures only { OnlyGives self.old self.new }
+        ensures before { out.new.before ≡ out.old.before }
+        ensures unwritten { IfErr result (λ untold. untold ≢ NoAnswer.OutOfMemory → out.new ≡ out.old) }
     {
         let body = self.query_body(alloc, call)?;
-        match self.measured(alloc, request, body)? {
-            Some(outbox) => Ok(outbox),
-            None => Err(NoAnswer::Fails(Failure::TooLarge)),
+        if self.measured(alloc, out, request, body)? {
+            return Ok(());
         }
+        Err(NoAnswer::Fails(Failure::TooLarge))
     }
 
     /// Answers what a call asks, where that is not too large. Where it fails, no number is given.
     pub(crate) fn query(
         &mut self,
         alloc: Global,
+        out: &mut Outbox,
         request: &Entry,
         call: &Call,
-    ) -> Result<Vec<u8>, AllocError>
+    ) -> Result<(), AllocError>
+        requires ready { IsReady out.old (numbers_of self.old.session) }
         requires room { self.old.session.used + 1 ≤ self.old.session.limits.seq }
-        ensures made { IfOk result (λ bytes. MadeBy (after_query self.old.session request.now (query_result (D.shown self.old.debuggee) (query_of self.old.session) call.now)) self.old.session self.new.session bytes.items) }
+        ensures made { OnOk result (MadeBy (after_query self.old.session request.now (query_result (D.shown self.old.debuggee) (query_of self.old.session) call.now)) self.old.session self.new.session out.new.bytes) }
         ensures debuggee { self.new.debuggee ≡ self.old.debuggee }
         ensures err { OnErr result (self.new.session ≡ self.old.session) }
+        ensures before { out.new.before ≡ out.old.before }
     {
         let mark = self.queries.mark();
-        match self.try_query(alloc, request, call) {
-            Ok(outbox) => Ok(self.commit(request.seq, outbox)),
+        match self.try_query(alloc, out, request, call) {
+            Ok(()) => {
+                self.commit(request.seq, out);
+                Ok(())
+            }
             Err(untold) => {
                 self.back_to(mark);
                 match untold {
                     NoAnswer::Fails(failure) => {
-                        self.answer(alloc, request, Answer::Failure(failure))
+                        self.answer(alloc, out, request, Answer::Failure(failure))
                     }
                     NoAnswer::OutOfMemory => Err(AllocError),
                 }

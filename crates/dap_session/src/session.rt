@@ -1,20 +1,22 @@
 //! A session with its debuggee: what is kept, and how it changes.
 ghost use Rattle.std.specs.Prelude.{◌≡◌, ◌+◌, ◌≤◌, ◌<◌, [], ◌∷◌, ◌++◌, length, IfOk, OnOk, OnErr, IsTrue, true, false, not, nat_lt, None};
+ghost use Rattle.dap_outbox.specs.Outbox.{IsReady};
 ghost use Rattle.dap_tables.specs.Outstanding.{without, with_mark, contains_seq, kept_unparked, unparked_ones, IsOrderlyRequests};
 ghost use Rattle.dap_tables.specs.SourceMap.{count};
 ghost use Rattle.dap_query.specs.Queries.{object_of};
-ghost use Rattle.dap_session.specs.Session.{fresh_session, own_requests};
+ghost use Rattle.dap_session.specs.Session.{fresh_session, own_requests, numbers_of};
 ghost use Rattle.dap_debuggee.specs.Laws.{is_short};
 ghost use Rattle.dap_debuggee.specs.Shown.{to_start, to_resume, to_pause, to_poll, to_end, done, happened};
 
-use crate::outbox::Outbox;
 use crate::phase::Phase;
 use dap_debuggee::{Debuggee, DebuggeeFault, Happening, How};
 use dap_frame::Limits;
+use dap_outbox::Outbox;
 use dap_query::{Options, Queries};
 use dap_tables::{Breakpoints, Entry, Outstanding, PutFault, Seq};
 use std::alloc::{AllocError, Global};
 use std::marker::Model;
+use std::mem;
 
 /// A session with its debuggee.
 #[derive(Drop)]
@@ -163,69 +165,58 @@ impl<D: Debuggee + Drop> Session<D> {
     }
 
     /// Ends with a request, and with what was written: nothing of it was there before.
-    pub(crate) fn commit(&mut self, seq: u64, outbox: Outbox) -> Vec<u8>
-        requires last { outbox.numbers.last ≡ self.old.session.limits.seq }
-        requires used { outbox.numbers.used ≤ outbox.numbers.last }
-        ensures session { self.new ≡ record self.old { session = record self.old.session { kept = without seq self.old.session.kept; used = outbox.numbers.used } } }
-        ensures bytes { result ≡ outbox.bytes }
+    pub(crate) fn commit(&mut self, seq: u64, out: &Outbox)
+        requires last { out.now.numbers.last ≡ self.old.session.limits.seq }
+        ensures session { self.new ≡ record self.old { session = record self.old.session { kept = without seq self.old.session.kept; used = out.now.numbers.used } } }
     {
-        let Outbox { bytes, numbers } = outbox;
         let _ = self.kept.take(seq);
-        self.numbers = numbers;
-        bytes
+        self.numbers = out.numbers();
     }
 
     /// Ends with what was written: nothing of it was there before.
-    pub(crate) fn spend(&mut self, outbox: Outbox) -> Vec<u8>
-        requires last { outbox.numbers.last ≡ self.old.session.limits.seq }
-        requires used { outbox.numbers.used ≤ outbox.numbers.last }
-        ensures session { self.new ≡ record self.old { session = record self.old.session { used = outbox.numbers.used } } }
-        ensures bytes { result ≡ outbox.bytes }
+    pub(crate) fn spend(&mut self, out: &Outbox)
+        requires last { out.now.numbers.last ≡ self.old.session.limits.seq }
+        ensures session { self.new ≡ record self.old { session = record self.old.session { used = out.now.numbers.used } } }
     {
-        let Outbox { bytes, numbers } = outbox;
-        self.numbers = numbers;
-        bytes
+        self.numbers = out.numbers();
     }
 
     /// Ends with all requests, and with what was written.
-    pub(crate) fn commit_all(&mut self, outbox: Outbox) -> Vec<u8>
-        requires last { outbox.numbers.last ≡ self.old.session.limits.seq }
-        requires used { outbox.numbers.used ≤ outbox.numbers.last }
-        ensures session { self.new ≡ record self.old { session = record self.old.session { kept = []; used = outbox.numbers.used } } }
-        ensures bytes { result ≡ outbox.bytes }
+    pub(crate) fn commit_all(&mut self, out: &Outbox)
+        requires last { out.now.numbers.last ≡ self.old.session.limits.seq }
+        ensures session { self.new ≡ record self.old { session = record self.old.session { kept = []; used = out.now.numbers.used } } }
     {
-        let Outbox { bytes, numbers } = outbox;
         self.kept.clear();
-        self.numbers = numbers;
-        bytes
+        self.numbers = out.numbers();
     }
 
     /// Ends with those that are parked, and with what was written.
-    pub(crate) fn commit_asked(&mut self, outbox: Outbox) -> Vec<u8>
-        requires last { outbox.numbers.last ≡ self.old.session.limits.seq }
-        requires used { outbox.numbers.used ≤ outbox.numbers.last }
-        ensures session { self.new ≡ record self.old { session = record self.old.session { kept = unparked_ones self.old.session.kept; asked = None; used = outbox.numbers.used } } }
-        ensures bytes { result ≡ outbox.bytes }
+    pub(crate) fn commit_asked(&mut self, out: &Outbox)
+        requires last { out.now.numbers.last ≡ self.old.session.limits.seq }
+        ensures session { self.new ≡ record self.old { session = record self.old.session { kept = unparked_ones self.old.session.kept; asked = None; used = out.now.numbers.used } } }
     {
-        let Outbox { bytes, numbers } = outbox;
         self.kept.clear_parked();
         self.asked = None;
-        self.numbers = numbers;
-        bytes
+        self.numbers = out.numbers();
     }
 
     /// Ends with a request and with those that are parked, and with what was written.
-    pub(crate) fn commit_parked(&mut self, seq: u64, outbox: Outbox) -> Vec<u8>
-        requires last { outbox.numbers.last ≡ self.old.session.limits.seq }
-        requires used { outbox.numbers.used ≤ outbox.numbers.last }
-        ensures session { self.new ≡ record self.old { session = record self.old.session { kept = unparked_ones (without seq self.old.session.kept); used = outbox.numbers.used } } }
-        ensures bytes { result ≡ outbox.bytes }
+    pub(crate) fn commit_parked(&mut self, seq: u64, out: &Outbox)
+        requires last { out.now.numbers.last ≡ self.old.session.limits.seq }
+        ensures session { self.new ≡ record self.old { session = record self.old.session { kept = unparked_ones (without seq self.old.session.kept); used = out.now.numbers.used } } }
     {
-        let Outbox { bytes, numbers } = outbox;
         let _ = self.kept.take(seq);
         self.kept.clear_parked();
-        self.numbers = numbers;
-        bytes
+        self.numbers = out.numbers();
+    }
+
+    /// The outbox of a step, behind what a buffer has, which is empty until it is given back.
+    pub(crate) fn outbox_behind(&self, alloc: Global, out: &mut Vec<u8>) -> Outbox
+        ensures ready { IsReady result (numbers_of self.now.session) }
+        ensures before { result.before ≡ out.old.items }
+    {
+        let buffer = mem::replace(out, Vec::new(alloc));
+        Outbox::behind(buffer, self.numbers())
     }
 
     pub(crate) fn set_phase(&mut self, phase: Phase)
@@ -316,6 +307,18 @@ impl<D: Debuggee + Drop> Session<D> {
     {
         self.debuggee.poll(alloc)
     }
+}
+
+/// Gives a buffer back: with what a step wrote, where it was made.
+pub(crate) fn give_back(outbox: Outbox, is_made: bool, out: &mut Vec<u8>)
+    ensures made { IsTrue is_made → out.new.items ≡ outbox.before ++ outbox.bytes }
+    ensures not_made { is_made ≡ false → out.new.items ≡ outbox.before }
+{
+    *out = if is_made {
+        outbox.into_buffer()
+    } else {
+        outbox.into_front()
+    };
 }
 
 /// Keeps a request in a table that has room for it.

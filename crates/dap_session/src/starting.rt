@@ -1,20 +1,20 @@
 //! The start of a debuggee for requests that wait for `configurationDone`.
 ghost use Rattle.std.specs.Prelude.{◌≡◌, ◌+◌, ◌≤◌, length, IfOk, IfErr, OnOk, OnErr, None, false};
+ghost use Rattle.dap_session.specs.Session.{numbers_of};
 ghost use Rattle.dap_tables.specs.Outstanding.{is_parked, parked_ones};
 ghost use Rattle.dap_debuggee.specs.Shown.{to_start};
 ghost use Rattle.dap_session.specs.Handling.{after_parked_launch, by_reply};
 ghost use Rattle.dap_session.specs.Plan.{asking, messages_due};
 ghost use Rattle.dap_session.specs.SessionState.{Carries, IsRefusedFor, reply_of};
-ghost use Rattle.dap_session.specs.PrivateSeveral.{answer_by};
-ghost use Rattle.dap_session.specs.PrivateOutbox.{Holds};
+ghost use Rattle.dap_outbox.specs.Several.{answer_by};
+ghost use Rattle.dap_outbox.specs.Outbox.{Holds, IsReady};
 
 use crate::effects::start_phase;
 use crate::fault::AdapterFault;
-use crate::outbox::{Answer, Outbox};
 use crate::session::Session;
-use crate::several::{Chosen, answer_chosen};
 use dap_debuggee::Debuggee;
 use dap_message::Failure;
+use dap_outbox::{Answer, Chosen, Outbox, answer_chosen};
 use dap_tables::Entry;
 use std::alloc::{AllocError, Global};
 
@@ -30,44 +30,43 @@ impl<D: Debuggee + Drop> Session<D> {
     fn start_responses(
         &self,
         alloc: Global,
+        out: &mut Outbox,
         request: &Entry,
         ok: bool,
-    ) -> Result<Outbox, AllocError>
+    ) -> Result<(), AllocError>
+        requires ready { IsReady out.old (numbers_of self.now.session) }
         requires unparked { is_parked request.now.seq self.now.session.kept ≡ false }
         requires room { self.now.session.used + (1 + length (parked_ones self.now.session.kept)) ≤ self.now.session.limits.seq }
-        ensures last { IfOk result (λ outbox. outbox.numbers.last ≡ self.now.session.limits.seq) }
-        ensures holds { IfOk result (λ outbox. Holds outbox self.now.session.limits.body self.now.session.used (after_parked_launch self.now.session request.now (reply_of ok)).drafts) }
+        ensures last { OnOk result (out.new.numbers.last ≡ self.now.session.limits.seq) }
+        ensures holds { OnOk result (Holds out.new self.now.session.limits.body self.now.session.used (after_parked_launch self.now.session request.now (reply_of ok)).drafts) }
+        ensures before { out.new.before ≡ out.old.before }
     {
-        let mut outbox = self.one(alloc, request, Answer::Success(None))?;
-        answer_chosen(
-            alloc,
-            &mut outbox,
-            &self.kept,
-            Chosen::Parked,
-            start_failure(ok),
-        )?;
-        Ok(outbox)
+        self.one(alloc, out, request, Answer::Success(None))?;
+        answer_chosen(alloc, out, &self.kept, Chosen::Parked, start_failure(ok))
     }
 
     /// Answers the request, starts the debuggee, and answers what is parked.
     pub(crate) fn start_parked(
         &mut self,
         alloc: Global,
+        out: &mut Outbox,
         request: &Entry,
-    ) -> Result<Vec<u8>, AdapterFault>
+    ) -> Result<(), AdapterFault>
+        requires ready { IsReady out.old (numbers_of self.old.session) }
         requires unparked { is_parked request.now.seq self.old.session.kept ≡ false }
-        ensures carries { IfOk result (λ bytes. Carries D.follows (asking to_start (after_parked_launch self.old.session request.now)) self.old self.new bytes.items) }
+        ensures carries { OnOk result (Carries D.follows (asking to_start (after_parked_launch self.old.session request.now)) self.old self.new out.new.bytes) }
         ensures within { OnOk result (self.old.session.used + messages_due (asking to_start (after_parked_launch self.old.session request.now)) ≤ self.old.session.limits.seq) }
         ensures refused { IfErr result (λ fault. IsRefusedFor fault (asking to_start (after_parked_launch self.old.session request.now)) self.old self.new) }
         ensures err { OnErr result (self.new.session ≡ self.old.session) }
+        ensures before { out.new.before ≡ out.old.before }
     {
         // For the proof: this limit is in its range.
         let _ = self.limits().requests();
         self.room(1 + self.kept.parked() as u64)?;
         let ok = self.ask_start(alloc)?;
-        let outbox = self.start_responses(alloc, request, ok)?;
-        let bytes = self.commit_parked(request.seq, outbox);
+        self.start_responses(alloc, out, request, ok)?;
+        self.commit_parked(request.seq, out);
         self.set_phase(start_phase(ok));
-        Ok(bytes)
+        Ok(())
     }
 }

@@ -1,24 +1,25 @@
 //! What comes of a message that is delivered.
-ghost use Rattle.std.specs.Prelude.{◌≡◌, ◌+◌, ◌≤◌, [], ◌∷◌, length, IfOk, IfErr, IfSome, IfNone, IsErrOf, OnOk, OnErr, Some, true, false};
+ghost use Rattle.std.specs.Prelude.{◌≡◌, ◌+◌, ◌≤◌, [], ◌∷◌, length, IfOk, IfErr, IfSome, IfNone, IsErrOf, OnOk, OnErr, Some, true, false, IsTrue};
+ghost use Rattle.dap_session.specs.Session.{numbers_of};
 ghost use Rattle.dap_message.specs.Command.{command_named};
 ghost use Rattle.dap_tables.specs.Outstanding.{contains_seq};
 ghost use Rattle.dap_session.specs.Failures.{of_known};
-ghost use Rattle.dap_session.specs.Plan.{reply, failure, plain_success};
+ghost use Rattle.dap_outbox.specs.Draft.{reply, failure, plain_success};
 ghost use Rattle.dap_message.specs.Types.Failure.TheVariants.{Cancelled};
 ghost use Rattle.dap_session.specs.Handling.{some_plan};
-ghost use Rattle.dap_session.specs.SessionState.{IsUnasked, MadeBy, HasTaken, NotTaken, LacksRoom, NamesNone, NamesOne};
-ghost use Rattle.dap_session.specs.PrivateOutbox.{Holds, answer_of};
+ghost use Rattle.dap_session.specs.SessionState.{IsUnasked, MadeBy, HasTaken, NotTaken, LacksRoom, NamesNone, NamesOne, AppendsSome};
+ghost use Rattle.dap_outbox.specs.Outbox.{Holds, answer_of, IsReady};
 ghost use Rattle.dap_session.specs.Table.{is_phase};
 ghost use Rattle.dap_session.specs.declared.phase.Phase.TheVariants.{Ended};
 ghost use Rattle.dap_session.specs.Taking.{after_answering_at_once, after_keeping, after_cancel_request, after_cancel, id_in, is_cancel, may_take_memory, takes, takes_request};
 
 use crate::deciding::call_in;
 use crate::fault::AdapterFault;
-use crate::outbox::{Answer, Outbox};
 use crate::phase::Phase;
-use crate::session::Session;
+use crate::session::{Session, give_back};
 use dap_debuggee::Debuggee;
 use dap_message::{Call, CallFault, Command, Failure, Kind, Message, Text, Tree};
+use dap_outbox::{Answer, Outbox};
 use dap_tables::Entry;
 use std::alloc::{AllocError, Global};
 
@@ -65,78 +66,91 @@ impl<D: Debuggee + Drop> Session<D> {
     fn answer_at_once(
         &mut self,
         alloc: Global,
+        out: &mut Outbox,
         request: &Entry,
         answer: Answer,
-    ) -> Result<Vec<u8>, AdapterFault>
-        ensures made { IfOk result (λ bytes. MadeBy (after_answering_at_once request.now (answer_of answer) self.old.session) self.old.session self.new.session bytes.items) }
+    ) -> Result<(), AdapterFault>
+        requires ready { IsReady out.old (numbers_of self.old.session) }
+        ensures made { OnOk result (MadeBy (after_answering_at_once request.now (answer_of answer) self.old.session) self.old.session self.new.session out.new.bytes) }
         ensures within { OnOk result (self.old.session.used + length (after_answering_at_once request.now (answer_of answer) self.old.session).drafts ≤ self.old.session.limits.seq) }
         ensures refused { IfErr result (λ fault. LacksRoom fault self.old.session (length (after_answering_at_once request.now (answer_of answer) self.old.session).drafts)) }
         ensures err { OnErr result (self.new ≡ self.old) }
         ensures debuggee { self.new.debuggee ≡ self.old.debuggee }
         ensures limits { self.new.session.limits ≡ self.old.session.limits }
+        ensures before { out.new.before ≡ out.old.before }
     {
         self.room(1)?;
-        let outbox = self.one(alloc, request, answer)?;
-        Ok(self.spend(outbox))
+        self.one(alloc, out, request, answer)?;
+        self.spend(out);
+        Ok(())
     }
 
     /// Keeps a request, or answers that there is no room.
-    fn keep(&mut self, alloc: Global, request: Entry) -> Result<Vec<u8>, AdapterFault>
+    fn keep(&mut self, alloc: Global, out: &mut Outbox, request: Entry) -> Result<(), AdapterFault>
+        requires ready { IsReady out.old (numbers_of self.old.session) }
         requires new { contains_seq request.seq self.old.session.kept ≡ false }
-        ensures made { IfOk result (λ bytes. MadeBy (after_keeping request self.old.session) self.old.session self.new.session bytes.items) }
+        ensures made { OnOk result (MadeBy (after_keeping request self.old.session) self.old.session self.new.session out.new.bytes) }
         ensures within { OnOk result (self.old.session.used + length (after_keeping request self.old.session).drafts ≤ self.old.session.limits.seq) }
         ensures refused { IfErr result (λ fault. LacksRoom fault self.old.session (length (after_keeping request self.old.session).drafts)) }
         ensures err { OnErr result (self.new ≡ self.old) }
         ensures debuggee { self.new.debuggee ≡ self.old.debuggee }
         ensures limits { self.new.session.limits ≡ self.old.session.limits }
+        ensures before { out.new.before ≡ out.old.before }
     {
         let _ = self.numbers();
         if self.is_full() {
-            return self.answer_at_once(alloc, &request, Answer::Failure(Failure::Busy));
+            return self.answer_at_once(alloc, out, &request, Answer::Failure(Failure::Busy));
         }
         self.put(request);
-        Ok(Vec::new(alloc))
+        Ok(())
     }
 
-    /// A request is cancelled, and another one answered.
+    /// Writes that a request is cancelled, and answers another one.
     fn both_responses(
         &self,
         alloc: Global,
+        out: &mut Outbox,
         named: &Entry,
         request: &Entry,
-    ) -> Result<Outbox, AdapterFault>
-        ensures last { IfOk result (λ outbox. outbox.numbers.last ≡ self.now.session.limits.seq) }
-        ensures holds { IfOk result (λ outbox. Holds outbox self.now.session.limits.body self.now.session.used (reply named.now (failure Cancelled) ∷ reply request.now plain_success ∷ [])) }
+    ) -> Result<(), AdapterFault>
+        requires ready { IsReady out.old (numbers_of self.now.session) }
+        ensures last { OnOk result (out.new.numbers.last ≡ self.now.session.limits.seq) }
+        ensures holds { OnOk result (Holds out.new self.now.session.limits.body self.now.session.used (reply named.now (failure Cancelled) ∷ reply request.now plain_success ∷ [])) }
         ensures refused { IfErr result (λ fault. LacksRoom fault self.now.session 2) }
+        ensures before { out.new.before ≡ out.old.before }
     {
         self.room(2)?;
-        let mut outbox = self.one(alloc, named, Answer::Failure(Failure::Cancelled))?;
-        outbox.reply(alloc, request, Answer::Success(None))?;
-        Ok(outbox)
+        self.one(alloc, out, named, Answer::Failure(Failure::Cancelled))?;
+        Ok(out.reply(alloc, request, Answer::Success(None))?)
     }
 
-    /// The answers to a request that is cancelled and to the cancel, where it names one that can be.
+    /// Writes the answers to a request that is cancelled and to the cancel: whether it names one that can be.
     fn cancel_responses(
         &self,
         alloc: Global,
+        out: &mut Outbox,
         request: &Entry,
         id: u64,
-    ) -> Result<Option<Outbox>, AdapterFault>
-        ensures none { IfOk result (λ o. IfNone o (NamesNone id self.now.session.kept)) }
-        ensures one { IfOk result (λ o. IfSome o (λ outbox. NamesOne id self.now.session.kept)) }
-        ensures last { IfOk result (λ o. IfSome o (λ outbox. outbox.numbers.last ≡ self.now.session.limits.seq)) }
-        ensures holds { IfOk result (λ o. IfSome o (λ outbox. Holds outbox self.now.session.limits.body self.now.session.used (after_cancel (Some id) request.now self.now.session).drafts)) }
+    ) -> Result<bool, AdapterFault>
+        requires ready { IsReady out.old (numbers_of self.now.session) }
+        ensures none { IfOk result (λ found. found ≡ false → NamesNone id self.now.session.kept) }
+        ensures one { IfOk result (λ found. IsTrue found → NamesOne id self.now.session.kept) }
+        ensures last { OnOk result (out.new.numbers.last ≡ self.now.session.limits.seq) }
+        ensures holds { IfOk result (λ found. IsTrue found → Holds out.new self.now.session.limits.body self.now.session.used (after_cancel (Some id) request.now self.now.session).drafts) }
+        ensures unwritten { IfOk result (λ found. found ≡ false → out.new ≡ out.old) }
         ensures named { OnErr result (NamesOne id self.now.session.kept) }
         ensures refused { IfErr result (λ fault. LacksRoom fault self.now.session 2) }
+        ensures before { out.new.before ≡ out.old.before }
     {
+        self.begin(out);
         if self.kept.is_parked(id) {
-            return Ok(None);
+            return Ok(false);
         }
         let Some(named) = self.kept.get(id) else {
-            return Ok(None);
+            return Ok(false);
         };
-        match self.both_responses(alloc, named, request) {
-            Ok(outbox) => Ok(Some(outbox)),
+        match self.both_responses(alloc, out, named, request) {
+            Ok(()) => Ok(true),
             Err(fault) => Err(fault),
         }
     }
@@ -145,45 +159,61 @@ impl<D: Debuggee + Drop> Session<D> {
     fn cancel_named(
         &mut self,
         alloc: Global,
+        out: &mut Outbox,
         request: &Entry,
         id: Option<u64>,
-    ) -> Result<Vec<u8>, AdapterFault>
-        ensures made { IfOk result (λ bytes. MadeBy (after_cancel id request.now self.old.session) self.old.session self.new.session bytes.items) }
+    ) -> Result<(), AdapterFault>
+        requires ready { IsReady out.old (numbers_of self.old.session) }
+        ensures made { OnOk result (MadeBy (after_cancel id request.now self.old.session) self.old.session self.new.session out.new.bytes) }
         ensures within { OnOk result (self.old.session.used + length (after_cancel id request.now self.old.session).drafts ≤ self.old.session.limits.seq) }
         ensures refused { IfErr result (λ fault. LacksRoom fault self.old.session (length (after_cancel id request.now self.old.session).drafts)) }
         ensures err { OnErr result (self.new ≡ self.old) }
         ensures debuggee { self.new.debuggee ≡ self.old.debuggee }
         ensures limits { self.new.session.limits ≡ self.old.session.limits }
+        ensures before { out.new.before ≡ out.old.before }
     {
         let Some(id) = id else {
-            return self.answer_at_once(alloc, request, Answer::Success(None));
+            return self.answer_at_once(alloc, out, request, Answer::Success(None));
         };
-        match self.cancel_responses(alloc, request, id) {
+        match self.cancel_responses(alloc, out, request, id) {
             Err(fault) => Err(fault),
-            Ok(None) => self.answer_at_once(alloc, request, Answer::Success(None)),
-            Ok(Some(outbox)) => Ok(self.commit(id, outbox)),
+            Ok(false) => self.answer_at_once(alloc, out, request, Answer::Success(None)),
+            Ok(true) => {
+                // For the proof: no more numbers were used than there are.
+                let _ = out.numbers();
+                self.commit(id, out);
+                Ok(())
+            }
         }
     }
 
     /// Answers a cancel at once, and what it names.
-    fn cancel(&mut self, alloc: Global, request: &Entry) -> Result<Vec<u8>, AdapterFault>
-        ensures made { IfOk result (λ bytes. MadeBy (after_cancel_request request.now self.old.session) self.old.session self.new.session bytes.items) }
+    fn cancel(
+        &mut self,
+        alloc: Global,
+        out: &mut Outbox,
+        request: &Entry,
+    ) -> Result<(), AdapterFault>
+        requires ready { IsReady out.old (numbers_of self.old.session) }
+        ensures made { OnOk result (MadeBy (after_cancel_request request.now self.old.session) self.old.session self.new.session out.new.bytes) }
         ensures within { OnOk result (self.old.session.used + length (after_cancel_request request.now self.old.session).drafts ≤ self.old.session.limits.seq) }
         ensures refused { IfErr result (λ fault. LacksRoom fault self.old.session (length (after_cancel_request request.now self.old.session).drafts)) }
         ensures err { OnErr result (self.new ≡ self.old) }
         ensures debuggee { self.new.debuggee ≡ self.old.debuggee }
         ensures limits { self.new.session.limits ≡ self.old.session.limits }
+        ensures before { out.new.before ≡ out.old.before }
     {
         if self.phase() == Phase::Fresh {
-            return self.answer_at_once(alloc, request, Answer::Failure(Failure::NotInitialized));
+            let answer = Answer::Failure(Failure::NotInitialized);
+            return self.answer_at_once(alloc, out, request, answer);
         }
         match call_in(alloc, request, Command::Cancel) {
             Err(CallFault::OutOfMemory) => Err(AdapterFault::OutOfMemory),
             Err(CallFault::BadArguments { key }) => {
                 let answer = Answer::Failure(Failure::BadArguments { key });
-                self.answer_at_once(alloc, request, answer)
+                self.answer_at_once(alloc, out, request, answer)
             }
-            Ok(call) => self.cancel_named(alloc, request, id_in(&call)),
+            Ok(call) => self.cancel_named(alloc, out, request, id_in(&call)),
         }
     }
 
@@ -191,15 +221,18 @@ impl<D: Debuggee + Drop> Session<D> {
     fn take_request(
         &mut self,
         alloc: Global,
+        out: &mut Outbox,
         seq: u64,
         command: &Text,
         arguments: &Option<Tree>,
-    ) -> Result<Vec<u8>, AdapterFault>
-        ensures taken { IfOk result (λ bytes. HasTaken D.follows (takes_request (record { seq = seq; command = command.now; arguments = arguments.now }) self.old.session) self.old self.new bytes.items) }
+    ) -> Result<(), AdapterFault>
+        requires ready { IsReady out.old (numbers_of self.old.session) }
+        ensures taken { OnOk result (HasTaken D.follows (takes_request (record { seq = seq; command = command.now; arguments = arguments.now }) self.old.session) self.old self.new out.new.bytes) }
         ensures refused { IfErr result (λ fault. NotTaken fault (takes_request (record { seq = seq; command = command.now; arguments = arguments.now }) self.old.session)) }
         ensures err { OnErr result (self.new ≡ self.old) }
         ensures debuggee { self.new.debuggee ≡ self.old.debuggee }
         ensures limits { self.new.session.limits ≡ self.old.session.limits }
+        ensures before { out.new.before ≡ out.old.before }
     {
         let _ = &self.queries;
         if has_ended(self.phase) {
@@ -210,36 +243,63 @@ impl<D: Debuggee + Drop> Session<D> {
         }
         let request = entry_of(seq, command, arguments)?;
         if is_cancel(request.command.as_str()) {
-            return self.cancel(alloc, &request);
+            return self.cancel(alloc, out, &request);
         }
-        self.keep(alloc, request)
+        self.keep(alloc, out, request)
     }
 
-    /// Takes a message that was delivered: a request is kept, or answered at once. A response that answers no own request is
-    /// `Unmatched`, one to another command is `CommandMismatch`. While a terminal is waited for, a success starts the debuggee,
-    /// and a failure fails what is parked; a later one ends the waiting for an answer, and nothing else. An event, and a message
-    /// of another kind, have no effect.
-    pub fn take(&mut self, alloc: Global, message: &Message) -> Result<Vec<u8>, AdapterFault>
-        ensures taken { IfOk result (λ bytes. HasTaken D.follows (takes message.now self.old.session) self.old self.new bytes.items) }
+    /// The same of any message.
+    fn take_message(
+        &mut self,
+        alloc: Global,
+        out: &mut Outbox,
+        message: &Message,
+    ) -> Result<(), AdapterFault>
+        requires ready { IsReady out.old (numbers_of self.old.session) }
+        ensures taken { OnOk result (HasTaken D.follows (takes message.now self.old.session) self.old self.new out.new.bytes) }
         ensures refused { IfErr result (λ fault. NotTaken fault (takes message.now self.old.session)) }
         ensures unasked { OnErr result (IsUnasked (some_plan (takes message.now self.old.session)) self.old.debuggee self.new.debuggee) }
         ensures memory { IsErrOf result AdapterFault.OutOfMemory → may_take_memory message.now.kind self.old.session.phase ≡ true }
         ensures err { OnErr result (self.new.session ≡ self.old.session) }
         ensures limits { self.new.session.limits ≡ self.old.session.limits }
+        ensures before { out.new.before ≡ out.old.before }
     {
         let _ = &self.queries;
         match &message.kind {
             Kind::Request { command, arguments } => {
-                self.take_request(alloc, message.seq, command, arguments)
+                self.take_request(alloc, out, message.seq, command, arguments)
             }
             Kind::Response {
                 request_seq,
                 success,
                 command,
                 ..
-            } => self.take_response(alloc, *request_seq, *success, command),
-            Kind::Event { .. } => Ok(Vec::new(alloc)),
-            Kind::Other { .. } => Ok(Vec::new(alloc)),
+            } => self.take_response(alloc, out, *request_seq, *success, command),
+            Kind::Event { .. } => Ok(()),
+            Kind::Other { .. } => Ok(()),
         }
+    }
+
+    /// Takes a message that was delivered: a request is kept, or answered at once. A response that answers no own request is
+    /// `Unmatched`, one to another command is `CommandMismatch`. While a terminal is waited for, a success starts the debuggee,
+    /// and a failure fails what is parked; a later one ends the waiting for an answer, and nothing else. An event, and a message
+    /// of another kind, have no effect. What is written is appended to `out`; where it fails, `out` is as it was.
+    pub fn take(
+        &mut self,
+        alloc: Global,
+        message: &Message,
+        out: &mut Vec<u8>,
+    ) -> Result<(), AdapterFault>
+        ensures taken { OnOk result (AppendsSome (λ bytes. HasTaken D.follows (takes message.now self.old.session) self.old self.new bytes) out.old.items out.new.items) }
+        ensures refused { IfErr result (λ fault. NotTaken fault (takes message.now self.old.session)) }
+        ensures unasked { OnErr result (IsUnasked (some_plan (takes message.now self.old.session)) self.old.debuggee self.new.debuggee) }
+        ensures memory { IsErrOf result AdapterFault.OutOfMemory → may_take_memory message.now.kind self.old.session.phase ≡ true }
+        ensures err { OnErr result ((self.new.session ≡ self.old.session) × (out.new.items ≡ out.old.items)) }
+        ensures limits { self.new.session.limits ≡ self.old.session.limits }
+    {
+        let mut outbox = self.outbox_behind(alloc, out);
+        let result = self.take_message(alloc, &mut outbox, message);
+        give_back(outbox, result.is_ok(), out);
+        result
     }
 }

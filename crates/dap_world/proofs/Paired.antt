@@ -14,7 +14,8 @@ use Rattle.dap_history.specs.History.{Asked, without_answered}
 use Rattle.dap_check.specs.declared.line.Side.TheVariants.{Adapter}
 use Rattle.dap_session.specs.Answering.{GoesWell}
 use Rattle.dap_session.specs.GivenLaws.{given_by}
-use Rattle.dap_session.specs.Plan.{success, failure, Draft, reply, emit, ask, Made, message_of, numbered_messages, written_by, requests_in}
+use Rattle.dap_session.specs.Plan.{Made, written_by}
+use Rattle.dap_outbox.specs.Draft.{success, failure, Draft, reply, emit, ask, message_of, numbered_messages, requests_in}
 use Rattle.dap_session.specs.Session.{Session, own_requests}
 use Rattle.dap_session.specs.SessionState.{SessionState}
 use Rattle.dap_world.specs.Projection.{note_seen, notes_seen, written_seen, adapter_model_of, own_seen, references_seen, table_of, ByNumber, pair_of}

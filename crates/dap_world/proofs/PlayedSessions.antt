@@ -11,7 +11,8 @@ use Rattle.dap_recording.specs.declared.recording.Recording.{Recording}
 use Rattle.dap_session.specs.declared.fault.AdapterFault.{AdapterFault}
 use Rattle.dap_session.specs.declared.fault.AdapterFault.TheVariants.{SeqExhausted}
 use Rattle.dap_session.specs.Handling.{turns}
-use Rattle.dap_session.specs.Plan.{Made, Plan, at_once, asking, numbered_messages}
+use Rattle.dap_session.specs.Plan.{Made, Plan, at_once, asking}
+use Rattle.dap_outbox.specs.Draft.{numbered_messages}
 use Rattle.dap_session.specs.Polling.{polls}
 use Rattle.dap_session.specs.Session.{Session, fresh_session}
 use Rattle.dap_session.specs.Taking.{takes}

@@ -29,8 +29,10 @@ use Rattle.dap_tables.specs.References.{LiveReferences}
 use Rattle.dap_session.specs.Answering.{GoesWell}
 use Rattle.dap_session.specs.GivenLaws.{given_by, AllGiveLive}
 use Rattle.dap_session.specs.Handling.{is_launch, names_terminal, wants_terminal, parked_wants_terminal}
-use Rattle.dap_session.specs.Plan.{Draft, reply, emit, ask, Made, message_of, numbered_messages, requests_in}
-use Rattle.dap_session.specs.Session.{Session, own_request, own_requests}
+use Rattle.dap_session.specs.Plan.{Made}
+use Rattle.dap_outbox.specs.Draft.{Draft, reply, emit, ask, message_of, numbered_messages, requests_in}
+use Rattle.dap_session.specs.Session.{Session, own_requests}
+use Rattle.dap_outbox.specs.Draft.{own_request}
 use Rattle.dap_query.specs.declared.options.Options.{Options}
 use Rattle.dap_session.specs.declared.phase.Phase.{Phase}
 use Rattle.dap_session.specs.declared.phase.Phase.TheVariants as adapter

@@ -14,9 +14,9 @@ returns-then-is_ended-clause-answers g c =
 
 pub returns-in-Ok-clause-answers : goal.returns-in-Ok-clause-answers
 returns-in-Ok-clause-answers g c =
-    answered_piece (λ (v : _). v.items) g.D.Debuggee.shown g.D.Debuggee.follows _ _ c.args.piece.now c.in-Ok.ended (c.in-Ok.ensures.uses_up (ap (λ (p : Phase). is_phase Ended p) (sym c.phase.ensures) ∙ (sym c.is_ended.ensures ∙ c.if-is_ended.false)))
+    answered_piece g.D.Debuggee.shown g.D.Debuggee.follows _ _ c.args.piece.now c.in-Ok.ended (c.in-Ok.ensures.uses_up (ap (λ (p : Phase). is_phase Ended p) (sym c.phase.ensures) ∙ (sym c.is_ended.ensures ∙ c.if-is_ended.false)))
 
 pub returns-in-Err-clause-stops : goal.returns-in-Err-clause-stops
 returns-in-Err-clause-stops g c = λ none.
-    subst (λ (f : AdapterFault). StopsAfter g.D.Debuggee.shown g.D.Debuggee.follows c.args.self.now to_take c.args.piece.now c.args.out.now.items f c.close.new.self c.serve_piece.new.sink.items) (sym c.adapter_fault-fault.ensures)
-    (stopped_after (λ (v : _). v.items) g.D.Debuggee.shown g.D.Debuggee.follows _ _ to_take c.args.piece.now c.in-Err.fault (c.in-Err.ensures.halts (ap (λ (p : Phase). is_phase Ended p) (sym c.phase.ensures) ∙ (sym c.is_ended.ensures ∙ c.if-is_ended.false))) none c.close.new.self c.close.ensures.session c.close.ensures.debuggee)
+    subst (λ (f : AdapterFault). StopsAfter g.D.Debuggee.shown g.D.Debuggee.follows c.args.self.now to_take c.args.piece.now c.args.out.now.items f c.close.new.self c.serve_piece.new.sink) (sym c.adapter_fault-fault.ensures)
+    (stopped_after g.D.Debuggee.shown g.D.Debuggee.follows _ _ to_take c.args.piece.now c.in-Err.fault (c.in-Err.ensures.halts (ap (λ (p : Phase). is_phase Ended p) (sym c.phase.ensures) ∙ (sym c.is_ended.ensures ∙ c.if-is_ended.false))) none c.close.new.self c.close.ensures.session c.close.ensures.debuggee)

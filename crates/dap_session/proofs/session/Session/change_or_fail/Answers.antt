@@ -2,15 +2,16 @@ use Rattle.std.proofs.Common.{refl, sym, subst}
 use Rattle.dap_session.specs.Plan.{Plan}
 use Rattle.dap_session.specs.SessionState.{Carries}
 use Rattle.dap_session.proofs.ChangeResults.{change-carries}
-use Rattle.dap_session.proofs.TakingRequests.{at_once_carries, each-ok}
+use Rattle.dap_session.proofs.Outboxes.{each-done}
+use Rattle.dap_session.proofs.TakingRequests.{at_once_carries}
 use Rattle.dap_session.proofs.session.Session.change_or_fail.Goals as goal
 
 pub returns-in_ok-make_change-in-Ok-clause-carries : goal.returns-in_ok-make_change-in-Ok-clause-carries
 returns-in_ok-make_change-in-Ok-clause-carries g c =
-    change-carries g.D.Debuggee.follows _ c.args.self.now c.make_change.new.self c.commit.new.self c.args.request.now c.in-Ok.outbox c.commit.result.items c.in-Ok.ensures.measured c.in_ok-make_change-in-Ok.ensures.changes c.commit.ensures.session (rw c.commit.ensures.bytes refl)
+    change-carries g.D.Debuggee.follows _ c.args.self.now c.make_change.new.self c.commit.new.self c.args.request.now c.weigh.new.out _ c.in-Ok.ensures.measured c.in_ok-make_change-in-Ok.ensures.changes c.commit.ensures.session refl
 
 pub returns-in-Err-Fails-clause-carries : goal.returns-in-Err-Fails-clause-carries
 returns-in-Err-Fails-clause-carries g c =
-    each-ok c.answer.result _ _
-    (λ bytes made. subst (λ (p : Plan). Carries g.D.Debuggee.follows p c.args.self.now c.answer.new.self bytes.items) (sym (rw c.in-Err-Fails.field-0-is at c.in-Err-Fails.ensures.fails)) (at_once_carries g.D.Debuggee.follows _ _ _ _ made c.answer.ensures.debuggee))
+    each-done c.answer.result _ _
+    (λ made. subst (λ (p : Plan). Carries g.D.Debuggee.follows p c.args.self.now c.answer.new.self c.answer.new.out.bytes) (sym (rw c.in-Err-Fails.field-0-is at c.in-Err-Fails.ensures.fails)) (at_once_carries g.D.Debuggee.follows _ _ _ _ made c.answer.ensures.debuggee))
     c.answer.ensures.made

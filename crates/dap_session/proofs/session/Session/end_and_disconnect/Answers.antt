@@ -18,4 +18,10 @@ returns-in_err-room-clause-refused g c =
 pub returns-clause-carries : goal.returns-clause-carries
 returns-clause-carries g c =
     asking-carries g.D.Debuggee.follows to_end (λ last. after_disconnect c.args.self.now.session c.args.request.now) done c.args.self.now _ _ (rw c.go.ensures.session c.end.ensures.follows)
-    (disconnect-made c.args.self.now.session c.args.request.now c.in_ok-outbox.outbox _ _ c.in_ok-outbox.ensures.holds (rw c.end.ensures.session at (ap (λ (x : SessionState _). x.session) c.go.ensures.session)) (rw c.go.ensures.bytes refl))
+    (disconnect-made c.args.self.now.session c.args.request.now c.final_responses.new.out _ _ c.in_ok-final_responses.ensures.holds (rw c.end.ensures.session at (ap (λ (x : SessionState _). x.session) c.go.ensures.session)) refl)
+
+pub returns-clause-within : goal.returns-clause-within
+returns-clause-within g c =
+    let d : HasDistinctSeqs c.args.self.now.session.kept = subst (λ (x : SessionState _). HasDistinctSeqs x.session.kept) c.self.view_is c.self.invariant.orderly.distinct in
+    let same : length c.args.self.now.session.kept ≡ c.len.result = sym (c.len.ensures.len ∙ ap (λ (x : SessionState _). length x.session.kept) c.self.view_is) in
+    rw (messages_due-after_disconnect c.args.self.now.session c.args.request.now d c.requires.kept ∙ same) c.in_ok-room.ensures.ok

@@ -1,9 +1,10 @@
-use Rattle.std.proofs.Common.{◌≡◌, ◌≤◌, [], refl, ap, ◌∙◌, arith}
+use Rattle.std.proofs.Common.{◌≡◌, ◌≤◌, [], ap, ◌∙◌, arith}
 use Rattle.dap_frame.specs.Settings.{Settings}
+use Rattle.dap_session.proofs.TakingRequests.{each-ok}
 use Rattle.dap_session.proofs.session.Session.measured.Goals as goal
 
-pub returns-then-branch-clause-holds : goal.returns-then-branch-clause-holds
-returns-then-branch-clause-holds g c =
+pub returns-clause-holds : goal.returns-clause-holds
+returns-clause-holds g c =
     let is : c.body.result ≡ c.args.self.now.session.limits.body = c.body.ensures.value ∙ ap (λ (x : Settings). x.body) c.limits.ensures in
     let fits : c.body.result ≤ c.args.self.now.session.limits.body = omega arith in
-    (c.in_ok-reply_within.ensures.writes (rw c.if-branch.true refl)).holds _ _ [] fits c.fresh_outbox-outbox.ensures.holds
+    each-ok c.reply_within.result _ _ (λ ok w yes. (w yes).holds _ _ [] fits c.begin.ensures.holds) c.reply_within.ensures.writes

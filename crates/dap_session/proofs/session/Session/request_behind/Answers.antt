@@ -1,4 +1,5 @@
+use Rattle.dap_session.proofs.Outboxes.{holds-more}
 use Rattle.dap_session.proofs.session.Session.request_behind.Goals as goal
 
 pub returns-clause-holds : goal.returns-clause-holds
-returns-clause-holds g c = c.in_ok-seq.ensures.writes.holds _ _ _ c.in_ok-outbox.ensures.holds.room c.in_ok-outbox.ensures.holds
+returns-clause-holds g c = holds-more c.ask.result _ _ _ _ _ _ c.in_ok-one.ensures.holds c.ask.ensures.writes

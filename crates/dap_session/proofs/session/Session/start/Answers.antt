@@ -7,11 +7,11 @@ returns-clause-carries g c =
     record {
       step = record {
         made = _;
-        carried = (reply_of c.in_ok-ok.ok, rw (c.set_phase.ensures, c.in_ok-bytes.ensures.debuggee) c.in_ok-ok.ensures.follows, refl);
-        after = rw (c.set_phase.ensures, c.in_ok-bytes.ensures.made.session, c.in_ok-ok.ensures.session, c.start_phase.ensures) refl;
+        carried = (reply_of c.in_ok-ok.ok, rw (c.set_phase.ensures, c.answer.ensures.debuggee) c.in_ok-ok.ensures.follows, refl);
+        after = rw (c.set_phase.ensures, c.in_ok-answer.ensures.made.session, c.in_ok-ok.ensures.session, c.start_phase.ensures) refl;
       };
       tells = record {
-        bytes_are = rw (c.in_ok-bytes.ensures.made.tells.bytes_are, c.in_ok-ok.ensures.session, c.by_reply.ensures) refl;
-        reads_back = rw (c.in_ok-ok.ensures.session, c.by_reply.ensures) at c.in_ok-bytes.ensures.made.tells.reads_back;
+        bytes_are = rw (c.in_ok-answer.ensures.made.tells.bytes_are, c.in_ok-ok.ensures.session, c.by_reply.ensures) refl;
+        reads_back = rw (c.in_ok-ok.ensures.session, c.by_reply.ensures) at c.in_ok-answer.ensures.made.tells.reads_back;
       };
     }

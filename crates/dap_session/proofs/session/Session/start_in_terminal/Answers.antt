@@ -1,13 +1,14 @@
 use Rattle.dap_debuggee.specs.Shown.{to_start}
 use Rattle.dap_session.specs.SessionState.{reply_of}
 use Rattle.dap_session.specs.Taking.{after_terminal}
-use Rattle.dap_session.proofs.TakingRequests.{asking-carries, each-ok}
+use Rattle.dap_session.proofs.Outboxes.{each-done}
+use Rattle.dap_session.proofs.TakingRequests.{asking-carries}
 use Rattle.dap_session.proofs.session.Session.start_in_terminal.Goals as goal
 
 pub returns-clause-carries : goal.returns-clause-carries
 returns-clause-carries g c =
-    each-ok c.end_waiting.result _ _
-    (λ bytes made. asking-carries g.D.Debuggee.follows to_start (after_terminal c.args.self.now.session) (reply_of c.in_ok-ok.ok) _ _ bytes.items
+    each-done c.end_waiting.result _ _
+    (λ made. asking-carries g.D.Debuggee.follows to_start (after_terminal c.args.self.now.session) (reply_of c.in_ok-ok.ok) _ _ c.end_waiting.new.out.bytes
     (rw c.end_waiting.ensures.debuggee c.in_ok-ok.ensures.follows)
     (rw c.in_ok-ok.ensures.session at made))
     c.end_waiting.ensures.made

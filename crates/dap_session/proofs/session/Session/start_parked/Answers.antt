@@ -4,7 +4,7 @@ use Rattle.dap_tables.specs.Outstanding.{parked_ones}
 use Rattle.dap_debuggee.specs.Shown.{to_start, done}
 use Rattle.dap_session.specs.declared.fault.AdapterFault.TheVariants.{OutOfMemory}
 use Rattle.dap_session.specs.Handling.{after_parked_launch}
-use Rattle.dap_session.specs.InRange.{AnswersInRange}
+use Rattle.dap_outbox.specs.InRange.{AnswersInRange}
 use Rattle.dap_session.specs.Plan.{asking, written_by}
 use Rattle.dap_session.specs.SessionState.{SessionState, reply_of}
 use Rattle.dap_session.specs.Session.{Session}
@@ -25,9 +25,9 @@ returns-in_err-ok-clause-refused g c =
     let due_is = messages_due-started c.args.self.now.session c.args.request.now done c.requires.unparked ∙ ap (λ n. 1 + n) same in
     rw is (asked c.args.self.now.session (asking to_start (after_parked_launch c.args.self.now.session c.args.request.now)) _ _ (rw due_is c.in_ok-room.ensures.ok) tt)
 
-pub returns-in_err-outbox-clause-refused : goal.returns-in_err-outbox-clause-refused
-returns-in_err-outbox-clause-refused g c =
-    let is : c.from_residual-in_err-outbox.result ≡ Err OutOfMemory = search rules in
+pub returns-in_err-start_responses-clause-refused : goal.returns-in_err-start_responses-clause-refused
+returns-in_err-start_responses-clause-refused g c =
+    let is : c.from_residual-in_err-start_responses.result ≡ Err OutOfMemory = search rules in
     let same : length (parked_ones c.args.self.now.session.kept) ≡ c.parked.result = sym (c.parked.ensures.parked ∙ ap (λ (x : SessionState _). length (parked_ones x.session.kept)) c.self.view_is) in
     let due_is = messages_due-started c.args.self.now.session c.args.request.now done c.requires.unparked ∙ ap (λ n. 1 + n) same in
     rw is (asked c.args.self.now.session (asking to_start (after_parked_launch c.args.self.now.session c.args.request.now)) _ _ (rw due_is c.in_ok-room.ensures.ok) tt)
@@ -37,11 +37,16 @@ returns-clause-carries g c =
     record {
       step = record {
         made = _;
-        carried = (reply_of c.in_ok-ok.ok, rw (c.set_phase.ensures, c.commit_parked-bytes.ensures.session) c.in_ok-ok.ensures.follows, refl);
-        after = rw (c.set_phase.ensures, c.commit_parked-bytes.ensures.session, c.in_ok-outbox.ensures.holds.count, count-started c.ask_start.new.self.session c.args.request.now (reply_of c.in_ok-ok.ok), c.in_ok-ok.ensures.session, c.start_phase.ensures) refl;
+        carried = (reply_of c.in_ok-ok.ok, rw (c.set_phase.ensures, c.commit_parked.ensures.session) c.in_ok-ok.ensures.follows, refl);
+        after = rw (c.set_phase.ensures, c.commit_parked.ensures.session, c.in_ok-start_responses.ensures.holds.count, count-started c.ask_start.new.self.session c.args.request.now (reply_of c.in_ok-ok.ok), c.in_ok-ok.ensures.session, c.start_phase.ensures) refl;
       };
       tells = record {
-        bytes_are = rw (c.commit_parked-bytes.ensures.bytes, c.in_ok-outbox.ensures.holds.bytes, c.in_ok-ok.ensures.session) refl;
-        reads_back = subst (λ (x : Session). AnswersInRange (after_parked_launch x c.args.request.now (reply_of c.in_ok-ok.ok)).drafts → AllReadBack x.limits.body (written_by x (after_parked_launch x c.args.request.now (reply_of c.in_ok-ok.ok)))) c.in_ok-ok.ensures.session c.in_ok-outbox.ensures.holds.reads_back;
+        bytes_are = rw (c.in_ok-start_responses.ensures.holds.bytes, c.in_ok-ok.ensures.session) refl;
+        reads_back = subst (λ (x : Session). AnswersInRange (after_parked_launch x c.args.request.now (reply_of c.in_ok-ok.ok)).drafts → AllReadBack x.limits.body (written_by x (after_parked_launch x c.args.request.now (reply_of c.in_ok-ok.ok)))) c.in_ok-ok.ensures.session c.in_ok-start_responses.ensures.holds.reads_back;
       };
     }
+
+pub returns-clause-within : goal.returns-clause-within
+returns-clause-within g c =
+    let same : length (parked_ones c.args.self.now.session.kept) ≡ c.parked.result = sym (c.parked.ensures.parked ∙ ap (λ (x : SessionState _). length (parked_ones x.session.kept)) c.self.view_is) in
+    rw (messages_due-started c.args.self.now.session c.args.request.now done c.requires.unparked ∙ ap (λ n. 1 + n) same) c.in_ok-room.ensures.ok

@@ -11,4 +11,4 @@ returns-then-is_waiting-clause-carries g c =
 
 pub returns-clause-carries : goal.returns-clause-carries
 returns-clause-carries g c =
-    late-carries g.D.Debuggee.follows c.args.success c.args.self.now _ _ (sym (c.if-is_waiting.ensures ∙ ap (λ (x : SessionState _). is_phase Asked x.session.phase) c.self.view_is)) c.set_asked.ensures c.new.ensures.items
+    late-carries g.D.Debuggee.follows c.args.success c.args.self.now _ _ (sym (c.if-is_waiting.ensures ∙ ap (λ (x : SessionState _). is_phase Asked x.session.phase) c.self.view_is)) c.set_asked.ensures c.requires.ready.none

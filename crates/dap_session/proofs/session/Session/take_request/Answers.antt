@@ -7,7 +7,8 @@ use Rattle.dap_session.specs.Taking.{is_cancel, after_keeping, after_cancel_requ
 use Rattle.dap_session.specs.Session.{Session}
 use Rattle.dap_session.specs.Table.{is_phase}
 use Rattle.dap_session.specs.declared.phase.Phase.TheVariants.{Ended}
-use Rattle.dap_session.proofs.TakingRequests.{IsOpenTo, takes-made, as-cancel, as-other, ok-both}
+use Rattle.dap_session.proofs.TakingRequests.{IsOpenTo, takes-made, as-cancel, as-other}
+use Rattle.dap_session.proofs.Outboxes.{done-both}
 use Rattle.dap_session.proofs.session.Session.take_request.Goals as goal
 
 pub returns-clause-taken : goal.returns-clause-taken
@@ -20,11 +21,11 @@ returns-clause-taken g c =
       new = sym (c.if-contains.ensures.contains ∙ ap (λ (x : SessionState _). contains_seq c.args.seq x.session.kept) c.self.view_is);
     } in
     let other : of_known is_cancel (command_of r) ≡ false = sym (rw (c.as_str.ensures, c.in_ok-request.ensures) at c.if-is_cancel.ensures) in
-    ok-both c.keep.result _ _ _
-    (λ bytes made within.
-    takes-made g.D.Debuggee.follows r v _ (after_keeping r s) bytes.items open_to (as-other r s other)
+    done-both c.keep.result _ _ _
+    (λ made within.
+    takes-made g.D.Debuggee.follows r v _ (after_keeping r s) c.keep.new.out.bytes open_to (as-other r s other)
     (subst (λ (x : Entry). s.used + length (after_keeping x s).drafts ≤ s.limits.seq) c.in_ok-request.ensures within)
-    (subst (λ (x : Entry). MadeBy (after_keeping x s) s c.keep.new.self.session bytes.items) c.in_ok-request.ensures made)
+    (subst (λ (x : Entry). MadeBy (after_keeping x s) s c.keep.new.self.session c.keep.new.out.bytes) c.in_ok-request.ensures made)
     c.keep.ensures.debuggee)
     c.keep.ensures.made
     c.keep.ensures.within
@@ -39,11 +40,11 @@ returns-then-is_cancel-clause-taken g c =
       new = sym (c.if-contains.ensures.contains ∙ ap (λ (x : SessionState _). contains_seq c.args.seq x.session.kept) c.self.view_is);
     } in
     let cancels : of_known is_cancel (command_of r) ≡ true = sym (rw (c.as_str.ensures, c.in_ok-request.ensures) at c.if-is_cancel.ensures) in
-    ok-both c.cancel.result _ _ _
-    (λ bytes made within.
-    takes-made g.D.Debuggee.follows r v _ (after_cancel_request r s) bytes.items open_to (as-cancel r s cancels)
+    done-both c.cancel.result _ _ _
+    (λ made within.
+    takes-made g.D.Debuggee.follows r v _ (after_cancel_request r s) c.cancel.new.out.bytes open_to (as-cancel r s cancels)
     (subst (λ (x : Entry). s.used + length (after_cancel_request x s).drafts ≤ s.limits.seq) c.in_ok-request.ensures within)
-    (subst (λ (x : Entry). MadeBy (after_cancel_request x s) s c.cancel.new.self.session bytes.items) c.in_ok-request.ensures made)
+    (subst (λ (x : Entry). MadeBy (after_cancel_request x s) s c.cancel.new.self.session c.cancel.new.out.bytes) c.in_ok-request.ensures made)
     c.cancel.ensures.debuggee)
     c.cancel.ensures.made
     c.cancel.ensures.within

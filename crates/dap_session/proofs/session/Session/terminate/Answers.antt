@@ -7,11 +7,11 @@ returns-clause-carries g c =
     record {
       step = record {
         made = _;
-        carried = (done, rw (c.set_phase.ensures, c.clear_references.ensures, c.commit-bytes.ensures.session) c.end.ensures.follows, refl);
-        after = rw (c.set_phase.ensures, c.clear_references.ensures, c.commit-bytes.ensures.session, c.end.ensures.session, c.in_ok-outbox.ensures.holds.count) refl;
+        carried = (done, rw (c.set_phase.ensures, c.clear_references.ensures, c.commit.ensures.session) c.end.ensures.follows, refl);
+        after = rw (c.set_phase.ensures, c.clear_references.ensures, c.commit.ensures.session, c.end.ensures.session, c.in_ok-two.ensures.holds.count) refl;
       };
       tells = record {
-        bytes_are = rw (c.commit-bytes.ensures.bytes, c.in_ok-outbox.ensures.holds.bytes) refl;
-        reads_back = c.in_ok-outbox.ensures.holds.reads_back;
+        bytes_are = c.in_ok-two.ensures.holds.bytes;
+        reads_back = c.in_ok-two.ensures.holds.reads_back;
       };
     }

@@ -1,0 +1,44 @@
+-- Answers to several kept requests on an outbox, one by one.
+use Rattle.std.proofs.Common.{◌≡◌, ℕ, ◌+◌, ◌≤◌, List, [], ◌∷◌, ◌++◌, Bool, true, false, length, refl, ap, ◌∙◌, subst, append_assoc, arith, filter}
+use Rattle.std.proofs.lemmas.List.{append-nil}
+use Rattle.dap_message.specs.Lengths.{max_fixed}
+use Rattle.dap_tables.specs.declared.entry.Entry.{Entry}
+use Rattle.dap_outbox.specs.Draft.{Answer, Draft, reply}
+use Rattle.dap_outbox.specs.Outbox.{OutboxState, Holds, AppendsDraft}
+use Rattle.dap_outbox.specs.Several.{answer_where, WritesAll}
+
+pub writes-none : (s : OutboxState) → WritesAll s s []
+writes-none s = record { last = refl; holds = λ limit used before h. rw (append-nil before) h }
+
+pub writes-then : (old mid new : OutboxState) (d : Draft) (ds : List Draft) → AppendsDraft max_fixed old mid d → WritesAll mid new ds → WritesAll old new (d ∷ ds)
+writes-then old mid new d ds w v =
+    record {
+      last = v.last ∙ w.last;
+      holds = λ limit used before h. subst (λ (xs : List Draft). Holds new limit used xs) (append_assoc before (d ∷ []) ds) (v.holds limit used (before ++ d ∷ []) (w.holds limit used before h.room h));
+    }
+
+pub some-pass : (passes : ℕ → Bool) (r : Entry) (rest : List Entry) → passes r.seq ≡ true → filter (λ (x : Entry). passes x.seq) (r ∷ rest) ≡ r ∷ filter (λ (x : Entry). passes x.seq) rest
+some-pass passes r rest is = rw is refl
+
+pub none-pass : (passes : ℕ → Bool) (r : Entry) (rest : List Entry) → passes r.seq ≡ false → filter (λ (x : Entry). passes x.seq) (r ∷ rest) ≡ filter (λ (x : Entry). passes x.seq) rest
+none-pass passes r rest is = rw is refl
+
+-- a request that is answered
+pub goes-answered : (passes : ℕ → Bool) (answer : Answer) (requests rest : List Entry) (r : Entry) (old mid final : OutboxState) → requests ≡ r ∷ rest → passes r.seq ≡ true → AppendsDraft max_fixed old mid (reply r answer) → WritesAll mid final (answer_where passes answer rest) → WritesAll old final (answer_where passes answer requests)
+goes-answered passes answer requests rest r old mid final e is w v = rw (e, some-pass passes r rest is) (writes-then old mid final (reply r answer) (answer_where passes answer rest) w v)
+
+-- one that is not
+pub goes-passed : (passes : ℕ → Bool) (answer : Answer) (requests rest : List Entry) (r : Entry) (old final : OutboxState) → requests ≡ r ∷ rest → passes r.seq ≡ false → WritesAll old final (answer_where passes answer rest) → WritesAll old final (answer_where passes answer requests)
+goes-passed passes answer requests rest r old final e is v = rw (e, none-pass passes r rest is) v
+
+pub room-answered : (passes : ℕ → Bool) (used mid last : ℕ) (requests rest : List Entry) (r : Entry) → requests ≡ r ∷ rest → passes r.seq ≡ true → mid ≡ used + 1 → used + length (filter (λ (x : Entry). passes x.seq) requests) ≤ last → mid + length (filter (λ (x : Entry). passes x.seq) rest) ≤ last
+room-answered passes used mid last requests rest r e is m h =
+    let all : filter (λ (x : Entry). passes x.seq) requests ≡ r ∷ filter (λ (x : Entry). passes x.seq) rest = rw e (some-pass passes r rest is) in
+    let count = ap length all in
+    omega arith
+
+pub room-passed : (passes : ℕ → Bool) (used last : ℕ) (requests rest : List Entry) (r : Entry) → requests ≡ r ∷ rest → passes r.seq ≡ false → used + length (filter (λ (x : Entry). passes x.seq) requests) ≤ last → used + length (filter (λ (x : Entry). passes x.seq) rest) ≤ last
+room-passed passes used last requests rest r e is h =
+    let all : filter (λ (x : Entry). passes x.seq) requests ≡ filter (λ (x : Entry). passes x.seq) rest = rw e (none-pass passes r rest is) in
+    let count = ap length all in
+    omega arith

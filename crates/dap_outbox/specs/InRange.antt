@@ -1,0 +1,23 @@
+-- Which answers a client can read: those to requests whose number and name are such as a message may have.
+-- The greatest number and the greatest length of a command are this profile's choice.
+use Rattle.std.specs.Prelude.{◌≤◌, List, length}
+use Rattle.std.specs.List.{AllByRecursion}
+use Rattle.dap_json.specs.Field.{max_seq}
+use Rattle.dap_message.specs.Refusals.{max_command}
+use Rattle.dap_tables.specs.declared.entry.Entry.{Entry as Request}
+use Rattle.dap_outbox.specs.Draft.{Draft, reply, emit, ask}
+
+-- its number is at most 9007199254740991, and its command has at most 64 bytes, as in every request that was read
+pub record IsRequestInRange (r : Request) : Type 0 where
+  pub seq : r.seq ≤ max_seq
+  pub command : length r.command ≤ max_command
+
+-- of an event nothing is asked
+abbrev pub IsDraftInRange : Draft → Type 0
+IsDraftInRange (reply r answer) = IsRequestInRange r
+IsDraftInRange (emit event) = Unit {0}
+IsDraftInRange ask = Unit {0}
+
+-- each response among them answers a request in range
+abbrev pub AnswersInRange : List Draft → Type 0
+AnswersInRange ds = AllByRecursion IsDraftInRange ds

@@ -1,0 +1,4 @@
+pub mod Draft
+pub mod InRange
+pub mod Outbox
+pub mod Several

@@ -1,0 +1,67 @@
+-- What a call is about to write, behind what its buffer had before.
+use Rattle.std.specs.Prelude.{◌≡◌, ℕ, ◌+◌, ◌≤◌, List, [], ◌∷◌, ◌++◌, length, take, drop, Option, Some, None}
+use Rattle.dap_json.specs.Field.{max_seq}
+use Rattle.dap_message.specs.MessageParts.{AdapterEvent, initialized, output, stopped, continued, exited, terminated}
+use Rattle.dap_message.specs.Body.{data_in}
+use Rattle.dap_message.specs.Lengths.{max_fixed}
+use Rattle.dap_message.specs.ReadBack.{AllReadBack}
+use Rattle.dap_message.specs.Types.Body.{Body}
+use Rattle.dap_message.specs.Types.Body.TheVariants as body
+use Rattle.dap_debuggee.specs.Shown.{category_name}
+use Rattle.dap_tables.specs.Seq.{Numbers}
+use Rattle.dap_outbox.specs.declared.answer.Answer.{Answer}
+use Rattle.dap_outbox.specs.declared.answer.Answer.TheVariants.{Success, Failure}
+use Rattle.dap_outbox.specs.declared.answer.Fixed.{Fixed}
+use Rattle.dap_outbox.specs.declared.answer.Fixed.TheVariants.{Initialize, Continue}
+use Rattle.dap_outbox.specs.declared.answer.Event.{Event}
+use Rattle.dap_outbox.specs.declared.answer.Event.TheVariants.{Initialized, Output, Stopped, Continued, Exited, Terminated}
+use Rattle.dap_outbox.specs.InRange.{AnswersInRange}
+use Rattle.dap_outbox.specs.Draft.{Answer as AnswerWord, success, failure, Draft, numbered_messages, bytes_of}
+
+-- what the buffer had before, the bytes of the messages behind it, and the own numbers that are left after them
+pub record OutboxState : Type 0 where
+  pub before : List ℕ
+  pub bytes : List ℕ
+  pub numbers : Numbers
+
+-- as it is stored: one buffer, and how many bytes it had before
+abbrev pub state_of : ℕ → List ℕ → Numbers → OutboxState
+state_of start items numbers = record { before = take start items; bytes = drop start items; numbers = numbers }
+
+-- ---- what is written
+
+abbrev pub shape_of : Option Fixed → Option Body
+shape_of None = None
+shape_of (Some (Initialize capabilities)) = Some (body.Initialize capabilities)
+shape_of (Some Continue) = Some body.Continue
+
+abbrev pub answer_of : Answer → AnswerWord
+answer_of (Success fixed) = success (data_in (shape_of fixed)) []
+answer_of (Failure f) = failure f
+
+abbrev pub event_of : Event → AdapterEvent
+event_of Initialized = initialized
+event_of (Output category text) = output (category_name category) text
+event_of (Stopped reason thread) = stopped reason thread
+event_of (Continued thread) = continued thread
+event_of (Exited code) = exited code
+event_of Terminated = terminated
+
+-- no message yet, and these own numbers
+pub record IsReady (outbox : OutboxState) (numbers : Numbers) : Type 0 where
+  pub none : outbox.bytes ≡ []
+  pub numbers_are : outbox.numbers ≡ numbers
+
+-- the outbox holds just these messages, numbered after the first ones that were used; a client whose bodies have at most so many bytes reads each
+pub record Holds (outbox : OutboxState) (limit used : ℕ) (ds : List Draft) : Type 0 where
+  pub bytes : outbox.bytes ≡ bytes_of (numbered_messages used ds)
+  pub count : outbox.numbers.used ≡ used + length ds
+  pub in_range : outbox.numbers.last ≤ max_seq
+  pub room : max_fixed ≤ limit
+  pub reads_back : AnswersInRange ds → AllReadBack limit (numbered_messages used ds)
+
+-- one message more, which a client reads whose bodies may have so many bytes
+pub record AppendsDraft (most : ℕ) (old new : OutboxState) (d : Draft) : Type 0 where
+  pub last : new.numbers.last ≡ old.numbers.last
+  pub given : new.numbers.used ≡ old.numbers.used + 1
+  pub holds : (limit used : ℕ) (ds : List Draft) → most ≤ limit → Holds old limit used ds → Holds new limit used (ds ++ d ∷ [])

@@ -1,0 +1,26 @@
+-- Answers to several kept requests.
+use Rattle.std.specs.Prelude.{◌≡◌, ℕ, ◌==◌, not, Bool, List, ◌++◌, filter, map, Option, Some, None}
+use Rattle.dap_message.specs.Types.Failure.{Failure}
+use Rattle.dap_tables.specs.Outstanding.{Kept, is_parked}
+use Rattle.dap_tables.specs.declared.entry.Entry.{Entry}
+use Rattle.dap_outbox.specs.declared.several.Chosen.{Chosen}
+use Rattle.dap_outbox.specs.declared.several.Chosen.TheVariants.{AllBut, Parked}
+use Rattle.dap_outbox.specs.Draft.{Answer, Draft, reply, failure, plain_success}
+use Rattle.dap_outbox.specs.Outbox.{OutboxState, Holds}
+
+abbrev pub is_chosen : Chosen → List Kept → ℕ → Bool
+is_chosen (AllBut one) kept seq = not (seq == one)
+is_chosen Parked kept seq = is_parked seq kept
+
+abbrev pub answer_by : Option Failure → Answer
+answer_by None = plain_success
+answer_by (Some f) = failure f
+
+-- the same answer to each request whose number passes
+abbrev pub answer_where : (ℕ → Bool) → Answer → List Entry → List Draft
+answer_where passes answer requests = map (λ r. reply r answer) (filter (λ r. passes r.seq) requests)
+
+-- these messages more
+pub record WritesAll (old new : OutboxState) (ds : List Draft) : Type 0 where
+  pub last : new.numbers.last ≡ old.numbers.last
+  pub holds : (limit used : ℕ) (before : List Draft) → Holds old limit used before → Holds new limit used (before ++ ds)

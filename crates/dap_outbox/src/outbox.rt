@@ -1,0 +1,167 @@
+//! A buffer that is lent, with messages of a step behind what it had before.
+ghost use Rattle.std.specs.Prelude.{nat_le, ◌≡◌, ℕ, ◌+◌, ◌<◌, ◌≤◌, [], ◌++◌, length, IfOk, OnOk, OnErr, IsTrue, false};
+ghost use Rattle.dap_message.specs.Body.{data_in};
+ghost use Rattle.dap_message.specs.Canon.{canon};
+ghost use Rattle.dap_outbox.specs.Draft.{reply, emit, ask, success as success_word};
+ghost use Rattle.dap_outbox.specs.Outbox.{answer_of, event_of, IsReady, Holds, AppendsDraft};
+ghost use Rattle.dap_json.specs.Field.{max_seq};
+ghost use Rattle.dap_message.specs.MessageParts.{success_response};
+ghost use Rattle.dap_message.specs.Lengths.{max_fixed, IsWithin};
+
+use crate::answer::{Answer, Event};
+use crate::texts::{replied, terminal_request, told};
+use dap_frame::write_frame;
+use dap_message::{Body, write_answer};
+use dap_tables::{Entry, Seq};
+use std::alloc::{AllocError, Global};
+use std::marker::Model;
+
+/// A buffer, how many bytes it had before, and the own numbers that are left after the messages behind these.
+#[derive(Drop)]
+pub struct Outbox {
+    buffer: Vec<u8>,
+    start: usize,
+    numbers: Seq,
+}
+
+impl Model for Outbox {
+    ghost use Rattle.std.specs.Prelude.{◌≤◌, length};
+    ghost use Rattle.dap_outbox.specs.Outbox.{OutboxState, state_of};
+
+    ghost Value = { OutboxState };
+
+    ghost view = { λ o. state_of o.start o.buffer.items o.numbers };
+
+    ghost invariant = { λ o. o.start ≤ length o.buffer.items };
+}
+
+impl Outbox {
+    /// No message yet, behind what the buffer has, with the numbers that are left.
+    pub fn behind(buffer: Vec<u8>, numbers: Seq) -> Outbox
+        ensures before { result.before ≡ buffer.items }
+        ensures ready { IsReady result numbers }
+        ensures holds { (limit : ℕ) → max_fixed ≤ limit → numbers.last ≤ max_seq → Holds result limit numbers.used [] }
+    {
+        let start = buffer.len();
+        Outbox {
+            buffer,
+            start,
+            numbers,
+        }
+    }
+
+    /// The numbers that are left.
+    pub fn numbers(&self) -> Seq
+        ensures numbers { result ≡ self.now.numbers }
+        ensures used { result.used ≤ result.last }
+    {
+        // For the proof: no more were used than there are.
+        let _ = self.numbers.left();
+        self.numbers
+    }
+
+    /// The buffer, with the messages behind what it had before.
+    pub fn into_buffer(self) -> Vec<u8>
+        ensures { result.items ≡ self.before ++ self.bytes }
+    {
+        self.buffer
+    }
+
+    /// The buffer as it was before.
+    pub fn into_front(self) -> Vec<u8>
+        ensures { result.items ≡ self.before }
+    {
+        let Outbox { buffer, start, .. } = self;
+        let mut buffer = buffer;
+        buffer.truncate(start);
+        buffer
+    }
+
+    /// The next number, and those after it.
+    fn next(&self) -> (u64, Seq)
+        requires { self.now.numbers.used < self.now.numbers.last }
+        ensures number { result.0 ≡ self.now.numbers.used + 1 }
+        ensures used { result.1.used ≡ self.now.numbers.used + 1 }
+        ensures last { result.1.last ≡ self.now.numbers.last }
+    {
+        let mut numbers = self.numbers;
+        match numbers.next() {
+            Some(seq) => (seq, numbers),
+            None => unreachable!(),
+        }
+    }
+
+    /// Answers a request.
+    pub fn reply(
+        &mut self,
+        alloc: Global,
+        request: &Entry,
+        answer: Answer,
+    ) -> Result<(), AllocError>
+        requires { self.old.numbers.used < self.old.numbers.last }
+        ensures writes { OnOk result (AppendsDraft max_fixed self.old self.new (reply request.now (answer_of answer))) }
+        ensures before { self.new.before ≡ self.old.before }
+        ensures err { OnErr result (self.new ≡ self.old) }
+    {
+        let (seq, numbers) = self.next();
+        let text = replied(alloc, seq, request, &answer)?;
+        write_frame(&mut self.buffer, &text)?;
+        self.numbers = numbers;
+        Ok(())
+    }
+
+    /// Answers a request with a body, unless its message is longer than so many bytes: whether it was.
+    pub fn reply_within(
+        &mut self,
+        alloc: Global,
+        request: &Entry,
+        body: Option<Body>,
+        most: usize,
+    ) -> Result<bool, AllocError>
+        requires { self.old.numbers.used < self.old.numbers.last }
+        ensures fits { IfOk result (λ ok. ok ≡ nat_le (length (canon (success_response (self.old.numbers.used + 1) request.now.seq request.now.command (data_in body)))) most) }
+        ensures writes { IfOk result (λ ok. IsTrue ok → AppendsDraft most self.old self.new (reply request.now (success_word (data_in body) []))) }
+        ensures before { self.new.before ≡ self.old.before }
+        ensures too_long { IfOk result (λ ok. ok ≡ false → self.new ≡ self.old) }
+        ensures err { OnErr result (self.new ≡ self.old) }
+    {
+        let (seq, numbers) = self.next();
+        let text = write_answer(alloc, seq, request.seq, request.command.as_str(), &body)?;
+        if text.len() > most {
+            return Ok(false);
+        }
+        write_frame(&mut self.buffer, &text)?;
+        self.numbers = numbers;
+        Ok(true)
+    }
+
+    /// Tells an event.
+    pub fn emit(&mut self, alloc: Global, event: Event) -> Result<(), AllocError>
+        requires left { self.old.numbers.used < self.old.numbers.last }
+        requires short { IsWithin (event_of event) }
+        ensures writes { OnOk result (AppendsDraft max_fixed self.old self.new (emit (event_of event))) }
+        ensures before { self.new.before ≡ self.old.before }
+        ensures err { OnErr result (self.new ≡ self.old) }
+    {
+        let (seq, numbers) = self.next();
+        let text = told(alloc, seq, event)?;
+        write_frame(&mut self.buffer, &text)?;
+        self.numbers = numbers;
+        Ok(())
+    }
+
+    /// Asks for a terminal: the number of the request.
+    pub fn ask(&mut self, alloc: Global) -> Result<u64, AllocError>
+        requires { self.old.numbers.used < self.old.numbers.last }
+        ensures number { IfOk result (λ seq. seq ≡ self.old.numbers.used + 1) }
+        ensures writes { OnOk result (AppendsDraft max_fixed self.old self.new ask) }
+        ensures before { self.new.before ≡ self.old.before }
+        ensures err { OnErr result (self.new ≡ self.old) }
+    {
+        let (seq, numbers) = self.next();
+        let text = terminal_request(alloc, seq)?;
+        write_frame(&mut self.buffer, &text)?;
+        self.numbers = numbers;
+        Ok(seq)
+    }
+}

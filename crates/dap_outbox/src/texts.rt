@@ -1,0 +1,120 @@
+//! The text of each message that an adapter writes without a body of its own.
+ghost use Rattle.std.specs.Prelude.{◌≡◌, ◌≤◌, IfOk, OnOk, IsTrue};
+ghost use Rattle.dap_message.specs.Canon.{canon};
+ghost use Rattle.dap_outbox.specs.Draft.{reply, emit, ask, message_of, recorded_terminal};
+ghost use Rattle.dap_outbox.specs.InRange.{IsRequestInRange};
+ghost use Rattle.dap_outbox.specs.Outbox.{answer_of, event_of, shape_of};
+ghost use Rattle.dap_json.specs.Field.{max_seq};
+ghost use Rattle.dap_json.specs.Writable.{is_plain_tree};
+ghost use Rattle.dap_message.specs.MessageParts.{event_name, event_body};
+ghost use Rattle.dap_message.specs.Lengths.{max_fixed, IsWithin};
+ghost use Rattle.dap_message.specs.ReadBack.{ReadsBack};
+
+use crate::answer::{Answer, Event, Fixed};
+use dap_message::laws::{bodies_are_plain, fixed_messages_are_short};
+use dap_message::{
+    Body, List, RUN_IN_TERMINAL, TerminalCall, Text, Tree, body_continued, body_exited,
+    body_output, body_stopped, write_answer, write_event, write_failure, write_request,
+    write_terminal,
+};
+use dap_tables::Entry;
+use std::alloc::{AllocError, Global};
+
+fn body_of(fixed: Option<Fixed>) -> Option<Body>
+    ensures { result ≡ shape_of fixed }
+{
+    match fixed {
+        None => None,
+        Some(Fixed::Initialize(capabilities)) => Some(Body::Initialize { capabilities }),
+        Some(Fixed::Continue) => Some(Body::Continue),
+    }
+}
+
+/// The text of the response to a request.
+pub(crate) fn replied(
+    alloc: Global,
+    seq: u64,
+    request: &Entry,
+    answer: &Answer,
+) -> Result<Vec<u8>, AllocError>
+    ensures canon { IfOk result (λ text. text.items ≡ canon (message_of seq (reply request.now (answer_of answer.now)))) }
+    ensures reads_back { IfOk result (λ text. seq ≤ max_seq → IsRequestInRange request.now → ReadsBack max_fixed (message_of seq (reply request.now (answer_of answer.now)))) }
+{
+    fixed_messages_are_short();
+    let command = request.command.as_str();
+    match answer {
+        Answer::Failure(failure) => write_failure(alloc, seq, request.seq, command, *failure),
+        Answer::Success(fixed) => {
+            write_answer(alloc, seq, request.seq, command, &body_of(*fixed))
+        }
+    }
+}
+
+fn event_name(event: &Event) -> &'static str
+    ensures { result.now ≡ event_name (event_of event.now) }
+{
+    match event {
+        Event::Initialized => "initialized",
+        Event::Terminated => "terminated",
+        Event::Output { .. } => "output",
+        Event::Stopped { .. } => "stopped",
+        Event::Continued { .. } => "continued",
+        Event::Exited { .. } => "exited",
+    }
+}
+
+fn event_body(alloc: Global, event: Event) -> Result<Option<Tree>, AllocError>
+    ensures body { IfOk result (λ body. body ≡ event_body (event_of event)) }
+    ensures plain { IfOk result (λ body. IsTrue (is_plain_tree body)) }
+{
+    bodies_are_plain();
+    match event {
+        Event::Initialized => Ok(None),
+        Event::Terminated => Ok(None),
+        Event::Output { category, text } => {
+            let category = Text::copied(alloc, category.name())?;
+            Ok(Some(Tree::new(body_output(alloc, category, text)?)))
+        }
+        Event::Stopped { reason, thread } => {
+            Ok(Some(Tree::new(body_stopped(alloc, reason, thread)?)))
+        }
+        Event::Continued { thread } => Ok(Some(Tree::new(body_continued(alloc, thread)?))),
+        Event::Exited { code } => Ok(Some(Tree::new(body_exited(alloc, code)?))),
+    }
+}
+
+/// The text of an event.
+pub(crate) fn told(alloc: Global, seq: u64, event: Event) -> Result<Vec<u8>, AllocError>
+    requires { IsWithin (event_of event) }
+    ensures canon { IfOk result (λ text. text.items ≡ canon (message_of seq (emit (event_of event)))) }
+    ensures reads_back { OnOk result (seq ≤ max_seq → ReadsBack max_fixed (message_of seq (emit (event_of event)))) }
+{
+    fixed_messages_are_short();
+    let name = event_name(&event);
+    let body = event_body(alloc, event)?;
+    write_event(alloc, seq, name, &body)
+}
+
+/// What the client's terminal is to run.
+fn recorded_terminal(alloc: Global) -> Result<TerminalCall, AllocError>
+    ensures { IfOk result (λ call. call ≡ recorded_terminal) }
+{
+    let mut args = Vec::new(alloc);
+    args.push(Text::copied(alloc, "recorded")?)?;
+    Ok(TerminalCall {
+        kind: Some(Text::copied(alloc, "integrated")?),
+        title: Some(Text::copied(alloc, "recorded")?),
+        cwd: Text::copied(alloc, "/")?,
+        args: List::new(args),
+    })
+}
+
+/// The text of the request for a terminal.
+pub(crate) fn terminal_request(alloc: Global, seq: u64) -> Result<Vec<u8>, AllocError>
+    ensures canon { IfOk result (λ text. text.items ≡ canon (message_of seq ask)) }
+    ensures reads_back { OnOk result (seq ≤ max_seq → ReadsBack max_fixed (message_of seq ask)) }
+{
+    let call = recorded_terminal(alloc)?;
+    let arguments = Some(Tree::new(write_terminal(alloc, &call)?));
+    write_request(alloc, seq, RUN_IN_TERMINAL, &arguments)
+}
