@@ -14,11 +14,11 @@ use Rattle.dap_frame.specs.declared.frames.End.{End as EndOf}
 use Rattle.dap_frame.specs.declared.frames.End.TheVariants.{Clean, Truncated, Refused as Closed}
 use Rattle.dap_frame.specs.declared.limits.Bounds.{Bounds}
 use Rattle.dap_message.specs.declared.message.Message.{Message}
-use Rattle.dap_session.specs.declared.phase.Phase.{Phase}
-use Rattle.dap_session.specs.declared.phase.Phase.TheVariants.{Ended}
+use Rattle.dap_decision.specs.declared.phase.Phase.{Phase}
+use Rattle.dap_decision.specs.declared.phase.Phase.TheVariants.{Ended}
 use Rattle.dap_outbox.specs.Draft.{bytes_of}
 use Rattle.dap_session.specs.Session.{fresh_session}
-use Rattle.dap_session.specs.Table.{is_phase}
+use Rattle.dap_decision.specs.Table.{is_phase}
 use Rattle.dap_adapter.specs.AdapterState.{AdapterState}
 use Rattle.dap_adapter.specs.Run.{to_take, has_ended, fresh_state, begins}
 use Rattle.dap_adapter.specs.Served.{MakesSome, IsCaughtUp, IsReadyToRead, IsEndOf}

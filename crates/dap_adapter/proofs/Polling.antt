@@ -2,9 +2,9 @@
 use Rattle.std.proofs.Common.{◌≡◌, ℕ, ◌<◌, List, length, Bool, true, false, refl, sym, ap, ◌∙◌, arith}
 use Rattle.std.specs.Prelude.{◌==◌, ◌||◌, ◌&&◌, not, if◌then◌else◌}
 use Rattle.std.proofs.lemmas.Bool.Decides.{nat_tests}
-use Rattle.dap_session.specs.declared.phase.Phase.{Phase}
-use Rattle.dap_session.specs.declared.phase.Phase.TheVariants.{Stopped}
-use Rattle.dap_session.specs.Table.{is_phase}
+use Rattle.dap_decision.specs.declared.phase.Phase.{Phase}
+use Rattle.dap_decision.specs.declared.phase.Phase.TheVariants.{Stopped}
+use Rattle.dap_decision.specs.Table.{is_phase}
 use Rattle.dap_adapter.specs.Run.{Next, to_take, to_poll, after_poll}
 use Rattle.dap_adapter.specs.PrivateServing.{next_after, next_after_polls}
 

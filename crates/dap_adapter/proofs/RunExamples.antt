@@ -5,7 +5,7 @@ use Rattle.dap_frame.specs.Settings.{Settings, usual_settings}
 use Rattle.dap_message.specs.Meaning.{Msg}
 use Rattle.dap_message.specs.declared.message.Kind.TheVariants.{Event}
 use Rattle.dap_debuggee.specs.Shown.{Shown}
-use Rattle.dap_session.specs.declared.phase.Phase.TheVariants.{Running, Stopped, Exited, Ended}
+use Rattle.dap_decision.specs.declared.phase.Phase.TheVariants.{Running, Stopped, Exited, Ended}
 use Rattle.dap_session.specs.Carried.{Goes}
 use Rattle.dap_session.specs.Plan.{at_once, no_change}
 use Rattle.dap_session.specs.Session.{fresh_session}

@@ -4,8 +4,8 @@ use Rattle.std.specs.Prelude.{◌==◌}
 use Rattle.dap_message.specs.declared.message.Message.{Message}
 use Rattle.dap_session.specs.Plan.{written_by}
 use Rattle.dap_session.specs.declared.fault.AdapterFault.{AdapterFault}
-use Rattle.dap_session.specs.declared.phase.Phase.TheVariants.{Stopped}
-use Rattle.dap_session.specs.Table.{is_phase}
+use Rattle.dap_decision.specs.declared.phase.Phase.TheVariants.{Stopped}
+use Rattle.dap_decision.specs.Table.{is_phase}
 use Rattle.dap_adapter.specs.Parts.{RunsOn}
 use Rattle.dap_adapter.specs.Calls.{Saw, PollRefused}
 use Rattle.dap_adapter.specs.Run.{Next, to_take, to_poll, after_poll}

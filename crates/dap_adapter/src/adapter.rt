@@ -11,8 +11,8 @@ ghost use Rattle.dap_reader.specs.declared.fault.ReadFault.{ReadFault};
 ghost use Rattle.dap_tables.specs.SourceMap.{count};
 ghost use Rattle.dap_session.specs.Session.{fresh_session, oldest, own_requests, to_handle};
 ghost use Rattle.dap_session.specs.SessionState.{AppendsSome};
-ghost use Rattle.dap_session.specs.Table.{is_phase};
-ghost use Rattle.dap_session.specs.declared.phase.Phase.TheVariants.{Asked};
+ghost use Rattle.dap_decision.specs.Table.{is_phase};
+ghost use Rattle.dap_decision.specs.declared.phase.Phase.TheVariants.{Asked};
 
 use crate::taken::{Came, Taken, Turned};
 use dap_debuggee::Debuggee;

@@ -2,8 +2,8 @@
 ghost use Rattle.std.specs.Prelude.{◌≡◌, ℕ, ◌+◌, ◌<◌, ◌≤◌, List, [], length, take, IsTrue, false, IfOk, OnOk, IfErr, Result};
 ghost use Rattle.dap_debuggee.specs.declared.answers.State.{State};
 ghost use Rattle.dap_session.specs.Session.{to_handle};
-ghost use Rattle.dap_session.specs.Table.{is_phase};
-ghost use Rattle.dap_session.specs.declared.phase.Phase.{Phase};
+ghost use Rattle.dap_decision.specs.Table.{is_phase};
+ghost use Rattle.dap_decision.specs.declared.phase.Phase.{Phase};
 ghost use Rattle.dap_adapter.specs.Run.{to_take, to_turn, to_poll, has_ended};
 ghost use Rattle.dap_channel.specs.Channel.{IoEvent, Pipes, bytes_read, bytes_written, reads, keeps_log};
 ghost use Rattle.dap_adapter.specs.declared.served.Served.{Served};

@@ -23,9 +23,9 @@ use Rattle.dap_session.specs.SessionState.{SessionState}
 use Rattle.dap_session.specs.Session.{Session, to_handle, fresh_session as fresh_adapter}
 use Rattle.dap_session.specs.declared.fault.AdapterFault.{AdapterFault}
 use Rattle.dap_session.specs.declared.fault.AdapterFault.TheVariants as adapter_fault
-use Rattle.dap_session.specs.Table.{is_phase}
-use Rattle.dap_session.specs.declared.phase.Phase.{Phase}
-use Rattle.dap_session.specs.declared.phase.Phase.TheVariants.{Stopped}
+use Rattle.dap_decision.specs.Table.{is_phase}
+use Rattle.dap_decision.specs.declared.phase.Phase.{Phase}
+use Rattle.dap_decision.specs.declared.phase.Phase.TheVariants.{Stopped}
 use Rattle.dap_tables.specs.Outstanding.{Kept, contains_seq}
 use Rattle.dap_adapter.specs.Calls.{Step, Handled, Saw, TurnRefused, PollRefused}
 use Rattle.dap_adapter.specs.AdapterState.{AdapterState}

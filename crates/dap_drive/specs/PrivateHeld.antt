@@ -10,8 +10,8 @@ use Rattle.dap_session.specs.Plan.{written_by}
 use Rattle.dap_outbox.specs.Draft.{bytes_of}
 use Rattle.dap_session.specs.SessionState.{SessionState}
 use Rattle.dap_session.specs.Session.{to_handle}
-use Rattle.dap_session.specs.Table.{is_phase}
-use Rattle.dap_session.specs.declared.phase.Phase.TheVariants.{Stopped}
+use Rattle.dap_decision.specs.Table.{is_phase}
+use Rattle.dap_decision.specs.declared.phase.Phase.TheVariants.{Stopped}
 use Rattle.dap_adapter.specs.AdapterState.{AdapterState}
 use Rattle.dap_adapter.specs.StandsFor.{StandsFor as AdapterStandsFor}
 use Rattle.dap_adapter.specs.Run.{Next, to_take, to_poll}

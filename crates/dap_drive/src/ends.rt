@@ -5,7 +5,7 @@ ghost use Rattle.dap_frame.specs.Intake.{IsUnderWay};
 ghost use Rattle.dap_frame.specs.Settings.{AreInRange, Settings};
 ghost use Rattle.dap_message.specs.PlainCall.{is_plain_call};
 ghost use Rattle.dap_client.specs.TerminalResponse.{is_plain_terminal};
-ghost use Rattle.dap_session.specs.Table.{is_phase};
+ghost use Rattle.dap_decision.specs.Table.{is_phase};
 ghost use Rattle.dap_drive.specs.PrivateHeld.{Spends, left_to_do};
 ghost use Rattle.dap_drive.specs.PrivateFaults.{FrameLaws, fault_of_adapter, fault_of_answer, fault_of_client};
 ghost use Rattle.dap_drive.specs.declared.fault.DriveFault.{DriveFault};

@@ -32,12 +32,12 @@ use Rattle.dap_session.specs.Carried.{Goes}
 use Rattle.dap_session.specs.Handling.{Change, ChangeResult, after_change, answers_to, lines_asked, lines_change, lines_result, value_change, assigned_result, value_result}
 use Rattle.dap_session.specs.Session.{Session}
 use Rattle.dap_session.specs.SessionState.{SessionState, Carries}
-use Rattle.dap_session.specs.declared.effect.Effect.{Effect}
-use Rattle.dap_session.specs.declared.effect.Effect.TheVariants as effect
-use Rattle.dap_session.specs.declared.phase.Phase.{Phase}
+use Rattle.dap_decision.specs.declared.effect.Effect.{Effect}
+use Rattle.dap_decision.specs.declared.effect.Effect.TheVariants as effect
+use Rattle.dap_decision.specs.declared.phase.Phase.{Phase}
 use Rattle.dap_outbox.specs.Outbox.{OutboxState}
 use Rattle.dap_session.specs.PrivateChanging.{AreLines, IsChange, Suits, IsMeasured, Changes}
-use Rattle.dap_session.specs.Table.{Row, rows_of, effect_in, is_among}
+use Rattle.dap_decision.specs.Table.{Row, rows_of, effect_in, is_among}
 
 -- ---- lines that were read are in range
 

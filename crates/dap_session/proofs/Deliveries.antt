@@ -21,16 +21,16 @@ use Rattle.dap_tables.specs.Outstanding.{Kept, kept_unparked, contains_seq, park
 use Rattle.dap_tables.specs.declared.entry.Entry.{Entry as Request}
 use Rattle.dap_session.specs.declared.fault.AdapterFault.{AdapterFault}
 use Rattle.dap_session.specs.declared.fault.AdapterFault.TheVariants.{RepeatedSeq, Unmatched, CommandMismatch, Ended as EndedFault}
-use Rattle.dap_session.specs.declared.phase.Phase.{Phase}
-use Rattle.dap_session.specs.declared.phase.Phase.TheVariants.{Fresh, Ended, Asked as AskedPhase}
-use Rattle.dap_session.specs.Failures.{of_known, command_of}
+use Rattle.dap_decision.specs.declared.phase.Phase.{Phase}
+use Rattle.dap_decision.specs.declared.phase.Phase.TheVariants.{Fresh, Ended, Asked as AskedPhase}
+use Rattle.dap_decision.specs.Failures.{of_known, command_of}
 use Rattle.dap_session.specs.Handling.{answer_each, by_reply}
 use Rattle.dap_session.specs.Laws.{CanMake}
 use Rattle.dap_session.specs.Plan.{Made, Plan, at_once, no_change, messages_due, plan_within_numbers}
 use Rattle.dap_outbox.specs.Draft.{Answer, failure, plain_success, reply, requests_in}
 use Rattle.dap_session.specs.Session.{Session, cancelled_by, not_cancelled_by, own_requests, is_asked, IsAskedIn, IsOrderly}
 use Rattle.dap_outbox.specs.Draft.{own_request}
-use Rattle.dap_session.specs.Table.{is_phase}
+use Rattle.dap_decision.specs.Table.{is_phase}
 use Rattle.dap_session.specs.Taking.{after_answering_at_once, is_cancel, id_in, named_by, unnamed_by, after_cancel, after_cancel_call, after_cancel_request, after_keeping, after_taking, after_terminal, after_late_terminal, plan_of_terminal, plan_of_response, takes_as, takes}
 use Rattle.dap_session.proofs.Distinct.{AreDistinct, asks-distinct, asks-more}
 use Rattle.dap_session.proofs.Happenings.{no_change-sound}

@@ -9,7 +9,7 @@ use Rattle.dap_tables.specs.declared.entry.Entry.{Entry}
 use Rattle.dap_debuggee.specs.Shown.{Reply}
 use Rattle.dap_session.specs.Handling.{answer_each, by_reply, start_phase, after_disconnect, after_parked_launch}
 use Rattle.dap_tables.specs.References.{without_references}
-use Rattle.dap_session.specs.declared.phase.Phase.TheVariants.{Ended}
+use Rattle.dap_decision.specs.declared.phase.Phase.TheVariants.{Ended}
 use Rattle.dap_session.specs.declared.fault.AdapterFault.{AdapterFault}
 use Rattle.dap_session.specs.declared.fault.AdapterFault.TheVariants.{SeqExhausted}
 use Rattle.dap_session.specs.SessionState.{SessionState, MadeBy, IsRefusedFor}

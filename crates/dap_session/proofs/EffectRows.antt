@@ -11,10 +11,11 @@ use Rattle.std.specs.Prelude.{IsTrue, ⊤}
 use Rattle.dap_session.proofs.Placed.{is_placed, unstarted, at-rest}
 use Rattle.dap_session.specs.StateLaws.{IsStateOf}
 use Rattle.dap_debuggee.specs.Shown.{Shown, to_start, to_resume, to_end, Reply, done, refused, happened}
-use Rattle.dap_session.specs.declared.effect.Effect.{Effect}
-use Rattle.dap_session.specs.declared.effect.Effect.TheVariants as effect
+use Rattle.dap_decision.specs.declared.effect.Effect.{Effect}
+use Rattle.dap_decision.specs.declared.effect.Effect.TheVariants as effect
 use Rattle.dap_query.specs.Bodies.{query_result}
-use Rattle.dap_session.specs.Handling.{after_launch, after_parked_launch, after_disconnect, after_terminate, start_phase, thread_of, after_resume, after_query, by_reply, change_result, plan_for}
+use Rattle.dap_session.specs.Handling.{after_launch, after_parked_launch, after_disconnect, after_terminate, start_phase, after_resume, after_query, by_reply, change_result, plan_for}
+use Rattle.dap_decision.specs.Failures.{thread_of}
 use Rattle.dap_session.specs.Plan.{at_once, after_answering}
 use Rattle.dap_outbox.specs.Draft.{emit}
 use Rattle.dap_session.specs.Session.{Session, query_of}
@@ -27,8 +28,8 @@ use Rattle.dap_message.specs.MessageParts.{terminated}
 use Rattle.dap_tables.specs.declared.entry.Entry.{Entry}
 use Rattle.dap_query.specs.Refused.{refuses_query, objects_named}
 use Rattle.dap_session.specs.Within.{IsWithin}
-use Rattle.dap_session.specs.declared.phase.Phase.{Phase}
-use Rattle.dap_session.specs.declared.phase.Phase.TheVariants.{Configured}
+use Rattle.dap_decision.specs.declared.phase.Phase.{Phase}
+use Rattle.dap_decision.specs.declared.phase.Phase.TheVariants.{Configured}
 use Rattle.dap_session.proofs.Rows.{IsNoSetVariable, after_initialize-outcome, after_park-outcome, after_asking-outcome, after_asking_parked-outcome, after_launch-outcome, after_configuration_done-outcome, after_parked_launch-outcome, after_disconnect-outcome, after_disconnect-clean, after_terminate-outcome, after_resume-outcome, after_resume-clean, change-row, change-stands, change-bare, change-keeps, after_query-row, one-clean, reply-clean, bare-by_reply}
 use Rattle.dap_session.proofs.ServedInOrder.{Fails, DoesWell, first_of, query-fails, change-fails, well-so, succeeds-first, succeeds-initialize, starts-so, starts-parked-so, asks-so, asks-parked-so, disconnects-so, resumes-so, pauses-so}
 

@@ -15,7 +15,7 @@ use Rattle.dap_debuggee.specs.declared.answers.How.{How}
 use Rattle.dap_debuggee.specs.declared.answers.How.TheVariants as how
 use Rattle.dap_query.proofs.LiveBodies.{none-in}
 use Rattle.dap_session.specs.Breakpoints.{are_too_many}
-use Rattle.dap_session.specs.Failures.{command_of}
+use Rattle.dap_decision.specs.Failures.{command_of}
 use Rattle.dap_session.specs.Handling.{adapter_capabilities, Change, ChangeResult, answers_to, lines_change, lines_result, value_change, assigned_result, value_result, resume_body}
 use Rattle.dap_outbox.specs.Draft.{success}
 use Rattle.dap_session.specs.Session.{Session}

@@ -5,8 +5,8 @@ use Rattle.dap_history.specs.Requests.{asks}
 use Rattle.dap_debuggee.specs.Shown.{to_poll, Reply, done, refused, happened}
 use Rattle.dap_debuggee.specs.declared.answers.Happening.{Happening}
 use Rattle.dap_debuggee.specs.declared.answers.Happening.TheVariants as happening
-use Rattle.dap_session.specs.declared.phase.Phase.{Phase}
-use Rattle.dap_session.specs.declared.phase.Phase.TheVariants.{Asked, Ended}
+use Rattle.dap_decision.specs.declared.phase.Phase.{Phase}
+use Rattle.dap_decision.specs.declared.phase.Phase.TheVariants.{Asked, Ended}
 use Rattle.dap_session.specs.Laws.{CanMake}
 use Rattle.dap_session.specs.Plan.{Made, at_once, asking, no_change}
 use Rattle.dap_session.specs.Polling.{after_happening, after_poll_reply, polls, has_debuggee}

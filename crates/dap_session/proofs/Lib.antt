@@ -8,7 +8,6 @@ pub mod Turning
 pub mod Unasked
 pub mod Moves
 pub mod Outcomes
-pub mod ServedRows
 pub mod Turns
 pub mod Happenings
 pub mod Distinct
@@ -32,6 +31,7 @@ pub mod OwnRequests
 pub mod EffectRows
 pub mod OrderedAnswers
 pub mod Offers
+pub mod Deciding
 pub mod GivenBodies
 pub mod Gives
 pub mod States

@@ -11,12 +11,12 @@ use Rattle.dap_message.specs.Types.Failure.TheVariants.{NotInitialized, AlreadyI
 use Rattle.dap_message.specs.Types.Key.{Key}
 use Rattle.dap_tables.specs.declared.entry.Entry.{Entry}
 use Rattle.dap_debuggee.specs.Shown.{Shown}
-use Rattle.dap_session.specs.declared.phase.Phase.{Phase}
-use Rattle.dap_session.specs.declared.phase.Phase.TheVariants.{Fresh, Running}
-use Rattle.dap_session.specs.Failures.{command_of, call_in, is_early, is_initialize, waits_for_stop, lacks_thread, thread_named, lacks_reference, reference_named, lacks_source, source_named, when, first_failure, name_refused, key_refused, phase_refused, read_refused, known_refused}
+use Rattle.dap_decision.specs.declared.phase.Phase.{Phase}
+use Rattle.dap_decision.specs.declared.phase.Phase.TheVariants.{Fresh, Running}
+use Rattle.dap_decision.specs.Failures.{command_of, call_in, is_early, is_initialize, waits_for_stop, lacks_thread, thread_named, lacks_reference, reference_named, lacks_source, source_named, when, first_failure, name_refused, key_refused, phase_refused, read_refused, known_refused}
 use Rattle.dap_session.specs.OrderLaws.{holds_before, waits_to_be_served, RefusalsComeInOrder}
 use Rattle.dap_session.specs.Session.{Session}
-use Rattle.dap_session.specs.Table.{is_phase, is_served, is_never_served, is_of_stops}
+use Rattle.dap_decision.specs.Table.{is_phase, is_served, is_never_served, is_of_stops}
 
 unknown : (b : Bool) → first_failure (first_failure (when b NotInitialized ∷ None ∷ Some UnknownCommand ∷ None ∷ []) ∷ None ∷ []) ≡ cond b (Some NotInitialized) (Some UnknownCommand)
 unknown true = refl
@@ -68,7 +68,7 @@ by-read view s key c (Ok asked) same =
     (λ never here. waits-then (is_never_served c) (is_served c s.phase) (waits_for_stop s.phase c) never here (serves-now s.phase c))
 
 by-command : (view : Shown) (s : Session) (r : Entry) (key : Key) (o : Option Command) → ((c : Command) (bad : Key) → o ≡ Some c → call_in r c ≡ Err bad → bad ≡ key)
-    → first_failure (name_refused s.phase o ∷ known_refused view s r o ∷ []) ≡ find (holds_before view s o (call_in r)) (failures_in_order key)
+    → first_failure (name_refused s.phase o ∷ known_refused view s.phase s.references r o ∷ []) ≡ find (holds_before view s o (call_in r)) (failures_in_order key)
 by-command view s r key None same = unknown (is_phase Fresh s.phase && true)
 by-command view s r key (Some c) same = by-read view s key c (call_in r c) (λ bad is. same c bad refl is)
 

@@ -10,18 +10,19 @@ use Rattle.dap_message.specs.Types.Failure.TheVariants.{NotInitialized, AlreadyI
 use Rattle.dap_message.specs.Types.Key.{Key}
 use Rattle.dap_tables.specs.declared.entry.Entry.{Entry}
 use Rattle.dap_debuggee.specs.Shown.{Shown, Reply}
-use Rattle.dap_session.specs.declared.effect.Effect.{Effect}
-use Rattle.dap_session.specs.declared.phase.Phase.TheVariants.{Fresh}
-use Rattle.dap_session.specs.Failures.{command_of, call_in, call_refused, first_failure, key_refused, known_refused, name_refused, or_else, phase_refused, read_refused, refusal, waits_for_stop}
+use Rattle.dap_decision.specs.declared.effect.Effect.{Effect}
+use Rattle.dap_decision.specs.declared.phase.Phase.TheVariants.{Fresh}
+use Rattle.dap_decision.specs.Failures.{command_of, call_in, call_refused, first_failure, key_refused, known_refused, name_refused, or_else, phase_refused, read_refused, waits_for_stop}
+use Rattle.dap_session.specs.Handling.{refusal}
 use Rattle.dap_session.specs.Handling.{effect_of, plan, plan_of_call, plan_of_command, plan_unless}
 use Rattle.dap_session.specs.OrderLaws.{holds_before, holds, of_effect, of_served, refuses, sets_too_many, names_too_many, exhausts_numbers, is_too_large, act_in, act_of, comes_to, IsAnswered, IsServed, IsBadKey, FailuresComeInOrder}
 use Rattle.dap_session.specs.Plan.{Plan, at_once, after_answering}
 use Rattle.dap_outbox.specs.Draft.{failure}
 use Rattle.dap_session.specs.Session.{Session}
-use Rattle.dap_session.specs.Table.{effect_in, is_phase, is_served}
+use Rattle.dap_decision.specs.Table.{effect_in, is_phase, is_served}
 use Rattle.dap_session.specs.Within.{IsWithin}
 use Rattle.dap_session.proofs.Ordered.{refusals_come_in_order}
-use Rattle.dap_session.proofs.ServedRows.{unserved}
+use Rattle.dap_decision.proofs.ServedRows.{unserved}
 use Rattle.dap_session.proofs.ChangeResults.{call-suits}
 use Rattle.dap_session.proofs.OwnRequests.{is-in, still-in, still-suits, still-first}
 use Rattle.dap_session.proofs.EffectRows.{effect-row}
@@ -107,7 +108,7 @@ call-serves view s r c None (Ok asked) h i w none later last =
 abbrev ServesPlan : Shown → Session → Entry → Option Command → Plan → Reply → Type 0
 ServesPlan view s r o p last = (c : Command) × (o ≡ Some c) × ServesBy view s r c p last
 
-command-serves : (view : Shown) (s : Session) (r : Entry) (o : Option Command) → IsWithin s → first_failure (name_refused s.phase o ∷ known_refused view s r o ∷ []) ≡ None → later_first view s r o ≡ None → (last : Reply) → ServesPlan view s r o (plan_of_command view s r o) last
+command-serves : (view : Shown) (s : Session) (r : Entry) (o : Option Command) → IsWithin s → first_failure (name_refused s.phase o ∷ known_refused view s.phase s.references r o ∷ []) ≡ None → later_first view s r o ≡ None → (last : Reply) → ServesPlan view s r o (plan_of_command view s r o) last
 command-serves view s r None w none later last = absurd (unknown-fails (is_phase Fresh s.phase && true) none)
 command-serves view s r (Some c) w none later last = (c, refl, call-serves view s r c (effect_in c s.phase) (call_in r c) refl refl w none later last)
 

@@ -6,14 +6,14 @@ use Rattle.dap_message.specs.Types.Command.{Command}
 use Rattle.dap_message.specs.Types.Command.TheVariants as command
 use Rattle.dap_tables.specs.declared.entry.Entry.{Entry}
 use Rattle.dap_debuggee.specs.Shown.{Shown, Reply, done, refused, happened}
-use Rattle.dap_session.specs.declared.effect.Effect.{Effect}
-use Rattle.dap_session.specs.declared.effect.Effect.TheVariants as effect
-use Rattle.dap_session.specs.declared.phase.Phase.{Phase}
-use Rattle.dap_session.specs.declared.phase.Phase.TheVariants.{Configured, Asked, Ended}
+use Rattle.dap_decision.specs.declared.effect.Effect.{Effect}
+use Rattle.dap_decision.specs.declared.effect.Effect.TheVariants as effect
+use Rattle.dap_decision.specs.declared.phase.Phase.{Phase}
+use Rattle.dap_decision.specs.declared.phase.Phase.TheVariants.{Configured, Asked, Ended}
 use Rattle.dap_session.specs.Handling.{effect_of, parked_wants_terminal, start_phase, wants_terminal}
 use Rattle.dap_session.specs.PrivateChanging.{Suits}
 use Rattle.dap_session.specs.Session.{Session, IsAskedIn}
-use Rattle.dap_session.specs.Table.{effect_in}
+use Rattle.dap_decision.specs.Table.{effect_in}
 use Rattle.dap_session.proofs.ServedInOrder.{first_of}
 use Rattle.dap_session.proofs.Starts.{starts-configured}
 

@@ -6,14 +6,14 @@ use Rattle.dap_message.specs.Types.Command.TheVariants as command
 use Rattle.dap_tables.specs.declared.entry.Entry.{Entry}
 use Rattle.dap_debuggee.specs.declared.answers.How.{How}
 use Rattle.dap_debuggee.specs.declared.answers.State.{State}
-use Rattle.dap_session.specs.declared.effect.Effect.{Effect}
-use Rattle.dap_session.specs.declared.effect.Effect.TheVariants as effect
-use Rattle.dap_session.specs.declared.phase.Phase.{Phase}
-use Rattle.dap_session.specs.declared.phase.Phase.TheVariants.{Fresh, Asked, Running, Stopped, Exited, Ended}
+use Rattle.dap_decision.specs.declared.effect.Effect.{Effect}
+use Rattle.dap_decision.specs.declared.effect.Effect.TheVariants as effect
+use Rattle.dap_decision.specs.declared.phase.Phase.{Phase}
+use Rattle.dap_decision.specs.declared.phase.Phase.TheVariants.{Fresh, Asked, Running, Stopped, Exited, Ended}
 use Rattle.dap_session.specs.Handling.{effect_of, parked_wants_terminal, wants_terminal}
 use Rattle.dap_session.specs.Session.{Session}
 use Rattle.dap_session.specs.StateLaws.{IsStateOf}
-use Rattle.dap_session.specs.Table.{effect_in, is_phase}
+use Rattle.dap_decision.specs.Table.{effect_in, is_phase}
 
 -- before a start
 abbrev pub is_unstarted : Phase → Bool

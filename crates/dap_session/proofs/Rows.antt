@@ -27,7 +27,7 @@ use Rattle.dap_query.specs.Laws.{IsSoundAnswer}
 use Rattle.dap_query.specs.Queries.{object_of}
 use Rattle.dap_query.specs.References.{AreLive}
 use Rattle.dap_session.specs.Breakpoints.{are_too_many}
-use Rattle.dap_session.specs.Failures.{command_of}
+use Rattle.dap_decision.specs.Failures.{command_of}
 use Rattle.dap_session.specs.GivenLaws.{is_set_variable}
 use Rattle.dap_session.specs.Handling.{lines_change, lines_result, after_initialize, after_park, after_asking, after_asking_parked, after_launch, after_configuration_done, after_parked_launch, after_disconnect, after_terminate, after_resume, resume_body, after_query, fits, by_reply, answer_each, lines_asked, Change, ChangeResult, change_asked, after_change, change_result}
 use Rattle.dap_session.specs.Plan.{Made, at_once, after_answering}

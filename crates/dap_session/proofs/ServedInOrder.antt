@@ -21,10 +21,10 @@ use Rattle.dap_tables.proofs.KeptLemmas.{contains_seq-without}
 use Rattle.dap_debuggee.specs.Shown.{Shown, to_assign, Reply, done, refused, happened}
 use Rattle.dap_debuggee.specs.declared.answers.Assigned.{Assigned}
 use Rattle.dap_debuggee.specs.declared.answers.How.{How}
-use Rattle.dap_session.specs.declared.effect.Effect.{Effect}
-use Rattle.dap_session.specs.declared.effect.Effect.TheVariants as effect
-use Rattle.dap_session.specs.declared.phase.Phase.{Phase}
-use Rattle.dap_session.specs.declared.phase.Phase.TheVariants.{Configured}
+use Rattle.dap_decision.specs.declared.effect.Effect.{Effect}
+use Rattle.dap_decision.specs.declared.effect.Effect.TheVariants as effect
+use Rattle.dap_decision.specs.declared.phase.Phase.{Phase}
+use Rattle.dap_decision.specs.declared.phase.Phase.TheVariants.{Configured}
 use Rattle.dap_query.specs.Bodies.{QueryAnswer, QueryResult}
 use Rattle.dap_query.specs.Laws.{AreFew, IsAnsweredOrRefused, is_refused, is_answered}
 use Rattle.dap_query.specs.Queries.{object_of}

@@ -10,13 +10,14 @@ use Rattle.dap_tables.specs.declared.entry.Entry.{Entry}
 use Rattle.dap_tables.specs.declared.reference_kind.ReferenceKind.{ReferenceKind}
 use Rattle.dap_tables.specs.References.{LiveReferences, target_of, is_of_kind}
 use Rattle.dap_debuggee.specs.Shown.{Shown}
-use Rattle.dap_session.specs.declared.phase.Phase.TheVariants.{Stopped}
-use Rattle.dap_session.specs.Failures.{call_in, reference_named, lacks_reference, when, or_else, first_failure, name_refused, key_refused, phase_refused, call_refused, read_refused, known_refused, refusal, waits_for_stop}
+use Rattle.dap_decision.specs.declared.phase.Phase.TheVariants.{Stopped}
+use Rattle.dap_decision.specs.Failures.{call_in, reference_named, lacks_reference, when, or_else, first_failure, name_refused, key_refused, phase_refused, call_refused, read_refused, known_refused, waits_for_stop}
+use Rattle.dap_session.specs.Handling.{refusal}
 use Rattle.dap_session.specs.Handling.{plan_unless}
 use Rattle.dap_session.specs.ReferenceLaws.{ReferencesAreApart}
 use Rattle.dap_session.specs.Session.{Session}
 use Rattle.dap_session.specs.StaleLaws.{AsksFor, IsStale, DeadNumbersAreStale}
-use Rattle.dap_session.specs.Table.{is_served}
+use Rattle.dap_decision.specs.Table.{is_served}
 
 -- its name is no reason
 no-name : (c : Command) → is_served c Stopped ≡ true → name_refused Stopped (Some c) ≡ None
@@ -44,7 +45,7 @@ by-call view refs _ kind n is none = cc
 
 refused : (view : Shown) (s : Session) (r : Entry) (kind : ReferenceKind) (n : ℕ) → AsksFor s r kind n → is_of_kind kind (target_of s.references n) ≡ false → refusal view s r ≡ Some StaleReference
 refused view s r kind n asks none =
-    ap (λ o. first_failure (name_refused s.phase o ∷ known_refused view s r o ∷ [])) asks.known
+    ap (λ o. first_failure (name_refused s.phase o ∷ known_refused view s.phase s.references r o ∷ [])) asks.known
     ∙ ap (λ phase. first_failure (name_refused phase (Some asks.command) ∷ first_failure (key_refused (call_in r asks.command) ∷ phase_refused phase asks.command ∷ read_refused view s.references (call_in r asks.command) ∷ []) ∷ [])) asks.stopped
     ∙ ap (λ read. first_failure (name_refused Stopped (Some asks.command) ∷ first_failure (key_refused read ∷ phase_refused Stopped asks.command ∷ read_refused view s.references read ∷ []) ∷ [])) asks.good
     ∙ ap (λ o. first_failure (o ∷ first_failure (None ∷ phase_refused Stopped asks.command ∷ call_refused view s.references asks.asked ∷ []) ∷ [])) (no-name asks.command asks.served)

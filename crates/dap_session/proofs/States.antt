@@ -17,14 +17,14 @@ use Rattle.dap_debuggee.specs.declared.answers.Happening.TheVariants as happenin
 use Rattle.dap_debuggee.specs.declared.answers.State.{State}
 use Rattle.dap_session.specs.declared.fault.AdapterFault.{AdapterFault}
 use Rattle.dap_session.specs.declared.fault.AdapterFault.TheVariants.{RepeatedSeq, Unmatched, CommandMismatch, Ended as EndedFault}
-use Rattle.dap_session.specs.declared.phase.Phase.{Phase}
-use Rattle.dap_session.specs.declared.phase.Phase.TheVariants.{Fresh, Ended, Asked}
-use Rattle.dap_session.specs.Failures.{of_known, command_of}
+use Rattle.dap_decision.specs.declared.phase.Phase.{Phase}
+use Rattle.dap_decision.specs.declared.phase.Phase.TheVariants.{Fresh, Ended, Asked}
+use Rattle.dap_decision.specs.Failures.{of_known, command_of}
 use Rattle.dap_session.specs.Plan.{Plan, at_once, asking, no_change, messages_due, plan_within_numbers}
 use Rattle.dap_session.specs.Polling.{after_happening, after_poll_reply, has_debuggee}
 use Rattle.dap_session.specs.Session.{Session, is_asked}
 use Rattle.dap_session.specs.StateLaws.{IsStateOf, KeepsState, EachStepKeepsState}
-use Rattle.dap_session.specs.Table.{is_phase}
+use Rattle.dap_decision.specs.Table.{is_phase}
 use Rattle.dap_session.specs.Taking.{is_cancel, after_cancel_call, after_cancel_request, after_keeping, after_taking, after_late_terminal, plan_of_terminal, plan_of_response, takes_as}
 use Rattle.dap_session.proofs.EffectRows.{starts-its-state}
 use Rattle.dap_session.proofs.Placed.{is_unstarted, unstarted, asked-unstarted}

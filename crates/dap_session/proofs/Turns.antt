@@ -11,23 +11,24 @@ use Rattle.dap_message.specs.Types.Failure.TheVariants.{NotInitialized, UnknownC
 use Rattle.dap_tables.specs.Outstanding.{Kept}
 use Rattle.dap_tables.specs.declared.entry.Entry.{Entry}
 use Rattle.dap_debuggee.specs.Shown.{Shown}
-use Rattle.dap_session.specs.declared.effect.Effect.{Effect}
-use Rattle.dap_session.specs.declared.effect.Effect.TheVariants as effect
+use Rattle.dap_decision.specs.declared.effect.Effect.{Effect}
+use Rattle.dap_decision.specs.declared.effect.Effect.TheVariants as effect
 use Rattle.dap_session.specs.GivenLaws.{is_set_variable}
 use Rattle.dap_session.specs.declared.fault.AdapterFault.{AdapterFault}
-use Rattle.dap_session.specs.declared.phase.Phase.TheVariants.{Fresh}
-use Rattle.dap_session.specs.Failures.{command_of, call_in, first_failure, or_else, when, name_refused, key_refused, phase_refused, call_refused, read_refused, known_refused, refusal, waits_for_stop}
+use Rattle.dap_decision.specs.declared.phase.Phase.TheVariants.{Fresh}
+use Rattle.dap_decision.specs.Failures.{command_of, call_in, first_failure, or_else, when, name_refused, key_refused, phase_refused, call_refused, read_refused, known_refused, waits_for_stop}
+use Rattle.dap_session.specs.Handling.{refusal}
 use Rattle.dap_session.specs.Handling.{effect_of, parked_wants_terminal, wants_terminal, plan_of_call, plan_of_command, plan_unless, plan as plan_at, some_plan, turn_of, turns}
 use Rattle.dap_session.specs.Plan.{Plan, messages_due, plan_within_numbers}
 use Rattle.dap_session.specs.Session.{Session, oldest}
-use Rattle.dap_session.specs.Table.{effect_in, is_served, is_phase}
+use Rattle.dap_decision.specs.Table.{effect_in, is_served, is_phase}
 use Rattle.dap_session.proofs.Fewer.{IsHandled}
 use Rattle.dap_session.proofs.Kept.{kept-found, found-passes}
 use Rattle.dap_session.proofs.Outcomes.{IsRow, failed-row}
 use Rattle.dap_session.proofs.OwnRequests.{is-in, still-in, still-suits}
 use Rattle.dap_session.proofs.EffectRows.{Answers, effect-row}
 use Rattle.dap_session.proofs.Placed.{placed, still-placed, queries-no-setter}
-use Rattle.dap_session.proofs.ServedRows.{unserved}
+use Rattle.dap_decision.proofs.ServedRows.{unserved}
 use Rattle.dap_session.proofs.ChangeResults.{call-suits}
 
 -- ---- where no failure holds
@@ -73,7 +74,7 @@ served-row view s k c None (Ok asked) i n h r none =
     let not_served : is_served c s.phase ≡ false = unserved s.phase c h in
     absurd (unserved-fails (name_refused s.phase (Some c)) (waits_for_stop s.phase c) (or_else (call_refused view s.references asked) None) (rw not_served at none))
 
-command-row : (view : Shown) (s : Session) (k : Kept) (o : Option Command) → IsHandled s k → command_of k.entry ≡ o → first_failure (name_refused s.phase o ∷ known_refused view s k.entry o ∷ []) ≡ None → IsRow s (plan_of_command view s k.entry o)
+command-row : (view : Shown) (s : Session) (k : Kept) (o : Option Command) → IsHandled s k → command_of k.entry ≡ o → first_failure (name_refused s.phase o ∷ known_refused view s.phase s.references k.entry o ∷ []) ≡ None → IsRow s (plan_of_command view s k.entry o)
 command-row view s k None i n none = absurd (unknown-fails (is_phase Fresh s.phase && true) none)
 command-row view s k (Some c) i n none = served-row view s k c (effect_in c s.phase) (call_in k.entry c) i n refl refl none
 

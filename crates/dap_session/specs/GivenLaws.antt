@@ -9,7 +9,7 @@ use Rattle.dap_tables.specs.Given.{references_given_in}
 use Rattle.dap_query.specs.References.{AreLive}
 use Rattle.dap_tables.specs.References.{LiveReferences}
 use Rattle.dap_tables.specs.declared.reference_kind.ReferenceKind.{ReferenceKind}
-use Rattle.dap_session.specs.Failures.{command_of}
+use Rattle.dap_decision.specs.Failures.{command_of}
 use Rattle.dap_session.specs.Handling.{turns}
 use Rattle.dap_session.specs.Laws.{CanMake}
 use Rattle.dap_session.specs.Plan.{Made, Plan}

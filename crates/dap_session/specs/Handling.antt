@@ -25,23 +25,23 @@ use Rattle.dap_debuggee.specs.Shown.{Shown, Act, to_start, to_resume, to_pause, 
 use Rattle.dap_debuggee.specs.declared.answers.Assigned.{Assigned}
 use Rattle.dap_debuggee.specs.declared.answers.How.{How}
 use Rattle.dap_debuggee.specs.declared.answers.How.TheVariants as how
-use Rattle.dap_session.specs.declared.phase.Phase.{Phase}
-use Rattle.dap_session.specs.declared.phase.Phase.TheVariants.{Ready, Configured, Parked, Asked, Running, Exited, Ended}
-use Rattle.dap_session.specs.declared.effect.Effect.{Effect}
-use Rattle.dap_session.specs.declared.effect.Effect.TheVariants as effect
+use Rattle.dap_decision.specs.declared.phase.Phase.{Phase}
+use Rattle.dap_decision.specs.declared.phase.Phase.TheVariants.{Ready, Configured, Parked, Asked, Running, Exited, Ended}
+use Rattle.dap_decision.specs.declared.effect.Effect.{Effect}
+use Rattle.dap_decision.specs.declared.effect.Effect.TheVariants as effect
 use Rattle.dap_query.specs.declared.options.Options.{Options}
 use Rattle.dap_session.specs.declared.fault.AdapterFault.{AdapterFault}
 use Rattle.dap_query.specs.Bodies.{QueryResult, query_result}
 use Rattle.dap_query.specs.Queries.{object_of, usual_options}
 use Rattle.dap_session.specs.Breakpoints.{are_too_many}
 use Rattle.dap_tables.specs.Breakpoints.{SetBreakpoints, breakpoints_with}
-use Rattle.dap_session.specs.Failures.{command_of, call_in, refusal, thread_named}
+use Rattle.dap_decision.specs.Failures.{command_of, call_in, thread_of, refusal_in}
 use Rattle.dap_session.specs.Plan.{Made, Plan, at_once, asking, no_change, after_answering, plan_within_numbers}
 use Rattle.dap_outbox.specs.Draft.{Answer, success, failure, plain_success, Draft, reply, emit, ask}
 use Rattle.dap_tables.specs.References.{without_references}
 use Rattle.dap_session.specs.Session.{Session, oldest, query_of}
 use Rattle.dap_tables.specs.Outstanding.{parked_ones, unparked_ones}
-use Rattle.dap_session.specs.Table.{effect_in}
+use Rattle.dap_decision.specs.Table.{effect_in}
 
 -- ---- initialize
 
@@ -271,10 +271,6 @@ change_result view s _ = Err Debuggee
 
 -- ---- the effects of the table
 
--- the thread that a call names
-abbrev pub thread_of : Call → ℤ
-thread_of asked = unwrap_or (thread_named asked) (pos 0)
-
 unfoldable pub plan_for : Effect → Shown → Session → Entry → Call → Plan
 plan_for effect.Initialize view s r asked = at_once (after_initialize s r asked)
 plan_for effect.Park view s r asked = at_once (after_park s r)
@@ -305,6 +301,10 @@ plan_of_command view s r (Some c) = plan_of_call view s r (effect_in c s.phase) 
 abbrev pub plan_unless : Option Failure → Shown → Session → Entry → Plan
 plan_unless (Some f) view s r = at_once (after_answering r (failure f) s)
 plan_unless None view s r = plan_of_command view s r (command_of r)
+
+-- why a request is refused before anything is asked
+abbrev pub refusal : Shown → Session → Entry → Option Failure
+refusal view s r = refusal_in view s.phase s.references r
 
 -- how a request is handled
 abbrev pub plan : Shown → Session → Entry → Plan

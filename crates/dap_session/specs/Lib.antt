@@ -1,8 +1,6 @@
-pub mod Table
 pub mod References
 pub mod Breakpoints
 pub mod Session
-pub mod Failures
 pub mod Plan
 pub mod Carried
 pub mod Handling

@@ -4,7 +4,7 @@ use Rattle.std.specs.Prelude.{◌≡◌, ◌||◌, not}
 use Rattle.dap_message.specs.Capabilities.{is_allowed}
 use Rattle.dap_message.specs.Types.Command.{Command}
 use Rattle.dap_session.specs.Handling.{adapter_capabilities}
-use Rattle.dap_session.specs.Table.{is_never_served}
+use Rattle.dap_decision.specs.Table.{is_never_served}
 use Rattle.dap_session.specs.Taking.{is_cancel}
 
 -- A command is allowed by the flags that are offered just where the table has a row for it, or it is `cancel`, which is answered where it is taken. One without a gate is always allowed, and so has a row.

@@ -14,22 +14,24 @@ use Rattle.dap_tables.specs.Outstanding.{parked_ones, with_mark, without}
 use Rattle.dap_tables.specs.declared.entry.Entry.{Entry}
 use Rattle.dap_tables.specs.declared.target.Target.{Target}
 use Rattle.dap_debuggee.specs.Shown.{Shown, Act, to_start, to_resume, to_pause, to_set_breakpoints, to_assign, to_end, Reply, done}
-use Rattle.dap_session.specs.declared.effect.Effect.{Effect}
-use Rattle.dap_session.specs.declared.effect.Effect.TheVariants as effect
-use Rattle.dap_session.specs.declared.phase.Phase.{Phase}
-use Rattle.dap_session.specs.declared.phase.Phase.TheVariants.{Fresh, Asked}
+use Rattle.dap_decision.specs.declared.effect.Effect.{Effect}
+use Rattle.dap_decision.specs.declared.effect.Effect.TheVariants as effect
+use Rattle.dap_decision.specs.declared.phase.Phase.{Phase}
+use Rattle.dap_decision.specs.declared.phase.Phase.TheVariants.{Fresh, Asked}
 use Rattle.dap_query.specs.Bodies.{QueryResult, query_result}
 use Rattle.dap_query.specs.Queries.{object_of}
 use Rattle.dap_query.specs.References.{targets_named, with_targets}
 use Rattle.dap_query.specs.Refused.{refuses_query, objects_named}
 use Rattle.dap_session.specs.Breakpoints.{are_too_many}
-use Rattle.dap_session.specs.Failures.{command_of, call_in, of_known, is_early, is_initialize, waits_for_stop, lacks_thread, thread_named, lacks_reference, reference_named, lacks_source, source_named, refusal}
-use Rattle.dap_session.specs.Handling.{ChangeResult, change_result, plan, fits, lines_asked, thread_of, after_park, effect_of}
+use Rattle.dap_decision.specs.Failures.{command_of, call_in, of_known, is_early, is_initialize, waits_for_stop, lacks_thread, thread_named, lacks_reference, reference_named, lacks_source, source_named}
+use Rattle.dap_session.specs.Handling.{refusal}
+use Rattle.dap_session.specs.Handling.{ChangeResult, change_result, plan, fits, lines_asked, after_park, effect_of}
+use Rattle.dap_decision.specs.Failures.{thread_of}
 use Rattle.dap_session.specs.Plan.{Made, Plan, at_once, asking, after_answering}
 use Rattle.dap_outbox.specs.Draft.{Answer, success, failure, Draft, reply, emit, ask, requests_in}
 use Rattle.dap_session.specs.Session.{Session, query_of}
 use Rattle.dap_outbox.specs.Draft.{own_request}
-use Rattle.dap_session.specs.Table.{effect_in, is_phase, is_served, is_never_served}
+use Rattle.dap_decision.specs.Table.{effect_in, is_phase, is_served, is_never_served}
 use Rattle.dap_session.specs.Within.{IsWithin}
 
 abbrev pub reads_badly : Read Call → Bool

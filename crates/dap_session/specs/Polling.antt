@@ -5,13 +5,13 @@ use Rattle.dap_message.specs.MessageParts.{output, stopped, continued, exited, t
 use Rattle.dap_debuggee.specs.Shown.{to_poll, Reply, done, refused, happened, category_name}
 use Rattle.dap_debuggee.specs.declared.answers.Happening.{Happening}
 use Rattle.dap_debuggee.specs.declared.answers.Happening.TheVariants as happening
-use Rattle.dap_session.specs.declared.phase.Phase.{Phase}
-use Rattle.dap_session.specs.declared.phase.Phase.TheVariants.{Running, Stopped, Exited}
+use Rattle.dap_decision.specs.declared.phase.Phase.{Phase}
+use Rattle.dap_decision.specs.declared.phase.Phase.TheVariants.{Running, Stopped, Exited}
 use Rattle.dap_session.specs.Plan.{Made, Plan, at_once, asking, no_change}
 use Rattle.dap_outbox.specs.Draft.{emit}
 use Rattle.dap_tables.specs.References.{without_references}
 use Rattle.dap_session.specs.Session.{Session}
-use Rattle.dap_session.specs.Table.{is_phase}
+use Rattle.dap_decision.specs.Table.{is_phase}
 
 unfoldable pub after_happening : Happening → Session → Made
 after_happening happening.Nothing s = no_change s

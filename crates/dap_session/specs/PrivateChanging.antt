@@ -8,10 +8,10 @@ use Rattle.dap_tables.specs.declared.entry.Entry.{Entry}
 use Rattle.dap_debuggee.specs.Shown.{done}
 use Rattle.dap_session.specs.Carried.{Goes}
 use Rattle.dap_session.specs.SessionState.{SessionState}
-use Rattle.dap_session.specs.declared.decision.Decision.{Decision}
-use Rattle.dap_session.specs.declared.decision.Decision.TheVariants.{Refuses, Serves}
-use Rattle.dap_session.specs.declared.effect.Effect.{Effect}
-use Rattle.dap_session.specs.declared.effect.Effect.TheVariants as effect
+use Rattle.dap_decision.specs.declared.decision.Decision.{Decision}
+use Rattle.dap_decision.specs.declared.decision.Decision.TheVariants.{Refuses, Serves}
+use Rattle.dap_decision.specs.declared.effect.Effect.{Effect}
+use Rattle.dap_decision.specs.declared.effect.Effect.TheVariants as effect
 use Rattle.dap_query.specs.declared.no_answer.NoAnswer.{NoAnswer}
 use Rattle.dap_query.specs.declared.no_answer.NoAnswer.TheVariants.{Fails, OutOfMemory}
 use Rattle.dap_session.specs.Handling.{Change, ChangeResult, fits}

@@ -6,8 +6,8 @@ use Rattle.dap_tables.specs.Breakpoints.{BreakpointTable}
 use Rattle.dap_tables.specs.Seq.{Numbers}
 use Rattle.dap_tables.specs.declared.entry.Entry.{Entry}
 use Rattle.dap_debuggee.specs.Shown.{Shown, Reply, done, refused, to_end}
-use Rattle.dap_session.specs.declared.decision.Decision.{Decision}
-use Rattle.dap_session.specs.declared.decision.Decision.TheVariants.{Refuses, Serves}
+use Rattle.dap_decision.specs.declared.decision.Decision.{Decision}
+use Rattle.dap_decision.specs.declared.decision.Decision.TheVariants.{Refuses, Serves}
 use Rattle.dap_session.specs.declared.fault.AdapterFault.{AdapterFault}
 use Rattle.dap_session.specs.declared.fault.AdapterFault.TheVariants.{SeqExhausted, OutOfMemory}
 use Rattle.dap_session.specs.Carried.{Goes, CarriedOut}

@@ -9,14 +9,14 @@ use Rattle.dap_tables.specs.declared.reference_kind.ReferenceKind.{ReferenceKind
 use Rattle.dap_tables.specs.declared.target.Target.{Target}
 use Rattle.dap_tables.specs.References.{target_of, is_of_kind}
 use Rattle.dap_debuggee.specs.Shown.{Shown}
-use Rattle.dap_session.specs.declared.phase.Phase.TheVariants.{Stopped}
-use Rattle.dap_session.specs.Failures.{command_of, call_in, reference_named}
+use Rattle.dap_decision.specs.declared.phase.Phase.TheVariants.{Stopped}
+use Rattle.dap_decision.specs.Failures.{command_of, call_in, reference_named}
 use Rattle.dap_session.specs.Handling.{plan}
 use Rattle.dap_session.specs.Plan.{Made, at_once, after_answering}
 use Rattle.dap_outbox.specs.Draft.{failure}
 use Rattle.dap_session.specs.ReferenceLaws.{IsStep, Runs}
 use Rattle.dap_session.specs.Session.{Session}
-use Rattle.dap_session.specs.Table.{is_served}
+use Rattle.dap_decision.specs.Table.{is_served}
 
 -- a request that is served where the debuggee is stopped, as it is, with good arguments, of which this number has to name something of its kind
 pub record AsksFor (s : Session) (r : Entry) (kind : ReferenceKind) (n : ℕ) : Type 0 where

@@ -6,8 +6,8 @@ use Rattle.dap_debuggee.specs.Laws.{state_after, may_answer}
 use Rattle.dap_debuggee.specs.Shown.{Shown, Reply}
 use Rattle.dap_debuggee.specs.declared.answers.State.{State}
 use Rattle.dap_debuggee.specs.declared.answers.State.TheVariants as state
-use Rattle.dap_session.specs.declared.phase.Phase.{Phase}
-use Rattle.dap_session.specs.declared.phase.Phase.TheVariants.{Running, Stopped, Exited, Ended}
+use Rattle.dap_decision.specs.declared.phase.Phase.{Phase}
+use Rattle.dap_decision.specs.declared.phase.Phase.TheVariants.{Running, Stopped, Exited, Ended}
 use Rattle.dap_session.specs.Handling.{turns}
 use Rattle.dap_session.specs.Plan.{Plan, at_once, asking}
 use Rattle.dap_session.specs.Polling.{polls}

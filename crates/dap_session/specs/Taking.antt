@@ -15,16 +15,16 @@ use Rattle.dap_message.specs.declared.message.Kind.{Kind}
 use Rattle.dap_message.specs.declared.message.Kind.TheVariants.{Request, Response, Event, Other}
 use Rattle.dap_tables.specs.Outstanding.{Kept, kept_unparked, contains_seq, parked_ones, unparked_ones}
 use Rattle.dap_tables.specs.declared.entry.Entry.{Entry}
-use Rattle.dap_session.specs.declared.phase.Phase.{Phase}
-use Rattle.dap_session.specs.declared.phase.Phase.TheVariants.{Fresh, Asked, Ended}
+use Rattle.dap_decision.specs.declared.phase.Phase.{Phase}
+use Rattle.dap_decision.specs.declared.phase.Phase.TheVariants.{Fresh, Asked, Ended}
 use Rattle.dap_session.specs.declared.fault.AdapterFault.{AdapterFault}
 use Rattle.dap_session.specs.declared.fault.AdapterFault.TheVariants.{RepeatedSeq, Unmatched, CommandMismatch, Ended as EndedFault}
-use Rattle.dap_session.specs.Failures.{command_of, of_known}
+use Rattle.dap_decision.specs.Failures.{command_of, of_known}
 use Rattle.dap_session.specs.Handling.{answer_each, by_reply, start_phase}
 use Rattle.dap_session.specs.Plan.{Made, Plan, at_once, asking, no_change, plan_within_numbers}
 use Rattle.dap_outbox.specs.Draft.{Answer, failure, plain_success, reply}
 use Rattle.dap_session.specs.Session.{Session, cancelled_by, not_cancelled_by, is_asked}
-use Rattle.dap_session.specs.Table.{is_phase}
+use Rattle.dap_decision.specs.Table.{is_phase}
 
 -- ---- a request that is answered when it is taken, and never kept
 

@@ -3,7 +3,7 @@ ghost use Rattle.std.specs.Prelude.{◌≡◌, ◌+◌, ◌≤◌, length, [], I
 ghost use Rattle.dap_session.specs.Session.{numbers_of};
 ghost use Rattle.dap_tables.specs.Outstanding.{contains_seq};
 ghost use Rattle.dap_debuggee.specs.Shown.{to_end};
-ghost use Rattle.dap_session.specs.declared.phase.Phase.{Phase};
+ghost use Rattle.dap_decision.specs.declared.phase.Phase.{Phase};
 ghost use Rattle.dap_session.specs.Handling.{after_disconnect};
 ghost use Rattle.dap_session.specs.Plan.{at_once, asking, messages_due};
 ghost use Rattle.dap_tables.specs.References.{without_references};
@@ -11,9 +11,9 @@ ghost use Rattle.dap_session.specs.SessionState.{Carries, IsRefusedFor};
 ghost use Rattle.dap_outbox.specs.Outbox.{Holds, IsReady};
 
 use crate::fault::AdapterFault;
-use crate::phase::Phase;
 use crate::session::Session;
 use dap_debuggee::Debuggee;
+use dap_decision::Phase;
 use dap_message::Failure;
 use dap_outbox::{Answer, Chosen, Outbox, answer_chosen};
 use dap_tables::Entry;

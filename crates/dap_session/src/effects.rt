@@ -12,9 +12,9 @@ ghost use Rattle.dap_session.specs.Plan.{after_answering, asking};
 ghost use Rattle.dap_outbox.specs.Draft.{reply, emit};
 ghost use Rattle.dap_outbox.specs.Outbox.{Holds, answer_of, event_of, shape_of, IsReady};
 
-use crate::phase::Phase;
 use crate::session::Session;
 use dap_debuggee::{Debuggee, How};
+use dap_decision::Phase;
 use dap_message::{Call, Capabilities, Failure};
 use dap_outbox::{Answer, Event, Fixed, Outbox};
 use dap_query::Options;
@@ -254,13 +254,8 @@ impl<D: Debuggee + Drop> Session<D> {
         ensures err { OnErr result (self.new ≡ self.old) }
         ensures before { out.new.before ≡ out.old.before }
     {
-        self.two(
-            alloc,
-            out,
-            request,
-            Answer::Success(None),
-            Event::Terminated,
-        )?;
+        let event = Event::Terminated;
+        self.two(alloc, out, request, Answer::Success(None), event)?;
         self.end();
         self.commit(request.seq, out);
         self.clear_references();

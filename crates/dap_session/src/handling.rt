@@ -6,14 +6,12 @@ ghost use Rattle.dap_session.specs.SessionState.{Carries, IsRefusedFor, plan_of_
 ghost use Rattle.dap_session.specs.Session.{oldest, to_handle, numbers_of};
 ghost use Rattle.dap_session.specs.Handling.{plan, plan_for};
 ghost use Rattle.dap_session.specs.Plan.{messages_due};
-ghost use Rattle.dap_session.specs.PrivateChanging.{Suits};
+ghost use Rattle.dap_session.specs.PrivateChanging.{IsSuitable, Suits};
 
-use crate::deciding::thread_of;
-use crate::decision::Decision;
-use crate::effect::Effect;
 use crate::fault::AdapterFault;
 use crate::session::{Session, give_back};
 use dap_debuggee::Debuggee;
+use dap_decision::{Decision, Effect, decide, thread_of};
 use dap_message::{Call, Failure};
 use dap_outbox::{Answer, Outbox};
 use dap_tables::Entry;
@@ -27,7 +25,7 @@ fn copied(request: &Entry) -> Result<Entry, AllocError>
 
 impl<D: Debuggee + Drop> Session<D> {
     ghost use Rattle.dap_session.specs.declared.fault.AdapterFault.{AdapterFault};
-    ghost use Rattle.dap_session.specs.declared.decision.Decision.{Decision};
+    ghost use Rattle.dap_decision.specs.declared.decision.Decision.{Decision};
 
     /// Whether there are own numbers for so many messages.
     pub(crate) fn room(&self, messages: u64) -> Result<(), AdapterFault>
@@ -39,6 +37,20 @@ impl<D: Debuggee + Drop> Session<D> {
             return Err(AdapterFault::SeqExhausted);
         }
         Ok(())
+    }
+
+    /// What is to be done with a request.
+    fn decide(&self, alloc: Global, request: &Entry) -> Result<Decision, AllocError>
+        ensures suits { IfOk result (λ d. IsSuitable d) }
+        ensures plan { IfOk result (λ d. plan (D.shown self.now.debuggee) self.now.session request.now ≡ plan_of_decision d (D.shown self.now.debuggee) self.now.session request.now) }
+    {
+        match decide(alloc, self.phase, &self.queries, &self.debuggee, request) {
+            Err(fault) => Err(fault),
+            Ok(Decision::Refuses(failure)) => Ok(Decision::Refuses(failure)),
+            Ok(Decision::Serves(effect, call)) => {
+                Ok(Decision::Serves(self.effect_of(request, effect), call))
+            }
+        }
     }
 
     /// Does what the table says.

@@ -7,23 +7,18 @@
 
 mod asking;
 mod changing;
-mod deciding;
-mod decision;
 mod disconnecting;
-mod effect;
 mod effects;
 mod fault;
 mod handling;
 pub mod laws;
-mod phase;
 mod polling;
 mod querying;
 mod session;
 mod starting;
-mod table;
 mod taking;
 
+pub use dap_decision::Phase;
 pub use dap_query::Options;
 pub use fault::AdapterFault;
-pub use phase::Phase;
 pub use session::Session;

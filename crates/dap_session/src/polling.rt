@@ -11,9 +11,9 @@ ghost use Rattle.dap_session.specs.Plan.{asking};
 ghost use Rattle.dap_outbox.specs.Outbox.{Holds, event_of, IsReady};
 
 use crate::fault::AdapterFault;
-use crate::phase::Phase;
 use crate::session::{Session, give_back};
 use dap_debuggee::{Debuggee, Happening};
+use dap_decision::Phase;
 use dap_outbox::{Event, Outbox};
 use std::alloc::{AllocError, Global};
 

@@ -8,8 +8,8 @@ ghost use Rattle.dap_session.specs.Session.{fresh_session, own_requests, numbers
 ghost use Rattle.dap_debuggee.specs.Laws.{is_short};
 ghost use Rattle.dap_debuggee.specs.Shown.{to_start, to_resume, to_pause, to_poll, to_end, done, happened};
 
-use crate::phase::Phase;
 use dap_debuggee::{Debuggee, DebuggeeFault, Happening, How};
+use dap_decision::Phase;
 use dap_frame::Limits;
 use dap_outbox::Outbox;
 use dap_query::{Options, Queries};

@@ -3,21 +3,20 @@ ghost use Rattle.std.specs.Prelude.{◌≡◌, ◌+◌, ◌≤◌, [], ◌∷◌
 ghost use Rattle.dap_session.specs.Session.{numbers_of};
 ghost use Rattle.dap_message.specs.Command.{command_named};
 ghost use Rattle.dap_tables.specs.Outstanding.{contains_seq};
-ghost use Rattle.dap_session.specs.Failures.{of_known};
+ghost use Rattle.dap_decision.specs.Failures.{of_known};
 ghost use Rattle.dap_outbox.specs.Draft.{reply, failure, plain_success};
 ghost use Rattle.dap_message.specs.Types.Failure.TheVariants.{Cancelled};
 ghost use Rattle.dap_session.specs.Handling.{some_plan};
 ghost use Rattle.dap_session.specs.SessionState.{IsUnasked, MadeBy, HasTaken, NotTaken, LacksRoom, NamesNone, NamesOne, AppendsSome};
 ghost use Rattle.dap_outbox.specs.Outbox.{Holds, answer_of, IsReady};
-ghost use Rattle.dap_session.specs.Table.{is_phase};
-ghost use Rattle.dap_session.specs.declared.phase.Phase.TheVariants.{Ended};
+ghost use Rattle.dap_decision.specs.Table.{is_phase};
+ghost use Rattle.dap_decision.specs.declared.phase.Phase.TheVariants.{Ended};
 ghost use Rattle.dap_session.specs.Taking.{after_answering_at_once, after_keeping, after_cancel_request, after_cancel, id_in, is_cancel, may_take_memory, takes, takes_request};
 
-use crate::deciding::call_in;
 use crate::fault::AdapterFault;
-use crate::phase::Phase;
 use crate::session::{Session, give_back};
 use dap_debuggee::Debuggee;
+use dap_decision::{Phase, call_in};
 use dap_message::{Call, CallFault, Command, Failure, Kind, Message, Text, Tree};
 use dap_outbox::{Answer, Outbox};
 use dap_tables::Entry;

@@ -13,7 +13,7 @@ use Rattle.dap_message.specs.Types.Failure.TheVariants.{NotInitialized, AlreadyI
 use Rattle.dap_message.specs.Types.Key.TheVariants.{ThreadId, RequestId}
 use Rattle.dap_message.specs.declared.message.Kind.TheVariants.{Response, Event}
 use Rattle.dap_session.specs.declared.fault.AdapterFault.TheVariants.{RepeatedSeq, SeqExhausted, Unmatched, Ended}
-use Rattle.dap_session.specs.declared.phase.Phase.TheVariants.{Configured, Running, Stopped, Exited, Ended as EndedPhase}
+use Rattle.dap_decision.specs.declared.phase.Phase.TheVariants.{Configured, Running, Stopped, Exited, Ended as EndedPhase}
 use Rattle.dap_query.specs.Bodies.{query_result}
 use Rattle.dap_session.specs.Handling.{plan_for}
 use Rattle.dap_session.specs.Polling.{after_happening}

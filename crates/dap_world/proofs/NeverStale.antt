@@ -10,11 +10,12 @@ use Rattle.dap_message.specs.Types.Command.{Command}
 use Rattle.dap_message.specs.Types.Failure.{Failure}
 use Rattle.dap_message.specs.Types.Failure.TheVariants.{NotInitialized, AlreadyInitialized, UnknownCommand, Unsupported, BadArguments, WrongPhase, NotStopped, UnknownThread, StaleReference, UnknownSource}
 use Rattle.dap_debuggee.specs.Shown.{Shown}
-use Rattle.dap_session.specs.Failures.{command_of, call_in, of_known, is_early, is_initialize, waits_for_stop, thread_named, reference_named, source_named, lacks_thread, lacks_reference, lacks_source, when, or_else, first_failure, key_refused, phase_refused, read_refused, known_refused, refusal}
+use Rattle.dap_decision.specs.Failures.{command_of, call_in, of_known, is_early, is_initialize, waits_for_stop, thread_named, reference_named, source_named, lacks_thread, lacks_reference, lacks_source, when, or_else, first_failure, key_refused, phase_refused, read_refused, known_refused}
+use Rattle.dap_session.specs.Handling.{refusal}
 use Rattle.dap_query.specs.References.{AreLive}
 use Rattle.dap_session.specs.Session.{Session}
-use Rattle.dap_session.specs.Table.{is_phase, is_served, is_never_served}
-use Rattle.dap_session.specs.declared.phase.Phase.TheVariants.{Fresh}
+use Rattle.dap_decision.specs.Table.{is_phase, is_served, is_never_served}
+use Rattle.dap_decision.specs.declared.phase.Phase.TheVariants.{Fresh}
 use Rattle.dap_tables.specs.Outstanding.{Kept}
 use Rattle.dap_tables.specs.References.{LiveReferences}
 use Rattle.dap_tables.specs.declared.entry.Entry.{Entry}

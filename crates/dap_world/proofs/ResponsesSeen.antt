@@ -12,8 +12,8 @@ use Rattle.dap_tables.specs.Outstanding.{parked_ones, unparked_ones}
 use Rattle.dap_debuggee.specs.Shown.{Reply, refused}
 use Rattle.dap_session.specs.declared.fault.AdapterFault.{AdapterFault}
 use Rattle.dap_session.specs.declared.fault.AdapterFault.TheVariants.{Unmatched, CommandMismatch, SeqExhausted}
-use Rattle.dap_session.specs.declared.phase.Phase.{Phase}
-use Rattle.dap_session.specs.declared.phase.Phase.TheVariants as adapter
+use Rattle.dap_decision.specs.declared.phase.Phase.{Phase}
+use Rattle.dap_decision.specs.declared.phase.Phase.TheVariants as adapter
 use Rattle.dap_session.specs.Handling.{by_reply, start_phase}
 use Rattle.dap_session.specs.Laws.{CanMake}
 use Rattle.dap_session.specs.Plan.{Made, Plan, messages_due, plan_within_numbers}

@@ -27,7 +27,8 @@ use Rattle.dap_client.specs.References.{references_used_by}
 use Rattle.dap_client.specs.Taking.{takes as client_takes}
 use Rattle.dap_client.specs.declared.fault.ClientFault.TheVariants.{ReferenceLimit}
 use Rattle.dap_query.specs.Bodies.{query_result}
-use Rattle.dap_session.specs.Failures.{first_failure, name_refused, key_refused, phase_refused, read_refused, refusal}
+use Rattle.dap_decision.specs.Failures.{first_failure, name_refused, key_refused, phase_refused, read_refused}
+use Rattle.dap_session.specs.Handling.{refusal}
 use Rattle.dap_query.specs.References.{AreLive}
 use Rattle.dap_session.specs.Handling.{plan_for}
 use Rattle.dap_session.specs.Plan.{Plan, at_once, asking}

@@ -19,8 +19,8 @@ use Rattle.dap_session.specs.Polling.{polls}
 use Rattle.dap_session.specs.Session.{Session}
 use Rattle.dap_session.specs.SessionState.{SessionState, SessionStep}
 use Rattle.dap_session.specs.StateLaws.{IsStateOf, KeepsState, EachStepKeepsState}
-use Rattle.dap_session.specs.declared.phase.Phase.{Phase}
-use Rattle.dap_session.specs.declared.phase.Phase.TheVariants as adapter
+use Rattle.dap_decision.specs.declared.phase.Phase.{Phase}
+use Rattle.dap_decision.specs.declared.phase.Phase.TheVariants as adapter
 use Rattle.dap_world.specs.Projection.{adapter_model_phase, pair_of}
 use Rattle.dap_world.specs.References.{LastingStops}
 use Rattle.dap_world.specs.World.{World, Step, by_sending, by_answering, by_coming_up, by_coming_down, by_turning, by_polling, Schedule, starts, goes, adapter_said}

@@ -14,7 +14,7 @@ use Rattle.dap_message.specs.Types.Call.{Call}
 use Rattle.dap_message.specs.Types.Call.TheVariants as call
 use Rattle.dap_debuggee.specs.Shown.{Shown}
 use Rattle.dap_session.specs.declared.fault.AdapterFault.TheVariants.{Unmatched}
-use Rattle.dap_session.specs.declared.phase.Phase.TheVariants.{Asked, Configured, Ended}
+use Rattle.dap_decision.specs.declared.phase.Phase.TheVariants.{Asked, Configured, Ended}
 use Rattle.dap_query.specs.Bodies.{query_result}
 use Rattle.dap_session.specs.Handling.{plan_for}
 use Rattle.dap_session.specs.Taking.{takes}

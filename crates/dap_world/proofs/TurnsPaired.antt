@@ -34,8 +34,8 @@ use Rattle.dap_outbox.specs.Draft.{Draft, reply, emit, ask, message_of, numbered
 use Rattle.dap_session.specs.Session.{Session, own_requests}
 use Rattle.dap_outbox.specs.Draft.{own_request}
 use Rattle.dap_query.specs.declared.options.Options.{Options}
-use Rattle.dap_session.specs.declared.phase.Phase.{Phase}
-use Rattle.dap_session.specs.declared.phase.Phase.TheVariants as adapter
+use Rattle.dap_decision.specs.declared.phase.Phase.{Phase}
+use Rattle.dap_decision.specs.declared.phase.Phase.TheVariants as adapter
 use Rattle.dap_world.specs.Projection.{class_of, class_if, ask_of, entry_ask, note_seen, notes_seen, written_seen, adapter_model_phase, all_kept, adapter_model_of, announces, wanted_by, wanted_of, own_seen, table_of, ByNumber, pair_of, kept_seen}
 use Rattle.dap_world.specs.World.{World, said_by}
 use Rattle.dap_world.proofs.Answered.{AllHarmless, given_first, AllGive, all-none}

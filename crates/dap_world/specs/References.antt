@@ -14,7 +14,7 @@ use Rattle.dap_debuggee.specs.Shown.{Shown}
 use Rattle.dap_message.specs.Types.Failure.TheVariants.{StaleReference}
 use Rattle.dap_message.specs.declared.message.Message.{Message}
 use Rattle.dap_session.specs.Carried.{Goes}
-use Rattle.dap_session.specs.Failures.{refusal}
+use Rattle.dap_session.specs.Handling.{refusal}
 use Rattle.dap_query.specs.References.{AreLive}
 use Rattle.dap_world.specs.MessageReferences.{references_used_by_request, references_used_by_kind}
 use Rattle.dap_world.specs.Transcripts.{said_of, Keeps}

@@ -13,7 +13,7 @@ use Rattle.dap_message.specs.Types.Failure.TheVariants.{StaleReference}
 use Rattle.dap_message.specs.declared.message.Message.{Message}
 use Rattle.dap_client.specs.Taking.{takes}
 use Rattle.dap_client.specs.declared.fault.ClientFault.TheVariants.{ReferenceLimit}
-use Rattle.dap_session.specs.Failures.{refusal}
+use Rattle.dap_session.specs.Handling.{refusal}
 use Rattle.dap_query.specs.References.{AreLive}
 use Rattle.dap_session.specs.Session.{oldest}
 use Rattle.dap_tables.specs.Outstanding.{Kept}

@@ -1,7 +1,7 @@
 use Rattle.std.proofs.Common.{◌+◌, ap, sym, ◌∙◌, arith}
-use Rattle.dap_session.specs.declared.phase.Phase.{Phase}
-use Rattle.dap_session.specs.declared.phase.Phase.TheVariants.{Ended}
-use Rattle.dap_session.specs.Table.{is_phase}
+use Rattle.dap_decision.specs.declared.phase.Phase.{Phase}
+use Rattle.dap_decision.specs.declared.phase.Phase.TheVariants.{Ended}
+use Rattle.dap_decision.specs.Table.{is_phase}
 use Rattle.dap_adapter.specs.Run.{to_take}
 use Rattle.dap_adapter.specs.PrivateServing.{way_of, point_of}
 use Rattle.dap_adapter.proofs.Leading.{leads_none, within_rest, part_used, part_breaks, through_ended, through_all}

@@ -2,9 +2,9 @@ use Rattle.std.proofs.Common.{ℕ, List, length, ◌==◌, subst, ap, ◌∙◌}
 use Rattle.std.specs.Prelude.{◌||◌}
 use Rattle.std.proofs.lemmas.Result.{err_from_is_err_and}
 use Rattle.dap_check.specs.declared.line.Side.TheVariants.{Adapter}
-use Rattle.dap_session.specs.Table.{is_phase}
-use Rattle.dap_session.specs.declared.phase.Phase.{Phase}
-use Rattle.dap_session.specs.declared.phase.Phase.TheVariants.{Stopped}
+use Rattle.dap_decision.specs.Table.{is_phase}
+use Rattle.dap_decision.specs.declared.phase.Phase.{Phase}
+use Rattle.dap_decision.specs.declared.phase.Phase.TheVariants.{Stopped}
 use Rattle.dap_session.specs.Polling.{polls}
 use Rattle.dap_drive.specs.PrivateLines.{WritesLines}
 use Rattle.dap_drive.specs.PrivateHeld.{driven_by, both_of}

@@ -1,7 +1,7 @@
 use Rattle.std.proofs.Common.{sym, ap, ◌∙◌}
 use Rattle.dap_session.specs.SessionState.{SessionState}
-use Rattle.dap_session.specs.Table.{is_phase}
-use Rattle.dap_session.specs.declared.phase.Phase.TheVariants.{Asked}
+use Rattle.dap_decision.specs.Table.{is_phase}
+use Rattle.dap_decision.specs.declared.phase.Phase.TheVariants.{Asked}
 use Rattle.dap_session.proofs.TakingRequests.{late-carries, waiting-carries}
 use Rattle.dap_session.proofs.session.Session.take_answer.Goals as goal
 

@@ -11,7 +11,7 @@ pub returns-in-Ok-clause-limits : goal.returns-in-Ok-clause-limits
 returns-in-Ok-clause-limits g c = turned-limits g.D.Debuggee.shown g.D.Debuggee.follows _ _ _ (returns-in-Ok-clause-done g c refl)
 
 pub returns-in-Ok-clause-fewer : goal.returns-in-Ok-clause-fewer
-returns-in-Ok-clause-fewer g c = λ yes. turned-fewer g.D.Debuggee.shown g.D.Debuggee.follows _ _ _ (rw (← c.self.view_is) c.self.invariant.orderly.distinct) (returns-in-Ok-clause-done g c)
+returns-in-Ok-clause-fewer g c = λ yes. turned-fewer g.D.Debuggee.shown g.D.Debuggee.follows _ _ _ (rw (← c.self.view_is) c.self.invariant.orderly.distinct) (returns-in-Ok-clause-done g c yes)
 
 pub returns-in-Err-handle_copy-clause-refused : goal.returns-in-Err-handle_copy-clause-refused
 returns-in-Err-handle_copy-clause-refused g c =

@@ -5,10 +5,10 @@ use Rattle.std.specs.List.{list_any, list_all, flat_map}
 use Rattle.dap_message.specs.Types.Command.{Command}
 use Rattle.dap_message.specs.Types.Command.TheVariants as command
 use Rattle.dap_debuggee.specs.declared.answers.How.TheVariants as how
-use Rattle.dap_session.specs.declared.phase.Phase.{Phase}
-use Rattle.dap_session.specs.declared.phase.Phase.TheVariants.{Fresh, Ready, Configured, Parked, Asked, Running, Stopped, Exited, Ended}
-use Rattle.dap_session.specs.declared.effect.Effect.{Effect}
-use Rattle.dap_session.specs.declared.effect.Effect.TheVariants.{Initialize, Park, Start, ConfigurationDone, StartParked, Disconnect, EndAndDisconnect, Terminate, Change, Resume, Pause, Query}
+use Rattle.dap_decision.specs.declared.phase.Phase.{Phase}
+use Rattle.dap_decision.specs.declared.phase.Phase.TheVariants.{Fresh, Ready, Configured, Parked, Asked, Running, Stopped, Exited, Ended}
+use Rattle.dap_decision.specs.declared.effect.Effect.{Effect}
+use Rattle.dap_decision.specs.declared.effect.Effect.TheVariants.{Initialize, Park, Start, ConfigurationDone, StartParked, Disconnect, EndAndDisconnect, Terminate, Change, Resume, Pause, Query}
 
 -- in each of these phases a command does this; `launch` and `configurationDone` do so unless a terminal is asked for first (`effect_of` in Handling)
 pub record Row : Type 0 where

@@ -1,6 +1,6 @@
 -- Why a request fails before anything is asked or changed: the first test that holds, in the one order of failures.
 -- Specification, "ErrorResponse". The tests and their order are this profile's choice.
-use Rattle.std.specs.Prelude.{ℕ, ℤ, ◌==◌, ◌&&◌, ◌||◌, not, nat_lt, Bool, true, false, List, [], ◌∷◌, length, Option, Some, None, is_none, Ok, Err, option_map}
+use Rattle.std.specs.Prelude.{ℕ, ℤ, pos, unwrap_or, ◌==◌, ◌&&◌, ◌||◌, not, nat_lt, Bool, true, false, List, [], ◌∷◌, length, Option, Some, None, is_none, Ok, Err, option_map}
 use Rattle.std.specs.List.{list_any}
 use Rattle.std.specs.Ordering.{int_eq}
 use Rattle.dap_message.specs.Argument.{Read}
@@ -16,11 +16,10 @@ use Rattle.dap_message.specs.Types.Failure.{Failure}
 use Rattle.dap_message.specs.Types.Failure.TheVariants.{NotInitialized, AlreadyInitialized, UnknownCommand, Unsupported, BadArguments, WrongPhase, NotStopped, UnknownThread, StaleReference, UnknownSource}
 use Rattle.dap_debuggee.specs.Shown.{Shown}
 use Rattle.dap_tables.specs.declared.entry.Entry.{Entry}
-use Rattle.dap_session.specs.declared.phase.Phase.{Phase}
-use Rattle.dap_session.specs.declared.phase.Phase.TheVariants.{Fresh, Running}
+use Rattle.dap_decision.specs.declared.phase.Phase.{Phase}
+use Rattle.dap_decision.specs.declared.phase.Phase.TheVariants.{Fresh, Running}
 use Rattle.dap_tables.specs.References.{LiveReferences, target_of, is_of_kind}
-use Rattle.dap_session.specs.Session.{Session}
-use Rattle.dap_session.specs.Table.{is_phase, is_served, is_never_served, is_of_stops}
+use Rattle.dap_decision.specs.Table.{is_phase, is_served, is_never_served, is_of_stops}
 
 abbrev pub command_of : Entry → Option Command
 command_of r = command_named r.command
@@ -62,6 +61,10 @@ thread_named (call.StepBack thread) = Some thread
 thread_named (call.ReverseContinue thread) = Some thread
 thread_named (call.StackTrace asked) = Some asked.thread_id
 thread_named _ = None
+
+-- the thread that a call names, where it names one
+abbrev pub thread_of : Call → ℤ
+thread_of asked = unwrap_or (thread_named asked) (pos 0)
 
 -- the number that has to name something live of its kind
 abbrev pub reference_named : Call → Option (ReferenceKind × ℕ)
@@ -140,10 +143,10 @@ read_refused view refs (Err key) = None
 read_refused view refs (Ok asked) = call_refused view refs asked
 
 -- what the arguments are is looked at only where the command is known
-abbrev pub known_refused : Shown → Session → Entry → Option Command → Option Failure
-known_refused view s r None = None
-known_refused view s r (Some c) = first_failure (key_refused (call_in r c) ∷ phase_refused s.phase c ∷ read_refused view s.references (call_in r c) ∷ [])
+abbrev pub known_refused : Shown → Phase → LiveReferences → Entry → Option Command → Option Failure
+known_refused view phase refs r None = None
+known_refused view phase refs r (Some c) = first_failure (key_refused (call_in r c) ∷ phase_refused phase c ∷ read_refused view refs (call_in r c) ∷ [])
 
 -- why a request is refused before anything is asked
-abbrev pub refusal : Shown → Session → Entry → Option Failure
-refusal view s r = first_failure (name_refused s.phase (command_of r) ∷ known_refused view s r (command_of r) ∷ [])
+abbrev pub refusal_in : Shown → Phase → LiveReferences → Entry → Option Failure
+refusal_in view phase refs r = first_failure (name_refused phase (command_of r) ∷ known_refused view phase refs r (command_of r) ∷ [])

@@ -3,23 +3,21 @@ ghost use Rattle.std.specs.Prelude.{◌≡◌, IsErrOf, IfOk, OnOk, IfErr, Some,
 ghost use Rattle.std.specs.List.{list_any};
 ghost use Rattle.std.specs.Option.{option_copied};
 ghost use Rattle.std.specs.Ordering.{int_eq};
-ghost use Rattle.dap_session.specs.Failures.{name_refused, phase_refused, call_refused, call_in, lacks_thread, lacks_reference, lacks_source, thread_named, reference_named, source_named};
+ghost use Rattle.dap_decision.specs.Failures.{name_refused, phase_refused, call_refused, call_in, lacks_thread, lacks_reference, lacks_source, thread_named, thread_of, reference_named, source_named};
 ghost use Rattle.dap_message.specs.Argument.{Gives};
 ghost use Rattle.dap_message.specs.Call.{takes_memory};
 ghost use Rattle.dap_message.specs.Types.CallFault.{CallFault};
 ghost use Rattle.dap_tables.specs.References.{is_of_kind};
-ghost use Rattle.dap_session.specs.SessionState.{plan_of_decision};
-ghost use Rattle.dap_session.specs.PrivateChanging.{IsSuitable};
-ghost use Rattle.dap_session.specs.Handling.{plan, thread_of};
-ghost use Rattle.dap_session.specs.Table.{is_never_served, effect_in};
+ghost use Rattle.dap_decision.specs.Decisions.{Decides};
+ghost use Rattle.dap_decision.specs.Table.{is_never_served, effect_in};
 
 use crate::decision::Decision;
 use crate::effect::Effect;
 use crate::phase::Phase;
-use crate::session::Session;
 use crate::table::{effect_in, is_never_served, is_of_stops};
 use dap_debuggee::{Debuggee, Thread};
 use dap_message::{Call, CallFault, Command, Failure, read_call};
+use dap_query::Queries;
 use dap_tables::{Entry, ReferenceKind, Target};
 use std::alloc::{AllocError, Global};
 
@@ -118,96 +116,107 @@ fn has_thread(threads: &[Thread], id: i64) -> bool
     threads.iter().any(|thread| thread.id == id)
 }
 
-impl<D: Debuggee + Drop> Session<D> {
-    fn lacks_thread(&self, alloc: Global, call: &Call) -> Result<bool, AllocError>
-        ensures { IfOk result (λ lacks. lacks ≡ lacks_thread (D.shown self.now.debuggee) (thread_named call.now)) }
-    {
-        let Some(id) = thread_named(call) else {
-            return Ok(false);
-        };
-        let threads = self.debuggee.threads(alloc)?;
-        Ok(!has_thread(&threads, id))
-    }
+fn lacks_thread<D: Debuggee>(alloc: Global, debuggee: &D, call: &Call) -> Result<bool, AllocError>
+    ensures { IfOk result (λ lacks. lacks ≡ lacks_thread (D.shown debuggee.now) (thread_named call.now)) }
+{
+    let Some(id) = thread_named(call) else {
+        return Ok(false);
+    };
+    let threads = debuggee.threads(alloc)?;
+    Ok(!has_thread(&threads, id))
+}
 
-    fn lacks_reference(&self, call: &Call) -> bool
-        ensures { result ≡ lacks_reference self.now.session.references (reference_named call.now) }
-    {
-        match reference_named(call) {
-            None => false,
-            Some((kind, number)) => !is_of_kind(kind, self.queries.target(number)),
-        }
+fn lacks_reference(queries: &Queries, call: &Call) -> bool
+    ensures { result ≡ lacks_reference queries.now.references (reference_named call.now) }
+{
+    match reference_named(call) {
+        None => false,
+        Some((kind, number)) => !is_of_kind(kind, queries.target(number)),
     }
+}
 
-    fn lacks_source(&self, alloc: Global, call: &Call) -> Result<bool, AllocError>
-        ensures { IfOk result (λ lacks. lacks ≡ lacks_source (D.shown self.now.debuggee) (source_named call.now)) }
-    {
-        let Call::Source { source_reference } = call else {
-            return Ok(false);
-        };
-        if *source_reference == 0 {
-            return Ok(true);
-        }
-        let sources = self.debuggee.sources(alloc)?;
-        Ok(sources.len() < *source_reference as usize)
+fn lacks_source<D: Debuggee>(alloc: Global, debuggee: &D, call: &Call) -> Result<bool, AllocError>
+    ensures { IfOk result (λ lacks. lacks ≡ lacks_source (D.shown debuggee.now) (source_named call.now)) }
+{
+    let Call::Source { source_reference } = call else {
+        return Ok(false);
+    };
+    if *source_reference == 0 {
+        return Ok(true);
     }
+    let sources = debuggee.sources(alloc)?;
+    Ok(sources.len() < *source_reference as usize)
+}
 
-    /// Why a call fails by what it names.
-    fn by_call(&self, alloc: Global, call: &Call) -> Result<Option<Failure>, AllocError>
-        ensures { IfOk result (λ f. f ≡ call_refused (D.shown self.now.debuggee) self.now.session.references call.now) }
-    {
-        if self.lacks_thread(alloc, call)? {
-            return Ok(Some(Failure::UnknownThread));
-        }
-        if self.lacks_reference(call) {
-            return Ok(Some(Failure::StaleReference));
-        }
-        if self.lacks_source(alloc, call)? {
-            return Ok(Some(Failure::UnknownSource));
-        }
-        Ok(None)
+/// Why a call fails by what it names.
+fn by_call<D: Debuggee>(
+    alloc: Global,
+    queries: &Queries,
+    debuggee: &D,
+    call: &Call,
+) -> Result<Option<Failure>, AllocError>
+    ensures { IfOk result (λ f. f ≡ call_refused (D.shown debuggee.now) queries.now.references call.now) }
+{
+    if lacks_thread(alloc, debuggee, call)? {
+        return Ok(Some(Failure::UnknownThread));
     }
+    if lacks_reference(queries, call) {
+        return Ok(Some(Failure::StaleReference));
+    }
+    if lacks_source(alloc, debuggee, call)? {
+        return Ok(Some(Failure::UnknownSource));
+    }
+    Ok(None)
+}
 
-    /// What is to be done with a request.
-    pub(crate) fn decide(&self, alloc: Global, request: &Entry) -> Result<Decision, AllocError>
-        ensures suits { IfOk result (λ d. IsSuitable d) }
-        ensures plan { IfOk result (λ d. plan (D.shown self.now.debuggee) self.now.session request.now ≡ plan_of_decision d (D.shown self.now.debuggee) self.now.session request.now) }
-    {
-        let named = by_name(self.phase, Command::of_name(request.command.as_str()));
-        let command = match named {
-            Err(failure) => return Ok(Decision::Refuses(failure)),
-            Ok(command) => command,
-        };
-        let call = match call_in(alloc, request, command) {
-            Err(CallFault::BadArguments { key }) => {
-                return Ok(Decision::Refuses(Failure::BadArguments { key }));
-            }
-            Err(CallFault::OutOfMemory) => return Err(AllocError),
-            Ok(call) => call,
-        };
-        let effect = match by_phase(self.phase, command) {
-            Err(failure) => {
-                // The proof of a call is shorter than that of a value that goes out of scope.
-                drop(call);
-                return Ok(Decision::Refuses(failure));
-            }
-            Ok(effect) => effect,
-        };
-        match self.by_call(alloc, &call) {
-            Err(fault) => {
-                drop(call);
-                Err(fault)
-            }
-            Ok(Some(failure)) => {
-                drop(call);
-                Ok(Decision::Refuses(failure))
-            }
-            Ok(None) => Ok(Decision::Serves(self.effect_of(request, effect), call)),
+/// What is to be done with a request in a phase, by the tests in their one order and the table.
+///
+/// # Errors
+/// Where memory is refused.
+pub fn decide<D: Debuggee>(
+    alloc: Global,
+    phase: Phase,
+    queries: &Queries,
+    debuggee: &D,
+    request: &Entry,
+) -> Result<Decision, AllocError>
+    ensures { IfOk result (λ d. Decides (D.shown debuggee.now) phase queries.now.references request.now d) }
+{
+    let named = by_name(phase, Command::of_name(request.command.as_str()));
+    let command = match named {
+        Err(failure) => return Ok(Decision::Refuses(failure)),
+        Ok(command) => command,
+    };
+    let call = match call_in(alloc, request, command) {
+        Err(CallFault::BadArguments { key }) => {
+            return Ok(Decision::Refuses(Failure::BadArguments { key }));
         }
+        Err(CallFault::OutOfMemory) => return Err(AllocError),
+        Ok(call) => call,
+    };
+    let effect = match by_phase(phase, command) {
+        Err(failure) => {
+            // The proof of a call is shorter than that of a value that goes out of scope.
+            drop(call);
+            return Ok(Decision::Refuses(failure));
+        }
+        Ok(effect) => effect,
+    };
+    match by_call(alloc, queries, debuggee, &call) {
+        Err(fault) => {
+            drop(call);
+            Err(fault)
+        }
+        Ok(Some(failure)) => {
+            drop(call);
+            Ok(Decision::Refuses(failure))
+        }
+        Ok(None) => Ok(Decision::Serves(effect, call)),
     }
 }
 
 /// What a request asks.
-pub(crate) fn call_in(alloc: Global, request: &Entry, command: Command) -> Result<Call, CallFault>
+pub fn call_in(alloc: Global, request: &Entry, command: Command) -> Result<Call, CallFault>
     ensures call { Gives result (call_in request.now command) }
     ensures memory { IsErrOf result CallFault.OutOfMemory → takes_memory command ≡ true }
 {
@@ -218,7 +227,7 @@ pub(crate) fn call_in(alloc: Global, request: &Entry, command: Command) -> Resul
 }
 
 /// The thread that a call names.
-pub(crate) fn thread_of(call: &Call) -> i64
+pub fn thread_of(call: &Call) -> i64
     ensures { result ≡ thread_of call.now }
 {
     match thread_named(call) {

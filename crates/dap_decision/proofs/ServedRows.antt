@@ -3,10 +3,10 @@ use Rattle.std.proofs.Common.{◌≡◌, [], ◌∷◌, Bool, true, false, Optio
 use Rattle.std.specs.Prelude.{◌||◌, if◌then◌else◌, option_map, find, List}
 use Rattle.std.specs.List.{list_any}
 use Rattle.dap_message.specs.Types.Command.{Command}
-use Rattle.dap_session.specs.declared.effect.Effect.{Effect}
-use Rattle.dap_session.specs.declared.phase.Phase.{Phase}
-use Rattle.dap_session.specs.Failures.{phase_refused}
-use Rattle.dap_session.specs.Table.{Row, rows_of, effect_in, is_served, is_among}
+use Rattle.dap_decision.specs.declared.effect.Effect.{Effect}
+use Rattle.dap_decision.specs.declared.phase.Phase.{Phase}
+use Rattle.dap_decision.specs.Failures.{phase_refused}
+use Rattle.dap_decision.specs.Table.{Row, rows_of, effect_in, is_served, is_among}
 
 none-here : (b : Bool) (x : Row) (later : Option Row) (served : Bool) → option_map (λ (r : Row). r.effect) (if b then Some x else later) ≡ None → (option_map (λ (r : Row). r.effect) later ≡ None → served ≡ false) → (b || served) ≡ false
 none-here true x later served h ih = cc
