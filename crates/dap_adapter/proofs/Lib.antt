@@ -13,3 +13,4 @@ mod RunExamples
 pub mod RunningOn
 pub mod Stopping
 pub mod Telling
+pub mod Handing

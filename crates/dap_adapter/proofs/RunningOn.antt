@@ -197,7 +197,7 @@ module _ {D : Type 0} (shown : D → Shown) (follows : Goes D) where
       }
 
   -- none became whole
-  waited : (e f : AdapterState D) (piece : List ℕ) (used : ℕ) (bytes : List ℕ) → has_ended e.session ≡ false → Waits e piece used bytes f → f.fault ≡ None → RunsOn shown follows e to_take (take used piece) [] f to_take
+  pub waited : (e f : AdapterState D) (piece : List ℕ) (used : ℕ) (bytes : List ℕ) → has_ended e.session ≡ false → Waits e piece used bytes f → f.fault ≡ None → RunsOn shown follows e to_take (take used piece) [] f to_take
   waited e f piece used bytes going x none =
       let all : take used piece ≡ piece = take_all used piece (let k = x.gathers.all in omega (arith, k)) in
       let run : Run shown follows to_take (state_of e) [] [] to_take (state_of f) = rw (x.session, x.debuggee) begins in

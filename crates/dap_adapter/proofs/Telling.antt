@@ -1,6 +1,6 @@
 -- One poll.
 use Rattle.std.proofs.Common.{◌≡◌, ℕ, ◌+◌, ◌<◌, List, [], length, Bool, true, false, None, refl, sym, ap, ◌∙◌, subst}
-use Rattle.std.specs.Prelude.{◌==◌}
+use Rattle.std.specs.Prelude.{◌==◌, ◌&&◌, not}
 use Rattle.dap_message.specs.declared.message.Message.{Message}
 use Rattle.dap_session.specs.Plan.{written_by}
 use Rattle.dap_session.specs.declared.fault.AdapterFault.{AdapterFault}
@@ -9,7 +9,7 @@ use Rattle.dap_decision.specs.Table.{is_phase}
 use Rattle.dap_adapter.specs.Parts.{RunsOn}
 use Rattle.dap_adapter.specs.Calls.{Saw, PollRefused}
 use Rattle.dap_adapter.specs.Run.{Next, to_take, to_poll, after_poll}
-use Rattle.dap_adapter.specs.PrivateServing.{Way, Point, Quietly, Breaks, next_after_polls, serve_fault_of}
+use Rattle.dap_adapter.specs.PrivateServing.{Way, Point, Quietly, Breaks, next_after, serve_fault_of}
 use Rattle.dap_adapter.specs.declared.served.ServeFault.{ServeFault}
 use Rattle.dap_adapter.proofs.Leading.{leads_step, breaks_at_call, breaks_at_bytes}
 use Rattle.dap_adapter.proofs.Polling.{after_poll_is}

@@ -1,5 +1,5 @@
 //! A debuggee served over a channel.
-ghost use Rattle.std.specs.Prelude.{◌≡◌, ℕ, ◌+◌, ◌<◌, ◌≤◌, List, [], length, take, IsTrue, false, IfOk, OnOk, IfErr, Result};
+ghost use Rattle.std.specs.Prelude.{◌≡◌, ℕ, ◌+◌, ◌<◌, ◌≤◌, List, [], length, take, is_some, IsTrue, false, IfOk, OnOk, IfErr, Result};
 ghost use Rattle.dap_debuggee.specs.declared.answers.State.{State};
 ghost use Rattle.dap_session.specs.Session.{to_handle};
 ghost use Rattle.dap_decision.specs.Table.{is_phase};
@@ -14,6 +14,7 @@ ghost use Rattle.dap_adapter.specs.PrivateServing.{served_by, progress_of, place
 use crate::adapter::Adapter;
 use crate::outlet::{Outgoing, Outlet};
 use crate::served::{ServeFault, Served};
+use crate::taken::Came;
 use dap_channel::{Channel, Pipe, calls_add_up, calls_are_the_log, pipes_tell_their_bytes};
 use dap_debuggee::Debuggee;
 use dap_frame::{End, Limits, each_stream_has_one_split};
@@ -158,6 +159,14 @@ pub(crate) fn polls<C, S: Outgoing<C>, D: Debuggee + Drop>(
     Ok(())
 }
 
+/// How many bytes were used, and whether a message came.
+fn how_far(came: Came) -> (usize, bool)
+    ensures used { result.0 ≡ came.used }
+    ensures has_come { result.1 ≡ is_some came.delivered }
+{
+    (came.used, came.delivered.is_some())
+}
+
 /// Uses the bytes of a piece up to the end of a frame at most, and hands out what its message leads to at once. It answers how
 /// many were used, and whether a message came.
 fn take_out<C, S: Outgoing<C>, D: Debuggee + Drop>(
@@ -175,19 +184,21 @@ fn take_out<C, S: Outgoing<C>, D: Debuggee + Drop>(
     // A law for the proof: what was read is one list of frames.
     each_stream_has_one_split();
     let mut buffer = sink.lend(alloc);
-    match adapter.take_into(alloc, piece, &mut buffer) {
-        Ok(came) => {
-            let taken = (came.used, came.delivered.is_some());
-            match sink.put(channel, buffer) {
-                Ok(()) => Ok(taken),
-                Err(fault) => Err(fault),
-            }
-        }
+    let (used, has_come) = match adapter.take_into(alloc, piece, &mut buffer) {
+        Ok(came) => how_far(came),
         Err(fault) => {
             sink.restore(buffer);
-            Err(serve_fault(fault))
+            return Err(serve_fault(fault));
         }
+    };
+    if has_come {
+        return match sink.put(channel, buffer) {
+            Ok(()) => Ok((used, true)),
+            Err(fault) => Err(fault),
+        };
     }
+    sink.restore(buffer);
+    Ok((used, false))
 }
 
 /// Handles all requests, and tells what happened.

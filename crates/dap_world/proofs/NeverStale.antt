@@ -73,7 +73,7 @@ module _ (view : Shown) (s : Session) where
       let has : lacks_reference s.references (reference_named asked) ≡ false = names-live s.references asked h in
       true≢false (sym lacks ∙ has)
 
-  known-fresh : (r : Entry) (c : Option Command) → known_refused view s r c ≡ Some StaleReference → AreLive s.references (references_used_in c r.arguments) → ⊥
+  known-fresh : (r : Entry) (c : Option Command) → known_refused view s.phase s.references r c ≡ Some StaleReference → AreLive s.references (references_used_in c r.arguments) → ⊥
   known-fresh r None e h = let clash : None ≡ (let x : Option Failure = Some StaleReference in x) = e in cc
   known-fresh r (Some c) e h = read-fresh c (call_in r c) e h
 
@@ -81,8 +81,8 @@ module _ (view : Shown) (s : Session) where
   never : (r : Entry) → AreLive s.references (references_used_by_request r) → refusal view s r ≡ Some StaleReference → ⊥
   never r h e =
       let c : Option Command = command_of r in
-      known-fresh r c (tail-of (known_refused view s r c)
-      (past-name (is_phase Fresh s.phase && not (of_known is_early c)) (of_known is_initialize c && not (is_phase Fresh s.phase)) (is_none c) (of_known is_never_served c) (or_else (known_refused view s r c) None) e)) h
+      known-fresh r c (tail-of (known_refused view s.phase s.references r c)
+      (past-name (is_phase Fresh s.phase && not (of_known is_early c)) (of_known is_initialize c && not (is_phase Fresh s.phase)) (is_none c) (of_known is_never_served c) (or_else (known_refused view s.phase s.references r c) None) e)) h
 
   pub never-stale : (ks : List Kept) → AllByRecursion (λ k. AreLive s.references (references_used_by_request k.entry)) ks → AllByRecursion (λ k. refusal view s k.entry ≡ Some StaleReference → ⊥) ks
   never-stale [] h = tt
