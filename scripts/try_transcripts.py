@@ -418,6 +418,8 @@ OPTIONS = {
     ("--any-seq=client", "--open"): {"any_seq": "client", "open": True},
     ("--any-seq=both", "--all", "--open"): {"any_seq": "both", "all": True, "open": True},
     ("--all", "--open"): {"all": True, "open": True},
+    ("--bodies",): {"bodies": True},
+    ("--bodies", "--any-seq", "--all", "--open"): {"bodies": True, "any_seq": "both", "all": True, "open": True},
 }
 
 

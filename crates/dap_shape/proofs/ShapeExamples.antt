@@ -1,12 +1,12 @@
 -- Worked examples of faults and their sentences, each shown by computation.
 use Rattle.std.proofs.Common.{◌≡◌, ℕ, List, [], ◌∷◌, codes, Option, Some, None, true, false, refl}
 use Rattle.std.specs.Fmt.{digits}
-use Rattle.serde_json.specs.Data.{unsigned, Data, null, boolean, number, string, array, object, no_items, item, no_members, member}
-use Rattle.dap_message.specs.declared.message.Kind.TheVariants.{Request, Response, Event, Other}
-use Rattle.dap_shape.specs.Shapes.{Fault, at_key, at_place, absent, other_than}
+use Rattle.serde_json.specs.Data.{unsigned, Data, null, number, string, array, object, no_items, item, no_members, member}
+use Rattle.dap_message.specs.declared.message.Kind.TheVariants.{Request, Response, Event}
+use Rattle.dap_shape.specs.Shapes.{at_key, at_place, absent, other_than}
 use Rattle.dap_shape.specs.Faults.{fault_of, fault_in}
 use Rattle.dap_shape.specs.Sentences.{sentence_of}
-use Rattle.dap_shape.specs.declared.shape.Scalar.TheVariants.{Any, Text, Boolean, Whole, Number, WholeOrText, OneOf}
+use Rattle.dap_shape.specs.declared.shape.Scalar.TheVariants.{Text, Whole, OneOf}
 use Rattle.dap_shape.specs.declared.shape.Choice.TheVariants.{OutputEventGroup}
 use Rattle.dap_shape.specs.declared.shape.TypeName.TheVariants.{Thread, ExceptionDetails}
 use Rattle.dap_shape.specs.declared.shape.Kind.TheVariants.{Plain, Object}

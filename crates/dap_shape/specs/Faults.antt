@@ -1,7 +1,7 @@
 -- The first fault of a value, where it is not of a shape: of the rows of an object in their order, of the elements of a list in
 -- theirs. `null` counts as absent, keys that have no row may have any value, and of a message that is no request, no successful
 -- response and no event nothing is asked: this profile's choice.
-use Rattle.std.specs.Prelude.{◌≡◌, ℕ, ◌+◌, List, [], ◌∷◌, Bool, true, false, ◌||◌, bytes_eq, if◌then◌else◌, Option, Some, None, is_some, option_map, option_and_then}
+use Rattle.std.specs.Prelude.{ℕ, ◌+◌, List, [], ◌∷◌, Bool, true, false, ◌||◌, bytes_eq, if◌then◌else◌, Option, Some, None, is_some, option_map, option_and_then}
 use Rattle.std.specs.List.{list_any}
 use Rattle.std.specs.Ordering.{nat_cmp, match_ordering}
 use Rattle.std.specs.Cmp.Lexicographic.{slice_cmp}

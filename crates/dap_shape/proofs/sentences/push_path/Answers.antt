@@ -1,6 +1,6 @@
-use Rattle.std.proofs.Common.{◌≡◌, ◌++◌, ◌-◌, ◌∙◌, codes, take, drop, get_or, length, OnOk, string_bytes, subst, sym, ap}
+use Rattle.std.proofs.Common.{◌≡◌, ◌++◌, ◌-◌, ◌∙◌, codes, take, drop, length, OnOk, string_bytes, subst, sym, ap}
 use Rattle.std.specs.Prelude.{flat_map}
-use Rattle.dap_shape.specs.Sentences.{step_text, first_step_text}
+use Rattle.dap_shape.specs.Sentences.{step_text}
 use Rattle.dap_shape.specs.Seen.{step_seen}
 use Rattle.dap_shape.proofs.ShapeLemmas.{path_text-split, joined_parts}
 use Rattle.dap_shape.proofs.sentences.push_path.Goals as goal
