@@ -6,10 +6,9 @@ use Rattle.std.proofs.lemmas.Bool.Decides.{nat_tests}
 use Rattle.std.proofs.lemmas.List.{append_assoc, append-nil, length-append}
 use Rattle.dap_check.specs.Findings.{finding_at, findings_after, findings, open_requests}
 use Rattle.dap_check.specs.Legal.{least_broken, IsLegal}
-use Rattle.dap_check.specs.ReadingLaws.{TextsHaveOneLine}
-use Rattle.dap_check.specs.Transcript.{IsLine, AreLines, Refuses}
+use Rattle.dap_check.specs.Transcript.{IsLine, AreLines}
 use Rattle.dap_check.specs.declared.checking.CheckFault.{CheckFault}
-use Rattle.dap_check.specs.declared.checking.CheckFault.TheVariants.{BadLine, Body, OutOfMemory}
+use Rattle.dap_check.specs.declared.checking.CheckFault.TheVariants.{OutOfMemory}
 use Rattle.dap_check.specs.declared.line.Line.{Line}
 use Rattle.dap_check.specs.declared.rule.AnySeq.{AnySeq}
 use Rattle.dap_check.specs.declared.rule.Finding.{Finding}
@@ -24,13 +23,6 @@ use Rattle.dap_explain.specs.Sentences.{joined_text}
 use Rattle.dap_tool.specs.PrivateListed.{rule_at, left_after, IsListed}
 use Rattle.dap_tool.specs.declared.verdict.CheckOptions.{CheckOptions}
 use Rattle.dap_tool.specs.declared.bodies.Listing.{Listing}
-
--- ---- a text is refused for memory alone where it is a line
-
-pub refused_alone : TextsHaveOneLine → (number : ℕ) (text : List ℕ) (line : Line) → IsLine number text line → (fault : CheckFault) → Refuses number text fault → fault ≡ OutOfMemory
-refused_alone law number text line is (BadLine n) refuses = absurd (law.none number text (BadLine n) line refuses (λ e. cc) is)
-refused_alone law number text line is (Body n cause) refuses = absurd (law.none number text (Body n cause) line refuses (λ e. cc) is)
-refused_alone law number text line is OutOfMemory refuses = refl
 
 -- ---- the findings that are left
 
@@ -102,7 +94,7 @@ module _ (any_seq : AnySeq) where
       pub found : findings_after any_seq earlier lines ≡ []
       pub sound : has_fault lines ≡ false
 
-    clean_body : (line : Line) (fault : Option Fault) → length (texts_of_body explained line fault) ≡ 0 → is_some fault ≡ false
+    clean_body : (line : Line) (fault : Option Fault) → length (texts_of_body explained line.number line.message.kind fault) ≡ 0 → is_some fault ≡ false
     clean_body line None none = refl
     clean_body line (Some fault) none = absurd (omega arith)
 
@@ -120,7 +112,7 @@ module _ (any_seq : AnySeq) where
         let so = clean_by earlier line later (least_broken any_seq earlier line) (omega (arith, both, none)) (clean (earlier ++ line ∷ []) later (omega (arith, both, none))) in
         record { found = so.0; sound = so.1 }
 
-    none_body : (line : Line) (fault : Option Fault) → is_some fault ≡ false → length (texts_of_body explained line fault) ≡ 0
+    none_body : (line : Line) (fault : Option Fault) → is_some fault ≡ false → length (texts_of_body explained line.number line.message.kind fault) ≡ 0
     none_body line None none = refl
     none_body line (Some fault) none = absurd (cc none)
 

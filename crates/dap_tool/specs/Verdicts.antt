@@ -7,6 +7,7 @@ use Rattle.dap_check.specs.declared.line.Line.{Line}
 use Rattle.dap_check.specs.declared.rule.AnySeq.{AnySeq}
 use Rattle.dap_check.specs.declared.rule.OpenRequest.{OpenRequest}
 use Rattle.dap_check.specs.declared.rule.Rule.{Rule}
+use Rattle.dap_message.specs.declared.message.Kind.{Kind}
 use Rattle.dap_explain.specs.Reasons.{reason_of}
 use Rattle.dap_explain.specs.Sentences.{joined_text, sentence_of}
 use Rattle.dap_explain.specs.declared.reason.Reason.{Reason}
@@ -35,16 +36,16 @@ abbrev pub text_at : Bool → List Line → Line → Rule → List ℕ
 text_at explained earlier line rule = text_of_finding line.number rule ++ (if explained then text_of_why (reason_of rule earlier line) else [])
 
 -- where a message is not as the Specification has it, with the sentence where it is asked for: rule 8
-abbrev pub text_of_fault : Bool → Line → Fault → List ℕ
-text_of_fault explained line fault = codes "line " ++ decimal line.number ++ codes " rule 8\n" ++ (if explained then sentence_of_fault line.message.kind fault ++ codes "\n" else [])
+abbrev pub text_of_fault : Bool → ℕ → Kind → Fault → List ℕ
+text_of_fault explained number kind fault = codes "line " ++ decimal number ++ codes " rule 8\n" ++ (if explained then sentence_of_fault kind fault ++ codes "\n" else [])
 
-abbrev pub texts_of_body : Bool → Line → Option Fault → List (List ℕ)
-texts_of_body explained line None = []
-texts_of_body explained line (Some fault) = text_of_fault explained line fault ∷ []
+abbrev pub texts_of_body : Bool → ℕ → Kind → Option Fault → List (List ℕ)
+texts_of_body explained number kind None = []
+texts_of_body explained number kind (Some fault) = text_of_fault explained number kind fault ∷ []
 
 -- of a line that breaks this rule, or none of the seven, and then rule 8 counts where bodies are checked
 abbrev pub text_if : Bool → Bool → List Line → Line → Option Rule → List (List ℕ)
-text_if explained bodies earlier line None = if bodies then texts_of_body explained line (fault_in line.message.kind) else []
+text_if explained bodies earlier line None = if bodies then texts_of_body explained line.number line.message.kind (fault_in line.message.kind) else []
 text_if explained bodies earlier line (Some rule) = text_at explained earlier line rule ∷ []
 
 -- of lines that stand after these

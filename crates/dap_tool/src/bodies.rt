@@ -1,5 +1,5 @@
 //! The lines of a transcript that break a rule, where rule 8 counts too: what a message holds is as the Specification has it.
-ghost use Rattle.std.specs.Prelude.{◌≡◌, ◌+◌, ◌-◌, ◌^◌, ◌<◌, ◌≤◌, ◌∷◌, ◌++◌, [], List, ℕ, Option, Some, None, option_map, option_to_list, if◌then◌else◌, length, take, codes, decimal, OnOk, IfOk, MatchResult, string_bytes, true};
+ghost use Rattle.std.specs.Prelude.{◌≡◌, ◌+◌, ◌-◌, ◌^◌, ◌<◌, ◌≤◌, ◌∷◌, ◌++◌, [], List, ℕ, Option, Some, None, option_map, option_to_list, if◌then◌else◌, length, take, drop, codes, decimal, OnOk, IfOk, MatchResult, string_bytes, true};
 ghost use Rattle.std.specs.Str.Lines.{lines};
 ghost use Rattle.dap_check.specs.Findings.{findings};
 ghost use Rattle.dap_check.specs.Transcript.{IsLine, AreLines};
@@ -13,8 +13,8 @@ ghost use Rattle.dap_tool.specs.Verdicts.{text_of_fault, texts_of_body, text_if,
 ghost use Rattle.dap_tool.specs.PrivateListed.{rule_at, left_after, IsListed};
 
 use crate::verdict::{CheckOptions, push_finding};
-use dap_check::laws::texts_are_read_in_one_way;
-use dap_check::{CheckFault, Finding, Line, Rule, read_line, split_line};
+use dap_check::{CheckFault, Finding, Rule, split_line};
+use dap_message::{BodyFault, Kind, Scratch, read_message_with};
 use dap_shape::{ShapeFault, message_fault, sentence};
 use std::alloc::{AllocError, Global};
 
@@ -29,12 +29,12 @@ fn rule_text(alloc: Global, line: u64) -> Result<String, AllocError>
 fn push_sentence(
     alloc: Global,
     text: &mut Vec<u8>,
-    line: &Line,
+    kind: &Kind,
     fault: &ShapeFault,
 ) -> Result<(), AllocError>
-    ensures { OnOk result (text.new.items ≡ text.old.items ++ (sentence_of line.now.message.kind (fault_seen fault.now) ++ codes "\n")) }
+    ensures { OnOk result (text.new.items ≡ text.old.items ++ (sentence_of kind.now (fault_seen fault.now) ++ codes "\n")) }
 {
-    let words = sentence(alloc, &line.message.kind, fault)?;
+    let words = sentence(alloc, kind, fault)?;
     text.extend_from_slice(words.as_bytes())?;
     text.extend_from_slice(b"\n")
 }
@@ -42,42 +42,63 @@ fn push_sentence(
 fn fault_text(
     alloc: Global,
     explained: bool,
-    line: &Line,
+    number: u64,
+    kind: &Kind,
     fault: &ShapeFault,
 ) -> Result<Vec<u8>, AllocError>
-    ensures { IfOk result (λ text. text.items ≡ text_of_fault explained line.now (fault_seen fault.now)) }
+    ensures { IfOk result (λ text. text.items ≡ text_of_fault explained number kind.now (fault_seen fault.now)) }
 {
     let mut text = Vec::new(alloc);
-    let rule = rule_text(alloc, line.number)?;
+    let rule = rule_text(alloc, number)?;
     text.extend_from_slice(rule.as_bytes())?;
     if explained {
-        push_sentence(alloc, &mut text, line, fault)?;
+        push_sentence(alloc, &mut text, kind, fault)?;
     }
     Ok(text)
 }
 
-fn body_text(alloc: Global, explained: bool, line: &Line) -> Result<Option<Vec<u8>>, AllocError>
-    ensures { IfOk result (λ told. option_to_list (option_map (λ text. text.items) told) ≡ texts_of_body explained line.now (fault_in line.now.message.kind)) }
+fn body_text(
+    alloc: Global,
+    explained: bool,
+    number: u64,
+    kind: &Kind,
+) -> Result<Option<Vec<u8>>, AllocError>
+    ensures { IfOk result (λ told. option_to_list (option_map (λ text. text.items) told) ≡ texts_of_body explained number kind.now (fault_in kind.now)) }
 {
-    match message_fault(alloc, &line.message.kind)? {
+    match message_fault(alloc, kind)? {
         None => Ok(None),
-        Some(fault) => Ok(Some(fault_text(alloc, explained, line, &fault)?)),
+        Some(fault) => Ok(Some(fault_text(alloc, explained, number, kind, &fault)?)),
     }
 }
 
-/// The same of the text of a line, which is one.
+/// What follows the side of a line.
+fn body_of(text: &[u8]) -> &[u8]
+    ensures { result.now ≡ drop 2 text.now }
+{
+    match text {
+        [_, _, body @ ..] => body,
+        _ => &[],
+    }
+}
+
+/// What is printed of the text of a line, which is one, if its message has a fault.
 fn text_of_body(
     alloc: Global,
+    scratch: &mut Scratch,
     explained: bool,
     number: u64,
     text: &[u8],
 ) -> Result<Option<Vec<u8>>, CheckFault>
-    ensures { (line : TheLine) → IsLine number text.now line → MatchResult result (λ told. option_to_list (option_map (λ text. text.items) told) ≡ texts_of_body explained line (fault_in line.message.kind)) (λ fault. fault ≡ CheckFault.OutOfMemory) }
+    ensures { (line : TheLine) → IsLine number text.now line → MatchResult result (λ told. option_to_list (option_map (λ text. text.items) told) ≡ texts_of_body explained line.number line.message.kind (fault_in line.message.kind)) (λ fault. fault ≡ CheckFault.OutOfMemory) }
 {
-    // A law for the proof: no text is two lines.
-    texts_are_read_in_one_way();
-    let line = read_line(alloc, number, text)?;
-    Ok(body_text(alloc, explained, &line)?)
+    match read_message_with(alloc, body_of(text), scratch) {
+        Ok(message) => Ok(body_text(alloc, explained, number, &message.kind)?),
+        Err(BodyFault::Refused(cause)) => Err(CheckFault::Body {
+            line: number,
+            cause,
+        }),
+        Err(BodyFault::OutOfMemory) => Err(CheckFault::OutOfMemory),
+    }
 }
 
 // ---- a line that breaks a rule
@@ -99,6 +120,7 @@ fn text_of_finding(
 /// What is printed of a line, by the least of the seven rules that it breaks.
 fn text_of_line(
     alloc: Global,
+    scratch: &mut Scratch,
     bytes: &[u8],
     explained: bool,
     number: u64,
@@ -113,7 +135,7 @@ fn text_of_line(
             let line = number;
             text_of_finding(alloc, bytes, explained, Finding { line, rule })
         }
-        None => text_of_body(alloc, explained, number, text),
+        None => text_of_body(alloc, scratch, explained, number, text),
     }
 }
 
@@ -180,6 +202,7 @@ impl<'a> Listing<'a> {
     fn take(
         &mut self,
         alloc: Global,
+        scratch: &mut Scratch,
         bytes: &[u8],
         options: CheckOptions,
         number: u64,
@@ -191,7 +214,15 @@ impl<'a> Listing<'a> {
         ensures room { self.new.count ≤ self.old.count + 1 }
     {
         let (broken, left) = split_rule(self.left, number);
-        let told = text_of_line(alloc, bytes, options.explained, number, text, broken)?;
+        let told = text_of_line(
+            alloc,
+            scratch,
+            bytes,
+            options.explained,
+            number,
+            text,
+            broken,
+        )?;
         self.left = left;
         Ok(self.push(options.all, told)?)
     }
@@ -206,6 +237,7 @@ pub(crate) fn list_lines<'a>(
 ) -> Result<Listing<'a>, CheckFault>
     ensures { (transcript : List TheLine) → AreLines 1 (lines bytes.now) transcript → findings options.any_seq transcript ≡ found.entry.now → MatchResult result (IsListed options transcript []) (λ fault. fault ≡ CheckFault.OutOfMemory) }
 {
+    let mut scratch = Scratch::new(alloc);
     let mut listing = Listing::new(alloc, found);
     let mut rest = bytes;
     let mut number = 0;
@@ -213,7 +245,7 @@ pub(crate) fn list_lines<'a>(
         let (text, later) = split_line(rest);
         number += 1;
         if !text.is_empty() {
-            listing.take(alloc, bytes, options, number, text)?;
+            listing.take(alloc, &mut scratch, bytes, options, number, text)?;
         }
         rest = later;
     }
