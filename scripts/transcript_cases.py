@@ -656,6 +656,13 @@ def check_shapes():
         count = b"" if why is None else b"1 finding\n"
         expect(f"check: {name}: bodies, all", check(lines, *words, "--bodies", "--all"), (wanted[0], wanted[1] + count, b""))
     check_shapes_among_rules()
+    shape_rows()
+
+
+def shape_rows():
+    """The definition of rule 8 and the code's rows are what is printed of one table."""
+    done = subprocess.run([os.path.join(HERE, "scripts", "shapes"), "compare"], capture_output=True, timeout=60)
+    expect("scripts/shapes compare", (done.returncode, done.stdout, done.stderr), (0, b"", b""))
 
 
 def check_shapes_among_rules():
