@@ -4,6 +4,7 @@
 //! `serde_json` and `dap_json`. It must not know in which order messages come, nor which end writes one.
 #![tactic(auto)]
 
+mod entries;
 mod fault;
 mod message;
 mod rows;
@@ -11,8 +12,9 @@ mod sentences;
 mod shape;
 mod walking;
 
+pub use entries::values;
 pub use fault::{Cause, Inward, ShapeFault};
 pub use message::message_fault;
-pub use rows::{fields, values};
+pub use rows::fields;
 pub use sentences::sentence;
 pub use shape::{Choice, Field, Kind, Scalar, Shape, TypeName};

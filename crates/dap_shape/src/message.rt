@@ -4,8 +4,8 @@ ghost use Rattle.serde_json.specs.View.{view};
 ghost use Rattle.dap_shape.specs.Faults.{row_named, held_fault as held_fault_of, fault_in};
 ghost use Rattle.dap_shape.specs.Seen.{row_seen, entry_seen, fault_seen};
 
+use crate::entries::{events, requests, responses};
 use crate::fault::ShapeFault;
-use crate::rows::{events, requests, responses};
 use crate::shape::{Entry, Field};
 use crate::walking::held_fault;
 use dap_message::{Kind, Tree};

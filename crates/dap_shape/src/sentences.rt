@@ -4,8 +4,8 @@ ghost use Rattle.dap_shape.specs.Rows.{values_of};
 ghost use Rattle.dap_shape.specs.Sentences.{subject_of, step_text, first_step_text, path_text, scalar_text, shape_text, wrong_text, sentence_of};
 ghost use Rattle.dap_shape.specs.Seen.{step_seen, wrong_seen, fault_seen};
 
+use crate::entries::values;
 use crate::fault::{Cause, Inward, ShapeFault};
-use crate::rows::values;
 use crate::shape::{Choice, Kind as ValueKind, Scalar, Shape};
 use dap_message::Kind;
 use itoa::Buffer;

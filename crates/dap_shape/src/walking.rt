@@ -10,8 +10,9 @@ ghost use Rattle.dap_shape.specs.Rows.{values_of};
 ghost use Rattle.dap_shape.specs.Faults.{is_whole as is_whole_number, is_among, is_of as is_scalar, row_fault, rows_fault, fault_of as fault_of_data, items_fault as items_fault_of};
 ghost use Rattle.dap_shape.specs.Seen.{row_seen, step_seen, fault_seen};
 
+use crate::entries::values;
 use crate::fault::{Cause, Inward, ShapeFault};
-use crate::rows::{fields, values};
+use crate::rows::fields;
 use crate::shape::{Choice, Field, Kind, Scalar, Shape, TypeName};
 use dap_json::field;
 use serde_json::Value;
