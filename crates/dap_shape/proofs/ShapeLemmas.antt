@@ -1,6 +1,7 @@
 -- What the walk over a value rests on: what stands at a key, and that it nests less deep.
 use Rattle.std.proofs.Common.{◌≡◌, ℕ, zero, suc, ◌+◌, ◌-◌, ◌*◌, ◌++◌, take, append_assoc, codes, ◌<◌, ◌≤◌, List, [], ◌∷◌, length, get_or, drop, Option, Some, None, option_map, Bool, true, false, cond, Ordering, Less, Equal, Greater, refl, sym, ap, ◌∙◌, subst, arith, add-one}
-use Rattle.std.specs.Prelude.{map, flat_map, max, not, is_some, bytes_eq, if◌then◌else◌}
+use Rattle.std.specs.Prelude.{map, flat_map, max, not, is_some, bytes_eq, if◌then◌else◌, MatchOption}
+use Rattle.std.specs.List.{AllByRecursion}
 use Rattle.std.proofs.lemmas.List.{take_all}
 use Rattle.std.proofs.lemmas.List.Folds.{flat_map-map}
 use Rattle.dap_shape.specs.Sentences.{step_text, first_step_text, path_text}
@@ -13,9 +14,10 @@ use Rattle.serde_json.specs.Find.{get, get_member, as_array, as_object}
 use Rattle.serde_json.specs.View.{view, items_view}
 use Rattle.serde_json.specs.declared.value.Value.{Value}
 use Rattle.dap_json.specs.Field.{is_null, unless_null, tree_at}
-use Rattle.dap_shape.specs.Shapes.{Row, Fault, inside, at_place, misfit}
+use Rattle.dap_shape.specs.Shapes.{Row, Fault, inside, at_key, at_place, missing, misfit}
 use Rattle.dap_shape.specs.Rows.{fields_of}
 use Rattle.dap_shape.specs.Faults.{bare_fault, or_else, row_fault, rows_fault, fault_of, items_fault, member_fault, row_named}
+use Rattle.dap_shape.specs.Laws.{KeepsRow, SoundObjectsKeepTheirRows}
 use Rattle.dap_shape.specs.Seen.{row_seen, entry_seen, step_seen}
 use Rattle.dap_shape.specs.declared.shape.Entry.{Entry}
 use Rattle.dap_shape.specs.declared.shape.Scalar.{Scalar}
@@ -226,3 +228,39 @@ path_text-split (step ∷ steps) d some =
 
 pub joined_parts : (start one two three all bytes : List ℕ) → all ≡ start ++ one → bytes ≡ all ++ two → bytes ++ three ≡ start ++ (one ++ (two ++ three))
 joined_parts start one two three all bytes e f = ap (λ z. z ++ three) (f ∙ ap (λ z. z ++ two) e) ∙ append_assoc (start ++ one) two three ∙ append_assoc start one (two ++ three)
+
+-- ---- a value without a fault keeps each row
+
+none_first : (x y : Option Fault) → or_else x y ≡ None → x ≡ None
+none_first None y e = refl
+none_first (Some fault) y e = absurd (cc e)
+
+none_second : (x y : Option Fault) → or_else x y ≡ None → y ≡ None
+none_second None y e = e
+none_second (Some fault) y e = absurd (cc e)
+
+none_inside : {A B : Type 0} (f : A → B) (o : Option A) → option_map f o ≡ None → o ≡ None
+none_inside f None e = refl
+none_inside f (Some x) e = absurd (cc e)
+
+not_required : (b : Bool) (fault : Fault) → cond b (Some fault) None ≡ None → b ≡ false
+not_required true fault e = absurd (cc e)
+not_required false fault e = refl
+
+row_kept : (row : Row) (o : Option Data) → row_fault row (option_map (fault_of row.shape) o) ≡ None → MatchOption o (row.is_required ≡ false) (λ v. fault_of row.shape v ≡ None)
+row_kept row None e = not_required row.is_required (missing row.key) e
+row_kept row (Some v) e = none_inside (inside (at_key row.key)) (fault_of row.shape v) e
+
+rows_kept : (d : Data) (rows : List Row) → rows_fault (found_in d) rows ≡ None → AllByRecursion (KeepsRow d) rows
+rows_kept d [] e = tt
+rows_kept d (row ∷ rows) e =
+    let first = row_fault row (found_in d row.key row.shape) in
+    (row_kept row (tree_at row.key d) (none_first first (rows_fault (found_in d) rows) e), rows_kept d rows (none_second first (rows_fault (found_in d) rows) e))
+
+pub object_rows : SoundObjectsKeepTheirRows
+object_rows name null e = absurd (cc e)
+object_rows name (boolean b) e = absurd (cc e)
+object_rows name (number n) e = absurd (cc e)
+object_rows name (string s) e = absurd (cc e)
+object_rows name (array ds) e = absurd (cc e)
+object_rows name (object ms) e = rows_kept (object ms) (fields_of name) (fault_of-object name (object ms) refl ∙ e)

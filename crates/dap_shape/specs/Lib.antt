@@ -3,3 +3,4 @@ pub mod Rows
 pub mod Faults
 pub mod Sentences
 pub mod Seen
+pub mod Laws

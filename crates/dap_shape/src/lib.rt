@@ -6,6 +6,7 @@
 
 mod entries;
 mod fault;
+pub mod laws;
 mod message;
 mod rows;
 mod sentences;
