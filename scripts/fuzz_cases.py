@@ -319,7 +319,7 @@ def transcript_case(choice):
     content = edited(choice, transcript(choice))
     if chance(choice, 2):
         content = damaged_lines(choice, content)
-    options = {name: True for name in ("explain", "all", "open") if chance(choice, 2)}
+    options = {name: True for name in ("explain", "all", "open", "bodies") if chance(choice, 2)}
     if chance(choice, 2):
         options["any_seq"] = choice.choice([True, "both", "client", "adapter"])
     return Case("check", [content], options)

@@ -212,7 +212,7 @@ def main():
     words.add_argument("files", nargs="+")
     for name in LIMITS:
         words.add_argument(f"--max-{name}", type=int, default=argparse.SUPPRESS)
-    for name in ("explain", "all", "open", "json", "keep-going"):
+    for name in ("explain", "all", "open", "bodies", "json", "keep-going"):
         words.add_argument(f"--{name}", action="store_true", default=argparse.SUPPRESS)
     words.add_argument("--any-seq", choices=("client", "adapter", "both"), default=argparse.SUPPRESS)
     options = vars(words.parse_args(["--any-seq=both" if word == "--any-seq" else word for word in sys.argv[1:]]))

@@ -1,11 +1,12 @@
 #!/usr/bin/env python3
-"""Checks a transcript of a debug session against seven rules: slowly, each rule a statement on places in the list of lines.
+"""Checks a transcript of a debug session against eight rules: slowly, each rule a statement on places in the list of lines.
 
     scripts/slow_check.py session.txt            (`legal`, or `line L rule K` of the first finding)
     scripts/slow_check.py session.txt --any-seq  (numbers may come in any order: rule 1 is not tested; `=client` or
                                                   `=adapter`: not for that side)
     scripts/slow_check.py session.txt --all      (every line that breaks a rule, and how many there are)
     scripts/slow_check.py session.txt --open     (after that each request that nothing has answered)
+    scripts/slow_check.py session.txt --bodies   (rule 8 is tested too)
     scripts/slow_check.py session.txt --facts    (after a finding, in which way the rule is broken, and by which lines)
 
 It says what `dap check` says, with the same statuses, shares nothing with it and keeps nothing from line to line. Each line
@@ -21,6 +22,9 @@ is `> ` and a message of the client, or `< ` and one of the adapter. The rules:
 6. A `frameId` of `scopes`, `evaluate` or `completions`, and a `variablesReference` of `variables` or `setVariable`, was
    given as such by an earlier response, and the debuggee was not resumed since.
 7. After a successful response to `disconnect` comes no request of the client and no message of the adapter.
+8. The arguments of a request, and the body of a successful response and of an event, are of the type that scripts/shapes.txt has
+   for the command or the event: each required key is there, and each value at a key of the table is of its type. `null` counts as
+   absent. It is tested where it is asked for.
 """
 import argparse
 import dataclasses
@@ -28,6 +32,8 @@ import itertools
 import json
 import re
 import sys
+
+from shape_table import read_table
 
 MAX_FILE = 67108864
 GREATEST_SEQ = 9007199254740991
@@ -386,19 +392,76 @@ def rule_7(said, place):
     return None
 
 
-RULES = {1: rule_1, 2: rule_2, 3: rule_3, 4: rule_4, 5: rule_5, 6: rule_6, 7: rule_7}
+# Rule 8: a fault is said in one sentence, the way to the value and what is wrong with it.
+
+SHAPES = read_table()
+WORDS = {"text": "text", "boolean": "boolean", "whole": "whole number", "number": "number", "whole-or-text": "whole number and no text"}
+
+
+def rule_8(said, place):
+    message = said[place]
+    if message.type not in SHAPES.messages or message.type == "response" and not message.success:
+        return None
+    name = message.event if message.type == "event" else message.command
+    if name not in SHAPES.messages[message.type]:
+        return None
+    required, shape = SHAPES.messages[message.type][name]
+    key, value = ("arguments", message.arguments) if message.type == "request" else ("body", message.body)
+    subject = {"request": "request ", "response": "response to ", "event": "event "}[message.type] + name
+    if value is None:
+        return Broken(f"{subject} has no {key}") if required else None
+    fault = next(faults(key, value, shape), None)
+    return Broken(f"{subject}: {fault}") if fault else None
+
+
+def faults(path, value, shape):
+    """What is wrong with a value and within it, in order."""
+    if shape.startswith("["):
+        if not isinstance(value, list):
+            yield f"{path} is no list"
+        for place, item in enumerate(value if isinstance(value, list) else []):
+            yield from faults(f"{path}[{place}]", item, shape[1:-1])
+    elif shape in SHAPES.types:
+        yield from object_faults(path, value, SHAPES.types[shape])
+    elif shape in SHAPES.choices:
+        if value not in SHAPES.choices[shape]:
+            yield " ".join([f"{path} is none of", *SHAPES.choices[shape]])
+    elif not is_of(value, shape):
+        yield f"{path} is no {WORDS[shape]}"
+
+
+def object_faults(path, value, rows):
+    if not isinstance(value, dict):
+        yield f"{path} is no object"
+        return
+    for key, required, shape in rows:
+        if value.get(key) is not None:
+            yield from faults(f"{path}.{key}", value[key], shape)
+        elif required:
+            yield f"{path} has no {key}"
+
+
+def is_of(value, shape):
+    if shape == "boolean":
+        return isinstance(value, bool)
+    is_number = isinstance(value, float) or is_whole(value)
+    return {"text": is_text(value), "number": is_number, "whole": is_whole(value)}.get(shape, is_text(value) or is_whole(value))
+
+
+RULES = {1: rule_1, 2: rule_2, 3: rule_3, 4: rule_4, 5: rule_5, 6: rule_6, 7: rule_7, 8: rule_8}
 
 
 # Whose numbers rule 1 does not ask for, by the value of --any-seq; no value means both.
 FREE = {None: "", "client": CLIENT, "adapter": ADAPTER, "both": CLIENT + ADAPTER, True: CLIENT + ADAPTER}
 
 
-def findings(said, any_seq=None):
+def findings(said, any_seq=None, bodies=False):
     """Each place where a rule is broken, with the least rule and how, in order. A line that breaks a rule counts for those
     after it as any other does."""
     for place in range(len(said)):
         for rule, test in RULES.items():
-            broken = None if rule == 1 and said[place].side in FREE[any_seq] else test(said, place)
+            is_free = rule == 1 and said[place].side in FREE[any_seq] or rule == 8 and not bodies
+            broken = None if is_free else test(said, place)
             if broken is not None:
                 yield place, rule, broken
                 break
@@ -422,9 +485,9 @@ def count_of(number):
     return {0: "legal", 1: "1 finding"}.get(number, f"{number} findings")
 
 
-def lines_of_check(said, any_seq=None, explain=False, every=False, unanswered_too=False):
-    """What is printed of a transcript. Why a rule is broken is said in other words than those of `dap check`."""
-    found = findings(said, any_seq)
+def lines_of_check(said, any_seq=None, explain=False, every=False, unanswered_too=False, bodies=False):
+    """What is printed of a transcript. Why a rule is broken is said in other words than those of `dap check`, but for rule 8."""
+    found = findings(said, any_seq, bodies)
     found = list(found) if every else list(itertools.islice(found, 1))
     for place, rule, broken in found:
         yield f"line {said[place].line} rule {rule}"
@@ -436,19 +499,19 @@ def lines_of_check(said, any_seq=None, explain=False, every=False, unanswered_to
         yield f"line {message.line} request {message.seq} {shown(message.command)} is not answered"
 
 
-def check(content, any_seq=None, explain=False, all=False, open=False):
+def check(content, any_seq=None, explain=False, all=False, open=False, bodies=False):
     """What `dap check` prints of these bytes, by its options: the status, its output and its errors."""
     try:
         said = read_transcript(content)
     except Refused as refusal:
         return 3, "", f"dap: {refusal}\n"
-    out = "".join(line + "\n" for line in lines_of_check(said, any_seq, explain, all, open))
-    return (0 if next(findings(said, any_seq), None) is None else 3), out, ""
+    out = "".join(line + "\n" for line in lines_of_check(said, any_seq, explain, all, open, bodies))
+    return (0 if next(findings(said, any_seq, bodies), None) is None else 3), out, ""
 
 
-def facts(content, any_seq=None):
+def facts(content, any_seq=None, bodies=False):
     """How the first finding's rule is broken, by which earlier lines, and what was wanted; None where all is legal."""
-    found = next(findings(read_transcript(content), any_seq), None)
+    found = next(findings(read_transcript(content), any_seq, bodies), None)
     return found[2] if found else None
 
 
@@ -458,6 +521,7 @@ def main():
     words.add_argument("--any-seq", choices=("client", "adapter", "both"), help="do not test rule 1, for a side or for both")
     words.add_argument("--all", action="store_true", help="each line that breaks a rule, and how many there are")
     words.add_argument("--open", action="store_true", help="after that each request that nothing has answered")
+    words.add_argument("--bodies", action="store_true", help="test rule 8 too")
     words.add_argument("--facts", action="store_true", help="tell how the rule is broken, and by which earlier lines")
     told = words.parse_args(["--any-seq=both" if word == "--any-seq" else word for word in sys.argv[1:]])
     try:
@@ -469,11 +533,11 @@ def main():
     if len(content) > MAX_FILE:
         print("dap: FileTooLong", file=sys.stderr)
         return 3
-    status, out, err = check(content, told.any_seq, all=told.all, open=told.open)
+    status, out, err = check(content, told.any_seq, all=told.all, open=told.open, bodies=told.bodies)
     sys.stdout.write(out)
     sys.stderr.write(err)
     if told.facts and out and status:
-        broken = facts(content, told.any_seq)
+        broken = facts(content, told.any_seq, told.bodies)
         print(broken.way, *[f"line {number}" for number in broken.against], sep=", ")
     return status
 

@@ -426,6 +426,7 @@ def transcripts():
     check_lines()
     check_explained()
     check_all()
+    check_shapes()
     check_bodies()
     check_files()
     check_examples()
@@ -571,6 +572,121 @@ ALL = [
 ]
 
 
+# Of each its lines after OPEN, and what is wrong with the last of them; None where nothing is.
+THREAD = {"id": 1, "name": "main"}
+GOOD_FRAME = {"id": 1, "name": "f", "line": 1, "column": 1}
+GOOD_SCOPE = {"name": "Locals", "variablesReference": 2, "expensive": False}
+GOOD_VARIABLE = {"name": "x", "value": "1", "variablesReference": 0}
+
+
+def without(value, key):
+    return {name: held for name, held in value.items() if name != key}
+
+
+def answered(command, body=None, arguments=None):
+    return [req(2, command, arguments), ok(2, command, body)]
+
+
+def stack_of(*frames):
+    return answered("stackTrace", {"stackFrames": list(frames)}, {"threadId": 1})
+
+
+SHAPES = [
+    ("a frame", stack_of(GOOD_FRAME), None),
+    ("a frame without its line", stack_of(without(GOOD_FRAME, "line")), "response to stackTrace: body.stackFrames[0] has no line"),
+    ("a frame whose line is null", stack_of({**GOOD_FRAME, "line": None}), "response to stackTrace: body.stackFrames[0] has no line"),
+    ("a line that is a text", stack_of({**GOOD_FRAME, "line": "1"}), "response to stackTrace: body.stackFrames[0].line is no whole number"),
+    ("a line with a fraction", stack_of({**GOOD_FRAME, "line": 1.0}), "response to stackTrace: body.stackFrames[0].line is no whole number"),
+    ("a line below 0", stack_of({**GOOD_FRAME, "line": -1}), None),
+    ("the second frame", stack_of(GOOD_FRAME, 7), "response to stackTrace: body.stackFrames[1] is no object"),
+    ("the tenth frame", stack_of(*[GOOD_FRAME] * 10, {}), "response to stackTrace: body.stackFrames[10] has no id"),
+    ("keys of its own", stack_of({**GOOD_FRAME, "toy": [1], "\n": {}}), None),
+    ("the first row first", stack_of({"line": "x", "name": 1, "column": 1}), "response to stackTrace: body.stackFrames[0] has no id"),
+    ("a source in a source", stack_of({**GOOD_FRAME, "source": {"sources": [{"sources": [{"path": 7}]}]}}), "response to stackTrace: body.stackFrames[0].source.sources[0].sources[0].path is no text"),
+    ("a module as a number", stack_of({**GOOD_FRAME, "moduleId": 7}), None),
+    ("a module as a text", stack_of({**GOOD_FRAME, "moduleId": "7"}), None),
+    ("a module as neither", stack_of({**GOOD_FRAME, "moduleId": True}), "response to stackTrace: body.stackFrames[0].moduleId is no whole number and no text"),
+    ("a closed list of texts", stack_of({**GOOD_FRAME, "presentationHint": "loud"}), "response to stackTrace: body.stackFrames[0].presentationHint is none of normal label subtle"),
+    ("no frames", answered("stackTrace", {}, {"threadId": 1}), "response to stackTrace: body has no stackFrames"),
+    ("frames that are no list", answered("stackTrace", {"stackFrames": {}}, {"threadId": 1}), "response to stackTrace: body.stackFrames is no list"),
+    ("no body", answered("stackTrace", None, {"threadId": 1}), "response to stackTrace has no body"),
+    ("a body that is no object", answered("threads", [THREAD]), "response to threads: body is no object"),
+    ("a body that may be absent", answered("disconnect"), None),
+    ("a failure", [req(2, "threads"), answer(2, 2, "threads", {"threads": 7}, success=False)], None),
+    ("threads", answered("threads", {"threads": [THREAD]}), None),
+    ("a thread without a name", answered("threads", {"threads": [THREAD, {"id": 2}]}), "response to threads: body.threads[1] has no name"),
+    ("a scope without expensive", answered("scopes", {"scopes": [without(GOOD_SCOPE, "expensive")]}, {"frameId": 1}), "response to scopes: body.scopes[0] has no expensive"),
+    ("a truth value that is a number", answered("scopes", {"scopes": [{**GOOD_SCOPE, "expensive": 0}]}, {"frameId": 1}), "response to scopes: body.scopes[0].expensive is no boolean"),
+    ("a reference that is a text", answered("variables", {"variables": [{**GOOD_VARIABLE, "variablesReference": "0"}]}, {"variablesReference": 2}), "response to variables: body.variables[0].variablesReference is no whole number"),
+    ("an attribute that is not known", answered("variables", {"variables": [{**GOOD_VARIABLE, "presentationHint": {"attributes": ["toy"]}}]}, {"variablesReference": 2}), None),
+    ("an attribute that is no text", answered("variables", {"variables": [{**GOOD_VARIABLE, "presentationHint": {"attributes": ["toy", 1]}}]}, {"variablesReference": 2}), "response to variables: body.variables[0].presentationHint.attributes[1] is no text"),
+    ("a stop for a reason of its own", [event(2, "stopped", {"reason": "whim"})], None),
+    ("a stop for a number", [event(2, "stopped", {"reason": 7})], "event stopped: body.reason is no text"),
+    ("a stop without a body", [event(2, "stopped")], "event stopped has no body"),
+    ("a percentage with a fraction", [event(2, "progressUpdate", {"progressId": "a", "percentage": 1.5})], None),
+    ("a percentage that is a text", [event(2, "progressUpdate", {"progressId": "a", "percentage": "1"})], "event progressUpdate: body.percentage is no number"),
+    ("an event that is not known", [event(2, "toy", 7)], None),
+    ("a group that is not known", [event(2, "output", {"output": "", "group": "x"})], "event output: body.group is none of start startCollapsed end"),
+    ("arguments without their key", [req(2, "scopes", {})], "request scopes: arguments has no frameId"),
+    ("no arguments", [req(2, "scopes")], "request scopes has no arguments"),
+    ("arguments that may be absent", [req(2, "threads")], None),
+    ("arguments that are not needed", [req(2, "threads", 7)], None),
+    ("a request that is not known", [req(2, "toy", 7)], None),
+    ("a request of the adapter", [of_other(req(2, "runInTerminal", {"cwd": "/", "args": ["a", 1]}))], "request runInTerminal: arguments.args[1] is no text"),
+    ("a response of the client", [of_other(req(2, "runInTerminal", {"cwd": "/", "args": []})), of_other(ok(2, "runInTerminal", {"processId": "7"}))], "response to runInTerminal: body.processId is no whole number"),
+]
+
+
+def check_shapes():
+    """Rule 8: what a message holds. It counts where it is asked for, and behind the seven others."""
+    begin = [req(1, "initialize", {"adapterID": "toy"}), ok(1, "initialize", EVERY_FLAG)]
+    for name, lines, why in SHAPES:
+        lines = [*begin, *lines]
+        words = ["--any-seq"] if "frameId" in lines[2] or "variablesReference" in lines[2] else []
+        place = len(lines)
+        if words:
+            # The reference was given: frame 1 and the holder 2.
+            given = [*answered("stackTrace", {"stackFrames": [GOOD_FRAME]}, {"threadId": 1}), req(3, "scopes", FRAME), ok(3, "scopes", {"scopes": [GOOD_SCOPE]})]
+            lines, place = [*begin, *given, *lines[2:]], place + 4
+        wanted = LEGAL if why is None else found(place, 8)
+        expect(f"check: {name}", check(lines, *words), LEGAL)
+        expect(f"check: {name}: bodies", check(lines, *words, "--bodies"), wanted)
+        told = wanted[1] + (b"" if why is None else why.encode() + b"\n")
+        expect(f"check: {name}: bodies, explained", check(lines, *words, "--explain", "--bodies"), (wanted[0], told, b""))
+        count = b"" if why is None else b"1 finding\n"
+        expect(f"check: {name}: bodies, all", check(lines, *words, "--bodies", "--all"), (wanted[0], wanted[1] + count, b""))
+    check_shapes_among_rules()
+    shape_rows()
+
+
+def shape_rows():
+    """The definition of rule 8 and the code's rows are what is printed of one table."""
+    done = subprocess.run([os.path.join(HERE, "scripts", "shapes"), "compare"], capture_output=True, timeout=60)
+    expect("scripts/shapes compare", (done.returncode, done.stdout, done.stderr), (0, b"", b""))
+
+
+def check_shapes_among_rules():
+    bad = {"reason": 7}
+    lines = [req(1, "initialize", {"adapterID": "toy"}), ok(1, "initialize"), event(2, "stopped", bad), event(4, "stopped", bad), event(4, "thread", bad)]
+    lines.insert(3, "")
+    both = b"line 3 rule 8\nline 5 rule 1\nline 6 rule 8\n3 findings\n"
+    said = b"line 3 rule 8\nevent stopped: body.reason is no text\nline 5 rule 1\nseq 3 was due, after the message of line 3\nline 6 rule 8\nevent thread: body.reason is no text\n3 findings\n"
+    waiting = b"line 7 request 2 threads is not answered\n"
+    for name, lines, words, out in [
+        ("the first", lines, [], b"line 3 rule 8\n"),
+        ("all", lines, ["--all"], both),
+        ("all, explained", lines, ["--all", "--explain"], said),
+        ("without rule 1", lines, ["--all", "--any-seq=adapter"], b"line 3 rule 8\nline 5 rule 8\nline 6 rule 8\n3 findings\n"),
+        ("what waits", [*lines, req(2, "threads")], ["--open"], b"line 3 rule 8\n" + waiting),
+        ("all, and what waits", [*lines, req(2, "threads")], ["--open", "--all"], both + waiting),
+    ]:
+        expect(f"check: bodies among rules: {name}", check(lines, "--bodies", *words), (3, out, b""))
+    for words in ([], ["--all"], ["--explain", "--open"]):
+        expect(f"check: bodies: no bytes {words}", check(b"", "--bodies", *words), LEGAL)
+        expect(f"check: bodies: no message {words}", check(["", "x"], "--bodies", *words), refused("BadLine at line 2"))
+    expect_in("usage of check --bodies=x", run(with_files("check", b"", "--bodies=x"))[2], b"error: ")
+
+
 def check_all():
     """Every line that breaks a rule, each request that nothing has answered, and the numbers of one side."""
     for name, lines, words, is_legal, out in ALL:
@@ -667,6 +783,16 @@ def check_examples():
         path = os.path.join(HERE, "examples", "transcripts", name + ".txt")
         expect(f"check: examples/transcripts/{name}.txt", run(["check", path]), wanted)
         expect(f"check: examples/transcripts/{name}.txt: any seq", run(["check", path, "--any-seq"]), with_any)
+        expect(f"check: examples/transcripts/{name}.txt: bodies", run(["check", path, "--any-seq", "--bodies"]), with_any)
+    for name, line, why in [
+        ("frame_without_line", 12, b"response to stackTrace: body.stackFrames[0] has no line\n"),
+        ("scope_without_expensive", 14, b"response to scopes: body.scopes[1] has no expensive\n"),
+        ("reference_as_text", 16, b"response to variables: body.variables[1].variablesReference is no whole number\n"),
+    ]:
+        path = os.path.join(HERE, "examples", "transcripts", name + ".txt")
+        status, told, err = found(line, 8)
+        expect(f"check: examples/transcripts/{name}.txt", run(["check", path]), LEGAL)
+        expect(f"check: examples/transcripts/{name}.txt: bodies", run(["check", path, "--bodies", "--explain"]), (status, told + why, err))
 
 
 ANSWERED = b"< " + CAPABILITIES + b'\n< {"event":"initialized","seq":2,"type":"event"}\n'

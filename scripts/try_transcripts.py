@@ -355,9 +355,27 @@ def allow_all(said):
             message["body"].update({flag: True for flag in FLAGS})
 
 
+def other_value(choice, said):
+    """A value in what a message holds, changed or left out."""
+    holders = [message[key] for _, message in said for key in ("arguments", "body") if isinstance(message.get(key), dict) and message[key]]
+    if not holders:
+        return
+    held = choice.choice(holders)
+    while True:
+        key = choice.choice(sorted(held)) if isinstance(held, dict) else choice.randrange(len(held))
+        if isinstance(held[key], (dict, list)) and held[key] and choice.randrange(4):
+            held = held[key]
+            continue
+        if choice.randrange(3) == 0 and isinstance(held, dict):
+            del held[key]
+        else:
+            held[key] = choice.choice([None, "x", 7, -1, 1.5, True, {}, [], [7], ["x"], {"id": "x"}])
+        return
+
+
 CHANGES = [drop, swap, move, repeat, other_side, other_seq, other_request_seq, other_command, other_success]
 CHANGES += [other_reference] * 2 + [put_other] + [put_event] * 3 + [put_request] * 4 + [put_offer] * 4
-CHANGES += [put_reference] * 9 + [put_use] * 6 + [put_end] * 2
+CHANGES += [put_reference] * 9 + [put_use] * 6 + [put_end] * 2 + [other_value] * 6
 
 
 def numbered_anew(said):
@@ -418,6 +436,8 @@ OPTIONS = {
     ("--any-seq=client", "--open"): {"any_seq": "client", "open": True},
     ("--any-seq=both", "--all", "--open"): {"any_seq": "both", "all": True, "open": True},
     ("--all", "--open"): {"all": True, "open": True},
+    ("--bodies",): {"bodies": True},
+    ("--bodies", "--any-seq", "--all", "--open"): {"bodies": True, "any_seq": "both", "all": True, "open": True},
 }
 
 
@@ -464,6 +484,7 @@ class Trial:
             return
         if self.compare(f"{seed}: legal", wanted[1])[0]:
             self.wrong.append(f"{seed}: what `drive` makes is not legal")
+        self.compare(f"{seed}: bodies", wanted[1], ("--bodies",))
         for place in range(EDITS):
             words = choice.choice(list(OPTIONS))
             self.compare(f"{seed}: edit {place} {' '.join(words)}", edited(choice, wanted[1]), words)

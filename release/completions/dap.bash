@@ -13,7 +13,7 @@ _dap() {
         show) options='--json --keep-going --max-header --max-body -h --help' ;;
         wrap) options='--max-body -h --help' ;;
         unwrap) options='--max-header --max-body -h --help' ;;
-        check) options='--all --any-seq --explain --open -h --help' ;;
+        check) options='--all --any-seq --bodies --explain --open -h --help' ;;
         drive) options='--max-header --max-body --max-requests --max-references --max-breakpoints --max-seq --max-reference -h --help' ;;
         help)
             if ((COMP_CWORD == 2)); then COMPREPLY=($(compgen -W 'serve show wrap unwrap check drive' -- "$word")); fi

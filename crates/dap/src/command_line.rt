@@ -224,7 +224,7 @@ fn check<'a>(alloc: Global) -> Result<Command<'a>, AllocError> {
     Command::new(alloc, "check")
         .about("Checks a transcript: which line breaks which rule of the protocol")
         .after_help(
-            "Prints `legal`, or `line L rule K`: the first line that breaks a rule, and the first rule that it breaks; with `--all` each such line, and then `N findings`. A line is judged by all lines before it, also by those that break a rule. With `--open` there follow lines `line L request N COMMAND is not answered`, in the order of the requests; they change no status. Empty lines are skipped, and counted.\n\nRules:\n  1 the messages of each side are numbered from 1, without a gap\n  2 a response answers a request that waits, with its number and command; a request has no number of one that waits\n  3 the first request of the client is `initialize`, and the second comes after its response\n  4 `initialized` comes after `initialize` has succeeded\n  5 the client asks only what the adapter offers\n  6 the client names only references that were given since the debuggee last went on or ended\n  7 once `disconnect` has succeeded, the client asks nothing more, and the adapter writes nothing more\n\nStatuses: 0 legal, 2 usage, 3 a rule is broken, a line is no message, or the file is too long, 5 read or write, 6 memory",
+            "Prints `legal`, or `line L rule K`: the first line that breaks a rule, and the first rule that it breaks; with `--all` each such line, and then `N findings`. A line is judged by all lines before it, also by those that break a rule. With `--open` there follow lines `line L request N COMMAND is not answered`, in the order of the requests; they change no status. Empty lines are skipped, and counted.\n\nRules:\n  1 the messages of each side are numbered from 1, without a gap\n  2 a response answers a request that waits, with its number and command; a request has no number of one that waits\n  3 the first request of the client is `initialize`, and the second comes after its response\n  4 `initialized` comes after `initialize` has succeeded\n  5 the client asks only what the adapter offers\n  6 the client names only references that were given since the debuggee last went on or ended\n  7 once `disconnect` has succeeded, the client asks nothing more, and the adapter writes nothing more\n  8 with `--bodies`: the arguments of a request, and the body of a successful response and of an event, have their required keys, with values of their types\n\nStatuses: 0 legal, 2 usage, 3 a rule is broken, a line is no message, or the file is too long, 5 read or write, 6 memory",
         )
         .arg(file_of(
             alloc,
@@ -236,6 +236,11 @@ fn check<'a>(alloc: Global) -> Result<Command<'a>, AllocError> {
             "Prints every line that breaks a rule, and then how many there are",
         ))?
         .arg(any_seq(alloc))?
+        .arg(flag(
+            alloc,
+            "bodies",
+            "Checks rule 8 too: that what a message holds is as the Specification has it",
+        ))?
         .arg(flag(
             alloc,
             "explain",
@@ -326,5 +331,6 @@ pub(crate) fn check_options(matches: &ArgMatches<'_>) -> CheckOptions {
         all: matches.get_flag("all"),
         explained: matches.get_flag("explain"),
         unanswered: matches.get_flag("open"),
+        bodies: matches.get_flag("bodies"),
     }
 }

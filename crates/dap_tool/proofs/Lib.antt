@@ -2,3 +2,4 @@ mod FaultExamples
 mod FileExamples
 pub mod WholeFiles
 pub mod VerdictTexts
+pub mod ListedTexts

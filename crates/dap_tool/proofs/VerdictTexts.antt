@@ -20,16 +20,16 @@ use Rattle.dap_check.specs.declared.rule.Finding.{Finding}
 use Rattle.dap_check.specs.declared.rule.OpenRequest.{OpenRequest}
 use Rattle.dap_check.specs.declared.rule.Rule.{Rule}
 use Rattle.dap_explain.specs.Sentences.{joined_text}
-use Rattle.dap_tool.specs.Verdicts.{text_at, text_if, texts_after, texts_of, closing_text, findings_text, open_text, text_of_verdict}
+use Rattle.dap_tool.specs.Verdicts.{text_at, text_if, texts_after, texts_of, closing_text, findings_text, open_text, printed_text}
 use Rattle.dap_tool.specs.declared.verdict.CheckOptions.{CheckOptions}
 
 module _ (any_seq : AnySeq) (explained : Bool) where
-  texts_append : (earlier lines later : List Line) → texts_after any_seq explained earlier (lines ++ later) ≡ texts_after any_seq explained earlier lines ++ texts_after any_seq explained (earlier ++ lines) later
-  texts_append earlier [] later = ap (λ z. texts_after any_seq explained z later) (sym (append-nil earlier))
+  texts_append : (earlier lines later : List Line) → texts_after any_seq explained false earlier (lines ++ later) ≡ texts_after any_seq explained false earlier lines ++ texts_after any_seq explained false (earlier ++ lines) later
+  texts_append earlier [] later = ap (λ z. texts_after any_seq explained false z later) (sym (append-nil earlier))
   texts_append earlier (line ∷ lines) later =
-      ap (λ z. text_if explained earlier line (least_broken any_seq earlier line) ++ z)
-      (texts_append (earlier ++ line ∷ []) lines later ∙ ap (λ z. texts_after any_seq explained (earlier ++ line ∷ []) lines ++ texts_after any_seq explained z later) (append_assoc earlier (line ∷ []) lines))
-      ∙ sym (append_assoc (text_if explained earlier line (least_broken any_seq earlier line)) (texts_after any_seq explained (earlier ++ line ∷ []) lines) (texts_after any_seq explained (earlier ++ line ∷ lines) later))
+      ap (λ z. text_if explained false earlier line (least_broken any_seq earlier line) ++ z)
+      (texts_append (earlier ++ line ∷ []) lines later ∙ ap (λ z. texts_after any_seq explained false (earlier ++ line ∷ []) lines ++ texts_after any_seq explained false z later) (append_assoc earlier (line ∷ []) lines))
+      ∙ sym (append_assoc (text_if explained false earlier line (least_broken any_seq earlier line)) (texts_after any_seq explained false (earlier ++ line ∷ []) lines) (texts_after any_seq explained false (earlier ++ line ∷ lines) later))
 
   -- ---- the next line that breaks a rule
 
@@ -40,7 +40,7 @@ module _ (any_seq : AnySeq) (explained : Bool) where
     pub split : after ≡ between ++ line ∷ later
     pub numbered : line.number ≡ finding.line
     pub broken : least_broken any_seq (before ++ between) line ≡ Some finding.rule
-    pub others : texts_after any_seq explained before between ≡ []
+    pub others : texts_after any_seq explained false before between ≡ []
     pub rest_is : findings_after any_seq ((before ++ between) ++ line ∷ []) later ≡ rest
 
   next_by : (before : List Line) (x : Line) (after : List Line) (finding : Finding) (rest : List Finding) (broken : Option Rule) → least_broken any_seq before x ≡ broken → finding_at x.number broken ++ findings_after any_seq (before ++ x ∷ []) after ≡ finding ∷ rest
@@ -55,7 +55,7 @@ module _ (any_seq : AnySeq) (explained : Bool) where
         split = ap (λ z. x ∷ z) n.split;
         numbered = n.numbered;
         broken = ap (λ z. least_broken any_seq z n.line) (sym same) ∙ n.broken;
-        others = ap (λ o. text_if explained before x o ++ texts_after any_seq explained (before ++ x ∷ []) n.between) least ∙ n.others;
+        others = ap (λ o. text_if explained false before x o ++ texts_after any_seq explained false (before ++ x ∷ []) n.between) least ∙ n.others;
         rest_is = ap (λ z. findings_after any_seq (z ++ n.line ∷ []) n.later) (sym same) ∙ n.rest_is;
       }
   next_by before x after finding rest (Some rule) least e ahead =
@@ -84,8 +84,8 @@ module _ (any_seq : AnySeq) (explained : Bool) where
     pub after : List Line
     pub split : transcript ≡ before ++ after
     pub left_is : findings_after any_seq before after ≡ left
-    pub count : length (texts_of any_seq explained before) ≡ n
-    pub so_far : new ≡ old ++ joined_text (texts_of any_seq explained before)
+    pub count : length (texts_of any_seq explained false before) ≡ n
+    pub so_far : new ≡ old ++ joined_text (texts_of any_seq explained false before)
 
   pub none_pushed : (transcript : List Line) (old : List ℕ) → Pushed transcript (findings any_seq transcript) 0 old old
   none_pushed transcript old = record { before = []; after = transcript; split = refl; left_is = refl; count = refl; so_far = sym (append-nil old) }
@@ -103,11 +103,11 @@ module _ (any_seq : AnySeq) (explained : Bool) where
     pub split_here : transcript ≡ front ++ here.line ∷ here.later
     split_here = so.split ∙ ap (λ z. so.before ++ z) here.split ∙ sym (append_assoc so.before here.between (here.line ∷ here.later))
 
-    texts_are : texts_of any_seq explained (front ++ here.line ∷ []) ≡ texts_of any_seq explained so.before ++ text_here ∷ []
+    texts_are : texts_of any_seq explained false (front ++ here.line ∷ []) ≡ texts_of any_seq explained false so.before ++ text_here ∷ []
     texts_are =
         texts_append [] front (here.line ∷ [])
-        ∙ ap (λ z. z ++ texts_after any_seq explained front (here.line ∷ [])) (texts_append [] so.before here.between ∙ ap (λ z. texts_of any_seq explained so.before ++ z) here.others ∙ append-nil (texts_of any_seq explained so.before))
-        ∙ ap (λ o. texts_of any_seq explained so.before ++ (text_if explained front here.line o ++ [])) here.broken
+        ∙ ap (λ z. z ++ texts_after any_seq explained false front (here.line ∷ [])) (texts_append [] so.before here.between ∙ ap (λ z. texts_of any_seq explained false so.before ++ z) here.others ∙ append-nil (texts_of any_seq explained false so.before))
+        ∙ ap (λ o. texts_of any_seq explained false so.before ++ (text_if explained false front here.line o ++ [])) here.broken
 
     pub pushed_more : (text : List ℕ) → text ≡ new ++ text_here → Pushed transcript rest (n + 1) old text
     pushed_more text e = record {
@@ -115,27 +115,27 @@ module _ (any_seq : AnySeq) (explained : Bool) where
       after = here.later;
       split = split_here ∙ sym (append_assoc front (here.line ∷ []) here.later);
       left_is = here.rest_is;
-      count = ap length texts_are ∙ length-append (texts_of any_seq explained so.before) (text_here ∷ []) ∙ ap (λ k. k + 1) so.count;
+      count = ap length texts_are ∙ length-append (texts_of any_seq explained false so.before) (text_here ∷ []) ∙ ap (λ k. k + 1) so.count;
       so_far =
           e
           ∙ ap (λ z. z ++ text_here) so.so_far
-          ∙ append_assoc old (joined_text (texts_of any_seq explained so.before)) text_here
-          ∙ ap (λ z. old ++ (joined_text (texts_of any_seq explained so.before) ++ z)) (sym (append-nil text_here))
-          ∙ ap (λ z. old ++ z) (sym (flat_map-append (λ text. text) (texts_of any_seq explained so.before) (text_here ∷ [])))
+          ∙ append_assoc old (joined_text (texts_of any_seq explained false so.before)) text_here
+          ∙ ap (λ z. old ++ (joined_text (texts_of any_seq explained false so.before) ++ z)) (sym (append-nil text_here))
+          ∙ ap (λ z. old ++ z) (sym (flat_map-append (λ text. text) (texts_of any_seq explained false so.before) (text_here ∷ [])))
           ∙ ap (λ z. old ++ joined_text z) (sym texts_are);
     }
 
-  pub all_pushed : (transcript : List Line) (left : List Finding) (n : ℕ) (old new : List ℕ) → Pushed transcript left n old new → new ≡ old ++ joined_text (take n (texts_of any_seq explained transcript))
+  pub all_pushed : (transcript : List Line) (left : List Finding) (n : ℕ) (old new : List ℕ) → Pushed transcript left n old new → new ≡ old ++ joined_text (take n (texts_of any_seq explained false transcript))
   all_pushed transcript left n old new so =
-      let texts = texts_of any_seq explained so.before in
+      let texts = texts_of any_seq explained false so.before in
       let few : n ≤ length texts = omega (arith, so.count) in
       let many : length texts ≤ n = omega (arith, so.count) in
       so.so_far
       ∙ ap (λ z. old ++ joined_text z)
       (sym
-      (ap (λ z. take n (texts_of any_seq explained z)) so.split
+      (ap (λ z. take n (texts_of any_seq explained false z)) so.split
       ∙ ap (λ z. take n z) (texts_append [] so.before so.after)
-      ∙ take-append-le n texts (texts_after any_seq explained so.before so.after) few
+      ∙ take-append-le n texts (texts_after any_seq explained false so.before so.after) few
       ∙ take_all n texts many))
 
   module _ (bytes : List ℕ) (transcript : List Line) (first rest : List Finding) (i : ℕ) (d : Finding) (below : i < length first) (old new : List ℕ) (are : AreLines 1 (lines bytes) transcript)
@@ -164,15 +164,15 @@ module _ (any_seq : AnySeq) (explained : Bool) where
 
   -- ---- how many there are
 
-  as_many_at : (earlier : List Line) (line : Line) (broken : Option Rule) → length (text_if explained earlier line broken) ≡ length (finding_at line.number broken)
+  as_many_at : (earlier : List Line) (line : Line) (broken : Option Rule) → length (text_if explained false earlier line broken) ≡ length (finding_at line.number broken)
   as_many_at earlier line None = refl
   as_many_at earlier line (Some rule) = refl
 
-  pub as_many : (earlier lines : List Line) → length (texts_after any_seq explained earlier lines) ≡ length (findings_after any_seq earlier lines)
+  pub as_many : (earlier lines : List Line) → length (texts_after any_seq explained false earlier lines) ≡ length (findings_after any_seq earlier lines)
   as_many earlier [] = refl
   as_many earlier (line ∷ later) =
-      length-append (text_if explained earlier line (least_broken any_seq earlier line)) (texts_after any_seq explained (earlier ++ line ∷ []) later)
-      ∙ ap (λ k. k + length (texts_after any_seq explained (earlier ++ line ∷ []) later)) (as_many_at earlier line (least_broken any_seq earlier line))
+      length-append (text_if explained false earlier line (least_broken any_seq earlier line)) (texts_after any_seq explained false (earlier ++ line ∷ []) later)
+      ∙ ap (λ k. k + length (texts_after any_seq explained false (earlier ++ line ∷ []) later)) (as_many_at earlier line (least_broken any_seq earlier line))
       ∙ ap (λ k. length (finding_at line.number (least_broken any_seq earlier line)) + k) (as_many (earlier ++ line ∷ []) later)
       ∙ sym (length-append (finding_at line.number (least_broken any_seq earlier line)) (findings_after any_seq (earlier ++ line ∷ []) later))
 
@@ -191,11 +191,11 @@ first_texts false (x ∷ found) texts e = refl
 
 pub verdict_so : (options : CheckOptions) (transcript : List Line) (first : List Finding) (count : ℕ) (requests : List OpenRequest) (text0 text1 text2 text3 : List ℕ)
     → text0 ≡ [] → first ≡ cond options.all (findings options.any_seq transcript) (take 1 (findings options.any_seq transcript))
-    → text1 ≡ text0 ++ joined_text (take (length first) (texts_of options.any_seq options.explained transcript))
+    → text1 ≡ text0 ++ joined_text (take (length first) (texts_of options.any_seq options.explained false transcript))
     → count ≡ length (findings options.any_seq transcript) → text2 ≡ text1 ++ closing_text options.all count
-    → requests ≡ open_requests transcript → text3 ≡ text2 ++ open_text options.unanswered requests → text3 ≡ text_of_verdict options transcript
+    → requests ≡ open_requests transcript → text3 ≡ text2 ++ open_text options.unanswered requests → text3 ≡ printed_text options (texts_of options.any_seq options.explained false transcript) transcript
 verdict_so options transcript first count requests text0 text1 text2 text3 e0 ef e1 en e2 er e3 =
-    let texts = texts_of options.any_seq options.explained transcript in
+    let texts = texts_of options.any_seq options.explained false transcript in
     let same : length texts ≡ length (findings options.any_seq transcript) = as_many options.any_seq options.explained [] transcript in
     let shown : take (length first) texts ≡ cond options.all texts (take 1 texts) = ap (λ z. take (length z) texts) ef ∙ first_texts options.all (findings options.any_seq transcript) texts same in
     let start : text1 ≡ joined_text (cond options.all texts (take 1 texts)) = e1 ∙ ap (λ z. z ++ joined_text (take (length first) texts)) e0 ∙ ap joined_text shown in
@@ -207,11 +207,11 @@ verdict_so options transcript first count requests text0 text1 text2 text3 e0 ef
 -- ---- a transcript is legal where nothing is found
 
 module _ (listed : FindingsAreBrokenRules) (first : FirstFindingIsTheVerdict) (any_seq : AnySeq) (lines : List Line) where
-  none_found : (found : List Finding) → found ≡ findings any_seq lines → length found ≡ 0 → IsLegal any_seq lines
+  pub none_found : (found : List Finding) → found ≡ findings any_seq lines → length found ≡ 0 → IsLegal any_seq lines
   none_found [] e none = subst (λ z. IsVerdict any_seq lines (first_of z)) (sym e) (first any_seq lines)
   none_found (finding ∷ later) e none = absurd (omega arith)
 
-  legal_none : (found : List Finding) → found ≡ findings any_seq lines → IsLegal any_seq lines → length found ≡ 0
+  pub legal_none : (found : List Finding) → found ≡ findings any_seq lines → IsLegal any_seq lines → length found ≡ 0
   legal_none [] e legal = refl
   legal_none (finding ∷ later) e legal =
       let at = (listed any_seq lines finding).0 (subst (λ z. Contains z finding) e (Contains-append_left (finding ∷ []) later finding (Contains-push [] finding))) in

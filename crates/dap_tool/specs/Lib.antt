@@ -1,3 +1,4 @@
 pub mod Faults
 pub mod Files
 pub mod Verdicts
+pub mod PrivateListed

@@ -1,14 +1,19 @@
 -- What a program prints of a transcript that it checks. It is this profile's choice.
-use Rattle.std.specs.Prelude.{◌≡◌, ◌↔◌, ℕ, ◌==◌, List, [], ◌∷◌, ◌++◌, Bool, true, length, take, flat_map, codes, decimal, if◌then◌else◌, Option, Some, None}
+use Rattle.std.specs.Prelude.{◌≡◌, ◌↔◌, ℕ, ◌==◌, List, [], ◌∷◌, ◌++◌, Bool, true, false, ◌&&◌, length, take, flat_map, codes, decimal, if◌then◌else◌, Option, Some, None, is_some}
+use Rattle.std.specs.List.{list_any}
 use Rattle.dap_check.specs.Findings.{open_requests}
 use Rattle.dap_check.specs.Legal.{number_of, least_broken, IsLegal}
 use Rattle.dap_check.specs.declared.line.Line.{Line}
 use Rattle.dap_check.specs.declared.rule.AnySeq.{AnySeq}
 use Rattle.dap_check.specs.declared.rule.OpenRequest.{OpenRequest}
 use Rattle.dap_check.specs.declared.rule.Rule.{Rule}
+use Rattle.dap_message.specs.declared.message.Kind.{Kind}
 use Rattle.dap_explain.specs.Reasons.{reason_of}
 use Rattle.dap_explain.specs.Sentences.{joined_text, sentence_of}
 use Rattle.dap_explain.specs.declared.reason.Reason.{Reason}
+use Rattle.dap_shape.specs.Shapes.{Fault}
+use Rattle.dap_shape.specs.Faults.{fault_in}
+use Rattle.dap_shape.specs.Sentences.{sentence_of as sentence_of_fault}
 use Rattle.dap_stream.specs.Lines.{shown_text}
 use Rattle.dap_tool.specs.declared.verdict.CheckOptions.{CheckOptions}
 use Rattle.dap_tool.specs.declared.verdict.VerdictText.{VerdictText}
@@ -30,18 +35,26 @@ text_of_why (Some reason) = text_of_reason reason
 abbrev pub text_at : Bool → List Line → Line → Rule → List ℕ
 text_at explained earlier line rule = text_of_finding line.number rule ++ (if explained then text_of_why (reason_of rule earlier line) else [])
 
--- if it breaks a rule
-abbrev pub text_if : Bool → List Line → Line → Option Rule → List (List ℕ)
-text_if explained earlier line None = []
-text_if explained earlier line (Some rule) = text_at explained earlier line rule ∷ []
+-- where a message is not as the Specification has it, with the sentence where it is asked for: rule 8
+abbrev pub text_of_fault : Bool → ℕ → Kind → Fault → List ℕ
+text_of_fault explained number kind fault = codes "line " ++ decimal number ++ codes " rule 8\n" ++ (if explained then sentence_of_fault kind fault ++ codes "\n" else [])
+
+abbrev pub texts_of_body : Bool → ℕ → Kind → Option Fault → List (List ℕ)
+texts_of_body explained number kind None = []
+texts_of_body explained number kind (Some fault) = text_of_fault explained number kind fault ∷ []
+
+-- of a line that breaks this rule, or none of the seven, and then rule 8 counts where bodies are checked
+abbrev pub text_if : Bool → Bool → List Line → Line → Option Rule → List (List ℕ)
+text_if explained bodies earlier line None = if bodies then texts_of_body explained line.number line.message.kind (fault_in line.message.kind) else []
+text_if explained bodies earlier line (Some rule) = text_at explained earlier line rule ∷ []
 
 -- of lines that stand after these
-abbrev pub texts_after : AnySeq → Bool → List Line → List Line → List (List ℕ)
-texts_after any_seq explained earlier [] = []
-texts_after any_seq explained earlier (line ∷ later) = text_if explained earlier line (least_broken any_seq earlier line) ++ texts_after any_seq explained (earlier ++ line ∷ []) later
+abbrev pub texts_after : AnySeq → Bool → Bool → List Line → List Line → List (List ℕ)
+texts_after any_seq explained bodies earlier [] = []
+texts_after any_seq explained bodies earlier (line ∷ later) = text_if explained bodies earlier line (least_broken any_seq earlier line) ++ texts_after any_seq explained bodies (earlier ++ line ∷ []) later
 
-abbrev pub texts_of : AnySeq → Bool → List Line → List (List ℕ)
-texts_of any_seq explained lines = texts_after any_seq explained [] lines
+abbrev pub texts_of : AnySeq → Bool → Bool → List Line → List (List ℕ)
+texts_of any_seq explained bodies lines = texts_after any_seq explained bodies [] lines
 
 -- ---- how many there are
 
@@ -66,9 +79,17 @@ open_text unanswered requests = if unanswered then flat_map text_of_open request
 
 -- ---- of a transcript
 
+-- by the texts of the lines that break a rule
+abbrev pub printed_text : CheckOptions → List (List ℕ) → List Line → List ℕ
+printed_text options texts lines = findings_text options.all texts ++ open_text options.unanswered (open_requests lines)
+
 abbrev pub text_of_verdict : CheckOptions → List Line → List ℕ
-text_of_verdict options lines = findings_text options.all (texts_of options.any_seq options.explained lines) ++ open_text options.unanswered (open_requests lines)
+text_of_verdict options lines = printed_text options (texts_of options.any_seq options.explained options.bodies lines) lines
+
+-- some message is not as the Specification has it
+abbrev pub has_fault : List Line → Bool
+has_fault lines = list_any (λ line. is_some (fault_in line.message.kind)) lines
 
 pub record IsVerdictText (options : CheckOptions) (lines : List Line) (printed : VerdictText) : Type 0 where
   pub text : printed.text.items ≡ text_of_verdict options lines
-  pub legal : (printed.is_legal ≡ true) ↔ IsLegal options.any_seq lines
+  pub legal : (printed.is_legal ≡ true) ↔ (IsLegal options.any_seq lines × ((options.bodies && has_fault lines) ≡ false))

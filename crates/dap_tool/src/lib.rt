@@ -5,6 +5,7 @@
 //! on `list`, `show`, `unwrap`, `wrap`, `check`, `drive` and the laws of both ends together.
 #![tactic(auto)]
 
+mod bodies;
 mod fault;
 mod files;
 mod reads;

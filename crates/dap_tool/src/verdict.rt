@@ -1,6 +1,6 @@
 //! What a program prints of a transcript that it checks.
 
-ghost use Rattle.std.specs.Prelude.{◌≡◌, ◌≢◌, ◌⊎◌, ◌∷◌, ◌++◌, [], List, if◌then◌else◌, length, take, flat_map, OnOk, IfOk, IfErr, IsErrAnd, MatchResult, string_bytes};
+ghost use Rattle.std.specs.Prelude.{◌≡◌, ◌≢◌, ◌⊎◌, ◌∷◌, ◌++◌, [], List, if◌then◌else◌, length, take, flat_map, OnOk, IfOk, IfErr, IsErrAnd, MatchResult, string_bytes, true, false};
 ghost use Rattle.std.specs.Str.Lines.{lines};
 ghost use Rattle.dap_check.specs.Findings.{findings, IsReport};
 ghost use Rattle.dap_check.specs.Transcript.{AreLines, FirstRefused};
@@ -10,8 +10,9 @@ ghost use Rattle.dap_check.specs.declared.rule.AnySeq.{AnySeq};
 ghost use Rattle.dap_check.specs.declared.rule.Finding.{Finding as TheFinding};
 ghost use Rattle.dap_explain.specs.Reasons.{reason_of};
 ghost use Rattle.dap_explain.specs.Sentences.{joined_text};
-ghost use Rattle.dap_tool.specs.Verdicts.{text_of_finding, text_of_reason, text_of_why, text_at, texts_of, count_text, closing_text, text_of_open, open_text, text_of_verdict, IsVerdictText};
+ghost use Rattle.dap_tool.specs.Verdicts.{text_of_finding, text_of_reason, text_of_why, text_at, texts_of, count_text, closing_text, text_of_open, open_text, printed_text, text_of_verdict, IsVerdictText};
 
+use crate::bodies::list_lines;
 use dap_check::laws::findings_are_broken_rules;
 use dap_check::{AnySeq, CheckFault, Finding, OpenRequest, Report, Rule, check_all};
 use dap_explain::{Reason, explain, sentence};
@@ -29,6 +30,8 @@ pub struct CheckOptions {
     pub explained: bool,
     /// Each request that nothing has answered.
     pub unanswered: bool,
+    /// Whether rule 8 counts: what a message holds is as the Specification has it.
+    pub bodies: bool,
 }
 
 /// What is printed of a transcript.
@@ -81,7 +84,7 @@ fn push_why(
 }
 
 /// Appends a line that breaks a rule, and the reason where it is asked for.
-fn push_finding(
+pub(crate) fn push_finding(
     alloc: Global,
     text: &mut Vec<u8>,
     bytes: &[u8],
@@ -107,7 +110,7 @@ fn push_findings(
     first: &[Finding],
 ) -> Result<(), CheckFault>
     ensures { (any_seq : AnySeq) (transcript : List Line) (rest : List TheFinding) → AreLines 1 (lines bytes.now) transcript → findings any_seq transcript ≡ first.now ++ rest
-        → MatchResult result (λ done. text.new.items ≡ text.old.items ++ joined_text (take (length first.now) (texts_of any_seq explained transcript))) (λ fault. fault ≡ CheckFault.OutOfMemory) }
+        → MatchResult result (λ done. text.new.items ≡ text.old.items ++ joined_text (take (length first.now) (texts_of any_seq explained false transcript))) (λ fault. fault ≡ CheckFault.OutOfMemory) }
 {
     for finding in first {
         push_finding(alloc, text, bytes, explained, *finding)?;
@@ -115,17 +118,17 @@ fn push_findings(
     Ok(())
 }
 
-fn push_count(text: &mut Vec<u8>, count: usize) -> Result<(), AllocError>
+fn push_count(text: &mut Vec<u8>, count: u64) -> Result<(), AllocError>
     ensures { OnOk result (text.new.items ≡ text.old.items ++ count_text count) }
 {
     if count == 1 {
         return text.extend_from_slice(b"1 finding\n");
     }
-    push_number(text, count as u64)?;
+    push_number(text, count)?;
     text.extend_from_slice(b" findings\n")
 }
 
-fn push_closing(text: &mut Vec<u8>, all: bool, count: usize) -> Result<(), AllocError>
+fn push_closing(text: &mut Vec<u8>, all: bool, count: u64) -> Result<(), AllocError>
     ensures { OnOk result (text.new.items ≡ text.old.items ++ closing_text all count) }
 {
     if count == 0 {
@@ -189,7 +192,7 @@ fn printed(all: bool, found: &[Finding]) -> &[Finding]
     }
 }
 
-/// What is printed of what was found in a transcript.
+/// What is printed of what was found in a transcript by the seven rules.
 fn text_of(
     alloc: Global,
     bytes: &[u8],
@@ -197,13 +200,13 @@ fn text_of(
     report: &Report,
 ) -> Result<Vec<u8>, CheckFault>
     ensures { (transcript : List Line) → AreLines 1 (lines bytes.now) transcript → IsReport options.any_seq transcript report.now
-        → MatchResult result (λ text. text.items ≡ text_of_verdict options transcript) (λ fault. fault ≡ CheckFault.OutOfMemory) }
+        → MatchResult result (λ text. text.items ≡ printed_text options (texts_of options.any_seq options.explained false transcript) transcript) (λ fault. fault ≡ CheckFault.OutOfMemory) }
 {
     let mut text = Vec::new(alloc);
     let found = report.findings.as_slice();
     let first = printed(options.all, found);
     push_findings(alloc, &mut text, bytes, options.explained, first)?;
-    push_closing(&mut text, options.all, found.len())?;
+    push_closing(&mut text, options.all, found.len() as u64)?;
     push_unanswered(&mut text, options.unanswered, &report.unanswered)?;
     Ok(text)
 }
@@ -214,6 +217,7 @@ fn verdict(
     options: CheckOptions,
     report: &Report,
 ) -> Result<VerdictText, CheckFault>
+    requires { options.bodies ≡ false }
     ensures { (transcript : List Line) → AreLines 1 (lines bytes.now) transcript → IsReport options.any_seq transcript report.now
         → MatchResult result (IsVerdictText options transcript) (λ fault. fault ≡ CheckFault.OutOfMemory) }
 {
@@ -227,9 +231,58 @@ fn verdict(
     }
 }
 
+/// Appends to the lines that break a rule how many there are, and the requests that nothing has answered.
+fn with_closing(
+    mut text: Vec<u8>,
+    count: u64,
+    options: CheckOptions,
+    requests: &[OpenRequest],
+) -> Result<Vec<u8>, AllocError>
+    ensures { IfOk result (λ all. all.items ≡ (text.items ++ closing_text options.all count) ++ open_text options.unanswered requests.now) }
+{
+    push_closing(&mut text, options.all, count)?;
+    push_unanswered(&mut text, options.unanswered, requests)?;
+    Ok(text)
+}
+
+/// The same where rule 8 counts.
+fn verdict_with_bodies(
+    alloc: Global,
+    bytes: &[u8],
+    options: CheckOptions,
+    report: &Report,
+) -> Result<VerdictText, CheckFault>
+    requires { options.bodies ≡ true }
+    ensures { (transcript : List Line) → AreLines 1 (lines bytes.now) transcript → IsReport options.any_seq transcript report.now
+        → MatchResult result (IsVerdictText options transcript) (λ fault. fault ≡ CheckFault.OutOfMemory) }
+{
+    // A law for the proof: which lines are findings.
+    findings_are_broken_rules();
+    let listing = list_lines(alloc, bytes, options, report.findings.as_slice())?;
+    let is_legal = listing.count == 0;
+    let text = with_closing(listing.text, listing.count, options, &report.unanswered)?;
+    Ok(VerdictText { text, is_legal })
+}
+
+fn verdict_of(
+    alloc: Global,
+    bytes: &[u8],
+    options: CheckOptions,
+    report: &Report,
+) -> Result<VerdictText, CheckFault>
+    ensures { (transcript : List Line) → AreLines 1 (lines bytes.now) transcript → IsReport options.any_seq transcript report.now
+        → MatchResult result (IsVerdictText options transcript) (λ fault. fault ≡ CheckFault.OutOfMemory) }
+{
+    if options.bodies {
+        return verdict_with_bodies(alloc, bytes, options, report);
+    }
+    verdict(alloc, bytes, options, report)
+}
+
 /// What a program prints of a transcript: that it is legal, or the first line that breaks a rule, counted from 1, and the
 /// first rule that it breaks; as the options say it, each such line and how many there are, why each breaks its rule, and
-/// after all that each request that nothing has answered. Control characters of a command are shown as `?`. The texts of
+/// after all that each request that nothing has answered. A message that is not as the Specification has it counts as a finding
+/// of rule 8 where bodies are checked and the line breaks none of the seven. Control characters of a command are shown as `?`. The texts of
 /// reasons take as long as the lines before them once more, each.
 ///
 /// # Errors
@@ -247,7 +300,7 @@ pub fn check_text(
     ensures refuses { (fault : CheckFault) → FirstRefused (lines bytes.now) fault → fault ≢ CheckFault.OutOfMemory → IsErrAnd result (λ told. (told ≡ fault) ⊎ (told ≡ CheckFault.OutOfMemory)) }
 {
     match check_all(alloc, bytes, options.any_seq) {
-        Ok(report) => verdict(alloc, bytes, options, &report),
+        Ok(report) => verdict_of(alloc, bytes, options, &report),
         Err(fault) => Err(fault),
     }
 }

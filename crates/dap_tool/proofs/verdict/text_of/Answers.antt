@@ -1,4 +1,4 @@
-use Rattle.std.proofs.Common.{◌≡◌, ◌++◌, [], length, take, drop, sym, ap, ◌∙◌}
+use Rattle.std.proofs.Common.{◌++◌, [], length, take, drop, sym, ap, ◌∙◌}
 use Rattle.std.specs.Prelude.{cond}
 use Rattle.dap_check.specs.Findings.{findings}
 use Rattle.dap_tool.proofs.VerdictTexts.{first_split, verdict_so, memory_alone}

@@ -1,0 +1,2 @@
+mod ShapeExamples
+pub mod ShapeLemmas

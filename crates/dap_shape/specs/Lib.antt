@@ -1,0 +1,6 @@
+pub mod Shapes
+pub mod Rows
+pub mod Faults
+pub mod Sentences
+pub mod Seen
+pub mod Laws

@@ -1,0 +1,17 @@
+use Rattle.std.proofs.Common.{◌≡◌, ◌+◌, ◌≤◌, List, length}
+use Rattle.std.specs.Str.Lines.{lines}
+use Rattle.dap_check.specs.Findings.{findings}
+use Rattle.dap_check.specs.Transcript.{AreLines}
+use Rattle.dap_check.specs.declared.line.Line.{Line}
+use Rattle.dap_tool.proofs.ListedTexts.{Reached}
+use Rattle.dap_tool.proofs.bodies.list_lines.Given as goal
+
+abbrev pub invariant-loop-rest : goal.invariant-loop-rest
+invariant-loop-rest l = record {
+  few : l.listing.count ≤ l.number;
+  room : l.number + length l.rest ≤ length l.bytes;
+  reached : (transcript : List Line) → AreLines 1 (lines l.bytes) transcript → findings l.options.any_seq transcript ≡ l.fn.found → Reached l.options l.rest (l.number + 1) transcript l.listing;
+}
+
+abbrev pub decreases-loop-rest : goal.decreases-loop-rest
+decreases-loop-rest l = length l.rest
