@@ -29,8 +29,8 @@ fault_back SeqExhausted = refl
 fault_back OutOfMemory = refl
 
 first : {A B : Type 0} → (B → ⊥) → A ⊎ B → A
-first no (inl x) = x
-first no (inr y) = absurd (no y)
+first never (inl x) = x
+first never (inr y) = absurd (never y)
 
 -- ---- a refused call, of an adapter that is closed then
 

@@ -79,21 +79,6 @@ Logged-gathered b laws s t i outs now bytes l x is =
       count = let k = x.count (length (bytes_written l.log)) l.count in omega (arith, ap length both, length-append (bytes_written l.log) (bytes_written x.log), k);
     }
 
--- nothing was gathered, written or flushed
-pub Logged-same : {C D : Type 0} (b : Serving C D) (s t : Sink C) (i : Input) (outs : List Message) → t.channel ≡ s.channel → t.gathered ≡ s.gathered → t.written ≡ s.written → Logged b s i outs → Logged b t i outs
-Logged-same b s t i outs channel gathered written l = record {
-  log = l.log;
-  ran = rw channel l.ran;
-  read_is = l.read_is;
-  made = l.made;
-  in_turn = l.in_turn;
-  small = l.small;
-  flushed = l.flushed;
-  goes_on = l.goes_on;
-  all = ap (λ z. bytes_written l.log ++ z) gathered ∙ l.all;
-  count = written ∙ l.count;
-}
-
 front_of : (a g b outs : List ℕ) (out : ℕ) → b ≡ take out g → a ++ g ≡ outs → outs ≡ (a ++ b) ++ drop out g
 front_of a g b outs out x y = sym (append_assoc a b (drop out g) ∙ (ap (λ v. a ++ (v ++ drop out g)) x ∙ (ap (λ v. a ++ v) (take-append-drop out g) ∙ y)))
 

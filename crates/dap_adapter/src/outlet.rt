@@ -144,7 +144,6 @@ impl Gathered {
 }
 
 impl Outgoing<()> for Gathered {
-    ghost use Rattle.std.specs.Prelude.{⊥};
     ghost use Rattle.dap_adapter.specs.PrivateServing.{Appends, IsLentAll};
 
     ghost puts = { λ c s bytes d t. Appends s bytes t };
