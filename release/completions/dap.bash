@@ -9,12 +9,12 @@ _dap() {
     # A number comes after these, as a word of its own or after a sign of equality.
     case $before in --max-body | --max-breakpoints | --max-header | --max-reference | --max-references | --max-requests | --max-seq | =) return ;; esac
     case $command in
-        serve) options='--max-header --max-body --max-requests --max-references --max-breakpoints --max-seq --max-reference -h --help' ;;
-        show) options='--json --keep-going --max-header --max-body -h --help' ;;
-        wrap) options='--max-body -h --help' ;;
-        unwrap) options='--max-header --max-body -h --help' ;;
+        serve) options='--explain --max-header --max-body --max-requests --max-references --max-breakpoints --max-seq --max-reference -h --help' ;;
+        show) options='--json --keep-going --explain --max-header --max-body -h --help' ;;
+        wrap) options='--explain --max-body -h --help' ;;
+        unwrap) options='--explain --max-header --max-body -h --help' ;;
         check) options='--all --any-seq --bodies --explain --open -h --help' ;;
-        drive) options='--max-header --max-body --max-requests --max-references --max-breakpoints --max-seq --max-reference -h --help' ;;
+        drive) options='--explain --max-header --max-body --max-requests --max-references --max-breakpoints --max-seq --max-reference -h --help' ;;
         help)
             if ((COMP_CWORD == 2)); then COMPREPLY=($(compgen -W 'serve show wrap unwrap check drive' -- "$word")); fi
             return

@@ -10,6 +10,7 @@ complete -c dap -n __fish_use_subcommand -a help -d 'Print this message or the h
 complete -c dap -n __fish_use_subcommand -s h -l help -d 'Print help'
 complete -c dap -n __fish_use_subcommand -s V -l version -d 'Print version'
 complete -c dap -n '__fish_seen_subcommand_from serve; and not __fish_seen_subcommand_from help' -F
+complete -c dap -n '__fish_seen_subcommand_from serve; and not __fish_seen_subcommand_from help' -l explain -d 'Says in a further line where a fault is, and what is refused there'
 complete -c dap -n '__fish_seen_subcommand_from serve; and not __fish_seen_subcommand_from help' -l max-header -x -d 'Greatest length of a header block, 32 to 65536 [default: 8192]'
 complete -c dap -n '__fish_seen_subcommand_from serve; and not __fish_seen_subcommand_from help' -l max-body -x -d 'Greatest length of a body, 1024 to 16777216 [default: 4194304]'
 complete -c dap -n '__fish_seen_subcommand_from serve; and not __fish_seen_subcommand_from help' -l max-requests -x -d 'Requests kept unanswered at once, 2 to 4096 [default: 64]'
@@ -21,13 +22,16 @@ complete -c dap -n '__fish_seen_subcommand_from serve; and not __fish_seen_subco
 complete -c dap -n '__fish_seen_subcommand_from show; and not __fish_seen_subcommand_from help' -F
 complete -c dap -n '__fish_seen_subcommand_from show; and not __fish_seen_subcommand_from help' -l json -d 'Writes a JSON object a line, with `offset`, `bytes` and `message`'
 complete -c dap -n '__fish_seen_subcommand_from show; and not __fish_seen_subcommand_from help' -l keep-going -d 'Lists a body that is no message as refused, and goes on; the status is then 3'
+complete -c dap -n '__fish_seen_subcommand_from show; and not __fish_seen_subcommand_from help' -l explain -d 'Says in a further line where a fault is, and what is refused there'
 complete -c dap -n '__fish_seen_subcommand_from show; and not __fish_seen_subcommand_from help' -l max-header -x -d 'Greatest length of a header block, 32 to 65536 [default: 8192]'
 complete -c dap -n '__fish_seen_subcommand_from show; and not __fish_seen_subcommand_from help' -l max-body -x -d 'Greatest length of a body, 1024 to 16777216 [default: 4194304]'
 complete -c dap -n '__fish_seen_subcommand_from show; and not __fish_seen_subcommand_from help' -s h -l help -d 'Print help'
 complete -c dap -n '__fish_seen_subcommand_from wrap; and not __fish_seen_subcommand_from help' -F
+complete -c dap -n '__fish_seen_subcommand_from wrap; and not __fish_seen_subcommand_from help' -l explain -d 'Says in a further line where a fault is, and what is refused there'
 complete -c dap -n '__fish_seen_subcommand_from wrap; and not __fish_seen_subcommand_from help' -l max-body -x -d 'Greatest length of a body, 1024 to 16777216 [default: 4194304]'
 complete -c dap -n '__fish_seen_subcommand_from wrap; and not __fish_seen_subcommand_from help' -s h -l help -d 'Print help'
 complete -c dap -n '__fish_seen_subcommand_from unwrap; and not __fish_seen_subcommand_from help' -F
+complete -c dap -n '__fish_seen_subcommand_from unwrap; and not __fish_seen_subcommand_from help' -l explain -d 'Says in a further line where a fault is, and what is refused there'
 complete -c dap -n '__fish_seen_subcommand_from unwrap; and not __fish_seen_subcommand_from help' -l max-header -x -d 'Greatest length of a header block, 32 to 65536 [default: 8192]'
 complete -c dap -n '__fish_seen_subcommand_from unwrap; and not __fish_seen_subcommand_from help' -l max-body -x -d 'Greatest length of a body, 1024 to 16777216 [default: 4194304]'
 complete -c dap -n '__fish_seen_subcommand_from unwrap; and not __fish_seen_subcommand_from help' -s h -l help -d 'Print help'
@@ -39,6 +43,7 @@ complete -c dap -n '__fish_seen_subcommand_from check; and not __fish_seen_subco
 complete -c dap -n '__fish_seen_subcommand_from check; and not __fish_seen_subcommand_from help' -l open -d 'Prints after that each request that nothing has answered'
 complete -c dap -n '__fish_seen_subcommand_from check; and not __fish_seen_subcommand_from help' -s h -l help -d 'Print help'
 complete -c dap -n '__fish_seen_subcommand_from drive; and not __fish_seen_subcommand_from help' -F
+complete -c dap -n '__fish_seen_subcommand_from drive; and not __fish_seen_subcommand_from help' -l explain -d 'Says in a further line where a fault is, and what is refused there'
 complete -c dap -n '__fish_seen_subcommand_from drive; and not __fish_seen_subcommand_from help' -l max-header -x -d 'Greatest length of a header block, 32 to 65536 [default: 8192]'
 complete -c dap -n '__fish_seen_subcommand_from drive; and not __fish_seen_subcommand_from help' -l max-body -x -d 'Greatest length of a body, 1024 to 16777216 [default: 4194304]'
 complete -c dap -n '__fish_seen_subcommand_from drive; and not __fish_seen_subcommand_from help' -l max-requests -x -d 'Requests kept unanswered at once, 2 to 4096 [default: 64]'

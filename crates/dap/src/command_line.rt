@@ -6,6 +6,9 @@ use dap_frame::{LimitFault, Limits};
 use dap_tool::{AnySeq, CheckOptions};
 use std::alloc::{AllocError, Global};
 
+/// The option that explains faults, and of `check` findings too.
+const EXPLAIN: &str = "explain";
+
 /// An option that sets a limit.
 struct LimitOption {
     name: &'static str,
@@ -84,6 +87,15 @@ fn limit_option<'a>(alloc: Global, option: &LimitOption, help: &'a str) -> Arg<'
         .value_parser(ValueParser::unsigned(option.limit.least(), option.limit.greatest()))
 }
 
+/// The option that explains a fault, with the bytes of a stream where they are kept.
+fn explain_faults<'a>(alloc: Global) -> Arg<'a> {
+    flag(
+        alloc,
+        EXPLAIN,
+        "Says in a further line where a fault is, and what is refused there",
+    )
+}
+
 /// How many of the options bound a reader of frames alone: the first two.
 const FRAME_OPTIONS: usize = 2;
 
@@ -137,7 +149,8 @@ fn serve<'a>(alloc: Global, limit_texts: &'a [String]) -> Result<Command<'a>, Al
         .after_help(
             "The recording is read before the input. The session ends with `disconnect` or with the input.\n\nStatuses: 0 the session or the input ended, 2 usage, 3 a frame, a body, a message or the recording is refused or no sequence number is left, 4 the input ends within a frame, 5 read or write, 6 memory",
         )
-        .arg(recording(alloc))?;
+        .arg(recording(alloc))?
+        .arg(explain_faults(alloc))?;
     with_limits(alloc, serve, limit_texts, LIMIT_OPTIONS.len())
 }
 
@@ -160,7 +173,8 @@ fn show<'a>(alloc: Global, limit_texts: &'a [String]) -> Result<Command<'a>, All
             alloc,
             "keep-going",
             "Lists a body that is no message as refused, and goes on; the status is then 3",
-        ))?;
+        ))?
+        .arg(explain_faults(alloc))?;
     with_limits(alloc, show, limit_texts, FRAME_OPTIONS)
 }
 
@@ -173,7 +187,8 @@ fn unwrap<'a>(alloc: Global, limit_texts: &'a [String]) -> Result<Command<'a>, A
         .arg(file_of(
             alloc,
             "The stream, as one side wrote it, of at most 67108864 bytes; `-` is standard input",
-        ))?;
+        ))?
+        .arg(explain_faults(alloc))?;
     with_limits(alloc, unwrap, limit_texts, FRAME_OPTIONS)
 }
 
@@ -186,7 +201,8 @@ fn wrap<'a>(alloc: Global, limit_texts: &'a [String]) -> Result<Command<'a>, All
         .arg(file_of(
             alloc,
             "The messages, as JSON, one a line, of at most 67108864 bytes; `-` is standard input",
-        ))?;
+        ))?
+        .arg(explain_faults(alloc))?;
     for (option, help) in LIMIT_OPTIONS.iter().zip(limit_texts).take(FRAME_OPTIONS) {
         // No header block is read. The option may be given, since a script gives both tools the same.
         let does_nothing = matches!(option.limit, LimitFault::Header);
@@ -267,7 +283,8 @@ fn drive<'a>(alloc: Global, limit_texts: &'a [String]) -> Result<Command<'a>, Al
             "script",
             "SCRIPT",
             "What is done, one step a line, of at most 67108864 bytes",
-        ))?;
+        ))?
+        .arg(explain_faults(alloc))?;
     with_limits(alloc, drive, limit_texts, LIMIT_OPTIONS.len())
 }
 
@@ -316,6 +333,11 @@ pub(crate) fn limits(matches: &ArgMatches<'_>) -> Result<Limits, LimitFault> {
         set(seq),
         set(reference),
     )
+}
+
+/// Whether faults are explained.
+pub(crate) fn explains(matches: &ArgMatches<'_>) -> bool {
+    matches.get_flag(EXPLAIN)
 }
 
 /// What is to be printed of a transcript.

@@ -9,11 +9,13 @@ mod layout;
 
 use clap::ArgMatches;
 use clap::error::{Error, ErrorKind};
+use dap_adapter::ServeFault;
 use dap_channel::{Input, Pipe};
 use dap_frame::End;
 use dap_recording::Recorded;
 use dap_tool::{
-    FileFault, Form, Style, ToolFault, check_text, fault_line, most_reads, read_whole, status,
+    DriveFault, Form, OpenFault, Style, ToolFault, check_text, explanation, fault_line, most_reads,
+    read_whole, status,
 };
 use std::alloc::{AllocError, AllocFailed};
 use std::fs::File;
@@ -142,6 +144,13 @@ fn explain(rt: &HostRuntime, error: &Error) -> Result<u8, Failure> {
     Ok(code)
 }
 
+/// What a subcommand reads, as a fault tells it: its name, and what was read of it, or nothing where that is not kept.
+#[derive(Clone, Copy)]
+struct Subject<'a> {
+    name: &'a str,
+    bytes: &'a [u8],
+}
+
 /// Serves the recording that a file is from standard input to standard output, and answers the exit status. A file that is
 /// no recording is told before anything is read of the input.
 fn serve(rt: &HostRuntime, matches: &ArgMatches<'_>) -> u8 {
@@ -151,13 +160,26 @@ fn serve(rt: &HostRuntime, matches: &ArgMatches<'_>) -> u8 {
     };
     let recording = match read_recording(rt, matches) {
         Ok(recording) => recording,
-        Err(fault) => return tell(rt, &fault),
+        Err(code) => return code,
     };
     let mut pipe = Pipe::new(rt.reader(), io::writer(rt));
+    let input = Subject {
+        name: INPUT,
+        bytes: &[],
+    };
     match dap_adapter::serve(rt.alloc(), &mut pipe, recording, limits, most_reads()) {
-        Ok(served) if served.end == End::Truncated => tell(rt, &ToolFault::Truncated),
+        Ok(served) if served.end == End::Truncated => {
+            tell(rt, matches, input, &ToolFault::Truncated)
+        }
         Ok(_) => 0,
-        Err(fault) => tell(rt, &ToolFault::Serve(fault)),
+        Err(ServeFault::Write { written }) => {
+            tell_unwritten(
+                rt,
+                matches,
+                &ToolFault::Serve(ServeFault::Write { written }),
+            )
+        }
+        Err(fault) => tell(rt, matches, input, &ToolFault::Serve(fault)),
     }
 }
 
@@ -188,18 +210,24 @@ fn list(rt: &HostRuntime, matches: &ArgMatches<'_>, style: Style) -> u8 {
     };
     let bytes = match read_input(rt, matches) {
         Ok(bytes) => bytes,
-        Err(fault) => return tell(rt, &ToolFault::File(fault)),
+        Err(code) => return code,
     };
     let mut listing = Vec::new(rt.alloc());
     let shown = dap_tool::list(rt.alloc(), &bytes, limits, style, &mut listing);
     if print(rt, &listing).is_err() {
-        return tell(rt, &ToolFault::Write);
+        return tell_unwritten(rt, matches, &ToolFault::Write);
     }
+    let input = Subject {
+        name: name_of(matches, FILE),
+        bytes: &bytes,
+    };
     match shown {
-        Ok(shown) if shown.end == End::Truncated => tell(rt, &ToolFault::Truncated),
+        Ok(shown) if shown.end == End::Truncated => {
+            tell(rt, matches, input, &ToolFault::Truncated)
+        }
         Ok(shown) if shown.refused => FINDING,
         Ok(_) => 0,
-        Err(fault) => tell(rt, &ToolFault::Show(fault)),
+        Err(fault) => tell(rt, matches, input, &ToolFault::Show(fault)),
     }
 }
 
@@ -210,15 +238,19 @@ fn wrap(rt: &HostRuntime, matches: &ArgMatches<'_>) -> u8 {
     };
     let bytes = match read_input(rt, matches) {
         Ok(bytes) => bytes,
-        Err(fault) => return tell(rt, &ToolFault::File(fault)),
+        Err(code) => return code,
+    };
+    let input = Subject {
+        name: name_of(matches, FILE),
+        bytes: &bytes,
     };
     let frames = match dap_tool::wrap(rt.alloc(), &bytes, limits) {
         Ok(frames) => frames,
-        Err(fault) => return tell(rt, &ToolFault::Wrap(fault)),
+        Err(fault) => return tell(rt, matches, input, &ToolFault::Wrap(fault)),
     };
     match print(rt, &frames) {
         Ok(()) => 0,
-        Err(_) => tell(rt, &ToolFault::Write),
+        Err(_) => tell_unwritten(rt, matches, &ToolFault::Write),
     }
 }
 
@@ -226,17 +258,21 @@ fn wrap(rt: &HostRuntime, matches: &ArgMatches<'_>) -> u8 {
 fn check(rt: &HostRuntime, matches: &ArgMatches<'_>) -> u8 {
     let bytes = match read_input(rt, matches) {
         Ok(bytes) => bytes,
-        Err(fault) => return tell(rt, &ToolFault::File(fault)),
+        Err(code) => return code,
+    };
+    let input = Subject {
+        name: name_of(matches, FILE),
+        bytes: &bytes,
     };
     let options = command_line::check_options(matches);
     let verdict = match check_text(rt.alloc(), &bytes, options) {
         Ok(verdict) => verdict,
-        Err(fault) => return tell(rt, &ToolFault::Check(fault)),
+        Err(fault) => return tell(rt, matches, input, &ToolFault::Check(fault)),
     };
     match print(rt, &verdict.text) {
         Ok(()) if verdict.is_legal => 0,
         Ok(()) => FINDING,
-        Err(_) => tell(rt, &ToolFault::Write),
+        Err(_) => tell_unwritten(rt, matches, &ToolFault::Write),
     }
 }
 
@@ -246,68 +282,144 @@ fn drive(rt: &HostRuntime, matches: &ArgMatches<'_>) -> u8 {
     let Ok(limits) = command_line::limits(matches) else {
         return USAGE;
     };
-    let recording = match read_file(rt, matches, "recording") {
+    let recording = match read_file(rt, matches, RECORDING) {
         Ok(bytes) => bytes,
-        Err(fault) => return tell(rt, &ToolFault::File(fault)),
+        Err(code) => return code,
     };
-    let script = match read_file(rt, matches, "script") {
+    let script = match read_file(rt, matches, SCRIPT) {
         Ok(bytes) => bytes,
-        Err(fault) => return tell(rt, &ToolFault::File(fault)),
+        Err(code) => return code,
     };
     let transcript = match dap_tool::drive(rt.alloc(), &recording, &script, limits) {
         Ok(transcript) => transcript,
-        Err(fault) => return tell(rt, &ToolFault::Drive(fault)),
+        Err(fault) => return tell_driving(rt, matches, &recording, &script, fault),
     };
     match print(rt, &transcript) {
         Ok(()) => 0,
-        Err(_) => tell(rt, &ToolFault::Write),
+        Err(_) => tell_unwritten(rt, matches, &ToolFault::Write),
     }
 }
 
-/// The recording that the command line names, not started.
-fn read_recording(rt: &HostRuntime, matches: &ArgMatches<'_>) -> Result<Recorded, ToolFault>
+/// Tells why a script is not run to its end: by its recording, or by a line of the script.
+fn tell_driving(
+    rt: &HostRuntime,
+    matches: &ArgMatches<'_>,
+    recording: &[u8],
+    script: &[u8],
+    fault: DriveFault,
+) -> u8 {
+    let (word, bytes) = match fault {
+        DriveFault::Recording => (RECORDING, recording),
+        _ => (SCRIPT, script),
+    };
+    let name = name_of(matches, word);
+    tell(
+        rt,
+        matches,
+        Subject { name, bytes },
+        &ToolFault::Drive(fault),
+    )
+}
+
+/// The recording that the command line names, not started; or the exit status where the file is none, which is told.
+fn read_recording(rt: &HostRuntime, matches: &ArgMatches<'_>) -> Result<Recorded, u8>
     ensures { IfOk result (λ recording. recording.state ≡ State.NotStarted) }
 {
-    let bytes = match read_file(rt, matches, "recording") {
-        Ok(bytes) => bytes,
-        Err(fault) => return Err(ToolFault::File(fault)),
-    };
-    let read = Recorded::read(rt.alloc(), &bytes);
-    drop(bytes);
-    match read {
+    let bytes = read_file(rt, matches, RECORDING)?;
+    match Recorded::read(rt.alloc(), &bytes) {
         Ok(recording) => Ok(recording),
-        Err(fault) => Err(ToolFault::Recording(fault)),
+        Err(fault) => {
+            let file = Subject {
+                name: name_of(matches, RECORDING),
+                bytes: &bytes,
+            };
+            Err(tell(rt, matches, file, &ToolFault::Recording(fault)))
+        }
     }
 }
 
-/// The bytes of the file that the command line names, or of standard input, where that is `-`.
-fn read_input(rt: &HostRuntime, matches: &ArgMatches<'_>) -> Result<Vec<u8>, FileFault> {
-    match matches.get_str("file") {
-        Some("-") => read_whole(
-            rt.alloc(),
-            &mut Input {
-                reader: rt.reader(),
-            },
-            0,
-        ),
-        _ => read_file(rt, matches, "file"),
+/// How a fault tells the standard streams.
+const INPUT: &str = "standard input";
+
+const OUTPUT: &str = "standard output";
+
+/// The words of the command line that name files.
+const FILE: &str = "file";
+
+const RECORDING: &str = "recording";
+
+const SCRIPT: &str = "script";
+
+/// The name of the file that a word of the command line names, or of standard input, where that is `-`.
+fn name_of<'a>(matches: &'a ArgMatches<'_>, word: &str) -> &'a str {
+    match matches.get_str(word) {
+        Some("-") if word == FILE => INPUT,
+        Some(path) => path,
+        None => "",
     }
 }
 
-/// The bytes of the file that a word of the command line names.
-fn read_file(rt: &HostRuntime, matches: &ArgMatches<'_>, word: &str) -> Result<Vec<u8>, FileFault> {
+/// The bytes of the file that the command line names, or of standard input, where that is `-`; or the exit status, where it is
+/// not read, which is told.
+fn read_input(rt: &HostRuntime, matches: &ArgMatches<'_>) -> Result<Vec<u8>, u8> {
+    if matches.get_str(FILE) != Some("-") {
+        return read_file(rt, matches, FILE);
+    }
+    let mut input = Input {
+        reader: rt.reader(),
+    };
+    match read_whole(rt.alloc(), &mut input, 0) {
+        Ok(bytes) => Ok(bytes),
+        Err(fault) => Err(tell_file(rt, matches, FILE, &ToolFault::File(fault))),
+    }
+}
+
+/// The bytes of the file that a word of the command line names; or the exit status, where it is not read, which is told.
+fn read_file(rt: &HostRuntime, matches: &ArgMatches<'_>, word: &str) -> Result<Vec<u8>, u8> {
+    match read_named(rt, matches, word) {
+        Ok(bytes) => Ok(bytes),
+        Err(fault) => Err(tell_file(rt, matches, word, &fault)),
+    }
+}
+
+/// Tells that a file is not read.
+fn tell_file(rt: &HostRuntime, matches: &ArgMatches<'_>, word: &str, fault: &ToolFault) -> u8 {
+    let name = name_of(matches, word);
+    tell(rt, matches, Subject { name, bytes: &[] }, fault)
+}
+
+fn open_fault(error: &io::Error) -> OpenFault {
+    match error.kind() {
+        io::ErrorKind::NotFound => OpenFault::NotFound,
+        io::ErrorKind::IsADirectory => OpenFault::IsDirectory,
+        io::ErrorKind::PermissionDenied => OpenFault::PermissionDenied,
+        _ => OpenFault::NotOpened,
+    }
+}
+
+fn read_named(
+    rt: &HostRuntime,
+    matches: &ArgMatches<'_>,
+    word: &str,
+) -> Result<Vec<u8>, ToolFault> {
     // The command line has this word, or it was refused.
     let Some(path) = matches.get_str(word) else {
-        return Err(FileFault::Read);
+        return Err(ToolFault::Open(OpenFault::NotOpened));
     };
-    let Ok(file) = File::open(rt, path) else {
-        return Err(FileFault::Read);
+    let file = match File::open(rt, path) {
+        Ok(file) => file,
+        Err(error) => return Err(ToolFault::Open(open_fault(&error))),
     };
     let expected = match file.metadata() {
+        // A directory is opened, and then no read of it succeeds.
+        Ok(metadata) if metadata.is_dir() => return Err(ToolFault::Open(OpenFault::IsDirectory)),
         Ok(metadata) => metadata.len(),
         Err(_) => 0,
     };
-    read_whole(rt.alloc(), &mut Input { reader: file }, expected)
+    match read_whole(rt.alloc(), &mut Input { reader: file }, expected) {
+        Ok(bytes) => Ok(bytes),
+        Err(fault) => Err(ToolFault::File(fault)),
+    }
 }
 
 /// Writes all bytes to standard output.
@@ -317,8 +429,9 @@ fn print(rt: &HostRuntime, bytes: &[u8]) -> io::Result<()> {
     output.flush()
 }
 
-/// Writes a fault's line on standard error, and answers its status, whether or not the line went out.
-fn tell(rt: &HostRuntime, fault: &ToolFault) -> u8 {
+/// Writes a fault's line on standard error, and behind it, where it is asked for, the line that explains it. It answers the
+/// fault's status, whether or not the lines went out.
+fn tell(rt: &HostRuntime, matches: &ArgMatches<'_>, subject: Subject<'_>, fault: &ToolFault) -> u8 {
     match fault_line(rt.alloc(), fault) {
         Ok(line) => {
             let _ = rt.stderr().write_all(&line);
@@ -328,5 +441,20 @@ fn tell(rt: &HostRuntime, fault: &ToolFault) -> u8 {
             let _ = rt.stderr().write_all(b"dap: OutOfMemory\n");
         }
     }
+    if command_line::explains(matches) {
+        // Where it finds no memory there is none.
+        if let Ok(line) = explanation(rt.alloc(), subject.name, subject.bytes, fault) {
+            let _ = rt.stderr().write_all(&line);
+        }
+    }
     status(fault)
+}
+
+/// The same of standard output.
+fn tell_unwritten(rt: &HostRuntime, matches: &ArgMatches<'_>, fault: &ToolFault) -> u8 {
+    let output = Subject {
+        name: OUTPUT,
+        bytes: &[],
+    };
+    tell(rt, matches, output, fault)
 }

@@ -22,3 +22,6 @@ pub mod Ids
 pub mod Telling
 pub mod Longest
 pub mod Stops
+pub mod CheckedElements
+pub mod SameKey
+mod RefusalsExamples

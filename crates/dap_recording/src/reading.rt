@@ -166,10 +166,10 @@ pub(crate) fn flag(value: &Value, key: RecordingKey) -> Result<bool, RecordingFa
 const MAX_NUMBER: u64 = 2147483647;
 
 /// The greatest id of a thread.
-const MAX_ID: i64 = 9007199254740991;
+pub(crate) const MAX_ID: i64 = 9007199254740991;
 
 /// The most sources.
-const MAX_SOURCES: usize = 65536;
+pub(crate) const MAX_SOURCES: usize = 65536;
 
 pub(crate) fn int(value: &Value) -> Option<i64>
     ensures { result ≡ int_of (view value.now) }
@@ -186,7 +186,7 @@ pub(crate) fn number(value: &Value) -> Option<u32>
     }
 }
 
-fn status(value: &Value) -> Option<i32>
+pub(crate) fn status(value: &Value) -> Option<i32>
     ensures { result ≡ exit_of (view value.now) }
 {
     match value.as_i64() {

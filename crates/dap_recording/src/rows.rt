@@ -348,7 +348,7 @@ fn moments(
 }
 
 /// How many lines a text has: pieces ended by LF, and a last one that is not empty.
-fn line_count(text: &str) -> u64
+pub(crate) fn line_count(text: &str) -> u64
     ensures { result ≡ line_count_of text.now }
 {
     let mut lines = 0;

@@ -1,7 +1,8 @@
 -- A listing that goes on.
-use Rattle.std.proofs.Common.{◌≡◌, ℕ, ◌+◌, ◌<◌, ◌≤◌, ◌^◌, List, [], ◌∷◌, ◌++◌, length, take, drop, Err, ◌||◌, Bool, false, refl, sym, ap, ap₂, ◌∙◌, subst, arith, length-drop}
+use Rattle.std.proofs.Common.{◌≡◌, ℕ, ◌+◌, ◌-◌, ◌<◌, ◌≤◌, ◌^◌, List, [], ◌∷◌, ◌++◌, length, take, drop, Err, ◌||◌, Bool, false, refl, sym, ap, ap₂, ◌∙◌, subst, arith, length-drop}
 use Rattle.std.proofs.lemmas.List.{length-append, append_assoc, append-nil, take_all, take-append-drop, append_cancel_right}
-use Rattle.std.proofs.Math.Seq.{take-add}
+use Rattle.std.proofs.lemmas.List.{length-take-le}
+use Rattle.std.proofs.Math.Seq.{take-add, take-append_seam, drop-append_seam}
 use Rattle.dap_frame.specs.declared.Refusal.{Refusal}
 use Rattle.dap_frame.specs.declared.frames.FrameFault.{FrameFault}
 use Rattle.dap_frame.specs.declared.limits.Bounds.{Bounds}
@@ -13,7 +14,9 @@ use Rattle.dap_frame.specs.Feeds.{Completes, Gathers, Closes}
 use Rattle.dap_stream.specs.Listing.{IsLineOf, of_message, of_refused, Lists, none, one_more, Listed, Shows}
 use Rattle.dap_stream.specs.PrivateShowSteps.{ListedTo, ListedBefore}
 use Rattle.dap_stream.specs.declared.lines.Style.{Style}
-use Rattle.dap_stream.specs.declared.listing.ShowFault.TheVariants.{Frame, OutOfMemory}
+use Rattle.dap_stream.specs.declared.listing.ShowFault.TheVariants.{Frame, Body, OutOfMemory}
+use Rattle.dap_message.specs.Refusals.{Bad}
+use Rattle.dap_message.specs.declared.fault.BodyRefusal.{BodyRefusal}
 
 -- ---- how far a listing has come
 
@@ -75,6 +78,42 @@ module _ (style : Style) (limits : Settings) (frames : Intake) (bytes rest : Lis
 module _ (style : Style) (limits : Settings) (frames : Intake) (bytes : List ℕ) (at : ℕ) (old new : List ℕ) (before : Bool) (l : ListedBefore style limits frames bytes at old new before) (ready : IsReady frames) where
   last_here : LastStartsAt frames.bounds frames.start (take at bytes) (l.bodies ++ frames.held ∷ []) frames.held
   last_here = (l.stands.ready ready).last
+
+  -- where the body is
+  module _ (within : at ≤ length bytes) where
+    front_is : take at bytes ≡ (last_here.starts.front ++ last_here.frame_is.header) ++ frames.held
+    front_is = last_here.starts.whole ∙ ap (λ z. last_here.starts.front ++ z) last_here.frame_is.spelled ∙ sym (append_assoc last_here.starts.front last_here.frame_is.header frames.held)
+
+    at_is : at ≡ length (last_here.starts.front ++ last_here.frame_is.header) + length frames.held
+    at_is = sym (length-take-le at bytes within) ∙ ap length front_is ∙ length-append (last_here.starts.front ++ last_here.frame_is.header) frames.held
+
+    pub body_ends : (at - length frames.held) + length frames.held ≡ at
+    body_ends = omega (arith, at_is)
+
+    pub body_there : take (length frames.held) (drop (at - length frames.held) bytes) ≡ frames.held
+    body_there =
+        let before : List ℕ = last_here.starts.front ++ last_here.frame_is.header in
+        let from : at - length frames.held ≡ length before = omega (arith, at_is) in
+        let cut : bytes ≡ before ++ (frames.held ++ drop at bytes) = sym (take-append-drop at bytes) ∙ ap (λ z. z ++ drop at bytes) front_is ∙ append_assoc before frames.held (drop at bytes) in
+        ap (λ n. take (length frames.held) (drop n bytes)) from
+        ∙ ap (λ z. take (length frames.held) (drop (length before) z)) cut
+        ∙ ap (λ z. take (length frames.held) z) (drop-append_seam before (frames.held ++ drop at bytes))
+        ∙ take-append_seam frames.held (drop at bytes)
+
+    pub stopped_at : (cause : BodyRefusal) → Bad frames.held cause → style.keeps_going ≡ false → Shows style limits bytes old new (Err (Body cause frames.start (at - length frames.held) (length frames.held)))
+    stopped_at cause bad stops = record {
+      n = at;
+      bodies = l.bodies;
+      body = frames.held;
+      split = subst (λ b. Split b (take at bytes) (l.bodies ++ frames.held ∷ []) []) l.bounds l.stands.split;
+      refused = before;
+      listed = l.listed;
+      stops = stops;
+      bad = bad;
+      starts = subst (λ b. LastStartsAt b frames.start (take at bytes) (l.bodies ++ frames.held ∷ []) frames.held) l.bounds last_here;
+      there = body_there;
+      ends = body_ends;
+    }
 
   module _ (offset : ℕ) (starts : offset ≡ frames.start) (small : length bytes < 2 ^ 64) where
     last : LastStartsAt (bounds_of limits) frames.start (take at bytes) (l.bodies ++ frames.held ∷ []) frames.held

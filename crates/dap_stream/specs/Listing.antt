@@ -1,5 +1,5 @@
 -- What is listed of a stream: a line for each message, in order, with the offset of its frame.
-use Rattle.std.specs.Prelude.{◌≡◌, ◌||◌, ℕ, Bool, true, false, List, [], ◌∷◌, ◌++◌, length, take, Result, Ok, Err}
+use Rattle.std.specs.Prelude.{◌≡◌, ◌||◌, ◌+◌, ℕ, Bool, true, false, List, [], ◌∷◌, ◌++◌, length, take, drop, Result, Ok, Err}
 use Rattle.dap_frame.specs.declared.frames.End.{End}
 use Rattle.dap_frame.specs.declared.frames.End.TheVariants.{Clean, Truncated, Refused as Closed}
 use Rattle.dap_frame.specs.declared.frames.FrameFault.{FrameFault}
@@ -63,8 +63,9 @@ pub record ListsToFrame (style : Style) (limits : Settings) (bytes old new : Lis
   pub verdict_is : verdict (bounds_of limits) rest ≡ Refuses fault.cause (length rest)
   pub offset : StartsAt (bounds_of limits) fault.offset (take n bytes) bodies rest
 
--- a body is no message, the listing does not go on, and what stands before its frame is listed
-pub record ListsToBody (style : Style) (limits : Settings) (bytes old new : List ℕ) (cause : BodyRefusal) (offset : ℕ) : Type 0 where
+-- a body is no message, the listing does not go on, and what stands before its frame is listed; the body is those bytes of the
+-- stream that the fault says, the last of its frame
+pub record ListsToBody (style : Style) (limits : Settings) (bytes old new : List ℕ) (cause : BodyRefusal) (offset body_offset body_length : ℕ) : Type 0 where
   pub n : ℕ
   pub bodies : List (List ℕ)
   pub body : List ℕ
@@ -74,6 +75,8 @@ pub record ListsToBody (style : Style) (limits : Settings) (bytes old new : List
   pub stops : style.keeps_going ≡ false
   pub bad : Bad body cause
   pub starts : LastStartsAt (bounds_of limits) offset (take n bytes) (bodies ++ body ∷ []) body
+  pub there : take body_length (drop body_offset bytes) ≡ body
+  pub ends : body_offset + body_length ≡ n
 
 -- memory was refused, and what stands before some frame is listed
 pub record ListsSome (style : Style) (limits : Settings) (bytes old new : List ℕ) : Type 0 where
@@ -84,7 +87,7 @@ pub record ListsSome (style : Style) (limits : Settings) (bytes old new : List �
 abbrev pub Shows : Style → Settings → List ℕ → List ℕ → List ℕ → Result Shown ShowFault → Type 0
 Shows style limits bytes old new (Ok shown) = ListsAll style limits bytes old new shown
 Shows style limits bytes old new (Err (BadFrame fault)) = ListsToFrame style limits bytes old new fault
-Shows style limits bytes old new (Err (Body cause offset)) = ListsToBody style limits bytes old new cause offset
+Shows style limits bytes old new (Err (Body cause offset body_offset body_length)) = ListsToBody style limits bytes old new cause offset body_offset body_length
 Shows style limits bytes old new (Err OutOfMemory) = ListsSome style limits bytes old new
 
 -- the same in a form, up to the first refusal

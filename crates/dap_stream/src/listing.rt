@@ -1,6 +1,6 @@
 //! A stream of messages as a listing: a line for each.
 
-ghost use Rattle.std.specs.Prelude.{◌≡◌, ◌||◌, ℕ, List, ◌^◌, ◌<◌, Bool, length, OnOk, IfOk, IfErr, Err};
+ghost use Rattle.std.specs.Prelude.{◌≡◌, ◌||◌, ◌-◌, ℕ, List, ◌^◌, ◌<◌, ◌≤◌, Bool, length, OnOk, IfOk, IfErr, Err};
 ghost use Rattle.dap_frame.specs.Settings.{Settings};
 ghost use Rattle.dap_frame.specs.Intake.{IsReady, IsUnderWay};
 ghost use Rattle.dap_stream.specs.Listing.{IsLineOf, Shows, ShowsAll};
@@ -18,9 +18,14 @@ pub enum ShowFault {
     /// The framing is refused.
     #[error("a frame is refused at byte {}", .0.offset)]
     Frame(FrameFault),
-    /// A body is no message; the frame's first byte has this offset.
+    /// A body is no message; the frame's first byte has this offset, and the body's the other.
     #[error("the body of the frame at byte {offset} is refused")]
-    Body { cause: BodyRefusal, offset: u64 },
+    Body {
+        cause: BodyRefusal,
+        offset: u64,
+        body_offset: u64,
+        body_length: u64,
+    },
     /// Memory was refused.
     #[error("memory is exhausted")]
     OutOfMemory,
@@ -65,26 +70,40 @@ fn make_line_of_ready(
     make_line_in(alloc, scratch, line, style, offset, body)
 }
 
-/// Appends the line of the ready body, and gives the body up. It answers whether the body is refused.
+/// The fault of the ready body, which ends after so many bytes of the stream.
+fn refused_body(frames: &Frames, cause: BodyRefusal, at: usize) -> ShowFault
+    ensures { result ≡ ShowFault.Body cause frames.now.start (at - length frames.now.held) (length frames.now.held) }
+{
+    let body_length = frames.held();
+    ShowFault::Body {
+        cause,
+        offset: frames.offset(),
+        body_offset: at.saturating_sub(body_length) as u64,
+        body_length: body_length as u64,
+    }
+}
+
+/// Appends the line of the ready body, which ends after so many bytes of the stream, and gives the body up. It answers whether
+/// the body is refused.
 fn list_body(
     alloc: Global,
     frames: &mut Frames,
     scratch: &mut Scratch,
     line: &mut Vec<u8>,
     style: Style,
+    at: usize,
     out: &mut Vec<u8>,
 ) -> Result<bool, ShowFault>
     requires { IsReady frames.old }
     ensures under_way { OnOk result (IsUnderWay frames.new) }
     ensures ok { IfOk result (λ refused. (limits : Settings) (bytes old : List ℕ) (at : ℕ) (before : Bool) → length bytes < 2 ^ 64 → ListedBefore style limits frames.old bytes at old out.old.items before
         → ListedTo style limits frames.new bytes at old out.new.items (before || refused)) }
-    ensures err { IfErr result (λ fault. (limits : Settings) (bytes old : List ℕ) (at : ℕ) (before : Bool) → ListedBefore style limits frames.old bytes at old out.old.items before
+    ensures err { IfErr result (λ fault. (limits : Settings) (bytes old : List ℕ) (before : Bool) → at ≤ length bytes → ListedBefore style limits frames.old bytes at old out.old.items before
         → Shows style limits bytes old out.new.items (Err fault)) }
 {
-    let offset = frames.offset();
     let refused = match make_line_of_ready(alloc, frames, scratch, line, style) {
         Ok(refused) => refused,
-        Err(BodyFault::Refused(cause)) => return Err(ShowFault::Body { cause, offset }),
+        Err(BodyFault::Refused(cause)) => return Err(refused_body(frames, cause, at)),
         Err(BodyFault::OutOfMemory) => return Err(ShowFault::OutOfMemory),
     };
     out.extend_from_slice(line)?;
@@ -127,7 +146,7 @@ pub fn list(
         };
         at += fed.used;
         if fed.ready {
-            match list_body(alloc, &mut frames, &mut scratch, &mut line, style, out) {
+            match list_body(alloc, &mut frames, &mut scratch, &mut line, style, at, out) {
                 Ok(this) => refused = either(refused, this),
                 Err(fault) => return Err(fault),
             }

@@ -17,7 +17,7 @@ refused_frame_line : line_of (Show (Frame (record { cause = BadLength; offset = 
 unfolding digits
 refused_frame_line = refl
 
-refused_body_line : line_of (Show (Body BadSeq 68)) ≡ codes "dap: BadSeq at 68\n"
+refused_body_line : line_of (Show (Body BadSeq 68 90 12)) ≡ codes "dap: BadSeq at 68\n"
 unfolding digits
 refused_body_line = refl
 
@@ -32,7 +32,7 @@ long_line_line = refl
 file_lines : (line_of (File Read) ≡ codes "dap: Read\n") × (line_of (File FileTooLong) ≡ codes "dap: FileTooLong\n")
 file_lines = (refl, refl)
 
-statuses : (status_of (Show (Body BadSeq 68)) ≡ 3) × (status_of Truncated ≡ 4) × (status_of (File Read) ≡ 5) × (status_of Write ≡ 5) × (status_of OutOfMemory ≡ 6) × (status_of (File FileTooLong) ≡ 3)
+statuses : (status_of (Show (Body BadSeq 68 90 12)) ≡ 3) × (status_of Truncated ≡ 4) × (status_of (File Read) ≡ 5) × (status_of Write ≡ 5) × (status_of OutOfMemory ≡ 6) × (status_of (File FileTooLong) ≡ 3)
 statuses = (refl, refl, refl, refl, refl, refl)
 
 served_body_line : line_of (Serve (serve.Adapter (adapter.Body BadSeq 68))) ≡ codes "dap: BadSeq at 68\n"

@@ -15,7 +15,7 @@ use Rattle.dap_client.specs.declared.fault.SendFault.TheVariants as unsent
 use Rattle.dap_drive.specs.declared.fault.DriveFault.{DriveFault}
 use Rattle.dap_drive.specs.declared.fault.DriveFault.TheVariants as driven
 use Rattle.dap_tool.specs.declared.fault.ToolFault.{ToolFault}
-use Rattle.dap_tool.specs.declared.fault.ToolFault.TheVariants.{Serve, Recording, Show, Wrap, Check, Drive, File, Truncated, Write as OutputFailed, OutOfMemory as NoMemoryAtAll}
+use Rattle.dap_tool.specs.declared.fault.ToolFault.TheVariants.{Serve, Recording, Show, Wrap, Check, Drive, Open, File, Truncated, Write as OutputFailed, OutOfMemory as NoMemoryAtAll}
 use Rattle.dap_stream.specs.Lines.{name_of_body_refusal}
 use Rattle.dap_stream.specs.declared.listing.ShowFault.{ShowFault}
 use Rattle.dap_stream.specs.declared.listing.ShowFault.TheVariants.{Frame as ShownFrame, Body as ShownBody, OutOfMemory as NoMemoryToShow}
@@ -51,7 +51,7 @@ status_of_recording NoMemoryForRecording = 6
 
 abbrev pub status_of_show : ShowFault → ℕ
 status_of_show (ShownFrame fault) = 3
-status_of_show (ShownBody cause offset) = 3
+status_of_show (ShownBody cause offset body_offset body_length) = 3
 status_of_show NoMemoryToShow = 6
 
 abbrev pub status_of_wrap : WrapFault → ℕ
@@ -90,6 +90,7 @@ status_of (Show fault) = status_of_show fault
 status_of (Wrap fault) = status_of_wrap fault
 status_of (Check fault) = status_of_check fault
 status_of (Drive fault) = status_of_drive fault
+status_of (Open fault) = 5
 status_of (File fault) = status_of_file fault
 status_of Truncated = 4
 status_of OutputFailed = 5
@@ -140,7 +141,7 @@ line_of_recording NoMemoryForRecording = named_line (codes "OutOfMemory")
 
 abbrev pub line_of_show : ShowFault → List ℕ
 line_of_show (ShownFrame fault) = line_at (name_of_refusal fault.cause) fault.offset
-line_of_show (ShownBody cause offset) = line_at (name_of_body_refusal cause) offset
+line_of_show (ShownBody cause offset body_offset body_length) = line_at (name_of_body_refusal cause) offset
 line_of_show NoMemoryToShow = named_line (codes "OutOfMemory")
 
 abbrev pub line_of_wrap : WrapFault → List ℕ
@@ -185,6 +186,8 @@ line_of (Show fault) = line_of_show fault
 line_of (Wrap fault) = line_of_wrap fault
 line_of (Check fault) = line_of_check fault
 line_of (Drive fault) = line_of_drive fault
+-- why a file is not opened is not told
+line_of (Open fault) = named_line (codes "Read")
 line_of (File fault) = line_of_file fault
 line_of Truncated = named_line (codes "Truncated")
 line_of OutputFailed = named_line (codes "Write")

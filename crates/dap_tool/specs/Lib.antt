@@ -1,4 +1,5 @@
 pub mod Faults
+pub mod Explanations
 pub mod Files
 pub mod Verdicts
 pub mod PrivateListed

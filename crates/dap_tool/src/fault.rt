@@ -3,7 +3,7 @@
 ghost use Rattle.std.specs.Prelude.{◌≡◌, IfOk, string_bytes};
 ghost use Rattle.dap_tool.specs.Faults.{status_of, status_of_adapter, status_of_serve, status_of_recording, status_of_show, status_of_check, status_of_send, status_of_drive, line_of, line_of_adapter, line_of_serve, line_of_recording, line_of_show, line_of_wrap, line_of_check, line_of_drive, line_of_file, named_line, line_at, line_at_line, name_of_refusal, name_of_send};
 
-use crate::files::FileFault;
+use crate::files::{FileFault, OpenFault};
 use dap_adapter::{AdapterFault, ServeFault};
 use dap_check::CheckFault;
 use dap_client::SendFault;
@@ -33,6 +33,9 @@ pub enum ToolFault {
     /// A script was not driven to its end.
     #[error("{0}")]
     Drive(DriveFault),
+    /// A file is not opened.
+    #[error("{0}")]
+    Open(OpenFault),
     #[error("{0}")]
     File(FileFault),
     /// The input ended within a frame.
@@ -58,6 +61,7 @@ pub fn status(fault: &ToolFault) -> u8
         ToolFault::Wrap(_) => 3,
         ToolFault::Check(fault) => check_status(fault),
         ToolFault::Drive(fault) => drive_status(fault),
+        ToolFault::Open(_) => 5,
         ToolFault::File(FileFault::Read) => 5,
         ToolFault::File(FileFault::FileTooLong) => 3,
         ToolFault::File(FileFault::OutOfMemory) => 6,
@@ -247,7 +251,9 @@ fn show_line(alloc: Global, fault: &ShowFault) -> Result<String, AllocError>
 {
     match fault {
         ShowFault::Frame(fault) => at_offset(alloc, refusal_name(fault.cause), fault.offset),
-        ShowFault::Body { cause, offset } => at_offset(alloc, body_refusal_name(*cause), *offset),
+        ShowFault::Body { cause, offset, .. } => {
+            at_offset(alloc, body_refusal_name(*cause), *offset)
+        }
         ShowFault::OutOfMemory => named(alloc, "OutOfMemory"),
     }
 }
@@ -308,6 +314,7 @@ pub fn fault_line(alloc: Global, fault: &ToolFault) -> Result<Vec<u8>, AllocErro
         ToolFault::Wrap(fault) => wrap_line(alloc, fault)?,
         ToolFault::Check(fault) => check_line(alloc, fault)?,
         ToolFault::Drive(fault) => drive_line(alloc, fault)?,
+        ToolFault::Open(_) => named(alloc, "Read")?,
         ToolFault::File(fault) => file_line(alloc, fault)?,
         ToolFault::Truncated => named(alloc, "Truncated")?,
         ToolFault::Write => named(alloc, "Write")?,

@@ -17,7 +17,7 @@ pub const MAX_FILE: usize = 67108864;
 /// Why a file is not read whole.
 #[derive(Clone, Copy, Debug, PartialEq, Eq, Error)]
 pub enum FileFault {
-    /// It cannot be opened, or a read failed.
+    /// A read failed.
     #[error("the file cannot be read")]
     Read,
     /// It has more than 67108864 bytes.
@@ -26,6 +26,23 @@ pub enum FileFault {
     /// Memory was refused.
     #[error("memory is exhausted")]
     OutOfMemory,
+}
+
+/// Why a file is not opened.
+#[derive(Clone, Copy, Debug, PartialEq, Eq, Error)]
+pub enum OpenFault {
+    /// No file has the name.
+    #[error("there is no such file")]
+    NotFound,
+    /// It is a directory.
+    #[error("the file is a directory")]
+    IsDirectory,
+    /// It may not be read.
+    #[error("the file may not be read")]
+    PermissionDenied,
+    /// It cannot be opened, for another reason.
+    #[error("the file cannot be opened")]
+    NotOpened,
 }
 
 impl From<AllocError> for FileFault {

@@ -6,6 +6,7 @@
 #![tactic(auto)]
 
 mod bodies;
+mod explaining;
 mod fault;
 mod files;
 mod reads;
@@ -16,7 +17,8 @@ pub use dap_client::SendFault;
 pub use dap_drive::{DriveFault, drive};
 pub use dap_stream::{Form, ShowFault, Shown, Style, WrapFault, list, show, unwrap, wrap};
 pub use dap_world::laws;
+pub use explaining::explanation;
 pub use fault::{ToolFault, fault_line, status};
-pub use files::{FileFault, MAX_FILE, read_channel, read_whole, reading_is_of_the_log};
+pub use files::{FileFault, MAX_FILE, OpenFault, read_channel, read_whole, reading_is_of_the_log};
 pub use reads::most_reads;
 pub use verdict::{CheckOptions, VerdictText, check_text};

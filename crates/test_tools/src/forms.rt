@@ -29,6 +29,8 @@ const WENT_ON: Result<Shown, ShowFault> = Ok(Shown {
 const STOPPED: Result<Shown, ShowFault> = Err(ShowFault::Body {
     cause: BodyRefusal::BadSeq,
     offset: 68,
+    body_offset: 89,
+    body_length: 2,
 });
 
 static LISTED: [Listed<'static>; 6] = [

@@ -312,11 +312,18 @@ static BAD_BODIES: [(&[u8], BodyRefusal, &[u8]); 16] = [
 ];
 
 fn is_bad_body(alloc: Global, body: &[u8], cause: BodyRefusal, line: &[u8]) -> bool {
-    let fault = ShowFault::Body { cause, offset: 68 };
-    match frames_of(alloc, &[THREADS, body, THREADS]) {
-        Some(input) => is_refused(alloc, Limits::usual(), &input, fault, line),
-        None => false,
-    }
+    let Some(input) = frames_of(alloc, &[THREADS, body, THREADS]) else {
+        return false;
+    };
+    // Before the body and the last frame, of 68 bytes.
+    let body_offset = input.len().saturating_sub(68).saturating_sub(body.len());
+    let fault = ShowFault::Body {
+        cause,
+        offset: 68,
+        body_offset: body_offset as u64,
+        body_length: body.len() as u64,
+    };
+    is_refused(alloc, Limits::usual(), &input, fault, line)
 }
 
 fn other_body(alloc: Global) -> Option<usize> {

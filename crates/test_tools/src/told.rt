@@ -5,8 +5,8 @@ use dap_frame::{FrameFault, Refusal};
 use dap_message::BodyRefusal;
 use dap_recording::{Recorded, RecordingFault};
 use dap_tool::{
-    CheckFault, DriveFault, FileFault, SendFault, ShowFault, ToolFault, WrapFault, fault_line,
-    status,
+    CheckFault, DriveFault, FileFault, OpenFault, SendFault, ShowFault, ToolFault, WrapFault,
+    explanation, fault_line, status,
 };
 use std::alloc::Global;
 use std::test::Fail;
@@ -185,6 +185,125 @@ fn faults_of_tools(rt: HostRuntime) -> Result<(), Fail> {
     expect_none(&rt, other_told(rt.alloc(), &TOLD))
 }
 
+/// A fault, what was read of the input, and the line that explains it.
+type Explained = (ToolFault, &'static [u8], &'static [u8]);
+
+static EXPLAINED: [Explained; 17] = [
+    (
+        ToolFault::Open(OpenFault::NotFound),
+        b"",
+        b"a?b: no such file\n",
+    ),
+    (
+        ToolFault::Open(OpenFault::PermissionDenied),
+        b"",
+        b"a?b: permission denied\n",
+    ),
+    (
+        ToolFault::File(FileFault::FileTooLong),
+        b"",
+        b"a?b: longer than 67108864 bytes\n",
+    ),
+    (
+        ToolFault::Recording(RecordingFault::NotJson),
+        b"{",
+        b"a?b: no JSON\n",
+    ),
+    (
+        ToolFault::Recording(RecordingFault::NotObject),
+        b"[]",
+        b"a?b: an array, not an object\n",
+    ),
+    (
+        ToolFault::Recording(RecordingFault::OutOfMemory),
+        b"{}",
+        b"a?b: memory was refused\n",
+    ),
+    (
+        ToolFault::Drive(DriveFault::Recording),
+        b"{\"exit\":0,\"sources\":[{}]}",
+        b"a?b: sources[0].name: absent\n",
+    ),
+    (
+        ToolFault::Show(ShowFault::Frame(FrameFault {
+            cause: Refusal::BadHeader,
+            offset: 3,
+        })),
+        b"abcContent-Length 12\r\n\r\n{}",
+        b"a?b: at 3: \"Content-Length 12\"\n",
+    ),
+    (
+        ToolFault::Show(ShowFault::Body {
+            cause: BodyRefusal::NotObject,
+            offset: 0,
+            body_offset: 21,
+            body_length: 2,
+        }),
+        b"Content-Length: 2\r\n\r\n[]Content",
+        b"a?b: at 0: \"[]\"\n",
+    ),
+    (
+        ToolFault::Wrap(WrapFault::BodyTooLong { line: 2 }),
+        b"{}\n\t\x00\\\"\n",
+        b"a?b: line 2: \"\\t\\x00\\\\\\\"\"\n",
+    ),
+    (
+        ToolFault::Check(CheckFault::BadLine { line: 1 }),
+        b"=\r\n",
+        b"a?b: line 1: \"=\"\n",
+    ),
+    (
+        ToolFault::Drive(DriveFault::Send {
+            line: 2,
+            cause: SendFault::NotStopped,
+        }),
+        b"run\nsend threads",
+        b"a?b: line 2: \"send threads\": the debuggee is not stopped\n",
+    ),
+    (
+        ToolFault::Serve(ServeFault::Write { written: 7 }),
+        b"",
+        b"a?b: cannot be written, after 7 bytes\n",
+    ),
+    (
+        ToolFault::Serve(ServeFault::Adapter(AdapterFault::Body {
+            cause: BodyRefusal::NotJson,
+            offset: 68,
+        })),
+        b"",
+        b"a?b: at 68: the body is no JSON\n",
+    ),
+    (
+        ToolFault::Serve(ServeFault::Adapter(AdapterFault::RepeatedSeq { seq: 4 })),
+        b"",
+        b"a?b: request 4 again, while request 4 has no response\n",
+    ),
+    (ToolFault::Truncated, b"", b"a?b: ends within a frame\n"),
+    (ToolFault::OutOfMemory, b"", b"a?b: memory was refused\n"),
+];
+
+fn is_explained(alloc: Global, fault: &ToolFault, bytes: &[u8], line: &[u8]) -> bool {
+    match explanation(alloc, "a\nb", bytes, fault) {
+        Ok(told) => told.as_slice() == line,
+        Err(_) => false,
+    }
+}
+
+fn other_explained(alloc: Global) -> Option<usize> {
+    for (place, (fault, bytes, line)) in EXPLAINED.iter().enumerate() {
+        if !is_explained(alloc, fault, bytes, line) {
+            return Some(place);
+        }
+    }
+    None
+}
+
+/// The line that explains a fault, with the name of a file of three characters.
+#[test]
+fn explained_faults(rt: HostRuntime) -> Result<(), Fail> {
+    expect_none(&rt, other_explained(rt.alloc()))
+}
+
 static IN_WORDS: [(ToolFault, &str); 24] = [
     (
         ToolFault::Serve(ServeFault::Read),
@@ -205,6 +324,8 @@ static IN_WORDS: [(ToolFault, &str); 24] = [
         ToolFault::Show(ShowFault::Body {
             cause: BodyRefusal::BadSeq,
             offset: 68,
+            body_offset: 89,
+            body_length: 2,
         }),
         "the body of the frame at byte 68 is refused",
     ),

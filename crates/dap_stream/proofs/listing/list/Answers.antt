@@ -32,7 +32,7 @@ loop-at-preserved-in-Ok-list_body c =
 pub returns-in-Err-list_body : goal.returns-in-Err-list_body
 returns-in-Err-list_body c =
     let done = c.in-Ok-feed.ensures.completes c.if-fed.true c.loop-at.invariant.under_way in
-    c.in-Err-list_body.ensures.err c.args.limits c.args.bytes.now _ _ _
+    c.in-Err-list_body.ensures.err c.args.limits c.args.bytes.now _ _ (within_rest _ _ _ _ c.split_at.ensures.back c.loop-at.invariant.within done.within)
     (completed c.args.style c.args.limits c.loop-at.frames c.args.bytes.now c.split_at.result.1.now c.loop-at.at _ _ _ c.split_at.ensures.back c.loop-at.invariant.listed c.feed.new.self c.in-Ok-feed.ensures.bounds c.in-Ok-feed.fed.used done)
 
 pub loop-at-preserved : goal.loop-at-preserved

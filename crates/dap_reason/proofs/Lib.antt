@@ -1,0 +1,4 @@
+mod ExcerptsExamples
+mod RecordingsExamples
+mod StreamsExamples
+pub mod Blank
