@@ -76,6 +76,10 @@ fn show_message(offset: usize, value: &Value, out: &mut Vec<u8>) -> Result<(), F
             push_plain(out, command);
             let outcome = if success { "ok" } else { "failed" };
             let _ = write!(out, " {request_seq} {outcome}");
+            if let (false, Some(Value::String(why))) = (success, value.get("message")) {
+                out.push(b' ');
+                push_plain(out, why);
+            }
         }
         Kind::Event { event } => {
             let _ = write!(out, "{offset} {seq} event ");
