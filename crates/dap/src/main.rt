@@ -11,11 +11,11 @@ use clap::ArgMatches;
 use clap::error::{Error, ErrorKind};
 use dap_adapter::ServeFault;
 use dap_channel::{Input, Pipe};
-use dap_frame::End;
+use dap_frame::{End, Limits};
 use dap_recording::Recorded;
 use dap_tool::{
-    DriveFault, Form, OpenFault, Style, ToolFault, check_text, explanation, fault_line, most_reads,
-    read_whole, status,
+    DriveFault, FileFault, FollowFault, Form, MAX_FILE, OpenFault, Shown, Style, ToolFault,
+    check_text, explanation, fault_line, follow, most_reads, read_whole, status,
 };
 use std::alloc::{AllocError, AllocFailed};
 use std::fs::File;
@@ -203,12 +203,16 @@ fn unwrap(rt: &HostRuntime, matches: &ArgMatches<'_>) -> u8 {
     list(rt, matches, style)
 }
 
-/// Lists a file on standard output, and answers the exit status. What was listed is printed before a fault is told.
+/// Lists a file on standard output, and answers the exit status. What was listed is printed before a fault is told. Standard
+/// input is listed while it comes.
 fn list(rt: &HostRuntime, matches: &ArgMatches<'_>, style: Style) -> u8 {
     let Ok(limits) = command_line::limits(matches) else {
         return USAGE;
     };
-    let bytes = match read_input(rt, matches) {
+    if matches.get_str(FILE) == Some("-") {
+        return list_input(rt, matches, limits, style);
+    }
+    let bytes = match read_file(rt, matches, FILE) {
         Ok(bytes) => bytes,
         Err(code) => return code,
     };
@@ -222,13 +226,36 @@ fn list(rt: &HostRuntime, matches: &ArgMatches<'_>, style: Style) -> u8 {
         bytes: &bytes,
     };
     match shown {
-        Ok(shown) if shown.end == End::Truncated => {
-            tell(rt, matches, input, &ToolFault::Truncated)
-        }
-        Ok(shown) if shown.refused => FINDING,
-        Ok(_) => 0,
+        Ok(shown) => tell_shown(rt, matches, input, shown),
         Err(fault) => tell(rt, matches, input, &ToolFault::Show(fault)),
     }
+}
+
+/// Lists standard input on standard output while it comes, and answers the exit status.
+fn list_input(rt: &HostRuntime, matches: &ArgMatches<'_>, limits: Limits, style: Style) -> u8 {
+    let mut pipe = Pipe::new(rt.reader(), io::writer(rt));
+    let followed = follow(rt.alloc(), &mut pipe, limits, style, MAX_FILE);
+    let input = Subject {
+        name: INPUT,
+        bytes: &followed.bytes,
+    };
+    match followed.end {
+        Ok(shown) => tell_shown(rt, matches, input, shown),
+        Err(FollowFault::Write) => tell_unwritten(rt, matches, &ToolFault::Write),
+        Err(FollowFault::Read) => tell(rt, matches, input, &ToolFault::File(FileFault::Read)),
+        Err(FollowFault::TooLong) => {
+            tell(rt, matches, input, &ToolFault::File(FileFault::FileTooLong))
+        }
+        Err(FollowFault::Show(fault)) => tell(rt, matches, input, &ToolFault::Show(fault)),
+    }
+}
+
+/// The exit status of a listing that met no fault, which tells where the stream was cut short.
+fn tell_shown(rt: &HostRuntime, matches: &ArgMatches<'_>, input: Subject<'_>, shown: Shown) -> u8 {
+    if shown.end == End::Truncated {
+        return tell(rt, matches, input, &ToolFault::Truncated);
+    }
+    if shown.refused { FINDING } else { 0 }
 }
 
 /// Writes the lines of a file as frames on standard output, and answers the exit status. At a fault nothing is written.

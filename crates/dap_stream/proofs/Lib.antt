@@ -8,3 +8,4 @@ mod UnwrapExamples
 pub mod Unwrapped
 mod WrapExamples
 pub mod Wrapped
+mod FollowLemmas

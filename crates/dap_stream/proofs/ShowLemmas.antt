@@ -2,17 +2,20 @@
 use Rattle.std.proofs.Common.{◌≡◌, ℕ, ◌+◌, ◌-◌, ◌<◌, ◌≤◌, ◌^◌, List, [], ◌∷◌, ◌++◌, length, take, drop, Err, ◌||◌, Bool, false, refl, sym, ap, ap₂, ◌∙◌, subst, arith, length-drop}
 use Rattle.std.proofs.lemmas.List.{length-append, append_assoc, append-nil, take_all, take-append-drop, append_cancel_right}
 use Rattle.std.proofs.lemmas.List.{length-take-le}
-use Rattle.std.proofs.Math.Seq.{take-add, take-append_seam, drop-append_seam}
+use Rattle.std.proofs.Math.Seq.{take-add, take-append_seam, drop-append_seam, take-length}
 use Rattle.dap_frame.specs.declared.Refusal.{Refusal}
 use Rattle.dap_frame.specs.declared.frames.FrameFault.{FrameFault}
 use Rattle.dap_frame.specs.declared.limits.Bounds.{Bounds}
 use Rattle.dap_frame.specs.Settings.{Settings, bounds_of}
 use Rattle.dap_frame.specs.Stream.{FramesThen, Split}
-use Rattle.dap_frame.specs.Verdict.{verdict, Refused as Refuses}
+use Rattle.dap_frame.specs.Verdict.{verdict, Part, Refused as Refuses}
 use Rattle.dap_frame.specs.Intake.{Intake, IsReady, StandsFor, Shut, StartsAt, LastStartsAt}
 use Rattle.dap_frame.specs.Feeds.{Completes, Gathers, Closes}
-use Rattle.dap_stream.specs.Listing.{IsLineOf, of_message, of_refused, Lists, none, one_more, Listed, Shows}
-use Rattle.dap_stream.specs.PrivateShowSteps.{ListedTo, ListedBefore}
+use Rattle.dap_stream.specs.Listing.{IsLineOf, of_message, of_refused, Lists, none, one_more, Listed, ListsAll, IsEndOf, Shows}
+use Rattle.dap_stream.specs.PrivateShowSteps.{Extends, ListedTo, ListedBefore}
+use Rattle.dap_frame.specs.Ends.{EndsWith}
+use Rattle.dap_frame.specs.declared.frames.End.{End}
+use Rattle.dap_frame.specs.declared.frames.End.TheVariants as ends
 use Rattle.dap_stream.specs.declared.lines.Style.{Style}
 use Rattle.dap_stream.specs.declared.listing.ShowFault.TheVariants.{Frame, Body, OutOfMemory}
 use Rattle.dap_message.specs.Refusals.{Bad}
@@ -170,3 +173,35 @@ within_rest at n bytes rest e h k = omega (arith, length-drop at bytes, ap lengt
 
 pub gathers_within : (old new : Intake) (rest : List ℕ) (used : ℕ) → Gathers old new rest used → used ≤ length rest
 gathers_within old new rest used done = omega (arith, done.all)
+
+-- ---- more lines
+
+pub extends_none : (old : List ℕ) → Extends old old
+extends_none old = ([], sym (append-nil old))
+
+pub extends_more : (old mid new : List ℕ) → Extends old mid → Extends mid new → Extends old new
+extends_more old mid new a b = (a.0 ++ b.0, b.1 ∙ ap (λ z. z ++ b.0) a.1 ∙ append_assoc old a.0 b.0)
+
+-- ---- all bytes
+
+-- the bytes before a place that is at their end or past it are all
+pub listed_past : (style : Style) (limits : Settings) (frames : Intake) (bytes : List ℕ) (at : ℕ) (old new : List ℕ) (refused : Bool) → at ≤ length bytes → length bytes ≤ at → ListedTo style limits frames bytes at old new refused → ListedTo style limits frames bytes (length bytes) old new refused
+listed_past style limits frames bytes at old new refused within past l =
+    let here : at ≡ length bytes = omega arith in
+    subst (λ n. ListedTo style limits frames bytes n old new refused) here l
+
+end_is : (limits : Settings) (frames : Intake) (rest : List ℕ) (end : End) → frames.bounds ≡ bounds_of limits → EndsWith frames rest end → (end ≡ ends.Refused → ⊥) → IsEndOf limits rest end
+end_is limits frames rest ends.Clean bounds e unrefused = e
+end_is limits frames rest ends.Truncated bounds e unrefused = subst (λ b. verdict b rest ≡ Part) bounds e
+end_is limits frames rest ends.Refused bounds e unrefused = unrefused refl
+
+pub all_listed : (style : Style) (limits : Settings) (frames : Intake) (bytes old new : List ℕ) (refused : Bool) (end : End) → ((s : List ℕ) (xs : List (List ℕ)) (rest : List ℕ) → StandsFor frames s xs rest → EndsWith frames rest end) → (end ≡ ends.Refused → ⊥) → ListedTo style limits frames bytes (length bytes) old new refused → ListsAll style limits bytes old new (record { end = end; refused = refused })
+all_listed style limits frames bytes old new refused end finishes unrefused l =
+    let stands : StandsFor frames bytes l.bodies l.rest = subst (λ z. StandsFor frames z l.bodies l.rest) (take-length bytes) l.stands in
+    record {
+      bodies = l.bodies;
+      rest = l.rest;
+      split = subst (λ b. Split b bytes l.bodies l.rest) l.bounds stands.split;
+      listed = l.listed;
+      ends = end_is limits frames l.rest end l.bounds (finishes bytes l.bodies l.rest stands) unrefused;
+    }

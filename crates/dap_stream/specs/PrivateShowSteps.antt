@@ -59,3 +59,7 @@ pub record ListedBefore (style : Style) (limits : Settings) (frames : Intake) (b
   pub bounds : frames.bounds ≡ bounds_of limits
   pub stands : StandsFor frames (take at bytes) (bodies ++ frames.held ∷ []) []
   pub listed : Listed style limits bytes bodies old new refused
+
+-- these, and more behind them
+abbrev pub Extends : List ℕ → List ℕ → Type 0
+Extends old new = (more : List ℕ) × (new ≡ old ++ more)

@@ -5,11 +5,13 @@
 #![tactic(auto)]
 
 mod bodies;
+mod following;
 pub mod laws;
 mod lines;
 mod listing;
 mod wrapping;
 
+pub use following::{FollowFault, Followed, follow, following_is_of_the_log};
 pub use lines::{Form, Style, body_refusal_name, push_number, push_shown};
 pub use listing::{ShowFault, Shown, list, show, unwrap};
 pub use wrapping::{WrapFault, wrap};

@@ -4,7 +4,7 @@ ghost use Rattle.std.specs.Prelude.{◌≡◌, ◌||◌, ◌-◌, ℕ, List, ◌
 ghost use Rattle.dap_frame.specs.Settings.{Settings};
 ghost use Rattle.dap_frame.specs.Intake.{IsReady, IsUnderWay};
 ghost use Rattle.dap_stream.specs.Listing.{IsLineOf, Shows, ShowsAll};
-ghost use Rattle.dap_stream.specs.PrivateShowSteps.{IsStopped, ListedBefore, ListedTo};
+ghost use Rattle.dap_stream.specs.PrivateShowSteps.{Extends, IsStopped, ListedBefore, ListedTo};
 
 use crate::lines::{Form, Style, make_line_in};
 use dap_frame::{End, FrameFault, Frames, Limits};
@@ -95,6 +95,7 @@ fn list_body(
     out: &mut Vec<u8>,
 ) -> Result<bool, ShowFault>
     requires { IsReady frames.old }
+    ensures grows { Extends out.old.items out.new.items }
     ensures under_way { OnOk result (IsUnderWay frames.new) }
     ensures ok { IfOk result (λ refused. (limits : Settings) (bytes old : List ℕ) (at : ℕ) (before : Bool) → length bytes < 2 ^ 64 → ListedBefore style limits frames.old bytes at old out.old.items before
         → ListedTo style limits frames.new bytes at old out.new.items (before || refused)) }
@@ -117,6 +118,47 @@ fn either(one: bool, other: bool) -> bool
     one || other
 }
 
+/// Appends the lines of what follows the first `start` bytes of a stream, which were listed. It answers whether a body was
+/// refused, with those before.
+pub(crate) fn list_rest(
+    alloc: Global,
+    frames: &mut Frames,
+    scratch: &mut Scratch,
+    line: &mut Vec<u8>,
+    style: Style,
+    before: bool,
+    bytes: &[u8],
+    start: usize,
+    out: &mut Vec<u8>,
+) -> Result<bool, ShowFault>
+    requires under_way { IsUnderWay frames.old }
+    requires within { start ≤ length bytes.now }
+    ensures grows { Extends out.old.items out.new.items }
+    ensures under_way { OnOk result (IsUnderWay frames.new) }
+    ensures ok { IfOk result (λ refused. (limits : Settings) (old : List ℕ) → ListedTo style limits frames.old bytes.now start old out.old.items before
+        → ListedTo style limits frames.new bytes.now (length bytes.now) old out.new.items refused) }
+    ensures err { IfErr result (λ fault. (limits : Settings) (old : List ℕ) → ListedTo style limits frames.old bytes.now start old out.old.items before
+        → Shows style limits bytes.now old out.new.items (Err fault)) }
+{
+    let mut at = start;
+    let mut refused = before;
+    while at < bytes.len() {
+        let (_, rest) = bytes.split_at(at);
+        let fed = match frames.feed(rest) {
+            Ok(fed) => fed,
+            Err(fault) => return Err(ShowFault::Frame(fault)),
+        };
+        at += fed.used;
+        if fed.ready {
+            match list_body(alloc, frames, scratch, line, style, at, out) {
+                Ok(this) => refused = either(refused, this),
+                Err(fault) => return Err(fault),
+            }
+        }
+    }
+    Ok(refused)
+}
+
 /// Appends the line of each message of a stream in a style, up to the first refusal, or to the first refused frame where it
 /// keeps going. Offsets count bytes from the stream's start.
 ///
@@ -136,26 +178,23 @@ pub fn list(
     };
     let mut scratch = Scratch::new(alloc);
     let mut line = Vec::new(alloc);
-    let mut at = 0;
-    let mut refused = false;
-    while at < bytes.len() {
-        let (_, rest) = bytes.split_at(at);
-        let fed = match frames.feed(rest) {
-            Ok(fed) => fed,
-            Err(fault) => return Err(ShowFault::Frame(fault)),
-        };
-        at += fed.used;
-        if fed.ready {
-            match list_body(alloc, &mut frames, &mut scratch, &mut line, style, at, out) {
-                Ok(this) => refused = either(refused, this),
-                Err(fault) => return Err(fault),
-            }
-        }
+    match list_rest(
+        alloc,
+        &mut frames,
+        &mut scratch,
+        &mut line,
+        style,
+        false,
+        bytes,
+        0,
+        out,
+    ) {
+        Ok(refused) => Ok(Shown {
+            end: frames.finish(),
+            refused,
+        }),
+        Err(fault) => Err(fault),
     }
-    Ok(Shown {
-        end: frames.finish(),
-        refused,
-    })
 }
 
 /// The end of a listing in a form, which stops at the first refusal.

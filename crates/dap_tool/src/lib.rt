@@ -15,7 +15,10 @@ mod verdict;
 pub use dap_check::{AnySeq, CheckFault, Checked, Rule, check};
 pub use dap_client::SendFault;
 pub use dap_drive::{DriveFault, drive};
-pub use dap_stream::{Form, ShowFault, Shown, Style, WrapFault, list, show, unwrap, wrap};
+pub use dap_stream::{
+    FollowFault, Followed, Form, ShowFault, Shown, Style, WrapFault, follow, list, show, unwrap,
+    wrap,
+};
 pub use dap_world::laws;
 pub use explaining::explanation;
 pub use fault::{ToolFault, fault_line, status};
