@@ -1,15 +1,13 @@
 -- What a Rust value's parts are written as is sound: keys in byte order, texts in UTF-8, numbers of 64 bits.
-use Rattle.std.proofs.Common.{ℕ, ◌<◌, ◌^◌, List, [], ◌∷◌, codes, Option, Some, None, IsUtf8, refl, lit<}
+use Rattle.std.proofs.Common.{ℕ, ◌<◌, ◌^◌, List, [], ◌∷◌, codes, Option, Some, None, IsUtf8, refl}
 use Rattle.std.specs.List.{AllByRecursion}
 use Rattle.json.proofs.Printed.Utf8.{IsUtf8-are_ascii}
 use Rattle.serde_json.specs.Data.{Data}
 use Rattle.serde_json.specs.Find.{of_integer}
 use Rattle.dap_json.specs.Sound.{IsSound, IsSoundNumber}
 use Rattle.dap_body.specs.ResponseBody.{breakpoint, thread, source, stack_frame, scope, variable, list_of, only_member, stack_trace_body, evaluate_body, source_body, run_in_terminal_body}
-use Rattle.dap_body.specs.Failure.{failure_body, row_of}
+use Rattle.dap_body.specs.Failure.{error_body}
 use Rattle.dap_body.specs.PrivateText.{HasSoundPath, IsSoundOptional}
-use Rattle.dap_body.specs.declared.failure.Failure.{Failure}
-use Rattle.dap_body.specs.declared.failure.Failure.TheVariants.{NotInitialized, AlreadyInitialized, UnknownCommand, Unsupported, BadArguments, WrongPhase, NotStopped, UnknownThread, StaleReference, UnknownSource, Debuggee, TooManyBreakpoints, TooManyReferences, ReferencesExhausted, TooLarge, Busy, Cancelled, TerminalRefused}
 use Rattle.dap_body.specs.declared.response.Breakpoint.{Breakpoint}
 use Rattle.dap_body.specs.declared.response.Scope.{Scope}
 use Rattle.dap_body.specs.declared.response.Source.{Source}
@@ -71,27 +69,5 @@ processes-sound (Some m) (Some n) p s = (IsUtf8-are_ascii (codes "processId") re
 
 -- ---- failures
 
--- its number
-fits : (failure : Failure) → (row_of failure).id < 2 ^ 64
-fits NotInitialized = lit< tt
-fits AlreadyInitialized = lit< tt
-fits UnknownCommand = lit< tt
-fits Unsupported = lit< tt
-fits (BadArguments key) = lit< tt
-fits WrongPhase = lit< tt
-fits NotStopped = lit< tt
-fits UnknownThread = lit< tt
-fits StaleReference = lit< tt
-fits UnknownSource = lit< tt
-fits Debuggee = lit< tt
-fits TooManyBreakpoints = lit< tt
-fits TooManyReferences = lit< tt
-fits ReferencesExhausted = lit< tt
-fits TooLarge = lit< tt
-fits Busy = lit< tt
-fits Cancelled = lit< tt
-fits TerminalRefused = lit< tt
-
-pub failure-sound : (failure : Failure) → IsUtf8 (row_of failure).format → IsSound (failure_body failure)
-failure-sound failure format =
-    (IsUtf8-are_ascii (codes "error") refl, tt, (IsUtf8-are_ascii (codes "format") refl, (refl, tt), format, (IsUtf8-are_ascii (codes "id") refl, tt, fits failure, tt)), tt)
+pub error-sound : (id : ℕ) (format : List ℕ) → id < 2 ^ 64 → IsUtf8 format → IsSound (error_body id format)
+error-sound id format fits u = (IsUtf8-are_ascii (codes "error") refl, tt, (IsUtf8-are_ascii (codes "format") refl, (refl, tt), u, (IsUtf8-are_ascii (codes "id") refl, tt, fits, tt)), tt)

@@ -8,7 +8,8 @@ use Rattle.serde_json.specs.Data.{Data, Members}
 use Rattle.serde_json.specs.View.{items_of}
 use Rattle.serde_json.specs.Written.{items_outline, members_outline}
 use Rattle.dap_body.specs.ResponseBody.{with_path, with_optional_number}
-use Rattle.dap_body.specs.PrivateText.{Adds, optional_number_tokens, path_tokens, tokens_of}
+use Rattle.dap_body.specs.Adds.{Adds}
+use Rattle.dap_body.specs.PrivateText.{optional_number_tokens, path_tokens, tokens_of}
 
 pub one : {E : Type 0} {r : Result (Unit {0}) E} {old new : Written} {t : Token} → Writes r old new t → new.tokens ≡ old.tokens ++ t ∷ [] → Adds old new (t ∷ [])
 one w tokens = record { before = w.room.0; tokens = tokens }

@@ -47,10 +47,13 @@ failures_in_order key =
     ∷ Debuggee ∷ TooManyBreakpoints ∷ TooManyReferences ∷ ReferencesExhausted ∷ TooLarge ∷ []
 
 -- the body of an ErrorResponse
-abbrev pub failure_body : Failure → Data
-failure_body failure = object (
+abbrev pub error_body : ℕ → List ℕ → Data
+error_body id format = object (
     member (codes "error") (object (
-    member (codes "format") (string (row_of failure).format) (
-    member (codes "id") (whole_number (row_of failure).id)
+    member (codes "format") (string format) (
+    member (codes "id") (whole_number id)
     no_members)))
     no_members)
+
+abbrev pub failure_body : Failure → Data
+failure_body failure = error_body (row_of failure).id (row_of failure).format

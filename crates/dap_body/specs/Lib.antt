@@ -1,3 +1,4 @@
+pub mod Adds
 pub mod Failure
 pub mod ResponseBody
 pub mod EventBody

@@ -1,8 +1,7 @@
 -- What a writer is given for a body.
-use Rattle.std.specs.Prelude.{◌≡◌, ◌<◌, ◌^◌, ℕ, decimal, Bool, true, false, List, [], ◌∷◌, ◌++◌, codes, Option, Some, None, IsUtf8, ⊤}
+use Rattle.std.specs.Prelude.{◌<◌, ◌^◌, ℕ, decimal, Bool, true, false, List, [], ◌∷◌, codes, Option, Some, None, IsUtf8, ⊤}
 use Rattle.json.specs.Token.{Token, key, number, string}
 use Rattle.json.specs.Tree.{json_tokens}
-use Rattle.json.specs.Written.{Written}
 use Rattle.serde_json.specs.Data.{Data, string as text_data}
 use Rattle.serde_json.specs.Written.{outline}
 use Rattle.dap_body.specs.ResponseBody.{only_member}
@@ -25,11 +24,6 @@ optional_number_tokens k (Some n) = key k ∷ number (decimal n) ∷ []
 abbrev pub IsSoundOptional : Option ℕ → Type 0
 IsSoundOptional None = ⊤
 IsSoundOptional (Some n) = n < 2 ^ 64
-
--- these tokens more
-pub record Adds (old new : Written) (ts : List Token) : Type 0 where
-  pub before : new.before ≡ old.before
-  pub tokens : new.tokens ≡ old.tokens ++ ts
 
 abbrev pub HasSoundPath : Option (List ℕ) → Type 0
 HasSoundPath None = ⊤

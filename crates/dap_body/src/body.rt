@@ -1,6 +1,6 @@
 //! The bodies of responses as their parts, and their texts, written with no tree: Specification, the types
 //! whose names end in "Response", and "Types".
-ghost use Rattle.std.specs.Prelude.{◌≡◌, ◌<◌, ◌^◌, [], ◌∷◌, ◌++◌, decimal, IfOk, OnOk, IsUtf8, IsTrue};
+ghost use Rattle.std.specs.Prelude.{◌≡◌, ◌<◌, ◌^◌, [], ◌∷◌, ◌++◌, decimal, IfOk, OnOk, OnErr, IsUtf8, IsTrue};
 ghost use Rattle.std.specs.Fmt.{signed_decimal};
 ghost use Rattle.json.specs.Token.{key as key_token, number as number_token, string as string_token, boolean as boolean_token};
 ghost use Rattle.serde_json.specs.Data.{boolean};
@@ -11,7 +11,8 @@ ghost use Rattle.dap_json.specs.Sound.{IsSound, IsSoundNumber};
 ghost use Rattle.dap_body.specs.Body.{data_of};
 ghost use Rattle.dap_call.specs.Capabilities.{capabilities_data};
 ghost use Rattle.dap_body.specs.ResponseBody.{list_of, only_member, stack_trace_body, evaluate_body, run_in_terminal_body};
-ghost use Rattle.dap_body.specs.PrivateText.{Adds, HasSoundPath, IsSoundOptional, is_of_parts, optional_number_tokens, path_tokens, text_member, tokens_of};
+ghost use Rattle.dap_body.specs.Adds.{Adds};
+ghost use Rattle.dap_body.specs.PrivateText.{HasSoundPath, IsSoundOptional, is_of_parts, optional_number_tokens, path_tokens, text_member, tokens_of};
 
 use crate::response::{Breakpoint, Scope, Source, StackFrame, Thread, Variable};
 use dap_call::Capabilities;
@@ -20,6 +21,7 @@ use dap_json::{ParseFault, Text, parse};
 use json::Writer;
 use serde_json::Value;
 use std::alloc::{AllocError, Global};
+use std::mem;
 
 /// The body of a response that succeeded. Its text has the keys in byte order.
 #[derive(Debug, Drop)]
@@ -75,12 +77,14 @@ pub enum Body {
 trait Part: Drop {
     ghost use Rattle.serde_json.specs.Data.{Data};
     ghost use Rattle.dap_json.specs.Sound.{IsSound};
-    ghost use Rattle.dap_body.specs.PrivateText.{tokens_of, Adds};
+    ghost use Rattle.dap_body.specs.Adds.{Adds};
+    ghost use Rattle.dap_body.specs.PrivateText.{tokens_of};
 
     ghost written: { Self → Data };
 
     fn write(&self, out: &mut Writer) -> Result<(), AllocError>
         ensures adds { OnOk result (Adds out.old out.new (tokens_of (written self.now))) }
+        ensures before { out.new.before ≡ out.old.before }
         ensures sound { OnOk result (IsSound (written self.now)) };
 }
 
@@ -174,6 +178,7 @@ impl Part for Variable {
 
 fn number(out: &mut Writer, key: &str, n: u64) -> Result<(), AllocError>
     ensures adds { OnOk result (Adds out.old out.new (key_token key.now ∷ number_token (decimal n) ∷ [])) }
+    ensures before { out.new.before ≡ out.old.before }
     ensures range { n < 2 ^ 64 }
 {
     out.key(key)?;
@@ -182,6 +187,7 @@ fn number(out: &mut Writer, key: &str, n: u64) -> Result<(), AllocError>
 
 fn signed(out: &mut Writer, key: &str, n: i64) -> Result<(), AllocError>
     ensures adds { OnOk result (Adds out.old out.new (key_token key.now ∷ number_token (signed_decimal n) ∷ [])) }
+    ensures before { out.new.before ≡ out.old.before }
     ensures range { IsSoundNumber (of_integer n) }
 {
     out.key(key)?;
@@ -190,6 +196,7 @@ fn signed(out: &mut Writer, key: &str, n: i64) -> Result<(), AllocError>
 
 fn short(out: &mut Writer, key: &str, n: u32) -> Result<(), AllocError>
     ensures adds { OnOk result (Adds out.old out.new (key_token key.now ∷ number_token (decimal n) ∷ [])) }
+    ensures before { out.new.before ≡ out.old.before }
     ensures range { n < 2 ^ 64 }
 {
     number(out, key, n.into())
@@ -197,6 +204,7 @@ fn short(out: &mut Writer, key: &str, n: u32) -> Result<(), AllocError>
 
 fn text(out: &mut Writer, key: &str, text: &Text) -> Result<(), AllocError>
     ensures adds { OnOk result (Adds out.old out.new (key_token key.now ∷ string_token text.now ∷ [])) }
+    ensures before { out.new.before ≡ out.old.before }
     ensures utf8 { IsUtf8 text.now }
 {
     let text = text.as_str();
@@ -205,7 +213,8 @@ fn text(out: &mut Writer, key: &str, text: &Text) -> Result<(), AllocError>
 }
 
 fn flag(out: &mut Writer, key: &str, flag: bool) -> Result<(), AllocError>
-    ensures { OnOk result (Adds out.old out.new (key_token key.now ∷ boolean_token flag ∷ [])) }
+    ensures adds { OnOk result (Adds out.old out.new (key_token key.now ∷ boolean_token flag ∷ [])) }
+    ensures before { out.new.before ≡ out.old.before }
 {
     out.key(key)?;
     out.boolean(flag)
@@ -214,6 +223,7 @@ fn flag(out: &mut Writer, key: &str, flag: bool) -> Result<(), AllocError>
 /// The member of a path, where there is one.
 fn write_path(out: &mut Writer, path: &Option<Text>) -> Result<(), AllocError>
     ensures adds { OnOk result (Adds out.old out.new (path_tokens path.now)) }
+    ensures before { out.new.before ≡ out.old.before }
     ensures sound { HasSoundPath path.now }
 {
     match path {
@@ -224,6 +234,7 @@ fn write_path(out: &mut Writer, path: &Option<Text>) -> Result<(), AllocError>
 
 fn write_list<T: Part>(out: &mut Writer, elements: &[T]) -> Result<(), AllocError>
     ensures adds { OnOk result (Adds out.old out.new (tokens_of (list_of T.written elements.now))) }
+    ensures before { out.new.before ≡ out.old.before }
     ensures sound { OnOk result (IsSound (list_of T.written elements.now)) }
 {
     out.begin_array()?;
@@ -236,6 +247,7 @@ fn write_list<T: Part>(out: &mut Writer, elements: &[T]) -> Result<(), AllocErro
 /// An object of one list.
 fn write_only<T: Part>(out: &mut Writer, key: &str, elements: &[T]) -> Result<(), AllocError>
     ensures adds { OnOk result (Adds out.old out.new (tokens_of (only_member key.now (list_of T.written elements.now)))) }
+    ensures before { out.new.before ≡ out.old.before }
     ensures sound { OnOk result (IsSound (only_member key.now (list_of T.written elements.now))) }
 {
     out.begin_object()?;
@@ -246,6 +258,7 @@ fn write_only<T: Part>(out: &mut Writer, key: &str, elements: &[T]) -> Result<()
 
 fn write_frames(out: &mut Writer, frames: &[StackFrame], total: u64) -> Result<(), AllocError>
     ensures adds { OnOk result (Adds out.old out.new (tokens_of (stack_trace_body frames.now total))) }
+    ensures before { out.new.before ≡ out.old.before }
     ensures sound { OnOk result (IsSound (stack_trace_body frames.now total)) }
 {
     out.begin_object()?;
@@ -257,6 +270,7 @@ fn write_frames(out: &mut Writer, frames: &[StackFrame], total: u64) -> Result<(
 
 fn write_value(out: &mut Writer, value: &Text, reference: u32) -> Result<(), AllocError>
     ensures adds { OnOk result (Adds out.old out.new (tokens_of (evaluate_body value.now reference))) }
+    ensures before { out.new.before ≡ out.old.before }
     ensures sound { OnOk result (IsSound (evaluate_body value.now reference)) }
 {
     out.begin_object()?;
@@ -269,6 +283,7 @@ fn write_value(out: &mut Writer, value: &Text, reference: u32) -> Result<(), All
 fn write_text(out: &mut Writer, key: &str, value: &Text) -> Result<(), AllocError>
     requires { IsUtf8 key.now }
     ensures adds { OnOk result (Adds out.old out.new (tokens_of (text_member key.now value.now))) }
+    ensures before { out.new.before ≡ out.old.before }
     ensures sound { OnOk result (IsSound (text_member key.now value.now)) }
 {
     out.begin_object()?;
@@ -280,6 +295,7 @@ fn write_text(out: &mut Writer, key: &str, value: &Text) -> Result<(), AllocErro
 fn write_flag(out: &mut Writer, key: &str, on: bool) -> Result<(), AllocError>
     requires { IsUtf8 key.now }
     ensures adds { OnOk result (Adds out.old out.new (tokens_of (only_member key.now (boolean on)))) }
+    ensures before { out.new.before ≡ out.old.before }
     ensures sound { OnOk result (IsSound (only_member key.now (boolean on))) }
 {
     out.begin_object()?;
@@ -290,6 +306,7 @@ fn write_flag(out: &mut Writer, key: &str, on: bool) -> Result<(), AllocError>
 /// The member of a number, where there is one.
 fn number_if_any(out: &mut Writer, key: &str, n: Option<u32>) -> Result<(), AllocError>
     ensures adds { OnOk result (Adds out.old out.new (optional_number_tokens key.now n)) }
+    ensures before { out.new.before ≡ out.old.before }
     ensures range { IsSoundOptional n }
 {
     match n {
@@ -304,6 +321,7 @@ fn write_processes(
     shell_process_id: Option<u32>,
 ) -> Result<(), AllocError>
     ensures adds { OnOk result (Adds out.old out.new (tokens_of (run_in_terminal_body process_id shell_process_id))) }
+    ensures before { out.new.before ≡ out.old.before }
     ensures sound { OnOk result (IsSound (run_in_terminal_body process_id shell_process_id)) }
 {
     out.begin_object()?;
@@ -312,10 +330,11 @@ fn write_processes(
     out.end_object()
 }
 
-/// What is offered is written by way of its tree, in `offers_text`.
+/// What is offered is written by way of its tree, in `append_offers`.
 fn write(out: &mut Writer, body: &Body) -> Result<(), AllocError>
     requires { IsTrue (is_of_parts body.now) }
     ensures adds { OnOk result (Adds out.old out.new (tokens_of (data_of body.now))) }
+    ensures before { out.new.before ≡ out.old.before }
     ensures sound { OnOk result (IsSound (data_of body.now)) }
 {
     match body {
@@ -345,34 +364,50 @@ fn write(out: &mut Writer, body: &Body) -> Result<(), AllocError>
     }
 }
 
-/// Appends the text of what is offered.
-fn offers_text(
+/// Appends the text of what is offered, or changes nothing.
+fn append_offers(
     alloc: Global,
-    out: Vec<u8>,
+    out: &mut Vec<u8>,
     capabilities: &Capabilities,
-) -> Result<Vec<u8>, AllocError>
-    ensures text { IfOk result (λ text. text.items ≡ out.items ++ compact_text (capabilities_data capabilities.now)) }
+) -> Result<(), AllocError>
+    ensures ok { OnOk result (out.new.items ≡ out.old.items ++ compact_text (capabilities_data capabilities.now)) }
     ensures sound { OnOk result (IsSound (capabilities_data capabilities.now)) }
+    ensures err { OnErr result (out.new.items ≡ out.old.items) }
 {
     // A law for the proof: what is written is read again, and what is read is sound.
     what_is_read_is_sound();
     let tree = capabilities.write(alloc)?;
-    let mut out = out;
     out.extend_from_slice(&dap_json::write(alloc, &tree)?)?;
-    Ok(out)
+    Ok(())
 }
 
-/// Appends the text of a body.
-pub fn body_text(alloc: Global, out: Vec<u8>, body: &Body) -> Result<Vec<u8>, AllocError>
-    ensures text { IfOk result (λ text. text.items ≡ out.items ++ compact_text (data_of body.now)) }
+/// Appends the text of a body that is given by its parts, or changes nothing.
+fn append_parts(alloc: Global, out: &mut Vec<u8>, body: &Body) -> Result<(), AllocError>
+    requires { IsTrue (is_of_parts body.now) }
+    ensures ok { OnOk result (out.new.items ≡ out.old.items ++ compact_text (data_of body.now)) }
     ensures sound { OnOk result (IsSound (data_of body.now)) }
+    ensures err { OnErr result (out.new.items ≡ out.old.items) }
 {
-    if let Body::Initialize { capabilities } = body {
-        return offers_text(alloc, out, capabilities);
+    let end = out.len();
+    let mut writer = Writer::new(mem::replace(out, Vec::new(alloc)));
+    let result = write(&mut writer, body);
+    *out = writer.into_inner();
+    if result.is_err() {
+        out.truncate(end);
     }
-    let mut out = Writer::new(out);
-    write(&mut out, body)?;
-    Ok(out.into_inner())
+    result
+}
+
+/// Appends the text of a body, or changes nothing.
+pub fn append_body(alloc: Global, out: &mut Vec<u8>, body: &Body) -> Result<(), AllocError>
+    ensures ok { OnOk result (out.new.items ≡ out.old.items ++ compact_text (data_of body.now)) }
+    ensures sound { OnOk result (IsSound (data_of body.now)) }
+    ensures err { OnErr result (out.new.items ≡ out.old.items) }
+{
+    match body {
+        Body::Initialize { capabilities } => append_offers(alloc, out, capabilities),
+        _ => append_parts(alloc, out, body),
+    }
 }
 
 impl Body {
@@ -382,7 +417,8 @@ impl Body {
     {
         // A law for the proof: what is written is read again.
         text_is_read_again();
-        let text = body_text(alloc, Vec::new(alloc), self)?;
+        let mut text = Vec::new(alloc);
+        append_body(alloc, &mut text, self)?;
         match parse(alloc, &text) {
             Ok(value) => Ok(value),
             Err(ParseFault::OutOfMemory) => Err(AllocError),

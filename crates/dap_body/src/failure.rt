@@ -2,16 +2,18 @@
 //!
 //! The short names, the numbers, the texts and their one order are this profile's choice, but for the short names
 //! `cancelled` and `notStopped`, which are the standard's own ("Response").
-ghost use Rattle.std.specs.Prelude.{◌≡◌, ◌++◌, IfOk, OnOk, string_bytes};
+ghost use Rattle.std.specs.Prelude.{◌≡◌, ◌++◌, IfOk, IfErr, OnOk, OnErr, string_bytes};
 ghost use Rattle.serde_json.specs.View.{view};
 ghost use Rattle.serde_json.specs.Written.{compact_text};
 ghost use Rattle.dap_json.specs.Sound.{IsSound};
-ghost use Rattle.dap_body.specs.Failure.{bad_argument_format, failure_body, row_of};
+ghost use Rattle.dap_body.specs.Failure.{bad_argument_format, error_body, failure_body, row_of};
+ghost use Rattle.dap_body.specs.PrivateText.{tokens_of};
 
 use dap_call::Key;
 use json::Writer;
 use serde_json::{Map, Value, put};
 use std::alloc::{AllocError, Global};
+use std::mem;
 
 /// Why a request failed, in the order in which an adapter tests: the first that holds is answered. The last three come
 /// outside this order.
@@ -47,7 +49,7 @@ fn bad_argument(alloc: Global, key: Key) -> Result<String, AllocError>
 }
 
 impl Failure {
-    ghost use Rattle.dap_body.specs.Failure.{row_of};
+    ghost use Rattle.dap_body.specs.Failure.{bad_argument_format, row_of};
 
     /// The short name, which stands in the response's `message`.
     pub fn name(self) -> &'static str
@@ -101,41 +103,39 @@ impl Failure {
         }
     }
 
+    /// The text, or the key that it is about.
+    fn fixed_format(self) -> Result<&'static str, Key>
+        ensures fixed { IfOk result (λ s. s.now ≡ (row_of self).format) }
+        ensures of_key { IfErr result (λ key. (row_of self).format ≡ bad_argument_format key) }
+    {
+        match self {
+            Failure::BadArguments { key } => Err(key),
+            Failure::NotInitialized => Ok("The session is not initialized."),
+            Failure::AlreadyInitialized => Ok("The session is already initialized."),
+            Failure::UnknownCommand => Ok("The command is not known."),
+            Failure::Unsupported => Ok("The command is not supported."),
+            Failure::WrongPhase => Ok("The request does not fit the state of the session."),
+            Failure::NotStopped => Ok("The debuggee is not stopped."),
+            Failure::UnknownThread => Ok("The thread does not exist."),
+            Failure::StaleReference => Ok("The reference is not valid in this stop."),
+            Failure::UnknownSource => Ok("The source does not exist."),
+            Failure::Debuggee => Ok("The debuggee refused."),
+            Failure::TooManyBreakpoints => Ok("Too many breakpoints are set."),
+            Failure::TooManyReferences => Ok("Too many references are in use."),
+            Failure::ReferencesExhausted => Ok("No reference numbers are left."),
+            Failure::TooLarge => Ok("The response would be too large."),
+            Failure::Busy => Ok("Too many requests are waiting."),
+            Failure::Cancelled => Ok("The request was cancelled."),
+            Failure::TerminalRefused => Ok("The terminal refused."),
+        }
+    }
+
     fn format(self, alloc: Global) -> Result<String, AllocError>
         ensures { IfOk result (λ s. string_bytes s ≡ (row_of self).format) }
     {
-        match self {
-            Failure::NotInitialized => String::from_str(alloc, "The session is not initialized."),
-            Failure::AlreadyInitialized => {
-                String::from_str(alloc, "The session is already initialized.")
-            }
-            Failure::UnknownCommand => String::from_str(alloc, "The command is not known."),
-            Failure::Unsupported => String::from_str(alloc, "The command is not supported."),
-            Failure::BadArguments { key } => bad_argument(alloc, key),
-            Failure::WrongPhase => String::from_str(
-                alloc,
-                "The request does not fit the state of the session.",
-            ),
-            Failure::NotStopped => String::from_str(alloc, "The debuggee is not stopped."),
-            Failure::UnknownThread => String::from_str(alloc, "The thread does not exist."),
-            Failure::StaleReference => {
-                String::from_str(alloc, "The reference is not valid in this stop.")
-            }
-            Failure::UnknownSource => String::from_str(alloc, "The source does not exist."),
-            Failure::Debuggee => String::from_str(alloc, "The debuggee refused."),
-            Failure::TooManyBreakpoints => {
-                String::from_str(alloc, "Too many breakpoints are set.")
-            }
-            Failure::TooManyReferences => {
-                String::from_str(alloc, "Too many references are in use.")
-            }
-            Failure::ReferencesExhausted => {
-                String::from_str(alloc, "No reference numbers are left.")
-            }
-            Failure::TooLarge => String::from_str(alloc, "The response would be too large."),
-            Failure::Busy => String::from_str(alloc, "Too many requests are waiting."),
-            Failure::Cancelled => String::from_str(alloc, "The request was cancelled."),
-            Failure::TerminalRefused => String::from_str(alloc, "The terminal refused."),
+        match self.fixed_format() {
+            Ok(format) => String::from_str(alloc, format),
+            Err(key) => bad_argument(alloc, key),
         }
     }
 }
@@ -157,21 +157,51 @@ pub fn body_failure(alloc: Global, failure: Failure) -> Result<Value, AllocError
     Ok(Value::Object(members))
 }
 
-/// Appends the text of that body, with no tree.
-pub fn failure_text(alloc: Global, out: Vec<u8>, failure: Failure) -> Result<Vec<u8>, AllocError>
-    ensures text { IfOk result (λ text. text.items ≡ out.items ++ compact_text (failure_body failure)) }
-    ensures sound { OnOk result (IsSound (failure_body failure)) }
+/// Writes that body, of a number and a text.
+fn write_error(out: &mut Writer, id: u32, format: &str) -> Result<(), AllocError>
+    ensures tokens { OnOk result (out.new.tokens ≡ out.old.tokens ++ tokens_of (error_body id format.now)) }
+    ensures sound { OnOk result (IsSound (error_body id format.now)) }
+    ensures before { out.new.before ≡ out.old.before }
 {
-    let format = failure.format(alloc)?;
-    let mut out = Writer::new(out);
     out.begin_object()?;
     out.key("error")?;
     out.begin_object()?;
     out.key("format")?;
-    out.string(format.as_str())?;
+    out.string(format)?;
     out.key("id")?;
-    out.u64(failure.id().into())?;
+    out.u64(id.into())?;
     out.end_object()?;
-    out.end_object()?;
-    Ok(out.into_inner())
+    out.end_object()
+}
+
+fn write(alloc: Global, out: &mut Writer, failure: Failure) -> Result<(), AllocError>
+    ensures tokens { OnOk result (out.new.tokens ≡ out.old.tokens ++ tokens_of (failure_body failure)) }
+    ensures sound { OnOk result (IsSound (failure_body failure)) }
+    ensures before { out.new.before ≡ out.old.before }
+{
+    let id = failure.id();
+    match failure.fixed_format() {
+        Ok(format) => write_error(out, id, format),
+        Err(key) => write_error(out, id, bad_argument(alloc, key)?.as_str()),
+    }
+}
+
+/// Appends the text of that body, with no tree, or changes nothing.
+pub fn append_failure_body(
+    alloc: Global,
+    out: &mut Vec<u8>,
+    failure: Failure,
+) -> Result<(), AllocError>
+    ensures ok { OnOk result (out.new.items ≡ out.old.items ++ compact_text (failure_body failure)) }
+    ensures sound { OnOk result (IsSound (failure_body failure)) }
+    ensures err { OnErr result (out.new.items ≡ out.old.items) }
+{
+    let end = out.len();
+    let mut writer = Writer::new(mem::replace(out, Vec::new(alloc)));
+    let result = write(alloc, &mut writer, failure);
+    *out = writer.into_inner();
+    if result.is_err() {
+        out.truncate(end);
+    }
+    result
 }

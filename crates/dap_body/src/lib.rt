@@ -10,9 +10,9 @@ mod failure;
 pub mod laws;
 mod response;
 
-pub use body::{Body, body_text};
+pub use body::{Body, append_body};
 pub use event::{body_continued, body_exited, body_output, body_stopped};
-pub use failure::{Failure, body_failure, failure_text};
+pub use failure::{Failure, append_failure_body, body_failure};
 pub use response::{
     Breakpoint, Scope, Source, StackFrame, Thread, Variable, body_continue, body_evaluate,
     body_loaded_sources, body_scopes, body_set_breakpoints, body_set_variable, body_source,

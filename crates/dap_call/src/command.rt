@@ -56,40 +56,6 @@ pub enum Gate {
     Terminate,
 }
 
-/// All commands.
-static COMMANDS: [Command; 30] = [
-    Command::Initialize,
-    Command::Launch,
-    Command::Attach,
-    Command::ConfigurationDone,
-    Command::Disconnect,
-    Command::Threads,
-    Command::Terminate,
-    Command::Cancel,
-    Command::SetBreakpoints,
-    Command::SetFunctionBreakpoints,
-    Command::SetExceptionBreakpoints,
-    Command::Continue,
-    Command::Next,
-    Command::StepIn,
-    Command::StepOut,
-    Command::Pause,
-    Command::StepBack,
-    Command::ReverseContinue,
-    Command::StackTrace,
-    Command::Scopes,
-    Command::Variables,
-    Command::Evaluate,
-    Command::Source,
-    Command::LoadedSources,
-    Command::SetVariable,
-    Command::Restart,
-    Command::Modules,
-    Command::ExceptionInfo,
-    Command::BreakpointLocations,
-    Command::Completions,
-];
-
 impl Command {
     ghost use Rattle.dap_call.specs.Command.{name_of, gate_of, command_named};
 
@@ -97,10 +63,39 @@ impl Command {
     pub fn of_name(name: &str) -> Option<Command>
         ensures { result ≡ command_named name.now }
     {
-        COMMANDS
-            .iter()
-            .copied()
-            .find(|command| name == command.name())
+        match name {
+            "initialize" => Some(Command::Initialize),
+            "launch" => Some(Command::Launch),
+            "attach" => Some(Command::Attach),
+            "configurationDone" => Some(Command::ConfigurationDone),
+            "disconnect" => Some(Command::Disconnect),
+            "threads" => Some(Command::Threads),
+            "terminate" => Some(Command::Terminate),
+            "cancel" => Some(Command::Cancel),
+            "setBreakpoints" => Some(Command::SetBreakpoints),
+            "setFunctionBreakpoints" => Some(Command::SetFunctionBreakpoints),
+            "setExceptionBreakpoints" => Some(Command::SetExceptionBreakpoints),
+            "continue" => Some(Command::Continue),
+            "next" => Some(Command::Next),
+            "stepIn" => Some(Command::StepIn),
+            "stepOut" => Some(Command::StepOut),
+            "pause" => Some(Command::Pause),
+            "stepBack" => Some(Command::StepBack),
+            "reverseContinue" => Some(Command::ReverseContinue),
+            "stackTrace" => Some(Command::StackTrace),
+            "scopes" => Some(Command::Scopes),
+            "variables" => Some(Command::Variables),
+            "evaluate" => Some(Command::Evaluate),
+            "source" => Some(Command::Source),
+            "loadedSources" => Some(Command::LoadedSources),
+            "setVariable" => Some(Command::SetVariable),
+            "restart" => Some(Command::Restart),
+            "modules" => Some(Command::Modules),
+            "exceptionInfo" => Some(Command::ExceptionInfo),
+            "breakpointLocations" => Some(Command::BreakpointLocations),
+            "completions" => Some(Command::Completions),
+            _ => None,
+        }
     }
 
     /// Its name in the protocol.

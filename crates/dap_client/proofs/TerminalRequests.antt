@@ -133,21 +133,15 @@ oldest-asked (k ∷ kept) = refl
 named-short : length run_in_terminal ≤ max_command
 named-short = omega arith
 
-pub where-ok : {T E : Type 0} (r : Result T E) (P Q : T → Type 0) (R : Type 0) → ((x : T) → P x → Q x → R) → IfOk r P → IfOk r Q → OnOk r R
-where-ok (Ok x) P Q R f p q = f x p q
-where-ok (Err e) P Q R f p q = tt
+pub started-back : FixedResponsesAreShort → (number request_seq : ℕ) (process shell : Option ℕ) → (let m : Message = terminal_response number request_seq (Started process shell) in
+    IsTrue (is_plain_terminal (Started process shell)) → number ≤ max_seq → request_seq ≤ max_seq → (number ≤ max_seq → request_seq ≤ max_seq → length run_in_terminal ≤ max_command → Msg (canon m) m) → ReadsBack 1024 m)
+started-back are_short number request_seq process shell range n q back =
+    record { fits = are_short number request_seq run_in_terminal (Some (RunInTerminal process shell)) range n q named-short; reads = back n q named-short }
 
-pub started-back : FixedResponsesAreShort → (number request_seq : ℕ) (process shell : Option ℕ) (text : List ℕ) → (let m : Message = terminal_response number request_seq (Started process shell) in
-    IsTrue (is_plain_terminal (Started process shell)) → number ≤ max_seq → request_seq ≤ max_seq → text ≡ canon m → (number ≤ max_seq → request_seq ≤ max_seq → length run_in_terminal ≤ max_command → Msg text m) → ReadsBack 1024 m)
-started-back are_short number request_seq process shell text range n q is back =
-    let m : Message = terminal_response number request_seq (Started process shell) in
-    record { fits = are_short number request_seq run_in_terminal (Some (RunInTerminal process shell)) range n q named-short; reads = subst (λ (b : List ℕ). Msg b m) is (back n q named-short) }
-
-pub refused-back : FailuresAreShort → (number request_seq : ℕ) (text : List ℕ) → (let m : Message = terminal_response number request_seq Refused in
-    number ≤ max_seq → request_seq ≤ max_seq → text ≡ canon m → (number ≤ max_seq → request_seq ≤ max_seq → length run_in_terminal ≤ max_command → Msg text m) → ReadsBack 1024 m)
-refused-back are_short number request_seq text n q is back =
-    let m : Message = terminal_response number request_seq Refused in
-    record { fits = are_short number request_seq run_in_terminal TerminalRefused n q named-short; reads = subst (λ (b : List ℕ). Msg b m) is (back n q named-short) }
+pub refused-back : FailuresAreShort → (number request_seq : ℕ) → (let m : Message = terminal_response number request_seq Refused in
+    number ≤ max_seq → request_seq ≤ max_seq → (number ≤ max_seq → request_seq ≤ max_seq → length run_in_terminal ≤ max_command → Msg (canon m) m) → ReadsBack 1024 m)
+refused-back are_short number request_seq n q back =
+    record { fits = are_short number request_seq run_in_terminal TerminalRefused n q named-short; reads = back n q named-short }
 
 pub within-body : (most : ℕ) (m : Message) → 1024 ≤ most → ReadsBack 1024 m → ReadsBack most m
 within-body most m large back = let fits = back.fits in record { fits = omega arith; reads = back.reads }

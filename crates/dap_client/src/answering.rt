@@ -1,5 +1,5 @@
 //! What comes of the answer to a request of the adapter.
-ghost use Rattle.std.specs.Prelude.{◌≡◌, ◌+◌, ◌<◌, ◌≤◌, IfOk, IfErr, IfNone, OnOk, OnErr, IsTrue, length, None};
+ghost use Rattle.std.specs.Prelude.{◌≡◌, ◌+◌, ◌<◌, ◌≤◌, ◌++◌, IfOk, IfErr, IfNone, OnOk, OnErr, IsTrue, length, None};
 ghost use Rattle.dap_frame.specs.Written.{frame_of};
 ghost use Rattle.dap_json.specs.Field.{max_seq};
 ghost use Rattle.dap_message.specs.Canon.{canon};
@@ -11,22 +11,23 @@ ghost use Rattle.dap_client.specs.Keeping.{IsWhyNotAnswered};
 use crate::fault::AnswerFault;
 use crate::session::Session;
 use crate::terminal::Terminal;
-use dap_frame::write_frame;
+use dap_frame::frame_from;
 use dap_message::laws::fixed_messages_are_short;
-use dap_message::{Body, Failure, RUN_IN_TERMINAL, write_answer, write_failure};
+use dap_message::{Body, Failure, RUN_IN_TERMINAL, append_answer, append_failure};
 use std::alloc::{AllocError, Global};
 
-/// The text of the response.
-fn response_text(
+/// Appends the text of the response, or changes nothing.
+fn append_response(
     alloc: Global,
+    out: &mut Vec<u8>,
     number: u64,
     request_seq: u64,
     terminal: Terminal,
-) -> Result<Vec<u8>, AllocError>
+) -> Result<(), AllocError>
     requires plain { IsTrue (is_plain_terminal terminal) }
     requires number { number ≤ max_seq }
     requires request { request_seq ≤ max_seq }
-    ensures text { IfOk result (λ text. text.items ≡ canon (terminal_response number request_seq terminal)) }
+    ensures text { OnOk result (out.new.items ≡ out.old.items ++ canon (terminal_response number request_seq terminal)) }
     ensures reads_back { OnOk result (ReadsBack 1024 (terminal_response number request_seq terminal)) }
 {
     // A law for the proof: a failure, and a success of a fixed shape, are short.
@@ -40,10 +41,11 @@ fn response_text(
                 process_id,
                 shell_process_id,
             });
-            write_answer(alloc, number, request_seq, RUN_IN_TERMINAL, &body)
+            append_answer(alloc, out, number, request_seq, RUN_IN_TERMINAL, &body)
         }
-        Terminal::Refused => write_failure(
+        Terminal::Refused => append_failure(
             alloc,
+            out,
             number,
             request_seq,
             RUN_IN_TERMINAL,
@@ -102,9 +104,9 @@ impl Session {
             None => {}
         }
         let _most = self.limits.body();
-        let text = response_text(alloc, self.next_seq(), request_seq, terminal)?;
         let mut bytes = Vec::new(alloc);
-        write_frame(&mut bytes, &text)?;
+        append_response(alloc, &mut bytes, self.next_seq(), request_seq, terminal)?;
+        frame_from(&mut bytes, 0)?;
         self.settle_incoming(request_seq);
         Ok(bytes)
     }

@@ -20,14 +20,11 @@ use crate::laws::each_name_is_short;
 use crate::phase::Phase;
 use crate::session::Session;
 use crate::{changes, table};
-use dap_frame::write_frame;
+use dap_frame::frame_from;
 use dap_message::laws::written_call_is_plain;
-use dap_message::{Call, Text, Tree, write_call, write_request};
+use dap_message::{Call, Text, Tree, append_request, write_call};
 use dap_tables::{Entry, ReferenceKind};
 use std::alloc::{AllocError, Global};
-
-/// The bytes that a header block has at most.
-const HEADER_ROOM: usize = 32;
 
 /// The number of the request that made the phase Resuming, once a request of this number was sent.
 fn resumer_after(change: Option<Change>, seq: u64, before: u64) -> u64
@@ -165,12 +162,13 @@ impl Session {
         written_call_is_plain();
         each_name_is_short();
         let entry = request(alloc, self.next_seq(), call)?;
-        let text = write_request(alloc, entry.seq, entry.command.as_str(), &entry.arguments)?;
-        if let Some(fault) = self.late_refusal(text.len()) {
+        let mut bytes = Vec::new(alloc);
+        let command = entry.command.as_str();
+        append_request(alloc, &mut bytes, entry.seq, command, &entry.arguments)?;
+        if let Some(fault) = self.late_refusal(bytes.len()) {
             return Err(fault);
         }
-        let mut bytes = Vec::with_capacity(alloc, text.len().saturating_add(HEADER_ROOM))?;
-        write_frame(&mut bytes, &text)?;
+        frame_from(&mut bytes, 0)?;
         Ok((entry, bytes))
     }
 

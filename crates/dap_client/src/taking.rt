@@ -23,11 +23,11 @@ use crate::phase::Phase;
 use crate::response_references::references_given_in;
 use crate::session::Session;
 use crate::signal::Signal;
-use dap_frame::write_frame;
+use dap_frame::frame_from;
 use dap_message::laws::fixed_messages_are_short;
 use dap_message::{
     CallFault, Capabilities, Command, Failure, Kind, Message, RUN_IN_TERMINAL, Text, Tree,
-    read_terminal, write_failure,
+    append_failure, read_terminal,
 };
 use dap_tables::{Entry, KnownFault, ReferenceKind};
 use std::alloc::{AllocError, Global};
@@ -316,9 +316,9 @@ fn failure_bytes(
     ensures bytes { IfOk result (λ bytes. bytes.items ≡ frame_of (canon (failure_response number seq command.now failure))) }
     ensures reads_back { OnOk result (number ≤ max_seq → seq ≤ max_seq → length command.now ≤ max_command → Msg (canon (failure_response number seq command.now failure)) (failure_response number seq command.now failure)) }
 {
-    let text = write_failure(alloc, number, seq, command.as_str(), failure)?;
     let mut bytes = Vec::new(alloc);
-    write_frame(&mut bytes, &text)?;
+    append_failure(alloc, &mut bytes, number, seq, command.as_str(), failure)?;
+    frame_from(&mut bytes, 0)?;
     Ok(bytes)
 }
 

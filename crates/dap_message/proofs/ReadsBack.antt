@@ -12,11 +12,10 @@ use Rattle.dap_body.specs.declared.failure.Failure.{Failure}
 use Rattle.dap_body.specs.declared.failure.Failure.TheVariants.{NotInitialized, AlreadyInitialized, UnknownCommand, Unsupported, BadArguments, WrongPhase, NotStopped, UnknownThread, StaleReference, UnknownSource, Debuggee, TooManyBreakpoints, TooManyReferences, ReferencesExhausted, TooLarge, Busy, Cancelled, TerminalRefused}
 use Rattle.dap_message.specs.Canon.{canon}
 use Rattle.dap_message.specs.Laws.{WrittenIsReadAgain}
-use Rattle.dap_message.specs.MessageParts.{failure_response, success_response, event_message}
+use Rattle.dap_message.specs.MessageParts.{request_message, failure_response, success_response, event_message}
 use Rattle.dap_message.specs.Meaning.{Msg}
 use Rattle.dap_message.specs.Refusals.{max_command}
 use Rattle.dap_message.specs.SoundMessage.{IsSoundTree}
-use Rattle.dap_message.specs.declared.message.Kind.TheVariants.{Request}
 use Rattle.dap_body.proofs.PlainBodies.{failure_bodies_are_plain, body_is_plain}
 
 within : (n most : ℕ) → n ≤ most → nat_le n most ≡ true
@@ -54,9 +53,9 @@ module _ (again : WrittenIsReadAgain) where
   happened-back seq event body p u s q = again (event_message seq event body) (rw (within seq max_seq q) p) (record { texts = u; tree = s })
 
   pub asked-back : (seq : ℕ) (command : List ℕ) (arguments : Option Data) → IsTrue (is_plain_tree arguments) → IsUtf8 command → IsSoundTree arguments → seq ≤ max_seq → length command ≤ max_command
-      → Msg (canon (record { seq = seq; kind = Request command arguments })) (record { seq = seq; kind = Request command arguments })
+      → Msg (canon (request_message seq command arguments)) (request_message seq command arguments)
   asked-back seq command arguments p u s q l =
-      again (record { seq = seq; kind = Request command arguments }) (rw (within seq max_seq q, within (length command) max_command l) p) (record { texts = u; tree = s })
+      again (request_message seq command arguments) (rw (within seq max_seq q, within (length command) max_command l) p) (record { texts = u; tree = s })
 
   pub succeeded-back : (seq request_seq : ℕ) (command : List ℕ) (body : Option Data) → IsTrue (is_plain_tree body) → IsUtf8 command → IsSoundTree body
       → seq ≤ max_seq → request_seq ≤ max_seq → length command ≤ max_command → Msg (canon (success_response seq request_seq command body)) (success_response seq request_seq command body)

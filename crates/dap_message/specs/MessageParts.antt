@@ -9,9 +9,12 @@ use Rattle.dap_body.specs.declared.body.Body.{Body}
 use Rattle.dap_body.specs.declared.body.Body.TheVariants.{Initialize, Continue, RunInTerminal}
 use Rattle.dap_body.specs.declared.failure.Failure.{Failure}
 use Rattle.dap_message.specs.declared.message.Message.{Message}
-use Rattle.dap_message.specs.declared.message.Kind.TheVariants.{Response, Event}
+use Rattle.dap_message.specs.declared.message.Kind.TheVariants.{Request, Response, Event}
 
--- ---- the three kinds
+-- ---- the kinds
+
+abbrev pub request_message : ℕ → List ℕ → Option Data → Message
+request_message seq command arguments = record { seq = seq; kind = Request command arguments }
 
 abbrev pub failure_response : ℕ → ℕ → List ℕ → Failure → Message
 failure_response seq request_seq command failure = record { seq = seq; kind = Response request_seq false command (Some (row_of failure).name) (Some (failure_body failure)) }

@@ -1,28 +1,30 @@
-//! The texts of requests, responses and events, written with no tree of the message.
+//! The texts of requests, responses and events, appended with no tree of the message.
 //!
 //! Specification, "Request", "Response", "ErrorResponse", "Event". Each is the text that `write_message` gives of that message.
-ghost use Rattle.std.specs.Prelude.{◌≡◌, ◌≤◌, ◌++◌, length, IfOk, OnOk, IsTrue, None, Some, false, true};
-ghost use Rattle.json.specs.Print.{print};
-ghost use Rattle.serde_json.specs.Written.{compact_text, members_text};
+//! Where memory is refused, the buffer is as it was.
+ghost use Rattle.std.specs.Prelude.{◌≡◌, ◌≤◌, ◌++◌, length, take, IfOk, IsOk, OnOk, OnErr, IsTrue, None, Some, false, true};
+ghost use Rattle.json.specs.Tree.{members_tokens};
+ghost use Rattle.serde_json.specs.Written.{compact_text, members_outline, members_text};
 ghost use Rattle.dap_json.specs.Field.{max_seq};
 ghost use Rattle.dap_json.specs.Sound.{IsSound};
 ghost use Rattle.dap_json.specs.Writable.{is_plain_tree};
+ghost use Rattle.dap_body.specs.Adds.{Adds};
 ghost use Rattle.dap_body.specs.Body.{data_in};
 ghost use Rattle.dap_body.specs.Failure.{failure_body};
-ghost use Rattle.dap_message.specs.PrivateAnswering.{with_body, with_arguments, response_end};
+ghost use Rattle.dap_message.specs.PrivateAnswering.{with_body, with_arguments, end_members, response_end};
 ghost use Rattle.dap_message.specs.Canon.{canon, request_members, event_members, response_members};
-ghost use Rattle.dap_message.specs.MessageParts.{failure_response, success_response, event_message};
+ghost use Rattle.dap_message.specs.MessageParts.{request_message, failure_response, success_response, event_message};
 ghost use Rattle.dap_message.specs.Meaning.{Msg};
 ghost use Rattle.dap_message.specs.Refusals.{max_command};
 ghost use Rattle.dap_message.specs.SoundMessage.{IsSoundTree};
-ghost use Rattle.dap_message.specs.declared.message.Kind.TheVariants.{Request};
 
 use crate::laws::written_is_read_again;
-use dap_body::{Body, Failure, body_text, failure_text};
+use dap_body::{Body, Failure, append_body, append_failure_body};
 use dap_json::Tree;
 use dap_json::laws::what_is_read_is_sound;
 use json::Writer;
 use std::alloc::{AllocError, Global};
+use std::mem;
 
 /// The room that a text is given at first, in bytes.
 const ROOM: usize = 256;
@@ -63,98 +65,102 @@ fn tree_text(alloc: Global, tree: &Tree) -> Result<Vec<u8>, AllocError>
     dap_json::write(alloc, tree.value())
 }
 
-/// A text up to the end of its body, with the comma after it.
-fn open(alloc: Global, body: &Option<Tree>) -> Result<Vec<u8>, AllocError>
+// ---- a text up to the end of its body, with the comma after it; where memory is refused, a part of it may be there
+
+fn open(alloc: Global, out: &mut Vec<u8>, body: &Option<Tree>) -> Result<(), AllocError>
     requires { IsTrue (is_plain_tree body.now) }
-    ensures text { IfOk result (λ text. text.items ≡ with_body body.now) }
-    ensures sound { IfOk result (λ text. IsSoundTree body.now) }
+    ensures ok { OnOk result (out.new.items ≡ out.old.items ++ with_body body.now) }
+    ensures sound { OnOk result (IsSoundTree body.now) }
+    ensures front { take (length out.old.items) out.new.items ≡ out.old.items }
 {
-    let mut out = Vec::with_capacity(alloc, ROOM)?;
+    out.reserve(ROOM)?;
     let Some(body) = body else {
         out.push(b'{')?;
-        return Ok(out);
+        return Ok(());
     };
     out.extend_from_slice(b"{\"body\":")?;
     out.extend_from_slice(&tree_text(alloc, body)?)?;
     out.push(b',')?;
-    Ok(out)
+    Ok(())
 }
 
 /// The same of a body that is given by its parts.
-fn open_answer(alloc: Global, body: &Option<Body>) -> Result<Vec<u8>, AllocError>
-    ensures text { IfOk result (λ text. text.items ≡ with_body (data_in body.now)) }
-    ensures sound { IfOk result (λ text. IsSoundTree (data_in body.now)) }
+fn open_answer(alloc: Global, out: &mut Vec<u8>, body: &Option<Body>) -> Result<(), AllocError>
+    ensures ok { OnOk result (out.new.items ≡ out.old.items ++ with_body (data_in body.now)) }
+    ensures sound { OnOk result (IsSoundTree (data_in body.now)) }
+    ensures front { take (length out.old.items) out.new.items ≡ out.old.items }
 {
-    match body {
-        None => {
-            let mut out = Vec::with_capacity(alloc, ROOM)?;
-            out.push(b'{')?;
-            Ok(out)
-        }
-        Some(body) => {
-            let mut out = Vec::with_capacity(alloc, room_for(body))?;
-            out.extend_from_slice(b"{\"body\":")?;
-            let mut out = body_text(alloc, out, body)?;
-            out.push(b',')?;
-            Ok(out)
-        }
-    }
+    let Some(body) = body else {
+        out.reserve(ROOM)?;
+        out.push(b'{')?;
+        return Ok(());
+    };
+    out.reserve(room_for(body))?;
+    out.extend_from_slice(b"{\"body\":")?;
+    append_body(alloc, out, body)?;
+    out.push(b',')?;
+    Ok(())
 }
 
 /// The same of a failure's body.
-fn open_failure(alloc: Global, failure: Failure) -> Result<Vec<u8>, AllocError>
-    ensures text { IfOk result (λ text. text.items ≡ with_body (Some (failure_body failure))) }
-    ensures sound { IfOk result (λ text. IsSoundTree (Some (failure_body failure))) }
+fn open_failure(alloc: Global, out: &mut Vec<u8>, failure: Failure) -> Result<(), AllocError>
+    ensures ok { OnOk result (out.new.items ≡ out.old.items ++ with_body (Some (failure_body failure))) }
+    ensures sound { OnOk result (IsSoundTree (Some (failure_body failure))) }
+    ensures front { take (length out.old.items) out.new.items ≡ out.old.items }
 {
-    let mut out = Vec::with_capacity(alloc, ROOM)?;
+    out.reserve(ROOM)?;
     out.extend_from_slice(b"{\"body\":")?;
-    let mut out = failure_text(alloc, out, failure)?;
+    append_failure_body(alloc, out, failure)?;
     out.push(b',')?;
-    Ok(out)
+    Ok(())
 }
 
-/// A text up to the end of its arguments, with the comma after them.
-fn open_request(alloc: Global, arguments: &Option<Tree>) -> Result<Vec<u8>, AllocError>
+/// The same of a request, up to the end of its arguments.
+fn open_request(
+    alloc: Global,
+    out: &mut Vec<u8>,
+    arguments: &Option<Tree>,
+) -> Result<(), AllocError>
     requires { IsTrue (is_plain_tree arguments.now) }
-    ensures text { IfOk result (λ text. text.items ≡ with_arguments arguments.now) }
-    ensures sound { IfOk result (λ text. IsSoundTree arguments.now) }
+    ensures ok { OnOk result (out.new.items ≡ out.old.items ++ with_arguments arguments.now) }
+    ensures sound { OnOk result (IsSoundTree arguments.now) }
+    ensures front { take (length out.old.items) out.new.items ≡ out.old.items }
 {
-    let mut out = Vec::with_capacity(alloc, ROOM)?;
+    out.reserve(ROOM)?;
     let Some(arguments) = arguments else {
         out.push(b'{')?;
-        return Ok(out);
+        return Ok(());
     };
     out.extend_from_slice(b"{\"arguments\":")?;
     out.extend_from_slice(&tree_text(alloc, arguments)?)?;
     out.push(b',')?;
-    Ok(out)
+    Ok(())
 }
 
-/// Appends what a request has after its arguments.
-fn close_request(out: Vec<u8>, seq: u64, command: &str) -> Result<Vec<u8>, AllocError>
-    ensures { IfOk result (λ text. text.items ≡ out.items ++ members_text false (request_members seq command.now None)) }
+// ---- what comes after it
+
+fn request_end(out: &mut Writer, seq: u64, command: &str) -> Result<(), AllocError>
+    ensures adds { OnOk result (Adds out.old out.new (members_tokens (members_outline (request_members seq command.now None)))) }
+    ensures before { out.new.before ≡ out.old.before }
 {
-    let mut out = Writer::new(out);
     out.key("command")?;
     out.string(command)?;
     out.key("seq")?;
     out.u64(seq)?;
     out.key("type")?;
     out.string("request")?;
-    out.end_object()?;
-    Ok(out.into_inner())
+    out.end_object()
 }
 
-/// Appends what a response ends with, and gives the text.
-fn close_response(
-    out: Writer,
+fn response_end(
+    out: &mut Writer,
     seq: u64,
     request_seq: u64,
     success: bool,
-) -> Result<Vec<u8>, AllocError>
-    ensures { IfOk result (λ text. text.items ≡ out.before ++ print (out.tokens ++ response_end seq request_seq success)) }
+) -> Result<(), AllocError>
+    ensures adds { OnOk result (Adds out.old out.new (response_end seq request_seq success)) }
+    ensures before { out.new.before ≡ out.old.before }
 {
-    let mut out = out;
     out.key("request_seq")?;
     out.u64(request_seq)?;
     out.key("seq")?;
@@ -163,108 +169,212 @@ fn close_response(
     out.boolean(success)?;
     out.key("type")?;
     out.string("response")?;
-    out.end_object()?;
-    Ok(out.into_inner())
+    out.end_object()
 }
 
-/// Appends what a success has after its body.
-fn close_success(
-    out: Vec<u8>,
+fn success_end(
+    out: &mut Writer,
     seq: u64,
     request_seq: u64,
     command: &str,
-) -> Result<Vec<u8>, AllocError>
-    ensures { IfOk result (λ text. text.items ≡ out.items ++ members_text false (response_members seq request_seq true command.now None None)) }
+) -> Result<(), AllocError>
+    ensures adds { OnOk result (Adds out.old out.new (members_tokens (members_outline (response_members seq request_seq true command.now None None)))) }
+    ensures before { out.new.before ≡ out.old.before }
 {
-    let mut out = Writer::new(out);
     out.key("command")?;
     out.string(command)?;
-    close_response(out, seq, request_seq, true)
+    response_end(out, seq, request_seq, true)
 }
 
-/// Appends what an event has after its body.
-fn close_event(out: Vec<u8>, seq: u64, event: &str) -> Result<Vec<u8>, AllocError>
-    ensures { IfOk result (λ text. text.items ≡ out.items ++ members_text false (event_members seq event.now None)) }
+fn failure_end(
+    out: &mut Writer,
+    seq: u64,
+    request_seq: u64,
+    command: &str,
+    name: &str,
+) -> Result<(), AllocError>
+    ensures adds { OnOk result (Adds out.old out.new (members_tokens (members_outline (response_members seq request_seq false command.now (Some name.now) None)))) }
+    ensures before { out.new.before ≡ out.old.before }
 {
-    let mut out = Writer::new(out);
+    out.key("command")?;
+    out.string(command)?;
+    out.key("message")?;
+    out.string(name)?;
+    response_end(out, seq, request_seq, false)
+}
+
+fn event_end(out: &mut Writer, seq: u64, event: &str) -> Result<(), AllocError>
+    ensures adds { OnOk result (Adds out.old out.new (members_tokens (members_outline (event_members seq event.now None)))) }
+    ensures before { out.new.before ≡ out.old.before }
+{
     out.key("event")?;
     out.string(event)?;
     out.key("seq")?;
     out.u64(seq)?;
     out.key("type")?;
     out.string("event")?;
-    out.end_object()?;
-    Ok(out.into_inner())
+    out.end_object()
 }
 
-/// The text of the response to a request that failed.
-pub fn write_failure(
+/// What a text has after its body.
+#[derive(Clone, Copy)]
+enum End<'a> {
+    Request {
+        seq: u64,
+        command: &'a str,
+    },
+    Success {
+        seq: u64,
+        request_seq: u64,
+        command: &'a str,
+    },
+    Failure {
+        seq: u64,
+        request_seq: u64,
+        command: &'a str,
+        name: &'a str,
+    },
+    Event {
+        seq: u64,
+        event: &'a str,
+    },
+}
+
+fn write_end(out: &mut Writer, end: End<'_>) -> Result<(), AllocError>
+    ensures adds { OnOk result (Adds out.old out.new (members_tokens (members_outline (end_members end.entry)))) }
+    ensures before { out.new.before ≡ out.old.before }
+{
+    match end {
+        End::Request { seq, command } => request_end(out, seq, command),
+        End::Success {
+            seq,
+            request_seq,
+            command,
+        } => success_end(out, seq, request_seq, command),
+        End::Failure {
+            seq,
+            request_seq,
+            command,
+            name,
+        } => failure_end(out, seq, request_seq, command, name),
+        End::Event { seq, event } => event_end(out, seq, event),
+    }
+}
+
+/// Appends it where what is before it was appended; else the buffer is cut to its first bytes.
+fn close(
     alloc: Global,
+    out: &mut Vec<u8>,
+    start: usize,
+    opened: Result<(), AllocError>,
+    end: End<'_>,
+) -> Result<(), AllocError>
+    requires { start ≤ length out.old.items }
+    ensures opened { OnOk result (IsOk opened) }
+    ensures ok { OnOk result (out.new.items ≡ out.old.items ++ members_text false (end_members end.entry)) }
+    ensures err { OnErr result (out.new.items ≡ take start out.old.items) }
+{
+    if opened.is_err() {
+        out.truncate(start);
+        return opened;
+    }
+    let mut writer = Writer::new(mem::replace(out, Vec::new(alloc)));
+    let result = write_end(&mut writer, end);
+    *out = writer.into_inner();
+    if result.is_err() {
+        out.truncate(start);
+    }
+    result
+}
+
+/// Appends the text of the response to a request that failed.
+pub fn append_failure(
+    alloc: Global,
+    out: &mut Vec<u8>,
     seq: u64,
     request_seq: u64,
     command: &str,
     failure: Failure,
-) -> Result<Vec<u8>, AllocError>
-    ensures canon { IfOk result (λ text. text.items ≡ canon (failure_response seq request_seq command.now failure)) }
-    ensures reads_back { IfOk result (λ text. seq ≤ max_seq → request_seq ≤ max_seq → length command.now ≤ max_command → Msg text.items (failure_response seq request_seq command.now failure)) }
+) -> Result<(), AllocError>
+    ensures canon { OnOk result (out.new.items ≡ out.old.items ++ canon (failure_response seq request_seq command.now failure)) }
+    ensures reads_back { OnOk result (seq ≤ max_seq → request_seq ≤ max_seq → length command.now ≤ max_command → Msg (canon (failure_response seq request_seq command.now failure)) (failure_response seq request_seq command.now failure)) }
+    ensures err { OnErr result (out.new.items ≡ out.old.items) }
 {
     // A law for the proof: what is written is read again.
     written_is_read_again();
-    let mut out = Writer::new(open_failure(alloc, failure)?);
-    out.key("command")?;
-    out.string(command)?;
-    out.key("message")?;
-    out.string(failure.name())?;
-    close_response(out, seq, request_seq, false)
+    let start = out.len();
+    let opened = open_failure(alloc, out, failure);
+    let name = failure.name();
+    let end = End::Failure {
+        seq,
+        request_seq,
+        command,
+        name,
+    };
+    close(alloc, out, start, opened, end)
 }
 
-/// The text of the response to a request that succeeded.
-pub fn write_answer(
+/// Appends the text of the response to a request that succeeded.
+pub fn append_answer(
     alloc: Global,
+    out: &mut Vec<u8>,
     seq: u64,
     request_seq: u64,
     command: &str,
     body: &Option<Body>,
-) -> Result<Vec<u8>, AllocError>
-    ensures canon { IfOk result (λ text. text.items ≡ canon (success_response seq request_seq command.now (data_in body.now))) }
-    ensures reads_back { IfOk result (λ text. seq ≤ max_seq → request_seq ≤ max_seq → length command.now ≤ max_command → Msg text.items (success_response seq request_seq command.now (data_in body.now))) }
+) -> Result<(), AllocError>
+    ensures canon { OnOk result (out.new.items ≡ out.old.items ++ canon (success_response seq request_seq command.now (data_in body.now))) }
+    ensures reads_back { OnOk result (seq ≤ max_seq → request_seq ≤ max_seq → length command.now ≤ max_command → Msg (canon (success_response seq request_seq command.now (data_in body.now))) (success_response seq request_seq command.now (data_in body.now))) }
+    ensures err { OnErr result (out.new.items ≡ out.old.items) }
 {
     // A law for the proof: what is written is read again.
     written_is_read_again();
-    let out = open_answer(alloc, body)?;
-    close_success(out, seq, request_seq, command)
+    let start = out.len();
+    let opened = open_answer(alloc, out, body);
+    let end = End::Success {
+        seq,
+        request_seq,
+        command,
+    };
+    close(alloc, out, start, opened, end)
 }
 
-/// The text of an event.
-pub fn write_event(
+/// Appends the text of an event.
+pub fn append_event(
     alloc: Global,
+    out: &mut Vec<u8>,
     seq: u64,
     event: &str,
     body: &Option<Tree>,
-) -> Result<Vec<u8>, AllocError>
+) -> Result<(), AllocError>
     requires { IsTrue (is_plain_tree body.now) }
-    ensures canon { IfOk result (λ text. text.items ≡ canon (event_message seq event.now body.now)) }
-    ensures reads_back { IfOk result (λ text. seq ≤ max_seq → Msg text.items (event_message seq event.now body.now)) }
+    ensures canon { OnOk result (out.new.items ≡ out.old.items ++ canon (event_message seq event.now body.now)) }
+    ensures reads_back { OnOk result (seq ≤ max_seq → Msg (canon (event_message seq event.now body.now)) (event_message seq event.now body.now)) }
+    ensures err { OnErr result (out.new.items ≡ out.old.items) }
 {
     // A law for the proof: what is written is read again.
     written_is_read_again();
-    let out = open(alloc, body)?;
-    close_event(out, seq, event)
+    let start = out.len();
+    let opened = open(alloc, out, body);
+    close(alloc, out, start, opened, End::Event { seq, event })
 }
 
-/// The text of a request. Its number may be past the greatest, so that a request can be measured that has none.
-pub fn write_request(
+/// Appends the text of a request. Its number may be past the greatest, so that a request can be measured that has none.
+pub fn append_request(
     alloc: Global,
+    out: &mut Vec<u8>,
     seq: u64,
     command: &str,
     arguments: &Option<Tree>,
-) -> Result<Vec<u8>, AllocError>
+) -> Result<(), AllocError>
     requires { IsTrue (is_plain_tree arguments.now) }
-    ensures canon { IfOk result (λ text. text.items ≡ canon (record { seq = seq; kind = Request command.now arguments.now })) }
-    ensures reads_back { IfOk result (λ text. seq ≤ max_seq → length command.now ≤ max_command → Msg text.items (record { seq = seq; kind = Request command.now arguments.now })) }
+    ensures canon { OnOk result (out.new.items ≡ out.old.items ++ canon (request_message seq command.now arguments.now)) }
+    ensures reads_back { OnOk result (seq ≤ max_seq → length command.now ≤ max_command → Msg (canon (request_message seq command.now arguments.now)) (request_message seq command.now arguments.now)) }
+    ensures err { OnErr result (out.new.items ≡ out.old.items) }
 {
     // A law for the proof: what is written is read again.
     written_is_read_again();
-    let out = open_request(alloc, arguments)?;
-    close_request(out, seq, command)
+    let start = out.len();
+    let opened = open_request(alloc, out, arguments);
+    close(alloc, out, start, opened, End::Request { seq, command })
 }

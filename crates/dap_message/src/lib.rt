@@ -16,7 +16,7 @@ mod reading;
 mod response_references;
 mod writing;
 
-pub use answering::{write_answer, write_event, write_failure, write_request};
+pub use answering::{append_answer, append_event, append_failure, append_request};
 pub use dap_body::{
     Body, Breakpoint, Failure, Scope, Source, StackFrame, Thread, Variable, body_continue,
     body_continued, body_evaluate, body_exited, body_failure, body_loaded_sources, body_output,

@@ -1,6 +1,7 @@
 -- A message more on an outbox, and that a client reads it.
-use Rattle.std.proofs.Common.{◌≡◌, ℕ, ◌+◌, ◌<◌, ◌≤◌, List, [], ◌∷◌, ◌++◌, true, Option, Some, None, Result, Ok, Err, IfOk, OnOk, length, take, drop, decimal, refl, sym, ap, ◌∙◌, subst, append_assoc, arith, length-append}
+use Rattle.std.proofs.Common.{◌≡◌, ℕ, ◌+◌, ◌<◌, ◌≤◌, List, [], ◌∷◌, ◌++◌, true, Option, Some, None, length, take, drop, decimal, refl, sym, ap, ◌∙◌, subst, append_assoc, arith, length-append}
 use Rattle.std.specs.List.{AllByRecursion}
+use Rattle.std.proofs.Math.Seq.{take-append_seam, drop-append_seam}
 use Rattle.std.proofs.lemmas.List.{append-nil, drop-append-le, take-append-le}
 use Rattle.dap_json.specs.Field.{max_seq}
 use Rattle.dap_frame.specs.Written.{frame_of}
@@ -43,13 +44,13 @@ reads-more : (a b : ℕ) (m : Message) → a ≤ b → ReadsBack a m → ReadsBa
 reads-more a b m h r = let short = r.fits in record { fits = omega arith; reads = r.reads }
 
 -- a text that was measured
-pub reads-text : (most : ℕ) (text : List ℕ) (m : Message) → text ≡ canon m → length text ≤ most → Msg text m → ReadsBack most m
-reads-text most text m e short r = record { fits = subst (λ (bs : List ℕ). length bs ≤ most) e short; reads = subst (λ (bs : List ℕ). Msg bs m) e r }
+pub reads-text : (most : ℕ) (m : Message) → length (canon m) ≤ most → Msg (canon m) m → ReadsBack most m
+reads-text most m short r = record { fits = short; reads = r }
 
 -- a failure, which is short
-pub reads-failure : FailuresAreShort → (seq : ℕ) (r : Entry) (f : Failure) (text : List ℕ) → text ≡ canon (failure_response seq r.seq r.command f)
-    → (seq ≤ max_seq → r.seq ≤ max_seq → length r.command ≤ max_command → Msg text (failure_response seq r.seq r.command f)) → seq ≤ max_seq → IsRequestInRange r → ReadsBack max_fixed (failure_response seq r.seq r.command f)
-reads-failure short seq r f text e reads s i = record { fits = short seq r.seq r.command f s i.seq i.command; reads = subst (λ (bs : List ℕ). Msg bs (failure_response seq r.seq r.command f)) e (reads s i.seq i.command) }
+pub reads-failure : FailuresAreShort → (seq : ℕ) (r : Entry) (f : Failure)
+    → (seq ≤ max_seq → r.seq ≤ max_seq → length r.command ≤ max_command → Msg (canon (failure_response seq r.seq r.command f)) (failure_response seq r.seq r.command f)) → seq ≤ max_seq → IsRequestInRange r → ReadsBack max_fixed (failure_response seq r.seq r.command f)
+reads-failure short seq r f reads s i = record { fits = short seq r.seq r.command f s i.seq i.command; reads = reads s i.seq i.command }
 
 -- a success with a body of a fixed shape
 is-fixed : (fixed : Option Fixed) → has_fixed_shape (shape_of fixed) ≡ true
@@ -57,10 +58,10 @@ is-fixed None = refl
 is-fixed (Some (Initialize capabilities)) = refl
 is-fixed (Some Continue) = refl
 
-pub reads-success : FixedResponsesAreShort → (seq : ℕ) (r : Entry) (fixed : Option Fixed) (text : List ℕ) → text ≡ canon (success_response seq r.seq r.command (data_in (shape_of fixed)))
-    → (seq ≤ max_seq → r.seq ≤ max_seq → length r.command ≤ max_command → Msg text (success_response seq r.seq r.command (data_in (shape_of fixed)))) → seq ≤ max_seq → IsRequestInRange r → ReadsBack max_fixed (success_response seq r.seq r.command (data_in (shape_of fixed)))
-reads-success short seq r fixed text e reads s i =
-    record { fits = short seq r.seq r.command (shape_of fixed) (is-fixed fixed) s i.seq i.command; reads = subst (λ (bs : List ℕ). Msg bs (success_response seq r.seq r.command (data_in (shape_of fixed)))) e (reads s i.seq i.command) }
+pub reads-success : FixedResponsesAreShort → (seq : ℕ) (r : Entry) (fixed : Option Fixed)
+    → (seq ≤ max_seq → r.seq ≤ max_seq → length r.command ≤ max_command → Msg (canon (success_response seq r.seq r.command (data_in (shape_of fixed)))) (success_response seq r.seq r.command (data_in (shape_of fixed)))) → seq ≤ max_seq → IsRequestInRange r → ReadsBack max_fixed (success_response seq r.seq r.command (data_in (shape_of fixed)))
+reads-success short seq r fixed reads s i =
+    record { fits = short seq r.seq r.command (shape_of fixed) (is-fixed fixed) s i.seq i.command; reads = reads s i.seq i.command }
 
 -- the request for a terminal, which is short too
 ask-short : (seq : ℕ) → seq ≤ max_seq → length (canon (message_of seq ask)) ≤ max_fixed
@@ -70,17 +71,8 @@ ask-short seq s =
     let all = length-compact_text (object (members_of seq (message_of seq ask).kind)) in
     omega arith
 
-pub reads-asked : (seq : ℕ) (text : List ℕ) → text ≡ canon (message_of seq ask) → (seq ≤ max_seq → length run_in_terminal ≤ max_command → Msg text (message_of seq ask)) → seq ≤ max_seq → ReadsBack max_fixed (message_of seq ask)
-reads-asked seq text e reads s = record { fits = ask-short seq s; reads = subst (λ (bs : List ℕ). Msg bs (message_of seq ask)) e (reads s (omega arith)) }
-
--- two things of what a call returned
-pub both-ok : {T E : Type 0} (r : Result T E) (P Q R : T → Type 0) → ((x : T) → P x → Q x → R x) → IfOk r P → IfOk r Q → IfOk r R
-both-ok (Ok x) P Q R f p q = f x p q
-both-ok (Err e) P Q R f p q = tt
-
-pub asked-ok : {T E : Type 0} (r : Result T E) (P Q : T → Type 0) (W : Type 0) → ((x : T) → P x → Q x → W) → IfOk r P → IfOk r Q → OnOk r W
-asked-ok (Ok x) P Q W f p q = f x p q
-asked-ok (Err e) P Q W f p q = tt
+pub reads-asked : (seq : ℕ) → (seq ≤ max_seq → length run_in_terminal ≤ max_command → Msg (canon (message_of seq ask)) (message_of seq ask)) → seq ≤ max_seq → ReadsBack max_fixed (message_of seq ask)
+reads-asked seq reads s = record { fits = ask-short seq s; reads = reads s (omega arith) }
 
 -- ---- all of a list
 
@@ -136,3 +128,10 @@ writes-behind most start items after now old new d e h is u l left reads =
 -- what it had before stays
 pub front-stays : (start : ℕ) (items after more : List ℕ) → start ≤ length items → after ≡ items ++ more → take start after ≡ take start items
 front-stays start items after more h is = ap (λ (xs : List ℕ). take start xs) is ∙ take-append-le start items more h
+
+-- a text behind what a buffer had, and its frame
+pub framed : (items text after body : List ℕ) (end : ℕ) → end ≡ length items → text ≡ items ++ body → after ≡ take end text ++ frame_of (drop end text) → after ≡ items ++ frame_of body
+framed items text after body end is t e =
+    let front : take end text ≡ items = ap (λ n. take n text) is ∙ (ap (λ xs. take (length items) xs) t ∙ take-append_seam items body) in
+    let rest : drop end text ≡ body = ap (λ n. drop n text) is ∙ (ap (λ xs. drop (length items) xs) t ∙ drop-append_seam items body) in
+    e ∙ (ap (λ xs. xs ++ frame_of (drop end text)) front ∙ ap (λ xs. items ++ frame_of xs) rest)

@@ -9,9 +9,9 @@ ghost use Rattle.dap_message.specs.MessageParts.{success_response};
 ghost use Rattle.dap_message.specs.Lengths.{max_fixed, IsWithin};
 
 use crate::answer::{Answer, Event};
-use crate::texts::{replied, terminal_request, told};
-use dap_frame::write_frame;
-use dap_message::{Body, write_answer};
+use crate::texts::{append_reply, append_terminal, append_told};
+use dap_frame::frame_from;
+use dap_message::{Body, append_answer};
 use dap_tables::{Entry, Seq};
 use std::alloc::{AllocError, Global};
 use std::marker::Model;
@@ -104,8 +104,9 @@ impl Outbox {
         ensures err { OnErr result (self.new ≡ self.old) }
     {
         let (seq, numbers) = self.next();
-        let text = replied(alloc, seq, request, &answer)?;
-        write_frame(&mut self.buffer, &text)?;
+        let end = self.buffer.len();
+        append_reply(alloc, &mut self.buffer, seq, request, &answer)?;
+        frame_from(&mut self.buffer, end)?;
         self.numbers = numbers;
         Ok(())
     }
@@ -126,11 +127,14 @@ impl Outbox {
         ensures err { OnErr result (self.new ≡ self.old) }
     {
         let (seq, numbers) = self.next();
-        let text = write_answer(alloc, seq, request.seq, request.command.as_str(), &body)?;
-        if text.len() > most {
+        let end = self.buffer.len();
+        let command = request.command.as_str();
+        append_answer(alloc, &mut self.buffer, seq, request.seq, command, &body)?;
+        if self.buffer.len() - end > most {
+            self.buffer.truncate(end);
             return Ok(false);
         }
-        write_frame(&mut self.buffer, &text)?;
+        frame_from(&mut self.buffer, end)?;
         self.numbers = numbers;
         Ok(true)
     }
@@ -144,8 +148,9 @@ impl Outbox {
         ensures err { OnErr result (self.new ≡ self.old) }
     {
         let (seq, numbers) = self.next();
-        let text = told(alloc, seq, event)?;
-        write_frame(&mut self.buffer, &text)?;
+        let end = self.buffer.len();
+        append_told(alloc, &mut self.buffer, seq, event)?;
+        frame_from(&mut self.buffer, end)?;
         self.numbers = numbers;
         Ok(())
     }
@@ -159,8 +164,9 @@ impl Outbox {
         ensures err { OnErr result (self.new ≡ self.old) }
     {
         let (seq, numbers) = self.next();
-        let text = terminal_request(alloc, seq)?;
-        write_frame(&mut self.buffer, &text)?;
+        let end = self.buffer.len();
+        append_terminal(alloc, &mut self.buffer, seq)?;
+        frame_from(&mut self.buffer, end)?;
         self.numbers = numbers;
         Ok(seq)
     }

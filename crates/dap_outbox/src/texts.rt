@@ -1,5 +1,5 @@
 //! The text of each message that an adapter writes without a body of its own.
-ghost use Rattle.std.specs.Prelude.{◌≡◌, ◌≤◌, IfOk, OnOk, IsTrue};
+ghost use Rattle.std.specs.Prelude.{◌≡◌, ◌≤◌, ◌++◌, IfOk, OnOk, OnErr, IsTrue};
 ghost use Rattle.dap_message.specs.Canon.{canon};
 ghost use Rattle.dap_outbox.specs.Draft.{reply, emit, ask, message_of, recorded_terminal};
 ghost use Rattle.dap_outbox.specs.InRange.{IsRequestInRange};
@@ -13,8 +13,8 @@ ghost use Rattle.dap_message.specs.ReadBack.{ReadsBack};
 use crate::answer::{Answer, Event, Fixed};
 use dap_message::laws::{bodies_are_plain, fixed_messages_are_short};
 use dap_message::{
-    Body, List, RUN_IN_TERMINAL, TerminalCall, Text, Tree, body_continued, body_exited,
-    body_output, body_stopped, write_answer, write_event, write_failure, write_request,
+    Body, List, RUN_IN_TERMINAL, TerminalCall, Text, Tree, append_answer, append_event,
+    append_failure, append_request, body_continued, body_exited, body_output, body_stopped,
     write_terminal,
 };
 use dap_tables::Entry;
@@ -30,22 +30,26 @@ fn body_of(fixed: Option<Fixed>) -> Option<Body>
     }
 }
 
-/// The text of the response to a request.
-pub(crate) fn replied(
+/// Appends the text of the response to a request, or changes nothing.
+pub(crate) fn append_reply(
     alloc: Global,
+    out: &mut Vec<u8>,
     seq: u64,
     request: &Entry,
     answer: &Answer,
-) -> Result<Vec<u8>, AllocError>
-    ensures canon { IfOk result (λ text. text.items ≡ canon (message_of seq (reply request.now (answer_of answer.now)))) }
-    ensures reads_back { IfOk result (λ text. seq ≤ max_seq → IsRequestInRange request.now → ReadsBack max_fixed (message_of seq (reply request.now (answer_of answer.now)))) }
+) -> Result<(), AllocError>
+    ensures canon { OnOk result (out.new.items ≡ out.old.items ++ canon (message_of seq (reply request.now (answer_of answer.now)))) }
+    ensures reads_back { OnOk result (seq ≤ max_seq → IsRequestInRange request.now → ReadsBack max_fixed (message_of seq (reply request.now (answer_of answer.now)))) }
+    ensures err { OnErr result (out.new.items ≡ out.old.items) }
 {
     fixed_messages_are_short();
     let command = request.command.as_str();
     match answer {
-        Answer::Failure(failure) => write_failure(alloc, seq, request.seq, command, *failure),
+        Answer::Failure(failure) => {
+            append_failure(alloc, out, seq, request.seq, command, *failure)
+        }
         Answer::Success(fixed) => {
-            write_answer(alloc, seq, request.seq, command, &body_of(*fixed))
+            append_answer(alloc, out, seq, request.seq, command, &body_of(*fixed))
         }
     }
 }
@@ -83,16 +87,22 @@ fn event_body(alloc: Global, event: Event) -> Result<Option<Tree>, AllocError>
     }
 }
 
-/// The text of an event.
-pub(crate) fn told(alloc: Global, seq: u64, event: Event) -> Result<Vec<u8>, AllocError>
+/// Appends the text of an event, or changes nothing.
+pub(crate) fn append_told(
+    alloc: Global,
+    out: &mut Vec<u8>,
+    seq: u64,
+    event: Event,
+) -> Result<(), AllocError>
     requires { IsWithin (event_of event) }
-    ensures canon { IfOk result (λ text. text.items ≡ canon (message_of seq (emit (event_of event)))) }
+    ensures canon { OnOk result (out.new.items ≡ out.old.items ++ canon (message_of seq (emit (event_of event)))) }
     ensures reads_back { OnOk result (seq ≤ max_seq → ReadsBack max_fixed (message_of seq (emit (event_of event)))) }
+    ensures err { OnErr result (out.new.items ≡ out.old.items) }
 {
     fixed_messages_are_short();
     let name = event_name(&event);
     let body = event_body(alloc, event)?;
-    write_event(alloc, seq, name, &body)
+    append_event(alloc, out, seq, name, &body)
 }
 
 /// What the client's terminal is to run.
@@ -109,12 +119,13 @@ fn recorded_terminal(alloc: Global) -> Result<TerminalCall, AllocError>
     })
 }
 
-/// The text of the request for a terminal.
-pub(crate) fn terminal_request(alloc: Global, seq: u64) -> Result<Vec<u8>, AllocError>
-    ensures canon { IfOk result (λ text. text.items ≡ canon (message_of seq ask)) }
+/// Appends the text of the request for a terminal, or changes nothing.
+pub(crate) fn append_terminal(alloc: Global, out: &mut Vec<u8>, seq: u64) -> Result<(), AllocError>
+    ensures canon { OnOk result (out.new.items ≡ out.old.items ++ canon (message_of seq ask)) }
     ensures reads_back { OnOk result (seq ≤ max_seq → ReadsBack max_fixed (message_of seq ask)) }
+    ensures err { OnErr result (out.new.items ≡ out.old.items) }
 {
     let call = recorded_terminal(alloc)?;
     let arguments = Some(Tree::new(write_terminal(alloc, &call)?));
-    write_request(alloc, seq, RUN_IN_TERMINAL, &arguments)
+    append_request(alloc, out, seq, RUN_IN_TERMINAL, &arguments)
 }

@@ -5,10 +5,10 @@ use crate::outcomes::{both, judge, refused};
 use dap_call::Key;
 use dap_message::{
     Body, BodyFault, Breakpoint, Capabilities, Failure, Message, Scope, Source, StackFrame, Text,
-    Thread, Variable, body_continue, body_evaluate, body_failure, body_loaded_sources, body_output,
-    body_scopes, body_set_breakpoints, body_set_variable, body_source, body_stack_trace,
-    body_stopped, body_terminal, body_threads, body_variables, read_message, write_answer,
-    write_message,
+    Thread, Variable, append_answer, body_continue, body_evaluate, body_failure,
+    body_loaded_sources, body_output, body_scopes, body_set_breakpoints, body_set_variable,
+    body_source, body_stack_trace, body_stopped, body_terminal, body_threads, body_variables,
+    read_message, write_message,
 };
 use serde_json::Value;
 use std::alloc::{AllocError, Global};
@@ -245,8 +245,9 @@ static ANSWERS: [&[u8]; 5] = [
 ];
 
 fn is_answer(alloc: Global, body: &Option<Body>, text: &[u8]) -> Option<bool> {
-    match write_answer(alloc, 7, 4, "c", body) {
-        Ok(written) => Some(written.as_slice() == text),
+    let mut written = Vec::new(alloc);
+    match append_answer(alloc, &mut written, 7, 4, "c", body) {
+        Ok(()) => Some(written.as_slice() == text),
         Err(_) => None,
     }
 }

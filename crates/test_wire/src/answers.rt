@@ -3,7 +3,7 @@
 use crate::checks::check;
 use crate::lists::{breakpoints, frames, scopes, threads, variables};
 use dap_json::Text;
-use dap_message::{Body, Capabilities, write_answer, write_request};
+use dap_message::{Body, Capabilities, append_answer, append_request};
 use std::alloc::{AllocError, Global};
 
 /// What an adapter offers that serves every command.
@@ -86,10 +86,8 @@ static ANSWERS: [&[u8]; 14] = [
 
 /// Whether the response with the number 7 to the request `c`, which has the number 4, is written so with this body.
 fn is_answer(alloc: Global, body: &Option<Body>, wanted: &[u8]) -> bool {
-    match write_answer(alloc, 7, 4, "c", body) {
-        Ok(told) => told.as_slice() == wanted,
-        Err(_) => false,
-    }
+    let mut told = Vec::new(alloc);
+    append_answer(alloc, &mut told, 7, 4, "c", body).is_ok() && told.as_slice() == wanted
 }
 
 /// Whether the response with this place is written so.
@@ -114,10 +112,8 @@ fn bodies_by_their_parts(rt: HostRuntime) {
 
 /// Whether the request with a number and a command is written so.
 fn is_request(alloc: Global, seq: u64, command: &str, wanted: &[u8]) -> bool {
-    match write_request(alloc, seq, command, &None) {
-        Ok(told) => told.as_slice() == wanted,
-        Err(_) => false,
-    }
+    let mut told = Vec::new(alloc);
+    append_request(alloc, &mut told, seq, command, &None).is_ok() && told.as_slice() == wanted
 }
 
 /// Numbers, commands, and the requests with them. The second number is one past the greatest.

@@ -2,7 +2,8 @@ use Rattle.std.proofs.Common.{◌∷◌, take}
 use Rattle.std.specs.List.{AllByRecursion, flat_map}
 use Rattle.json.specs.Token.{begin_array}
 use Rattle.dap_json.specs.Sound.{IsSound}
-use Rattle.dap_body.specs.PrivateText.{Adds, tokens_of}
+use Rattle.dap_body.specs.Adds.{Adds}
+use Rattle.dap_body.specs.PrivateText.{tokens_of}
 use Rattle.dap_body.proofs.body.write_list.Given as goal
 
 -- what was written are the elements so far

@@ -8,7 +8,7 @@ returns-clause-adds c =
     let s1 = one c.begin_object.ensures c.in_ok-begin_object.ensures.ok in
     let s2 = c.in_ok-number.ensures.adds in
     let s3 = c.in_ok-short.ensures.adds in
-    let s4 = c.in_ok-flag.ensures in
+    let s4 = c.in_ok-flag.ensures.adds in
     on_ok_weaker c.end_object.result (λ e. next s1 (next s2 (next s3 (next s4 (one c.end_object.ensures e))))) c.end_object.ensures.ok
 
 pub returns-clause-sound : goal.returns-clause-sound

@@ -4,5 +4,5 @@ use Rattle.dap_client.specs.Within.{AreTerminalRequests}
 use Rattle.dap_client.proofs.TerminalRequests.{seq-in-range}
 use Rattle.dap_client.proofs.session.Session.answer.Goals as goal
 
-pub response_text-requires-clause-request : goal.response_text-requires-clause-request
-response_text-requires-clause-request c = seq-in-range c.args.request_seq c.args.self.now.incoming c.in-None.ensures.kept (subst (λ (s : Session). AreTerminalRequests s.incoming) c.self.view_is c.self.invariant.terminals)
+pub append_response-requires-clause-request : goal.append_response-requires-clause-request
+append_response-requires-clause-request c = seq-in-range c.args.request_seq c.args.self.now.incoming c.in-None.ensures.kept (subst (λ (s : Session). AreTerminalRequests s.incoming) c.self.view_is c.self.invariant.terminals)
