@@ -1,5 +1,5 @@
 -- What a debuggee shows in a view: where it stands, what it was last asked, and what it answers to each query.
-use Rattle.std.specs.Prelude.{ℕ, ℤ, Bool, List, codes, Option}
+use Rattle.std.specs.Prelude.{ℕ, ℤ, Bool, List, take, drop, nat_lt, codes, Option, if◌then◌else◌}
 use Rattle.dap_call.specs.declared.call.SourceKey.{SourceKey}
 use Rattle.dap_debuggee.specs.declared.answers.State.{State}
 use Rattle.dap_debuggee.specs.declared.answers.How.{How}
@@ -77,3 +77,7 @@ pub record Shown : Type 0 where
   pub content : ℕ → Option (List ℕ)
   -- of each line asked whether a breakpoint can stand there
   pub verify : SourceKey → List ℕ → Option (List Bool)
+
+-- a part of a list: from the place `start` on, counted from 0, at most `count` elements where `count` is above 0
+abbrev pub window : {A : Type 0} → ℕ → ℕ → List A → List A
+window start count xs = if nat_lt 0 count then take count (drop start xs) else drop start xs

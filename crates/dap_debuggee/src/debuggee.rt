@@ -17,9 +17,10 @@ use std::alloc::{AllocError, Global};
 /// Each act is counted and remembered, a refused one too. After want of memory nothing is said of the view, but where `assign`
 /// says so.
 pub trait Debuggee {
-    ghost use Rattle.std.specs.Prelude.{◌≡◌, IfOk, OnOk, OnErr, IsTrue};
+    ghost use Rattle.std.specs.Prelude.{◌≡◌, IfOk, OnOk, OnErr, IsTrue, option_map};
+    ghost use Rattle.std.specs.List.{slice_get};
     ghost use Rattle.std.specs.Option.{IsSome};
-    ghost use Rattle.dap_debuggee.specs.Shown.{Shown, Act, Reply, to_start, to_resume, to_pause, to_poll, to_set_breakpoints, to_assign, to_end, done, happened};
+    ghost use Rattle.dap_debuggee.specs.Shown.{Shown, Act, Reply, to_start, to_resume, to_pause, to_poll, to_set_breakpoints, to_assign, to_end, done, happened, window};
     ghost use Rattle.dap_debuggee.specs.Laws.{Replies, AnswersQuery, Counts, Remembers, Answers, Moves, SetsLines, SetsValues, KeepsAnswers, KeepsFrames, KeepsSources, Stands, is_short, NoThreads, ThreadsInRange, FramesInRange, NamesOneFrame, SourcesInRange, VerifiesEach, AssignsVariables};
 
     /// What a view shows.
@@ -89,9 +90,16 @@ pub trait Debuggee {
     fn scopes(&self, alloc: Global, frame: u64) -> Result<Vec<Scope>, DebuggeeFault>
         ensures { AnswersQuery result (λ scopes. scopes.items) ((shown self.now).scopes frame) };
 
-    /// The variables of a holder, by its object number. `Refused` where there is no such holder.
-    fn children(&self, alloc: Global, holder: u64) -> Result<Vec<Variable>, DebuggeeFault>
-        ensures { AnswersQuery result (λ children. children.items) ((shown self.now).children holder) };
+    /// A part of the variables of a holder, by its object number: from the place `start` on, counted from 0, at most `count` of
+    /// them where `count` is above 0. `Refused` where there is no such holder.
+    fn children(
+        &self,
+        alloc: Global,
+        holder: u64,
+        start: u32,
+        count: u32,
+    ) -> Result<Vec<Variable>, DebuggeeFault>
+        ensures { AnswersQuery result (λ children. children.items) (option_map (window start count) ((shown self.now).children holder)) };
 
     /// The value of a text, in a frame by its object number or in none. `Refused` where it has none.
     fn evaluate(
@@ -116,6 +124,11 @@ pub trait Debuggee {
     /// The sources, in order.
     fn sources(&self, alloc: Global) -> Result<Vec<Source>, AllocError>
         ensures sources { IfOk result (λ sources. sources.items ≡ (shown self.now).sources) }
+        ensures in_range { SourcesInRange (shown self.now) };
+
+    /// A source, by its index from 0. `Refused` where there is none.
+    fn source(&self, alloc: Global, index: u32) -> Result<Source, DebuggeeFault>
+        ensures source { AnswersQuery result (λ source. source) (slice_get (shown self.now).sources index) }
         ensures in_range { SourcesInRange (shown self.now) };
 
     /// The text of a source, by its index from 0. `Refused` where there is none to tell.

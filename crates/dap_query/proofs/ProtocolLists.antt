@@ -1,5 +1,5 @@
 -- What is told of lists of the debuggee, each with its numbers.
-use Rattle.std.proofs.Common.{◌≡◌, ℕ, List, [], ◌∷◌, Option, Some, Ok, length, map, refl, ap}
+use Rattle.std.proofs.Common.{◌≡◌, ◌∙◌, ℕ, List, [], ◌∷◌, Option, None, Some, Ok, length, map, option_map, refl, sym, ap}
 use Rattle.std.specs.List.{zip}
 use Rattle.serde_json.specs.Data.{Data}
 use Rattle.dap_message.specs.ResponseBody.{stack_trace_body, scopes_body, variables_body}
@@ -9,7 +9,7 @@ use Rattle.dap_message.specs.Types.StackFrame.{StackFrame as FrameBody}
 use Rattle.dap_message.specs.Types.StackTrace.{StackTrace}
 use Rattle.dap_message.specs.Types.Variable.{Variable as VariableBody}
 use Rattle.dap_message.specs.Types.Variables.{Variables}
-use Rattle.dap_debuggee.specs.Shown.{Shown}
+use Rattle.dap_debuggee.specs.Shown.{Shown, window}
 use Rattle.dap_debuggee.specs.declared.answers.Frame.{Frame}
 use Rattle.dap_debuggee.specs.declared.answers.Scope.{Scope}
 use Rattle.dap_debuggee.specs.declared.answers.Source.{Source}
@@ -19,7 +19,7 @@ use Rattle.dap_tables.specs.declared.target.Target.{Target}
 use Rattle.dap_query.specs.declared.options.Options.{Options}
 use Rattle.dap_query.specs.declared.no_answer.NoAnswer.{NoAnswer}
 use Rattle.dap_query.specs.declared.no_answer.NoAnswer.TheVariants.{Fails, OutOfMemory}
-use Rattle.dap_query.specs.Bodies.{query_result, result_with_references, with_numbers, frame_with, protocol_frame, protocol_scope, protocol_variable, source_of_frame, window, page, frame_objects, scope_objects, variable_objects}
+use Rattle.dap_query.specs.Bodies.{query_result, result_with_references, with_numbers, frame_with, protocol_frame, protocol_scope, protocol_variable, source_of_frame, page, frame_objects, scope_objects, variable_objects}
 use Rattle.dap_query.specs.References.{intern_each}
 use Rattle.dap_query.specs.Queries.{QueryState, object_of}
 use Rattle.dap_query.specs.QueryResults.{Says, AnswersWith}
@@ -70,7 +70,7 @@ scopes-fail view q number frame shown named u o e n g =
 
 -- ---- variables
 
-pub variables-told : (view : Shown) (q : QueryState) (asked : Variables) (holder : ℕ) (all shown : List Variable) (named : List (Option Target)) (ns : List ℕ) (refs : LiveReferences) (variables : List VariableBody)
+variables-told : (view : Shown) (q : QueryState) (asked : Variables) (holder : ℕ) (all shown : List Variable) (named : List (Option Target)) (ns : List ℕ) (refs : LiveReferences) (variables : List VariableBody)
     → object_of q.references asked.variables_reference ≡ Some holder → view.children holder ≡ Some all → shown ≡ page q.options asked.start asked.count all → named ≡ variable_objects shown
     → intern_each q.limits named q.references ≡ Ok (ns, refs) → variables ≡ with_numbers protocol_variable ns shown → AnswersWith (query_result view q (call.Variables asked)) (Some (variables_body variables)) refs
 unfolding query_result
@@ -78,9 +78,33 @@ variables-told view q asked holder all shown named ns refs variables o e w n g f
     rw (o, e, f, w)
     (told-with q (variable_objects (page q.options asked.start asked.count all)) (λ numbers. variables_body (with_numbers protocol_variable numbers (page q.options asked.start asked.count all))) ns refs (rw (n, w) at g))
 
-pub variables-fail : (view : Shown) (q : QueryState) (asked : Variables) (holder : ℕ) (all shown : List Variable) (named : List (Option Target)) (u : NoAnswer) → object_of q.references asked.variables_reference ≡ Some holder → view.children holder ≡ Some all
+variables-fail : (view : Shown) (q : QueryState) (asked : Variables) (holder : ℕ) (all shown : List Variable) (named : List (Option Target)) (u : NoAnswer) → object_of q.references asked.variables_reference ≡ Some holder → view.children holder ≡ Some all
     → shown ≡ page q.options asked.start asked.count all → named ≡ variable_objects shown → Says u (intern_each q.limits named q.references) → Says u (query_result view q (call.Variables asked))
 unfolding query_result
 variables-fail view q asked holder all shown named u o e w n g =
     rw (o, e)
     (says-with u q (variable_objects (page q.options asked.start asked.count all)) (λ numbers. variables_body (with_numbers protocol_variable numbers (page q.options asked.start asked.count all))) (rw (n, w) at g))
+
+none-some : {A : Type 0} (y : A) → None ≡ Some y → ⊥
+none-some y e = cc
+
+some-same : {A : Type 0} (x y : A) → Some x ≡ Some y → x ≡ y
+some-same x y e = cc
+
+-- what a part of an answer is a part of
+whole : {A B : Type 0} (o : Option A) (f : A → B) (y : B) → option_map f o ≡ Some y → (x : A) × (o ≡ Some x) × (y ≡ f x)
+whole None f y e = absurd (none-some y e)
+whole (Some x) f y e = (x, refl, sym (some-same (f x) y e))
+
+pub part-told : (view : Shown) (q : QueryState) (asked : Variables) (holder start count : ℕ) (shown : List Variable) (named : List (Option Target)) (ns : List ℕ) (refs : LiveReferences) (variables : List VariableBody)
+    → object_of q.references asked.variables_reference ≡ Some holder → ((xs : List Variable) → window start count xs ≡ page q.options asked.start asked.count xs) → option_map (window start count) (view.children holder) ≡ Some shown → named ≡ variable_objects shown
+    → intern_each q.limits named q.references ≡ Ok (ns, refs) → variables ≡ with_numbers protocol_variable ns shown → AnswersWith (query_result view q (call.Variables asked)) (Some (variables_body variables)) refs
+part-told view q asked holder start count shown named ns refs variables o p e n g f =
+    let found = whole (view.children holder) (window start count) shown e in
+    variables-told view q asked holder found.0 shown named ns refs variables o found.1 (found.2 ∙ p found.0) n g f
+
+pub part-fails : (view : Shown) (q : QueryState) (asked : Variables) (holder start count : ℕ) (shown : List Variable) (named : List (Option Target)) (u : NoAnswer) → object_of q.references asked.variables_reference ≡ Some holder
+    → ((xs : List Variable) → window start count xs ≡ page q.options asked.start asked.count xs) → option_map (window start count) (view.children holder) ≡ Some shown → named ≡ variable_objects shown → Says u (intern_each q.limits named q.references) → Says u (query_result view q (call.Variables asked))
+part-fails view q asked holder start count shown named u o p e n g =
+    let found = whole (view.children holder) (window start count) shown e in
+    variables-fail view q asked holder found.0 shown named u o found.1 (found.2 ∙ p found.0) n g

@@ -4,7 +4,8 @@ use Rattle.dap_debuggee.specs.declared.answers.Source.{Source}
 use Rattle.dap_debuggee.specs.declared.answers.Variable.{Variable}
 use Rattle.dap_frame.specs.Settings.{Settings}
 use Rattle.dap_message.specs.Types.Failure.TheVariants.{TooManyReferences, ReferencesExhausted}
-use Rattle.dap_query.specs.Bodies.{reference_of, numbered_source, source_of_frame, no_source, window, page, line_shown, column_shown, protocol_sources}
+use Rattle.dap_debuggee.specs.Shown.{window}
+use Rattle.dap_query.specs.Bodies.{reference_of, numbered_source, source_of_frame, no_source, page, line_shown, column_shown, protocol_sources}
 use Rattle.dap_query.specs.Queries.{object_of, usual_options}
 use Rattle.dap_query.specs.References.{intern_each, targets_named, with_targets, references_read}
 use Rattle.dap_query.specs.declared.options.Options.{Options}

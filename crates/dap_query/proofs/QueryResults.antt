@@ -9,11 +9,11 @@ use Rattle.dap_message.specs.CallTree.{command_of}
 use Rattle.dap_message.specs.Types.Command.{Command}
 use Rattle.dap_message.specs.Types.Command.TheVariants as command
 use Rattle.dap_message.specs.Types.Failure.{Failure}
-use Rattle.dap_debuggee.specs.Shown.{Shown}
+use Rattle.dap_debuggee.specs.Shown.{Shown, window}
 use Rattle.dap_tables.specs.Given.{references_given_in}
 use Rattle.dap_tables.specs.References.{LiveReferences}
 use Rattle.dap_tables.specs.declared.target.Target.{Target}
-use Rattle.dap_query.specs.Bodies.{protocol_thread, protocol_sources, QueryAnswer, QueryResult, query_result, result_without_references, unless_refused, scopes_result, evaluate_result, window, page, frame_objects, scope_objects, variable_objects, value_objects}
+use Rattle.dap_query.specs.Bodies.{protocol_thread, protocol_sources, QueryAnswer, QueryResult, query_result, result_without_references, unless_refused, scopes_result, evaluate_result, page, frame_objects, scope_objects, variable_objects, value_objects}
 use Rattle.dap_query.specs.Laws.{AreFew, IsSoundAnswer, EachAnswerIsSound, GivesNumbers, IsAnsweredOrRefused, is_refused, is_answered, EachQueryIsAnsweredOrRefused}
 use Rattle.dap_query.specs.Queries.{QueryState, object_of}
 use Rattle.dap_query.specs.References.{AreLive, intern_each, targets_named, and_then}

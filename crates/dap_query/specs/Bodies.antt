@@ -1,6 +1,6 @@
 -- The answers to the requests that ask for what the debuggee shows.
 -- Specification, "ThreadsResponse", "StackTraceResponse", "ScopesResponse", "VariablesResponse", "EvaluateResponse", "SourceResponse", "LoadedSourcesResponse" and "Types". Which of what they may say is said, is this profile's choice.
-use Rattle.std.specs.Prelude.{ℕ, ◌+◌, ◌-◌, ◌&&◌, List, [], ◌∷◌, length, map, take, drop, nat_lt, Option, Some, None, is_some, option_map, option_and_then, unwrap_or, Result, Ok, Err, if◌then◌else◌}
+use Rattle.std.specs.Prelude.{ℕ, ◌+◌, ◌-◌, ◌&&◌, List, [], ◌∷◌, length, map, Option, Some, None, is_some, option_map, option_and_then, unwrap_or, Result, Ok, Err, if◌then◌else◌}
 use Rattle.std.specs.List.{slice_get, zip, range_with_len}
 use Rattle.serde_json.specs.Data.{Data}
 use Rattle.dap_tables.specs.declared.target.Target.{Target}
@@ -14,7 +14,7 @@ use Rattle.dap_message.specs.Types.StackFrame.{StackFrame}
 use Rattle.dap_message.specs.Types.Scope.{Scope as ScopeBody}
 use Rattle.dap_message.specs.Types.Variable.{Variable as VariableBody}
 use Rattle.dap_message.specs.Types.Source.{Source as SourceBody}
-use Rattle.dap_debuggee.specs.Shown.{Shown}
+use Rattle.dap_debuggee.specs.Shown.{Shown, window}
 use Rattle.dap_debuggee.specs.declared.answers.Thread.{Thread}
 use Rattle.dap_debuggee.specs.declared.answers.Frame.{Frame}
 use Rattle.dap_debuggee.specs.declared.answers.Scope.{Scope}
@@ -56,10 +56,6 @@ line_shown options line = if options.lines_start_at_1 then line else line - 1
 
 abbrev pub column_shown : Options → ℕ
 column_shown options = if options.columns_start_at_1 then 1 else 0
-
--- from `start` on, at most `count` where that is above 0
-abbrev pub window : {A : Type 0} → ℕ → ℕ → List A → List A
-window start count xs = if nat_lt 0 count then take count (drop start xs) else drop start xs
 
 -- ---- what bodies are made of
 

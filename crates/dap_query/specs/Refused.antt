@@ -4,8 +4,8 @@ use Rattle.std.specs.Prelude.{ℕ, ◌-◌, List, [], Bool, false, Option, Some,
 use Rattle.dap_message.specs.Types.Call.{Call}
 use Rattle.dap_message.specs.Types.Call.TheVariants as call
 use Rattle.dap_tables.specs.declared.target.Target.{Target}
-use Rattle.dap_debuggee.specs.Shown.{Shown}
-use Rattle.dap_query.specs.Bodies.{window, page, frame_objects, scope_objects, variable_objects, value_objects}
+use Rattle.dap_debuggee.specs.Shown.{Shown, window}
+use Rattle.dap_query.specs.Bodies.{page, frame_objects, scope_objects, variable_objects, value_objects}
 use Rattle.dap_query.specs.Queries.{QueryState, object_of}
 
 -- the debuggee does not answer what is asked, or what is named is not there

@@ -1,5 +1,7 @@
 //! The body that answers a query: what the debuggee shows, with a number for each object that it names.
-ghost use Rattle.std.specs.Prelude.{◌≡◌, IfOk, OnErr};
+ghost use Rattle.std.specs.Prelude.{◌≡◌, List, IfOk, OnErr};
+ghost use Rattle.dap_debuggee.specs.Shown.{window};
+ghost use Rattle.dap_debuggee.specs.declared.answers.Variable.{Variable};
 ghost use Rattle.dap_message.specs.Body.{data_in};
 ghost use Rattle.dap_message.specs.Types.Call.{Call};
 ghost use Rattle.dap_query.specs.Bodies.{query_result, page};
@@ -11,7 +13,7 @@ use crate::bodies::{
 };
 use crate::no_answer::NoAnswer;
 use crate::queries::Queries;
-use dap_debuggee::{Debuggee, Evaluation, Variable};
+use dap_debuggee::{Debuggee, Evaluation};
 use dap_message::{Body, Call, Evaluate, Failure, StackTrace, Variables};
 use std::alloc::{AllocError, Global};
 
@@ -42,9 +44,8 @@ impl Queries {
         let total = all.len() as u64;
         let frames = window(alloc, asked.start_frame, asked.levels, all)?;
         let named = frames_named(alloc, &frames)?;
-        let sources = debuggee.sources(alloc)?;
         let ids = self.number_each(alloc, &named)?;
-        let frames = protocol_frames(alloc, self.options, &sources, ids, frames)?;
+        let frames = protocol_frames(alloc, self.options, debuggee, ids, frames)?;
         Ok(Some(Body::StackTrace {
             stack_frames: frames,
             total_frames: total,
@@ -71,19 +72,15 @@ impl Queries {
         Ok(Some(Body::Scopes { scopes }))
     }
 
-    /// The part of the variables that is asked for: all, where the client did not say that it pages them.
-    fn page(
-        &self,
-        alloc: Global,
-        asked: Variables,
-        variables: Vec<Variable>,
-    ) -> Result<Vec<Variable>, AllocError>
-        ensures { IfOk result (λ part. part.items ≡ page self.now.options asked.start asked.count variables.items) }
+    /// Which part of the variables is asked for, by its start and its count: all, where the client did not say that it pages
+    /// them.
+    fn part(&self, asked: Variables) -> (u32, u32)
+        ensures { (variables : List Variable) → window result.0 result.1 variables ≡ page self.now.options asked.start asked.count variables }
     {
         if self.options.supports_variable_paging {
-            window(alloc, asked.start, asked.count, variables)
+            (asked.start, asked.count)
         } else {
-            Ok(variables)
+            (0, 0)
         }
     }
 
@@ -100,8 +97,8 @@ impl Queries {
         let Some(holder) = self.object(asked.variables_reference) else {
             return Err(NoAnswer::Fails(Failure::Debuggee));
         };
-        let all = debuggee.children(alloc, holder)?;
-        let variables = self.page(alloc, asked, all)?;
+        let (start, count) = self.part(asked);
+        let variables = debuggee.children(alloc, holder, start, count)?;
         let named = variables_named(alloc, &variables)?;
         let numbers = self.number_each(alloc, &named)?;
         let variables = protocol_variables(alloc, numbers, variables)?;

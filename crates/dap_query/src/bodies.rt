@@ -5,10 +5,11 @@ ghost use Rattle.dap_debuggee.specs.declared.answers.Frame.{Frame as FrameWord};
 ghost use Rattle.dap_debuggee.specs.declared.answers.Scope.{Scope as ScopeWord};
 ghost use Rattle.dap_debuggee.specs.declared.answers.Variable.{Variable as VariableWord};
 ghost use Rattle.dap_tables.specs.References.{frame_of, holder_of};
-ghost use Rattle.dap_query.specs.Bodies.{protocol_thread, numbered_source, reference_of, protocol_sources, source_of_frame, line_shown, column_shown, frame_with, protocol_frame, protocol_scope, protocol_variable, with_numbers, window};
+ghost use Rattle.dap_debuggee.specs.Shown.{window};
+ghost use Rattle.dap_query.specs.Bodies.{protocol_thread, numbered_source, reference_of, protocol_sources, source_of_frame, line_shown, column_shown, frame_with, protocol_frame, protocol_scope, protocol_variable, with_numbers};
 
 use crate::options::Options;
-use dap_debuggee::{Frame, Scope, Source, Thread, Variable};
+use dap_debuggee::{Debuggee, DebuggeeFault, Frame, Scope, Source, Thread, Variable};
 use dap_message::{StackFrame, Text};
 use dap_tables::{ReferenceKind, Target};
 use std::alloc::{AllocError, Global};
@@ -176,46 +177,36 @@ pub(crate) fn protocol_sources(
         .collect(alloc)
 }
 
-/// A copy of the source of a frame. At an index past the sources it has no name, and the number 0.
-fn source_of_frame(
+/// The source of a frame. At an index past the sources it has no name, and the number 0.
+fn source_of_frame<D: Debuggee>(
     alloc: Global,
-    sources: &[Source],
+    debuggee: &D,
     index: u32,
 ) -> Result<dap_message::Source, AllocError>
-    requires { length sources.now ≤ 65536 }
-    ensures { IfOk result (λ told. told ≡ source_of_frame sources.now index) }
+    ensures { IfOk result (λ told. told ≡ source_of_frame (D.shown debuggee.now).sources index) }
 {
-    let Some(source) = sources.get(index as usize) else {
-        return Ok(dap_message::Source {
+    match debuggee.source(alloc, index) {
+        Ok(source) => Ok(numbered_source(index + 1, source)),
+        Err(DebuggeeFault::Refused) => Ok(dap_message::Source {
             name: Text::copied(alloc, "")?,
             path: None,
             source_reference: Some(0),
-        });
-    };
-    let name = source.name.clone()?;
-    let path = match &source.path {
-        None => None,
-        Some(path) => Some(path.clone()?),
-    };
-    Ok(dap_message::Source {
-        name,
-        path,
-        source_reference: reference_of(index + 1, source),
-    })
+        }),
+        Err(DebuggeeFault::OutOfMemory) => Err(AllocError),
+    }
 }
 
 /// The source of each frame.
-fn sources_of_frames(
+fn sources_of_frames<D: Debuggee>(
     alloc: Global,
-    sources: &[Source],
+    debuggee: &D,
     frames: &[Frame],
 ) -> Result<Vec<dap_message::Source>, AllocError>
-    requires { length sources.now ≤ 65536 }
-    ensures { IfOk result (λ told. told.items ≡ map (λ (f : FrameWord). source_of_frame sources.now f.source) frames.now) }
+    ensures { IfOk result (λ told. told.items ≡ map (λ (f : FrameWord). source_of_frame (D.shown debuggee.now).sources f.source) frames.now) }
 {
     let mut told = Vec::with_capacity(alloc, frames.len())?;
     for frame in frames {
-        told.push(source_of_frame(alloc, sources, frame.source)?)?;
+        told.push(source_of_frame(alloc, debuggee, frame.source)?)?;
     }
     Ok(told)
 }
@@ -271,17 +262,16 @@ fn frames_with(
 }
 
 /// Frames with their numbers and their sources.
-pub(crate) fn protocol_frames(
+pub(crate) fn protocol_frames<D: Debuggee>(
     alloc: Global,
     options: Options,
-    sources: &[Source],
+    debuggee: &D,
     ids: Vec<u32>,
     frames: Vec<Frame>,
 ) -> Result<Vec<StackFrame>, AllocError>
-    requires { length sources.now ≤ 65536 }
-    ensures { IfOk result (λ told. told.items ≡ with_numbers (protocol_frame options sources.now) ids.items frames.items) }
+    ensures { IfOk result (λ told. told.items ≡ with_numbers (protocol_frame options (D.shown debuggee.now).sources) ids.items frames.items) }
 {
-    let sources = sources_of_frames(alloc, sources, &frames)?;
+    let sources = sources_of_frames(alloc, debuggee, &frames)?;
     frames_with(alloc, options, ids, frames, sources)
 }
 

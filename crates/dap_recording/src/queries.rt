@@ -1,6 +1,7 @@
 //! What a recorded debuggee tells of the moment that it shows.
 ghost use Rattle.std.specs.Prelude.{◌≡◌, ◌&&◌, nat_le, IfOk, map, option_map};
 ghost use Rattle.dap_debuggee.specs.Laws.{variable_named};
+ghost use Rattle.dap_debuggee.specs.Shown.{window as window_of};
 ghost use Rattle.dap_recording.specs.PrivateHeld.{thread_with};
 ghost use Rattle.dap_recording.specs.Played.{is_in as is_in_span, source_shown, thread_shown};
 
@@ -77,18 +78,36 @@ fn copied_path(path: &Option<Text>) -> Result<Option<Text>, AllocError>
     }
 }
 
+fn source_copied(source: &RecordedSource) -> Result<Source, AllocError>
+    ensures { IfOk result (λ shown. shown ≡ source_shown source.now) }
+{
+    Ok(Source {
+        name: source.name.clone()?,
+        path: copied_path(&source.path)?,
+        on_disk: source.on_disk,
+    })
+}
+
 fn sources(alloc: Global, sources: &[RecordedSource]) -> Result<Vec<Source>, AllocError>
     ensures { IfOk result (λ shown. shown.items ≡ map source_shown sources.now) }
 {
     let mut shown = Vec::with_capacity(alloc, sources.len())?;
     for source in sources {
-        shown.push(Source {
-            name: source.name.clone()?,
-            path: copied_path(&source.path)?,
-            on_disk: source.on_disk,
-        })?;
+        shown.push(source_copied(source)?)?;
     }
     Ok(shown)
+}
+
+/// From the place `start` on, at most `count` elements where `count` is above 0.
+fn window(variables: &[Variable], start: usize, count: usize) -> &[Variable]
+    ensures { result.now ≡ window_of start count variables.now }
+{
+    let (_, rest) = variables.split_at(start.min(variables.len()));
+    if count == 0 {
+        return rest;
+    }
+    let (part, _) = rest.split_at(count.min(rest.len()));
+    part
 }
 
 /// The first variable with a name.
@@ -124,6 +143,7 @@ impl Recorded {
     ghost use Rattle.std.specs.List.{slice_get};
     ghost use Rattle.std.specs.Option.{IsSome};
     ghost use Rattle.dap_debuggee.specs.Laws.{AnswersQuery, variable_named};
+    ghost use Rattle.dap_debuggee.specs.Shown.{window};
     ghost use Rattle.dap_recording.specs.PrivateHeld.{lines_of_key};
     ghost use Rattle.dap_recording.specs.Played.{moment_shown, threads_at, scopes_shown, children_shown, changed_at, variables_held, value_in as value_within, thread_shown, shown_of};
 
@@ -253,13 +273,25 @@ impl Recorded {
         &self,
         alloc: Global,
         holder: u64,
+        start: u32,
+        count: u32,
     ) -> Result<Vec<Variable>, DebuggeeFault>
-        ensures told { AnswersQuery result (λ children. children.items) ((shown_of self.now).children holder) }
+        ensures told { AnswersQuery result (λ children. children.items) (option_map (window start count) ((shown_of self.now).children holder)) }
         ensures memory { IsErrOf result DebuggeeFault.OutOfMemory → IsSome ((shown_of self.now).children holder) }
     {
         match self.children_at(holder) {
             None => Err(DebuggeeFault::Refused),
-            Some(found) => Ok(variables(alloc, found)?),
+            Some(found) => Ok(variables(alloc, window(found, start as usize, count as usize))?),
+        }
+    }
+
+    pub(crate) fn source_of(&self, index: u32) -> Result<Source, DebuggeeFault>
+        ensures told { AnswersQuery result (λ source. source) (slice_get (shown_of self.now).sources index) }
+        ensures memory { IsErrOf result DebuggeeFault.OutOfMemory → IsSome (slice_get (shown_of self.now).sources index) }
+    {
+        match self.recording.sources.as_slice().get(index as usize) {
+            None => Err(DebuggeeFault::Refused),
+            Some(source) => Ok(source_copied(source)?),
         }
     }
 

@@ -234,10 +234,11 @@ fn last_told(how: How, at: usize, to: usize) -> usize
 }
 
 impl Debuggee for Recorded {
-    ghost use Rattle.std.specs.Prelude.{◌≡◌, ◌<◌, length, IfOk, IsTrue, IsErrOf, OnOk, OnErr};
+    ghost use Rattle.std.specs.Prelude.{◌≡◌, ◌<◌, length, IfOk, IsTrue, IsErrOf, OnOk, OnErr, option_map};
+    ghost use Rattle.std.specs.List.{slice_get};
     ghost use Rattle.std.specs.Option.{IsSome};
-    ghost use Rattle.dap_debuggee.specs.Shown.{to_start, to_resume, to_pause, to_poll, to_set_breakpoints, to_assign, done, happened};
-    ghost use Rattle.dap_debuggee.specs.Laws.{Replies, AnswersQuery, is_short, FramesInRange, NamesOneFrame};
+    ghost use Rattle.dap_debuggee.specs.Shown.{to_start, to_resume, to_pause, to_poll, to_set_breakpoints, to_assign, done, happened, window};
+    ghost use Rattle.dap_debuggee.specs.Laws.{Replies, AnswersQuery, is_short, FramesInRange, NamesOneFrame, SourcesInRange};
     ghost use Rattle.dap_recording.specs.Played.{shown_of, FollowsPlayed};
     ghost use Rattle.dap_recording.specs.PlayedLaws.{counts-played, remembers-played, answers-played, moves-played, sets_lines-played, sets_values-played, keeps_answers-played, keeps_frames-played, keeps_sources-played, no_threads-played, verifies_each-played, assigns_variables-played};
 
@@ -328,11 +329,17 @@ impl Debuggee for Recorded {
         self.scopes_of(alloc, frame)
     }
 
-    fn children(&self, alloc: Global, holder: u64) -> Result<Vec<Variable>, DebuggeeFault>
-        ensures told { AnswersQuery result (λ children. children.items) ((shown_of self.now).children holder) }
+    fn children(
+        &self,
+        alloc: Global,
+        holder: u64,
+        start: u32,
+        count: u32,
+    ) -> Result<Vec<Variable>, DebuggeeFault>
+        ensures told { AnswersQuery result (λ children. children.items) (option_map (window start count) ((shown_of self.now).children holder)) }
         ensures memory { IsErrOf result DebuggeeFault.OutOfMemory → IsSome ((shown_of self.now).children holder) }
     {
-        self.children_of(alloc, holder)
+        self.children_of(alloc, holder, start, count)
     }
 
     fn evaluate(
@@ -363,6 +370,15 @@ impl Debuggee for Recorded {
     fn sources(&self, alloc: Global) -> Result<Vec<Source>, AllocError> {
         self.is_recording();
         self.all_sources(alloc)
+    }
+
+    fn source(&self, _alloc: Global, index: u32) -> Result<Source, DebuggeeFault>
+        ensures source { AnswersQuery result (λ source. source) (slice_get (shown_of self.now).sources index) }
+        ensures in_range { SourcesInRange (shown_of self.now) }
+        ensures memory { IsErrOf result DebuggeeFault.OutOfMemory → IsSome (slice_get (shown_of self.now).sources index) }
+    {
+        self.is_recording();
+        self.source_of(index)
     }
 
     fn content(&self, _alloc: Global, index: u32) -> Result<Text, DebuggeeFault>

@@ -89,7 +89,7 @@ fn are_objects(alloc: Global, recorded: &Recorded, wanted: &str) -> bool {
 
 /// Whether a holder is there.
 fn is_holder(alloc: Global, recorded: &Recorded, holder: u64) -> bool {
-    match recorded.children(alloc, holder) {
+    match recorded.children(alloc, holder, 0, 0) {
         Ok(children) => {
             drop(children);
             true

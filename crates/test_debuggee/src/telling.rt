@@ -70,7 +70,7 @@ pub(crate) fn add_children<D: Debuggee>(
     holder: u64,
     told: &mut String,
 ) -> bool {
-    match debuggee.children(alloc, holder) {
+    match debuggee.children(alloc, holder, 0, 0) {
         Ok(variables) => add_variables(told, &variables),
         Err(fault) => told.push_str(faulted(fault)).is_ok(),
     }

@@ -156,8 +156,14 @@ impl Debuggee for Stubborn {
         self.inner.scopes(alloc, frame)
     }
 
-    fn children(&self, alloc: Global, holder: u64) -> Result<Vec<Variable>, DebuggeeFault> {
-        self.inner.children(alloc, holder)
+    fn children(
+        &self,
+        alloc: Global,
+        holder: u64,
+        start: u32,
+        count: u32,
+    ) -> Result<Vec<Variable>, DebuggeeFault> {
+        self.inner.children(alloc, holder, start, count)
     }
 
     fn evaluate(
@@ -181,6 +187,10 @@ impl Debuggee for Stubborn {
 
     fn sources(&self, alloc: Global) -> Result<Vec<Source>, AllocError> {
         self.inner.sources(alloc)
+    }
+
+    fn source(&self, alloc: Global, index: u32) -> Result<Source, DebuggeeFault> {
+        self.inner.source(alloc, index)
     }
 
     fn content(&self, alloc: Global, index: u32) -> Result<Text, DebuggeeFault> {

@@ -94,7 +94,7 @@ fn tells_scopes(alloc: Global, debuggee: &Recorded) -> Option<bool> {
 }
 
 fn tells_children(alloc: Global, debuggee: &Recorded) -> Option<bool> {
-    match debuggee.children(alloc, 1) {
+    match debuggee.children(alloc, 1, 0, 0) {
         Ok(variables) => Some(variables.len() == 1),
         Err(fault) => unanswered(fault),
     }
@@ -203,7 +203,7 @@ fn asking_for_threads(rt: HostRuntime) -> Result<(), Fail> {
 
 /// Whether the variable `p` has this value, both among the children and as an expression.
 fn has_value(alloc: Global, debuggee: &Recorded, wanted: &str) -> Option<bool> {
-    let told = match debuggee.children(alloc, 1) {
+    let told = match debuggee.children(alloc, 1, 0, 0) {
         Ok(variables) => match variables.as_slice() {
             [p] => Some(p.value.as_str() == wanted && p.holder == Some(0)),
             _ => Some(false),

@@ -4,4 +4,4 @@ use Rattle.dap_query.specs.Bodies.{source_of_frame}
 use Rattle.dap_query.proofs.bodies.sources_of_frames.Given as goal
 
 abbrev pub invariant-loop-frame : goal.invariant-loop-frame
-invariant-loop-frame l = l.told.items ≡ map (λ (f : Frame). source_of_frame l.sources f.source) (take l.frame-index l.frames)
+invariant-loop-frame g l = l.told.items ≡ map (λ (f : Frame). source_of_frame (g.D.Debuggee.shown l.debuggee).sources f.source) (take l.frame-index l.frames)
