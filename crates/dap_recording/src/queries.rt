@@ -285,11 +285,17 @@ impl Recorded {
         }
     }
 
+    fn recorded_source(&self, index: u32) -> Option<&RecordedSource>
+        ensures { option_map (λ s. s.now) result ≡ slice_get self.now.recording.sources index }
+    {
+        self.recording.sources.as_slice().get(index as usize)
+    }
+
     pub(crate) fn source_of(&self, index: u32) -> Result<Source, DebuggeeFault>
         ensures told { AnswersQuery result (λ source. source) (slice_get (shown_of self.now).sources index) }
         ensures memory { IsErrOf result DebuggeeFault.OutOfMemory → IsSome (slice_get (shown_of self.now).sources index) }
     {
-        match self.recording.sources.as_slice().get(index as usize) {
+        match self.recorded_source(index) {
             None => Err(DebuggeeFault::Refused),
             Some(source) => Ok(source_copied(source)?),
         }
@@ -299,7 +305,7 @@ impl Recorded {
         ensures told { AnswersQuery result (λ text. text) ((shown_of self.now).content index) }
         ensures memory { IsErrOf result DebuggeeFault.OutOfMemory → IsSome ((shown_of self.now).content index) }
     {
-        match self.recording.sources.as_slice().get(index as usize) {
+        match self.recorded_source(index) {
             None => Err(DebuggeeFault::Refused),
             Some(source) => Ok(source.text.clone()?),
         }
