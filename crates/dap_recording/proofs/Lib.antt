@@ -3,6 +3,7 @@ pub mod Outputs
 pub mod Pieces
 pub mod Ranges
 pub mod Verified
+pub mod Depths
 pub mod Children
 pub mod Elements
 pub mod ReadSteps
@@ -22,6 +23,3 @@ pub mod Ids
 pub mod Telling
 pub mod Longest
 pub mod Stops
-pub mod CheckedElements
-pub mod SameKey
-mod RefusalsExamples

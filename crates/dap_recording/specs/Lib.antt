@@ -1,7 +1,6 @@
 pub mod Recording
 pub mod RecordingKey
 pub mod Reading
-pub mod Refusals
 pub mod PrivateReadThreads
 pub mod Moves
 pub mod Played

@@ -2,7 +2,6 @@
 ghost use Rattle.dap_debuggee.specs.Laws.{StopsLast};
 ghost use Rattle.dap_recording.specs.Played.{shown_of, FollowsPlayed};
 ghost use Rattle.dap_recording.specs.Polls.{PiecesAreTheOutput, PollsGiveThePieces, HeldGivesNothing};
-ghost use Rattle.dap_recording.specs.Refusals.{RefusalsAreFaults};
 
 /// The pieces of a run's output are the whole output; none is empty, and none has more than 128 bytes.
 pub fn pieces_are_the_output()
@@ -22,10 +21,4 @@ pub fn held_gives_nothing()
 /// A stop of a recorded debuggee lasts until it is asked to go on or to end.
 pub fn recorded_stops_last()
     ensures { StopsLast shown_of FollowsPlayed }
-{}
-
-/// What [`refusal_of`](crate::refusal_of) says of bytes is why [`Recorded::read`](crate::Recorded::read) refuses them: it is
-/// there just where that is refused, and it has the fault's key.
-pub fn refusals_are_faults()
-    ensures { RefusalsAreFaults }
 {}

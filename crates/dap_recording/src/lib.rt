@@ -8,6 +8,7 @@
 mod acts;
 mod laws;
 mod moves;
+pub mod numbers;
 mod paths;
 mod polls;
 mod queries;
@@ -16,17 +17,12 @@ mod read_threads;
 mod reading;
 mod recorded;
 mod recording;
-mod refusal;
-mod refusing;
 mod rows;
 mod run;
 
 pub use dap_json::List;
 pub use laws::{
     held_gives_nothing, pieces_are_the_output, polls_tell_the_pieces, recorded_stops_last,
-    refusals_are_faults,
 };
 pub use reading::{RecordingFault, RecordingKey};
 pub use recorded::Recorded;
-pub use refusal::{BadCause, BadPlace, Element, JsonKind, RecordingRefusal};
-pub use refusing::refusal_of;

@@ -3,9 +3,9 @@ ghost use Rattle.std.specs.Prelude.{◌≡◌, [], false};
 ghost use Rattle.serde_json.specs.View.{view};
 ghost use Rattle.serde_json.specs.Find.{as_str, as_bool, as_array};
 ghost use Rattle.serde_json.specs.Data.{no_items};
-ghost use Rattle.dap_call.specs.Argument.{int_of, number_of};
 ghost use Rattle.dap_recording.specs.Reading.{Gives, GivesItems, element as element_of, exit_of, some_items as some_items_of, few_items as few_items_of, required_at, optional_at, optional_or};
 
+use crate::numbers;
 use dap_json::Text;
 use serde_json::Value;
 use std::alloc::{AllocError, AllocFailed, Global};
@@ -162,43 +162,13 @@ pub(crate) fn flag(value: &Value, key: RecordingKey) -> Result<bool, RecordingFa
     }
 }
 
-/// The greatest line, and the greatest place of a source.
-const MAX_NUMBER: u64 = 2147483647;
-
-/// The greatest id of a thread.
-pub(crate) const MAX_ID: i64 = 9007199254740991;
-
-/// The most sources.
-pub(crate) const MAX_SOURCES: usize = 65536;
-
-pub(crate) fn int(value: &Value) -> Option<i64>
-    ensures { result ≡ int_of (view value.now) }
-{
-    value.as_i64().filter(|n| -MAX_ID <= *n && *n <= MAX_ID)
-}
-
-pub(crate) fn number(value: &Value) -> Option<u32>
-    ensures { result ≡ number_of (view value.now) }
-{
-    match value.as_u64() {
-        Some(n) if n <= MAX_NUMBER => Some(n as u32),
-        _ => None,
-    }
-}
-
-pub(crate) fn status(value: &Value) -> Option<i32>
-    ensures { result ≡ exit_of (view value.now) }
-{
-    match value.as_i64() {
-        Some(n) if i32::MIN as i64 <= n && n <= i32::MAX as i64 => Some(n as i32),
-        _ => None,
-    }
-}
-
 pub(crate) fn exit(value: &Value, key: RecordingKey) -> Result<i32, RecordingFault>
     ensures { Gives result (required_at exit_of key (view value.now)) }
 {
-    value.get(key.name()).and_then(status).ok_or(bad(key))
+    value
+        .get(key.name())
+        .and_then(numbers::status)
+        .ok_or(bad(key))
 }
 
 pub(crate) fn items(value: &Value, key: RecordingKey) -> Result<&[Value], RecordingFault>
@@ -242,7 +212,7 @@ pub(crate) fn few_items(value: &Value, key: RecordingKey) -> Result<&[Value], Re
     ensures { GivesItems result (few_items_of key (view value.now)) }
 {
     let items = items(value, key)?;
-    if items.len() > MAX_SOURCES {
+    if items.len() > numbers::MAX_SOURCES {
         return Err(bad(key));
     }
     Ok(items)

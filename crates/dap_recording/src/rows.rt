@@ -1,14 +1,13 @@
 //! From JSON to a recording: a function for each row of keys, which tests them in the order of the format.
 ghost use Rattle.std.specs.Prelude.{◌≡◌, [], IfOk};
 ghost use Rattle.serde_json.specs.View.{view, items_view};
-ghost use Rattle.dap_recording.specs.Recording.{line_count as line_count_of};
 ghost use Rattle.dap_recording.specs.declared.reading.RecordingKey.TheVariants as key;
 ghost use Rattle.dap_recording.specs.Reading.{Numbered, GivesListWith, GivesList, Gives, GivesWith, value_at, required_at, read_variables, variable_row, variables_of, holder_of, with_holder, each, each_source, scope_of, scopes_of, frame_of, thread_of, moment_of, moments_of, source_of, recording_of, source_place as source_place_of, line_of, lines_at, place_of, new_id as new_id_of, thread_place as thread_place_of};
 
 use crate::read_threads::ReadThreads;
-use crate::reading;
 use crate::reading::{RecordingFault, RecordingKey, bad};
 use crate::recording::{Moment, RecordedSource, RecordedThread, Recording, Span};
+use crate::{numbers, reading};
 use dap_debuggee::{Frame, Scope, Variable};
 use dap_json::List;
 use serde_json::Value;
@@ -153,7 +152,7 @@ fn source_place(sources: &[RecordedSource], value: &Value) -> Result<u32, Record
 {
     match value
         .get(RecordingKey::Source.name())
-        .and_then(reading::number)
+        .and_then(numbers::number)
     {
         Some(place) if (place as usize) < sources.len() => Ok(place),
         _ => Err(bad(RecordingKey::Source)),
@@ -166,7 +165,7 @@ fn line(lines: u64, value: &Value) -> Result<u32, RecordingFault>
 {
     match value
         .get(RecordingKey::Line.name())
-        .and_then(reading::number)
+        .and_then(numbers::number)
     {
         Some(line) if 1 <= line && line as u64 <= lines => Ok(line),
         _ => Err(bad(RecordingKey::Line)),
@@ -238,7 +237,7 @@ fn place(id: i64, threads: &[RecordedThread]) -> Option<usize>
 fn new_id(earlier: &ReadThreads, value: &Value) -> Result<i64, RecordingFault>
     ensures { Gives result (required_at (new_id_of earlier.now) key.Id (view value.now)) }
 {
-    match value.get(RecordingKey::Id.name()).and_then(reading::int) {
+    match value.get(RecordingKey::Id.name()).and_then(numbers::int) {
         Some(id) if !earlier.has(id) => Ok(id),
         _ => Err(bad(RecordingKey::Id)),
     }
@@ -249,7 +248,7 @@ fn thread_place(threads: &[RecordedThread], value: &Value) -> Result<usize, Reco
 {
     match value
         .get(RecordingKey::Thread.name())
-        .and_then(reading::int)
+        .and_then(numbers::int)
     {
         Some(id) => place(id, threads).ok_or(bad(RecordingKey::Thread)),
         None => Err(bad(RecordingKey::Thread)),
@@ -347,21 +346,6 @@ fn moments(
     Ok(found)
 }
 
-/// How many lines a text has: pieces ended by LF, and a last one that is not empty.
-pub(crate) fn line_count(text: &str) -> u64
-    ensures { result ≡ line_count_of text.now }
-{
-    let mut lines = 0;
-    let mut open = false;
-    for byte in text.as_bytes() {
-        if *byte == b'\n' {
-            lines += 1;
-        }
-        open = *byte != b'\n';
-    }
-    if open { lines + 1 } else { lines }
-}
-
 #[tactic(auto, unfolding(crate::specs::Reading::source_of))]
 fn source(alloc: Global, value: &Value) -> Result<RecordedSource, RecordingFault>
     ensures { Gives result (source_of (view value.now)) }
@@ -371,7 +355,7 @@ fn source(alloc: Global, value: &Value) -> Result<RecordedSource, RecordingFault
     let path = reading::optional_text(alloc, value, RecordingKey::Path)?;
     let text = reading::text(alloc, value, RecordingKey::Text)?;
     let on_disk = reading::flag(value, RecordingKey::OnDisk)?;
-    let lines = line_count(text.as_str());
+    let lines = numbers::line_count(text.as_str());
     Ok(RecordedSource {
         name,
         path,

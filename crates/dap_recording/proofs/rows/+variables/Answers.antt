@@ -2,7 +2,8 @@ use Rattle.std.proofs.Common.{suc, rules, ◌≡◌, ◌∷◌, ◌++◌, [], Er
 use Rattle.serde_json.specs.View.{view, items_view}
 use Rattle.dap_json.specs.Steps.{◌>>=◌}
 use Rattle.dap_recording.specs.Reading.{variables_of, each_variable}
-use Rattle.dap_recording.proofs.Children.{get_below, element_below, next_variable, refused_within, variables_in}
+use Rattle.dap_recording.proofs.Children.{next_variable, refused_within, variables_in}
+use Rattle.dap_recording.proofs.Depths.{get_below, element_below}
 use Rattle.dap_recording.proofs.rows.+variables.Goals as goal
 
 pub children-variables-requires : goal.children-variables-requires

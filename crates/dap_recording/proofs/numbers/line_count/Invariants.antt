@@ -1,6 +1,6 @@
 use Rattle.std.proofs.Common.{◌≡◌, ◌+◌, ◌≤◌, ◌∷◌, drop, if◌then◌else◌}
 use Rattle.dap_recording.specs.Recording.{line_count}
-use Rattle.dap_recording.proofs.rows.line_count.Given as goal
+use Rattle.dap_recording.proofs.numbers.line_count.Given as goal
 
 -- the lines that ended so far, and those of what is left, with the one that began
 abbrev pub invariant-loop-byte : goal.invariant-loop-byte

@@ -1,10 +1,10 @@
 use Rattle.std.proofs.Common.{◌≡◌, ◌*◌, suc, drop}
 use Rattle.serde_json.specs.Data.{depth}
 use Rattle.serde_json.specs.View.{view, items_view}
-use Rattle.dap_recording.specs.Refusals.{each_element}
+use Rattle.dap_refusal.specs.Refusals.{each_element}
 use Rattle.dap_recording.specs.declared.reading.RecordingKey.TheVariants.{Variables}
-use Rattle.dap_recording.proofs.CheckedElements.{row_of_variable}
-use Rattle.dap_recording.proofs.refusing.+bad_variables.Given as goal
+use Rattle.dap_refusal.proofs.CheckedElements.{row_of_variable}
+use Rattle.dap_refusal.proofs.refusing.+bad_variables.Given as goal
 
 -- how deep the variables nest, and a variable is looked at before its children
 abbrev pub decreases-variable : goal.decreases-variable

@@ -1,15 +1,15 @@
 -- Worked examples of why JSON is no recording, each shown by computation.
-use Rattle.std.proofs.Common.{◌≡◌, List, ℕ, [], ◌∷◌, codes, true, false, Option, Some, None, Ok, Err, ℤ, pos, negsuc, refl}
-use Rattle.serde_json.specs.Data.{Data, boolean, null, number, unsigned, negative, string, array, object, Items, no_items, item, Members, no_members, put}
-use Rattle.dap_recording.specs.Refusals.{refusal_of, scope_row, scopes_row, frame_row, thread_row, moment_row, source_row, recording_row}
+use Rattle.std.proofs.Common.{◌≡◌, List, ℕ, [], ◌∷◌, codes, Option, Some, None, pos, negsuc, refl}
+use Rattle.serde_json.specs.Data.{Data, null, number, unsigned, negative, string, array, object, Items, no_items, item, Members, no_members, put}
+use Rattle.dap_refusal.specs.Refusals.{refusal_of, scope_row, scopes_row, frame_row, thread_row, moment_row, source_row, recording_row}
 use Rattle.dap_recording.specs.declared.reading.RecordingKey.{RecordingKey}
 use Rattle.dap_recording.specs.declared.reading.RecordingKey.TheVariants as key
-use Rattle.dap_recording.specs.declared.refusal.BadCause.{BadCause}
-use Rattle.dap_recording.specs.declared.refusal.BadCause.TheVariants.{Absent, OtherKind, NoElements, OutOfRange, NoSource, PastLines, DuplicateId, NoThread}
-use Rattle.dap_recording.specs.declared.refusal.Element.{Element}
-use Rattle.dap_recording.specs.declared.refusal.JsonKind.TheVariants as kind
-use Rattle.dap_recording.specs.declared.refusal.RecordingRefusal.{RecordingRefusal}
-use Rattle.dap_recording.specs.declared.refusal.RecordingRefusal.TheVariants.{NotJson, NotObject, BadKey}
+use Rattle.dap_refusal.specs.declared.refusal.BadCause.{BadCause}
+use Rattle.dap_refusal.specs.declared.refusal.BadCause.TheVariants.{Absent, OtherKind, NoElements, OutOfRange, NoSource, PastLines, DuplicateId, NoThread}
+use Rattle.dap_refusal.specs.declared.refusal.Element.{Element}
+use Rattle.dap_refusal.specs.declared.refusal.JsonKind.TheVariants as kind
+use Rattle.dap_refusal.specs.declared.refusal.RecordingRefusal.{RecordingRefusal}
+use Rattle.dap_refusal.specs.declared.refusal.RecordingRefusal.TheVariants.{NotJson, NotObject, BadKey}
 
 abbrev whole : ℕ → Data
 whole n = number (unsigned n)

@@ -1,10 +1,10 @@
-use Rattle.std.proofs.Common.{suc, rules, ◌≡◌, [], Ok, Err, add-one, sym, subst, ap, ◌∙◌, arith}
+use Rattle.std.proofs.Common.{rules, ◌≡◌, Err, add-one, sym, ap, ◌∙◌, arith}
 use Rattle.serde_json.specs.View.{view, items_view}
-use Rattle.dap_recording.specs.Refusals.{Stops, variables_in, each_element}
+use Rattle.dap_refusal.specs.Refusals.{variables_in, each_element}
 use Rattle.dap_recording.specs.declared.reading.RecordingKey.TheVariants.{Variables}
-use Rattle.dap_recording.proofs.Children.{get_below, element_below}
-use Rattle.dap_recording.proofs.CheckedElements.{row_of_variable, variables_are, stops_along, not_object, bad_element, good_element, ended}
-use Rattle.dap_recording.proofs.refusing.+bad_variables.Goals as goal
+use Rattle.dap_recording.proofs.Depths.{get_below, element_below}
+use Rattle.dap_refusal.proofs.CheckedElements.{row_of_variable, variables_are, stops_along, not_object, bad_element, good_element, ended}
+use Rattle.dap_refusal.proofs.refusing.+bad_variables.Goals as goal
 
 pub children-variables-requires : goal.children-variables-requires
 children-variables-requires t c =

@@ -22,15 +22,15 @@ use Rattle.dap_recording.specs.declared.reading.RecordingKey.TheVariants as key
 use Rattle.dap_recording.specs.declared.reading.RecordingFault.{RecordingFault}
 use Rattle.dap_recording.specs.declared.reading.RecordingFault.TheVariants.{NotJson, NotObject, BadKey}
 use Rattle.dap_recording.specs.declared.recording.Recording.{Recording}
-use Rattle.dap_recording.specs.declared.refusal.BadCause.{BadCause}
-use Rattle.dap_recording.specs.declared.refusal.BadCause.TheVariants.{Absent, OtherKind, NoElements, TooMany, OutOfRange, NoSource, PastLines, DuplicateId, NoThread}
-use Rattle.dap_recording.specs.declared.refusal.BadPlace.{BadPlace}
-use Rattle.dap_recording.specs.declared.refusal.JsonKind.{JsonKind}
-use Rattle.dap_recording.specs.declared.refusal.JsonKind.TheVariants as kind
-use Rattle.dap_recording.specs.declared.refusal.RecordingRefusal.{RecordingRefusal}
-use Rattle.dap_recording.specs.declared.refusal.RecordingRefusal.TheVariants as refusal
-use Rattle.dap_recording.specs.declared.refusing.Stop.{Stop}
-use Rattle.dap_recording.specs.declared.refusing.Stop.TheVariants as stop
+use Rattle.dap_refusal.specs.declared.refusal.BadCause.{BadCause}
+use Rattle.dap_refusal.specs.declared.refusal.BadCause.TheVariants.{Absent, OtherKind, NoElements, TooMany, OutOfRange, NoSource, PastLines, DuplicateId, NoThread}
+use Rattle.dap_refusal.specs.declared.refusal.BadPlace.{BadPlace}
+use Rattle.dap_refusal.specs.declared.refusal.JsonKind.{JsonKind}
+use Rattle.dap_refusal.specs.declared.refusal.JsonKind.TheVariants as kind
+use Rattle.dap_refusal.specs.declared.refusal.RecordingRefusal.{RecordingRefusal}
+use Rattle.dap_refusal.specs.declared.refusal.RecordingRefusal.TheVariants as refusal
+use Rattle.dap_refusal.specs.declared.refusing.Stop.{Stop}
+use Rattle.dap_refusal.specs.declared.refusing.Stop.TheVariants as stop
 
 -- ---- places
 

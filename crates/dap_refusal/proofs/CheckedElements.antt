@@ -2,21 +2,26 @@
 use Rattle.std.proofs.Common.{◌≡◌, ℕ, suc, List, ◌∷◌, length, get_or, drop, ◌<◌, ◌≤◌, Bool, true, false, Option, Some, if◌then◌else◌, Err, Ok, refl, sym, ap, ◌∙◌, drop-cons}
 use Rattle.std.proofs.Math.ListN.{drop_of_length-le}
 use Rattle.serde_json.specs.Data.{Data, null, boolean, number, string, array, object, Items, no_items, item, Members, no_members, member}
-use Rattle.serde_json.specs.Find.{get, get_member, as_array}
+use Rattle.serde_json.specs.Find.{get_member, as_array}
 use Rattle.serde_json.specs.View.{view, items_view}
+use Rattle.serde_json.specs.Events.{items_len}
 use Rattle.serde_json.specs.declared.value.Value.{Value}
+use Rattle.serde_json.proofs.Views.{items_len-items_view}
 use Rattle.std.proofs.Common.{Ordering, Less, Equal, Greater}
 use Rattle.std.specs.Ordering.{nat_cmp, match_ordering}
 use Rattle.std.specs.Cmp.Lexicographic.{slice_cmp}
 use Rattle.dap_json.specs.Field.{is_object}
 use Rattle.dap_json.specs.Steps.{◌>>=◌, ◌>>◌}
 use Rattle.dap_recording.specs.RecordingKey.{name_of}
-use Rattle.dap_recording.specs.Refusals.{Checked, within, in_place, in_element, each_element, Stops, StopsWithin, variable_in, variables_in, each_variable, variables_among, variables_if_any, variable_row}
+use Rattle.dap_refusal.specs.Refusals.{Checked, in_place, in_element, each_element, Stops, StopsWithin, variable_in, variables_in, each_variable, variables_among, variables_if_any, variable_row}
 use Rattle.dap_recording.specs.declared.reading.RecordingKey.{RecordingKey}
 use Rattle.dap_recording.specs.declared.reading.RecordingKey.TheVariants as key
-use Rattle.dap_recording.specs.declared.refusal.BadPlace.{BadPlace}
-use Rattle.dap_recording.specs.declared.refusing.Stop.{Stop}
-use Rattle.dap_recording.specs.declared.refusing.Stop.TheVariants as stop
+use Rattle.dap_refusal.specs.declared.refusal.BadPlace.{BadPlace}
+use Rattle.dap_refusal.specs.declared.refusing.Stop.{Stop}
+use Rattle.dap_refusal.specs.declared.refusing.Stop.TheVariants as stop
+
+pub count_is_length : (vs : List Value) → items_len (items_view vs) ≡ length vs
+count_is_length vs = items_len-items_view vs
 
 -- ---- one element
 

@@ -1,7 +1,7 @@
 -- The first bad place has the key that the reading refuses: both walks go through the same keys, step by step.
 use Rattle.std.proofs.Common.{◌≡◌, ℕ, zero, suc, ℤ, Bool, true, false, not, ◌||◌, if◌then◌else◌, nat_le, nat_lt, List, [], ◌∷◌, ◌++◌, length, map, Option, Some, None, is_some, option_and_then, option_map, unwrap_or, Err, Ok, Ordering, Less, Equal, Greater, refl, sym, ap, subst, ◌∙◌}
 use Rattle.std.proofs.lemmas.List.{map-append}
-use Rattle.std.specs.List.{list_any, slice_get}
+use Rattle.std.specs.List.{slice_get}
 use Rattle.std.specs.Ordering.{int_eq, nat_cmp, match_ordering}
 use Rattle.std.specs.Cmp.Lexicographic.{slice_cmp}
 use Rattle.serde_json.specs.Data.{Data, null, boolean, number, string, array, object, Items, no_items, item, Members, no_members, member}
@@ -14,23 +14,19 @@ use Rattle.dap_recording.specs.Reading as read
 use Rattle.dap_recording.specs.Reading.{Read, Holders, Numbered, or_bad, in_shape, required_at, value_at, exit_of, line_of, place_of, verdict_of, or_fault, recording_of, source_of, moment_of, moments_of, thread_of, frame_of, scope_of, scopes_of}
 use Rattle.dap_recording.specs.Recording.{line_count}
 use Rattle.dap_recording.specs.RecordingKey.{name_of}
-use Rattle.dap_recording.specs.Refusals
-use Rattle.dap_recording.specs.Refusals.{Checked, here, element_here, within, kind_of, other_than, or_here, due_in, due_at, any_in, any_at, in_place, in_element, each_element, has_id, place_below, other_id, known_id, variable_in, variables_in, each_variable, variables_among, variables_if_any, scope_row, scopes_row, frame_row, thread_row, moment_row, source_row, recording_row, bad_key_in, refusal_of, IsWhy, RefusalsAreFaults, no_exit, source_cause, line_cause, id_cause, thread_cause, lines_at}
-use Rattle.dap_debuggee.specs.declared.answers.Frame.{Frame}
-use Rattle.dap_debuggee.specs.declared.answers.Scope.{Scope}
+use Rattle.dap_refusal.specs.Refusals
+use Rattle.dap_refusal.specs.Refusals.{Checked, here, element_here, within, kind_of, other_than, or_here, due_in, due_at, any_in, any_at, in_place, in_element, each_element, has_id, place_below, other_id, known_id, variable_in, variables_in, each_variable, variables_among, variables_if_any, scope_row, scopes_row, frame_row, thread_row, moment_row, source_row, recording_row, bad_key_in, refusal_of, IsWhy, RefusalsAreFaults, no_exit, source_cause, line_cause, id_cause, thread_cause, lines_at}
 use Rattle.dap_debuggee.specs.declared.answers.Variable.{Variable}
 use Rattle.dap_recording.specs.declared.reading.RecordingKey.{RecordingKey}
 use Rattle.dap_recording.specs.declared.reading.RecordingKey.TheVariants as key
-use Rattle.dap_recording.specs.declared.recording.Moment.{Moment}
 use Rattle.dap_recording.specs.declared.recording.RecordedSource.{RecordedSource}
 use Rattle.dap_recording.specs.declared.recording.RecordedThread.{RecordedThread}
 use Rattle.dap_recording.specs.declared.recording.Recording.{Recording}
-use Rattle.dap_recording.specs.declared.refusal.BadCause.{BadCause}
-use Rattle.dap_recording.specs.declared.refusal.BadCause.TheVariants.{NoElements, TooMany}
-use Rattle.dap_recording.specs.declared.refusal.BadPlace.{BadPlace}
-use Rattle.dap_recording.specs.declared.refusal.JsonKind.{JsonKind}
-use Rattle.dap_recording.specs.declared.refusal.JsonKind.TheVariants as kind
-use Rattle.dap_recording.specs.declared.refusal.RecordingRefusal.TheVariants as refusal
+use Rattle.dap_refusal.specs.declared.refusal.BadCause.{BadCause}
+use Rattle.dap_refusal.specs.declared.refusal.BadCause.TheVariants.{NoElements, TooMany}
+use Rattle.dap_refusal.specs.declared.refusal.JsonKind.{JsonKind}
+use Rattle.dap_refusal.specs.declared.refusal.JsonKind.TheVariants as kind
+use Rattle.dap_refusal.specs.declared.refusal.RecordingRefusal.TheVariants as refusal
 use Rattle.dap_recording.specs.declared.reading.RecordingFault.TheVariants.{NotObject, BadKey}
 
 -- both are refused, and by one key, or neither is

@@ -1,8 +1,8 @@
 use Rattle.std.proofs.Common.{◌≡◌, [], drop}
 use Rattle.serde_json.specs.View.{items_view}
-use Rattle.dap_recording.specs.Refusals.{each_element, source_row}
+use Rattle.dap_refusal.specs.Refusals.{each_element, source_row}
 use Rattle.dap_recording.specs.declared.reading.RecordingKey.TheVariants.{Sources}
-use Rattle.dap_recording.proofs.refusing.each_source.Given as goal
+use Rattle.dap_refusal.proofs.refusing.each_source.Given as goal
 
 -- those so far, and those of what is left, are all of them
 abbrev pub invariant-loop-i : goal.invariant-loop-i

@@ -1,21 +1,19 @@
 //! Why JSON is no recording: a function for each row of keys, which tests them in the order of the format and keeps nothing of
-//! them. Only what is refused is looked at so; a recording is read by `rows`.
+//! them. Only what is refused is looked at so; a recording is read by `dap_recording`.
 ghost use Rattle.std.specs.Prelude.{◌≡◌, ◌++◌, ◌∷◌, [], false, length, not, IfOk};
 ghost use Rattle.serde_json.specs.Data.{no_items};
 ghost use Rattle.serde_json.specs.Find.{as_str, as_bool, as_array};
 ghost use Rattle.serde_json.specs.View.{view, items_view};
 ghost use Rattle.dap_recording.specs.Reading.{value_at, exit_of, line_of};
-ghost use Rattle.dap_recording.specs.Refusals.{here as here_of, element_here, within as within_of, kind_of as kind_of_data, other_than, no_number as no_number_of, no_exit, no_id as no_id_of, source_cause, line_cause, id_cause, thread_cause, or_here, due_in, due_at, any_at, text_at, text_if_any as text_if_any_of, flag_if_any as flag_if_any_of, items_at, items_if_any as items_if_any_of, some_items_at, few_items_at, exit_at, source_at, line_at, has_id as has_id_of, id_at, thread_at, in_element, each_element, variables_in, variables_if_any as variables_if_any_of, variable_row as variable_row_of, scope_row as scope_row_of, scopes_row as scopes_row_of, lines_at as lines_at_of, frame_row as frame_row_of, thread_row as thread_row_of, moment_row as moment_row_of, source_row as source_row_of, recording_row as recording_row_of, refusal_of as refusal_of_data, Finds, FindsAll, FindsText, FindsItems, StopsWithin, bad_key_in};
+ghost use Rattle.dap_refusal.specs.Refusals.{here as here_of, element_here, within as within_of, kind_of as kind_of_data, other_than, no_number as no_number_of, no_exit, no_id as no_id_of, source_cause, line_cause, id_cause, thread_cause, or_here, due_in, due_at, any_at, text_at, text_if_any as text_if_any_of, flag_if_any as flag_if_any_of, items_at, items_if_any as items_if_any_of, some_items_at, few_items_at, exit_at, source_at, line_at, has_id as has_id_of, id_at, thread_at, in_element, each_element, variables_in, variables_if_any as variables_if_any_of, variable_row as variable_row_of, scope_row as scope_row_of, scopes_row as scopes_row_of, lines_at as lines_at_of, frame_row as frame_row_of, thread_row as thread_row_of, moment_row as moment_row_of, source_row as source_row_of, recording_row as recording_row_of, refusal_of as refusal_of_data, Finds, FindsAll, FindsText, FindsItems, StopsWithin, bad_key_in};
 ghost use Rattle.dap_call.specs.Argument.{int_of, number_of};
 ghost use Rattle.dap_recording.specs.declared.reading.RecordingKey.TheVariants as key;
-ghost use Rattle.dap_recording.specs.declared.refusal.JsonKind.TheVariants as kind;
+ghost use Rattle.dap_refusal.specs.declared.refusal.JsonKind.TheVariants as kind;
 ghost use Rattle.dap_json.specs.Read.{json_of};
 
-use crate::reading;
-use crate::reading::RecordingKey;
 use crate::refusal::{BadCause, BadPlace, Element, JsonKind, RecordingRefusal};
-use crate::rows::line_count;
 use dap_json::{List, ParseFault};
+use dap_recording::{RecordingKey, numbers};
 use serde_json::Value;
 use std::alloc::{AllocError, AllocFailed, Global};
 
@@ -27,7 +25,7 @@ pub(crate) enum Stop {
 }
 
 impl From<AllocError> for Stop {
-    ghost use Rattle.dap_recording.specs.declared.refusing.Stop.TheVariants.{OutOfMemory};
+    ghost use Rattle.dap_refusal.specs.declared.refusing.Stop.TheVariants.{OutOfMemory};
 
     ghost from_gives = { λ _ e. e ≡ OutOfMemory };
 
@@ -37,7 +35,7 @@ impl From<AllocError> for Stop {
 }
 
 impl<T: Drop> From<AllocFailed<T>> for Stop {
-    ghost use Rattle.dap_recording.specs.declared.refusing.Stop.TheVariants.{OutOfMemory};
+    ghost use Rattle.dap_refusal.specs.declared.refusing.Stop.TheVariants.{OutOfMemory};
 
     ghost from_gives = { λ _ e. e ≡ OutOfMemory };
 
@@ -132,12 +130,12 @@ fn no_number(value: &Value, least: i64, greatest: i64) -> BadCause
 }
 
 /// The greatest line, and the greatest place of a source.
-const MAX_NUMBER: i64 = 2147483647;
+const MAX_NUMBER: i64 = numbers::MAX_NUMBER as i64;
 
 fn no_id(value: &Value) -> BadCause
     ensures { result ≡ no_id_of (view value.now) }
 {
-    no_number(value, -reading::MAX_ID, reading::MAX_ID)
+    no_number(value, -numbers::MAX_ID, numbers::MAX_ID)
 }
 
 // ---- keys
@@ -202,7 +200,7 @@ fn items_if_any(alloc: Global, value: &Value, key: RecordingKey) -> Result<&[Val
     }
 }
 
-#[tactic(auto, using(crate::proofs::Elements::count_is_length))]
+#[tactic(auto, using(crate::proofs::CheckedElements::count_is_length))]
 fn some_items(alloc: Global, value: &Value, key: RecordingKey) -> Result<&[Value], Stop>
     ensures { FindsItems result (some_items_at key (view value.now)) }
 {
@@ -213,12 +211,12 @@ fn some_items(alloc: Global, value: &Value, key: RecordingKey) -> Result<&[Value
     Ok(items)
 }
 
-#[tactic(auto, using(crate::proofs::Elements::count_is_length))]
+#[tactic(auto, using(crate::proofs::CheckedElements::count_is_length))]
 fn few_items(alloc: Global, value: &Value, key: RecordingKey) -> Result<&[Value], Stop>
     ensures { FindsItems result (few_items_at key (view value.now)) }
 {
     let items = items(alloc, value, key)?;
-    if items.len() > reading::MAX_SOURCES {
+    if items.len() > numbers::MAX_SOURCES {
         let count = items.len() as u64;
         return Err(here(alloc, key, BadCause::TooMany { count }));
     }
@@ -231,7 +229,7 @@ fn exit(alloc: Global, value: &Value) -> Result<i32, Stop>
     let Some(found) = value.get(RecordingKey::Exit.name()) else {
         return Err(here(alloc, RecordingKey::Exit, BadCause::Absent));
     };
-    match reading::status(found) {
+    match numbers::status(found) {
         Some(status) => Ok(status),
         None => {
             let cause = no_number(found, i32::MIN as i64, i32::MAX as i64);
@@ -244,7 +242,7 @@ fn exit(alloc: Global, value: &Value) -> Result<i32, Stop>
 fn no_source(value: &Value, count: u64) -> BadCause
     ensures { result ≡ source_cause count (view value.now) (number_of (view value.now)) }
 {
-    match reading::number(value) {
+    match numbers::number(value) {
         Some(source) => BadCause::NoSource { source, count },
         None => no_number(value, 0, MAX_NUMBER),
     }
@@ -257,7 +255,7 @@ fn source(alloc: Global, value: &Value, count: u64) -> Result<u32, Stop>
     let Some(found) = value.get(RecordingKey::Source.name()) else {
         return Err(here(alloc, RecordingKey::Source, BadCause::Absent));
     };
-    match reading::number(found) {
+    match numbers::number(found) {
         Some(source) if (source as u64) < count => Ok(source),
         _ => Err(here(alloc, RecordingKey::Source, no_source(found, count))),
     }
@@ -267,7 +265,7 @@ fn source(alloc: Global, value: &Value, count: u64) -> Result<u32, Stop>
 fn no_line(value: &Value, lines: u64) -> BadCause
     ensures { result ≡ line_cause lines (view value.now) (number_of (view value.now)) }
 {
-    match reading::number(value) {
+    match numbers::number(value) {
         Some(line) if 1 <= line => BadCause::PastLines { line, lines },
         _ => no_number(value, 1, MAX_NUMBER),
     }
@@ -279,7 +277,7 @@ fn line(alloc: Global, value: &Value, lines: u64) -> Result<u32, Stop>
     let Some(found) = value.get(RecordingKey::Line.name()) else {
         return Err(here(alloc, RecordingKey::Line, BadCause::Absent));
     };
-    match reading::number(found) {
+    match numbers::number(found) {
         Some(line) if 1 <= line && line as u64 <= lines => Ok(line),
         _ => Err(here(alloc, RecordingKey::Line, no_line(found, lines))),
     }
@@ -294,7 +292,7 @@ fn has_id(ids: &[i64], id: i64) -> bool
 fn no_new_id(value: &Value) -> BadCause
     ensures { result ≡ id_cause (view value.now) (int_of (view value.now)) }
 {
-    match reading::int(value) {
+    match numbers::int(value) {
         Some(id) => BadCause::DuplicateId { id },
         None => no_id(value),
     }
@@ -307,7 +305,7 @@ fn new_id(alloc: Global, value: &Value, ids: &[i64]) -> Result<i64, Stop>
     let Some(found) = value.get(RecordingKey::Id.name()) else {
         return Err(here(alloc, RecordingKey::Id, BadCause::Absent));
     };
-    match reading::int(found) {
+    match numbers::int(found) {
         Some(id) if !has_id(ids, id) => Ok(id),
         _ => Err(here(alloc, RecordingKey::Id, no_new_id(found))),
     }
@@ -316,7 +314,7 @@ fn new_id(alloc: Global, value: &Value, ids: &[i64]) -> Result<i64, Stop>
 fn no_thread(value: &Value) -> BadCause
     ensures { result ≡ thread_cause (view value.now) (int_of (view value.now)) }
 {
-    match reading::int(value) {
+    match numbers::int(value) {
         Some(id) => BadCause::NoThread { id },
         None => no_id(value),
     }
@@ -329,7 +327,7 @@ fn thread_id(alloc: Global, value: &Value, ids: &[i64]) -> Result<i64, Stop>
     let Some(found) = value.get(RecordingKey::Thread.name()) else {
         return Err(here(alloc, RecordingKey::Thread, BadCause::Absent));
     };
-    match reading::int(found) {
+    match numbers::int(found) {
         Some(id) if has_id(ids, id) => Ok(id),
         _ => Err(here(alloc, RecordingKey::Thread, no_thread(found))),
     }
@@ -520,7 +518,7 @@ fn source_lines(alloc: Global, value: &Value, mut lines: Vec<u64>) -> Result<Vec
     text_if_any(alloc, value, RecordingKey::Path)?;
     let text = text(alloc, value, RecordingKey::Text)?;
     flag_if_any(alloc, value, RecordingKey::OnDisk)?;
-    lines.push(line_count(text))?;
+    lines.push(numbers::line_count(text))?;
     Ok(lines)
 }
 
@@ -561,7 +559,7 @@ fn bad_key(alloc: Global, value: &Value) -> Result<Option<RecordingRefusal>, All
     }
 }
 
-/// Why bytes are no recording, and where, or `None` where they are one: that is why [`Recorded::read`](crate::Recorded::read)
+/// Why bytes are no recording, and where, or `None` where they are one: that is why [`Recorded::read`](dap_recording::Recorded::read)
 /// refuses them, as the law [`refusals_are_faults`](crate::refusals_are_faults) says. They are read once more.
 ///
 /// # Errors

@@ -1,0 +1,3 @@
+pub mod CheckedElements
+pub mod SameKey
+mod RefusalsExamples
