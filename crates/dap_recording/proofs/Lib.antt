@@ -10,6 +10,7 @@ pub mod ReadSteps
 pub mod HoldersRead
 pub mod SpansRead
 pub mod IsRead
+pub mod SetLines
 pub mod Changed
 pub mod OneHolder
 pub mod Told

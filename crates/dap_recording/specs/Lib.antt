@@ -4,6 +4,7 @@ pub mod Reading
 pub mod PrivateReadThreads
 pub mod Moves
 pub mod Played
+pub mod PrivateSetLines
 pub mod PrivateHeld
 pub mod PlayedLaws
 pub mod Polls

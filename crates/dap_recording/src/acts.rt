@@ -128,11 +128,7 @@ impl Recorded {
         ensures memory { OnErr result (self.new ≡ self.old) }
         ensures some { OnErr result (0 < length lines.now) }
     {
-        if lines.is_empty() {
-            self.set.remove(source);
-            return Ok(());
-        }
-        self.set.put(source.clone()?, lines.to_vec(alloc)?)
+        self.set.put(alloc, source, lines)
     }
 
     pub(crate) fn to_set(

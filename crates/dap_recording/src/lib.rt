@@ -19,6 +19,7 @@ mod recorded;
 mod recording;
 mod rows;
 mod run;
+mod set_lines;
 
 pub use dap_json::List;
 pub use laws::{

@@ -1,12 +1,12 @@
 //! Where a run of a recording goes: a walk over its moments.
 ghost use Rattle.std.specs.Prelude.{◌≡◌, ◌<◌, ◌≤◌, length, option_map, IfSome};
 ghost use Rattle.dap_recording.specs.Recording.{depth as depth_of, top as top_of, id_at as thread_id_at};
-ghost use Rattle.dap_recording.specs.Moves.{reason_text, has_line as has_line_in, is_at_breakpoint as stands_at_breakpoint, is_forward as goes_forward};
+ghost use Rattle.dap_recording.specs.Moves.{reason_text, is_at_breakpoint as stands_at_breakpoint, is_forward as goes_forward};
 ghost use Rattle.dap_recording.specs.Played.{lines_in};
 
 use crate::recording::{Moment, RecordedSource};
+use crate::set_lines::SetLines;
 use dap_debuggee::{Frame, How};
-use dap_tables::SourceMap;
 
 /// Why a run stopped.
 #[derive(Clone, Copy, Debug, PartialEq, Eq)]
@@ -71,14 +71,8 @@ fn top(moment: &Moment) -> Option<&Frame>
         .first()
 }
 
-fn has_line(line: u32, lines: &[u32]) -> bool
-    ensures { result ≡ has_line_in line lines.now }
-{
-    lines.iter().any(|n| *n == line)
-}
-
 /// Whether the line of the newest frame has a breakpoint, by the path of its source or by its number.
-fn is_at_breakpoint(moment: &Moment, sources: &[RecordedSource], set: &SourceMap<u32>) -> bool
+fn is_at_breakpoint(moment: &Moment, sources: &[RecordedSource], set: &SetLines) -> bool
     ensures { result ≡ stands_at_breakpoint (lines_in set.now) sources.now moment.now }
 {
     let Some(frame) = top(moment) else {
@@ -86,11 +80,11 @@ fn is_at_breakpoint(moment: &Moment, sources: &[RecordedSource], set: &SourceMap
     };
     if let Some(source) = sources.get(frame.source as usize)
         && let Some(path) = &source.path
-        && has_line(frame.line, set.of_path(path.as_str()))
+        && set.has_path_line(path.as_str(), frame.line)
     {
         return true;
     }
-    has_line(frame.line, set.of_reference(frame.source as u64 + 1))
+    set.has_reference_line(frame.source as u64 + 1, frame.line)
 }
 
 /// What a move is decided by.
@@ -99,7 +93,7 @@ pub(crate) struct Plan<'r> {
     pub(crate) sources: &'r [RecordedSource],
     pub(crate) moments: &'r [Moment],
     /// The lines that are set.
-    pub(crate) set: &'r SourceMap<u32>,
+    pub(crate) set: &'r SetLines,
 }
 
 impl Plan<'_> {

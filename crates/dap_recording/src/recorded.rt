@@ -8,6 +8,7 @@ ghost use Rattle.dap_recording.specs.Recording.{IsRecording};
 use crate::moves::{Move, Plan, Reason};
 use crate::paths::Paths;
 use crate::recording::Recording;
+use crate::set_lines::SetLines;
 use crate::{moves, paths};
 use dap_call::SourceKey;
 use dap_debuggee::{
@@ -15,7 +16,6 @@ use dap_debuggee::{
     State, Thread, Variable,
 };
 use dap_json::Text;
-use dap_tables::SourceMap;
 use std::alloc::{AllocError, Global};
 use std::collections::BTreeMap;
 use std::marker::Model;
@@ -70,7 +70,7 @@ pub struct Recorded {
     pub(crate) at: usize,
     pub(crate) going: Option<Going>,
     /// The lines that are set.
-    pub(crate) set: SourceMap<u32>,
+    pub(crate) set: SetLines,
     /// The variables of each holder in which one was set since the debuggee went on.
     pub(crate) changed: BTreeMap<u64, Vec<Variable>>,
     pub(crate) acts: u64,
@@ -121,7 +121,7 @@ impl Recorded {
             state: State::NotStarted,
             at: 0,
             going: None,
-            set: SourceMap::new(alloc),
+            set: SetLines::new(alloc),
             changed: BTreeMap::new(alloc),
             acts: 0,
             last: LastAsked::Never,
