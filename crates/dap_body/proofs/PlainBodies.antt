@@ -19,7 +19,9 @@ use Rattle.serde_json.specs.Read.{max_depth}
 use Rattle.dap_json.specs.Read.{json_of, IsReadAgain}
 use Rattle.dap_json.specs.Sound.{IsSound}
 use Rattle.dap_json.specs.Writable.{max_nesting}
-use Rattle.dap_body.specs.Body.{data_of}
+use Rattle.dap_body.specs.Body.{data_of, event_data}
+use Rattle.dap_body.specs.declared.event.EventBody.{EventBody}
+use Rattle.dap_body.specs.declared.event.EventBody.TheVariants.{Output, Stopped, Continued, Exited}
 use Rattle.dap_body.specs.declared.body.Body.{Body}
 use Rattle.dap_body.specs.declared.body.Body.TheVariants.{Initialize, SetBreakpoints, Threads, Continue, StackTrace, Scopes, Variables, SetVariable, Evaluate, Source as SourceText, LoadedSources, RunInTerminal}
 use Rattle.dap_body.specs.EventBody.{stopped_body, continued_body, exited_body}
@@ -227,6 +229,12 @@ body_is_plain (SourceText content) = response_bodies_are_plain.source content
 body_is_plain (LoadedSources sources) = response_bodies_are_plain.loaded_sources sources.items
 body_is_plain (RunInTerminal process shell) = response_bodies_are_plain.run_in_terminal process shell
 
+pub event_is_plain : (body : EventBody) → IsPlain (event_data body)
+event_is_plain (Output category output) = event_bodies_are_plain.output category.now output.now
+event_is_plain (Stopped reason thread) = event_bodies_are_plain.stopped reason.now thread
+event_is_plain (Continued thread) = event_bodies_are_plain.continued thread
+event_is_plain (Exited code) = event_bodies_are_plain.exited code
+
 -- ---- a body's text is read again
 
 no : (a : Bool) → not a ≡ true → a ≡ false
@@ -243,6 +251,9 @@ plain-again d again p s =
     let parts = plain-parts d p in
     let shallow_enough = parts.1 in
     again d s parts.0 (omega arith)
+
+pub event-again : IsReadAgain → (body : EventBody) → IsSound (event_data body) → json_of (compact_text (event_data body)) ≡ Some (event_data body)
+event-again again body s = plain-again (event_data body) again (event_is_plain body) s
 
 pub body-again : IsReadAgain → (body : Body) → IsSound (data_of body) → json_of (compact_text (data_of body)) ≡ Some (data_of body)
 body-again again body s = plain-again (data_of body) again (body_is_plain body) s

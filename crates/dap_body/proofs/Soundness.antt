@@ -1,11 +1,12 @@
 -- What a Rust value's parts are written as is sound: keys in byte order, texts in UTF-8, numbers of 64 bits.
-use Rattle.std.proofs.Common.{ℕ, ◌<◌, ◌^◌, List, [], ◌∷◌, codes, Option, Some, None, IsUtf8, refl}
+use Rattle.std.proofs.Common.{ℕ, ℤ, ◌<◌, ◌^◌, List, [], ◌∷◌, codes, Option, Some, None, IsUtf8, refl}
 use Rattle.std.specs.List.{AllByRecursion}
 use Rattle.json.proofs.Printed.Utf8.{IsUtf8-are_ascii}
 use Rattle.serde_json.specs.Data.{Data}
 use Rattle.serde_json.specs.Find.{of_integer}
 use Rattle.dap_json.specs.Sound.{IsSound, IsSoundNumber}
 use Rattle.dap_body.specs.ResponseBody.{breakpoint, thread, source, stack_frame, scope, variable, list_of, only_member, stack_trace_body, evaluate_body, source_body, run_in_terminal_body}
+use Rattle.dap_body.specs.EventBody.{output_body, stopped_body, continued_body, exited_body}
 use Rattle.dap_body.specs.Failure.{error_body}
 use Rattle.dap_body.specs.PrivateText.{HasSoundPath, IsSoundOptional}
 use Rattle.dap_body.specs.declared.response.Breakpoint.{Breakpoint}
@@ -66,6 +67,20 @@ processes-sound None None p s = tt
 processes-sound None (Some n) p s = (IsUtf8-are_ascii (codes "shellProcessId") refl, tt, s, tt)
 processes-sound (Some m) None p s = (IsUtf8-are_ascii (codes "processId") refl, tt, p, tt)
 processes-sound (Some m) (Some n) p s = (IsUtf8-are_ascii (codes "processId") refl, (refl, tt), p, (IsUtf8-are_ascii (codes "shellProcessId") refl, tt, s, tt))
+
+-- ---- events
+
+pub output-sound : (category output : List ℕ) → IsUtf8 category → IsUtf8 output → IsSound (output_body category output)
+output-sound category output c o = (IsUtf8-are_ascii (codes "category") refl, (refl, tt), c, (IsUtf8-are_ascii (codes "output") refl, tt, o, tt))
+
+pub stopped-sound : (reason : List ℕ) (thread : ℤ) → IsUtf8 reason → IsSoundNumber (of_integer thread) → IsSound (stopped_body reason thread)
+stopped-sound reason thread r t = (IsUtf8-are_ascii (codes "allThreadsStopped") refl, (refl, (refl, tt)), tt, (IsUtf8-are_ascii (codes "reason") refl, (refl, tt), r, (IsUtf8-are_ascii (codes "threadId") refl, tt, t, tt)))
+
+pub continued-sound : (thread : ℤ) → IsSoundNumber (of_integer thread) → IsSound (continued_body thread)
+continued-sound thread t = (IsUtf8-are_ascii (codes "allThreadsContinued") refl, (refl, tt), tt, (IsUtf8-are_ascii (codes "threadId") refl, tt, t, tt))
+
+pub exited-sound : (code : ℤ) → IsSoundNumber (of_integer code) → IsSound (exited_body code)
+exited-sound code c = (IsUtf8-are_ascii (codes "exitCode") refl, tt, c, tt)
 
 -- ---- failures
 

@@ -1,12 +1,14 @@
 -- What is added in several steps, and the tokens of a list.
-use Rattle.std.proofs.Common.{Result, ◌≡◌, ◌∙◌, ◌++◌, ℕ, List, [], ◌∷◌, Option, Some, None, map, refl, sym, ap, append_assoc}
+use Rattle.std.proofs.Common.{Result, ◌≡◌, ◌∙◌, ◌++◌, ℕ, ℤ, pos, negsuc, subst, List, [], ◌∷◌, Option, Some, None, map, refl, sym, ap, append_assoc}
 use Rattle.std.specs.List.{flat_map}
-use Rattle.json.specs.Token.{Token, end_array}
+use Rattle.std.specs.Fmt.{signed_decimal}
+use Rattle.json.specs.Token.{Token, key as key_token, number, end_array}
 use Rattle.json.specs.Tree.{items_tokens, members_tokens}
 use Rattle.json.specs.Written.{Written, Writes}
 use Rattle.serde_json.specs.Data.{Data, Members}
 use Rattle.serde_json.specs.View.{items_of}
-use Rattle.serde_json.specs.Written.{items_outline, members_outline}
+use Rattle.serde_json.specs.Find.{of_integer}
+use Rattle.serde_json.specs.Written.{items_outline, members_outline, number_text}
 use Rattle.dap_body.specs.ResponseBody.{with_path, with_optional_number}
 use Rattle.dap_body.specs.Adds.{Adds}
 use Rattle.dap_body.specs.PrivateText.{optional_number_tokens, path_tokens, tokens_of}
@@ -29,3 +31,11 @@ tokens-of-path (Some path) rest = refl
 pub tokens-of-optional-number : (key : List ℕ) (n : Option ℕ) (rest : Members) → optional_number_tokens key n ++ members_tokens (members_outline rest) ≡ members_tokens (members_outline (with_optional_number key n rest))
 tokens-of-optional-number key None rest = refl
 tokens-of-optional-number key (Some n) rest = refl
+
+-- an integer, as it is written
+pub signed-text : (z : ℤ) → number_text (of_integer z) ≡ signed_decimal z
+signed-text (pos n) = refl
+signed-text (negsuc n) = refl
+
+pub adds-signed : {a b : Written} (key : List ℕ) (z w : ℤ) → w ≡ z → Adds a b (key_token key ∷ number (signed_decimal w) ∷ []) → Adds a b (key_token key ∷ number (number_text (of_integer z)) ∷ [])
+adds-signed {a} {b} key z w e adds = rw (signed-text z) (subst (λ (x : ℤ). Adds a b (key_token key ∷ number (signed_decimal x) ∷ [])) e adds)

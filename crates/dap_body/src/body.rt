@@ -185,7 +185,7 @@ fn number(out: &mut Writer, key: &str, n: u64) -> Result<(), AllocError>
     out.u64(n)
 }
 
-fn signed(out: &mut Writer, key: &str, n: i64) -> Result<(), AllocError>
+pub(crate) fn signed(out: &mut Writer, key: &str, n: i64) -> Result<(), AllocError>
     ensures adds { OnOk result (Adds out.old out.new (key_token key.now ∷ number_token (signed_decimal n) ∷ [])) }
     ensures before { out.new.before ≡ out.old.before }
     ensures range { IsSoundNumber (of_integer n) }
@@ -202,7 +202,7 @@ fn short(out: &mut Writer, key: &str, n: u32) -> Result<(), AllocError>
     number(out, key, n.into())
 }
 
-fn text(out: &mut Writer, key: &str, text: &Text) -> Result<(), AllocError>
+pub(crate) fn text(out: &mut Writer, key: &str, text: &Text) -> Result<(), AllocError>
     ensures adds { OnOk result (Adds out.old out.new (key_token key.now ∷ string_token text.now ∷ [])) }
     ensures before { out.new.before ≡ out.old.before }
     ensures utf8 { IsUtf8 text.now }
@@ -212,7 +212,7 @@ fn text(out: &mut Writer, key: &str, text: &Text) -> Result<(), AllocError>
     out.string(text)
 }
 
-fn flag(out: &mut Writer, key: &str, flag: bool) -> Result<(), AllocError>
+pub(crate) fn flag(out: &mut Writer, key: &str, flag: bool) -> Result<(), AllocError>
     ensures adds { OnOk result (Adds out.old out.new (key_token key.now ∷ boolean_token flag ∷ [])) }
     ensures before { out.new.before ≡ out.old.before }
 {

@@ -11,7 +11,9 @@ pub mod laws;
 mod response;
 
 pub use body::{Body, append_body};
-pub use event::{body_continued, body_exited, body_output, body_stopped};
+pub use event::{
+    EventBody, append_event_body, body_continued, body_exited, body_output, body_stopped,
+};
 pub use failure::{Failure, append_failure_body, body_failure};
 pub use response::{
     Breakpoint, Scope, Source, StackFrame, Thread, Variable, body_continue, body_evaluate,

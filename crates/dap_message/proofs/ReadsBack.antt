@@ -5,9 +5,10 @@ use Rattle.json.proofs.Printed.Utf8.{IsUtf8-are_ascii}
 use Rattle.serde_json.specs.Data.{Data}
 use Rattle.dap_json.specs.Field.{max_seq}
 use Rattle.dap_json.specs.Writable.{is_plain_tree}
-use Rattle.dap_body.specs.Body.{data_in}
+use Rattle.dap_body.specs.Body.{data_in, event_data_in}
 use Rattle.dap_body.specs.Failure.{failure_body, row_of}
 use Rattle.dap_body.specs.declared.body.Body.{Body}
+use Rattle.dap_body.specs.declared.event.EventBody.{EventBody}
 use Rattle.dap_body.specs.declared.failure.Failure.{Failure}
 use Rattle.dap_body.specs.declared.failure.Failure.TheVariants.{NotInitialized, AlreadyInitialized, UnknownCommand, Unsupported, BadArguments, WrongPhase, NotStopped, UnknownThread, StaleReference, UnknownSource, Debuggee, TooManyBreakpoints, TooManyReferences, ReferencesExhausted, TooLarge, Busy, Cancelled, TerminalRefused}
 use Rattle.dap_message.specs.Canon.{canon}
@@ -16,7 +17,7 @@ use Rattle.dap_message.specs.MessageParts.{request_message, failure_response, su
 use Rattle.dap_message.specs.Meaning.{Msg}
 use Rattle.dap_message.specs.Refusals.{max_command}
 use Rattle.dap_message.specs.SoundMessage.{IsSoundTree}
-use Rattle.dap_body.proofs.PlainBodies.{failure_bodies_are_plain, body_is_plain}
+use Rattle.dap_body.proofs.PlainBodies.{failure_bodies_are_plain, body_is_plain, event_is_plain}
 
 within : (n most : ℕ) → n ≤ most → nat_le n most ≡ true
 within n most h = grind (arith, nat_tests)
@@ -25,6 +26,10 @@ within n most h = grind (arith, nat_tests)
 pub parts-plain : (body : Option Body) → IsTrue (is_plain_tree (data_in body))
 parts-plain None = refl
 parts-plain (Some b) = body_is_plain b
+
+pub event-plain : (body : Option EventBody) → IsTrue (is_plain_tree (event_data_in body))
+event-plain None = refl
+event-plain (Some b) = event_is_plain b
 
 -- a failure's short name
 pub name-text : (failure : Failure) → IsUtf8 (row_of failure).name

@@ -9,7 +9,7 @@ ghost use Rattle.dap_json.specs.Field.{max_seq};
 ghost use Rattle.dap_json.specs.Sound.{IsSound};
 ghost use Rattle.dap_json.specs.Writable.{is_plain_tree};
 ghost use Rattle.dap_body.specs.Adds.{Adds};
-ghost use Rattle.dap_body.specs.Body.{data_in};
+ghost use Rattle.dap_body.specs.Body.{data_in, event_data_in};
 ghost use Rattle.dap_body.specs.Failure.{failure_body};
 ghost use Rattle.dap_message.specs.PrivateAnswering.{with_body, with_arguments, end_members, response_end};
 ghost use Rattle.dap_message.specs.Canon.{canon, request_members, event_members, response_members};
@@ -19,7 +19,9 @@ ghost use Rattle.dap_message.specs.Refusals.{max_command};
 ghost use Rattle.dap_message.specs.SoundMessage.{IsSoundTree};
 
 use crate::laws::written_is_read_again;
-use dap_body::{Body, Failure, append_body, append_failure_body};
+use dap_body::{
+    Body, EventBody, Failure, append_body, append_event_body, append_failure_body,
+};
 use dap_json::Tree;
 use dap_json::laws::what_is_read_is_sound;
 use json::Writer;
@@ -67,10 +69,13 @@ fn tree_text(alloc: Global, tree: &Tree) -> Result<Vec<u8>, AllocError>
 
 // ---- a text up to the end of its body, with the comma after it; where memory is refused, a part of it may be there
 
-fn open(alloc: Global, out: &mut Vec<u8>, body: &Option<Tree>) -> Result<(), AllocError>
-    requires { IsTrue (is_plain_tree body.now) }
-    ensures ok { OnOk result (out.new.items ≡ out.old.items ++ with_body body.now) }
-    ensures sound { OnOk result (IsSoundTree body.now) }
+fn open_event(
+    alloc: Global,
+    out: &mut Vec<u8>,
+    body: Option<EventBody<'_>>,
+) -> Result<(), AllocError>
+    ensures ok { OnOk result (out.new.items ≡ out.old.items ++ with_body (event_data_in body.entry)) }
+    ensures sound { OnOk result (IsSoundTree (event_data_in body.entry)) }
     ensures front { take (length out.old.items) out.new.items ≡ out.old.items }
 {
     out.reserve(ROOM)?;
@@ -79,12 +84,12 @@ fn open(alloc: Global, out: &mut Vec<u8>, body: &Option<Tree>) -> Result<(), All
         return Ok(());
     };
     out.extend_from_slice(b"{\"body\":")?;
-    out.extend_from_slice(&tree_text(alloc, body)?)?;
+    append_event_body(alloc, out, body)?;
     out.push(b',')?;
     Ok(())
 }
 
-/// The same of a body that is given by its parts.
+/// The same of the body of a response.
 fn open_answer(alloc: Global, out: &mut Vec<u8>, body: &Option<Body>) -> Result<(), AllocError>
     ensures ok { OnOk result (out.new.items ≡ out.old.items ++ with_body (data_in body.now)) }
     ensures sound { OnOk result (IsSoundTree (data_in body.now)) }
@@ -345,17 +350,16 @@ pub fn append_event(
     out: &mut Vec<u8>,
     seq: u64,
     event: &str,
-    body: &Option<Tree>,
+    body: Option<EventBody<'_>>,
 ) -> Result<(), AllocError>
-    requires { IsTrue (is_plain_tree body.now) }
-    ensures canon { OnOk result (out.new.items ≡ out.old.items ++ canon (event_message seq event.now body.now)) }
-    ensures reads_back { OnOk result (seq ≤ max_seq → Msg (canon (event_message seq event.now body.now)) (event_message seq event.now body.now)) }
+    ensures canon { OnOk result (out.new.items ≡ out.old.items ++ canon (event_message seq event.now (event_data_in body.entry))) }
+    ensures reads_back { OnOk result (seq ≤ max_seq → Msg (canon (event_message seq event.now (event_data_in body.entry))) (event_message seq event.now (event_data_in body.entry))) }
     ensures err { OnErr result (out.new.items ≡ out.old.items) }
 {
     // A law for the proof: what is written is read again.
     written_is_read_again();
     let start = out.len();
-    let opened = open(alloc, out, body);
+    let opened = open_event(alloc, out, body);
     close(alloc, out, start, opened, End::Event { seq, event })
 }
 

@@ -18,7 +18,7 @@ mod writing;
 
 pub use answering::{append_answer, append_event, append_failure, append_request};
 pub use dap_body::{
-    Body, Breakpoint, Failure, Scope, Source, StackFrame, Thread, Variable, body_continue,
+    Body, Breakpoint, EventBody, Failure, Scope, Source, StackFrame, Thread, Variable, body_continue,
     body_continued, body_evaluate, body_exited, body_failure, body_loaded_sources, body_output,
     body_scopes, body_set_breakpoints, body_set_variable, body_source, body_stack_trace,
     body_stopped, body_terminal, body_threads, body_variables,

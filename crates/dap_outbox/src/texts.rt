@@ -1,5 +1,6 @@
 //! The text of each message that an adapter writes without a body of its own.
 ghost use Rattle.std.specs.Prelude.{◌≡◌, ◌≤◌, ◌++◌, IfOk, OnOk, OnErr, IsTrue};
+ghost use Rattle.dap_message.specs.Body.{event_data_in};
 ghost use Rattle.dap_message.specs.Canon.{canon};
 ghost use Rattle.dap_outbox.specs.Draft.{reply, emit, ask, message_of, recorded_terminal};
 ghost use Rattle.dap_outbox.specs.InRange.{IsRequestInRange};
@@ -11,11 +12,10 @@ ghost use Rattle.dap_message.specs.Lengths.{max_fixed, IsWithin};
 ghost use Rattle.dap_message.specs.ReadBack.{ReadsBack};
 
 use crate::answer::{Answer, Event, Fixed};
-use dap_message::laws::{bodies_are_plain, fixed_messages_are_short};
+use dap_message::laws::fixed_messages_are_short;
 use dap_message::{
-    Body, List, RUN_IN_TERMINAL, TerminalCall, Text, Tree, append_answer, append_event,
-    append_failure, append_request, body_continued, body_exited, body_output, body_stopped,
-    write_terminal,
+    Body, EventBody, List, RUN_IN_TERMINAL, TerminalCall, Text, Tree, append_answer, append_event,
+    append_failure, append_request, write_terminal,
 };
 use dap_tables::Entry;
 use std::alloc::{AllocError, Global};
@@ -67,23 +67,22 @@ fn event_name(event: &Event) -> &'static str
     }
 }
 
-fn event_body(alloc: Global, event: Event) -> Result<Option<Tree>, AllocError>
-    ensures body { IfOk result (λ body. body ≡ event_body (event_of event)) }
-    ensures plain { IfOk result (λ body. IsTrue (is_plain_tree body)) }
+fn event_body(event: &Event) -> Option<EventBody<'_>>
+    ensures { event_data_in result ≡ event_body (event_of event.now) }
 {
-    bodies_are_plain();
     match event {
-        Event::Initialized => Ok(None),
-        Event::Terminated => Ok(None),
-        Event::Output { category, text } => {
-            let category = Text::copied(alloc, category.name())?;
-            Ok(Some(Tree::new(body_output(alloc, category, text)?)))
-        }
-        Event::Stopped { reason, thread } => {
-            Ok(Some(Tree::new(body_stopped(alloc, reason, thread)?)))
-        }
-        Event::Continued { thread } => Ok(Some(Tree::new(body_continued(alloc, thread)?))),
-        Event::Exited { code } => Ok(Some(Tree::new(body_exited(alloc, code)?))),
+        Event::Initialized => None,
+        Event::Terminated => None,
+        Event::Output { category, text } => Some(EventBody::Output {
+            category: category.name(),
+            output: text,
+        }),
+        Event::Stopped { reason, thread } => Some(EventBody::Stopped {
+            reason,
+            thread_id: *thread,
+        }),
+        Event::Continued { thread } => Some(EventBody::Continued { thread_id: *thread }),
+        Event::Exited { code } => Some(EventBody::Exited { exit_code: *code }),
     }
 }
 
@@ -100,9 +99,7 @@ pub(crate) fn append_told(
     ensures err { OnErr result (out.new.items ≡ out.old.items) }
 {
     fixed_messages_are_short();
-    let name = event_name(&event);
-    let body = event_body(alloc, event)?;
-    append_event(alloc, out, seq, name, &body)
+    append_event(alloc, out, seq, event_name(&event), event_body(&event))
 }
 
 /// What the client's terminal is to run.
