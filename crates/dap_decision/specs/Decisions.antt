@@ -1,5 +1,5 @@
 -- What is to be done with a request, before anything is asked of the debuggee.
-use Rattle.std.specs.Prelude.{◌≡◌, Option, Some, None, Ok}
+use Rattle.std.specs.Prelude.{◌≡◌, Some, None, Ok}
 use Rattle.dap_message.specs.Types.Call.{Call}
 use Rattle.dap_message.specs.Types.Command.{Command}
 use Rattle.dap_debuggee.specs.Shown.{Shown}

@@ -15,7 +15,7 @@ use crate::decision::Decision;
 use crate::effect::Effect;
 use crate::phase::Phase;
 use crate::table::{effect_in, is_never_served, is_of_stops};
-use dap_debuggee::{Debuggee, Thread};
+use dap_debuggee::{Debuggee, DebuggeeFault, Thread};
 use dap_message::{Call, CallFault, Command, Failure, read_call};
 use dap_query::Queries;
 use dap_tables::{Entry, ReferenceKind, Target};
@@ -144,8 +144,11 @@ fn lacks_source<D: Debuggee>(alloc: Global, debuggee: &D, call: &Call) -> Result
     if *source_reference == 0 {
         return Ok(true);
     }
-    let sources = debuggee.sources(alloc)?;
-    Ok(sources.len() < *source_reference as usize)
+    match debuggee.source(alloc, *source_reference - 1) {
+        Ok(_) => Ok(false),
+        Err(DebuggeeFault::Refused) => Ok(true),
+        Err(DebuggeeFault::OutOfMemory) => Err(AllocError),
+    }
 }
 
 /// Why a call fails by what it names.
