@@ -39,7 +39,7 @@ found_ascend any_seq n ((byte ∷ bytes) ∷ texts) earlier (line ∷ later) are
 pub in_order : FindingsAreInOrder
 in_order any_seq texts lines are before first between second after is =
     let all = subst (Ascend 1) is (found_ascend any_seq 1 texts [] lines are) in
-    let behind = rest_ascends 1 before (first ∷ between ++ second ∷ after) all in
+    let behind = rest_ascends 1 before (first ∷ (between ++ second ∷ after)) all in
     let next = rest_ascends (first.line + 1) between (second ∷ after) behind.1 in
     let less = next.0 in
     omega arith

@@ -34,7 +34,7 @@ FirstFindingIsTheVerdict = (any_seq : AnySeq) (lines : List Line) → IsVerdict 
 abbrev pub FindingsAreInOrder : Type 0
 FindingsAreInOrder =
     (any_seq : AnySeq) (texts : List (List ℕ)) (lines : List Line) → AreLines 1 texts lines
-    → (before : List Finding) (first : Finding) (between : List Finding) (second : Finding) (after : List Finding) → findings any_seq lines ≡ before ++ first ∷ between ++ second ∷ after → first.line < second.line
+    → (before : List Finding) (first : Finding) (between : List Finding) (second : Finding) (after : List Finding) → findings any_seq lines ≡ before ++ first ∷ (between ++ second ∷ after) → first.line < second.line
 
 -- ---- unanswered requests
 

@@ -160,6 +160,7 @@ fn read_short(
 }
 
 /// A body as it was read.
+#[derive(Drop)]
 pub(crate) struct BodyRead {
     pub(crate) message: Message,
     pub(crate) form: Form,
@@ -195,6 +196,7 @@ fn read_body(
 }
 
 /// A line as it was read.
+#[derive(Drop)]
 pub(crate) struct LineRead {
     pub(crate) line: Line,
     pub(crate) form: Form,

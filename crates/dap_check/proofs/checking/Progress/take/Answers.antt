@@ -9,5 +9,5 @@ returns-clause-progress c = on_ok c.note.result _ _ c.note.ensures.seen (λ note
   seen = noted lines real read is.seen;
   found = found_more c.args.any_seq lines c.args.form c.args.given.now c.args.line.now real read c.least_broken-broken.result (c.least_broken-broken.ensures lines is.seen)
       c.args.self.now.findings.items c.push_broken.new.findings.items is.found c.in_ok-push_broken.ensures;
-  sound = subst (AreSound (lines ++ real ∷ [])) (sym c.in_ok-push.ensures) (sound_more lines c.args.self.now.sound.items real c.args.is_sound faultless is.sound);
+  sound = subst (AreSound (lines ++ real ∷ [])) (sym c.in_ok-push.ensures.items) (sound_more lines c.args.self.now.sound.items real c.args.is_sound faultless is.sound);
 })
