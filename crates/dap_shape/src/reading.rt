@@ -51,13 +51,17 @@ pub(crate) struct Walked<'a> {
 /// In so many bytes at the end of a message a name is looked for.
 const TAIL: usize = 160;
 
-/// The text after a key in the last bytes of a message.
-fn text_at_end<'a>(body: &'a [u8], key: &[u8]) -> Option<&'a str> {
-    let tail = match body.len().checked_sub(TAIL) {
+fn tail(body: &[u8]) -> &[u8] {
+    match body.len().checked_sub(TAIL) {
         Some(start) => &body[start..],
         None => body,
-    };
-    let place = memmem::find(tail, key)?;
+    }
+}
+
+/// The text after a key in the last bytes of a message.
+fn text_at_end<'a>(body: &'a [u8], key: &[u8]) -> Option<&'a str> {
+    let tail = tail(body);
+    let place = memmem::rfind(tail, key)?;
     let text = &tail[place + key.len()..];
     let end = memchr(b'"', text)?;
     match from_utf8(&text[..end]) {
@@ -74,6 +78,14 @@ fn guessed_command<'a>(noted: &Noted<'a>, body: &'a [u8]) -> &'a str {
     text_at_end(body, b"\"command\":\"").unwrap_or("")
 }
 
+/// Whether it is a failure, of whose body nothing is asked.
+fn is_failure(noted: &Noted<'_>, body: &[u8]) -> bool {
+    if let Some(MemberValue::Boolean(success)) = noted.success {
+        return !success;
+    }
+    memmem::rfind(tail(body), b"\"success\":false").is_some()
+}
+
 fn guess_of<'a>(noted: &Noted<'a>, body: &'a [u8]) -> Guess<'a> {
     if let Some(MemberValue::Text(name)) = noted.event {
         return Guess::Event(name);
@@ -81,6 +93,9 @@ fn guess_of<'a>(noted: &Noted<'a>, body: &'a [u8]) -> Guess<'a> {
     let command = guessed_command(noted, body);
     if command.is_empty() {
         return Guess::Event(text_at_end(body, b"\"event\":\"").unwrap_or(""));
+    }
+    if is_failure(noted, body) {
+        return Guess::Event("");
     }
     Guess::Response(command)
 }

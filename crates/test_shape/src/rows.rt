@@ -95,6 +95,8 @@ fn sound_messages() -> &'static [&'static str] {
         r#"{"body":{"result":"1","variablesReference":0},"command":"evaluate","request_seq":1,"seq":1,"success":true,"type":"response"}"#,
         r#"{"seq":1,"type":"response","request_seq":1,"success":true,"command":"next"}"#,
         r#"{"seq":1,"type":"response","request_seq":1,"success":false,"command":"threads","message":"no"}"#,
+        r#"{"seq":1,"type":"response","request_seq":1,"success":false,"command":"threads","message":"no","body":{"error":{"id":1,"format":"no"}}}"#,
+        r#"{"body":{"error":{"format":"no","id":1}},"command":"threads","message":"no","request_seq":1,"seq":1,"success":false,"type":"response"}"#,
         r#"{"seq":1,"type":"event","event":"stopped","body":{"reason":"step","threadId":1,"allThreadsStopped":true}}"#,
         r#"{"body":{"category":"stdout","output":"a\n"},"event":"output","seq":1,"type":"event"}"#,
         r#"{"seq":1,"type":"event","event":"initialized"}"#,
