@@ -22,8 +22,7 @@ pub record AreGivenBy (given : GatheredReferences) (body : Data) : Type 0 where
   pub frames : given_frames given ≡ frame_ids body
   pub holders : (command : Command) → given_holders command given ≡ holders_of command body
 
--- ---- words for private functions
-
+-- the same, list by list
 pub record AreGathered (given : GatheredReferences) (body : Data) : Type 0 where
   pub frames : given.frames.items ≡ frame_ids body
   pub scopes : given.scopes.items ≡ holders_of Scopes body

@@ -14,13 +14,13 @@ use dap_json::object_reader::{Invalid, ObjectReader, Range};
 use std::alloc::Global;
 
 /// Which numbers are ids of frames.
-const FRAMES: Range = Range {
+pub const FRAMES: Range = Range {
     least: 0,
     most: 2147483647,
 };
 
 /// By which numbers variables are asked for.
-const HOLDERS: Range = Range {
+pub const HOLDERS: Range = Range {
     least: 1,
     most: 2147483647,
 };
@@ -28,11 +28,11 @@ const HOLDERS: Range = Range {
 /// The references that a body gives. It keeps its memory from body to body.
 #[derive(Drop)]
 pub struct GatheredReferences {
-    frames: Vec<u64>,
-    scopes: Vec<u64>,
-    variables: Vec<u64>,
+    pub frames: Vec<u64>,
+    pub scopes: Vec<u64>,
+    pub variables: Vec<u64>,
     /// That of a value.
-    own: Vec<u64>,
+    pub own: Vec<u64>,
 }
 
 impl GatheredReferences {

@@ -26,7 +26,7 @@ pub use call::{
 pub use calls::read_call;
 pub use capabilities::Capabilities;
 pub use command::{Command, Gate};
-pub use gathering::GatheredReferences;
+pub use gathering::{FRAMES, GatheredReferences, HOLDERS};
 pub use given_references::{FramesGiven, HoldersGiven, frames_given, holders_given};
 pub use key::Key;
 pub use plain::MAX_ARGUMENTS;

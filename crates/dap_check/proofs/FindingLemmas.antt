@@ -1,9 +1,10 @@
 -- All lines that break a rule: one line more, and the first of them.
-use Rattle.std.proofs.Common.{◌≡◌, ℕ, ◌⊎◌, inl, inr, List, [], ◌∷◌, ◌++◌, Option, Some, None, refl, sym, ap, ◌∙◌, subst}
+use Rattle.std.proofs.Common.{◌≡◌, ℕ, ◌⊎◌, inl, inr, List, [], ◌∷◌, ◌++◌, Bool, true, Option, Some, None, refl, sym, ap, ◌∙◌, subst}
 use Rattle.std.specs.List.{Contains}
 use Rattle.std.proofs.lemmas.List.{append_assoc, append-nil}
 use Rattle.dap_message.specs.Types.GatheredReferences.{GatheredReferences}
-use Rattle.dap_check.specs.Findings.{finding_at, findings_after, findings, first_of}
+use Rattle.dap_shape.specs.Faults.{fault_in}
+use Rattle.dap_check.specs.Findings.{finding_at, findings_after, findings, first_of, AreSound}
 use Rattle.dap_check.specs.Legal.{least_broken, IsLegal, IsVerdict}
 use Rattle.dap_check.specs.PrivateBare.{IsReadAs}
 use Rattle.dap_check.specs.declared.line.Form.{Form}
@@ -55,3 +56,11 @@ module _ (any_seq : AnySeq) where
 
   pub told_first : (lines : List Line) (told : Checked) → told ≡ first_of (findings any_seq lines) → IsVerdict any_seq lines told
   told_first lines told e = subst (IsVerdict any_seq lines) (sym e) (first_is_the_verdict lines)
+
+-- ---- messages without a fault
+
+pub sound_more : (lines : List Line) (sound : List Bool) (line : Line) (is_sound : Bool) → (is_sound ≡ true → fault_in line.message.kind ≡ None) → AreSound lines sound → AreSound (lines ++ line ∷ []) (sound ++ is_sound ∷ [])
+sound_more [] [] line is_sound faultless are = (faultless, tt)
+sound_more [] (other ∷ sound) line is_sound faultless are = absurd are
+sound_more (first ∷ lines) [] line is_sound faultless are = absurd are
+sound_more (first ∷ lines) (other ∷ sound) line is_sound faultless are = (are.0, sound_more lines sound line is_sound faultless are.1)

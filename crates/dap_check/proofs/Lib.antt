@@ -20,3 +20,4 @@ pub mod ByPlaces
 pub mod RulesByPlaces
 pub mod Flags
 pub mod BareLemmas
+pub mod Ordered

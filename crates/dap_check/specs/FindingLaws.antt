@@ -1,9 +1,10 @@
 -- Which lines are listed as findings, and which requests as unanswered.
-use Rattle.std.specs.Prelude.{◌≡◌, ◌↔◌, ℕ, List, [], ◌∷◌, ◌++◌, ◌&&◌, false, bytes_eq, Some}
+use Rattle.std.specs.Prelude.{◌≡◌, ◌↔◌, ◌<◌, ℕ, List, [], ◌∷◌, ◌++◌, ◌&&◌, false, bytes_eq, Some}
 use Rattle.std.specs.List.{list_any, Contains}
 use Rattle.dap_check.specs.Findings.{findings, first_of, request_of, is_answered, open_requests, is_open_as}
 use Rattle.dap_check.specs.Legal.{least_broken, IsVerdict}
 use Rattle.dap_check.specs.Rules.{waits, waits_for}
+use Rattle.dap_check.specs.Transcript.{AreLines}
 use Rattle.dap_check.specs.declared.line.Line.{Line}
 use Rattle.dap_check.specs.declared.line.Side.{Side}
 use Rattle.dap_check.specs.declared.rule.AnySeq.{AnySeq}
@@ -28,6 +29,12 @@ FindingsAreBrokenRules = (any_seq : AnySeq) (lines : List Line) (finding : Findi
 -- the first that is listed is the verdict, and where none is, the transcript is legal
 abbrev pub FirstFindingIsTheVerdict : Type 0
 FirstFindingIsTheVerdict = (any_seq : AnySeq) (lines : List Line) → IsVerdict any_seq lines (first_of (findings any_seq lines))
+
+-- of two that are listed the first has the lesser number: so they are listed in the order of their lines, and no line twice
+abbrev pub FindingsAreInOrder : Type 0
+FindingsAreInOrder =
+    (any_seq : AnySeq) (texts : List (List ℕ)) (lines : List Line) → AreLines 1 texts lines
+    → (before : List Finding) (first : Finding) (between : List Finding) (second : Finding) (after : List Finding) → findings any_seq lines ≡ before ++ first ∷ (between ++ second ∷ after) → first.line < second.line
 
 -- ---- unanswered requests
 

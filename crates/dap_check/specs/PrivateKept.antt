@@ -20,7 +20,7 @@ use Rattle.dap_check.specs.declared.offer.Offer.{Offer}
 use Rattle.dap_check.specs.declared.pending.Pending.{Pending}
 use Rattle.dap_check.specs.declared.references.References.{References}
 use Rattle.dap_check.specs.declared.phases.Phases.{Phases}
-use Rattle.dap_check.specs.Findings.{findings, request_of, open_requests, is_open_as}
+use Rattle.dap_check.specs.Findings.{findings, AreSound, request_of, open_requests, is_open_as}
 use Rattle.dap_check.specs.declared.checking.Progress.{Progress}
 use Rattle.dap_check.specs.declared.rule.AnySeq.{AnySeq}
 use Rattle.dap_check.specs.declared.rule.OpenRequest.{OpenRequest}
@@ -124,3 +124,4 @@ pub record IsSeen (seen : Seen) (earlier : List Line) : Type 0 where
 pub record IsProgress (any_seq : AnySeq) (progress : Progress) (lines : List Line) : Type 0 where
   pub seen : IsSeen progress.seen lines
   pub found : progress.findings.items ≡ findings any_seq lines
+  pub sound : AreSound lines progress.sound.items

@@ -1,6 +1,7 @@
 //! Whether a transcript is legal, and all that is found in it.
-ghost use Rattle.std.specs.Prelude.{◌≡◌, ◌≢◌, ◌⊎◌, ◌+◌, ◌-◌, ◌^◌, ◌<◌, ◌≤◌, ◌∷◌, ◌++◌, [], List, drop, OnOk, IfOk, IfErr, IsErrAnd, MatchResult};
+ghost use Rattle.std.specs.Prelude.{◌≡◌, ◌≢◌, ◌⊎◌, ◌+◌, ◌-◌, ◌^◌, ◌<◌, ◌≤◌, ◌∷◌, ◌++◌, [], List, drop, OnOk, IfOk, IfErr, IsErrAnd, IsTrue, MatchResult};
 ghost use Rattle.std.specs.Str.Lines.{lines};
+ghost use Rattle.dap_shape.specs.Faults.{fault_in};
 ghost use Rattle.dap_check.specs.PrivateBare.{IsReadAs};
 ghost use Rattle.dap_check.specs.PrivateKept.{IsProgress};
 ghost use Rattle.dap_check.specs.PrivateOpen.{AreFrom};
@@ -67,6 +68,8 @@ pub(crate) struct Progress {
     pub(crate) seen: Seen,
     /// The lines so far that break a rule, in order.
     pub(crate) findings: Vec<Finding>,
+    /// Of each line so far, whether it was seen that its message has no fault.
+    pub(crate) sound: Vec<bool>,
 }
 
 impl Progress {
@@ -77,6 +80,7 @@ impl Progress {
         Progress {
             seen: Seen::new(alloc),
             findings: Vec::new(alloc),
+            sound: Vec::new(alloc),
         }
     }
 
@@ -88,13 +92,15 @@ impl Progress {
         line: &Line,
         form: Form,
         given: &GatheredReferences,
+        is_sound: bool,
     ) -> Result<(), AllocError>
         requires { self.old.seen.counts.client + self.old.seen.counts.adapter < 2 ^ 64 - 1 }
-        ensures progress { OnOk result ((lines : List TheLine) (real : TheLine) → IsReadAs form given.now line.now real → IsProgress any_seq self.old lines → IsProgress any_seq self.new (lines ++ real ∷ [])) }
+        ensures progress { OnOk result ((lines : List TheLine) (real : TheLine) → IsReadAs form given.now line.now real → (IsTrue is_sound → fault_in real.message.kind ≡ None) → IsProgress any_seq self.old lines → IsProgress any_seq self.new (lines ++ real ∷ [])) }
         ensures room { OnOk result (self.new.seen.counts.client + self.new.seen.counts.adapter ≤ self.old.seen.counts.client + self.old.seen.counts.adapter + 1) }
     {
         let broken = self.seen.least_broken(any_seq, line);
         push_broken(&mut self.findings, line.number, broken)?;
+        self.sound.push(is_sound)?;
         self.seen.note(alloc, line, form, given)
     }
 }
@@ -106,6 +112,7 @@ fn take_text(
     given: &mut GatheredReferences,
     progress: &mut Progress,
     any_seq: AnySeq,
+    bodies: bool,
     number: u64,
     text: &[u8],
 ) -> Result<(), CheckFault>
@@ -114,13 +121,25 @@ fn take_text(
     ensures room { OnOk result (progress.new.seen.counts.client + progress.new.seen.counts.adapter ≤ progress.old.seen.counts.client + progress.old.seen.counts.adapter + 1) }
     ensures refused { IfErr result (Refuses number text.now) }
 {
-    let (line, form) = read_bare(alloc, scratch, given, number, text)?;
-    progress.take(alloc, any_seq, &line, form, given)?;
+    let read = read_bare(alloc, scratch, given, bodies, number, text)?;
+    progress.take(
+        alloc,
+        any_seq,
+        &read.line,
+        read.form,
+        given,
+        read.is_sound,
+    )?;
     Ok(())
 }
 
 /// All lines, in one pass.
-fn pass(alloc: Global, bytes: &[u8], any_seq: AnySeq) -> Result<Progress, CheckFault>
+fn pass(
+    alloc: Global,
+    bytes: &[u8],
+    any_seq: AnySeq,
+    bodies: bool,
+) -> Result<Progress, CheckFault>
     ensures progress { IfOk result (λ progress. (transcript : List TheLine) × AreLines 1 (lines bytes.now) transcript × IsProgress any_seq progress transcript) }
     ensures refused { IfErr result (FirstRefused (lines bytes.now)) }
 {
@@ -139,6 +158,7 @@ fn pass(alloc: Global, bytes: &[u8], any_seq: AnySeq) -> Result<Progress, CheckF
                 &mut given,
                 &mut progress,
                 any_seq,
+                bodies,
                 number,
                 text,
             )?;
@@ -152,11 +172,16 @@ fn pass(alloc: Global, bytes: &[u8], any_seq: AnySeq) -> Result<Progress, CheckF
 fn report(alloc: Global, progress: Progress) -> Result<Report, CheckFault>
     ensures { (any_seq : AnySeq) (lines : List TheLine) → AreFrom 1 lines → IsProgress any_seq progress lines → MatchResult result (IsReport any_seq lines) (λ fault. fault ≡ CheckFault.OutOfMemory) }
 {
-    let Progress { seen, findings } = progress;
+    let Progress {
+        seen,
+        findings,
+        sound,
+    } = progress;
     match in_order(alloc, seen.pending) {
         Ok(unanswered) => Ok(Report {
             findings,
             unanswered,
+            sound,
         }),
         Err(_) => Err(CheckFault::OutOfMemory),
     }
@@ -187,7 +212,7 @@ pub fn check(alloc: Global, bytes: &[u8], any_seq: AnySeq) -> Result<Checked, Ch
 {
     // A law for the proof: no line is both a message and refused.
     each_body_is_one();
-    match pass(alloc, bytes, any_seq) {
+    match pass(alloc, bytes, any_seq, false) {
         Ok(progress) => Ok(first(&progress.findings)),
         Err(fault) => Err(fault),
     }
@@ -195,8 +220,14 @@ pub fn check(alloc: Global, bytes: &[u8], any_seq: AnySeq) -> Result<Checked, Ch
 
 /// Each line that breaks a rule, with the least rule that it breaks, and each request that nothing has answered. A line is
 /// judged by all lines before it, also by those that break a rule. The first finding is that of [`check`]; a line that is
-/// none, or no message, is reported before any.
-pub fn check_all(alloc: Global, bytes: &[u8], any_seq: AnySeq) -> Result<Report, CheckFault>
+/// none, or no message, is reported before any. `bodies` asks to look out for faults of messages on the way
+/// ([`message_fault`](dap_shape::message_fault)), so that only few messages are to be looked at again.
+pub fn check_all(
+    alloc: Global,
+    bytes: &[u8],
+    any_seq: AnySeq,
+    bodies: bool,
+) -> Result<Report, CheckFault>
     ensures checked { IfOk result (λ report. (transcript : List TheLine) × AreLines 1 (lines bytes.now) transcript × IsReport any_seq transcript report) }
     ensures refused { IfErr result (λ fault. (fault ≡ CheckFault.OutOfMemory) ⊎ FirstRefused (lines bytes.now) fault) }
 
@@ -206,7 +237,7 @@ pub fn check_all(alloc: Global, bytes: &[u8], any_seq: AnySeq) -> Result<Report,
 {
     // A law for the proof: no line is both a message and refused.
     each_body_is_one();
-    match pass(alloc, bytes, any_seq) {
+    match pass(alloc, bytes, any_seq, bodies) {
         Ok(progress) => report(alloc, progress),
         Err(fault) => Err(fault),
     }

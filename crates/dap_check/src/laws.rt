@@ -1,6 +1,6 @@
 //! Laws of the definitions, each on a function with nothing to run.
 ghost use Rattle.dap_check.specs.Laws.{EachTranscriptHasOneVerdict, SomeIsAPlace, OpenIsAPlace, FirstIsAPlace, LastIsAPlace};
-ghost use Rattle.dap_check.specs.FindingLaws.{FindingsAreBrokenRules, FirstFindingIsTheVerdict, OpenRequestsAreUnanswered, OpenRequestsWait};
+ghost use Rattle.dap_check.specs.FindingLaws.{FindingsAreBrokenRules, FirstFindingIsTheVerdict, FindingsAreInOrder, OpenRequestsAreUnanswered, OpenRequestsWait};
 ghost use Rattle.dap_check.specs.ReadingLaws.{TextsHaveOneLine, TextsHaveOneTranscript, TranscriptsGrow};
 ghost use Rattle.dap_check.specs.Places.{AnswerIsByPlaces, FirstRequestIsByPlaces, OfferIsByPlaces, ReferencesAreByPlaces};
 
@@ -45,6 +45,11 @@ pub fn texts_are_read_in_one_way()
 pub fn findings_are_broken_rules()
     ensures listed { FindingsAreBrokenRules }
     ensures first { FirstFindingIsTheVerdict }
+{}
+
+/// Findings are listed in the order of their lines, and no line is listed twice.
+pub fn findings_are_in_order()
+    ensures { FindingsAreInOrder }
 {}
 
 /// Which requests are listed as unanswered: those that no later line answers, which are those that wait for a response by the

@@ -3,11 +3,12 @@
 //! Most messages are long for their trees' sake, and a tree costs most of the time of reading. The rules look at few of
 //! them: at what `initialize` and `capabilities` offer, and at what a request names. The references that a response gives
 //! are gathered with no tree.
-ghost use Rattle.std.specs.Prelude.{◌≡◌, drop, MatchOption, IfOk, IfErr};
+ghost use Rattle.std.specs.Prelude.{◌≡◌, drop, false, MatchOption, IfSome, IfOk, IfErr, IsTrue};
 ghost use Rattle.dap_message.specs.Heading.{IsHeadingOf, IsKindOf};
 ghost use Rattle.dap_message.specs.Meaning.{Msg};
 ghost use Rattle.dap_message.specs.declared.message.Kind.{Kind as TheKind};
 ghost use Rattle.dap_message.specs.declared.message.Message.{Message as TheMessage};
+ghost use Rattle.dap_shape.specs.Faults.{fault_in};
 ghost use Rattle.dap_check.specs.PrivateBare.{bare_kind as bare_kind_of, bare_message, is_looked_at as looked_at, IsReadBody, IsReadAs, IsUnread};
 ghost use Rattle.dap_check.specs.Transcript.{side_of, IsLine, Refuses};
 ghost use Rattle.dap_check.specs.declared.line.Line.{Line as TheLine};
@@ -19,6 +20,7 @@ use dap_message::{
     BodyFault, GatheredReferences, Heading, HeadingKind, Kind, Message, Scratch, Text,
     read_heading_and_references, read_message, read_message_with,
 };
+use dap_shape::{message_fault, read_heading_and_shape};
 use std::alloc::{AllocError, Global};
 
 /// Whose message a line has, and its body.
@@ -116,23 +118,90 @@ fn bare(alloc: Global, heading: &Heading<'_>) -> Result<Message, AllocError>
     })
 }
 
+/// The message with a heading, without its tree, unless a rule looks at that.
+fn bare_unless_looked_at(
+    alloc: Global,
+    heading: &Heading<'_>,
+) -> Result<Option<Message>, AllocError>
+    ensures { IfOk result (λ read. IfSome read (λ bare. (m : TheMessage) → IsHeadingOf heading.now m → (bare ≡ bare_message m) × (looked_at m.kind ≡ false))) }
+{
+    if is_looked_at(&heading.kind) {
+        return Ok(None);
+    }
+    Ok(Some(bare(alloc, heading)?))
+}
+
+/// The message that a body is, without its tree, unless a rule looks at that; what it gives is gathered. Where it is asked
+/// for, it is looked out for faults on the way.
+fn read_short(
+    alloc: Global,
+    scratch: &mut Scratch,
+    given: &mut GatheredReferences,
+    bodies: bool,
+    body: &[u8],
+) -> Result<Option<(Message, bool)>, AllocError>
+    ensures { IfOk result (λ read. IfSome read (λ short. (m : TheMessage) × Msg body.now m × IsReadBody Form.Bare given.new short.0 m × (IsTrue short.1 → fault_in m.kind ≡ None))) }
+{
+    if bodies {
+        if let Some((heading, is_sound)) = read_heading_and_shape(scratch, given, body) {
+            return match bare_unless_looked_at(alloc, &heading)? {
+                Some(message) => Ok(Some((message, is_sound))),
+                None => Ok(None),
+            };
+        }
+    }
+    let Some(heading) = read_heading_and_references(scratch, given, body) else {
+        return Ok(None);
+    };
+    match bare_unless_looked_at(alloc, &heading)? {
+        Some(message) => Ok(Some((message, false))),
+        None => Ok(None),
+    }
+}
+
+/// A body as it was read.
+#[derive(Drop)]
+pub(crate) struct BodyRead {
+    pub(crate) message: Message,
+    pub(crate) form: Form,
+    /// Whether it was seen that the message has no fault. Else it may have one.
+    pub(crate) is_sound: bool,
+}
+
 /// The message that a body is, without its tree where no rule looks at it; what it gives is gathered then.
 fn read_body(
     alloc: Global,
     scratch: &mut Scratch,
     given: &mut GatheredReferences,
+    bodies: bool,
     body: &[u8],
-) -> Result<(Message, Form), BodyFault>
-    ensures message { IfOk result (λ read. (m : TheMessage) × Msg body.now m × IsReadBody read.1 given.new read.0 m) }
+) -> Result<BodyRead, BodyFault>
+    ensures message { IfOk result (λ read. (m : TheMessage) × Msg body.now m × IsReadBody read.form given.new read.message m × (IsTrue read.is_sound → fault_in m.kind ≡ None)) }
     ensures refused { IfErr result (IsUnread body.now) }
 {
-    if let Some(heading) = read_heading_and_references(scratch, given, body) {
-        if !is_looked_at(&heading.kind) {
-            return Ok((bare(alloc, &heading)?, Form::Bare));
-        }
+    if let Some((message, is_sound)) = read_short(alloc, scratch, given, bodies, body)? {
+        return Ok(BodyRead {
+            message,
+            form: Form::Bare,
+            is_sound,
+        });
     }
     let message = read_message_with(alloc, body, scratch)?;
-    Ok((message, Form::Whole))
+    let is_sound = bodies && message_fault(alloc, &message.kind)?.is_none();
+    Ok(BodyRead {
+        message,
+        form: Form::Whole,
+        is_sound,
+    })
+}
+
+/// A line as it was read.
+#[derive(Drop)]
+pub(crate) struct LineRead {
+    pub(crate) line: Line,
+    pub(crate) form: Form,
+    /// Whether it was seen that the message has no fault. Else it may have one.
+    pub(crate) is_sound: bool,
 }
 
 /// The line of this number, without its tree where no rule looks at it; what it gives is gathered then.
@@ -140,24 +209,26 @@ pub(crate) fn read_bare(
     alloc: Global,
     scratch: &mut Scratch,
     given: &mut GatheredReferences,
+    bodies: bool,
     number: u64,
     text: &[u8],
-) -> Result<(Line, Form), CheckFault>
-    ensures line { IfOk result (λ read. (real : TheLine) × IsLine number text.now real × IsReadAs read.1 given.new read.0 real) }
+) -> Result<LineRead, CheckFault>
+    ensures line { IfOk result (λ read. (real : TheLine) × IsLine number text.now real × IsReadAs read.form given.new read.line real × (IsTrue read.is_sound → fault_in real.message.kind ≡ None)) }
     ensures refused { IfErr result (Refuses number text.now) }
 {
     let Some((side, body)) = split_side(text) else {
         return Err(CheckFault::BadLine { line: number });
     };
-    match read_body(alloc, scratch, given, body) {
-        Ok((message, form)) => Ok((
-            Line {
+    match read_body(alloc, scratch, given, bodies, body) {
+        Ok(read) => Ok(LineRead {
+            line: Line {
                 number,
                 side,
-                message,
+                message: read.message,
             },
-            form,
-        )),
+            form: read.form,
+            is_sound: read.is_sound,
+        }),
         Err(BodyFault::Refused(cause)) => Err(CheckFault::Body {
             line: number,
             cause,

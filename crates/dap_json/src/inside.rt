@@ -25,7 +25,7 @@ pub struct Range {
 
 /// The whole number that a value is, of 0 to 9007199254740991.
 #[inline(always)]
-fn whole(value: MemberValue<'_>) -> Option<u64>
+pub fn whole(value: MemberValue<'_>) -> Option<u64>
     ensures { (d : Data) → Describes value.entry d → result ≡ whole_of d }
 {
     match value {
@@ -34,9 +34,9 @@ fn whole(value: MemberValue<'_>) -> Option<u64>
     }
 }
 
-/// Adds a number, if there is one in the range.
+/// Adds a number, if there is one in the range. It is an error where memory is refused.
 #[inline(always)]
-fn keep(found: &mut Vec<u64>, range: Range, number: Option<u64>) -> Result<(), Invalid>
+pub fn keep(found: &mut Vec<u64>, range: Range, number: Option<u64>) -> Result<(), Invalid>
     ensures { OnOk result (found.new.items ≡ found.old.items ++ cons_option (if_within range.least range.most number) []) }
 {
     let Some(n) = number else {

@@ -9,7 +9,7 @@ ghost use Rattle.serde_json.specs.Read.{of_json, of_items, of_members, converted
 ghost use Rattle.dap_json.specs.Read.{json_of};
 ghost use Rattle.dap_json.specs.ObjectReader.{Describes, IsRestOf, IsNext, IsAfterKey};
 
-pub use crate::inside::Range;
+pub use crate::inside::{Range, keep, whole};
 use crate::tree::Tree;
 use crate::{digits, reading};
 use fast_float::Numeral;
@@ -20,7 +20,7 @@ use std::alloc::Global;
 use std::marker::Model;
 
 /// How deep arrays and objects may nest.
-pub(crate) const MAX_DEPTH: usize = 127;
+pub const MAX_DEPTH: usize = 127;
 
 /// A value that was passed.
 #[derive(Clone, Copy, Debug, Drop)]
@@ -55,7 +55,8 @@ impl Scratch {
 /// The rest of an object.
 #[derive(Drop)]
 pub struct ObjectReader<'a> {
-    pub(crate) reader: Reader<'a>,
+    /// For a caller that reads a value token by token.
+    pub reader: Reader<'a>,
     items: &'a mut Vec<Value>,
 }
 
@@ -144,10 +145,10 @@ impl<'a> ObjectReader<'a> {
     }
 }
 
-/// Passes a value.
+/// Passes a value, in which arrays and objects nest at most so deep.
 #[cycle(object_reader)]
 #[inline(always)]
-pub(crate) fn value<'a>(reader: &mut Reader<'a>, depth: usize) -> Result<MemberValue<'a>, Invalid>
+pub fn value<'a>(reader: &mut Reader<'a>, depth: usize) -> Result<MemberValue<'a>, Invalid>
     ensures ok { IfOk result (λ s. (d : Data) × (converted of_json (grammar_value depth reader.old) ≡ Some (d, reader.new)) × Describes s d) }
     ensures shorter { OnOk result (length reader.new < length reader.old) }
 {

@@ -36,7 +36,7 @@ pub record IsHeadingOf (heading : Heading) (m : Message) : Type 0 where
   pub seq : heading.seq ≡ m.seq
   pub kind : IsKindOf heading.kind m.kind
 
--- ---- words for private functions
+-- ---- what was noted
 
 -- what is noted at the wanted key after a member
 abbrev pub after_note : List ℕ → List ℕ → MemberValue → Option MemberValue → Option MemberValue

@@ -8,7 +8,7 @@ ghost use Rattle.serde_json.specs.Find.{as_str, as_bool};
 ghost use Rattle.dap_json.specs.Field.{unless_null, text_at};
 ghost use Rattle.dap_json.specs.ObjectReader.{Describes, IsRestOf};
 ghost use Rattle.dap_message.specs.Heading.{after_note, Notes, NotesAll, whole_in, IsHeadingOf, IsKindOf};
-ghost use Rattle.dap_message.specs.Meaning.{Msg, MeansKind};
+ghost use Rattle.dap_message.specs.Meaning.{Msg, MeansKind, MeansMessage};
 ghost use Rattle.dap_message.specs.Refusals.{max_command};
 ghost use Rattle.dap_message.specs.declared.message.Message.{Message};
 ghost use Rattle.dap_message.specs.declared.message.Kind.{Kind};
@@ -82,18 +82,19 @@ impl Message {
 
 /// The values at the keys that make a heading, where they came.
 #[derive(Drop)]
-pub(crate) struct Noted<'a> {
-    pub(crate) seq: Option<MemberValue<'a>>,
-    pub(crate) tag: Option<MemberValue<'a>>,
-    pub(crate) command: Option<MemberValue<'a>>,
-    pub(crate) request_seq: Option<MemberValue<'a>>,
-    pub(crate) success: Option<MemberValue<'a>>,
-    pub(crate) message: Option<MemberValue<'a>>,
-    pub(crate) event: Option<MemberValue<'a>>,
+pub struct Noted<'a> {
+    pub seq: Option<MemberValue<'a>>,
+    /// That of `type`.
+    pub tag: Option<MemberValue<'a>>,
+    pub command: Option<MemberValue<'a>>,
+    pub request_seq: Option<MemberValue<'a>>,
+    pub success: Option<MemberValue<'a>>,
+    pub message: Option<MemberValue<'a>>,
+    pub event: Option<MemberValue<'a>>,
 }
 
 /// Nothing came yet.
-pub(crate) fn none_noted<'a>() -> Noted<'a>
+pub fn none_noted<'a>() -> Noted<'a>
     ensures { NotesAll result no_members }
 {
     let nothing = None;
@@ -118,8 +119,8 @@ fn note<'a>(noted: &mut Option<MemberValue<'a>>, wanted: &str, key: &str, value:
     }
 }
 
-/// Notes a member.
-pub(crate) fn note_member<'a>(noted: &mut Noted<'a>, key: &str, value: MemberValue<'a>)
+/// Notes a member of a message.
+pub fn note_member<'a>(noted: &mut Noted<'a>, key: &str, value: MemberValue<'a>)
     ensures { (d : Data) (found : Members) → Describes value.entry d → NotesAll noted.old found → NotesAll noted.new (put key.now d found) }
 {
     note(&mut noted.seq, "seq", key, value);
@@ -232,6 +233,15 @@ pub(crate) fn kind<'a>(noted: &Noted<'a>) -> Option<HeadingKind<'a>>
         "event" => event(noted),
         tag => Some(HeadingKind::Other { tag }),
     }
+}
+
+/// The heading of the message whose members were noted, where all that it takes has come.
+pub fn heading_of<'a>(noted: &Noted<'a>) -> Option<Heading<'a>>
+    ensures { IfSome result (λ heading. (ms : Members) → NotesAll noted.now ms → (m : Message) × MeansMessage (object ms) m × IsHeadingOf heading m) }
+{
+    let seq = whole(&noted.seq)?;
+    let kind = kind(noted)?;
+    Some(Heading { seq, kind })
 }
 
 /// The heading of the message that a body is. There is none where the body is no message, for which

@@ -32,7 +32,7 @@ pub use dap_call::{
 pub use dap_json::object_reader::Scratch;
 pub use dap_json::{List, Text, Tree};
 pub use fault::{BodyFault, BodyRefusal};
-pub use heading::{Heading, HeadingKind, read_heading};
+pub use heading::{Heading, HeadingKind, Noted, heading_of, none_noted, note_member, read_heading};
 pub use message::{Kind, MAX_COMMAND, Message};
 pub use parts::{Event, Response};
 pub use reading::{read_message, read_message_with};

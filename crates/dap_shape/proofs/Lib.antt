@@ -1,2 +1,5 @@
 mod ShapeExamples
 pub mod ShapeLemmas
+pub mod SoundLemmas
+pub mod FewRows
+pub mod ReadLemmas

@@ -4,3 +4,4 @@ pub mod Faults
 pub mod Sentences
 pub mod Seen
 pub mod Laws
+pub mod PrivateSound

@@ -4,18 +4,22 @@
 //! `serde_json` and `dap_json`. It must not know in which order messages come, nor which end writes one.
 #![tactic(auto)]
 
+mod body;
 mod entries;
 mod fault;
 pub mod laws;
 mod message;
+mod reading;
 mod rows;
 mod sentences;
 mod shape;
+mod sound;
 mod walking;
 
 pub use entries::values;
 pub use fault::{Cause, Inward, ShapeFault};
 pub use message::message_fault;
+pub use reading::read_heading_and_shape;
 pub use rows::fields;
 pub use sentences::sentence;
 pub use shape::{Choice, Field, Kind, Scalar, Shape, TypeName};

@@ -11,7 +11,7 @@ use crate::walking::held_fault;
 use dap_message::{Kind, Tree};
 use std::alloc::{AllocError, Global};
 
-fn field_named(entries: &'static [Entry], name: &str) -> Option<Field>
+pub(crate) fn field_named(entries: &'static [Entry], name: &str) -> Option<Field>
     ensures { option_map row_seen result ≡ row_named (map entry_seen entries.now) name.now }
 {
     for entry in entries {

@@ -31,7 +31,7 @@ fn is_whole(value: &Value) -> bool
 }
 
 /// Whether a text is among those of a list.
-fn has_text(texts: &[&str], text: &str) -> bool
+pub(crate) fn has_text(texts: &[&str], text: &str) -> bool
     ensures { result ≡ list_any (bytes_eq text.now) (map (λ one. one.now) texts.now) }
 {
     for one in texts {

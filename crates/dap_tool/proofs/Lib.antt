@@ -3,3 +3,4 @@ mod FileExamples
 pub mod WholeFiles
 pub mod VerdictTexts
 pub mod ListedTexts
+pub mod PrintedInOrder

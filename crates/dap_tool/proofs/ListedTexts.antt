@@ -4,7 +4,7 @@ use Rattle.std.specs.Prelude.{◌==◌, ◌||◌, ◌&&◌, ◌↔◌, take, con
 use Rattle.std.specs.Str.Lines.{lines}
 use Rattle.std.proofs.lemmas.Bool.Decides.{nat_tests}
 use Rattle.std.proofs.lemmas.List.{append_assoc, append-nil, length-append}
-use Rattle.dap_check.specs.Findings.{finding_at, findings_after, findings, open_requests}
+use Rattle.dap_check.specs.Findings.{finding_at, findings_after, findings, open_requests, AreSound}
 use Rattle.dap_check.specs.Legal.{least_broken, IsLegal}
 use Rattle.dap_check.specs.Transcript.{IsLine, AreLines}
 use Rattle.dap_check.specs.declared.checking.CheckFault.{CheckFault}
@@ -154,14 +154,14 @@ none_joined : (all : Bool) → [] ≡ joined_text (if all then [] else take 1 []
 none_joined true = refl
 none_joined false = refl
 
-pub none_reached : (options : CheckOptions) (bytes : List ℕ) (transcript : List Line) (listing : Listing) → AreLines 1 (lines bytes) transcript → listing.text.items ≡ [] → listing.count ≡ 0 → listing.left.now ≡ findings options.any_seq transcript
+pub none_reached : (options : CheckOptions) (bytes : List ℕ) (transcript : List Line) (listing : Listing) → AreLines 1 (lines bytes) transcript → listing.text.items ≡ [] → listing.count ≡ 0 → listing.left.now ≡ findings options.any_seq transcript → AreSound transcript listing.sound.now
     → Reached options bytes 1 transcript listing
-none_reached options bytes transcript listing are text count left = record {
+none_reached options bytes transcript listing are text count left sound = record {
   before = [];
   after = transcript;
   split = refl;
   are = are;
-  listed = record { text = text ∙ none_joined options.all; count = count; left = left };
+  listed = record { text = text ∙ none_joined options.all; count = count; left = left; sound = sound };
 }
 
 no_rest : (n : ℕ) (rest : List ℕ) (after : List Line) → length rest ≡ 0 → AreLines n (lines rest) after → after ≡ []
@@ -237,8 +237,8 @@ module _ (options : CheckOptions) (number : ℕ) (text : List ℕ) (texts : List
   so_far = texts_of options.any_seq options.explained true before
 
   pub listed_more : IsLine number text line → AreLines (number + 1) texts after → IsListed options before (line ∷ after) old → broken ≡ rule_at number old.left.now → told ≡ text_if options.explained true before line broken
-      → new.text.items ≡ joined_text (if options.all then so_far ++ told else take 1 (so_far ++ told)) → new.count ≡ old.count + length told → new.left.now ≡ left_after number old.left.now → IsListed options (before ++ line ∷ []) after new
-  listed_more is are so rule tells text_is count_is left_is =
+      → new.text.items ≡ joined_text (if options.all then so_far ++ told else take 1 (so_far ++ told)) → new.count ≡ old.count + length told → new.left.now ≡ left_after number old.left.now → AreSound after new.sound.now → IsListed options (before ++ line ∷ []) after new
+  listed_more is are so rule tells text_is count_is left_is sound_is =
       let h = here options.any_seq number text texts before line after is are in
       let least = rule ∙ ap (rule_at number) so.left ∙ h.rule in
       let all : so_far ++ told ≡ texts_of options.any_seq options.explained true (before ++ line ∷ []) =
@@ -247,6 +247,7 @@ module _ (options : CheckOptions) (number : ℕ) (text : List ℕ) (texts : List
         text = text_is ∙ ap (λ z. joined_text (if options.all then z else take 1 z)) all;
         count = count_is ∙ ap (λ n. n + length told) so.count ∙ sym (length-append so_far told) ∙ ap length all;
         left = left_is ∙ ap (left_after number) so.left ∙ h.rest;
+        sound = sound_is;
       }
 
 -- ---- all lines

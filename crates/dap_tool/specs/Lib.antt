@@ -3,3 +3,4 @@ pub mod Explanations
 pub mod Files
 pub mod Verdicts
 pub mod PrivateListed
+pub mod PrintedLaws

@@ -1,6 +1,6 @@
 -- How far the lines of a transcript are listed where bodies are checked too. Only private clauses and proofs cite this file.
 use Rattle.std.specs.Prelude.{◌≡◌, ℕ, ◌==◌, List, [], ◌∷◌, length, take, Option, Some, None, if◌then◌else◌, true}
-use Rattle.dap_check.specs.Findings.{findings_after}
+use Rattle.dap_check.specs.Findings.{findings_after, AreSound}
 use Rattle.dap_check.specs.declared.line.Line.{Line}
 use Rattle.dap_check.specs.declared.rule.Finding.{Finding}
 use Rattle.dap_check.specs.declared.rule.Rule.{Rule}
@@ -24,3 +24,4 @@ pub record IsListed (options : CheckOptions) (before after : List Line) (listing
   pub text : let texts = texts_of options.any_seq options.explained true before in listing.text.items ≡ joined_text (if options.all then texts else take 1 texts)
   pub count : listing.count ≡ length (texts_of options.any_seq options.explained true before)
   pub left : listing.left.now ≡ findings_after options.any_seq before after
+  pub sound : AreSound after listing.sound.now

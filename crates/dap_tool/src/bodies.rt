@@ -1,7 +1,7 @@
 //! The lines of a transcript that break a rule, where rule 8 counts too: what a message holds is as the Specification has it.
-ghost use Rattle.std.specs.Prelude.{◌≡◌, ◌+◌, ◌-◌, ◌^◌, ◌<◌, ◌≤◌, ◌∷◌, ◌++◌, [], List, ℕ, Option, Some, None, option_map, option_to_list, if◌then◌else◌, length, take, drop, codes, decimal, OnOk, IfOk, MatchResult, string_bytes, true};
+ghost use Rattle.std.specs.Prelude.{◌≡◌, ◌+◌, ◌-◌, ◌^◌, ◌<◌, ◌≤◌, ◌∷◌, ◌++◌, [], List, ℕ, Option, Some, None, option_map, option_to_list, if◌then◌else◌, length, take, drop, codes, decimal, OnOk, IfOk, IsTrue, MatchResult, string_bytes, true};
 ghost use Rattle.std.specs.Str.Lines.{lines};
-ghost use Rattle.dap_check.specs.Findings.{findings};
+ghost use Rattle.dap_check.specs.Findings.{findings, AreSound};
 ghost use Rattle.dap_check.specs.Transcript.{IsLine, AreLines};
 ghost use Rattle.dap_check.specs.declared.checking.CheckFault.{CheckFault};
 ghost use Rattle.dap_check.specs.declared.line.Line.{Line as TheLine};
@@ -117,7 +117,8 @@ fn text_of_finding(
     Ok(Some(text))
 }
 
-/// What is printed of a line, by the least of the seven rules that it breaks.
+/// What is printed of a line, by the least of the seven rules that it breaks, and whether it was seen that its message has no
+/// fault.
 fn text_of_line(
     alloc: Global,
     scratch: &mut Scratch,
@@ -126,8 +127,9 @@ fn text_of_line(
     number: u64,
     text: &[u8],
     broken: Option<Rule>,
+    is_sound: bool,
 ) -> Result<Option<Vec<u8>>, CheckFault>
-    ensures { (earlier : List TheLine) (line : TheLine) (later : List TheLine) → AreLines 1 (lines bytes.now) (earlier ++ line ∷ later) → IsLine number text.now line
+    ensures { (earlier : List TheLine) (line : TheLine) (later : List TheLine) → AreLines 1 (lines bytes.now) (earlier ++ line ∷ later) → IsLine number text.now line → (IsTrue is_sound → fault_in line.message.kind ≡ None)
         → MatchResult result (λ told. option_to_list (option_map (λ text. text.items) told) ≡ text_if explained true earlier line broken) (λ fault. fault ≡ CheckFault.OutOfMemory) }
 {
     match broken {
@@ -135,6 +137,7 @@ fn text_of_line(
             let line = number;
             text_of_finding(alloc, bytes, explained, Finding { line, rule })
         }
+        None if is_sound => Ok(None),
         None => text_of_body(alloc, scratch, explained, number, text),
     }
 }
@@ -150,6 +153,8 @@ pub(crate) struct Listing<'a> {
     pub(crate) count: u64,
     /// What breaks one of the seven rules behind them.
     pub(crate) left: &'a [Finding],
+    /// Of each line behind them, whether it was seen that its message has no fault.
+    pub(crate) sound: &'a [bool],
 }
 
 /// What the line of a number breaks, and the findings behind it.
@@ -166,16 +171,28 @@ fn split_rule(left: &[Finding], number: u64) -> (Option<Rule>, &[Finding])
     (None, left)
 }
 
+/// Whether it was seen of a line that its message has no fault, and of those behind it.
+fn split_sound(sound: &[bool]) -> (bool, &[bool])
+    ensures { (line : TheLine) (after : List TheLine) → AreSound (line ∷ after) sound.now → (IsTrue result.0 → fault_in line.message.kind ≡ None) × AreSound after result.1.now }
+{
+    match sound {
+        [is_sound, others @ ..] => (*is_sound, others),
+        [] => (false, sound),
+    }
+}
+
 impl<'a> Listing<'a> {
-    fn new(alloc: Global, found: &'a [Finding]) -> Listing<'a>
+    fn new(alloc: Global, found: &'a [Finding], sound: &'a [bool]) -> Listing<'a>
         ensures text { result.text.items ≡ [] }
         ensures count { result.count ≡ 0 }
         ensures left { result.left.now ≡ found.entry.now }
+        ensures sound { result.sound.now ≡ sound.entry.now }
     {
         Listing {
             text: Vec::new(alloc),
             count: 0,
             left: found,
+            sound,
         }
     }
 
@@ -186,6 +203,7 @@ impl<'a> Listing<'a> {
             → (let more = texts ++ option_to_list (option_map (λ text. text.items) told) in self.new.text.items ≡ joined_text (if all then more else take 1 more))) }
         ensures count { OnOk result (self.new.count ≡ self.old.count + length (option_to_list (option_map (λ text. text.items) told))) }
         ensures left { self.new.left ≡ self.old.left }
+        ensures sound { self.new.sound ≡ self.old.sound }
         ensures room { self.new.count ≤ self.old.count + 1 }
     {
         let Some(text) = told else {
@@ -214,6 +232,7 @@ impl<'a> Listing<'a> {
         ensures room { self.new.count ≤ self.old.count + 1 }
     {
         let (broken, left) = split_rule(self.left, number);
+        let (is_sound, sound) = split_sound(self.sound);
         let told = text_of_line(
             alloc,
             scratch,
@@ -222,8 +241,10 @@ impl<'a> Listing<'a> {
             number,
             text,
             broken,
+            is_sound,
         )?;
         self.left = left;
+        self.sound = sound;
         Ok(self.push(options.all, told)?)
     }
 }
@@ -234,11 +255,12 @@ pub(crate) fn list_lines<'a>(
     bytes: &[u8],
     options: CheckOptions,
     found: &'a [Finding],
+    sound: &'a [bool],
 ) -> Result<Listing<'a>, CheckFault>
-    ensures { (transcript : List TheLine) → AreLines 1 (lines bytes.now) transcript → findings options.any_seq transcript ≡ found.entry.now → MatchResult result (IsListed options transcript []) (λ fault. fault ≡ CheckFault.OutOfMemory) }
+    ensures { (transcript : List TheLine) → AreLines 1 (lines bytes.now) transcript → findings options.any_seq transcript ≡ found.entry.now → AreSound transcript sound.entry.now → MatchResult result (IsListed options transcript []) (λ fault. fault ≡ CheckFault.OutOfMemory) }
 {
     let mut scratch = Scratch::new(alloc);
-    let mut listing = Listing::new(alloc, found);
+    let mut listing = Listing::new(alloc, found, sound);
     let mut rest = bytes;
     let mut number = 0;
     while !rest.is_empty() {

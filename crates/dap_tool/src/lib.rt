@@ -9,6 +9,7 @@ mod bodies;
 mod explaining;
 mod fault;
 mod files;
+mod printed;
 mod reads;
 mod verdict;
 
@@ -23,5 +24,6 @@ pub use dap_world::laws;
 pub use explaining::explanation;
 pub use fault::{ToolFault, fault_line, status};
 pub use files::{FileFault, MAX_FILE, OpenFault, read_channel, read_whole, reading_is_of_the_log};
+pub use printed::printed_lines_are_in_order;
 pub use reads::most_reads;
 pub use verdict::{CheckOptions, VerdictText, check_text};

@@ -258,7 +258,8 @@ fn verdict_with_bodies(
 {
     // A law for the proof: which lines are findings.
     findings_are_broken_rules();
-    let listing = list_lines(alloc, bytes, options, report.findings.as_slice())?;
+    let found = report.findings.as_slice();
+    let listing = list_lines(alloc, bytes, options, found, report.sound.as_slice())?;
     let is_legal = listing.count == 0;
     let text = with_closing(listing.text, listing.count, options, &report.unanswered)?;
     Ok(VerdictText { text, is_legal })
@@ -299,7 +300,7 @@ pub fn check_text(
     ensures checks { (transcript : List Line) → AreLines 1 (lines bytes.now) transcript → MatchResult result (IsVerdictText options transcript) (λ fault. fault ≡ CheckFault.OutOfMemory) }
     ensures refuses { (fault : CheckFault) → FirstRefused (lines bytes.now) fault → fault ≢ CheckFault.OutOfMemory → IsErrAnd result (λ told. (told ≡ fault) ⊎ (told ≡ CheckFault.OutOfMemory)) }
 {
-    match check_all(alloc, bytes, options.any_seq) {
+    match check_all(alloc, bytes, options.any_seq, options.bodies) {
         Ok(report) => verdict_of(alloc, bytes, options, &report),
         Err(fault) => Err(fault),
     }

@@ -257,7 +257,7 @@ fn judge(alloc: Global, text: &str, any_seq: AnySeq, names_all: bool) -> Result<
         Ok(checked) => checked,
         Err(fault) => return refused(alloc, fault),
     };
-    match check_all(alloc, text.as_bytes(), any_seq) {
+    match check_all(alloc, text.as_bytes(), any_seq, true) {
         Ok(report) if is_first(checked, &report) => with_texts(alloc, text, &report, names_all),
         Ok(_) => Err(Outcome::Wrong),
         Err(CheckFault::OutOfMemory) => Err(Outcome::Refused),

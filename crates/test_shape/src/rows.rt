@@ -1,7 +1,10 @@
 //! The rows, and what runs them.
 
-use dap_message::{Kind, read_message};
-use dap_shape::{Choice, Field, Scalar, Shape, TypeName, fields, message_fault, sentence, values};
+use dap_message::{GatheredReferences, Kind, Scratch, read_message};
+use dap_shape::{
+    Choice, Field, Scalar, Shape, TypeName, fields, message_fault, read_heading_and_shape, sentence,
+    values,
+};
 use std::alloc::{AllocError, Global};
 use std::test::Fail;
 
@@ -74,6 +77,47 @@ fn rows_are_right(rt: HostRuntime) -> Result<(), Fail> {
         assert!(rt; is_right(rt.alloc(), row)?, "{row}");
     }
     Ok(())
+}
+
+/// Messages without a fault, whose names come before what they hold or after it.
+fn sound_messages() -> &'static [&'static str] {
+    &[
+        r#"{"seq":1,"type":"request","command":"threads"}"#,
+        r#"{"seq":1,"type":"request","command":"own","arguments":7}"#,
+        r#"{"seq":1,"type":"request","command":"scopes","arguments":{"frameId":1}}"#,
+        r#"{"arguments":{"frameId":1},"command":"scopes","seq":1,"type":"request"}"#,
+        r#"{"seq":1,"type":"request","command":"next","arguments":{"threadId":1,"granularity":"line","own":{"a":[1.5]}}}"#,
+        r#"{"seq":1,"type":"response","request_seq":1,"success":true,"command":"threads","body":{"threads":[{"id":1,"name":"main"}]}}"#,
+        r#"{"body":{"threads":[{"name":"main","id":1}]},"command":"threads","request_seq":1,"seq":1,"success":true,"type":"response"}"#,
+        r#"{"seq":1,"type":"response","request_seq":1,"success":true,"command":"stackTrace","body":{"stackFrames":[{"id":1,"name":"f","line":1,"column":1,"source":{"name":"a","path":"/a","checksums":[{"algorithm":"MD5","checksum":"00"}]},"endLine":null}],"totalFrames":1}}"#,
+        r#"{"body":{"scopes":[{"expensive":false,"name":"x","variablesReference":7}]},"command":"scopes","request_seq":1,"seq":1,"success":true,"type":"response"}"#,
+        r#"{"body":{"variables":[{"name":"x","value":"1","variablesReference":0}]},"command":"variables","request_seq":1,"seq":1,"success":true,"type":"response"}"#,
+        r#"{"body":{"result":"1","variablesReference":0},"command":"evaluate","request_seq":1,"seq":1,"success":true,"type":"response"}"#,
+        r#"{"seq":1,"type":"response","request_seq":1,"success":true,"command":"next"}"#,
+        r#"{"seq":1,"type":"response","request_seq":1,"success":false,"command":"threads","message":"no"}"#,
+        r#"{"seq":1,"type":"response","request_seq":1,"success":false,"command":"threads","message":"no","body":{"error":{"id":1,"format":"no"}}}"#,
+        r#"{"body":{"error":{"format":"no","id":1}},"command":"threads","message":"no","request_seq":1,"seq":1,"success":false,"type":"response"}"#,
+        r#"{"seq":1,"type":"event","event":"stopped","body":{"reason":"step","threadId":1,"allThreadsStopped":true}}"#,
+        r#"{"body":{"category":"stdout","output":"a\n"},"event":"output","seq":1,"type":"event"}"#,
+        r#"{"seq":1,"type":"event","event":"initialized"}"#,
+        r#"{"seq":1,"type":"event","event":"own","body":{}}"#,
+        r#"{"seq":1,"type":"x"}"#,
+    ]
+}
+
+/// Whether it is seen on the way that a message has no fault.
+fn is_seen(alloc: Global, body: &[u8]) -> bool {
+    let mut scratch = Scratch::new(alloc);
+    let mut given = GatheredReferences::new(alloc);
+    let read = read_heading_and_shape(&mut scratch, &mut given, body);
+    matches!(read, Some((_, true)))
+}
+
+#[test]
+fn most_messages_are_seen_to_be_sound(rt: HostRuntime) {
+    for message in sound_messages() {
+        assert!(rt; is_seen(rt.alloc(), message.as_bytes()), "{message}");
+    }
 }
 
 /// The table by its own words.

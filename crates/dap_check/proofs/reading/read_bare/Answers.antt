@@ -10,4 +10,5 @@ returns-in-Ok-clause-line c =
       record { number = c.args.number; side = c.in-Some.side; message = read.0 },
       record { numbered = refl; side = c.in-Some.ensures.0; message = subst P c.in-Some.ensures.1 read.1 },
       line_read c.args.number c.in-Some.side _ _ _ read.0 read.2,
+      read.3,
     )

@@ -10,6 +10,6 @@ loop-rest-preserved-in_ok-take c =
     record {
       few = omega (arith, l.invariant.few, c.in_ok-take.ensures.room);
       room = omega (arith, l.invariant.room, c.split_line.ensures.shorter);
-      reached = λ transcript are found.
-          reached_line c.args.options l.rest.now c.split_line.result.0.now c.split_line.result.1.now (l.number + 1) transcript l.listing c.split_line.ensures.lines (l.invariant.reached transcript are found) some c.args.bytes.now are c.take.new.self c.in_ok-take.ensures.listed;
+      reached = λ transcript are found sound.
+          reached_line c.args.options l.rest.now c.split_line.result.0.now c.split_line.result.1.now (l.number + 1) transcript l.listing c.split_line.ensures.lines (l.invariant.reached transcript are found sound) some c.args.bytes.now are c.take.new.self c.in_ok-take.ensures.listed;
     }

@@ -6,5 +6,6 @@ use Rattle.dap_tool.proofs.bodies.Listing.take.Goals as goal
 pub returns-clause-listed : goal.returns-clause-listed
 returns-clause-listed c = λ before line after texts are is more so.
     let options = c.args.options in
-    listed_more options c.args.number c.args.text.now texts before line after c.args.self.now c.push.new.self _ _ is more so c.split_rule-broken.ensures.rule (c.in_ok-told.ensures before line after are is)
-    (c.in_ok-push.ensures.text (texts_of options.any_seq options.explained true before) so.count so.text) c.in_ok-push.ensures.count (ap (λ left. left.now) c.in_ok-push.ensures.left ∙ c.split_rule-broken.ensures.left)
+    let sound = c.split_sound-is_sound.ensures line after so.sound in
+    listed_more options c.args.number c.args.text.now texts before line after c.args.self.now c.push.new.self _ _ is more so c.split_rule-broken.ensures.rule (c.in_ok-told.ensures before line after are is sound.0)
+    (c.in_ok-push.ensures.text (texts_of options.any_seq options.explained true before) so.count so.text) c.in_ok-push.ensures.count (ap (λ left. left.now) c.in_ok-push.ensures.left ∙ c.split_rule-broken.ensures.left) sound.1

@@ -1,0 +1,94 @@
+-- Each type has each of its keys once, and not many of them: computed over the table.
+use Rattle.std.proofs.Common.{refl, arith}
+use Rattle.dap_shape.specs.Rows.{fields_of}
+use Rattle.dap_shape.specs.PrivateSound.{AreFew}
+use Rattle.dap_shape.specs.declared.shape.TypeName.{TypeName}
+use Rattle.dap_shape.specs.declared.shape.TypeName.TheVariants as name
+
+pub rows_are_few : (one : TypeName) → AreFew (fields_of one)
+rows_are_few name.AttachRequestArguments = record { apart = refl; few = omega arith }
+rows_are_few name.Breakpoint = record { apart = refl; few = omega arith }
+rows_are_few name.BreakpointEvent = record { apart = refl; few = omega arith }
+rows_are_few name.BreakpointLocation = record { apart = refl; few = omega arith }
+rows_are_few name.BreakpointLocationsArguments = record { apart = refl; few = omega arith }
+rows_are_few name.BreakpointLocationsResponse = record { apart = refl; few = omega arith }
+rows_are_few name.CancelArguments = record { apart = refl; few = omega arith }
+rows_are_few name.Capabilities = record { apart = refl; few = omega arith }
+rows_are_few name.CapabilitiesEvent = record { apart = refl; few = omega arith }
+rows_are_few name.Checksum = record { apart = refl; few = omega arith }
+rows_are_few name.ColumnDescriptor = record { apart = refl; few = omega arith }
+rows_are_few name.CompletionItem = record { apart = refl; few = omega arith }
+rows_are_few name.CompletionsArguments = record { apart = refl; few = omega arith }
+rows_are_few name.CompletionsResponse = record { apart = refl; few = omega arith }
+rows_are_few name.ConfigurationDoneArguments = record { apart = refl; few = omega arith }
+rows_are_few name.ContinueArguments = record { apart = refl; few = omega arith }
+rows_are_few name.ContinueResponse = record { apart = refl; few = omega arith }
+rows_are_few name.ContinuedEvent = record { apart = refl; few = omega arith }
+rows_are_few name.DisconnectArguments = record { apart = refl; few = omega arith }
+rows_are_few name.EvaluateArguments = record { apart = refl; few = omega arith }
+rows_are_few name.EvaluateResponse = record { apart = refl; few = omega arith }
+rows_are_few name.ExceptionBreakpointsFilter = record { apart = refl; few = omega arith }
+rows_are_few name.ExceptionDetails = record { apart = refl; few = omega arith }
+rows_are_few name.ExceptionFilterOptions = record { apart = refl; few = omega arith }
+rows_are_few name.ExceptionInfoArguments = record { apart = refl; few = omega arith }
+rows_are_few name.ExceptionInfoResponse = record { apart = refl; few = omega arith }
+rows_are_few name.ExceptionOptions = record { apart = refl; few = omega arith }
+rows_are_few name.ExceptionPathSegment = record { apart = refl; few = omega arith }
+rows_are_few name.ExitedEvent = record { apart = refl; few = omega arith }
+rows_are_few name.FunctionBreakpoint = record { apart = refl; few = omega arith }
+rows_are_few name.InitializeRequestArguments = record { apart = refl; few = omega arith }
+rows_are_few name.InvalidatedEvent = record { apart = refl; few = omega arith }
+rows_are_few name.LaunchRequestArguments = record { apart = refl; few = omega arith }
+rows_are_few name.LoadedSourceEvent = record { apart = refl; few = omega arith }
+rows_are_few name.LoadedSourcesArguments = record { apart = refl; few = omega arith }
+rows_are_few name.LoadedSourcesResponse = record { apart = refl; few = omega arith }
+rows_are_few name.MemoryEvent = record { apart = refl; few = omega arith }
+rows_are_few name.Module = record { apart = refl; few = omega arith }
+rows_are_few name.ModuleEvent = record { apart = refl; few = omega arith }
+rows_are_few name.ModulesArguments = record { apart = refl; few = omega arith }
+rows_are_few name.ModulesResponse = record { apart = refl; few = omega arith }
+rows_are_few name.NextArguments = record { apart = refl; few = omega arith }
+rows_are_few name.OutputEvent = record { apart = refl; few = omega arith }
+rows_are_few name.PauseArguments = record { apart = refl; few = omega arith }
+rows_are_few name.ProcessEvent = record { apart = refl; few = omega arith }
+rows_are_few name.ProgressEndEvent = record { apart = refl; few = omega arith }
+rows_are_few name.ProgressStartEvent = record { apart = refl; few = omega arith }
+rows_are_few name.ProgressUpdateEvent = record { apart = refl; few = omega arith }
+rows_are_few name.RestartArguments = record { apart = refl; few = omega arith }
+rows_are_few name.ReverseContinueArguments = record { apart = refl; few = omega arith }
+rows_are_few name.RunInTerminalEnv = record { apart = refl; few = omega arith }
+rows_are_few name.RunInTerminalRequestArguments = record { apart = refl; few = omega arith }
+rows_are_few name.RunInTerminalResponse = record { apart = refl; few = omega arith }
+rows_are_few name.Scope = record { apart = refl; few = omega arith }
+rows_are_few name.ScopesArguments = record { apart = refl; few = omega arith }
+rows_are_few name.ScopesResponse = record { apart = refl; few = omega arith }
+rows_are_few name.SetBreakpointsArguments = record { apart = refl; few = omega arith }
+rows_are_few name.SetBreakpointsResponse = record { apart = refl; few = omega arith }
+rows_are_few name.SetExceptionBreakpointsArguments = record { apart = refl; few = omega arith }
+rows_are_few name.SetExceptionBreakpointsResponse = record { apart = refl; few = omega arith }
+rows_are_few name.SetFunctionBreakpointsArguments = record { apart = refl; few = omega arith }
+rows_are_few name.SetFunctionBreakpointsResponse = record { apart = refl; few = omega arith }
+rows_are_few name.SetVariableArguments = record { apart = refl; few = omega arith }
+rows_are_few name.SetVariableResponse = record { apart = refl; few = omega arith }
+rows_are_few name.Source = record { apart = refl; few = omega arith }
+rows_are_few name.SourceArguments = record { apart = refl; few = omega arith }
+rows_are_few name.SourceBreakpoint = record { apart = refl; few = omega arith }
+rows_are_few name.SourceResponse = record { apart = refl; few = omega arith }
+rows_are_few name.StackFrame = record { apart = refl; few = omega arith }
+rows_are_few name.StackFrameFormat = record { apart = refl; few = omega arith }
+rows_are_few name.StackTraceArguments = record { apart = refl; few = omega arith }
+rows_are_few name.StackTraceResponse = record { apart = refl; few = omega arith }
+rows_are_few name.StepBackArguments = record { apart = refl; few = omega arith }
+rows_are_few name.StepInArguments = record { apart = refl; few = omega arith }
+rows_are_few name.StepOutArguments = record { apart = refl; few = omega arith }
+rows_are_few name.StoppedEvent = record { apart = refl; few = omega arith }
+rows_are_few name.TerminateArguments = record { apart = refl; few = omega arith }
+rows_are_few name.TerminatedEvent = record { apart = refl; few = omega arith }
+rows_are_few name.Thread = record { apart = refl; few = omega arith }
+rows_are_few name.ThreadEvent = record { apart = refl; few = omega arith }
+rows_are_few name.ThreadsResponse = record { apart = refl; few = omega arith }
+rows_are_few name.ValueFormat = record { apart = refl; few = omega arith }
+rows_are_few name.Variable = record { apart = refl; few = omega arith }
+rows_are_few name.VariablePresentationHint = record { apart = refl; few = omega arith }
+rows_are_few name.VariablesArguments = record { apart = refl; few = omega arith }
+rows_are_few name.VariablesResponse = record { apart = refl; few = omega arith }
