@@ -1,9 +1,9 @@
 -- The requests that are kept by their numbers, put in the order of their lines, are those that nothing has answered.
-use Rattle.std.proofs.Common.{◌≡◌, ◌≢◌, ℕ, ◌+◌, ◌<◌, ◌≤◌, ◌==◌, ◌⊎◌, inl, inr, List, [], ◌∷◌, ◌++◌, length, Bool, true, false, Option, Some, None, refl, sym, ap, ◌∙◌, subst, arith}
+use Rattle.std.proofs.Common.{◌≡◌, ◌≢◌, ℕ, ◌+◌, ◌<◌, ◌≤◌, ◌==◌, ◌⊎◌, inl, inr, List, [], ◌∷◌, ◌++◌, Bool, true, false, Option, Some, None, refl, sym, ap, ◌∙◌, subst, arith}
 use Rattle.std.specs.Prelude.{nat_lt, cond, ◌&&◌, filter, flat_map, is_some, Vec}
 use Rattle.std.specs.BTreeMap as tree
 use Rattle.std.specs.BTreeMap.{BTreeMap, is_at}
-use Rattle.std.specs.List.{All, Contains}
+use Rattle.std.specs.List.{Contains}
 use Rattle.std.specs.List.Sorted.{IsStrictlySortedBy}
 use Rattle.std.specs.Map.{keys_of, values_of, lookup}
 use Rattle.std.specs.Option.{option_or}
@@ -18,7 +18,7 @@ use Rattle.std.proofs.lemmas.Map.Keys.{IsDistinct-from_sorted, sorted_tail}
 use Rattle.std.proofs.lemmas.Map.Views.{All-found}
 use Rattle.dap_message.specs.declared.message.Kind.{Kind}
 use Rattle.dap_message.specs.declared.message.Kind.TheVariants.{Request, Response, Event, Other}
-use Rattle.dap_check.specs.Findings.{request_at, request_of, is_answered, open_requests, is_open_as}
+use Rattle.dap_check.specs.Findings.{request_at, is_answered, open_requests, is_open_as}
 use Rattle.dap_check.specs.Lines.{same_side}
 use Rattle.dap_check.specs.PrivateKept.{items_at, kept_at, AreWaiting, ArePending}
 use Rattle.dap_check.specs.PrivateOpen.{AreFrom, all_kept, last_at, IsInOrder}

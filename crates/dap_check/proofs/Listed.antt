@@ -1,6 +1,6 @@
 -- What is listed, by places.
-use Rattle.std.proofs.Common.{◌≡◌, ℕ, ◌⊎◌, inl, inr, List, [], ◌∷◌, ◌++◌, Bool, true, false, Option, Some, None, refl, sym, ap, ◌∙◌, subst, arith}
-use Rattle.std.specs.Prelude.{◌&&◌, ◌||◌, cond, bytes_eq, filter}
+use Rattle.std.proofs.Common.{◌≡◌, ℕ, inl, inr, List, [], ◌∷◌, ◌++◌, Bool, true, false, Option, Some, None, refl, sym, ap, ◌∙◌, subst, arith}
+use Rattle.std.specs.Prelude.{◌&&◌, ◌||◌, cond, filter}
 use Rattle.std.specs.List.{list_any, Contains}
 use Rattle.std.proofs.lemmas.List.Elements.{Contains-append_left, Contains-append_right, Contains-append_cases, Contains-push, Contains-push_cases}
 use Rattle.std.proofs.lemmas.List.{append_assoc, append-nil}
@@ -9,7 +9,7 @@ use Rattle.dap_message.specs.declared.message.Kind.TheVariants.{Request, Respons
 use Rattle.dap_check.specs.FindingLaws.{IsFindingIn, FindingsAreBrokenRules, IsUnansweredIn, OpenRequestsAreUnanswered, OpenRequestsWait}
 use Rattle.dap_check.specs.Findings.{finding_at, findings_after, findings, request_at, request_of, is_answered, open_requests, is_open_as}
 use Rattle.dap_check.specs.Legal.{least_broken}
-use Rattle.dap_check.specs.PrivateKept.{is_any_there, is_for, open_at}
+use Rattle.dap_check.specs.PrivateKept.{is_any_there, is_for}
 use Rattle.dap_check.specs.declared.line.Line.{Line}
 use Rattle.dap_check.specs.declared.line.Side.{Side}
 use Rattle.dap_check.specs.declared.rule.AnySeq.{AnySeq}

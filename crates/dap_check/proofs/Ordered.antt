@@ -1,6 +1,6 @@
 -- Findings are in the order of their lines.
-use Rattle.std.proofs.Common.{◌≡◌, ℕ, ◌+◌, ◌<◌, ◌≤◌, List, [], ◌∷◌, ◌++◌, Option, Some, None, subst, arith}
-use Rattle.dap_check.specs.Findings.{finding_at, findings_after, findings}
+use Rattle.std.proofs.Common.{◌≡◌, ℕ, ◌+◌, ◌≤◌, List, [], ◌∷◌, ◌++◌, Option, Some, None, subst, arith}
+use Rattle.dap_check.specs.Findings.{finding_at, findings_after}
 use Rattle.dap_check.specs.FindingLaws.{FindingsAreInOrder}
 use Rattle.dap_check.specs.Legal.{least_broken}
 use Rattle.dap_check.specs.Transcript.{AreLines}

@@ -1,5 +1,5 @@
 -- Worked examples of whole transcripts, from their texts to what is told of them, by computation.
-use Rattle.std.proofs.Common.{ℕ, List, [], ◌∷◌, ◌++◌, true, false, Some, None, codes, refl, arith}
+use Rattle.std.proofs.Common.{ℕ, List, [], ◌∷◌, ◌++◌, true, Some, None, codes, refl, arith}
 use Rattle.std.specs.Str.{is_utf8, chars}
 use Rattle.std.specs.Str.Lines.{lines}
 use Rattle.serde_json.specs.Data.{Data, unsigned, boolean, number, string, object, no_members, member}

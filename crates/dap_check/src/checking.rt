@@ -122,24 +122,12 @@ fn take_text(
     ensures refused { IfErr result (Refuses number text.now) }
 {
     let read = read_bare(alloc, scratch, given, bodies, number, text)?;
-    progress.take(
-        alloc,
-        any_seq,
-        &read.line,
-        read.form,
-        given,
-        read.is_sound,
-    )?;
+    progress.take(alloc, any_seq, &read.line, read.form, given, read.is_sound)?;
     Ok(())
 }
 
 /// All lines, in one pass.
-fn pass(
-    alloc: Global,
-    bytes: &[u8],
-    any_seq: AnySeq,
-    bodies: bool,
-) -> Result<Progress, CheckFault>
+fn pass(alloc: Global, bytes: &[u8], any_seq: AnySeq, bodies: bool) -> Result<Progress, CheckFault>
     ensures progress { IfOk result (λ progress. (transcript : List TheLine) × AreLines 1 (lines bytes.now) transcript × IsProgress any_seq progress transcript) }
     ensures refused { IfErr result (FirstRefused (lines bytes.now)) }
 {

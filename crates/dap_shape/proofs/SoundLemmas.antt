@@ -1,10 +1,9 @@
 -- What a walk over a text notes of an object's rows, member by member.
 use Rattle.std.proofs.Common.{◌≡◌, ◌≢◌, ℕ, zero, suc, Result, Ok, Err, IfOk, OnOk, ◌+◌, ◌<◌, ◌≤◌, List, [], ◌∷◌, length, Option, Some, None, option_map, Bool, true, false, cond, get_or, drop, add-one, bytes_eq, refl, sym, ap, ◌∙◌, subst, arith, true≢false}
-use Rattle.std.specs.Prelude.{map, not, ◌&&◌, ◌||◌, is_some, MatchOption, slice_set, set, replicate}
-use Rattle.std.specs.List.{list_any}
+use Rattle.std.specs.Prelude.{map, not, ◌&&◌, ◌||◌, MatchOption, set, replicate}
 use Rattle.std.proofs.Math.Seq.{drop-cons}
 use Rattle.std.proofs.lemmas.Slice.Eq.{bytes_eq-Decides}
-use Rattle.serde_json.specs.Data.{unsigned, negative, float, Data, null, boolean, number, string, array, object, Items, no_items, item, Members, no_members, put}
+use Rattle.serde_json.specs.Data.{Data, null, boolean, number, string, array, object, Items, item, Members, no_members, put}
 use Rattle.serde_json.specs.Find.{get_member}
 use Rattle.serde_json.proofs.Views.{get_member-put, get_member-put_other}
 use Rattle.dap_json.specs.Field.{is_null, unless_null, tree_at}
@@ -12,13 +11,13 @@ use Rattle.dap_json.specs.ObjectReader.{Describes}
 use Rattle.dap_json.specs.declared.object_reader.MemberValue.{MemberValue}
 use Rattle.dap_json.specs.declared.object_reader.MemberValue.TheVariants as passed
 use Rattle.dap_shape.specs.Shapes.{Row, Fault, inside, at_key, at_place, missing}
-use Rattle.dap_shape.specs.Faults.{or_else, row_fault, rows_fault, fault_of, items_fault, member_fault}
+use Rattle.dap_shape.specs.Faults.{or_else, row_fault, rows_fault, fault_of, items_fault}
 use Rattle.dap_shape.specs.PrivateSound.{names, are_apart, one_further, row_at, lacks_one, IsKept, AreKept, object_fault}
 use Rattle.dap_shape.specs.Seen.{row_seen}
 use Rattle.dap_shape.specs.declared.shape.Field.{Field}
 use Rattle.dap_shape.specs.declared.shape.Kind.{Kind}
 use Rattle.dap_shape.specs.declared.shape.Shape.{Shape}
-use Rattle.dap_shape.specs.declared.shape.Shape.TheVariants.{One, Each}
+use Rattle.dap_shape.specs.declared.shape.Shape.TheVariants.{One}
 
 -- ---- null
 

@@ -64,11 +64,27 @@ fn take_member(
         }
         "scopes" => {
             given.scopes.clear();
-            list_of_row(reader, rows, seen, name, "variablesReference", HOLDERS, &mut given.scopes)
+            list_of_row(
+                reader,
+                rows,
+                seen,
+                name,
+                "variablesReference",
+                HOLDERS,
+                &mut given.scopes,
+            )
         }
         "variables" => {
             given.variables.clear();
-            list_of_row(reader, rows, seen, name, "variablesReference", HOLDERS, &mut given.variables)
+            list_of_row(
+                reader,
+                rows,
+                seen,
+                name,
+                "variablesReference",
+                HOLDERS,
+                &mut given.variables,
+            )
         }
         "variablesReference" => {
             given.own.clear();

@@ -240,7 +240,9 @@ fn is_sound(kind: &HeadingKind<'_>, arguments: Option<&str>, body: Option<Guess<
     match kind {
         HeadingKind::Request { command } => is_sound_request(command, arguments),
         HeadingKind::Response {
-            success, command, ..
+            success,
+            command,
+            ..
         } => !*success || is_sound_response(command, body),
         HeadingKind::Event { event } => is_sound_event(event, body),
         HeadingKind::Other { .. } => true,

@@ -15,7 +15,9 @@ use crate::entries::values;
 use crate::rows::fields;
 use crate::shape::{Choice, Field, Kind, Scalar, Shape, TypeName};
 use crate::walking::has_text;
-use dap_json::object_reader::{Invalid, MAX_DEPTH, MemberValue, Range, keep, value as passed_value, whole};
+use dap_json::object_reader::{
+    Invalid, MAX_DEPTH, MemberValue, Range, keep, value as passed_value, whole,
+};
 use json::{Reader, Token};
 
 /// So many rows a type has at most.

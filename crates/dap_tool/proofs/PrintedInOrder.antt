@@ -31,17 +31,16 @@ rest_ascends n (text ∷ before) rest up =
     from_less n (up.0 + 1) rest (omega arith) (rest_ascends (up.0 + 1) before rest up.3)
 
 module _ (number : ℕ) where
+  abbrev front : List ℕ
+  front = codes "line " ++ decimal number ++ codes " rule "
+
   of_finding : (rule : Rule) (why : List ℕ) → IsOfLine number (text_of_finding number rule ++ why)
-  of_finding rule why = (
-    decimal (number_of rule) ++ (codes "\n" ++ why),
-    append_assoc (codes "line ") (decimal number ++ codes " rule " ++ decimal (number_of rule) ++ codes "\n") why
-    ∙ ap (λ z. codes "line " ++ z)
-    (append_assoc (decimal number) (codes " rule " ++ decimal (number_of rule) ++ codes "\n") why
-    ∙ ap (λ z. decimal number ++ z) (append_assoc (codes " rule ") (decimal (number_of rule) ++ codes "\n") why ∙ ap (λ z. codes " rule " ++ z) (append_assoc (decimal (number_of rule)) (codes "\n") why))),
-  )
+  of_finding rule why = (decimal (number_of rule) ++ (codes "\n" ++ why), append_assoc (front ++ decimal (number_of rule)) (codes "\n") why ∙ append_assoc front (decimal (number_of rule)) (codes "\n" ++ why))
 
   of_fault : (explained : Bool) (kind : Kind) (fault : Fault) → IsOfLine number (text_of_fault explained number kind fault)
-  of_fault explained kind fault = (codes "8\n" ++ (if explained then sentence_of kind fault ++ codes "\n" else []), refl)
+  of_fault explained kind fault =
+      let sentence = if explained then sentence_of kind fault ++ codes "\n" else [] in
+      (codes "8\n" ++ sentence, ap (λ z. z ++ sentence) (sym (append_assoc (codes "line " ++ decimal number) (codes " rule ") (codes "8\n"))) ∙ append_assoc front (codes "8\n") sentence)
 
 one_more : (n : ℕ) (explained bodies : Bool) (earlier : List Line) (line : Line) (broken : Option Rule) (later : List (List ℕ)) → line.number ≡ n → Ascend (n + 1) later → Ascend n (text_if explained bodies earlier line broken ++ later)
 one_more n explained bodies earlier line (Some rule) later numbered up =

@@ -101,6 +101,23 @@ fn text_of_body(
     }
 }
 
+/// The same, unless it was seen that the message has none.
+fn text_unless_sound(
+    alloc: Global,
+    scratch: &mut Scratch,
+    explained: bool,
+    number: u64,
+    text: &[u8],
+    is_sound: bool,
+) -> Result<Option<Vec<u8>>, CheckFault>
+    ensures { (line : TheLine) → IsLine number text.now line → (IsTrue is_sound → fault_in line.message.kind ≡ None) → MatchResult result (λ told. option_to_list (option_map (λ text. text.items) told) ≡ texts_of_body explained line.number line.message.kind (fault_in line.message.kind)) (λ fault. fault ≡ CheckFault.OutOfMemory) }
+{
+    if is_sound {
+        return Ok(None);
+    }
+    text_of_body(alloc, scratch, explained, number, text)
+}
+
 // ---- a line that breaks a rule
 
 fn text_of_finding(
@@ -137,8 +154,7 @@ fn text_of_line(
             let line = number;
             text_of_finding(alloc, bytes, explained, Finding { line, rule })
         }
-        None if is_sound => Ok(None),
-        None => text_of_body(alloc, scratch, explained, number, text),
+        None => text_unless_sound(alloc, scratch, explained, number, text, is_sound),
     }
 }
 

@@ -2,8 +2,8 @@
 
 use dap_message::{GatheredReferences, Kind, Scratch, read_message};
 use dap_shape::{
-    Choice, Field, Scalar, Shape, TypeName, fields, message_fault, read_heading_and_shape, sentence,
-    values,
+    Choice, Field, Scalar, Shape, TypeName, fields, message_fault, read_heading_and_shape,
+    sentence, values,
 };
 use std::alloc::{AllocError, Global};
 use std::test::Fail;

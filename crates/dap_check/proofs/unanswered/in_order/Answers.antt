@@ -1,5 +1,4 @@
 use Rattle.std.proofs.Common.{◌≡◌, ◌++◌, ap, ◌∙◌, subst}
-use Rattle.std.specs.BTreeMap as tree
 use Rattle.dap_check.specs.PrivateOpen.{all_kept, IsInOrder}
 use Rattle.dap_check.proofs.InOrder.{in_order}
 use Rattle.dap_check.proofs.Outcomes.{if_ok}

@@ -1,4 +1,4 @@
-use Rattle.std.proofs.Common.{◌≡◌, ◌<◌, None, true, sym, ◌∙◌, subst, arith}
+use Rattle.std.proofs.Common.{◌≡◌, None, sym, subst, arith}
 use Rattle.std.specs.Prelude.{map}
 use Rattle.serde_json.specs.Data.{array}
 use Rattle.dap_shape.specs.Faults.{fault_of}

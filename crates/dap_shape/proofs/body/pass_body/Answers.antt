@@ -28,5 +28,5 @@ returns-clause-ok c =
     let opens : c.args.reader.now ≡ Token.begin_object ∷ after = first ∙ ap (λ k. token_of k ∷ after) c.in-Some-BeginObject.field-0-is in
     let opened = ap (converted of_json) (ap (value 126) opens ∙ value-begin_object 126 after (omega arith)) ∙ converted-object (members (value 125) (length after) after) in
     on_ok c.take_members.result _ _ (λ so.
-      let sound : rows_fault (found_in (object so.0)) (fields_of c.args.name) ≡ None = subst (λ rows. rows_fault (found_in (object so.0)) rows ≡ None) c.fields.ensures so.3 in
-      (so.0, opened ∙ ap (parse_map object) so.1, given_by _ (object so.0) so.2, sym (fault_of-object c.args.name (object so.0) refl) ∙ sound)) c.take_members.ensures.ok
+    let sound : rows_fault (found_in (object so.0)) (fields_of c.args.name) ≡ None = subst (λ rows. rows_fault (found_in (object so.0)) rows ≡ None) c.fields.ensures so.3 in
+    (so.0, opened ∙ ap (parse_map object) so.1, given_by _ (object so.0) so.2, sym (fault_of-object c.args.name (object so.0) refl) ∙ sound)) c.take_members.ensures.ok

@@ -12,7 +12,7 @@ abbrev pub invariant-members : goal.invariant-members
 invariant-members l =
     (n : ℕ) × (length l.reader ≤ n)
     × ((before : Members) × (converted (λ ms. of_members ms no_members) (members (value 125) (length l.initial.reader) l.initial.reader) ≡ converted (λ ms. of_members ms before) (members (value 125) n l.reader))
-      × AreKept before (map row_seen l.rows) l.seen × AreGathered l.given (object before))
+    × AreKept before (map row_seen l.rows) l.seen × AreGathered l.given (object before))
     × (length l.reader ≤ length l.initial.reader)
 
 abbrev pub decreases-members : goal.decreases-members

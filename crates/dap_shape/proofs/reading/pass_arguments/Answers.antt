@@ -1,12 +1,8 @@
-use Rattle.std.proofs.Common.{◌≡◌, Option, Some, None, option_map, refl, sym, ap, ◌∙◌, subst}
-use Rattle.std.specs.Prelude.{map}
-use Rattle.serde_json.specs.Data.{Data}
-use Rattle.dap_json.specs.Field.{is_null}
-use Rattle.dap_shape.specs.Faults.{row_named, held_fault}
+use Rattle.std.proofs.Common.{ap, ◌∙◌}
+use Rattle.dap_shape.specs.Faults.{row_named}
 use Rattle.dap_shape.specs.Rows.{requests}
-use Rattle.dap_shape.specs.Shapes.{Row}
 use Rattle.dap_shape.proofs.SoundLemmas.{if_ok}
-use Rattle.dap_shape.proofs.ReadLemmas.{no_row_held, sound_held}
+use Rattle.dap_shape.proofs.ReadLemmas.{no_row_held}
 use Rattle.dap_shape.proofs.reading.pass_arguments.Goals as goal
 
 pub returns-in-None : goal.returns-in-None

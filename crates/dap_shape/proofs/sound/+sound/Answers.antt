@@ -1,22 +1,21 @@
-use Rattle.std.proofs.Common.{◌≡◌, ◌-◌, ◌+◌, ◌<◌, ◌∷◌, length, Some, None, Bool, true, false, bytes_eq, refl, sym, ap, ◌∙◌, subst, arith, true≢false}
-use Rattle.std.specs.Prelude.{map, IfOk, not, set}
+use Rattle.std.proofs.Common.{◌≡◌, ◌-◌, ◌+◌, ◌<◌, ◌∷◌, length, Some, None, true, false, bytes_eq, refl, sym, ap, ◌∙◌, subst, arith, true≢false}
+use Rattle.std.specs.Prelude.{map, not, set}
 use Rattle.json.specs.Token.{Token}
 use Rattle.json.specs.Json.{parse_map, after_end_array, read_key, items, members, value}
 use Rattle.json.specs.Reads.{token_of}
 use Rattle.json.proofs.Grammar.{value_is, value-begin_array, value-begin_object, read_key-shorter}
-use Rattle.serde_json.specs.Data.{Data, Members, null, array, object, no_items, item, no_members, put}
+use Rattle.serde_json.specs.Data.{null, array, object, no_items, item, no_members, put}
 use Rattle.serde_json.specs.Read.{of_json, converted}
 use Rattle.dap_json.specs.Field.{is_null}
-use Rattle.dap_json.specs.ObjectReader.{Describes}
 use Rattle.dap_json.proofs.InsideLemmas.{noted_here, noted_before}
 use Rattle.dap_json.proofs.ObjectReaderLemmas.{converted-array, converted-object, item_read, items_over, member_read, members_over, one_more_item, none_before}
-use Rattle.dap_shape.specs.Faults.{items_fault, rows_fault, fault_of}
+use Rattle.dap_shape.specs.Faults.{rows_fault}
 use Rattle.dap_shape.specs.Rows.{fields_of}
 use Rattle.dap_shape.specs.Seen.{row_seen}
-use Rattle.dap_shape.specs.PrivateSound.{AreFew, IsValue, AreKept, object_fault}
+use Rattle.dap_shape.specs.PrivateSound.{AreFew, AreKept}
 use Rattle.dap_shape.proofs.FewRows.{rows_are_few}
 use Rattle.dap_shape.proofs.ShapeLemmas.{found_in, fault_of-object}
-use Rattle.dap_shape.proofs.SoundLemmas.{null_passed, kept_others, kept_more, no_row, place_below, none_kept, all_kept, more_items, if_ok}
+use Rattle.dap_shape.proofs.SoundLemmas.{kept_others, kept_more, no_row, place_below, none_kept, all_kept, more_items, if_ok}
 use Rattle.dap_shape.proofs.sound.+sound.Goals as goal
 
 pub items-items-init : goal.items-items-init
@@ -94,10 +93,14 @@ pub member-returns-in_ok-passed-in-Some-clause-ok : goal.member-returns-in_ok-pa
 member-returns-in_ok-passed-in-Some-clause-ok t c =
     let done = c.in_ok-passed-in-Some.ensures.ok in
     let d = done.0 in
-    let rows = map row_seen c.args.rows.now in
-    (d, done.1, done.2, λ found kept.
-      subst (λ b. AreKept (put c.args.name.now d found) rows (set c.args.seen.now c.in-Some.place (not b))) (sym (c.is_null.ensures d done.2))
-      (kept_more found rows c.args.seen.now c.args.name.now d c.in-Some.place (row_seen c.in-Some.row) c.requires.1.1.apart (sym c.in-Some.ensures) (λ some. rw (← c.shape.ensures) (done.3 some)) kept))
+    let rows = map row_seen c.args.rows.now in (
+      d,
+      done.1,
+      done.2,
+      λ found kept.
+          subst (λ b. AreKept (put c.args.name.now d found) rows (set c.args.seen.now c.in-Some.place (not b))) (sym (c.is_null.ensures d done.2))
+          (kept_more found rows c.args.seen.now c.args.name.now d c.in-Some.place (row_seen c.in-Some.row) c.requires.1.1.apart (sym c.in-Some.ensures) (λ some. rw (← c.shape.ensures) (done.3 some)) kept),
+    )
 
 pub members-members-init : goal.members-members-init
 members-members-init t c = let few : AreFew (map row_seen c.args.rows.now) = c.requires.1.1 in (length c.args.reader.now, omega arith, (no_members, refl, none_kept (map row_seen c.args.rows.now) 40 few.few, refl), omega arith)

@@ -6,7 +6,7 @@ use Rattle.serde_json.specs.Read.{of_items, of_members, converted}
 use Rattle.dap_json.specs.Field.{whole_at}
 use Rattle.dap_shape.specs.Faults.{items_fault}
 use Rattle.dap_shape.specs.Seen.{row_seen}
-use Rattle.dap_shape.specs.PrivateSound.{AreItems, AreMembers, AreKept}
+use Rattle.dap_shape.specs.PrivateSound.{AreKept}
 use Rattle.dap_shape.proofs.sound.+sound.Given as goal
 
 abbrev pub decreases-value : goal.decreases-value
@@ -31,7 +31,7 @@ abbrev pub invariant-items-items : goal.invariant-items-items
 invariant-items-items l =
     (n : ℕ) × (length l.reader ≤ n)
     × ((f : Items → Items) × (converted of_items (items (value l.depth) (length l.initial.reader) l.initial.reader) ≡ parse_map f (converted of_items (items (value l.depth) n l.reader)))
-      × ((k : ℕ) × ((ds : Items) → items_fault k l.fn.kind ds ≡ None → items_fault 0 l.fn.kind (f ds) ≡ None)))
+    × ((k : ℕ) × ((ds : Items) → items_fault k l.fn.kind ds ≡ None → items_fault 0 l.fn.kind (f ds) ≡ None)))
     × (length l.reader ≤ length l.initial.reader)
 
 abbrev pub decreases-items-items : goal.decreases-items-items
@@ -41,7 +41,7 @@ abbrev pub invariant-members-members : goal.invariant-members-members
 invariant-members-members l =
     (n : ℕ) × (length l.reader ≤ n)
     × ((before : Members) × (converted (λ ms. of_members ms no_members) (members (value l.depth) (length l.initial.reader) l.initial.reader) ≡ converted (λ ms. of_members ms before) (members (value l.depth) n l.reader))
-      × AreKept before (map row_seen l.rows) l.seen × (l.found ≡ whole_at l.key (object before)))
+    × AreKept before (map row_seen l.rows) l.seen × (l.found ≡ whole_at l.key (object before)))
     × (length l.reader ≤ length l.initial.reader)
 
 abbrev pub decreases-members-members : goal.decreases-members-members

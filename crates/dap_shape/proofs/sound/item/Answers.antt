@@ -24,5 +24,5 @@ returns-clause-ok c =
     let opens : c.args.reader.now ≡ Token.begin_object ∷ after = first ∙ ap (λ k. token_of k ∷ after) c.in-Some-BeginObject.field-0-is in
     let opened = ap (converted of_json) (ap (value 124) opens ∙ value-begin_object 124 after (omega arith)) ∙ converted-object (members (value 123) (length after) after) in
     if_ok c.members.result _ _ (λ number so.
-      let sound : rows_fault (found_in (object so.0)) (fields_of c.args.name) ≡ None = subst (λ rows. rows_fault (found_in (object so.0)) rows ≡ None) c.fields.ensures so.2 in
-      (object so.0, opened ∙ ap (parse_map object) so.1, sym (fault_of-object c.args.name (object so.0) refl) ∙ sound, so.3)) c.members.ensures.ok
+    let sound : rows_fault (found_in (object so.0)) (fields_of c.args.name) ≡ None = subst (λ rows. rows_fault (found_in (object so.0)) rows ≡ None) c.fields.ensures so.2 in
+    (object so.0, opened ∙ ap (parse_map object) so.1, sym (fault_of-object c.args.name (object so.0) refl) ∙ sound, so.3)) c.members.ensures.ok

@@ -11,8 +11,8 @@ abbrev pub invariant-items : goal.invariant-items
 invariant-items l =
     (n : ℕ) × (length l.reader ≤ n)
     × ((f : Items → Items) × (converted of_items (items (value 124) (length l.initial.reader) l.initial.reader) ≡ parse_map f (converted of_items (items (value 124) n l.reader)))
-      × ((ds : Items) → l.initial.found.items ++ numbers_in l.key l.range.least l.range.most (f ds) ≡ l.found.items ++ numbers_in l.key l.range.least l.range.most ds)
-      × ((k : ℕ) × ((ds : Items) → items_fault k (Object l.name) ds ≡ None → items_fault 0 (Object l.name) (f ds) ≡ None)))
+    × ((ds : Items) → l.initial.found.items ++ numbers_in l.key l.range.least l.range.most (f ds) ≡ l.found.items ++ numbers_in l.key l.range.least l.range.most ds)
+    × ((k : ℕ) × ((ds : Items) → items_fault k (Object l.name) ds ≡ None → items_fault 0 (Object l.name) (f ds) ≡ None)))
     × (length l.reader ≤ length l.initial.reader)
 
 abbrev pub decreases-items : goal.decreases-items
