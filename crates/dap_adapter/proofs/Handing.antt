@@ -1,11 +1,11 @@
 -- A piece that comes, up to the end of a frame at most, and the bytes that its message leads to.
-use Rattle.std.proofs.Common.{◌≡◌, ℕ, List, [], ◌++◌, take, drop, true, false, Option, Some, None, is_some, refl, subst}
+use Rattle.std.proofs.Common.{◌≡◌, ℕ, List, [], ◌++◌, take, drop, true, false, Option, Some, None, is_some, subst}
 use Rattle.std.proofs.lemmas.List.{take-append-drop}
 use Rattle.dap_frame.specs.Laws.{EachStreamHasOneSplit}
 use Rattle.dap_message.specs.declared.message.Message.{Message}
 use Rattle.dap_adapter.specs.AdapterState.{AdapterState}
 use Rattle.dap_adapter.specs.Calls.{Takes}
-use Rattle.dap_adapter.specs.PrivateServing.{Way, Point, point_of, Leads, Breaks, next_if}
+use Rattle.dap_adapter.specs.PrivateServing.{Way, Point, point_of, Leads, Breaks}
 use Rattle.dap_adapter.specs.Run.{to_take, to_turn, has_ended}
 use Rattle.dap_adapter.specs.declared.served.ServeFault.{ServeFault}
 use Rattle.dap_adapter.proofs.Leading.{leads_step, leads_still, breaks_at_bytes}

@@ -8,7 +8,7 @@ use Rattle.dap_outbox.specs.Draft.{bytes_of}
 use Rattle.dap_session.specs.declared.fault.AdapterFault.{AdapterFault}
 use Rattle.dap_adapter.specs.AdapterState.{AdapterState}
 use Rattle.dap_adapter.specs.Parts.{RunsOn, CallMade, StopsAtCall}
-use Rattle.dap_adapter.specs.Run.{Next, to_take, to_turn, to_poll, has_ended}
+use Rattle.dap_adapter.specs.Run.{Next, to_take, has_ended}
 use Rattle.dap_adapter.specs.PrivateServing.{Way, Point, Puts, none_put, more_put, Leads, Breaks, UsesUp, Quietly, serve_fault_of}
 use Rattle.dap_adapter.specs.declared.served.ServeFault.{ServeFault}
 use Rattle.dap_adapter.proofs.RunningOn.{runs_on_none, runs_on_then}

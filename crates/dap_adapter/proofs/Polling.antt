@@ -5,7 +5,7 @@ use Rattle.std.proofs.lemmas.Bool.Decides.{nat_tests}
 use Rattle.dap_decision.specs.declared.phase.Phase.{Phase}
 use Rattle.dap_decision.specs.declared.phase.Phase.TheVariants.{Stopped}
 use Rattle.dap_decision.specs.Table.{is_phase}
-use Rattle.dap_adapter.specs.Run.{Next, to_take, to_poll, after_poll}
+use Rattle.dap_adapter.specs.Run.{to_take, to_poll, after_poll}
 use Rattle.dap_adapter.specs.PrivateServing.{next_after, next_after_polls}
 
 apart : (i : ℕ) → i < 65536 → (i == 65536) ≡ false

@@ -3,14 +3,12 @@ use Rattle.std.proofs.Common.{◌≡◌, ◌⊎◌, ℕ, List, ◌++◌, Bool, t
 use Rattle.dap_channel.specs.Laws.{CallsAddUp}
 use Rattle.dap_message.specs.declared.message.Message.{Message}
 use Rattle.dap_session.specs.declared.fault.AdapterFault.{AdapterFault}
-use Rattle.dap_outbox.specs.Draft.{bytes_of}
 use Rattle.dap_adapter.specs.AdapterState.{AdapterState, state_of}
 use Rattle.dap_adapter.specs.Parts.{MayBeHeld, RunsOn, StopsAtCall}
 use Rattle.dap_adapter.specs.Run.{Next, to_take, to_turn, to_poll, has_ended, fresh_state}
 use Rattle.dap_adapter.specs.Served.{MakesSome}
 use Rattle.dap_adapter.specs.PrivateServing.{OutletState, Serving, Way, way_of, Point, Puts, none_put, more_put, Leads, Breaks, BreaksAtCall, BreaksAtBytes, UsesUp, Sink, sink_of, progress_of, Input, place_at, Gathers, GathersNot, Logged, Handles, Reaches, Halts, IsThrough, serve_fault_of}
 use Rattle.dap_adapter.specs.declared.served.ServeFault.{ServeFault}
-use Rattle.dap_adapter.specs.declared.served.ServeFault.TheVariants.{Read, Write, Adapter, TooManyReads, OutOfMemory}
 use Rattle.dap_adapter.proofs.Outgoing.{Logged-gathered, Logged-short, makes_of}
 use Rattle.dap_adapter.proofs.RunningOn.{run_on}
 use Rattle.dap_adapter.proofs.Stopping.{take_stops, turn_stops, poll_stops}

@@ -1,5 +1,5 @@
 -- One poll.
-use Rattle.std.proofs.Common.{◌≡◌, ℕ, ◌+◌, ◌<◌, List, [], length, Bool, true, false, None, refl, sym, ap, ◌∙◌, subst}
+use Rattle.std.proofs.Common.{◌≡◌, ℕ, ◌+◌, List, [], length, Bool, None, refl, subst}
 use Rattle.std.specs.Prelude.{◌==◌, ◌&&◌, not}
 use Rattle.dap_message.specs.declared.message.Message.{Message}
 use Rattle.dap_session.specs.Plan.{written_by}
@@ -8,7 +8,7 @@ use Rattle.dap_decision.specs.declared.phase.Phase.TheVariants.{Stopped}
 use Rattle.dap_decision.specs.Table.{is_phase}
 use Rattle.dap_adapter.specs.Parts.{RunsOn}
 use Rattle.dap_adapter.specs.Calls.{Saw, PollRefused}
-use Rattle.dap_adapter.specs.Run.{Next, to_take, to_poll, after_poll}
+use Rattle.dap_adapter.specs.Run.{Next, to_poll, after_poll}
 use Rattle.dap_adapter.specs.PrivateServing.{Way, Point, Quietly, Breaks, next_after, serve_fault_of}
 use Rattle.dap_adapter.specs.declared.served.ServeFault.{ServeFault}
 use Rattle.dap_adapter.proofs.Leading.{leads_step, breaks_at_call, breaks_at_bytes}

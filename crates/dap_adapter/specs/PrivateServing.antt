@@ -1,5 +1,5 @@
 -- The code's words for serving: what is held between its steps. They serve private functions alone.
-use Rattle.std.specs.Prelude.{◌≡◌, ◌≢◌, ◌⊎◌, ℕ, ◌+◌, ◌≤◌, ◌==◌, List, [], ◌++◌, length, take, IsTrue, Bool, true, false, Result, Err, None, if◌then◌else◌}
+use Rattle.std.specs.Prelude.{◌≡◌, ◌⊎◌, ℕ, ◌+◌, ◌≤◌, ◌==◌, List, [], ◌++◌, length, take, IsTrue, Bool, true, false, Result, Err, None, if◌then◌else◌}
 use Rattle.dap_channel.specs.Channel.{IoEvent, Ran, bytes_read, bytes_written, reads, is_flushed, MayGoOn, HasWriteFailed}
 use Rattle.dap_channel.specs.Sent.{saturating_count, WritesShort}
 use Rattle.dap_frame.specs.Intake.{StandsFor as StandsForStream}

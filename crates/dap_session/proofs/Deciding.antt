@@ -1,5 +1,5 @@
 -- What is decided of a request is its plan.
-use Rattle.std.proofs.Common.{◌≡◌, Some, None, refl}
+use Rattle.std.proofs.Common.{◌≡◌, Some, refl}
 use Rattle.dap_message.specs.Types.Call.{Call}
 use Rattle.dap_message.specs.Types.Failure.{Failure}
 use Rattle.dap_tables.specs.declared.entry.Entry.{Entry}

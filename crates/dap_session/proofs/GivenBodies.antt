@@ -1,5 +1,5 @@
 -- What the bodies of answers that are no queries give: nothing.
-use Rattle.std.proofs.Common.{◌≡◌, ℕ, List, [], ◌∷◌, Bool, true, false, Option, Some, None, Ok, Err, refl, subst}
+use Rattle.std.proofs.Common.{◌≡◌, ℕ, List, [], Bool, true, false, Option, Some, None, Ok, Err, refl, subst}
 use Rattle.std.specs.Prelude.{if◌then◌else◌}
 use Rattle.dap_message.specs.Capabilities.{capabilities_data}
 use Rattle.dap_message.specs.ResponseBody.{continue_body, set_breakpoints_body, set_variable_body}

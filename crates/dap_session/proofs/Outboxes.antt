@@ -1,5 +1,5 @@
 -- The outbox of a step of a session.
-use Rattle.std.proofs.Common.{◌≡◌, ℕ, ◌+◌, ◌≤◌, List, [], ◌∷◌, ◌++◌, Result, Ok, Err, OnOk, ap, ◌∙◌, subst, sym, arith}
+use Rattle.std.proofs.Common.{◌≡◌, ℕ, ◌≤◌, List, [], ◌∷◌, ◌++◌, Result, Ok, Err, OnOk, ap, arith}
 use Rattle.dap_json.specs.Field.{max_seq}
 use Rattle.dap_message.specs.Lengths.{max_fixed}
 use Rattle.dap_tables.specs.Seq.{Numbers}

@@ -1,18 +1,15 @@
 -- Answers to several kept requests of a table.
-use Rattle.std.proofs.Common.{◌≡◌, ℕ, ◌+◌, ◌≤◌, List, [], ◌∷◌, ◌++◌, Bool, true, false, length, refl, sym, ap, ◌∙◌, subst, append_assoc, arith, filter, true≢false}
+use Rattle.std.proofs.Common.{◌≡◌, ℕ, ◌+◌, List, [], ◌∷◌, ◌++◌, Bool, true, false, length, refl, sym, ap, ◌∙◌, subst, append_assoc, arith, filter, true≢false}
 use Rattle.std.specs.Prelude.{◌==◌, ◌||◌, ◌&&◌, not, if◌then◌else◌, map}
 use Rattle.std.specs.List.{list_any}
 use Rattle.std.proofs.lemmas.Bool.Decides.{nat_tests}
-use Rattle.std.proofs.lemmas.List.{append-nil}
 use Rattle.std.proofs.lemmas.List.Folds.{list_any-append}
-use Rattle.dap_message.specs.Lengths.{max_fixed}
 use Rattle.dap_tables.specs.Outstanding.{Kept, entries, without, contains_seq, is_parked, parked_ones, HasDistinctSeqs}
 use Rattle.dap_tables.specs.declared.entry.Entry.{Entry}
 use Rattle.dap_session.specs.Handling.{answer_each}
 use Rattle.dap_session.proofs.Kept.{all-without, IsApart, apart, false-left, false-right, eqb-self, none-parked}
-use Rattle.dap_outbox.specs.Several.{answer_where, WritesAll}
+use Rattle.dap_outbox.specs.Several.{answer_where}
 use Rattle.dap_outbox.specs.Draft.{Answer, Draft, reply}
-use Rattle.dap_outbox.specs.Outbox.{Holds, AppendsDraft}
 
 -- ---- the requests of a table
 

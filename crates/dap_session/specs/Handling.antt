@@ -1,6 +1,6 @@
 -- How a kept request is handled: what the debuggee is asked, what is written, what is left.
 -- Overview, "Initialization" to "Debug session end"; the responses of the Specification. What of this the protocol leaves open is this profile's choice.
-use Rattle.std.specs.Prelude.{ℕ, ℤ, pos, ◌+◌, List, [], ◌∷◌, ◌++◌, length, map, Bool, true, false, nat_le, Option, Some, None, option_map, option_and_then, unwrap_or, codes, bytes_eq, ◌&&◌, Result, Ok, Err, if◌then◌else◌}
+use Rattle.std.specs.Prelude.{ℕ, ◌+◌, List, [], ◌∷◌, ◌++◌, length, map, Bool, true, false, nat_le, Option, Some, None, option_map, option_and_then, unwrap_or, codes, bytes_eq, ◌&&◌, Result, Ok, Err, if◌then◌else◌}
 use Rattle.std.specs.List.{zip, range_with_len, list_any}
 use Rattle.serde_json.specs.Data.{Data}
 use Rattle.dap_json.specs.Field.{text_at}

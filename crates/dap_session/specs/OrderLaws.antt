@@ -1,7 +1,7 @@
 -- The tests of a request, those before it is served and those after, stand in the one order of failures.
 -- That order is this profile's choice. It is of a request that is handled in a turn; a `cancel` is answered where it is taken.
 use Rattle.std.specs.List.{AllByRecursion}
-use Rattle.std.specs.Prelude.{◌≡◌, ◌+◌, ◌-◌, ◌==◌, ◌&&◌, ℕ, nat_lt, nat_le, not, ⊤, Bool, true, false, List, [], ◌∷◌, length, Option, Some, None, is_none, option_map, option_and_then, find, Ok, Err, if◌then◌else◌}
+use Rattle.std.specs.Prelude.{◌≡◌, ◌+◌, ◌==◌, ◌&&◌, ℕ, nat_lt, nat_le, not, ⊤, Bool, true, false, List, [], ◌∷◌, length, Option, Some, None, is_none, option_map, option_and_then, find, Ok, Err, if◌then◌else◌}
 use Rattle.dap_message.specs.Argument.{Read}
 use Rattle.dap_message.specs.Failure.{failures_in_order}
 use Rattle.dap_message.specs.Types.Call.{Call}

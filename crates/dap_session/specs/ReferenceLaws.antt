@@ -1,8 +1,6 @@
 -- References that live at different times stay apart.
 -- Overview, "Lifetime of Objects References".
-use Rattle.std.specs.Prelude.{◌≡◌, ◌⊎◌, ℕ, ◌≤◌, List, [], ◌∷◌, true, false, Option, Some, None, Ok}
-use Rattle.std.specs.List.{AllZip}
-use Rattle.dap_frame.specs.Settings.{Settings}
+use Rattle.std.specs.Prelude.{◌≡◌, ◌⊎◌, ℕ, ◌≤◌, List, [], ◌∷◌, true, false, Some, None, Ok}
 use Rattle.dap_tables.specs.declared.target.Target.{Target}
 use Rattle.dap_message.specs.declared.message.Message.{Message}
 use Rattle.dap_debuggee.specs.Shown.{Shown}

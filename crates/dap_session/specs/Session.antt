@@ -1,5 +1,5 @@
 -- The state of a session at the adapter, without the bytes that come and without the debuggee.
-use Rattle.std.specs.Prelude.{◌≡◌, ℕ, ◌==◌, ◌&&◌, not, ⊤, IsTrue, List, [], ◌∷◌, length, filter, find, Bool, true, false, Option, Some, None, is_some}
+use Rattle.std.specs.Prelude.{◌≡◌, ℕ, ◌==◌, ◌&&◌, not, ⊤, IsTrue, List, [], ◌∷◌, length, filter, find, Bool, false, Option, Some, None, is_some}
 use Rattle.dap_frame.specs.Settings.{Settings}
 use Rattle.dap_history.specs.History.{Asked}
 use Rattle.dap_tables.specs.Outstanding.{Kept, unparked_ones, HasDistinctSeqs}

@@ -1,5 +1,5 @@
 use Rattle.std.proofs.Common.{◌≡◌, ℕ, ◌+◌, [], refl, subst, ◌∙◌, arith}
-use Rattle.dap_adapter.specs.PrivateServing.{way_of, point_of, next_after, next_after_polls, Quietly}
+use Rattle.dap_adapter.specs.PrivateServing.{way_of, point_of, next_after_polls, Quietly}
 use Rattle.dap_adapter.specs.Run.{Next, to_take, to_poll}
 use Rattle.dap_adapter.proofs.Leading.{leads_breaks, quietly_none, quietly_then}
 use Rattle.dap_adapter.proofs.Polling.{polling_below}

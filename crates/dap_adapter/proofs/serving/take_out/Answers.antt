@@ -1,4 +1,4 @@
-use Rattle.std.proofs.Common.{◌≡◌, List, ℕ, [], ◌++◌, take, true, false, refl, sym, subst, ap, ◌∙◌, append-nil}
+use Rattle.std.proofs.Common.{◌≡◌, List, ℕ, [], ◌++◌, take, false, refl, sym, subst, ap, ◌∙◌, append-nil}
 use Rattle.std.specs.Prelude.{is_some}
 use Rattle.dap_adapter.specs.PrivateServing.{way_of, point_of, Leads}
 use Rattle.dap_adapter.specs.Run.{to_take, to_turn}

@@ -1,5 +1,4 @@
 use Rattle.std.proofs.Common.{refl, subst}
-use Rattle.dap_session.specs.SessionState.{AppendsSome}
 use Rattle.dap_adapter.specs.Calls.{Takes, TakeRefused}
 use Rattle.dap_adapter.specs.AdapterState.{AdapterState, state_of}
 use Rattle.dap_adapter.proofs.Adapting.{none-met}
