@@ -1,0 +1,4 @@
+pub mod Dropping
+pub mod LiveShown
+pub mod PrivateHeld
+pub mod LiveLaws

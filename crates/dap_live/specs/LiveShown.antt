@@ -1,0 +1,110 @@
+-- What a debuggee that a host feeds is seen as, and what it shows: what the host told last.
+-- This profile's choice.
+use Rattle.std.specs.Prelude.{ℕ, ℤ, ◌≤◌, List, [], length, Option, Some, None, option_map, option_and_then, bytes_eq, if◌then◌else◌}
+use Rattle.dap_debuggee.specs.Shown.{Shown, Last}
+use Rattle.dap_debuggee.specs.declared.answers.State.{State}
+use Rattle.dap_debuggee.specs.declared.answers.State.TheVariants.{NotStarted, Running, Stopped, Gone}
+use Rattle.dap_debuggee.specs.declared.answers.Thread.{Thread}
+use Rattle.dap_debuggee.specs.declared.answers.Frame.{Frame}
+use Rattle.dap_debuggee.specs.declared.answers.Scope.{Scope}
+use Rattle.dap_debuggee.specs.declared.answers.Variable.{Variable}
+use Rattle.dap_debuggee.specs.declared.answers.Evaluation.{Evaluation}
+use Rattle.dap_debuggee.specs.declared.answers.Assigned.{Assigned}
+use Rattle.dap_recording.specs.Played.{Played, shown_of, lines_in}
+use Rattle.dap_tables.specs.SourceMap.{OfSource}
+use Rattle.dap_live.specs.declared.held.Learned.{Learned}
+
+-- ---- the view
+
+pub record LiveState : Type 0 where
+  -- its sources are the debuggee's
+  pub base : Played
+  -- what the host showed at the last stop
+  pub here : Option Played
+  -- what the host told last of a text, until the next poll
+  pub learned : Option Learned
+  pub state : State
+  -- the lines of each source that has some, in the order of the sources' names
+  pub set : List (OfSource ℕ)
+  pub acts : ℕ
+  pub last : Option Last
+
+-- what is shown has no more sources than there are
+abbrev pub IsFew : Played → Option Played → Type 0
+IsFew base None = Unit {0}
+IsFew base (Some here) = length (shown_of here).sources ≤ length (shown_of base).sources
+
+abbrev pub fresh_live : Played → LiveState
+fresh_live base = record {
+  base = base;
+  here = None;
+  learned = None;
+  state = NotStarted;
+  set = [];
+  acts = 0;
+  last = None;
+}
+
+-- ---- queries
+
+-- nothing before the start and once gone; what was shown at the last stop while it runs
+abbrev pub now_shown : State → Option Played → Option Played
+now_shown NotStarted here = None
+now_shown Running here = here
+now_shown Stopped here = here
+now_shown Gone here = None
+
+abbrev pub threads_in : Option Played → List Thread
+threads_in None = []
+threads_in (Some m) = (shown_of m).threads
+
+abbrev pub frames_in : Option Played → ℤ → Option (List Frame)
+frames_in None thread = None
+frames_in (Some m) thread = (shown_of m).frames thread
+
+abbrev pub scopes_in : Option Played → ℕ → Option (List Scope)
+scopes_in None frame = None
+scopes_in (Some m) frame = (shown_of m).scopes frame
+
+abbrev pub children_in : Option Played → ℕ → Option (List Variable)
+children_in None holder = None
+children_in (Some m) holder = (shown_of m).children holder
+
+abbrev pub evaluation_in : Option Played → Option ℕ → List ℕ → Option Evaluation
+evaluation_in None frame text = None
+evaluation_in (Some m) frame text = (shown_of m).evaluate frame text
+
+-- what the host told, where it is of this text
+abbrev pub told_of : Option Learned → List ℕ → Option Learned
+told_of None text = None
+told_of (Some l) text = if bytes_eq text l.text then Some l else None
+
+abbrev pub value_told : Option Learned → List ℕ → Option (List ℕ)
+value_told learned text = option_and_then (λ l. l.value) (told_of learned text)
+
+-- what the host told comes before what is shown, also that there is no value
+abbrev pub evaluated : Option Learned → Option Evaluation → Option Evaluation
+evaluated None shown = shown
+evaluated (Some l) shown = option_map (λ value. record { value = value; holder = None }) l.value
+
+-- a variable that is shown, where the host told what the text comes to
+abbrev pub assigned_by : Option (List ℕ) → Option Played → ℕ → List ℕ → Option Assigned
+assigned_by (Some value) (Some m) holder name = (shown_of m).assigned holder name value
+assigned_by _ _ holder name = None
+
+abbrev pub shown_live : LiveState → Shown
+shown_live v = record {
+  state = v.state;
+  lines = lines_in v.set;
+  acts = v.acts;
+  last = v.last;
+  threads = threads_in (now_shown v.state v.here);
+  frames = frames_in (now_shown v.state v.here);
+  scopes = scopes_in (now_shown v.state v.here);
+  children = children_in (now_shown v.state v.here);
+  evaluate = λ frame text. evaluated (told_of v.learned text) (evaluation_in (now_shown v.state v.here) frame text);
+  assigned = λ holder name text. assigned_by (value_told v.learned text) (now_shown v.state v.here) holder name;
+  sources = (shown_of v.base).sources;
+  content = (shown_of v.base).content;
+  verify = (shown_of v.base).verify;
+}

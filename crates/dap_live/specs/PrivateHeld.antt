@@ -1,0 +1,16 @@
+-- How the code holds the last act. Only private clauses and the view of the debuggee cite this file.
+use Rattle.std.specs.Prelude.{Option}
+use Rattle.dap_debuggee.specs.Shown.{Last, done, refused, happened}
+use Rattle.dap_debuggee.specs.declared.answers.Asked.TheVariants.{Poll}
+use Rattle.dap_recording.specs.Played.{Played}
+use Rattle.dap_live.specs.declared.held.LiveLast.{LiveLast}
+use Rattle.dap_live.specs.declared.held.LiveLast.TheVariants.{Done, Refused, Polled}
+use Rattle.dap_live.specs.LiveShown.{LiveState}
+
+abbrev pub last_of : LiveLast → Last
+last_of (Done asked) = record { asked = asked; reply = done }
+last_of (Refused asked) = record { asked = asked; reply = refused }
+last_of (Polled h) = record { asked = Poll; reply = happened h }
+
+abbrev pub with_here : Option Played → LiveState → LiveState
+with_here here v = record v { here = here }

@@ -1,0 +1,83 @@
+//! What a debuggee holds that a host feeds.
+
+use crate::mail::Mail;
+use dap_debuggee::{Asked, Happening, State};
+use dap_json::Text;
+use dap_recording::Recorded;
+use dap_tables::SourceMap;
+use std::alloc::Global;
+use std::marker::Model;
+use std::rc::Rc;
+
+/// What was asked last, and the answer.
+#[derive(Drop)]
+pub(crate) enum LiveLast {
+    Done(Asked),
+    Refused(Asked),
+    Polled(Happening),
+}
+
+/// What a text comes to, `None` where it has no value.
+#[derive(Drop)]
+pub(crate) struct Learned {
+    pub(crate) text: Text,
+    pub(crate) value: Option<Text>,
+}
+
+/// A debuggee that a host feeds.
+#[derive(Drop)]
+pub struct Live {
+    /// Its sources are the debuggee's.
+    pub(crate) base: Recorded,
+    /// What was shown at the last stop. It stays while the debuggee runs.
+    pub(crate) here: Option<Recorded>,
+    pub(crate) learned: Option<Learned>,
+    pub(crate) state: State,
+    /// The lines that are set.
+    pub(crate) set: SourceMap<u32>,
+    pub(crate) acts: u64,
+    pub(crate) last: Option<LiveLast>,
+    pub(crate) mail: Rc<Mail>,
+}
+
+impl Model for Live {
+    ghost use Rattle.std.specs.Prelude.{option_map};
+    ghost use Rattle.dap_live.specs.LiveShown.{LiveState, IsFew};
+    ghost use Rattle.dap_live.specs.PrivateHeld.{last_of};
+
+    ghost Value = { LiveState };
+
+    ghost view = { λ l. record {
+      base = l.base;
+      here = l.here;
+      learned = l.learned;
+      state = l.state;
+      set = l.set;
+      acts = l.acts;
+      last = option_map last_of l.last;
+    } };
+
+    ghost invariant = { λ l. IsFew l.base l.here };
+}
+
+impl Live {
+    ghost use Rattle.std.specs.Prelude.{◌≡◌};
+    ghost use Rattle.dap_live.specs.LiveShown.{fresh_live};
+
+    /// A debuggee that is not started, with the sources of a recording, and lines where those have lines. The moments of
+    /// that recording do not matter. The mail is shared with the host.
+    pub fn open(alloc: Global, base: Recorded, mail: Rc<Mail>) -> Live
+        ensures { result ≡ fresh_live base }
+    {
+        Live {
+            base,
+            here: None,
+            learned: None,
+            state: State::NotStarted,
+            set: SourceMap::new(alloc),
+            acts: 0,
+            last: None,
+            mail,
+        }
+    }
+}

@@ -1,0 +1,16 @@
+//! A debuggee that a host feeds: a debugger in another process, or in another language.
+//!
+//! What it shows is what the host told last, whatever that is. What it is asked to do is left for the host to fetch. So a
+//! host that tells what is wrong shows wrong values, and breaks no law of `dap_debuggee`: what does not happen in the state
+//! that the debuggee is in, or is out of its range, is dropped, and the host can ask why. This crate knows the trait and
+//! recordings; it must not know messages, lines of a host nor JSON.
+#![tactic(auto)]
+
+mod dropping;
+mod held;
+mod live;
+mod mail;
+
+pub use dropping::{each_drop_has_its_reason, why_dropped};
+pub use held::Live;
+pub use mail::{Coming, Dropped, HostAct, Mail};

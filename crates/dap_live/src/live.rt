@@ -1,0 +1,461 @@
+//! The debuggee: what it does when it is asked, and what it tells.
+ghost use Rattle.std.specs.Prelude.{◌≡◌, ◌≤◌, Some, None, IfOk, IsTrue, length, option_map};
+ghost use Rattle.dap_debuggee.specs.Laws.{state_after};
+ghost use Rattle.dap_debuggee.specs.Shown.{to_poll, happened};
+ghost use Rattle.dap_recording.specs.Played.{Played, shown_of};
+ghost use Rattle.dap_live.specs.declared.held.Learned.{Learned};
+
+use crate::dropping::why_dropped;
+use crate::held::{Learned, Live, LiveLast};
+use crate::mail::{Coming, Dropped, HostAct};
+use dap_call::SourceKey;
+use dap_debuggee::{
+    Asked, Assigned, Debuggee, DebuggeeFault, Evaluation, Frame, Happening, How, Scope, Source,
+    State, Thread, Variable,
+};
+use dap_json::{List, Text};
+use dap_recording::Recorded;
+use std::alloc::{AllocError, Global};
+
+fn copied(happening: &Happening) -> Result<Happening, AllocError>
+    ensures { IfOk result (λ copy. copy ≡ happening.now) }
+{
+    match happening {
+        Happening::Nothing => Ok(Happening::Nothing),
+        Happening::Output { category, text } => Ok(Happening::Output {
+            category: *category,
+            text: text.clone()?,
+        }),
+        Happening::Stopped { reason, thread } => Ok(Happening::Stopped {
+            reason: reason.clone()?,
+            thread: *thread,
+        }),
+        Happening::Continued { thread } => Ok(Happening::Continued { thread: *thread }),
+        Happening::Exited { code } => Ok(Happening::Exited { code: *code }),
+    }
+}
+
+/// Where a debuggee is once that has happened.
+fn next(state: State, happening: &Happening) -> State
+    ensures { result ≡ state_after state to_poll (happened happening.now) }
+{
+    match happening {
+        Happening::Nothing | Happening::Output { .. } => state,
+        Happening::Stopped { .. } => State::Stopped,
+        Happening::Continued { .. } => State::Running,
+        Happening::Exited { .. } => State::Gone,
+    }
+}
+
+/// Whether a recording has no more sources than another.
+fn has_few_sources(alloc: Global, base: &Recorded, shows: &Recorded) -> Result<bool, AllocError>
+    ensures { IfOk result (λ few. IsTrue few → length (shown_of shows.now).sources ≤ length (shown_of base.now).sources) }
+{
+    Ok(shows.sources(alloc)?.len() <= base.sources(alloc)?.len())
+}
+
+impl Live {
+    ghost use Rattle.std.specs.Prelude.{◌≡◌, OnOk, OnErr, option_map};
+    ghost use Rattle.std.specs.Option.{IsSome};
+    ghost use Rattle.dap_debuggee.specs.Laws.{is_short};
+    ghost use Rattle.dap_debuggee.specs.Shown.{to_poll, to_set_breakpoints, to_assign, done, happened};
+    ghost use Rattle.dap_debuggee.specs.declared.answers.Happening.{Happening};
+    ghost use Rattle.dap_live.specs.LiveShown.{shown_live, IsFew, now_shown, told_of, value_told, assigned_by};
+    ghost use Rattle.dap_live.specs.LiveLaws.{FollowsLive, SetsHere, noted};
+    ghost use Rattle.dap_live.specs.Dropping.{heard, IsHeardOr};
+    ghost use Rattle.dap_live.specs.PrivateHeld.{last_of, with_here};
+
+    /// Counts and remembers an act.
+    fn note(&mut self, last: LiveLast)
+        ensures { self.new ≡ noted (last_of last) self.old }
+    {
+        self.acts = self.acts.wrapping_add(1);
+        self.last = Some(last);
+    }
+
+    /// What is shown has no more sources than there are. There is nothing to run.
+    #[inline(always)]
+    fn has_few_shown(&self)
+        ensures { IsFew self.now.base self.now.here }
+    {
+        let _ = &self.base;
+    }
+
+    /// What is shown now.
+    fn shown_now(&self) -> Option<&Recorded>
+        ensures { option_map (λ r. r.now) result ≡ now_shown self.now.state self.now.here }
+    {
+        match self.state {
+            State::NotStarted | State::Gone => None,
+            State::Running | State::Stopped => match &self.here {
+                None => None,
+                Some(here) => Some(here),
+            },
+        }
+    }
+
+    /// What the host told of a text.
+    fn told(&self, text: &str) -> Option<&Learned>
+        ensures { option_map (λ l. l.now) result ≡ told_of self.now.learned text.now }
+    {
+        match &self.learned {
+            Some(learned) if text == learned.text.as_str() => Some(learned),
+            _ => None,
+        }
+    }
+
+    /// The value that the host told of a text.
+    fn value_of(&self, text: &str) -> Option<&Text>
+        ensures { option_map (λ value. value.now) result ≡ value_told self.now.learned text.now }
+    {
+        match self.told(text) {
+            None => None,
+            Some(learned) => match &learned.value {
+                None => None,
+                Some(value) => Some(value),
+            },
+        }
+    }
+
+    /// Nothing happened, and the host may have told what a text comes to.
+    fn see_nothing(&mut self, learned: Option<Learned>) -> Happening
+        ensures nothing { result ≡ Happening.Nothing }
+        ensures follows { FollowsLive self.old to_poll (happened result) self.new }
+    {
+        self.learned = learned;
+        self.note(LiveLast::Polled(Happening::Nothing));
+        Happening::Nothing
+    }
+
+    /// Nothing happened, since what the host says is dropped.
+    fn drop_it(&mut self, why: Dropped) -> Happening
+        ensures nothing { result ≡ Happening.Nothing }
+        ensures follows { FollowsLive self.old to_poll (happened result) self.new }
+    {
+        self.mail.drop_coming(why);
+        self.see_nothing(None)
+    }
+
+    /// Tells what the host says, or nothing where that is dropped.
+    fn see(&mut self, happening: Happening) -> Result<Happening, AllocError>
+        ensures heard { IfOk result (λ h. h ≡ heard self.old.state happening) }
+        ensures follows { IfOk result (λ h. FollowsLive self.old to_poll (happened h) self.new) }
+        ensures in_range { IfOk result (λ h. IsTrue (is_short h)) }
+    {
+        if let Some(why) = why_dropped(self.state, &happening) {
+            return Ok(self.drop_it(why));
+        }
+        let copy = copied(&happening)?;
+        self.state = next(self.state, &happening);
+        self.learned = None;
+        self.note(LiveLast::Polled(copy));
+        Ok(happening)
+    }
+
+    /// Tells a stop, and shows where; or nothing where that is dropped.
+    fn stop(
+        &mut self,
+        alloc: Global,
+        reason: Text,
+        thread: i64,
+        mut shows: Recorded,
+    ) -> Result<Happening, AllocError>
+        ensures heard { IfOk result (λ h. IsHeardOr self.old.state (Happening.Stopped reason thread) h) }
+        ensures follows { IfOk result (λ h. FollowsLive self.old to_poll (happened h) self.new) }
+        ensures in_range { IfOk result (λ h. IsTrue (is_short h)) }
+    {
+        // Refused where it is started already.
+        let _ = shows.start(alloc);
+        let happening = Happening::Stopped { reason, thread };
+        if let Some(why) = why_dropped(self.state, &happening) {
+            return Ok(self.drop_it(why));
+        }
+        if !has_few_sources(alloc, &self.base, &shows)? {
+            return Ok(self.drop_it(Dropped::TooManySources));
+        }
+        let copy = copied(&happening)?;
+        self.state = State::Stopped;
+        self.here = Some(shows);
+        self.learned = None;
+        self.note(LiveLast::Polled(copy));
+        Ok(happening)
+    }
+
+    /// Puts lines in place of those of a source.
+    fn put_lines(
+        &mut self,
+        alloc: Global,
+        source: &SourceKey,
+        lines: &[u32],
+    ) -> Result<(), AllocError>
+        ensures { OnOk result (FollowsLive self.old (to_set_breakpoints source.now lines.now) done self.new) }
+    {
+        let act = HostAct::SetBreakpoints {
+            source: source.clone()?,
+            lines: List::new(lines.to_vec(alloc)?),
+        };
+        self.set.put(source.clone()?, lines.to_vec(alloc)?)?;
+        self.mail.ask(alloc, act)?;
+        self.note(LiveLast::Done(Asked::SetBreakpoints));
+        Ok(())
+    }
+
+    /// Sets a value in what was shown.
+    fn put_value(
+        &mut self,
+        alloc: Global,
+        holder: u64,
+        name: &str,
+        value: &str,
+    ) -> Result<(), AllocError>
+        requires { IsSome (assigned_by (Some value.now) self.old.here holder name.now) }
+        ensures set { OnOk result (SetsHere (Some value.now) holder name.now self.old.here self.new.here) }
+        ensures others { self.new ≡ with_here self.new.here self.old }
+        ensures memory { OnErr result (self.new ≡ self.old) }
+    {
+        match &mut self.here {
+            None => unreachable!(),
+            Some(here) => here.assign(alloc, holder, name, value),
+        }
+    }
+
+    /// Sets a variable to the value that the host told of a text.
+    fn set_value(
+        &mut self,
+        alloc: Global,
+        holder: u64,
+        name: &str,
+        text: &str,
+    ) -> Result<(), AllocError>
+        requires { IsSome ((shown_live self.old).assigned holder name.now text.now) }
+        ensures follows { OnOk result (FollowsLive self.old (to_assign holder name.now text.now) done self.new) }
+        ensures memory { OnErr result (self.new ≡ self.old) }
+    {
+        let Some(value) = self.value_of(text) else {
+            unreachable!()
+        };
+        let value = value.clone()?;
+        let act = HostAct::Assign {
+            holder,
+            name: Text::copied(alloc, name)?,
+            value: value.clone()?,
+        };
+        self.mail.ask(alloc, act)?;
+        match self.put_value(alloc, holder, name, value.as_str()) {
+            Ok(()) => {
+                self.note(LiveLast::Done(Asked::Assign));
+                Ok(())
+            }
+            Err(refused) => {
+                self.mail.take_back(alloc);
+                Err(refused)
+            }
+        }
+    }
+}
+
+impl Debuggee for Live {
+    ghost use Rattle.dap_live.specs.LiveShown.{shown_live};
+    ghost use Rattle.dap_live.specs.LiveLaws.{FollowsLive, counts-live, remembers-live, answers-live, moves-live, sets_lines-live, sets_values-live, keeps_answers-live, keeps_frames-live, keeps_sources-live, no_threads-live, verifies_each-live, assigns_variables-live};
+
+    ghost shown = { shown_live };
+
+    ghost follows = { FollowsLive };
+
+    fn start(&mut self, alloc: Global) -> Result<(), DebuggeeFault> {
+        match self.state {
+            State::NotStarted => {
+                self.mail.ask(alloc, HostAct::Start)?;
+                self.state = State::Running;
+                self.note(LiveLast::Done(Asked::Start));
+                Ok(())
+            }
+            State::Running | State::Stopped | State::Gone => {
+                self.note(LiveLast::Refused(Asked::Start));
+                Err(DebuggeeFault::Refused)
+            }
+        }
+    }
+
+    fn resume(&mut self, alloc: Global, how: How, thread: i64) -> Result<(), DebuggeeFault> {
+        match self.state {
+            State::Stopped => {
+                self.mail.ask(alloc, HostAct::Resume { how, thread })?;
+                self.state = State::Running;
+                self.note(LiveLast::Done(Asked::Resume { how, thread }));
+                Ok(())
+            }
+            State::NotStarted | State::Running | State::Gone => {
+                self.note(LiveLast::Refused(Asked::Resume { how, thread }));
+                Err(DebuggeeFault::Refused)
+            }
+        }
+    }
+
+    fn pause(&mut self, alloc: Global) -> Result<(), DebuggeeFault> {
+        match self.state {
+            State::Running => {
+                self.mail.ask(alloc, HostAct::Pause)?;
+                self.note(LiveLast::Done(Asked::Pause));
+                Ok(())
+            }
+            State::NotStarted | State::Stopped | State::Gone => {
+                self.note(LiveLast::Refused(Asked::Pause));
+                Err(DebuggeeFault::Refused)
+            }
+        }
+    }
+
+    fn poll(&mut self, alloc: Global) -> Result<Happening, AllocError> {
+        match self.mail.take_coming() {
+            None => Ok(self.see_nothing(None)),
+            Some(Coming::Learned { text, value }) => {
+                Ok(self.see_nothing(Some(Learned { text, value })))
+            }
+            Some(Coming::Output { category, text }) => {
+                self.see(Happening::Output { category, text })
+            }
+            Some(
+                Coming::Stopped {
+                    reason,
+                    thread,
+                    shows,
+                },
+            ) => self.stop(alloc, reason, thread, shows),
+            Some(Coming::Continued { thread }) => self.see(Happening::Continued { thread }),
+            Some(Coming::Exited { code }) => self.see(Happening::Exited { code }),
+        }
+    }
+
+    fn set_breakpoints(
+        &mut self,
+        alloc: Global,
+        source: &SourceKey,
+        lines: &[u32],
+    ) -> Result<(), AllocError> {
+        self.put_lines(alloc, source, lines)
+    }
+
+    fn assign(
+        &mut self,
+        alloc: Global,
+        holder: u64,
+        name: &str,
+        text: &str,
+    ) -> Result<(), AllocError> {
+        self.set_value(alloc, holder, name, text)
+    }
+
+    fn end(&mut self) {
+        self.mail.ask_end();
+        self.state = State::Gone;
+        self.note(LiveLast::Done(Asked::End));
+    }
+
+    fn threads(&self, alloc: Global) -> Result<Vec<Thread>, AllocError> {
+        match self.shown_now() {
+            None => Ok(Vec::new(alloc)),
+            Some(here) => here.threads(alloc),
+        }
+    }
+
+    fn frames(&self, alloc: Global, thread: i64) -> Result<Vec<Frame>, DebuggeeFault> {
+        self.has_few_shown();
+        match self.shown_now() {
+            None => Err(DebuggeeFault::Refused),
+            Some(here) => here.frames(alloc, thread),
+        }
+    }
+
+    fn scopes(&self, alloc: Global, frame: u64) -> Result<Vec<Scope>, DebuggeeFault> {
+        match self.shown_now() {
+            None => Err(DebuggeeFault::Refused),
+            Some(here) => here.scopes(alloc, frame),
+        }
+    }
+
+    fn children(&self, alloc: Global, holder: u64) -> Result<Vec<Variable>, DebuggeeFault> {
+        match self.shown_now() {
+            None => Err(DebuggeeFault::Refused),
+            Some(here) => here.children(alloc, holder),
+        }
+    }
+
+    fn evaluate(
+        &self,
+        alloc: Global,
+        frame: Option<u64>,
+        text: &str,
+    ) -> Result<Evaluation, DebuggeeFault> {
+        if let Some(learned) = self.told(text) {
+            return match &learned.value {
+                None => Err(DebuggeeFault::Refused),
+                Some(value) => Ok(Evaluation {
+                    value: value.clone()?,
+                    holder: None,
+                }),
+            };
+        }
+        match self.shown_now() {
+            None => Err(DebuggeeFault::Refused),
+            Some(here) => here.evaluate(alloc, frame, text),
+        }
+    }
+
+    fn assigned(
+        &self,
+        alloc: Global,
+        holder: u64,
+        name: &str,
+        text: &str,
+    ) -> Result<Assigned, DebuggeeFault> {
+        let Some(value) = self.value_of(text) else {
+            return Err(DebuggeeFault::Refused);
+        };
+        match self.shown_now() {
+            None => Err(DebuggeeFault::Refused),
+            Some(here) => here.assigned(alloc, holder, name, value.as_str()),
+        }
+    }
+
+    fn sources(&self, alloc: Global) -> Result<Vec<Source>, AllocError> {
+        self.base.sources(alloc)
+    }
+
+    fn content(&self, alloc: Global, index: u32) -> Result<Text, DebuggeeFault> {
+        self.base.content(alloc, index)
+    }
+
+    fn verify(
+        &self,
+        alloc: Global,
+        source: &SourceKey,
+        lines: &[u32],
+    ) -> Result<Vec<bool>, DebuggeeFault> {
+        self.base.verify(alloc, source, lines)
+    }
+
+    ghost counts = { counts-live };
+
+    ghost remembers = { remembers-live };
+
+    ghost answers = { answers-live };
+
+    ghost moves = { moves-live };
+
+    ghost sets_lines = { sets_lines-live };
+
+    ghost sets_values = { sets_values-live };
+
+    ghost keeps_answers = { keeps_answers-live };
+
+    ghost keeps_frames = { keeps_frames-live };
+
+    ghost keeps_sources = { keeps_sources-live };
+
+    ghost no_threads = { no_threads-live };
+
+    ghost verifies_each = { verifies_each-live };
+
+    ghost assigns_variables = { assigns_variables-live };
+}
