@@ -374,10 +374,16 @@ impl Debuggee for Live {
         }
     }
 
-    fn children(&self, alloc: Global, holder: u64) -> Result<Vec<Variable>, DebuggeeFault> {
+    fn children(
+        &self,
+        alloc: Global,
+        holder: u64,
+        start: u32,
+        count: u32,
+    ) -> Result<Vec<Variable>, DebuggeeFault> {
         match self.shown_now() {
             None => Err(DebuggeeFault::Refused),
-            Some(here) => here.children(alloc, holder),
+            Some(here) => here.children(alloc, holder, start, count),
         }
     }
 
@@ -420,6 +426,10 @@ impl Debuggee for Live {
 
     fn sources(&self, alloc: Global) -> Result<Vec<Source>, AllocError> {
         self.base.sources(alloc)
+    }
+
+    fn source(&self, alloc: Global, index: u32) -> Result<Source, DebuggeeFault> {
+        self.base.source(alloc, index)
     }
 
     fn content(&self, alloc: Global, index: u32) -> Result<Text, DebuggeeFault> {
