@@ -23,23 +23,13 @@ use std::mem;
 #[derive(Clone, Copy, Debug)]
 pub enum EventBody<'e> {
     /// Of `output`. The category is `console`, `stdout`, `stderr` or another that the client knows.
-    Output {
-        category: &'e str,
-        output: &'e Text,
-    },
+    Output { category: &'e str, output: &'e Text },
     /// Of `stopped`: one thread stopped for a reason, and all others with it.
-    Stopped {
-        reason: &'e Text,
-        thread_id: i64,
-    },
+    Stopped { reason: &'e Text, thread_id: i64 },
     /// Of `continued`: one thread goes on, and all others with it.
-    Continued {
-        thread_id: i64,
-    },
+    Continued { thread_id: i64 },
     /// Of `exited`, with the debuggee's exit code.
-    Exited {
-        exit_code: i32,
-    },
+    Exited { exit_code: i32 },
 }
 
 fn write_output(out: &mut Writer, category: &str, output: &Text) -> Result<(), AllocError>

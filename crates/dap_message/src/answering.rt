@@ -19,9 +19,7 @@ ghost use Rattle.dap_message.specs.Refusals.{max_command};
 ghost use Rattle.dap_message.specs.SoundMessage.{IsSoundTree};
 
 use crate::laws::written_is_read_again;
-use dap_body::{
-    Body, EventBody, Failure, append_body, append_event_body, append_failure_body,
-};
+use dap_body::{Body, EventBody, Failure, append_body, append_event_body, append_failure_body};
 use dap_json::Tree;
 use dap_json::laws::what_is_read_is_sound;
 use json::Writer;

@@ -18,10 +18,10 @@ mod writing;
 
 pub use answering::{append_answer, append_event, append_failure, append_request};
 pub use dap_body::{
-    Body, Breakpoint, EventBody, Failure, Scope, Source, StackFrame, Thread, Variable, body_continue,
-    body_continued, body_evaluate, body_exited, body_failure, body_loaded_sources, body_output,
-    body_scopes, body_set_breakpoints, body_set_variable, body_source, body_stack_trace,
-    body_stopped, body_terminal, body_threads, body_variables,
+    Body, Breakpoint, EventBody, Failure, Scope, Source, StackFrame, Thread, Variable,
+    body_continue, body_continued, body_evaluate, body_exited, body_failure, body_loaded_sources,
+    body_output, body_scopes, body_set_breakpoints, body_set_variable, body_source,
+    body_stack_trace, body_stopped, body_terminal, body_threads, body_variables,
 };
 pub use dap_call::{
     BreakpointLocations, Call, CallFault, Capabilities, Command, Completions, Evaluate,
