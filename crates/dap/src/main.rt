@@ -12,7 +12,7 @@ use clap::error::{Error, ErrorKind};
 use dap_adapter::ServeFault;
 use dap_channel::{Input, Pipe};
 use dap_frame::{End, Limits};
-use dap_recording::Recorded;
+use dap_replay::Recorded;
 use dap_tool::{
     DriveFault, FileFault, FollowFault, Form, MAX_FILE, OpenFault, Shown, Style, ToolFault,
     check_text, explanation, fault_line, follow, most_reads, read_whole, status,

@@ -2,7 +2,7 @@
 use Rattle.std.proofs.Common.{◌≡◌, ℕ, List, Ok, refl, subst}
 use Rattle.dap_frame.specs.Settings.{Settings}
 use Rattle.dap_json.specs.Read.{json_of}
-use Rattle.dap_recording.specs.Played.{Played, shown_of, FollowsPlayed, fresh_played}
+use Rattle.dap_replay.specs.Played.{Played, shown_of, FollowsPlayed, fresh_played}
 use Rattle.dap_recording.specs.Reading.{verdict_of}
 use Rattle.dap_drive.specs.Driven.{Stops, StopsAt, LacksNumberOnLine, StopsOver}
 use Rattle.dap_drive.specs.declared.fault.DriveFault.{DriveFault}

@@ -3,7 +3,7 @@ use Rattle.std.specs.Prelude.{◌≡◌, ◌⊎◌, ◌+◌, ℕ, List, ◌∷�
 use Rattle.dap_frame.specs.Settings.{Settings}
 use Rattle.dap_message.specs.Types.Call.{Call as TheCall}
 use Rattle.dap_json.specs.Read.{json_of}
-use Rattle.dap_recording.specs.Played.{shown_of, FollowsPlayed, fresh_played}
+use Rattle.dap_replay.specs.Played.{shown_of, FollowsPlayed, fresh_played}
 use Rattle.dap_recording.specs.Reading.{verdict_of}
 use Rattle.dap_debuggee.specs.Shown.{Shown}
 use Rattle.dap_recording.specs.declared.reading.RecordingFault.{RecordingFault}

@@ -6,7 +6,7 @@ use Rattle.dap_debuggee.specs.Laws.{is_frame, FramesInRange}
 use Rattle.dap_debuggee.specs.declared.answers.Frame.{Frame}
 use Rattle.dap_debuggee.specs.declared.answers.State.{State}
 use Rattle.dap_debuggee.specs.declared.answers.State.TheVariants.{NotStarted, Running, Stopped, Gone}
-use Rattle.dap_recording.specs.Played.{Played, shown_of}
+use Rattle.dap_replay.specs.Played.{Played, shown_of}
 use Rattle.dap_live.specs.LiveShown.{LiveState, IsFew, shown_live, now_shown, frames_in}
 
 frame_wider : (a b : ℕ) → a ≤ b → (f : Frame) → is_frame a f ≡ true → is_frame b f ≡ true

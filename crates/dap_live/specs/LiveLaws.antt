@@ -10,8 +10,8 @@ use Rattle.dap_debuggee.specs.declared.answers.State.TheVariants.{NotStarted, Ru
 use Rattle.dap_debuggee.specs.declared.answers.How.{How}
 use Rattle.dap_debuggee.specs.declared.answers.Category.{Category}
 use Rattle.dap_debuggee.specs.declared.answers.Happening.TheVariants as happening
-use Rattle.dap_recording.specs.Played.{Played, shown_of, lines_in, with_source_lines, FollowsPlayed}
-use Rattle.dap_recording.specs.PlayedLaws.{sets_values-played, verifies_each-played, assigns_variables-played}
+use Rattle.dap_replay.specs.Played.{Played, shown_of, lines_in, with_source_lines, FollowsPlayed}
+use Rattle.dap_replay.specs.PlayedLaws.{sets_values-played, verifies_each-played, assigns_variables-played}
 use Rattle.dap_tables.specs.SourceMap.{OfSource}
 use Rattle.dap_tables.specs.SourceMapLaws.{set-of-put}
 use Rattle.dap_live.specs.LiveShown.{LiveState, shown_live, now_shown, threads_in, frames_in, scopes_in, children_in, evaluation_in, told_of, value_told, evaluated, assigned_by}

@@ -10,7 +10,7 @@ use Rattle.dap_debuggee.specs.declared.answers.Scope.{Scope}
 use Rattle.dap_debuggee.specs.declared.answers.Variable.{Variable}
 use Rattle.dap_debuggee.specs.declared.answers.Evaluation.{Evaluation}
 use Rattle.dap_debuggee.specs.declared.answers.Assigned.{Assigned}
-use Rattle.dap_recording.specs.Played.{Played, shown_of, lines_in}
+use Rattle.dap_replay.specs.Played.{Played, shown_of, lines_in}
 use Rattle.dap_tables.specs.SourceMap.{OfSource}
 use Rattle.dap_live.specs.declared.held.Learned.{Learned}
 

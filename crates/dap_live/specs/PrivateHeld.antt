@@ -2,7 +2,7 @@
 use Rattle.std.specs.Prelude.{Option}
 use Rattle.dap_debuggee.specs.Shown.{Last, done, refused, happened}
 use Rattle.dap_debuggee.specs.declared.answers.Asked.TheVariants.{Poll}
-use Rattle.dap_recording.specs.Played.{Played}
+use Rattle.dap_replay.specs.Played.{Played}
 use Rattle.dap_live.specs.declared.held.LiveLast.{LiveLast}
 use Rattle.dap_live.specs.declared.held.LiveLast.TheVariants.{Done, Refused, Polled}
 use Rattle.dap_live.specs.LiveShown.{LiveState}

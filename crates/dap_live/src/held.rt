@@ -3,7 +3,7 @@
 use crate::mail::Mail;
 use dap_debuggee::{Asked, Happening, State};
 use dap_json::Text;
-use dap_recording::Recorded;
+use dap_replay::Recorded;
 use dap_tables::SourceMap;
 use std::alloc::Global;
 use std::marker::Model;

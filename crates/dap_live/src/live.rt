@@ -2,7 +2,7 @@
 ghost use Rattle.std.specs.Prelude.{◌≡◌, ◌≤◌, Some, None, IfOk, IsTrue, length, option_map};
 ghost use Rattle.dap_debuggee.specs.Laws.{state_after};
 ghost use Rattle.dap_debuggee.specs.Shown.{to_poll, happened};
-ghost use Rattle.dap_recording.specs.Played.{Played, shown_of};
+ghost use Rattle.dap_replay.specs.Played.{Played, shown_of};
 ghost use Rattle.dap_live.specs.declared.held.Learned.{Learned};
 
 use crate::dropping::why_dropped;
@@ -14,7 +14,7 @@ use dap_debuggee::{
     State, Thread, Variable,
 };
 use dap_json::{List, Text};
-use dap_recording::Recorded;
+use dap_replay::Recorded;
 use std::alloc::{AllocError, Global};
 
 fn copied(happening: &Happening) -> Result<Happening, AllocError>
@@ -48,10 +48,10 @@ fn next(state: State, happening: &Happening) -> State
 }
 
 /// Whether a recording has no more sources than another.
-fn has_few_sources(alloc: Global, base: &Recorded, shows: &Recorded) -> Result<bool, AllocError>
-    ensures { IfOk result (λ few. IsTrue few → length (shown_of shows.now).sources ≤ length (shown_of base.now).sources) }
+fn has_few_sources(base: &Recorded, shows: &Recorded) -> bool
+    ensures { IsTrue result → length (shown_of shows.now).sources ≤ length (shown_of base.now).sources }
 {
-    Ok(shows.sources(alloc)?.len() <= base.sources(alloc)?.len())
+    shows.source_count() <= base.source_count()
 }
 
 impl Live {
@@ -170,7 +170,7 @@ impl Live {
         if let Some(why) = why_dropped(self.state, &happening) {
             return Ok(self.drop_it(why));
         }
-        if !has_few_sources(alloc, &self.base, &shows)? {
+        if !has_few_sources(&self.base, &shows) {
             return Ok(self.drop_it(Dropped::TooManySources));
         }
         let copy = copied(&happening)?;

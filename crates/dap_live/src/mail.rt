@@ -5,7 +5,7 @@
 use dap_call::SourceKey;
 use dap_debuggee::{Category, How};
 use dap_json::{List, Text};
-use dap_recording::Recorded;
+use dap_replay::Recorded;
 use std::alloc::{AllocError, Global};
 use std::cell::Cell;
 

@@ -1,6 +1,5 @@
 -- What is read of a recording holds of every recording.
-use Rattle.std.proofs.Common.{◌≡◌, ℕ, suc, ◌+◌, ◌<◌, ◌≤◌, ◌&&◌, ℤ, Bool, true, false, not, nat_le, nat_lt, nat_eq, if◌then◌else◌, List, [], ◌∷◌, ◌++◌, length, map, Option, Some, None, is_some, option_and_then, option_map, Ok, Err, length-append, append_assoc, append-nil, eq-eqb, refl, sym, ap, subst, ◌∙◌, arith, true≢false}
-use Rattle.dap_recording.proofs.Ranges.{some_same, objects_of}
+use Rattle.std.proofs.Common.{◌≡◌, ℕ, suc, ◌+◌, ◌<◌, ◌≤◌, ◌&&◌, ℤ, Bool, true, false, not, nat_le, nat_lt, nat_eq, if◌then◌else◌, List, [], ◌∷◌, ◌++◌, length, map, Option, Some, None, is_some, option_and_then, option_map, Result, Ok, Err, IfOk, length-append, append_assoc, append-nil, eq-eqb, refl, sym, ap, subst, ◌∙◌, arith, true≢false}
 use Rattle.std.proofs.lemmas.Bool.{leb-true, ltb-true, lt-ltb, and_parts, and_from}
 use Rattle.std.proofs.lemmas.Grind.{flat_map-append}
 use Rattle.std.proofs.lemmas.List.{map-append}
@@ -13,16 +12,17 @@ use Rattle.serde_json.specs.Find.{as_number, as_u64, as_i64, as_str, as_bool, as
 use Rattle.dap_json.specs.Field.{if_passes}
 use Rattle.dap_call.specs.Argument.{is_int, int_of, number_of}
 use Rattle.dap_debuggee.specs.Laws.{is_frame}
-use Rattle.dap_recording.specs.Reading.{Read, or_bad, required_at, optional_at, optional_or, element, value_at, some_items, few_items, exit_of, line_of, source_place, lines_at, place_of, new_id, thread_place, Numbered, each, each_source, scopes_of, frame_of, thread_of, moment_of, moments_of, source_of, recording_of}
-use Rattle.dap_recording.specs.Recording.{IsRecording, line_count, is_thread, is_moment, is_rising, are_distinct}
+use Rattle.dap_recording.specs.Reading.{Read, Gives, or_bad, required_at, optional_at, optional_or, element, value_at, some_items, few_items, exit_of, line_of, source_place, lines_at, place_of, new_id, thread_place, Numbered, each, each_source, scopes_of, frame_of, thread_of, moment_of, moments_of, source_of, recording_of}
+use Rattle.dap_recording.specs.Recording.{objects_of, IsRecording, line_count, is_thread, is_moment, is_rising, are_distinct}
 use Rattle.dap_debuggee.specs.declared.answers.Frame.{Frame}
+use Rattle.dap_recording.specs.declared.reading.RecordingFault.{RecordingFault}
 use Rattle.dap_recording.specs.declared.reading.RecordingKey.{RecordingKey}
 use Rattle.dap_recording.specs.declared.reading.RecordingKey.TheVariants as key
 use Rattle.dap_recording.specs.declared.recording.RecordedSource.{RecordedSource}
 use Rattle.dap_recording.specs.declared.recording.RecordedThread.{RecordedThread}
 use Rattle.dap_recording.specs.declared.recording.Moment.{Moment}
 use Rattle.dap_recording.specs.declared.recording.Recording.{Recording}
-use Rattle.dap_recording.proofs.ReadSteps.{ok_same, then_ok, bind_ok, with_ok, each_holds}
+use Rattle.dap_recording.proofs.ReadSteps.{some_same, ok_same, then_ok, bind_ok, with_ok, each_holds}
 use Rattle.dap_recording.proofs.HoldersRead.{holders_once}
 use Rattle.dap_recording.proofs.SpansRead.{spans_read}
 
@@ -299,3 +299,7 @@ is_read d r e =
       holders = λ n. holders_once sources given moments read n;
       spans = spans_read sources given moments read;
     }))))))
+
+pub read_holds : (d : Data) (result : Result Recording RecordingFault) → Gives result (recording_of d) → IfOk result (λ r. IsRecording r)
+read_holds d (Ok r) gives = is_read d r gives
+read_holds d (Err fault) gives = tt

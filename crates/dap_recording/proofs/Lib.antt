@@ -1,8 +1,3 @@
-pub mod Places
-pub mod Outputs
-pub mod Pieces
-pub mod Ranges
-pub mod Verified
 pub mod Depths
 pub mod Children
 pub mod Elements
@@ -10,17 +5,7 @@ pub mod ReadSteps
 pub mod HoldersRead
 pub mod SpansRead
 pub mod IsRead
-pub mod SetLines
-pub mod Changed
-pub mod OneHolder
-pub mod Told
 pub mod ReadingExamples
 pub mod ThreeMoments
 pub mod RecordingExamples
-pub mod MovesExamples
-pub mod PlayedExamples
-pub mod PollsExamples
 pub mod Ids
-pub mod Telling
-pub mod Longest
-pub mod Stops

@@ -1,8 +1,11 @@
 -- What was read, step by step, and element by element.
-use Rattle.std.proofs.Common.{◌≡◌, List, [], ◌∷◌, ◌++◌, Ok, Err, refl, subst}
+use Rattle.std.proofs.Common.{◌≡◌, List, [], ◌∷◌, ◌++◌, Ok, Err, Some, refl, subst}
 use Rattle.serde_json.specs.Data.{Data, Items, no_items, item}
 use Rattle.dap_json.specs.Steps.{◌>>=◌, ◌>>◌}
 use Rattle.dap_recording.specs.Reading.{Read, each}
+
+pub some_same : {A : Type 0} (x y : A) → Some x ≡ Some y → x ≡ y
+some_same x y e = cc
 
 pub ok_same : {A : Type 0} (x y : A) → ◌≡◌ {A = Read A} (Ok x) (Ok y) → x ≡ y
 ok_same x y e = cc

@@ -18,8 +18,7 @@ use Rattle.dap_recording.specs.declared.recording.RecordedSource.{RecordedSource
 use Rattle.dap_recording.specs.declared.recording.RecordedThread.{RecordedThread}
 use Rattle.dap_recording.specs.declared.recording.Moment.{Moment}
 use Rattle.dap_recording.proofs.HoldersRead.{by_order}
-use Rattle.dap_recording.proofs.Ranges.{some_same}
-use Rattle.dap_recording.proofs.ReadSteps.{ok_same, then_ok, with_ok, each_holds}
+use Rattle.dap_recording.proofs.ReadSteps.{some_same, ok_same, then_ok, with_ok, each_holds}
 
 -- ---- lists that grow
 

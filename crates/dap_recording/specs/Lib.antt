@@ -2,10 +2,3 @@ pub mod Recording
 pub mod RecordingKey
 pub mod Reading
 pub mod PrivateReadThreads
-pub mod Moves
-pub mod Played
-pub mod PrivateSetLines
-pub mod PrivateHeld
-pub mod PlayedLaws
-pub mod Polls
-pub mod ShownNumbers

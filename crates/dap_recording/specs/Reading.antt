@@ -15,7 +15,6 @@ use Rattle.dap_json.specs.Steps.{◌>>=◌, ◌>>◌, Returns}
 use Rattle.dap_json.specs.Field.{if_passes, is_object}
 use Rattle.dap_call.specs.Argument.{int_of, number_of}
 use Rattle.dap_debuggee.specs.Laws.{is_code}
-use Rattle.dap_recording.specs.Played.{Played, fresh_played}
 use Rattle.dap_recording.specs.Recording.{line_count}
 use Rattle.dap_recording.specs.RecordingKey.{name_of}
 use Rattle.dap_debuggee.specs.declared.answers.Frame.{Frame}
@@ -282,10 +281,10 @@ abbrev pub verdict_of : Option Data → Result Recording RecordingFault
 verdict_of None = Err NotJson
 verdict_of (Some d) = if is_object d then or_fault (recording_of d) else Err NotObject
 
--- What was read is the verdict, not started, unless memory ran out.
-abbrev pub Reads : Result Played RecordingFault → Result Recording RecordingFault → Type 0
-Reads (Ok played) verdict = (verdict ≡ Ok played.recording) × (played ≡ fresh_played played.recording)
-Reads (Err NotJson) verdict = verdict ≡ Err NotJson
-Reads (Err NotObject) verdict = verdict ≡ Err NotObject
-Reads (Err (BadKey k)) verdict = verdict ≡ Err (BadKey k)
-Reads (Err OutOfMemory) verdict = Unit {0}
+-- What was read is the verdict, unless memory ran out.
+abbrev pub IsVerdict : Result Recording RecordingFault → Result Recording RecordingFault → Type 0
+IsVerdict (Ok recording) verdict = verdict ≡ Ok recording
+IsVerdict (Err NotJson) verdict = verdict ≡ Err NotJson
+IsVerdict (Err NotObject) verdict = verdict ≡ Err NotObject
+IsVerdict (Err (BadKey k)) verdict = verdict ≡ Err (BadKey k)
+IsVerdict (Err OutOfMemory) verdict = Unit {0}

@@ -38,8 +38,12 @@ top m = option_and_then (λ thread. slice_get thread.frames 0) (thread_at m)
 abbrev pub id_at : Moment → ℤ
 id_at m = unwrap_or (option_map (λ thread. thread.id) (thread_at m)) (pos 0)
 
+-- the numbers of the frames of threads
+abbrev pub objects_of : List RecordedThread → List ℕ
+objects_of threads = flat_map (λ thread. map (λ frame. frame.object) thread.frames) threads
+
 abbrev pub objects : Moment → List ℕ
-objects m = flat_map (λ thread. map (λ frame. frame.object) thread.frames) m.threads
+objects m = objects_of m.threads
 
 -- ---- a recording
 

@@ -1,29 +1,16 @@
-//! A debuggee that plays a recorded run.
+//! Recordings of a run: what one is, and how its bytes are read.
 //!
-//! [`Recorded`] reads a recording and plays it, as a `Debuggee` of `dap_debuggee`. This crate knows the format of
-//! recordings, the moments of a run, where a move goes and how output is cut; it must not know messages, references nor
-//! phases of a session.
+//! [`Recording::read`] gives the sources and the moments that a recording holds, or the first key of the format that is bad.
+//! This crate knows the format of recordings; it must not know how one is played.
 #![tactic(auto)]
 
-mod acts;
-mod laws;
-mod moves;
 pub mod numbers;
-mod paths;
-mod polls;
-mod queries;
 mod read;
 mod read_threads;
 mod reading;
-mod recorded;
 mod recording;
 mod rows;
-mod run;
-mod set_lines;
 
 pub use dap_json::List;
-pub use laws::{
-    held_gives_nothing, pieces_are_the_output, polls_tell_the_pieces, recorded_stops_last,
-};
 pub use reading::{RecordingFault, RecordingKey};
-pub use recorded::Recorded;
+pub use recording::{Moment, RecordedSource, RecordedThread, Recording, Span};

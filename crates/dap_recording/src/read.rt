@@ -1,19 +1,22 @@
-//! A debuggee that plays the recording that bytes are.
+//! The recording that bytes are.
+ghost use Rattle.std.specs.Prelude.{IfOk};
+ghost use Rattle.dap_json.specs.Read.{json_of};
+ghost use Rattle.dap_recording.specs.Reading.{IsVerdict, verdict_of};
+ghost use Rattle.dap_recording.specs.Recording.{IsRecording};
+
 use crate::reading::RecordingFault;
-use crate::recorded::Recorded;
+use crate::recording::Recording;
 use crate::rows;
 use dap_json::ParseFault;
 use std::alloc::Global;
 
-impl Recorded {
-    ghost use Rattle.dap_json.specs.Read.{json_of};
-    ghost use Rattle.dap_recording.specs.Reading.{Reads, verdict_of};
-
-    /// The recording that bytes are, not started.
+impl Recording {
+    /// The recording that bytes are.
     ///
     /// `OutOfMemory` comes where memory for the JSON value, a text, a list or a table is refused.
-    pub fn read(alloc: Global, bytes: &[u8]) -> Result<Recorded, RecordingFault>
-        ensures { Reads result (verdict_of (json_of bytes.now)) }
+    pub fn read(alloc: Global, bytes: &[u8]) -> Result<Recording, RecordingFault>
+        ensures verdict { IsVerdict result (verdict_of (json_of bytes.now)) }
+        ensures holds { IfOk result (λ recording. IsRecording recording) }
     {
         let value = match dap_json::parse(alloc, bytes) {
             Ok(value) => value,
@@ -23,7 +26,6 @@ impl Recorded {
         if !value.is_object() {
             return Err(RecordingFault::NotObject);
         }
-        let recording = rows::recording(alloc, &value)?;
-        Ok(Recorded::of_recording(alloc, recording)?)
+        rows::recording(alloc, &value)
     }
 }

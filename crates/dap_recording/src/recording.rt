@@ -6,53 +6,53 @@ use dap_debuggee::{Frame, Scope, Variable};
 use dap_json::{List, Text};
 
 #[derive(Debug, Drop)]
-pub(crate) struct RecordedSource {
-    pub(crate) name: Text,
-    pub(crate) path: Option<Text>,
-    pub(crate) text: Text,
+pub struct RecordedSource {
+    pub name: Text,
+    pub path: Option<Text>,
+    pub text: Text,
     /// Whether a client reads the file at `path` itself.
-    pub(crate) on_disk: bool,
+    pub on_disk: bool,
     /// How many lines the text has.
-    pub(crate) lines: u64,
+    pub lines: u64,
 }
 
 #[derive(Debug, Drop)]
-pub(crate) struct RecordedThread {
-    pub(crate) id: i64,
-    pub(crate) name: Text,
+pub struct RecordedThread {
+    pub id: i64,
+    pub name: Text,
     /// The newest first.
-    pub(crate) frames: List<Frame>,
+    pub frames: List<Frame>,
 }
 
 /// Object numbers, from the first one to before `to`.
 #[derive(Clone, Copy, Debug)]
-pub(crate) struct Span {
-    pub(crate) from: u64,
-    pub(crate) to: u64,
+pub struct Span {
+    pub from: u64,
+    pub to: u64,
 }
 
 #[derive(Debug, Drop)]
-pub(crate) struct Moment {
-    pub(crate) threads: List<RecordedThread>,
+pub struct Moment {
+    pub threads: List<RecordedThread>,
     /// The place of the thread that stands here.
-    pub(crate) thread: usize,
+    pub thread: usize,
     /// What is written on the way here.
-    pub(crate) output: Text,
+    pub output: Text,
     /// Whether a run that comes by is held here.
-    pub(crate) waits: bool,
+    pub waits: bool,
     /// The numbers of its frames.
-    pub(crate) frames: Span,
+    pub frames: Span,
     /// The numbers of its holders.
-    pub(crate) holders: Span,
+    pub holders: Span,
 }
 
 #[derive(Debug, Drop)]
-pub(crate) struct Recording {
-    pub(crate) exit: i32,
-    pub(crate) sources: List<RecordedSource>,
-    pub(crate) moments: List<Moment>,
+pub struct Recording {
+    pub exit: i32,
+    pub sources: List<RecordedSource>,
+    pub moments: List<Moment>,
     /// By the object number of a frame.
-    pub(crate) scopes: List<List<Scope>>,
+    pub scopes: List<List<Scope>>,
     /// By the object number of a holder.
-    pub(crate) variables: List<List<Variable>>,
+    pub variables: List<List<Variable>>,
 }

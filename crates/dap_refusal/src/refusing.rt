@@ -559,7 +559,7 @@ fn bad_key(alloc: Global, value: &Value) -> Result<Option<RecordingRefusal>, All
     }
 }
 
-/// Why bytes are no recording, and where, or `None` where they are one: that is why [`Recorded::read`](dap_recording::Recorded::read)
+/// Why bytes are no recording, and where, or `None` where they are one: that is why [`Recording::read`](dap_recording::Recording::read)
 /// refuses them, as the law [`refusals_are_faults`](crate::refusals_are_faults) says. They are read once more.
 ///
 /// # Errors

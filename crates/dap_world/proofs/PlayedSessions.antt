@@ -6,7 +6,7 @@ use Rattle.dap_message.specs.Canon.{canon}
 use Rattle.dap_message.specs.declared.message.Message.{Message}
 use Rattle.dap_message.specs.declared.message.Kind.TheVariants.{Request}
 use Rattle.dap_debuggee.specs.Shown.{Shown, Act, to_start, Reply, refused}
-use Rattle.dap_recording.specs.Played.{Played, fresh_played, act_on, with_ask, shown_of}
+use Rattle.dap_replay.specs.Played.{Played, fresh_played, act_on, with_ask, shown_of}
 use Rattle.dap_recording.specs.declared.recording.Recording.{Recording}
 use Rattle.dap_session.specs.declared.fault.AdapterFault.{AdapterFault}
 use Rattle.dap_session.specs.declared.fault.AdapterFault.TheVariants.{SeqExhausted}

@@ -18,7 +18,7 @@ use Rattle.dap_message.specs.Types.Call.TheVariants as call
 use Rattle.dap_tables.specs.Given.{frame}
 use Rattle.dap_ends.proofs.Counts.{and-left, and-right}
 use Rattle.dap_debuggee.specs.Laws.{ends_a_stop}
-use Rattle.dap_recording.specs.Played.{Played, with_ask, fresh_played, act_on, shown_of, IsAllowed, FollowsPlayed}
+use Rattle.dap_replay.specs.Played.{Played, with_ask, fresh_played, act_on, shown_of, IsAllowed, FollowsPlayed}
 use Rattle.dap_debuggee.specs.Shown.{Act, to_start, to_resume, to_pause, to_poll, to_set_breakpoints, to_assign, to_end, Reply}
 use Rattle.dap_recording.proofs.ThreeMoments.{three_moments}
 use Rattle.dap_query.specs.Bodies.{query_result}

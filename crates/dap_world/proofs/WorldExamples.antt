@@ -10,7 +10,7 @@ use Rattle.dap_message.specs.Call.{initialize_of, cancel_of}
 use Rattle.dap_message.specs.CallTree.{initialize_members}
 use Rattle.dap_message.specs.Canon.{canon, tree_of, request_members, response_members, event_members}
 use Rattle.dap_message.specs.Types.Call.TheVariants as call
-use Rattle.dap_recording.specs.Played.{Played, fresh_played, shown_of}
+use Rattle.dap_replay.specs.Played.{Played, fresh_played, shown_of}
 use Rattle.dap_debuggee.specs.Shown.{Shown}
 use Rattle.dap_recording.specs.declared.recording.Recording.{Recording}
 use Rattle.dap_session.specs.declared.fault.AdapterFault.TheVariants.{SeqExhausted}

@@ -1,7 +1,7 @@
 //! Rows that are wrong: each is told to be, in the line that differs.
 
 use crate::playing::Playing;
-use dap_recording::Recorded;
+use dap_replay::Recorded;
 use std::alloc::Global;
 use std::test::Fail;
 use test_kit::outcome::Outcome;

@@ -1,7 +1,7 @@
 //! Sessions at the greatest sizes, with ample memory. Their rows are too long to be written, so they are made.
 
 use crate::playing::Playing;
-use dap_recording::Recorded;
+use dap_replay::Recorded;
 use std::alloc::{AllocError, Global};
 use std::fmt::Write;
 use std::test::Fail;

@@ -1,7 +1,7 @@
 //! A terminal that is asked for where few own numbers are left, and what takes no memory beside it. Lines: `playing.rt`.
 
 use crate::playing::Playing;
-use dap_recording::Recorded;
+use dap_replay::Recorded;
 use std::test::Fail;
 use test_kit::rows::play_rows;
 

@@ -22,7 +22,7 @@ ghost use Rattle.dap_debuggee.specs.declared.answers.State.{State};
 
 use dap_adapter::{Adapter, AdapterFault, Phase, Turned};
 use dap_debuggee::Debuggee;
-use dap_recording::Recorded;
+use dap_replay::Recorded;
 use std::alloc::Global;
 use std::marker::Model;
 use test_kit::bodies::{frame_with_next, is_request};

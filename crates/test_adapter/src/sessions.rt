@@ -1,7 +1,7 @@
 //! Sessions, call by call, with the messages that they hand out. What the lines of a row say stands in `playing.rt`.
 
 use crate::playing::Playing;
-use dap_recording::Recorded;
+use dap_replay::Recorded;
 use std::test::Fail;
 use test_kit::rows::play_rows;
 

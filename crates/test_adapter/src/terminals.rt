@@ -1,7 +1,7 @@
 //! Sessions in which the adapter asks the client for a terminal, call by call. What the lines of a row say is in `playing.rt`.
 
 use crate::playing::Playing;
-use dap_recording::Recorded;
+use dap_replay::Recorded;
 use std::test::Fail;
 use test_kit::rows::play_rows;
 

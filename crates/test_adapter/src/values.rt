@@ -1,7 +1,7 @@
 //! Variables that are set, call by call. What the lines of a row say stands in `playing.rt`.
 
 use crate::playing::Playing;
-use dap_recording::Recorded;
+use dap_replay::Recorded;
 use std::test::Fail;
 use test_kit::rows::play_rows;
 

@@ -6,7 +6,7 @@ use dap_client::Client;
 use dap_connection::Connection;
 use dap_frame::Limits;
 use dap_message::{Call, Initialize, Kind, Message, StackTrace, Text, Variables};
-use dap_recording::Recorded;
+use dap_replay::Recorded;
 use serde_json::Value;
 use std::alloc::Global;
 use std::fmt::Write;

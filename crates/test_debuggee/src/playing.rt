@@ -15,7 +15,7 @@ use crate::telling::{add_all, add_children, add_value};
 use dap_call::SourceKey;
 use dap_debuggee::{Debuggee, DebuggeeFault, Frame, Happening, How};
 use dap_json::Text;
-use dap_recording::Recorded;
+use dap_replay::Recorded;
 use std::alloc::Global;
 use std::fmt::Write;
 

@@ -2,7 +2,8 @@
 
 use crate::playing::{THREE_MOMENTS, is_moved, is_played, three_moments};
 use dap_debuggee::{Debuggee, Frame, Happening, How};
-use dap_recording::{Recorded, RecordingFault, RecordingKey};
+use dap_recording::{RecordingFault, RecordingKey};
+use dap_replay::Recorded;
 use std::alloc::Global;
 use std::fmt::Write;
 

@@ -3,7 +3,7 @@
 use crate::playing::{faulted, in_short, source};
 use dap_call::SourceKey;
 use dap_debuggee::{Debuggee, Evaluation, Frame, Scope, Source, Thread, Variable};
-use dap_recording::Recorded;
+use dap_replay::Recorded;
 use std::alloc::Global;
 use std::fmt::Write;
 

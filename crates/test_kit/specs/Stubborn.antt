@@ -4,8 +4,8 @@ use Rattle.std.proofs.Common.{◌≡◌, ℕ, ◌+◌, ◌%◌, ◌^◌, ◌⊎�
 use Rattle.dap_call.specs.declared.call.SourceKey.{SourceKey}
 use Rattle.dap_debuggee.specs.Shown.{Shown, Act, to_start, to_resume, to_pause, to_poll, to_set_breakpoints, to_assign, to_end, Reply, done, refused, happened, asked_of_act, Last}
 use Rattle.dap_debuggee.specs.Laws.{may_answer, state_after, lines_after, keeps_answers, keeps_frames, Counts, Remembers, Answers, Moves, SetsLines, SetsValues, SetsOneValue, KeepsAnswers, KeepsFrames, KeepsSources, SameFrames, SameSources, SameAnswers, NoThreads, VerifiesEach, AssignsVariables}
-use Rattle.dap_recording.specs.Played.{Played, lines_in, shown_of, FollowsPlayed}
-use Rattle.dap_recording.specs.PlayedLaws.{refused_start, same_start, counts-played, remembers-played, answers-played, moves-played, sets_lines-played, sets_values-played, keeps_answers-played, keeps_frames-played, keeps_sources-played, no_threads-played, verifies_each-played, assigns_variables-played}
+use Rattle.dap_replay.specs.Played.{Played, lines_in, shown_of, FollowsPlayed}
+use Rattle.dap_replay.specs.PlayedLaws.{refused_start, same_start, counts-played, remembers-played, answers-played, moves-played, sets_lines-played, sets_values-played, keeps_answers-played, keeps_frames-played, keeps_sources-played, no_threads-played, verifies_each-played, assigns_variables-played}
 use Rattle.dap_debuggee.specs.declared.answers.Asked.TheVariants.{Start}
 use Rattle.dap_debuggee.specs.declared.answers.State.{State}
 use Rattle.dap_debuggee.specs.declared.answers.State.TheVariants.{NotStarted, Running, Stopped, Gone}

@@ -5,7 +5,8 @@ ghost use Rattle.dap_debuggee.specs.declared.answers.State.{State};
 
 use crate::outcome::Outcome;
 use dap_frame::Limits;
-use dap_recording::{Recorded, RecordingFault};
+use dap_recording::RecordingFault;
+use dap_replay::Recorded;
 use std::alloc::Global;
 use std::test::Fail;
 

@@ -8,7 +8,7 @@ use dap_debuggee::{
     Variable,
 };
 use dap_json::Text;
-use dap_recording::Recorded;
+use dap_replay::Recorded;
 use std::alloc::{AllocError, Global};
 use std::marker::Model;
 

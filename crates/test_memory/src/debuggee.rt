@@ -3,7 +3,8 @@
 use crate::outcomes::{both, judge, refused};
 use dap_call::SourceKey;
 use dap_debuggee::{Debuggee, DebuggeeFault, Happening};
-use dap_recording::{Recorded, RecordingFault};
+use dap_recording::RecordingFault;
+use dap_replay::Recorded;
 use std::alloc::Global;
 use std::test::Fail;
 

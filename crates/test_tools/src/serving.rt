@@ -7,7 +7,7 @@ use crate::told::expect_none;
 use dap_adapter::{AdapterFault, Phase, ServeFault, Served, serve};
 use dap_channel::Pipe;
 use dap_frame::{End, Limits, write_frame};
-use dap_recording::Recorded;
+use dap_replay::Recorded;
 use std::alloc::Global;
 use std::io::Write;
 use std::test::Fail;

@@ -3,7 +3,7 @@
 use dap_debuggee::Debuggee;
 use dap_frame::{End, Limits, write_frame};
 use dap_message::{SourceKey, Text};
-use dap_recording::Recorded;
+use dap_replay::Recorded;
 use dap_tool::show;
 use std::alloc::Global;
 

@@ -3,7 +3,8 @@
 use dap_adapter::{AdapterFault, ServeFault};
 use dap_frame::{FrameFault, Refusal};
 use dap_message::BodyRefusal;
-use dap_recording::{Recorded, RecordingFault};
+use dap_recording::RecordingFault;
+use dap_replay::Recorded;
 use dap_tool::{
     CheckFault, DriveFault, FileFault, OpenFault, SendFault, ShowFault, ToolFault, WrapFault,
     explanation, fault_line, status,

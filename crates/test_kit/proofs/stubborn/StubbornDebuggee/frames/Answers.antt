@@ -1,6 +1,6 @@
 use Rattle.std.proofs.Common.{subst}
 use Rattle.dap_debuggee.specs.Laws.{FramesInRange}
-use Rattle.dap_recording.specs.Played.{shown_of}
+use Rattle.dap_replay.specs.Played.{shown_of}
 use Rattle.test_kit.specs.Stubborn.{StubbornView}
 use Rattle.test_kit.proofs.stubborn.StubbornDebuggee.frames.Goals as goal
 

@@ -1,5 +1,0 @@
-use Rattle.dap_recording.proofs.Telling.{held_nothing}
-use Rattle.dap_recording.proofs.laws.held_gives_nothing.Goals as goal
-
-pub returns : goal.returns
-returns c = held_nothing

@@ -1,5 +1,0 @@
-use Rattle.dap_recording.proofs.Telling.{polls_tell}
-use Rattle.dap_recording.proofs.laws.polls_tell_the_pieces.Goals as goal
-
-pub returns : goal.returns
-returns c = polls_tell

@@ -1,5 +1,0 @@
-use Rattle.dap_recording.proofs.Stops.{stops-last}
-use Rattle.dap_recording.proofs.laws.recorded_stops_last.Goals as goal
-
-pub returns : goal.returns
-returns c = stops-last

@@ -1,5 +1,0 @@
-use Rattle.dap_recording.proofs.OneHolder.{names_one_holder}
-use Rattle.dap_recording.proofs.recorded.Recorded.holders_differ.Goals as goal
-
-pub returns : goal.returns
-returns c = names_one_holder c.args.self.now c.is_recording.ensures.recording c.is_recording.ensures.changed

@@ -1,5 +1,0 @@
-use Rattle.dap_recording.proofs.Told.{told_can_be_asked}
-use Rattle.dap_recording.proofs.recorded.Recorded.told_can_be_asked.Goals as goal
-
-pub returns : goal.returns
-returns c = told_can_be_asked c.args.self.now c.is_recording.ensures.recording c.is_recording.ensures.changed

@@ -1,5 +1,0 @@
-use Rattle.dap_recording.proofs.Ranges.{sources_in_range}
-use Rattle.dap_recording.proofs.recorded.RecordedDebuggee.source.Goals as goal
-
-pub returns-clause-in_range : goal.returns-clause-in_range
-returns-clause-in_range c = sources_in_range c.args.self.now c.is_recording.ensures.recording

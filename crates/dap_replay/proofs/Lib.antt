@@ -1,0 +1,15 @@
+pub mod Places
+pub mod Outputs
+pub mod Pieces
+pub mod Ranges
+pub mod Verified
+pub mod SetLines
+pub mod Changed
+pub mod OneHolder
+pub mod Told
+pub mod MovesExamples
+pub mod PlayedExamples
+pub mod PollsExamples
+pub mod Telling
+pub mod Longest
+pub mod Stops

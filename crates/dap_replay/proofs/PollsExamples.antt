@@ -1,0 +1,54 @@
+-- Worked examples of the pieces of a run's output and of its polls, each shown by computation.
+use Rattle.std.proofs.Common.{◌≡◌, [], ◌∷◌, codes, replicate, Bool, true, false, Some, pos, refl}
+use Rattle.dap_recording.proofs.ThreeMoments.{three_moments}
+use Rattle.dap_replay.specs.Played.{Played, Run, fresh_played}
+use Rattle.dap_replay.specs.Polls.{joined_text, first_pieces, pieces, polls, nothings, output_happenings}
+use Rattle.dap_debuggee.specs.declared.answers.State.TheVariants.{Running}
+use Rattle.dap_debuggee.specs.declared.answers.Category.TheVariants.{Stdout}
+use Rattle.dap_debuggee.specs.declared.answers.Happening.TheVariants.{Nothing, Output, Stopped, Exited}
+use Rattle.dap_replay.specs.declared.moves.Reason.TheVariants.{Step, Pause}
+
+-- ---- pieces
+
+joined_texts : (joined_text (codes "ab" ∷ [] ∷ codes "c" ∷ []) ≡ codes "abc") × (joined_text [] ≡ [])
+joined_texts = (refl, refl)
+
+-- each text by itself, and an empty one gives none
+pieces_of_texts : (pieces (codes "ab" ∷ [] ∷ codes "c" ∷ []) ≡ codes "ab" ∷ codes "c" ∷ []) × (pieces ([] ∷ []) ≡ []) × (pieces [] ≡ [])
+pieces_of_texts = (refl, refl, refl)
+
+long_text : (pieces (replicate 130 97 ∷ []) ≡ replicate 128 97 ∷ replicate 2 97 ∷ []) × (pieces (replicate 256 97 ∷ []) ≡ replicate 128 97 ∷ replicate 128 97 ∷ [])
+long_text = (refl, refl)
+
+first_of_them : (first_pieces 1 (codes "a" ∷ codes "b" ∷ []) ≡ codes "a" ∷ []) × (first_pieces 0 (codes "a" ∷ []) ≡ []) × (first_pieces 5 (codes "a" ∷ []) ≡ codes "a" ∷ [])
+first_of_them = (refl, refl, refl)
+
+-- ---- polls
+
+-- the third moment, which waits, from the first
+abbrev run : Bool → Bool → Run
+run held paused = record { output = codes "x" ∷ codes "y" ∷ []; move = record { to = 2; held = held; reason = Pause }; paused = paused }
+
+abbrev going : Run → Played
+going r = record { recording = three_moments; state = Running; at = 0; run = Some r; set = []; changed = []; acts = 0; last = (fresh_played three_moments).last }
+
+happenings : output_happenings (codes "x" ∷ codes "y" ∷ []) ≡ Output Stdout (codes "x") ∷ Output Stdout (codes "y") ∷ []
+happenings = refl
+
+no_polls : polls 0 (going (run false false)) ≡ []
+no_polls = refl
+
+to_a_stop : (polls 2 (going (run false false)) ≡ Output Stdout (codes "x") ∷ Output Stdout (codes "y") ∷ []) × (polls 4 (going (run false false)) ≡ Output Stdout (codes "x") ∷ Output Stdout (codes "y") ∷ Stopped (codes "pause") (pos 1) ∷ Nothing ∷ [])
+to_a_stop = (refl, refl)
+
+held : polls 5 (going (run true false)) ≡ Output Stdout (codes "x") ∷ Output Stdout (codes "y") ∷ nothings 3
+held = refl
+
+held_and_paused : polls 3 (going (run true true)) ≡ Output Stdout (codes "x") ∷ Output Stdout (codes "y") ∷ Stopped (codes "pause") (pos 1) ∷ []
+held_and_paused = refl
+
+to_the_exit : polls 3 (going (record { output = codes "x" ∷ []; move = record { to = 3; held = false; reason = Step }; paused = false })) ≡ Output Stdout (codes "x") ∷ Exited (pos 0) ∷ Nothing ∷ []
+to_the_exit = refl
+
+nothing_twice : nothings 2 ≡ Nothing ∷ Nothing ∷ []
+nothing_twice = refl

@@ -1,0 +1,7 @@
+pub mod Moves
+pub mod Played
+pub mod PrivateSetLines
+pub mod PrivateHeld
+pub mod PlayedLaws
+pub mod Polls
+pub mod ShownNumbers

@@ -1,0 +1,119 @@
+-- How the code holds a run, the last act and the values that were set, and what that amounts to.
+-- Only private clauses, invariants and proofs cite this file.
+use Rattle.std.specs.Prelude.{ℤ, Bool, zero, max, false, bytes_eq, if◌then◌else◌, Vec, ◌≡◌, ◌⊎◌, ◌≤◌, ◌+◌, ◌%◌, ◌^◌, ℕ, suc, ◌-◌, ◌<◌, length, List, [], ◌∷◌, String, map, take, drop, Option, Some, None, option_map, unwrap_or, pos}
+use Rattle.std.specs.List.{slice_get, find}
+use Rattle.std.specs.BTreeMap.{BTreeMap, get_by_text}
+use Rattle.std.specs.Ordering.{int_eq}
+use Rattle.dap_debuggee.specs.declared.answers.Variable.{Variable}
+use Rattle.dap_recording.specs.declared.recording.RecordedThread.{RecordedThread}
+use Rattle.std.specs.Str.{IsCharBoundary}
+use Rattle.dap_debuggee.specs.Shown.{done, refused, happened, Last}
+use Rattle.dap_call.specs.declared.call.SourceKey.{SourceKey}
+use Rattle.dap_recording.specs.Recording.{id_at}
+use Rattle.dap_replay.specs.Moves.{reason_text}
+use Rattle.dap_replay.specs.Played.{Played, Run, OfHolder}
+use Rattle.std.specs.Option.{IsSome}
+use Rattle.dap_debuggee.specs.declared.answers.State.{State}
+use Rattle.dap_debuggee.specs.declared.answers.State.TheVariants.{Running}
+use Rattle.dap_debuggee.specs.declared.answers.Asked.TheVariants.{Poll}
+use Rattle.dap_debuggee.specs.declared.answers.Category.TheVariants.{Stdout}
+use Rattle.dap_debuggee.specs.declared.answers.Happening.{Happening}
+use Rattle.dap_debuggee.specs.declared.answers.Happening.TheVariants as happening
+use Rattle.dap_call.specs.declared.call.SourceKey.TheVariants.{Path, Reference}
+use Rattle.dap_recording.specs.declared.recording.RecordedSource.{RecordedSource}
+use Rattle.dap_recording.specs.declared.recording.Moment.{Moment}
+use Rattle.dap_recording.specs.declared.recording.Recording.{Recording}
+use Rattle.dap_replay.specs.declared.recorded.Going.{Going}
+use Rattle.dap_replay.specs.declared.recorded.LastPoll.{LastPoll}
+use Rattle.dap_replay.specs.declared.recorded.LastPoll.TheVariants as given
+use Rattle.dap_replay.specs.declared.recorded.LastAsked.{LastAsked}
+use Rattle.dap_replay.specs.declared.recorded.LastAsked.TheVariants as last
+
+-- the first of the texts without its first n bytes
+abbrev pub without_first : ℕ → List (List ℕ) → List (List ℕ)
+without_first n [] = []
+without_first n (text ∷ texts) = drop n text ∷ texts
+
+-- what is still to be written
+abbrev pub output_left : List Moment → Going → List (List ℕ)
+output_left moments g = without_first g.told (map (λ m. m.output) (take (suc g.last - g.moment) (drop g.moment moments)))
+
+abbrev pub run_of : List Moment → Option Going → Option Run
+run_of moments None = None
+run_of moments (Some g) = Some (record { output = output_left moments g; move = g.to; paused = g.paused })
+
+abbrev pub output_in : List Moment → ℕ → List ℕ
+output_in moments i = unwrap_or (option_map (λ m. m.output) (slice_get moments i)) []
+
+abbrev pub happening_of_poll : Recording → LastPoll → Happening
+happening_of_poll r given.Nothing = happening.Nothing
+happening_of_poll r (given.Output moment from to) = happening.Output Stdout (take (to - from) (drop from (output_in r.moments moment)))
+happening_of_poll r (given.Stopped reason moment) = happening.Stopped (reason_text reason) (unwrap_or (option_map id_at (slice_get r.moments moment)) (pos 0))
+happening_of_poll r given.Exited = happening.Exited r.exit
+
+abbrev pub last_of : Recording → LastAsked → Option Last
+last_of r last.Never = None
+last_of r (last.Done asked) = Some (record { asked = asked; reply = done })
+last_of r (last.Refused asked) = Some (record { asked = asked; reply = refused })
+last_of r (last.Polled g) = Some (record { asked = Poll; reply = happened (happening_of_poll r g) })
+
+-- what is told of a moment's output is nothing, or ends a character
+abbrev pub IsOutputWhole : List Moment → Option Going → Type 0
+IsOutputWhole moments None = Unit {0}
+IsOutputWhole moments (Some g) = (g.told ≡ 0) ⊎ IsCharBoundary (output_in moments g.moment) g.told
+
+-- what runs has a run
+abbrev pub HasRun : State → Option Going → Type 0
+HasRun Running going = IsSome going
+HasRun _ going = Unit {0}
+
+-- an act counted and remembered
+abbrev pub after_act : Option Last → Played → Played
+after_act last v = record v { acts = (v.acts + 1) % 2 ^ 64; last = last }
+
+-- nothing is left, or the output of its moment is not used up
+abbrev pub IsReady : List Moment → Going → Type 0
+IsReady moments g = (output_left moments g ≡ []) ⊎ ((g.moment ≤ g.last) × (m : Moment) × (slice_get moments g.moment ≡ Some m) × (g.told < length m.output))
+
+-- a run whose output is all told
+abbrev pub rest_of : Going → Run
+rest_of g = record { output = []; move = g.to; paused = g.paused }
+
+-- how many lines the longest source of a path has
+abbrev pub is_of_path : List ℕ → RecordedSource → Bool
+is_of_path path source = unwrap_or (option_map (bytes_eq path) source.path) false
+
+abbrev pub path_lines_of : List ℕ → RecordedSource → ℕ
+path_lines_of path source = if is_of_path path source then source.lines else 0
+
+abbrev pub most_lines : List ℕ → List RecordedSource → ℕ
+most_lines path [] = 0
+most_lines path (source ∷ sources) = max (path_lines_of path source) (most_lines path sources)
+
+-- the table has the most lines of each path
+abbrev pub HasMost : {A : Type 0} → BTreeMap (String A) ℕ → List RecordedSource → Type 0
+HasMost most sources = (path : List ℕ) → unwrap_or (get_by_text most path) 0 ≡ most_lines path sources
+
+abbrev pub lines_of_key : List RecordedSource → SourceKey → ℕ
+lines_of_key sources (Path path) = most_lines path sources
+lines_of_key sources (Reference zero) = 0
+lines_of_key sources (Reference (suc n)) = unwrap_or (option_map (λ source. source.lines) (slice_get sources n)) 0
+
+-- the variables of each holder in which one was set
+abbrev pub of_holder : {A : Type 0} → ℕ × Vec Variable A → OfHolder
+of_holder e = record { holder = e.0; variables = e.1.items }
+
+abbrev pub changed_of : {A : Type 0} → BTreeMap ℕ (Vec Variable A) → List OfHolder
+changed_of m = map of_holder m.entries
+
+-- what holds the children of each variable
+abbrev pub holders_in : List Variable → List (Option ℕ)
+holders_in variables = map (λ variable. variable.holder) variables
+
+-- a value that is set leaves the holders as they are recorded
+abbrev pub KeepHolders : List (List Variable) → List OfHolder → Type 0
+KeepHolders recorded [] = Unit {0}
+KeepHolders recorded (c ∷ changed) = (option_map holders_in (slice_get recorded c.holder) ≡ Some (holders_in c.variables)) × KeepHolders recorded changed
+
+abbrev pub thread_with : ℤ → List RecordedThread → Option RecordedThread
+thread_with id threads = find (λ thread. int_eq id thread.id) threads

@@ -1,0 +1,24 @@
+//! Laws of the definitions, each on a function with nothing to run.
+ghost use Rattle.dap_debuggee.specs.Laws.{StopsLast};
+ghost use Rattle.dap_replay.specs.Played.{shown_of, FollowsPlayed};
+ghost use Rattle.dap_replay.specs.Polls.{PiecesAreTheOutput, PollsGiveThePieces, HeldGivesNothing};
+
+/// The pieces of a run's output are the whole output; none is empty, and none has more than 128 bytes.
+pub fn pieces_are_the_output()
+    ensures { PiecesAreTheOutput }
+{}
+
+/// Polls of a recorded debuggee that runs give the pieces of its output in order, and then how the run ends.
+pub fn polls_tell_the_pieces()
+    ensures { PollsGiveThePieces }
+{}
+
+/// A recorded debuggee that is held, and was not asked to pause, gives nothing after its output, poll after poll.
+pub fn held_gives_nothing()
+    ensures { HeldGivesNothing }
+{}
+
+/// A stop of a recorded debuggee lasts until it is asked to go on or to end.
+pub fn recorded_stops_last()
+    ensures { StopsLast shown_of FollowsPlayed }
+{}
