@@ -57,7 +57,7 @@ impl Scratch {
 pub struct ObjectReader<'a> {
     /// For a caller that reads a value token by token.
     pub reader: Reader<'a>,
-    items: &'a mut Vec<Value>,
+    pub(crate) items: &'a mut Vec<Value>,
 }
 
 impl<'a> Model for ObjectReader<'a> {

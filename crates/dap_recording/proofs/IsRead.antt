@@ -9,13 +9,14 @@ use Rattle.std.specs.Ordering.{int_eq}
 use Rattle.serde_json.specs.Data.{Data, Items, no_items, item}
 use Rattle.serde_json.specs.Events.{items_len}
 use Rattle.serde_json.specs.Find.{as_number, as_u64, as_i64, as_str, as_bool, as_array}
-use Rattle.dap_json.specs.Field.{if_passes}
+use Rattle.dap_json.specs.Field.{if_passes, is_object}
 use Rattle.dap_call.specs.Argument.{is_int, int_of, number_of}
 use Rattle.dap_debuggee.specs.Laws.{is_frame}
-use Rattle.dap_recording.specs.Reading.{Read, Gives, or_bad, required_at, optional_at, optional_or, element, value_at, some_items, few_items, exit_of, line_of, source_place, lines_at, place_of, new_id, thread_place, Numbered, each, each_source, scopes_of, frame_of, thread_of, moment_of, moments_of, source_of, recording_of}
+use Rattle.dap_recording.specs.Reading.{Read, Gives, or_fault, verdict_of, or_bad, required_at, optional_at, optional_or, element, value_at, some_items, few_items, exit_of, line_of, source_place, lines_at, place_of, new_id, thread_place, Numbered, each, each_source, scopes_of, frame_of, thread_of, moment_of, moments_of, source_of, recording_of}
 use Rattle.dap_recording.specs.Recording.{objects_of, IsRecording, line_count, is_thread, is_moment, is_rising, are_distinct}
 use Rattle.dap_debuggee.specs.declared.answers.Frame.{Frame}
 use Rattle.dap_recording.specs.declared.reading.RecordingFault.{RecordingFault}
+use Rattle.dap_recording.specs.declared.reading.RecordingFault.TheVariants.{NotObject}
 use Rattle.dap_recording.specs.declared.reading.RecordingKey.{RecordingKey}
 use Rattle.dap_recording.specs.declared.reading.RecordingKey.TheVariants as key
 use Rattle.dap_recording.specs.declared.recording.RecordedSource.{RecordedSource}
@@ -303,3 +304,15 @@ is_read d r e =
 pub read_holds : (d : Data) (result : Result Recording RecordingFault) → Gives result (recording_of d) → IfOk result (λ r. IsRecording r)
 read_holds d (Ok r) gives = is_read d r gives
 read_holds d (Err fault) gives = tt
+
+or_ok : (read : Read Recording) (r : Recording) → or_fault read ≡ Ok r → read ≡ Ok r
+or_ok (Ok x) r e = let same : x ≡ r = cc in ap Ok same
+or_ok (Err k) r e = absurd (cc e)
+
+if_object : (b : Bool) (read : Read Recording) (r : Recording) → (if b then or_fault read else Err NotObject) ≡ Ok r → read ≡ Ok r
+if_object true read r e = or_ok read r e
+if_object false read r e = absurd (cc e)
+
+pub verdict_holds : (found : Option Data) (r : Recording) → verdict_of found ≡ Ok r → IsRecording r
+verdict_holds None r e = absurd (cc e)
+verdict_holds (Some d) r e = is_read d r (if_object (is_object d) (recording_of d) r e)

@@ -9,3 +9,4 @@ pub mod ReadingExamples
 pub mod ThreeMoments
 pub mod RecordingExamples
 pub mod Ids
+pub mod OnePassLemmas

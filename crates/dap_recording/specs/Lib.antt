@@ -2,3 +2,4 @@ pub mod Recording
 pub mod RecordingKey
 pub mod Reading
 pub mod PrivateReadThreads
+pub mod PrivateOnePass

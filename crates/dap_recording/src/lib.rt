@@ -5,11 +5,13 @@
 #![tactic(auto)]
 
 pub mod numbers;
+mod one_pass;
 mod read;
 mod read_threads;
 mod reading;
 mod recording;
 mod rows;
+mod texts;
 
 pub use dap_json::List;
 pub use reading::{RecordingFault, RecordingKey};

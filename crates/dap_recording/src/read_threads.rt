@@ -27,13 +27,14 @@ impl Model for ReadThreads {
 }
 
 impl ReadThreads {
-    pub(crate) fn new(alloc: Global) -> ReadThreads
-        ensures { result ≡ [] }
+    /// None yet, with room for so many.
+    pub(crate) fn with_capacity(alloc: Global, count: usize) -> Result<ReadThreads, AllocError>
+        ensures { IfOk result (λ t. t ≡ []) }
     {
-        ReadThreads {
-            threads: Vec::new(alloc),
+        Ok(ReadThreads {
+            threads: Vec::with_capacity(alloc, count)?,
             ids: BTreeSet::new(alloc),
-        }
+        })
     }
 
     /// Whether one of them has the id.

@@ -6,9 +6,10 @@ ghost use Rattle.serde_json.specs.Data.{no_items};
 ghost use Rattle.dap_recording.specs.Reading.{Gives, GivesItems, element as element_of, exit_of, some_items as some_items_of, few_items as few_items_of, required_at, optional_at, optional_or};
 
 use crate::numbers;
+use crate::texts::Texts;
 use dap_json::Text;
 use serde_json::Value;
-use std::alloc::{AllocError, AllocFailed, Global};
+use std::alloc::{AllocError, AllocFailed};
 
 /// A key of a recording.
 #[derive(Clone, Copy, Debug, PartialEq, Eq)]
@@ -113,18 +114,22 @@ pub(crate) fn element(value: &Value, key: RecordingKey) -> Result<(), RecordingF
     }
 }
 
-pub(crate) fn text(alloc: Global, value: &Value, key: RecordingKey) -> Result<Text, RecordingFault>
+pub(crate) fn text(
+    texts: &mut Texts,
+    value: &Value,
+    key: RecordingKey,
+) -> Result<Text, RecordingFault>
     ensures { Gives result (required_at as_str key (view value.now)) }
 {
     let text = value
         .get(key.name())
         .and_then(Value::as_str)
         .ok_or(bad(key))?;
-    Ok(Text::copied(alloc, text)?.shared(alloc))
+    Ok(texts.text(text)?)
 }
 
 pub(crate) fn optional_text(
-    alloc: Global,
+    texts: &mut Texts,
     value: &Value,
     key: RecordingKey,
 ) -> Result<Option<Text>, RecordingFault>
@@ -134,13 +139,13 @@ pub(crate) fn optional_text(
         None => Ok(None),
         Some(found) => {
             let text = found.as_str().ok_or(bad(key))?;
-            Ok(Some(Text::copied(alloc, text)?.shared(alloc)))
+            Ok(Some(texts.text(text)?))
         }
     }
 }
 
 pub(crate) fn text_or_empty(
-    alloc: Global,
+    texts: &mut Texts,
     value: &Value,
     key: RecordingKey,
 ) -> Result<Text, RecordingFault>
@@ -150,7 +155,7 @@ pub(crate) fn text_or_empty(
         None => "",
         Some(found) => found.as_str().ok_or(bad(key))?,
     };
-    Ok(Text::copied(alloc, text)?.shared(alloc))
+    Ok(texts.text(text)?)
 }
 
 pub(crate) fn flag(value: &Value, key: RecordingKey) -> Result<bool, RecordingFault>

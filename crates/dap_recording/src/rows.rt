@@ -7,6 +7,7 @@ ghost use Rattle.dap_recording.specs.Reading.{Numbered, GivesListWith, GivesList
 use crate::read_threads::ReadThreads;
 use crate::reading::{RecordingFault, RecordingKey, bad};
 use crate::recording::{Moment, RecordedSource, RecordedThread, Recording, Span};
+use crate::texts::Texts;
 use crate::{numbers, reading};
 use dap_debuggee::{Frame, Scope, Variable};
 use dap_json::List;
@@ -35,16 +36,16 @@ fn holder(
 /// A variable, whose children get their numbers before it.
 #[cycle(variables)]
 fn variable(
-    alloc: Global,
+    texts: &mut Texts,
     value: &Value,
     holders: &mut Vec<List<Variable>>,
 ) -> Result<Variable, RecordingFault>
     ensures { GivesWith result holders.new.items (variable_row (view value.now) holders.old.items) }
 {
     reading::element(value, RecordingKey::Variables)?;
-    let name = reading::text(alloc, value, RecordingKey::Name)?;
-    let text = reading::text(alloc, value, RecordingKey::Value)?;
-    let inner = children(alloc, value, holders)?;
+    let name = reading::text(texts, value, RecordingKey::Name)?;
+    let text = reading::text(texts, value, RecordingKey::Value)?;
+    let inner = children(texts, value, holders)?;
     let holder = holder(inner, holders)?;
     Ok(Variable {
         name,
@@ -56,21 +57,21 @@ fn variable(
 /// The variables at the key for them.
 #[cycle(variables)]
 fn children(
-    alloc: Global,
+    texts: &mut Texts,
     value: &Value,
     holders: &mut Vec<List<Variable>>,
 ) -> Result<Vec<Variable>, RecordingFault>
     ensures { GivesListWith result holders.new.items (read_variables (value_at key.Variables (view value.now)) holders.old.items) }
 {
     match value.get(RecordingKey::Variables.name()) {
-        None => Ok(Vec::new(alloc)),
-        Some(inner) => variables(alloc, inner, holders),
+        None => Ok(Vec::new(texts.alloc)),
+        Some(inner) => variables(texts, inner, holders),
     }
 }
 
 #[cycle(variables)]
 fn variables(
-    alloc: Global,
+    texts: &mut Texts,
     value: &Value,
     holders: &mut Vec<List<Variable>>,
 ) -> Result<Vec<Variable>, RecordingFault>
@@ -79,9 +80,9 @@ fn variables(
     let Some(items) = value.as_array() else {
         return Err(bad(RecordingKey::Variables));
     };
-    let mut found = Vec::new(alloc);
+    let mut found = Vec::with_capacity(texts.alloc, items.len())?;
     for item in items {
-        found.push(variable(alloc, item, holders)?)?;
+        found.push(variable(texts, item, holders)?)?;
     }
     Ok(found)
 }
@@ -90,30 +91,30 @@ fn variables(
 
 #[tactic(auto, unfolding(crate::specs::Reading::scope_of))]
 fn scope(
-    alloc: Global,
+    texts: &mut Texts,
     value: &Value,
     holders: &mut Vec<List<Variable>>,
 ) -> Result<Scope, RecordingFault>
     ensures { GivesWith result holders.new.items (scope_of (view value.now) holders.old.items) }
 {
     reading::element(value, RecordingKey::Scopes)?;
-    let name = reading::text(alloc, value, RecordingKey::Name)?;
-    let inner = children(alloc, value, holders)?;
+    let name = reading::text(texts, value, RecordingKey::Name)?;
+    let inner = children(texts, value, holders)?;
     let holder = holders.len() as u64;
     holders.push(List::new(inner))?;
     Ok(Scope { name, holder })
 }
 
 fn each_scope(
-    alloc: Global,
+    texts: &mut Texts,
     items: &[Value],
     holders: &mut Vec<List<Variable>>,
 ) -> Result<Vec<Scope>, RecordingFault>
     ensures { GivesListWith result holders.new.items (each (λ earlier. scope_of) (items_view items.now) [] holders.old.items) }
 {
-    let mut found = Vec::new(alloc);
+    let mut found = Vec::with_capacity(texts.alloc, items.len())?;
     for item in items {
-        found.push(scope(alloc, item, holders)?)?;
+        found.push(scope(texts, item, holders)?)?;
     }
     Ok(found)
 }
@@ -121,19 +122,19 @@ fn each_scope(
 /// The scopes of a frame, where it has some.
 #[tactic(auto, unfolding(crate::specs::Reading::scopes_of))]
 fn scopes(
-    alloc: Global,
+    texts: &mut Texts,
     value: &Value,
     holders: &mut Vec<List<Variable>>,
 ) -> Result<Vec<Scope>, RecordingFault>
     ensures { GivesListWith result holders.new.items (scopes_of (view value.now) holders.old.items) }
 {
     let items = reading::items_if_any(value, RecordingKey::Scopes)?;
-    each_scope(alloc, items, holders)
+    each_scope(texts, items, holders)
 }
 
 /// The scopes and the variables so far, by the numbers of their frames and their holders.
 #[derive(Drop)]
-struct Numbers {
+pub(crate) struct Numbers {
     scopes: Vec<List<Scope>>,
     variables: Vec<List<Variable>>,
 }
@@ -184,7 +185,7 @@ fn lines_of(sources: &[RecordedSource], place: u32) -> u64
 /// A frame, whose number is the count of those before it.
 #[tactic(auto, unfolding(crate::specs::Reading::frame_of))]
 fn frame(
-    alloc: Global,
+    texts: &mut Texts,
     sources: &[RecordedSource],
     value: &Value,
     numbers: &mut Numbers,
@@ -192,10 +193,10 @@ fn frame(
     ensures { GivesWith result numbers.new (frame_of sources.now (view value.now) numbers.old) }
 {
     reading::element(value, RecordingKey::Frames)?;
-    let name = reading::text(alloc, value, RecordingKey::Name)?;
+    let name = reading::text(texts, value, RecordingKey::Name)?;
     let source = source_place(sources, value)?;
     let line = line(lines_of(sources, source), value)?;
-    let scopes = scopes(alloc, value, &mut numbers.variables)?;
+    let scopes = scopes(texts, value, &mut numbers.variables)?;
     let object = numbers.scopes.len() as u64;
     numbers.scopes.push(List::new(scopes))?;
     Ok(Frame {
@@ -207,16 +208,16 @@ fn frame(
 }
 
 fn frames(
-    alloc: Global,
+    texts: &mut Texts,
     sources: &[RecordedSource],
     items: &[Value],
     numbers: &mut Numbers,
 ) -> Result<Vec<Frame>, RecordingFault>
     ensures { GivesListWith result numbers.new (each (λ earlier. frame_of sources.now) (items_view items.now) [] numbers.old) }
 {
-    let mut found = Vec::new(alloc);
+    let mut found = Vec::with_capacity(texts.alloc, items.len())?;
     for item in items {
-        found.push(frame(alloc, sources, item, numbers)?)?;
+        found.push(frame(texts, sources, item, numbers)?)?;
     }
     Ok(found)
 }
@@ -257,7 +258,7 @@ fn thread_place(threads: &[RecordedThread], value: &Value) -> Result<usize, Reco
 
 #[tactic(auto, unfolding(crate::specs::Reading::thread_of))]
 fn thread(
-    alloc: Global,
+    texts: &mut Texts,
     sources: &[RecordedSource],
     earlier: &ReadThreads,
     value: &Value,
@@ -267,9 +268,9 @@ fn thread(
 {
     reading::element(value, RecordingKey::Threads)?;
     let id = new_id(earlier, value)?;
-    let name = reading::text(alloc, value, RecordingKey::Name)?;
+    let name = reading::text(texts, value, RecordingKey::Name)?;
     let items = reading::some_items(value, RecordingKey::Frames)?;
-    let frames = frames(alloc, sources, items, numbers)?;
+    let frames = frames(texts, sources, items, numbers)?;
     Ok(RecordedThread {
         id,
         name,
@@ -278,16 +279,16 @@ fn thread(
 }
 
 fn threads(
-    alloc: Global,
+    texts: &mut Texts,
     sources: &[RecordedSource],
     items: &[Value],
     numbers: &mut Numbers,
 ) -> Result<Vec<RecordedThread>, RecordingFault>
     ensures { GivesListWith result numbers.new (each (thread_of sources.now) (items_view items.now) [] numbers.old) }
 {
-    let mut found = ReadThreads::new(alloc);
+    let mut found = ReadThreads::with_capacity(texts.alloc, items.len())?;
     for item in items {
-        let thread = thread(alloc, sources, &found, item, numbers)?;
+        let thread = thread(texts, sources, &found, item, numbers)?;
         found = found.with(thread)?;
     }
     Ok(found.into_vec())
@@ -296,8 +297,8 @@ fn threads(
 // ---- the whole
 
 #[tactic(auto, unfolding(crate::specs::Reading::moment_of))]
-fn moment(
-    alloc: Global,
+pub(crate) fn moment(
+    texts: &mut Texts,
     sources: &[RecordedSource],
     value: &Value,
     numbers: &mut Numbers,
@@ -308,7 +309,7 @@ fn moment(
     let items = reading::items(value, RecordingKey::Threads)?;
     let frames_from = numbers.scopes.len() as u64;
     let holders_from = numbers.variables.len() as u64;
-    let threads = threads(alloc, sources, items, numbers)?;
+    let threads = threads(texts, sources, items, numbers)?;
     let frames = Span {
         from: frames_from,
         to: numbers.scopes.len() as u64,
@@ -318,7 +319,7 @@ fn moment(
         to: numbers.variables.len() as u64,
     };
     let thread = thread_place(&threads, value)?;
-    let output = reading::text_or_empty(alloc, value, RecordingKey::Output)?;
+    let output = reading::text_or_empty(texts, value, RecordingKey::Output)?;
     let waits = reading::flag(value, RecordingKey::Waits)?;
     Ok(Moment {
         threads: List::new(threads),
@@ -332,28 +333,28 @@ fn moment(
 
 #[tactic(auto, unfolding(crate::specs::Reading::moments_of))]
 fn moments(
-    alloc: Global,
+    texts: &mut Texts,
     sources: &[RecordedSource],
     items: &[Value],
     numbers: &mut Numbers,
 ) -> Result<Vec<Moment>, RecordingFault>
     ensures { GivesListWith result numbers.new (moments_of sources.now (items_view items.now) numbers.old) }
 {
-    let mut found = Vec::new(alloc);
+    let mut found = Vec::with_capacity(texts.alloc, items.len())?;
     for item in items {
-        found.push(moment(alloc, sources, item, numbers)?)?;
+        found.push(moment(texts, sources, item, numbers)?)?;
     }
     Ok(found)
 }
 
 #[tactic(auto, unfolding(crate::specs::Reading::source_of))]
-fn source(alloc: Global, value: &Value) -> Result<RecordedSource, RecordingFault>
+fn source(texts: &mut Texts, value: &Value) -> Result<RecordedSource, RecordingFault>
     ensures { Gives result (source_of (view value.now)) }
 {
     reading::element(value, RecordingKey::Sources)?;
-    let name = reading::text(alloc, value, RecordingKey::Name)?;
-    let path = reading::optional_text(alloc, value, RecordingKey::Path)?;
-    let text = reading::text(alloc, value, RecordingKey::Text)?;
+    let name = reading::text(texts, value, RecordingKey::Name)?;
+    let path = reading::optional_text(texts, value, RecordingKey::Path)?;
+    let text = reading::text(texts, value, RecordingKey::Text)?;
     let on_disk = reading::flag(value, RecordingKey::OnDisk)?;
     let lines = numbers::line_count(text.as_str());
     Ok(RecordedSource {
@@ -365,12 +366,15 @@ fn source(alloc: Global, value: &Value) -> Result<RecordedSource, RecordingFault
     })
 }
 
-fn sources(alloc: Global, items: &[Value]) -> Result<Vec<RecordedSource>, RecordingFault>
+pub(crate) fn sources(
+    texts: &mut Texts,
+    items: &[Value],
+) -> Result<Vec<RecordedSource>, RecordingFault>
     ensures { GivesList result (each_source (items_view items.now) []) }
 {
-    let mut found = Vec::new(alloc);
+    let mut found = Vec::with_capacity(texts.alloc, items.len())?;
     for item in items {
-        found.push(source(alloc, item)?)?;
+        found.push(source(texts, item)?)?;
     }
     Ok(found)
 }
@@ -378,7 +382,7 @@ fn sources(alloc: Global, items: &[Value]) -> Result<Vec<RecordedSource>, Record
 impl Numbers {
     ghost use Rattle.dap_recording.specs.Reading.{Numbered};
 
-    fn new(alloc: Global) -> Numbers
+    pub(crate) fn new(alloc: Global) -> Numbers
         ensures { result ≡ record { scopes = []; variables = [] } }
     {
         Numbers {
@@ -387,7 +391,7 @@ impl Numbers {
         }
     }
 
-    fn into_recording(
+    pub(crate) fn into_recording(
         self,
         exit: i32,
         sources: Vec<RecordedSource>,
@@ -408,14 +412,14 @@ impl Numbers {
 
 /// The recording that an object is, or its first bad key.
 #[tactic(auto, unfolding(crate::specs::Reading::recording_of))]
-pub(crate) fn recording(alloc: Global, value: &Value) -> Result<Recording, RecordingFault>
+pub(crate) fn recording(texts: &mut Texts, value: &Value) -> Result<Recording, RecordingFault>
     ensures { Gives result (recording_of (view value.now)) }
 {
     let exit = reading::exit(value, RecordingKey::Exit)?;
     let items = reading::few_items(value, RecordingKey::Sources)?;
-    let sources = sources(alloc, items)?;
+    let sources = sources(texts, items)?;
     let items = reading::some_items(value, RecordingKey::Moments)?;
-    let mut numbers = Numbers::new(alloc);
-    let moments = moments(alloc, &sources, items, &mut numbers)?;
+    let mut numbers = Numbers::new(texts.alloc);
+    let moments = moments(texts, &sources, items, &mut numbers)?;
     Ok(numbers.into_recording(exit, sources, moments))
 }

@@ -19,7 +19,7 @@ variables-variable-requires t c =
 pub variables-returns-in_err-variable : goal.variables-returns-in_err-variable
 variables-returns-in_err-variable t c =
     let vs = c.deref-item-items.result.now in
-    let is : c.from_residual.result ≡ Err c.in_err-variable.field-0.0 = search rules in
+    let is : c.from_residual-in_err-variable.result ≡ Err c.in_err-variable.field-0.0 = search rules in
     let all : variables_of (view c.args.value.now) c.args.holders.now.items ≡ each_variable (items_view vs) [] c.args.holders.now.items =
     variables_in (view c.args.value.now) (items_view c.in-Some.items.now.items) c.args.holders.now.items c.in-Some.ensures ∙ ap (λ ws. each_variable (items_view ws) [] c.args.holders.now.items) (sym c.deref-item-items.ensures.value) in
     let next = next_variable vs c.loop-item.item-index c.item-item.result c.loop-item.found.items c.loop-item.holders.items c.loop-item-test.true c.item-item.is in

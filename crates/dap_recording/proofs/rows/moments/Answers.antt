@@ -6,7 +6,7 @@ use Rattle.dap_recording.proofs.rows.moments.Goals as goal
 pub returns-in_err-moment : goal.returns-in_err-moment
 unfolding moments_of
 returns-in_err-moment c =
-    let is : c.from_residual.result ≡ Err c.in_err-moment.field-0.0 = search rules in
+    let is : c.from_residual-in_err-moment.result ≡ Err c.in_err-moment.field-0.0 = search rules in
     rw is (refused_element (λ earlier. moment_of c.args.sources.now) c.args.items.now c.loop-item.item-index c.item-item.result c.loop-item.found.items c.loop-item.numbers c.moment.new.numbers c.args.numbers.now c.in_err-moment.field-0.0 c.loop-item-test.true c.item-item.is c.loop-item.invariant c.in_err-moment.ensures)
 
 pub loop-item-preserved : goal.loop-item-preserved
