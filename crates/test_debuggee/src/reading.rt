@@ -162,7 +162,49 @@ fn numbers_frames(rt: HostRuntime) {
     assert!(rt; other == "", "{other}");
 }
 
-static REFUSED: [(&[u8], RecordingFault); 8] = [
+/// A run of one moment. Its keys come in the usual order, in another one, again, with other keys between them, and escaped; of
+/// equal keys the last counts.
+static ORDERS: [&str; 5] = [
+    "{\"exit\":3,\"sources\":[{\"name\":\"a.c\",\"text\":\"one\\ntwo\\n\"}],\"moments\":[{\"thread\":1,\"output\":\"go\\n\",\"threads\":[{\"id\":1,\"name\":\"main\",\"frames\":[{\"name\":\"main\",\"source\":0,\"line\":2}]}]}]}",
+    "{\"moments\":[{\"thread\":1,\"output\":\"go\\n\",\"threads\":[{\"id\":1,\"name\":\"main\",\"frames\":[{\"name\":\"main\",\"source\":0,\"line\":2}]}]}],\"sources\":[{\"name\":\"a.c\",\"text\":\"one\\ntwo\\n\"}],\"exit\":3}",
+    "{\"exit\":9,\"sources\":[],\"x\":[{}],\"exit\":3,\"sources\":[{\"name\":\"a.c\",\"text\":\"one\\ntwo\\n\"}],\"moments\":[{}],\"moments\":[{\"thread\":1,\"output\":\"go\\n\",\"threads\":[{\"id\":1,\"name\":\"main\",\"frames\":[{\"name\":\"main\",\"source\":0,\"line\":2}]}]}]}",
+    "{\"sources\":[{\"name\":\"b.c\",\"text\":\"one\\ntwo\\n\"}],\"moments\":[{\"thread\":1,\"output\":\"go\\n\",\"threads\":[{\"id\":1,\"name\":\"main\",\"frames\":[{\"name\":\"main\",\"source\":0,\"line\":2}]}]}],\"sources\":[{\"name\":\"a.c\",\"text\":\"one\\ntwo\\n\"}],\"exit\":3}",
+    "{\"ex\\u0069t\":3,\"source\\u0073\":[{\"name\":\"a.c\",\"text\":\"one\\ntwo\\n\"}],\"mom\\u0065nts\":[{\"thread\":1,\"output\":\"go\\n\",\"threads\":[{\"id\":1,\"name\":\"main\",\"frames\":[{\"name\":\"ma\\u0069n\",\"source\":0,\"line\":2}]}]}]}",
+];
+
+/// In whatever order its keys come, it is the same run.
+#[test]
+fn reads_keys_in_any_order(rt: HostRuntime) {
+    for (place, recording) in ORDERS.iter().enumerate() {
+        assert!(rt;
+            is_moved(
+                rt.alloc(),
+                recording,
+                "start poll poll stepIn poll",
+                "done; stdout 3 go\n; entry 1 line 2; done; exited 3; "
+            ),
+            "row {place}"
+        );
+    }
+}
+
+static REFUSED: [(&[u8], RecordingFault); 11] = [
+    (
+        b"{\"moments\":[],\"sources\":[],\"exit\":0}",
+        RecordingFault::BadKey {
+            key: RecordingKey::Moments,
+        },
+    ),
+    (
+        b"{\"moments\":[],\"sources\":1}",
+        RecordingFault::BadKey {
+            key: RecordingKey::Exit,
+        },
+    ),
+    (
+        b"{\"exit\":0,\"sources\":[],\"moments\":[]}]",
+        RecordingFault::NotJson,
+    ),
     (b"\"\xff\"", RecordingFault::NotJson),
     (b"{", RecordingFault::NotJson),
     (b"", RecordingFault::NotJson),

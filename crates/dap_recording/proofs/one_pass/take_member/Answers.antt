@@ -14,5 +14,5 @@ returns c =
       got.0,
       got.1,
       λ found holds. passed name got.0 found c.args.seen.now (λ same. differ name (name_of key.Exit) no_exit (sym same)) (λ same. differ name (name_of key.Sources) no_sources (sym same))
-      (λ same. differ name (name_of key.Moments) no_moments (sym same)) holds,
+          (λ same. differ name (name_of key.Moments) no_moments (sym same)) holds,
     )
