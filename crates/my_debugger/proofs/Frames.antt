@@ -15,10 +15,10 @@ use Rattle.my_debugger.specs.ToyShown.{ToyState, line_of, frame_of, frames_from,
 -- ---- one more
 
 pub one_more : (number : ℕ) (calls : List Call) (call : Call) → frames_from number (calls ++ call ∷ []) ≡ frames_from number calls ++ frame_of (number + length calls) call ∷ []
-one_more number [] call = ap (λ n. frame_of n call ∷ []) (omega arith)
+one_more number [] call = let e : number ≡ number + 0 = omega arith in ap (λ n. frame_of n call ∷ []) e
 one_more number (c ∷ calls) call =
-    ap (λ rest. frame_of number c ∷ rest)
-    (one_more (number + 1) calls call ∙ ap (λ n. frames_from (number + 1) calls ++ frame_of n call ∷ []) (omega arith))
+    let e : (number + 1) + length calls ≡ number + length (c ∷ calls) = omega arith in
+    ap (λ rest. frame_of number c ∷ rest) (one_more (number + 1) calls call ∙ ap (λ n. frames_from (number + 1) calls ++ frame_of n call ∷ []) e)
 
 -- ---- numbers
 
@@ -53,8 +53,10 @@ names_one v s t fs gs i j f g of_s of_t at_f at_g same =
 
 line_in_range : (number : ℕ) (call : Call) → is_frame 1 (frame_of number call) ≡ true
 line_in_range number call =
-    and_from (nat_le 1 (line_of call)) (nat_le (line_of call) 2147483647 && nat_lt 0 1) (le-leb 1 (line_of call) (omega arith))
-    (and_from (nat_le (line_of call) 2147483647) (nat_lt 0 1) (le-leb (line_of call) 2147483647 (omega arith)) refl)
+    let low : 1 ≤ line_of call = omega arith in
+    let high : line_of call ≤ 2147483647 = omega arith in
+    and_from (nat_le 1 (line_of call)) (nat_le (line_of call) 2147483647 && nat_lt 0 1) (le-leb 1 (line_of call) low)
+    (and_from (nat_le (line_of call) 2147483647) (nat_lt 0 1) (le-leb (line_of call) 2147483647 high) refl)
 
 all_in_range : (number : ℕ) (calls : List Call) → list_all (is_frame 1) (frames_from number calls) ≡ true
 all_in_range number [] = refl
