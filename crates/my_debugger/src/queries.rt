@@ -4,20 +4,22 @@ ghost use Rattle.dap_debuggee.specs.Shown.{window as window_of};
 ghost use Rattle.my_debugger.specs.ToyShown.{main_thread, line_of, frames_from, scope_of, variable_of, the_source, has_line};
 
 use crate::call::{Call, Local};
-use crate::program::{LINES, NAME, PATH};
+use crate::program::{NAME, PATH};
 use dap_call::SourceKey;
 use dap_debuggee::{Frame, Scope, Source, Thread, Variable};
 use dap_json::Text;
 use std::alloc::{AllocError, Global};
 
 /// The only thread.
-pub(crate) fn main_thread(alloc: Global) -> Result<Thread, AllocError>
-    ensures { IfOk result (λ thread. thread ≡ main_thread) }
+pub(crate) fn threads(alloc: Global) -> Result<Vec<Thread>, AllocError>
+    ensures { IfOk result (λ threads. threads.items ≡ main_thread ∷ []) }
 {
-    Ok(Thread {
+    let mut threads = Vec::new(alloc);
+    threads.push(Thread {
         id: 1,
         name: Text::copied(alloc, "main")?,
-    })
+    })?;
+    Ok(threads)
 }
 
 /// The line that a call is at, counted from 1: at most 2147483647, the greatest one that there may be.
@@ -92,15 +94,17 @@ pub(crate) fn source(alloc: Global) -> Result<Source, AllocError>
     })
 }
 
-/// Whether that is the name of the source.
-fn is_ours(source: &SourceKey) -> bool {
+/// Whether a source has a line, counted from 1.
+fn has_line(source: &SourceKey, line: u32) -> bool
+    ensures { result ≡ has_line source.now line }
+{
     match source {
-        SourceKey::Path(path) => path.as_str() == PATH,
+        SourceKey::Path(path) => path.as_str() == PATH && (1 <= line && line <= 12),
         SourceKey::Reference(_) => false,
     }
 }
 
-/// Of each line, counted from 1, whether it is one of the program.
+/// Of each line, whether the source has it.
 pub(crate) fn verified(
     alloc: Global,
     source: &SourceKey,
@@ -108,10 +112,9 @@ pub(crate) fn verified(
 ) -> Result<Vec<bool>, AllocError>
     ensures { IfOk result (λ answers. answers.items ≡ map (has_line source.now) lines.now) }
 {
-    let ours = is_ours(source);
     let mut answers = Vec::with_capacity(alloc, lines.len())?;
     for line in lines {
-        answers.push(ours && 1 <= *line && *line <= 12)?;
+        answers.push(has_line(source, *line))?;
     }
     Ok(answers)
 }

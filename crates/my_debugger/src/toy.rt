@@ -71,8 +71,8 @@ fn until(how: How, calls: usize) -> Option<usize> {
 impl Toy {
     ghost use Rattle.std.specs.Prelude.{◌≡◌, IfOk, IsTrue, option_map};
     ghost use Rattle.dap_debuggee.specs.Shown.{to_resume, to_poll, happened};
-    ghost use Rattle.dap_debuggee.specs.Laws.{Replies, is_short};
-    ghost use Rattle.my_debugger.specs.ToyShown.{fresh_toy, calls_in};
+    ghost use Rattle.dap_debuggee.specs.Laws.{Replies, AnswersQuery, is_short};
+    ghost use Rattle.my_debugger.specs.ToyShown.{fresh_toy, calls_in, shown_toy};
     ghost use Rattle.my_debugger.specs.ToyActs.{HasRun, FollowsToy, last_of, noted};
 
     /// The program is not started.
@@ -101,23 +101,16 @@ impl Toy {
         self.last = Some(last);
     }
 
-    /// Whether a breakpoint is set at the line that the newest call is at.
-    fn is_at_breakpoint(&self) -> bool {
-        match self.stack.first() {
-            None => false,
-            Some(call) => self.set.of_path(PATH).contains(&queries::line(call)),
-        }
-    }
-
     /// Why the program is to stop where it is.
     fn reason_to_stop(&self) -> Option<Reason> {
         if self.run.pausing {
             return Some(Reason::Pause);
         }
+        let call = self.stack.first()?;
         if !self.run.moved {
             return None;
         }
-        if self.is_at_breakpoint() {
+        if self.set.of_path(PATH).contains(&queries::line(call)) {
             return Some(Reason::Breakpoint);
         }
         if self.stack.len() <= self.run.until {
@@ -130,10 +123,11 @@ impl Toy {
     fn go(&mut self, alloc: Global) -> Result<News, AllocError>
         ensures { IfOk result (λ news. HasRun self.old news self.new) }
     {
-        let news = match self.reason_to_stop() {
-            Some(reason) => News::Stopped(reason),
-            None => call::step(alloc, &mut self.stack)?,
-        };
+        if let Some(reason) = self.reason_to_stop() {
+            self.state = State::Stopped;
+            return Ok(News::Stopped(reason));
+        }
+        let news = call::step(alloc, &mut self.stack)?;
         self.run.moved = true;
         self.state = news.state();
         Ok(news)
@@ -195,6 +189,19 @@ impl Toy {
         match self.state {
             State::NotStarted | State::Running | State::Gone => None,
             State::Stopped => Some(self.stack.as_slice()),
+        }
+    }
+
+    /// The frames of a thread, in a stop.
+    fn frames_of(&self, alloc: Global, thread: i64) -> Result<Vec<Frame>, DebuggeeFault>
+        ensures { AnswersQuery result (λ frames. frames.items) ((shown_toy self.now).frames thread) }
+    {
+        if thread != 1 {
+            return Err(DebuggeeFault::Refused);
+        }
+        match self.shown_now() {
+            None => Err(DebuggeeFault::Refused),
+            Some(stack) => Ok(queries::frames(alloc, stack)?),
         }
     }
 }
@@ -284,25 +291,24 @@ impl Debuggee for Toy {
     }
 
     fn threads(&self, alloc: Global) -> Result<Vec<Thread>, AllocError> {
-        let mut threads = Vec::new(alloc);
         match self.state {
-            State::NotStarted | State::Gone => {}
-            State::Running | State::Stopped => threads.push(queries::main_thread(alloc)?)?,
+            State::NotStarted | State::Gone => Ok(Vec::new(alloc)),
+            State::Running | State::Stopped => queries::threads(alloc),
         }
-        Ok(threads)
     }
 
     fn frames(&self, alloc: Global, thread: i64) -> Result<Vec<Frame>, DebuggeeFault> {
-        match self.shown_now() {
-            Some(stack) if thread == 1 => Ok(queries::frames(alloc, stack)?),
-            _ => Err(DebuggeeFault::Refused),
-        }
+        self.frames_of(alloc, thread)
     }
 
     fn scopes(&self, alloc: Global, frame: u64) -> Result<Vec<Scope>, DebuggeeFault> {
-        match self.shown_now() {
-            Some(stack) if frame < stack.len() as u64 => Ok(queries::scopes(alloc, frame)?),
-            _ => Err(DebuggeeFault::Refused),
+        let Some(stack) = self.shown_now() else {
+            return Err(DebuggeeFault::Refused);
+        };
+        if frame < stack.len() as u64 {
+            Ok(queries::scopes(alloc, frame)?)
+        } else {
+            Err(DebuggeeFault::Refused)
         }
     }
 
