@@ -1,24 +1,38 @@
 -- The frames that are shown: one more, their numbers and their lines; and the part of the variables that is asked for.
-use Rattle.std.proofs.Common.{◌≡◌, ℕ, zero, suc, ◌+◌, ◌≤◌, ◌&&◌, ℤ, pos, Bool, true, false, if◌then◌else◌, nat_le, nat_lt, min, List, [], ◌∷◌, ◌++◌, length, map, take, drop, Option, Some, None, option_map, refl, sym, ap, subst, ◌∙◌, arith}
+use Rattle.std.proofs.Common.{◌≡◌, ℕ, zero, suc, ◌+◌, ◌<◌, ◌≤◌, ◌&&◌, ℤ, pos, Bool, true, false, if◌then◌else◌, nat_le, nat_lt, min, List, [], ◌∷◌, ◌++◌, length, map, take, drop, get_or, Option, Some, None, option_map, refl, sym, ap, subst, ◌∙◌, arith}
 use Rattle.std.proofs.lemmas.Bool.{and_from, le-leb}
 use Rattle.std.proofs.lemmas.Bool.Decides.{Decides-int_eq}
-use Rattle.std.proofs.lemmas.List.{take-map, drop-map}
+use Rattle.std.proofs.lemmas.List.{take-map, drop-map, take_more, length-take}
 use Rattle.std.specs.List.{list_all, slice_get}
 use Rattle.std.specs.Ordering.{int_eq}
 use Rattle.dap_debuggee.specs.Laws.{is_frame, FramesInRange, NamesOneFrame}
 use Rattle.dap_debuggee.specs.Shown.{window}
 use Rattle.dap_debuggee.specs.declared.answers.Frame.{Frame}
+use Rattle.dap_debuggee.specs.declared.answers.Variable.{Variable}
 use Rattle.my_debugger.specs.declared.call.Call.{Call}
 use Rattle.my_debugger.specs.declared.call.Local.{Local}
 use Rattle.my_debugger.specs.ToyShown.{ToyState, line_of, frame_of, frames_from, variable_of, calls_in, shown_toy}
 
 -- ---- one more
 
-pub one_more : (number : ℕ) (calls : List Call) (call : Call) → frames_from number (calls ++ call ∷ []) ≡ frames_from number calls ++ frame_of (number + length calls) call ∷ []
+one_more : (number : ℕ) (calls : List Call) (call : Call) → frames_from number (calls ++ call ∷ []) ≡ frames_from number calls ++ frame_of (number + length calls) call ∷ []
 one_more number [] call = let e : number ≡ number + 0 = omega arith in ap (λ n. frame_of n call ∷ []) e
 one_more number (c ∷ calls) call =
     let e : (number + 1) + length calls ≡ number + length (c ∷ calls) = omega arith in
     ap (λ rest. frame_of number c ∷ rest) (one_more (number + 1) calls call ∙ ap (λ n. frames_from (number + 1) calls ++ frame_of n call ∷ []) e)
+
+pub next_frame : (calls : List Call) (i : ℕ) (call : Call) (name : List ℕ) (line : ℕ) (frames more : List Frame) → i < length calls → call ≡ get_or calls i call → name ≡ call.name → line ≡ line_of call
+    → frames ≡ frames_from 0 (take i calls) → more ≡ frames ++ record { object = i; name = name; source = 0; line = line } ∷ [] → more ≡ frames_from 0 (take (i + 1) calls)
+next_frame calls i call name line frames more within at named lined so_far is =
+    let number : i ≡ 0 + length (take i calls) = omega (arith, length-take i calls) in
+    let taken : take (i + 1) calls ≡ take i calls ++ call ∷ [] = take_more calls i call within ∙ ap (λ c. take i calls ++ c ∷ []) (sym at) in
+    is
+    ∙ ap (λ fs. fs ++ record { object = i; name = name; source = 0; line = line } ∷ []) so_far
+    ∙ ap (λ t. frames_from 0 (take i calls) ++ record { object = i; name = t; source = 0; line = line } ∷ []) named
+    ∙ ap (λ l. frames_from 0 (take i calls) ++ record { object = i; name = call.name; source = 0; line = l } ∷ []) lined
+    ∙ ap (λ n. frames_from 0 (take i calls) ++ frame_of n call ∷ []) number
+    ∙ sym (one_more 0 (take i calls) call)
+    ∙ ap (λ cs. frames_from 0 cs) (sym taken)
 
 -- ---- numbers
 
@@ -76,5 +90,11 @@ part_if : (b : Bool) (start count : ℕ) (locals : List Local) → map variable_
 part_if true start count locals = sym (ap (λ xs. take count xs) (drop-map variable_of start locals) ∙ take-map variable_of count (drop start locals))
 part_if false start count locals = sym (drop-map variable_of start locals)
 
-pub part_of_variables : (start count : ℕ) (locals : List Local) → map variable_of (window start count locals) ≡ window start count (map variable_of locals)
+part_of_variables : (start count : ℕ) (locals : List Local) → map variable_of (window start count locals) ≡ window start count (map variable_of locals)
 part_of_variables start count locals = part_if (nat_lt 0 count) start count locals
+
+pub part_told : (told : Option (List Local)) (start count : ℕ) (locals part : List Local) (items : List Variable) → Some locals ≡ told → part ≡ window start count locals → items ≡ map variable_of part
+    → option_map (window start count) (option_map (λ ls. map variable_of ls) told) ≡ Some items
+part_told told start count locals part items is cut each =
+    ap (λ o. option_map (window start count) (option_map (λ ls. map variable_of ls) o)) (sym is)
+    ∙ ap (λ vs. Some vs) (sym (part_of_variables start count locals) ∙ ap (λ ls. map variable_of ls) (sym cut) ∙ sym each)

@@ -17,7 +17,7 @@ use Rattle.dap_debuggee.specs.declared.answers.Source.{Source}
 use Rattle.dap_tables.specs.SourceMap.{OfSource, set_of}
 use Rattle.my_debugger.specs.declared.call.Call.{Call}
 use Rattle.my_debugger.specs.declared.call.Local.{Local}
-use Rattle.my_debugger.specs.declared.TheConstants.{NAME, PATH, TEXT}
+use Rattle.my_debugger.specs.declared.program.TheConstants.{NAME, PATH, TEXT}
 
 -- ---- the view
 
@@ -85,9 +85,13 @@ abbrev pub scopes_in : Option (List Call) → ℕ → Option (List Scope)
 scopes_in None frame = None
 scopes_in (Some stack) frame = if nat_lt frame (length stack) then Some (scope_of frame ∷ []) else None
 
+-- of a call, by its place
+abbrev pub locals_in : Option (List Call) → ℕ → Option (List Local)
+locals_in None holder = None
+locals_in (Some stack) holder = option_map (λ call. call.locals) (slice_get stack holder)
+
 abbrev pub children_in : Option (List Call) → ℕ → Option (List Variable)
-children_in None holder = None
-children_in (Some stack) holder = option_map (λ call. map variable_of call.locals) (slice_get stack holder)
+children_in calls holder = option_map (λ locals. map variable_of locals) (locals_in calls holder)
 
 abbrev pub the_source : Source
 the_source = record { name = NAME.now; path = Some PATH.now; on_disk = false }

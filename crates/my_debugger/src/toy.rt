@@ -1,6 +1,6 @@
 //! The debugger: what it does when it is asked, and what it shows.
 
-use crate::call::Call;
+use crate::call::{Call, Local};
 use crate::news::{LastAct, News, Reason};
 use crate::program::{PATH, TEXT};
 use crate::{call, queries};
@@ -72,7 +72,7 @@ impl Toy {
     ghost use Rattle.std.specs.Prelude.{◌≡◌, IfOk, IsTrue, option_map};
     ghost use Rattle.dap_debuggee.specs.Shown.{to_resume, to_poll, happened};
     ghost use Rattle.dap_debuggee.specs.Laws.{Replies, AnswersQuery, is_short};
-    ghost use Rattle.my_debugger.specs.ToyShown.{fresh_toy, calls_in, shown_toy};
+    ghost use Rattle.my_debugger.specs.ToyShown.{fresh_toy, calls_in, locals_in, shown_toy};
     ghost use Rattle.my_debugger.specs.ToyActs.{HasRun, FollowsToy, last_of, noted};
 
     /// The program is not started.
@@ -190,6 +190,14 @@ impl Toy {
             State::NotStarted | State::Running | State::Gone => None,
             State::Stopped => Some(self.stack.as_slice()),
         }
+    }
+
+    /// The variables of a call, in a stop.
+    fn locals_of(&self, holder: u64) -> Option<&[Local]>
+        ensures { option_map (λ locals. locals.now) result ≡ locals_in (calls_in self.now.state self.now.stack) holder }
+    {
+        let call = self.shown_now()?.get(holder as usize)?;
+        Some(call.locals.as_slice())
     }
 
     /// The frames of a thread, in a stop.
@@ -319,13 +327,10 @@ impl Debuggee for Toy {
         start: u32,
         count: u32,
     ) -> Result<Vec<Variable>, DebuggeeFault> {
-        let Some(stack) = self.shown_now() else {
-            return Err(DebuggeeFault::Refused);
-        };
-        match stack.get(holder as usize) {
+        match self.locals_of(holder) {
             None => Err(DebuggeeFault::Refused),
-            Some(call) => {
-                let part = queries::window(call.locals.as_slice(), start as usize, count as usize);
+            Some(locals) => {
+                let part = queries::window(locals, start as usize, count as usize);
                 Ok(queries::variables(alloc, part)?)
             }
         }
