@@ -1,10 +1,9 @@
 -- A poll of a program that runs keeps to what the laws ask of it, whatever came of running.
-use Rattle.std.proofs.Common.{◌≡◌, ℕ, ◌+◌, ◌%◌, ◌^◌, ◌<◌, ◌≤◌, true, false, nat_le, List, [], ◌∷◌, ◌++◌, length, decimal, IsTrue, refl, sym, ap, ◌∙◌, true≢false, arith, length-append}
+use Rattle.std.proofs.Common.{◌≡◌, ℕ, ◌+◌, ◌%◌, ◌^◌, ◌<◌, ◌≤◌, true, nat_le, List, [], ◌∷◌, ◌++◌, length, decimal, IsTrue, refl, sym, ap, ◌∙◌, true≢false, arith, length-append}
 use Rattle.std.proofs.lemmas.Bool.{le-leb}
 use Rattle.std.proofs.lemmas.Fmt.{length-decimal-le}
 use Rattle.dap_debuggee.specs.Shown.{to_poll, happened}
 use Rattle.dap_debuggee.specs.Laws.{may_answer, state_after, keeps_frames}
-use Rattle.dap_debuggee.specs.declared.answers.State.{State}
 use Rattle.dap_debuggee.specs.declared.answers.State.TheVariants.{Running}
 use Rattle.my_debugger.specs.declared.news.News.{News}
 use Rattle.my_debugger.specs.declared.news.News.TheVariants as news

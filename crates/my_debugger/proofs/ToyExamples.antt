@@ -1,16 +1,15 @@
 -- Worked examples of what the debugger shows, tells and keeps, each shown by computation.
-use Rattle.std.proofs.Common.{◌≡◌, ℕ, List, [], ◌∷◌, codes, true, false, Option, None, Some, ℤ, pos, refl}
+use Rattle.std.proofs.Common.{◌≡◌, List, [], ◌∷◌, codes, true, false, Option, None, Some, pos, refl}
 use Rattle.dap_call.specs.declared.call.SourceKey.TheVariants.{Path, Reference}
-use Rattle.dap_debuggee.specs.Shown.{window, to_start, to_resume, to_pause, to_poll, to_set_breakpoints, to_assign, to_end}
+use Rattle.dap_debuggee.specs.Shown.{to_poll, to_set_breakpoints, to_assign, to_end}
 use Rattle.dap_debuggee.specs.Laws.{is_short}
 use Rattle.dap_debuggee.specs.declared.answers.State.TheVariants.{NotStarted, Running, Stopped, Gone}
-use Rattle.dap_debuggee.specs.declared.answers.Category.TheVariants.{Stdout}
 use Rattle.dap_debuggee.specs.declared.answers.Happening.TheVariants as happening
 use Rattle.my_debugger.specs.declared.call.Call.{Call}
 use Rattle.my_debugger.specs.declared.call.Local.{Local}
 use Rattle.my_debugger.specs.declared.news.News.TheVariants as news
 use Rattle.my_debugger.specs.declared.news.Reason.TheVariants.{Breakpoint, Step}
-use Rattle.my_debugger.specs.ToyShown.{ToyState, fresh_toy, frame_of, frames_from, line_of, variable_of, main_thread, threads_in, calls_in, frames_in, scopes_in, scope_of, children_in, has_line, shown_toy}
+use Rattle.my_debugger.specs.ToyShown.{fresh_toy, frame_of, frames_from, line_of, variable_of, main_thread, threads_in, calls_in, frames_in, scopes_in, scope_of, children_in, has_line, shown_toy}
 use Rattle.my_debugger.specs.ToyActs.{happening_of, state_by, is_possible, set_after}
 
 abbrev x_is_20 : Local

@@ -1,7 +1,6 @@
 -- What an act does to the debugger, and what comes of running.
-use Rattle.std.specs.Prelude.{◌≡◌, ℕ, ◌+◌, ◌%◌, ◌^◌, pos, Bool, true, false, decimal, codes, List, [], ◌∷◌, ◌++◌, Option, Some, IsTrue}
-use Rattle.dap_call.specs.declared.call.SourceKey.{SourceKey}
-use Rattle.dap_debuggee.specs.Shown.{Act, to_start, to_resume, to_pause, to_poll, to_set_breakpoints, to_assign, to_end, Reply, done, refused, happened, asked_of_act, Last}
+use Rattle.std.specs.Prelude.{◌≡◌, ℕ, ◌+◌, ◌%◌, ◌^◌, pos, Bool, true, false, decimal, codes, List, [], ◌∷◌, ◌++◌, Some, IsTrue}
+use Rattle.dap_debuggee.specs.Shown.{Act, to_set_breakpoints, to_assign, Reply, done, refused, happened, asked_of_act, Last}
 use Rattle.dap_debuggee.specs.Laws.{may_answer, state_after, keeps_frames}
 use Rattle.dap_debuggee.specs.declared.answers.Asked.TheVariants.{Poll}
 use Rattle.dap_debuggee.specs.declared.answers.Category.TheVariants.{Stdout}

@@ -1,5 +1,5 @@
 -- The debugger keeps each law of a debuggee.
-use Rattle.std.proofs.Common.{◌≡◌, ℕ, true, false, List, [], Option, Some, None, IsTrue, length, map, refl, sym, ap, ◌∙◌, true≢false}
+use Rattle.std.proofs.Common.{◌≡◌, ℕ, List, [], IsTrue, length, refl, sym, ap, ◌∙◌, true≢false}
 use Rattle.std.specs.Prelude.{unwrap_or}
 use Rattle.std.proofs.lemmas.List.{length-map}
 use Rattle.dap_call.specs.declared.call.SourceKey.{SourceKey}
@@ -7,7 +7,7 @@ use Rattle.dap_debuggee.specs.Shown.{Act, to_start, to_resume, to_pause, to_poll
 use Rattle.dap_debuggee.specs.Laws.{lines_after, keeps_answers, keeps_frames, Counts, Remembers, Answers, Moves, SetsLines, SetsValues, KeepsAnswers, KeepsFrames, KeepsSources, NoThreads, VerifiesEach, AssignsVariables}
 use Rattle.dap_tables.specs.SourceMap.{OfSource, set_of}
 use Rattle.dap_tables.specs.SourceMapLaws.{set-of-put}
-use Rattle.my_debugger.specs.ToyShown.{ToyState, shown_toy, threads_in, frames_in, scopes_in, children_in, has_line}
+use Rattle.my_debugger.specs.ToyShown.{shown_toy, threads_in, frames_in, scopes_in, children_in, has_line}
 use Rattle.my_debugger.specs.ToyActs.{FollowsToy, set_after}
 
 -- ---- those that a step says itself

@@ -1,4 +1,4 @@
-use Rattle.std.proofs.Common.{◌<◌, length, arith, rules}
+use Rattle.std.proofs.Common.{arith, rules}
 use Rattle.my_debugger.proofs.Frames.{next_frame}
 use Rattle.my_debugger.proofs.queries.frames.Goals as goal
 

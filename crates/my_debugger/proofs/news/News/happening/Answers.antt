@@ -1,4 +1,4 @@
-use Rattle.std.proofs.Common.{◌<◌, ◌^◌, ◌∙◌, arith}
+use Rattle.std.proofs.Common.{◌∙◌, arith}
 use Rattle.my_debugger.proofs.Polls.{short_line}
 use Rattle.my_debugger.proofs.news.News.happening.Goals as goal
 
