@@ -7,7 +7,7 @@ use Rattle.dap_debuggee.specs.Shown.{Act, to_start, to_resume, to_pause, to_poll
 use Rattle.dap_debuggee.specs.Laws.{lines_after, keeps_answers, keeps_frames, Counts, Remembers, Answers, Moves, SetsLines, SetsValues, KeepsAnswers, KeepsFrames, KeepsSources, NoThreads, VerifiesEach, AssignsVariables}
 use Rattle.dap_tables.specs.SourceMap.{OfSource, set_of}
 use Rattle.dap_tables.specs.SourceMapLaws.{set-of-put}
-use Rattle.my_debugger.specs.ToyShown.{shown_toy, threads_in, frames_in, scopes_in, children_in, has_line}
+use Rattle.my_debugger.specs.ToyShown.{shown_toy, threads_in, frames_in, scopes_in, children_in, evaluation_in, has_line}
 use Rattle.my_debugger.specs.ToyActs.{FollowsToy, set_after}
 
 -- ---- those that a step says itself
@@ -67,7 +67,7 @@ pub keeps_answers-toy : KeepsAnswers shown_toy FollowsToy
 keeps_answers-toy v w a r f keeps = record {
   threads = ap threads_in (f.stays (keeps_too a r keeps)).state;
   frames = keeps_frames-toy v w a r f (keeps_too a r keeps);
-  evaluate = λ frame text. refl;
+  evaluate = λ frame text. ap (λ calls. evaluation_in calls frame text) (f.stays (keeps_too a r keeps)).calls;
   assigned = λ holder name text. refl;
   sources = keeps_sources-toy v w a r f;
   verify = λ source lines. refl;

@@ -1,7 +1,7 @@
 -- What the debugger is seen as, and what it shows: nothing but its thread while the program runs, and the calls of a stop with their variables.
 -- This example's choice.
-use Rattle.std.specs.Prelude.{ℕ, ◌+◌, ℤ, pos, Bool, false, ◌&&◌, nat_le, nat_lt, nat_eq, min, decimal, codes, List, [], ◌∷◌, length, map, Option, Some, None, option_map, if◌then◌else◌}
-use Rattle.std.specs.List.{slice_get}
+use Rattle.std.specs.Prelude.{ℕ, ◌+◌, ℤ, pos, Bool, false, ◌&&◌, nat_le, nat_lt, nat_eq, min, decimal, codes, List, [], ◌∷◌, length, map, Option, Some, None, option_map, option_and_then, bytes_eq, if◌then◌else◌}
+use Rattle.std.specs.List.{slice_get, find}
 use Rattle.std.specs.Ordering.{int_eq}
 use Rattle.dap_call.specs.SameSource.{is_source}
 use Rattle.dap_call.specs.declared.call.SourceKey.{SourceKey}
@@ -13,6 +13,7 @@ use Rattle.dap_debuggee.specs.declared.answers.Thread.{Thread}
 use Rattle.dap_debuggee.specs.declared.answers.Frame.{Frame}
 use Rattle.dap_debuggee.specs.declared.answers.Scope.{Scope}
 use Rattle.dap_debuggee.specs.declared.answers.Variable.{Variable}
+use Rattle.dap_debuggee.specs.declared.answers.Evaluation.{Evaluation}
 use Rattle.dap_debuggee.specs.declared.answers.Source.{Source}
 use Rattle.dap_tables.specs.SourceMap.{OfSource, set_of}
 use Rattle.my_debugger.specs.declared.call.Call.{Call}
@@ -93,6 +94,14 @@ locals_in (Some stack) holder = option_map (λ call. call.locals) (slice_get sta
 abbrev pub children_in : Option (List Call) → ℕ → Option (List Variable)
 children_in calls holder = option_map (λ locals. map variable_of locals) (locals_in calls holder)
 
+abbrev pub local_named : List ℕ → List Local → Option Local
+local_named name locals = find (λ local. bytes_eq name local.name) locals
+
+-- the value of a variable, by its name, in a frame
+abbrev pub evaluation_in : Option (List Call) → Option ℕ → List ℕ → Option Evaluation
+evaluation_in calls None text = None
+evaluation_in calls (Some frame) text = option_map (λ local. record { value = decimal local.value; holder = None }) (option_and_then (λ locals. local_named text locals) (locals_in calls frame))
+
 abbrev pub the_source : Source
 the_source = record { name = NAME.now; path = Some PATH.now; on_disk = false }
 
@@ -110,7 +119,7 @@ shown_toy v = record {
   frames = frames_in (calls_in v.state v.stack);
   scopes = scopes_in (calls_in v.state v.stack);
   children = children_in (calls_in v.state v.stack);
-  evaluate = λ frame text. None;
+  evaluate = evaluation_in (calls_in v.state v.stack);
   assigned = λ holder name text. None;
   sources = the_source ∷ [];
   content = λ index. if nat_eq index 0 then Some TEXT.now else None;

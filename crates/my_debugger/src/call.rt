@@ -2,6 +2,7 @@
 
 use crate::news::News;
 use crate::program::{Instruction, LINES};
+use crate::queries;
 use dap_json::Text;
 use std::alloc::{AllocError, Global};
 use std::marker::Model;
@@ -42,7 +43,7 @@ impl Locals {
 
     /// The value of a variable, 0 where it was not set.
     fn value(&self, name: &str) -> u32 {
-        match self.items.iter().find(|local| local.name.as_str() == name) {
+        match queries::named(self.as_slice(), name) {
             None => 0,
             Some(local) => local.value,
         }

@@ -1,7 +1,7 @@
 //! What is shown of a program: its calls as frames and variables, and its source.
-ghost use Rattle.std.specs.Prelude.{◌≡◌, [], ◌∷◌, IfOk, map};
+ghost use Rattle.std.specs.Prelude.{◌≡◌, [], ◌∷◌, IfOk, map, option_map};
 ghost use Rattle.dap_debuggee.specs.Shown.{window as window_of};
-ghost use Rattle.my_debugger.specs.ToyShown.{main_thread, line_of, frames_from, scope_of, variable_of, the_source, has_line};
+ghost use Rattle.my_debugger.specs.ToyShown.{main_thread, line_of, frames_from, scope_of, local_named, variable_of, the_source, has_line};
 
 use crate::call::{Call, Local};
 use crate::program::{NAME, PATH};
@@ -55,6 +55,18 @@ pub(crate) fn scopes(alloc: Global, frame: u64) -> Result<Vec<Scope>, AllocError
         holder: frame,
     })?;
     Ok(scopes)
+}
+
+/// The variable of a name.
+pub(crate) fn named<'l>(locals: &'l [Local], name: &str) -> Option<&'l Local>
+    ensures { option_map (λ local. local.now) result ≡ local_named name.now locals.now }
+{
+    for local in locals {
+        if name == local.name.as_str() {
+            return Some(local);
+        }
+    }
+    None
 }
 
 /// From the place `start` on, counted from 0, at most `count` of them where `count` is above 0.

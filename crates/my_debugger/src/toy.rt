@@ -338,11 +338,23 @@ impl Debuggee for Toy {
 
     fn evaluate(
         &self,
-        _alloc: Global,
-        _frame: Option<u64>,
-        _text: &str,
+        alloc: Global,
+        frame: Option<u64>,
+        text: &str,
     ) -> Result<Evaluation, DebuggeeFault> {
-        Err(DebuggeeFault::Refused)
+        let Some(frame) = frame else {
+            return Err(DebuggeeFault::Refused);
+        };
+        let Some(locals) = self.locals_of(frame) else {
+            return Err(DebuggeeFault::Refused);
+        };
+        match queries::named(locals, text) {
+            None => Err(DebuggeeFault::Refused),
+            Some(local) => Ok(Evaluation {
+                value: Text::new(local.value.to_string(alloc)?),
+                holder: None,
+            }),
+        }
     }
 
     fn assigned(
