@@ -215,6 +215,9 @@ impl Toy {
 }
 
 impl Debuggee for Toy {
+    ghost use Rattle.std.specs.Prelude.{OnOk, OnErr};
+    ghost use Rattle.dap_debuggee.specs.Shown.{to_assign, done};
+    ghost use Rattle.dap_debuggee.specs.Laws.{Stands};
     ghost use Rattle.my_debugger.specs.ToyShown.{shown_toy};
     ghost use Rattle.my_debugger.specs.ToyActs.{FollowsToy};
     ghost use Rattle.my_debugger.specs.ToyLaws.{counts-toy, remembers-toy, answers-toy, moves-toy, sets_lines-toy, sets_values-toy, keeps_answers-toy, keeps_frames-toy, keeps_sources-toy, no_threads-toy, verifies_each-toy, assigns_variables-toy};
@@ -283,14 +286,18 @@ impl Debuggee for Toy {
         Ok(())
     }
 
+    // No value is ever set, so this is never asked. It asks nothing of its caller, since none could meet the trait's clause.
     fn assign(
         &mut self,
         _alloc: Global,
         _holder: u64,
         _name: &str,
         _text: &str,
-    ) -> Result<(), AllocError> {
-        unreachable!()
+    ) -> Result<(), AllocError>
+        ensures follows { OnOk result (FollowsToy self.old (to_assign _holder _name.now _text.now) done self.new) }
+        ensures memory { OnErr result (Stands (shown_toy self.old) (shown_toy self.new)) }
+    {
+        Err(AllocError)
     }
 
     fn end(&mut self) {
