@@ -1,0 +1,3 @@
+pub mod ToyShown
+pub mod ToyActs
+pub mod ToyLaws
