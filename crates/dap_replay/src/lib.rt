@@ -15,6 +15,7 @@ mod read;
 mod recorded;
 mod run;
 mod set_lines;
+pub mod variables;
 
 pub use dap_json::List;
 pub use laws::{
