@@ -1,5 +1,6 @@
 -- Worked examples of what a host's debuggee drops, answers and shows, each shown by computation.
-use Rattle.std.proofs.Common.{◌≡◌, List, ℕ, [], ◌∷◌, codes, replicate, Bool, true, false, Option, None, Some, pos, refl, inl, inr}
+use Rattle.std.proofs.Common.{◌≡◌, List, ℕ, [], ◌∷◌, codes, length, replicate, Bool, true, false, Option, None, Some, pos, refl, inl, inr}
+use Rattle.dap_call.specs.declared.call.SourceKey.TheVariants.{Reference}
 use Rattle.dap_debuggee.specs.Shown.{to_start, to_resume, to_pause, to_poll, to_assign, done, refused, happened}
 use Rattle.dap_debuggee.specs.declared.answers.State.TheVariants.{NotStarted, Running, Stopped, Gone}
 use Rattle.dap_debuggee.specs.declared.answers.How.TheVariants.{Next}
@@ -9,12 +10,12 @@ use Rattle.dap_debuggee.specs.declared.answers.Happening.TheVariants as happenin
 use Rattle.dap_live.specs.declared.held.Learned.{Learned}
 use Rattle.dap_debuggee.specs.declared.answers.Variable.{Variable}
 use Rattle.dap_debuggee.specs.Laws.{with_value}
-use Rattle.dap_replay.specs.Played.{Played, fresh_played}
+use Rattle.dap_replay.specs.Played.{Played, fresh_played, shown_of, with_sources_of}
 use Rattle.dap_live.specs.declared.here.Here.{Here}
 use Rattle.dap_live.specs.declared.mail.Dropped.TheVariants.{OutOfTurn, OutOfRange, Told, TooManyHolders}
 use Rattle.dap_live.specs.Dropping.{why_dropped, why_not_more, why_untold, heard}
 use Rattle.dap_live.specs.LiveShown.{LiveState, fresh_live, told_of, value_told, evaluated, evaluation_in, threads_in, now_shown, children_in, assigned_by}
-use Rattle.dap_live.specs.LiveLaws.{reply_in, with_told, ShowsAfter, keeps_learned}
+use Rattle.dap_live.specs.LiveLaws.{reply_in, with_told, ShowsAfter, SourcesAfter, keeps_learned}
 
 abbrev wrote : List ℕ → Happening
 wrote text = happening.Output Stdout text
@@ -134,3 +135,21 @@ exit_shows = refl
 
 nine_set : ShowsAfter (at_stop true) (to_assign 1 (codes "x") (codes "9")) done (with_told 1 (one (codes "9")) (shows true))
 nine_set = record { value = codes "9"; told = refl; variables = one (codes "1"); shown = refl; there = refl; here = refl }
+
+-- ---- sources that come later
+
+-- of the recording above, once more
+abbrev more : Played
+more = with_sources_of recorded recorded
+
+places : (length (shown_of more).sources ≡ 2) × ((shown_of more).content 1 ≡ Some (codes "x")) × ((shown_of more).content 2 ≡ None) × ((shown_of more).verify (Reference 2) (1 ∷ 2 ∷ []) ≡ Some (true ∷ false ∷ [])) × ((shown_of recorded).verify (Reference 2) (1 ∷ []) ≡ Some (false ∷ []))
+places = (refl, refl, refl, refl, refl)
+
+sources_told : SourcesAfter recorded to_poll (happened happening.Nothing) more
+sources_told = inr (record { more = recorded; base = refl })
+
+no_sources_told : SourcesAfter recorded to_poll (happened happening.Nothing) recorded
+no_sources_told = inl refl
+
+exit_has_the_same : SourcesAfter recorded to_poll (happened (happening.Exited (pos 0))) recorded
+exit_has_the_same = refl

@@ -2,10 +2,11 @@
 use Rattle.std.proofs.Common.{◌≡◌, ◌⊎◌, ℕ, ℤ, ◌+◌, ◌%◌, ◌^◌, Bool, true, false, nat_eq, List, [], length, Option, Some, None, option_map, IsTrue, if◌then◌else◌, refl, sym, ap, subst, ◌∙◌, inl, inr, true≢false}
 use Rattle.std.proofs.lemmas.Bool.{eqb-true}
 use Rattle.std.specs.Prelude.{option_and_then}
+use Rattle.std.specs.List.{slice_get}
 use Rattle.std.specs.Option.{IsSome}
 use Rattle.dap_call.specs.declared.call.SourceKey.{SourceKey}
 use Rattle.dap_debuggee.specs.Shown.{Act, to_start, to_resume, to_pause, to_poll, to_set_breakpoints, to_assign, to_end, Reply, done, refused, happened, asked_of_act, Last}
-use Rattle.dap_debuggee.specs.Laws.{may_answer, state_after, lines_after, keeps_answers, keeps_frames, variable_named, with_value, children_after, Stays, Counts, Remembers, Answers, Moves, SetsLines, SetsValues, KeepsAnswers, KeepsFrames, KeepsSources, FramesStay, SameFrames, SameSources, NoThreads, VerifiesEach, AssignsVariables}
+use Rattle.dap_debuggee.specs.Laws.{may_answer, state_after, lines_after, keeps_answers, keeps_frames, variable_named, with_value, children_after, Stays, Counts, Remembers, Answers, Moves, SetsLines, SetsValues, KeepsAnswers, KeepsFrames, KeepsSources, FramesStay, SourcesStay, SameFrames, SameSources, NoThreads, VerifiesEach, AssignsVariables}
 use Rattle.dap_debuggee.specs.StayLaws.{frames-stay, sources-stay}
 use Rattle.dap_debuggee.specs.declared.answers.State.{State}
 use Rattle.dap_debuggee.specs.declared.answers.State.TheVariants.{NotStarted, Running, Stopped, Gone}
@@ -14,8 +15,9 @@ use Rattle.dap_debuggee.specs.declared.answers.Category.{Category}
 use Rattle.dap_debuggee.specs.declared.answers.Happening.TheVariants as happening
 use Rattle.dap_debuggee.specs.declared.answers.Variable.{Variable}
 use Rattle.dap_debuggee.specs.declared.answers.Assigned.{Assigned}
-use Rattle.dap_replay.specs.Played.{Played, shown_of, lines_in, with_source_lines, with_variables, variables_at, first_of, assigned_of}
+use Rattle.dap_replay.specs.Played.{Played, shown_of, lines_in, with_source_lines, with_variables, with_sources_of, variables_at, first_of, assigned_of}
 use Rattle.dap_replay.specs.PlayedLaws.{verifies_each-played}
+use Rattle.dap_replay.specs.SourceLaws.{sources_of-stay}
 use Rattle.dap_replay.specs.VariableLaws.{variables-put, variables-of_others, assigned-by, assigned-there}
 use Rattle.dap_tables.specs.SourceMap.{OfSource}
 use Rattle.dap_tables.specs.SourceMapLaws.{set-of-put}
@@ -100,7 +102,17 @@ ShowsAfter v to_poll (happened happening.Nothing) after = (after ≡ v.here) ⊎
 ShowsAfter v (to_assign holder name text) reply after = SetsVariable v holder name text after
 ShowsAfter v _ _ after = after ≡ v.here
 
--- An act with an answer may leave these. What the host tells is free: which moment it shows at a stop, which variables it tells of a holder that has none, and what it tells of a text at a poll.
+-- the host told sources
+pub record TellsSources (before after : Played) : Type 0 where
+  pub more : Played
+  pub base : after ≡ with_sources_of more before
+
+-- Where a poll gives nothing, sources may have come behind those there are. Else they stay.
+abbrev pub SourcesAfter : Played → Act → Reply → Played → Type 0
+SourcesAfter base to_poll (happened happening.Nothing) after = (after ≡ base) ⊎ TellsSources base after
+SourcesAfter base _ _ after = after ≡ base
+
+-- An act with an answer may leave these. What the host tells is free: which moment it shows at a stop, which variables it tells of a holder that has none, which sources come, and what it tells of a text at a poll.
 pub record FollowsLive (v : LiveState) (a : Act) (r : Reply) (w : LiveState) : Type 0 where
   pub may : IsTrue (may_answer v.state a r)
   pub reply : r ≡ reply_in a v.state r
@@ -108,7 +120,7 @@ pub record FollowsLive (v : LiveState) (a : Act) (r : Reply) (w : LiveState) : T
   pub acts : w.acts ≡ (v.acts + 1) % 2 ^ 64
   pub last : w.last ≡ Some (record { asked = asked_of_act a; reply = r })
   pub set : w.set ≡ set_after a v.set
-  pub base : w.base ≡ v.base
+  pub base : SourcesAfter v.base a r w.base
   pub here : ShowsAfter v a r w.here
   pub learned : IsTrue (keeps_learned a) → w.learned ≡ v.learned
 
@@ -185,6 +197,15 @@ same_here v to_poll r after k shows = absurd (true≢false (sym k))
 same_here v (to_set_breakpoints source lines) r after k shows = shows
 same_here v (to_assign holder name text) r after k shows = absurd (true≢false (sym k))
 same_here v to_end r after k shows = shows
+
+same_base : (base : Played) (a : Act) (r : Reply) (after : Played) → IsTrue (keeps_answers a r) → SourcesAfter base a r after → after ≡ base
+same_base base to_start r after k sources = sources
+same_base base (to_resume how thread) r after k sources = sources
+same_base base to_pause r after k sources = sources
+same_base base to_poll r after k sources = absurd (true≢false (sym k))
+same_base base (to_set_breakpoints source lines) r after k sources = sources
+same_base base (to_assign holder name text) r after k sources = absurd (true≢false (sym k))
+same_base base to_end r after k sources = sources
 
 -- what keeps all answers keeps the frames, and is no poll
 keeps_too : (a : Act) (r : Reply) → IsTrue (keeps_answers a r) → IsTrue (keeps_frames a r)
@@ -325,19 +346,47 @@ frames_by v w to_end r state shows k = shown_stays v w state shows
 pub keeps_frames-live : KeepsFrames shown_live FollowsLive
 keeps_frames-live v w a r f k = frames_by v w a r (f.state ∙ same_state v.state a r k) f.here k
 
-same_sources-live : (v w : LiveState) (a : Act) (r : Reply) → FollowsLive v a r w → SameSources (shown_live v) (shown_live w)
-same_sources-live v w a r f = record {
-  sources = ap (λ (b : Played). (shown_of b).sources) f.base;
-  content = λ index. ap (λ (b : Played). (shown_of b).content index) f.base;
+same_sources : (v w : LiveState) → w.base ≡ v.base → SameSources (shown_live v) (shown_live w)
+same_sources v w base = record {
+  sources = ap (λ (b : Played). (shown_of b).sources) base;
+  content = λ index. ap (λ (b : Played). (shown_of b).content index) base;
 }
 
+base_stays : (v w : LiveState) → w.base ≡ v.base → SourcesStay (shown_live v) (shown_live w)
+base_stays v w base = sources-stay (shown_live v) (shown_live w) (same_sources v w base)
+
+more_stays : (v w : LiveState) → (w.base ≡ v.base) ⊎ TellsSources v.base w.base → SourcesStay (shown_live v) (shown_live w)
+more_stays v w (inl base) = base_stays v w base
+more_stays v w (inr tells) =
+    let stay = sources_of-stay tells.more v.base in
+    record {
+      sources = λ index x given. ap (λ (b : Played). slice_get (shown_of b).sources index) tells.base ∙ stay.sources index x given;
+      content = λ index x given. ap (λ (b : Played). (shown_of b).content index) tells.base ∙ stay.content index x given;
+    }
+
+sources_by : (v w : LiveState) (a : Act) (r : Reply) → SourcesAfter v.base a r w.base → SourcesStay (shown_live v) (shown_live w)
+sources_by v w to_start r base = base_stays v w base
+sources_by v w (to_resume how thread) r base = base_stays v w base
+sources_by v w to_pause r base = base_stays v w base
+sources_by v w to_poll done base = base_stays v w base
+sources_by v w to_poll refused base = base_stays v w base
+sources_by v w to_poll (happened happening.Nothing) base = more_stays v w base
+sources_by v w to_poll (happened (happening.Output category text)) base = base_stays v w base
+sources_by v w to_poll (happened (happening.Stopped reason thread)) base = base_stays v w base
+sources_by v w to_poll (happened (happening.Continued thread)) base = base_stays v w base
+sources_by v w to_poll (happened (happening.Exited code)) base = base_stays v w base
+sources_by v w (to_set_breakpoints source lines) r base = base_stays v w base
+sources_by v w (to_assign holder name text) r base = base_stays v w base
+sources_by v w to_end r base = base_stays v w base
+
 pub keeps_sources-live : KeepsSources shown_live FollowsLive
-keeps_sources-live v w a r f = sources-stay (shown_live v) (shown_live w) (same_sources-live v w a r f)
+keeps_sources-live v w a r f = sources_by v w a r f.base
 
 pub keeps_answers-live : KeepsAnswers shown_live FollowsLive
 keeps_answers-live v w a r f k =
     let same : now_shown w.state w.here ≡ now_shown v.state v.here = same_shown v w a r f k in
     let known : w.learned ≡ v.learned = f.learned (is_no_poll a r k) in
+    let base : w.base ≡ v.base = same_base v.base a r w.base k f.base in
     record {
       threads = ap threads_in same;
       frames = same_frames v w same;
@@ -345,8 +394,8 @@ keeps_answers-live v w a r f k =
           ∙ ap (λ o. evaluated (told_of v.learned text) (evaluation_in o frame text)) same;
       assigned = λ holder name text. ap (λ l. assigned_by (value_told l text) name (children_in (now_shown w.state w.here) holder)) known
           ∙ ap (λ o. assigned_by (value_told v.learned text) name (children_in o holder)) same;
-      sources = same_sources-live v w a r f;
-      verify = λ source lines. ap (λ (b : Played). (shown_of b).verify source lines) f.base;
+      sources = same_sources v w base;
+      verify = λ source lines. ap (λ (b : Played). (shown_of b).verify source lines) base;
     }
 
 pub no_threads-live : NoThreads shown_live
@@ -408,7 +457,7 @@ sets_values-live v w holder name text r f =
         assigned = λ h called given. ap (λ l. assigned_by (value_told l given) called (children_in (now_shown w.state w.here) h)) known
             ∙ ap (assigned_by (value_told v.learned given) called) (children h)
             ∙ same_assigned (value_told v.learned given) (nat_eq h holder) (children_in before h) name sets.value called;
-        sources = same_sources-live v w (to_assign holder name text) r f;
+        sources = same_sources v w f.base;
         verify = λ source lines. ap (λ (b : Played). (shown_of b).verify source lines) f.base;
       };
     }

@@ -4,6 +4,7 @@ use Rattle.dap_debuggee.specs.Shown.{Last, done, refused, happened}
 use Rattle.dap_debuggee.specs.declared.answers.Asked.TheVariants.{Poll}
 use Rattle.dap_debuggee.specs.declared.answers.Happening.{Happening}
 use Rattle.dap_debuggee.specs.declared.answers.Happening.TheVariants as happening
+use Rattle.dap_replay.specs.Played.{Played}
 use Rattle.dap_live.specs.declared.held.LiveLast.{LiveLast}
 use Rattle.dap_live.specs.declared.held.LiveLast.TheVariants.{Done, Refused, Polled}
 use Rattle.dap_live.specs.declared.here.Here.{Here}
@@ -16,6 +17,9 @@ last_of (Polled h) = record { asked = Poll; reply = happened h }
 
 abbrev pub with_here : Option Here → LiveState → LiveState
 with_here here v = record v { here = here }
+
+abbrev pub with_base : Played → LiveState → LiveState
+with_base base v = record v { base = base }
 
 abbrev pub IsNoStop : Happening → Type 0
 IsNoStop (happening.Stopped reason thread) = ⊥

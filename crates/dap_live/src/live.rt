@@ -1,5 +1,5 @@
 //! The debuggee: what it does when it is asked, and what it tells.
-ghost use Rattle.std.specs.Prelude.{◌≡◌, ◌≤◌, IfOk, IsTrue, length};
+ghost use Rattle.std.specs.Prelude.{◌≡◌, ◌≤◌, ◌+◌, ◌↔◌, IfOk, IsTrue, length};
 ghost use Rattle.dap_debuggee.specs.Laws.{state_after};
 ghost use Rattle.dap_debuggee.specs.Shown.{to_poll, happened};
 ghost use Rattle.dap_replay.specs.Played.{Played, shown_of};
@@ -17,6 +17,9 @@ use dap_json::{List, Text};
 use dap_replay::Recorded;
 use dap_replay::variables::{self, HolderMap};
 use std::alloc::{AllocError, Global};
+
+/// How many sources there are at most.
+const MAX_SOURCES: usize = 65536;
 
 fn copied(happening: &Happening) -> Result<Happening, AllocError>
     ensures { IfOk result (λ copy. copy ≡ happening.now) }
@@ -55,17 +58,25 @@ fn has_few_sources(base: &Recorded, shows: &Recorded) -> bool
     shows.source_count() <= base.source_count()
 }
 
+/// Whether there is room for the sources of one recording behind those of another.
+fn has_room(base: &Recorded, more: &Recorded) -> bool
+    ensures { IsTrue result ↔ length (shown_of base.now).sources + length (shown_of more.now).sources ≤ 65536 }
+{
+    base.source_count().saturating_add(more.source_count()) <= MAX_SOURCES
+}
+
 impl Live {
-    ghost use Rattle.std.specs.Prelude.{◌≡◌, Some, None, OnOk, OnErr, IfOk, option_map};
+    ghost use Rattle.std.specs.Prelude.{◌≡◌, ◌≤◌, ◌+◌, length, Some, None, OnOk, OnErr, IfOk, option_map};
     ghost use Rattle.std.specs.Option.{IsSome};
     ghost use Rattle.dap_debuggee.specs.Laws.{is_short};
     ghost use Rattle.dap_debuggee.specs.Shown.{to_poll, to_set_breakpoints, to_assign, done, happened};
     ghost use Rattle.dap_debuggee.specs.declared.answers.Happening.{Happening};
+    ghost use Rattle.dap_replay.specs.Played.{shown_of, with_sources_of};
     ghost use Rattle.dap_live.specs.declared.here.Here.{Here};
     ghost use Rattle.dap_live.specs.LiveShown.{shown_live, IsFew, now_shown, children_in, told_of, value_told};
     ghost use Rattle.dap_live.specs.LiveLaws.{FollowsLive, with_told, noted};
     ghost use Rattle.dap_live.specs.Dropping.{heard, IsHeardOr, why_untold};
-    ghost use Rattle.dap_live.specs.PrivateHeld.{last_of, with_here, IsNoStop};
+    ghost use Rattle.dap_live.specs.PrivateHeld.{last_of, with_here, with_base, IsNoStop};
 
     /// Counts and remembers an act.
     fn note(&mut self, last: LiveLast)
@@ -157,7 +168,7 @@ impl Live {
     }
 
     /// Tells what the host says, or nothing where that is dropped. It is no stop.
-    #[tactic(auto, using(crate::proofs::Shows::same_shown))]
+    #[tactic(auto, using(crate::proofs::Shows::same_shown, crate::proofs::Shows::same_sources))]
     fn see(&mut self, happening: Happening) -> Result<Happening, AllocError>
         requires { IsNoStop happening }
         ensures heard { IfOk result (λ h. h ≡ heard self.old.state happening) }
@@ -207,6 +218,32 @@ impl Live {
         self.learned = None;
         self.note(LiveLast::Polled(copy));
         Ok(happening)
+    }
+
+    /// Puts sources behind those there are.
+    #[tactic(auto, using(crate::proofs::Shows::few_more))]
+    fn put_sources(&mut self, alloc: Global, more: Recorded) -> Result<(), AllocError>
+        requires { length (shown_of self.old.base).sources + length (shown_of more).sources ≤ 65536 }
+        ensures put { OnOk result (self.new ≡ with_base (with_sources_of more self.old.base) self.old) }
+        ensures memory { OnErr result (self.new ≡ self.old) }
+    {
+        self.base.add_sources(alloc, more)?;
+        Ok(())
+    }
+
+    /// Tells nothing, and has more sources, unless they are dropped.
+    fn see_sources(&mut self, alloc: Global, more: Recorded) -> Result<Happening, AllocError>
+        ensures nothing { IfOk result (λ h. h ≡ Happening.Nothing) }
+        ensures heard { OnOk result (length (shown_of self.old.base).sources + length (shown_of more).sources ≤ 65536 → self.new.base ≡ with_sources_of more self.old.base) }
+        ensures follows { IfOk result (λ h. FollowsLive self.old to_poll (happened h) self.new) }
+    {
+        if !has_room(&self.base, &more) {
+            return Ok(self.drop_it(Dropped::TooManySources));
+        }
+        self.put_sources(alloc, more)?;
+        self.learned = None;
+        self.note(LiveLast::Polled(Happening::Nothing));
+        Ok(Happening::Nothing)
     }
 
     /// Puts lines in place of those of a source.
@@ -364,6 +401,7 @@ impl Debuggee for Live {
                 holder,
             }))),
             Some(Coming::Variables { holder, variables }) => self.see_variables(holder, variables),
+            Some(Coming::Sources(more)) => self.see_sources(alloc, more),
             Some(Coming::Output { category, text }) => {
                 self.see(Happening::Output { category, text })
             }

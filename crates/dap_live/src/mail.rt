@@ -49,6 +49,8 @@ pub enum Coming {
         holder: u64,
         variables: List<Variable>,
     },
+    /// The sources of a recording come behind those there are, at most 65536 in all. Its moments do not matter.
+    Sources(Recorded),
 }
 
 /// What the host has to do.
@@ -82,7 +84,7 @@ pub enum Dropped {
     OutOfTurn,
     /// A text is too long, or the id of a thread is too great.
     OutOfRange,
-    /// The moment has more sources than the debuggee.
+    /// The moment has more sources than the debuggee, or it would have more than 65536.
     TooManySources,
     /// The holder has its variables already.
     Told,

@@ -3,6 +3,7 @@ pub mod Played
 pub mod PrivateSetLines
 pub mod PrivateHeld
 pub mod VariableLaws
+pub mod SourceLaws
 pub mod PlayedLaws
 pub mod Polls
 pub mod ShownNumbers

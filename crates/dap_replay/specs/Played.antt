@@ -1,6 +1,6 @@
 -- A recorded debuggee: what it is seen as, what it shows, and what each act does.
 -- This profile's choice.
-use Rattle.std.specs.Prelude.{◌≡◌, ℕ, zero, suc, ◌+◌, ◌-◌, ◌%◌, ◌^◌, ℤ, pos, Bool, true, false, ◌&&◌, ◌||◌, not, nat_le, nat_lt, nat_eq, bytes_eq, slice_index, List, [], ◌∷◌, length, map, take, drop, Option, Some, None, option_map, option_and_then, unwrap_or, if◌then◌else◌, Result, Ok, Err}
+use Rattle.std.specs.Prelude.{◌≡◌, ℕ, zero, suc, ◌+◌, ◌-◌, ◌%◌, ◌^◌, ℤ, pos, Bool, true, false, ◌&&◌, ◌||◌, not, nat_le, nat_lt, nat_eq, bytes_eq, slice_index, List, [], ◌∷◌, ◌++◌, length, map, take, drop, Option, Some, None, option_map, option_and_then, unwrap_or, if◌then◌else◌, Result, Ok, Err}
 use Rattle.std.specs.List.{list_any, slice_get, find}
 use Rattle.std.specs.Option.{IsSome}
 use Rattle.std.specs.Ordering.{int_eq}
@@ -299,6 +299,12 @@ pub record FollowsPlayed (v : Played) (a : Act) (r : Reply) (w : Played) : Type 
   pub allowed : IsAllowed v a
   pub reply : r ≡ (act_on a v).0
   pub view : w ≡ with_ask a r (act_on a v).1
+
+-- ---- sources that come later
+
+-- those of another recording come behind those there are
+abbrev pub with_sources_of : Played → Played → Played
+with_sources_of more v = let r : Recording = v.recording in record v { recording = record r { sources = r.sources ++ more.recording.sources } }
 
 -- ---- as it begins
 

@@ -7,6 +7,7 @@
 
 mod acts;
 mod laws;
+mod more_sources;
 mod moves;
 mod paths;
 mod polls;
