@@ -8,6 +8,8 @@ ghost use Rattle.dap_session.specs.declared.fault.AdapterFault.{AdapterFault};
 ghost use Rattle.dap_adapter.specs.Calls.{TakeRefused};
 ghost use Rattle.dap_adapter.specs.PrivateReceives.{HasReceived, IsBy};
 ghost use Rattle.dap_reader.specs.declared.fault.ReadFault.{ReadFault};
+ghost use Rattle.std.specs.Option.{option_copied};
+ghost use Rattle.dap_tables.specs.References.{target_of};
 ghost use Rattle.dap_tables.specs.SourceMap.{count};
 ghost use Rattle.dap_session.specs.Session.{fresh_session, oldest, own_requests, to_handle};
 ghost use Rattle.dap_session.specs.SessionState.{AppendsSome};
@@ -22,6 +24,7 @@ use dap_message::laws::read_is_in_range;
 use dap_reader::{MessageReader, Next, ReadFault};
 use dap_session::laws::{each_step_goes_on, each_step_stays_within};
 use dap_session::{AdapterFault, Phase, Session};
+use dap_tables::Target;
 use std::alloc::{AllocError, Global};
 use std::marker::Model;
 
@@ -94,6 +97,14 @@ impl<D: Debuggee + Drop> Adapter<D> {
         ensures bound { result ≤ self.now.session.limits.references }
     {
         self.session.references()
+    }
+
+    /// The frame, or what holds variables, that a number of the client names: a `frameId` or a `variablesReference`, while it is
+    /// live. `None` for 0, for one that was never given, and for one of an earlier stop. The object is the debuggee's own number.
+    pub fn target(&self, number: u32) -> Option<&Target>
+        ensures { option_copied result ≡ target_of self.now.session.references number }
+    {
+        self.session.target(number)
     }
 
     /// How many breakpoints are set, those of all sources together.

@@ -3,7 +3,7 @@ use Rattle.std.proofs.Common.{◌≡◌, List, ℕ, [], ◌∷◌, codes, replic
 use Rattle.dap_call.specs.declared.call.SourceKey.{SourceKey}
 use Rattle.dap_call.specs.declared.call.SourceKey.TheVariants.{Path, Reference}
 use Rattle.dap_debuggee.specs.Shown.{Act, Reply, to_start, to_resume, to_pause, to_poll, to_set_breakpoints, to_assign, to_end, done, refused, happened, category_name, asked_of_act}
-use Rattle.dap_debuggee.specs.Laws.{may_answer, state_after, lines_after, keeps_answers, keeps_frames, with_value, children_after, is_code, is_short, is_frame}
+use Rattle.dap_debuggee.specs.Laws.{may_answer, state_after, lines_after, keeps_answers, keeps_frames, Stays, with_value, children_after, is_code, is_short, is_frame}
 use Rattle.dap_call.specs.SameSource.{is_source}
 use Rattle.dap_debuggee.specs.declared.answers.State.TheVariants.{NotStarted, Running, Stopped, Gone}
 use Rattle.dap_debuggee.specs.declared.answers.How.TheVariants.{Next, Continue}
@@ -65,6 +65,13 @@ all_answers_stay = (refl, refl, refl, refl, refl, refl)
 
 frames_stay : (keeps_frames to_poll wrote ≡ true) × (keeps_frames to_poll (happened Nothing) ≡ true) × (keeps_frames to_pause done ≡ true) × (keeps_frames to_poll stopped ≡ false) × (keeps_frames to_poll continued ≡ false) × (keeps_frames to_poll exited ≡ false) × (keeps_frames (to_resume Next (pos 1)) done ≡ false) × (keeps_frames to_end done ≡ false)
 frames_stay = (refl, refl, refl, refl, refl, refl, refl, refl)
+
+-- what was refused may be given later; what was given does not go
+comes_later : (x : ℕ) → Stays None (Some x)
+comes_later x y is = absurd (cc is)
+
+does_not_go : (x : ℕ) → Stays (Some x) None → ⊥
+does_not_go x stays = cc (stays x refl)
 
 memory_of_acts : (asked_of_act (to_resume Next (pos 7)) ≡ remembers.Resume Next (pos 7)) × (asked_of_act (to_set_breakpoints (Reference 1) (2 ∷ [])) ≡ remembers.SetBreakpoints) × (asked_of_act to_end ≡ remembers.End)
 memory_of_acts = (refl, refl, refl)

@@ -97,11 +97,26 @@ keeps_answers to_pause reply = true
 keeps_answers (to_set_breakpoints source lines) reply = true
 keeps_answers _ _ = false
 
--- no frame, scope or variable changes
+-- no frame, scope or variable that was given changes
 abbrev pub keeps_frames : Act → Reply → Bool
 keeps_frames to_poll (happened happening.Nothing) = true
 keeps_frames to_poll (happened (happening.Output category text)) = true
 keeps_frames a reply = keeps_answers a reply
+
+-- an answer that was given stays; one that was refused may be given later
+abbrev pub Stays : {A : Type 0} → Option A → Option A → Type 0
+Stays {A} before after = (x : A) → before ≡ Some x → after ≡ Some x
+
+-- frames, scopes and variables that were given stay
+pub record FramesStay (v w : Shown) : Type 0 where
+  pub frames : (thread : ℤ) → Stays (v.frames thread) (w.frames thread)
+  pub scopes : (frame : ℕ) → Stays (v.scopes frame) (w.scopes frame)
+  pub children : (holder : ℕ) → Stays (v.children holder) (w.children holder)
+
+-- sources stay, each at its place, with the texts that were given; more may come behind them
+pub record SourcesStay (v w : Shown) : Type 0 where
+  pub sources : (index : ℕ) → Stays (slice_get v.sources index) (slice_get w.sources index)
+  pub content : (index : ℕ) → Stays (v.content index) (w.content index)
 
 pub record SameFrames (v w : Shown) : Type 0 where
   pub frames : (thread : ℤ) → w.frames thread ≡ v.frames thread
@@ -192,7 +207,7 @@ abbrev pub KeepsAnswers : {View : Type 0} → (View → Shown) → Follows View 
 KeepsAnswers {View} shown follows = (v w : View) (a : Act) (r : Reply) → follows v a r w → IsTrue (keeps_answers a r) → SameAnswers (shown v) (shown w)
 
 abbrev pub KeepsFrames : {View : Type 0} → (View → Shown) → Follows View → Type 0
-KeepsFrames {View} shown follows = (v w : View) (a : Act) (r : Reply) → follows v a r w → IsTrue (keeps_frames a r) → SameFrames (shown v) (shown w)
+KeepsFrames {View} shown follows = (v w : View) (a : Act) (r : Reply) → follows v a r w → IsTrue (keeps_frames a r) → FramesStay (shown v) (shown w)
 
 -- only what is told of a variable is set, and the variable has that value then
 pub record SetsWhatIsTold (v w : Shown) (holder : ℕ) (name text : List ℕ) : Type 0 where
@@ -203,9 +218,9 @@ pub record SetsWhatIsTold (v w : Shown) (holder : ℕ) (name text : List ℕ) : 
 abbrev pub SetsValues : {View : Type 0} → (View → Shown) → Follows View → Type 0
 SetsValues {View} shown follows = (v w : View) (holder : ℕ) (name text : List ℕ) (r : Reply) → follows v (to_assign holder name text) r w → SetsWhatIsTold (shown v) (shown w) holder name text
 
--- sources and their texts never change
+-- each source stays at its place, with its text; more may come behind
 abbrev pub KeepsSources : {View : Type 0} → (View → Shown) → Follows View → Type 0
-KeepsSources {View} shown follows = (v w : View) (a : Act) (r : Reply) → follows v a r w → SameSources (shown v) (shown w)
+KeepsSources {View} shown follows = (v w : View) (a : Act) (r : Reply) → follows v a r w → SourcesStay (shown v) (shown w)
 
 -- before the start and once gone there are no threads
 abbrev pub NoThreads : {View : Type 0} → (View → Shown) → Type 0

@@ -1,3 +1,4 @@
 pub mod Shown
 pub mod Laws
 pub mod KeepsLaws
+pub mod StayLaws

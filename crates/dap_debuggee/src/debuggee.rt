@@ -52,8 +52,9 @@ pub trait Debuggee {
 
     /// What happened next, without waiting: run a bounded while, and tell one thing. `Nothing` says that there is no news by
     /// now. What runs may give output, stop or exit; what is stopped may give output, go on by itself or exit; before the
-    /// start and once gone there is nothing. Only a stop, a going on and an exit may change which frames, scopes and variables
-    /// are shown: where you show the frames of what runs, keep those of the last stop, or show none.
+    /// start and once gone there is nothing. Only a stop, a going on and an exit may change the frames, scopes and variables that
+    /// you gave: where you show the frames of what runs, keep those of the last stop, or show none. Those that you refused may
+    /// come by any poll: so a large value can be fetched once it is asked for.
     fn poll(&mut self, alloc: Global) -> Result<Happening, AllocError>
         ensures follows { IfOk result (λ h. follows self.old to_poll (happened h) self.new) }
         ensures in_range { IfOk result (λ h. IsTrue (is_short h)) };
@@ -143,8 +144,8 @@ pub trait Debuggee {
     ) -> Result<Assigned, DebuggeeFault>
         ensures { AnswersQuery result (λ assigned. assigned) ((shown self.now).assigned holder name.now text.now) };
 
-    /// The sources, in order, at most 65536. A frame names one by its place here. They are the same before the start, through
-    /// all of the run and after it.
+    /// The sources, in order, at most 65536. A frame names one by its place here. Each stays at its place before the start,
+    /// through all of the run and after it; those of code that is loaded later come behind them.
     fn sources(&self, alloc: Global) -> Result<Vec<Source>, AllocError>
         ensures sources { IfOk result (λ sources. sources.items ≡ (shown self.now).sources) }
         ensures in_range { SourcesInRange (shown self.now) };
@@ -189,10 +190,12 @@ pub trait Debuggee {
     /// A refused act, a pause and the setting of breakpoints change no answer.
     ghost keeps_answers: { KeepsAnswers shown follows };
 
-    /// Frames, scopes and variables stay until a value is set, or the debuggee starts, goes on, stops, exits or is ended.
+    /// Frames, scopes and variables that were given stay until a value is set, or the debuggee starts, goes on, stops, exits or
+    /// is ended. What was refused may be given later, by a poll.
     ghost keeps_frames: { KeepsFrames shown follows };
 
-    /// Sources and their texts never change.
+    /// Each source stays at its place, with its text. More may come behind, but not by a refused act, a pause, breakpoints that
+    /// are set or a value that is.
     ghost keeps_sources: { KeepsSources shown follows };
 
     /// No threads before the start and once gone.

@@ -4,7 +4,8 @@ use Rattle.std.specs.Prelude.{option_and_then}
 use Rattle.std.specs.Option.{IsSome}
 use Rattle.dap_call.specs.declared.call.SourceKey.{SourceKey}
 use Rattle.dap_debuggee.specs.Shown.{Act, to_start, to_resume, to_pause, to_poll, to_set_breakpoints, to_assign, to_end, Reply, done, refused, happened, asked_of_act, Last}
-use Rattle.dap_debuggee.specs.Laws.{may_answer, state_after, lines_after, keeps_answers, keeps_frames, variable_named, children_after, Counts, Remembers, Answers, Moves, SetsLines, SetsValues, SetsWhatIsTold, KeepsAnswers, KeepsFrames, KeepsSources, NoThreads, VerifiesEach, AssignsVariables}
+use Rattle.dap_debuggee.specs.Laws.{may_answer, state_after, lines_after, keeps_answers, keeps_frames, variable_named, children_after, Counts, Remembers, Answers, Moves, SetsLines, SetsValues, SetsWhatIsTold, KeepsAnswers, KeepsFrames, KeepsSources, SameFrames, SameSources, NoThreads, VerifiesEach, AssignsVariables}
+use Rattle.dap_debuggee.specs.StayLaws.{frames-stay, sources-stay}
 use Rattle.dap_debuggee.specs.declared.answers.State.{State}
 use Rattle.dap_debuggee.specs.declared.answers.State.TheVariants.{NotStarted, Running, Stopped, Gone}
 use Rattle.dap_debuggee.specs.declared.answers.How.{How}
@@ -217,18 +218,24 @@ sets_lines-live v w a r f key = ap (λ s. lines_in s key) f.set ∙ lines_set a 
 same_shown : (v w : LiveState) (a : Act) (r : Reply) → FollowsLive v a r w → IsTrue (keeps_frames a r) → now_shown w.state w.here ≡ now_shown v.state v.here
 same_shown v w a r f k = ap (λ s. now_shown s w.here) (f.state ∙ same_state v.state a r k) ∙ ap (λ here. now_shown v.state here) (f.here (same_here a r k))
 
-pub keeps_frames-live : KeepsFrames shown_live FollowsLive
-keeps_frames-live v w a r f k = record {
+same_frames-live : (v w : LiveState) (a : Act) (r : Reply) → FollowsLive v a r w → IsTrue (keeps_frames a r) → SameFrames (shown_live v) (shown_live w)
+same_frames-live v w a r f k = record {
   frames = λ thread. ap (λ o. frames_in o thread) (same_shown v w a r f k);
   scopes = λ frame. ap (λ o. scopes_in o frame) (same_shown v w a r f k);
   children = λ holder. ap (λ o. children_in o holder) (same_shown v w a r f k);
 }
 
-pub keeps_sources-live : KeepsSources shown_live FollowsLive
-keeps_sources-live v w a r f = record {
+pub keeps_frames-live : KeepsFrames shown_live FollowsLive
+keeps_frames-live v w a r f k = frames-stay (shown_live v) (shown_live w) (same_frames-live v w a r f k)
+
+same_sources-live : (v w : LiveState) (a : Act) (r : Reply) → FollowsLive v a r w → SameSources (shown_live v) (shown_live w)
+same_sources-live v w a r f = record {
   sources = ap (λ (b : Played). (shown_of b).sources) f.base;
   content = λ index. ap (λ (b : Played). (shown_of b).content index) f.base;
 }
+
+pub keeps_sources-live : KeepsSources shown_live FollowsLive
+keeps_sources-live v w a r f = sources-stay (shown_live v) (shown_live w) (same_sources-live v w a r f)
 
 pub keeps_answers-live : KeepsAnswers shown_live FollowsLive
 keeps_answers-live v w a r f k =
@@ -236,12 +243,12 @@ keeps_answers-live v w a r f k =
     let known : w.learned ≡ v.learned = f.learned (is_no_poll a r k) in
     record {
       threads = ap threads_in same;
-      frames = keeps_frames-live v w a r f (keeps_too a r k);
+      frames = same_frames-live v w a r f (keeps_too a r k);
       evaluate = λ frame text. ap (λ l. evaluated (told_of l text) (evaluation_in (now_shown w.state w.here) frame text)) known
           ∙ ap (λ o. evaluated (told_of v.learned text) (evaluation_in o frame text)) same;
       assigned = λ holder name text. ap (λ l. assigned_by (value_told l text) (now_shown w.state w.here) holder name) known
           ∙ ap (λ o. assigned_by (value_told v.learned text) o holder name) same;
-      sources = keeps_sources-live v w a r f;
+      sources = same_sources-live v w a r f;
       verify = λ source lines. ap (λ (b : Played). (shown_of b).verify source lines) f.base;
     }
 
@@ -297,7 +304,7 @@ sets_here v w holder name text (Some value) (Some m) (Some n) r f told before af
             ∙ ap (λ o. assigned_by (value_told v.learned given) o h called) shows_new
             ∙ same_assigned m n h called (value_told v.learned given) (λ t. inner.set.assigned h called t)
             ∙ sym (ap (λ o. assigned_by (value_told v.learned given) o h called) shows_old);
-        sources = keeps_sources-live v w (to_assign holder name text) r f;
+        sources = same_sources-live v w (to_assign holder name text) r f;
         verify = λ source lines. ap (λ (b : Played). (shown_of b).verify source lines) f.base;
       };
     }

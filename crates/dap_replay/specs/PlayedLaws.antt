@@ -7,6 +7,7 @@ use Rattle.std.specs.Prelude.{option_and_then}
 use Rattle.dap_call.specs.declared.call.SourceKey.{SourceKey}
 use Rattle.dap_debuggee.specs.Shown.{Act, to_start, to_resume, to_pause, to_poll, to_set_breakpoints, to_assign, to_end, Reply, done, refused, happened}
 use Rattle.dap_debuggee.specs.Laws.{may_answer, state_after, keeps_answers, keeps_frames, lines_after, Counts, Remembers, Answers, Moves, SetsLines, SetsValues, SetsWhatIsTold, KeepsAnswers, KeepsFrames, KeepsSources, SameFrames, SameSources, NoThreads, VerifiesEach, AssignsVariables, variable_named, with_value}
+use Rattle.dap_debuggee.specs.StayLaws.{frames-stay, sources-stay}
 use Rattle.dap_replay.specs.Played.{Played, Run, OfHolder, changed_at, with_variables, variables_held, first_of, if_within, is_in, moment_shown, children_shown, after_assign, act_on, with_ask, after_start, after_resume, start_in, resume_in, pause_in, poll_result, step_of_run, end_of_run, with_run, with_pause, with_lines, at_rest, with_source_lines, lines_in, first_piece, shown_of, has_source_line, source_shown, FollowsPlayed}
 use Rattle.dap_debuggee.specs.declared.answers.Assigned.{Assigned}
 use Rattle.dap_debuggee.specs.declared.answers.Variable.{Variable}
@@ -363,8 +364,11 @@ moves-played v w a r f = ap (λ (p : Played). p.state) f.view ∙ state_row v _ 
 asked_same : (v u : Played) (a : Act) (r : Reply) → SameFrames (shown_of v) (shown_of u) → SameFrames (shown_of v) (shown_of (with_ask a r u))
 asked_same v u a r same = record { frames = same.frames; scopes = same.scopes; children = same.children }
 
+same_frames-played : (v w : Played) (a : Act) (r : Reply) → FollowsPlayed v a r w → IsTrue (keeps_frames a r) → SameFrames (shown_of v) (shown_of w)
+same_frames-played v w a r f keeps = subst (λ p. SameFrames (shown_of v) (shown_of p)) (sym f.view) (asked_same v (act_on a v).1 a r (frames_row v (act_on a v).1 a r (row v w a r f) keeps))
+
 pub keeps_frames-played : KeepsFrames shown_of FollowsPlayed
-keeps_frames-played v w a r f keeps = subst (λ p. SameFrames (shown_of v) (shown_of p)) (sym f.view) (asked_same v (act_on a v).1 a r (frames_row v (act_on a v).1 a r (row v w a r f) keeps))
+keeps_frames-played v w a r f keeps = frames-stay (shown_of v) (shown_of w) (same_frames-played v w a r f keeps)
 
 pub no_threads-played : NoThreads shown_of
 no_threads-played v = (λ is. rw is, λ is. rw is)
@@ -382,16 +386,19 @@ sources_same v w is = record {
   content = λ index. ap (λ r. option_map (λ source. source.text) (slice_get r.sources index)) is;
 }
 
+pub same_sources-played : (v w : Played) (a : Act) (r : Reply) → FollowsPlayed v a r w → SameSources (shown_of v) (shown_of w)
+same_sources-played v w a r f = sources_same v w (ap (λ (p : Played). p.recording) f.view ∙ recording_row v _ a r (row v w a r f))
+
 pub keeps_sources-played : KeepsSources shown_of FollowsPlayed
-keeps_sources-played v w a r f = sources_same v w (ap (λ (p : Played). p.recording) f.view ∙ recording_row v _ a r (row v w a r f))
+keeps_sources-played v w a r f = sources-stay (shown_of v) (shown_of w) (same_sources-played v w a r f)
 
 pub keeps_answers-played : KeepsAnswers shown_of FollowsPlayed
 keeps_answers-played v w a r f keeps = record {
   threads = ap (λ (p : Played). (shown_of p).threads) f.view ∙ threads_row v _ a r (row v w a r f) keeps;
-  frames = keeps_frames-played v w a r f (keeps_too a r keeps);
+  frames = same_frames-played v w a r f (keeps_too a r keeps);
   evaluate = λ frame text. ap (λ (p : Played). (shown_of p).evaluate frame text) f.view ∙ values_row v _ a r (row v w a r f) keeps frame text;
   assigned = λ holder name text. ap (λ (p : Played). (shown_of p).assigned holder name text) f.view ∙ assigned_row v _ a r (row v w a r f) keeps holder name text;
-  sources = keeps_sources-played v w a r f;
+  sources = same_sources-played v w a r f;
   verify = λ source lines. ap (λ r. Some (map (has_source_line r.sources source) lines)) (ap (λ (p : Played). p.recording) f.view ∙ recording_row v _ a r (row v w a r f));
 }
 

@@ -1,7 +1,9 @@
 //! A session with its debuggee: what is kept, and how it changes.
 ghost use Rattle.std.specs.Prelude.{◌≡◌, ◌+◌, ◌≤◌, ◌<◌, [], ◌∷◌, ◌++◌, length, IfOk, OnOk, OnErr, IsTrue, true, false, not, nat_lt, None};
+ghost use Rattle.std.specs.Option.{option_copied};
 ghost use Rattle.dap_outbox.specs.Outbox.{IsReady};
 ghost use Rattle.dap_tables.specs.Outstanding.{without, with_mark, contains_seq, kept_unparked, unparked_ones, IsOrderlyRequests};
+ghost use Rattle.dap_tables.specs.References.{target_of};
 ghost use Rattle.dap_tables.specs.SourceMap.{count};
 ghost use Rattle.dap_query.specs.Queries.{object_of};
 ghost use Rattle.dap_session.specs.Session.{fresh_session, own_requests, numbers_of};
@@ -13,7 +15,7 @@ use dap_decision::Phase;
 use dap_frame::Limits;
 use dap_outbox::Outbox;
 use dap_query::{Options, Queries};
-use dap_tables::{Breakpoints, Entry, Outstanding, PutFault, Seq};
+use dap_tables::{Breakpoints, Entry, Outstanding, PutFault, Seq, Target};
 use std::alloc::{AllocError, Global};
 use std::marker::Model;
 use std::mem;
@@ -119,6 +121,13 @@ impl<D: Debuggee + Drop> Session<D> {
             None => 0,
             Some(_) => 1,
         }
+    }
+
+    /// What a live reference names.
+    pub fn target(&self, number: u32) -> Option<&Target>
+        ensures { option_copied result ≡ target_of self.now.session.references number }
+    {
+        self.queries.target(number)
     }
 
     pub(crate) fn limits(&self) -> Limits

@@ -71,8 +71,8 @@ keeps-laws = record {
     sources = record { sources = refl; content = λ index. refl };
     verify = λ source lines. refl;
   };
-  keeps_frames = λ v w act reply f h. record { frames = λ thread. refl; scopes = λ frame. refl; children = λ holder. refl };
-  keeps_sources = λ v w act reply f. record { sources = refl; content = λ index. refl };
+  keeps_frames = λ v w act reply f h. record { frames = λ thread x is. is; scopes = λ frame x is. is; children = λ holder x is. is };
+  keeps_sources = λ v w act reply f. record { sources = λ index x is. is; content = λ index x is. is };
   no_threads = λ v. (λ e. ap threads_in e, λ e. ap threads_in e);
   verifies_each = λ v source lines answers e. absurd cc;
   assigns_variables = λ v holder name text h. absurd (true≢false (sym h));

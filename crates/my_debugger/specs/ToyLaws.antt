@@ -4,10 +4,11 @@ use Rattle.std.specs.Prelude.{unwrap_or}
 use Rattle.std.proofs.lemmas.List.{length-map}
 use Rattle.dap_call.specs.declared.call.SourceKey.{SourceKey}
 use Rattle.dap_debuggee.specs.Shown.{Act, to_start, to_resume, to_pause, to_poll, to_set_breakpoints, to_assign, to_end, Reply}
-use Rattle.dap_debuggee.specs.Laws.{lines_after, keeps_answers, keeps_frames, Counts, Remembers, Answers, Moves, SetsLines, SetsValues, KeepsAnswers, KeepsFrames, KeepsSources, NoThreads, VerifiesEach, AssignsVariables}
+use Rattle.dap_debuggee.specs.Laws.{lines_after, keeps_answers, keeps_frames, Counts, Remembers, Answers, Moves, SetsLines, SetsValues, KeepsAnswers, KeepsFrames, KeepsSources, SameFrames, NoThreads, VerifiesEach, AssignsVariables}
+use Rattle.dap_debuggee.specs.StayLaws.{frames-stay}
 use Rattle.dap_tables.specs.SourceMap.{OfSource, set_of}
 use Rattle.dap_tables.specs.SourceMapLaws.{set-of-put}
-use Rattle.my_debugger.specs.ToyShown.{shown_toy, threads_in, frames_in, scopes_in, children_in, evaluation_in, has_line}
+use Rattle.my_debugger.specs.ToyShown.{ToyState, shown_toy, threads_in, frames_in, scopes_in, children_in, evaluation_in, has_line}
 use Rattle.my_debugger.specs.ToyActs.{FollowsToy, set_after}
 
 -- ---- those that a step says itself
@@ -50,26 +51,29 @@ keeps_too (to_set_breakpoints source lines) r keeps = refl
 keeps_too (to_assign holder name text) r keeps = absurd (true≢false (sym keeps))
 keeps_too to_end r keeps = absurd (true≢false (sym keeps))
 
-pub keeps_frames-toy : KeepsFrames shown_toy FollowsToy
-keeps_frames-toy v w a r f keeps = record {
+same_frames : (v w : ToyState) (a : Act) (r : Reply) → FollowsToy v a r w → IsTrue (keeps_frames a r) → SameFrames (shown_toy v) (shown_toy w)
+same_frames v w a r f keeps = record {
   frames = λ thread. ap (λ calls. frames_in calls thread) (f.stays keeps).calls;
   scopes = λ frame. ap (λ calls. scopes_in calls frame) (f.stays keeps).calls;
   children = λ holder. ap (λ calls. children_in calls holder) (f.stays keeps).calls;
 }
 
+pub keeps_frames-toy : KeepsFrames shown_toy FollowsToy
+keeps_frames-toy v w a r f keeps = frames-stay (shown_toy v) (shown_toy w) (same_frames v w a r f keeps)
+
 pub keeps_sources-toy : KeepsSources shown_toy FollowsToy
 keeps_sources-toy v w a r f = record {
-  sources = refl;
-  content = λ index. refl;
+  sources = λ index source is. is;
+  content = λ index text is. is;
 }
 
 pub keeps_answers-toy : KeepsAnswers shown_toy FollowsToy
 keeps_answers-toy v w a r f keeps = record {
   threads = ap threads_in (f.stays (keeps_too a r keeps)).state;
-  frames = keeps_frames-toy v w a r f (keeps_too a r keeps);
+  frames = same_frames v w a r f (keeps_too a r keeps);
   evaluate = λ frame text. ap (λ calls. evaluation_in calls frame text) (f.stays (keeps_too a r keeps)).calls;
   assigned = λ holder name text. refl;
-  sources = keeps_sources-toy v w a r f;
+  sources = record { sources = refl; content = λ index. refl };
   verify = λ source lines. refl;
 }
 

@@ -3,8 +3,9 @@
 use Rattle.std.proofs.Common.{◌≡◌, ℕ, ◌+◌, ◌%◌, ◌^◌, ◌⊎◌, inl, inr, Bool, true, false, not, arith, List, codes, IsTrue, Option, Some, refl, sym, ap, subst, ◌∙◌}
 use Rattle.dap_call.specs.declared.call.SourceKey.{SourceKey}
 use Rattle.dap_debuggee.specs.Shown.{Shown, Act, to_start, to_resume, to_pause, to_poll, to_set_breakpoints, to_assign, to_end, Reply, done, refused, happened, asked_of_act, Last}
-use Rattle.dap_debuggee.specs.Laws.{may_answer, state_after, lines_after, keeps_answers, keeps_frames, Counts, Remembers, Answers, Moves, SetsLines, SetsValues, SetsOneValue, KeepsAnswers, KeepsFrames, KeepsSources, SameFrames, SameSources, SameAnswers, NoThreads, VerifiesEach, AssignsVariables}
+use Rattle.dap_debuggee.specs.Laws.{may_answer, state_after, lines_after, keeps_answers, keeps_frames, Counts, Remembers, Answers, Moves, SetsLines, SetsValues, SetsOneValue, KeepsAnswers, KeepsFrames, KeepsSources, FramesStay, SourcesStay, SameFrames, SameSources, SameAnswers, NoThreads, VerifiesEach, AssignsVariables}
 use Rattle.dap_replay.specs.Played.{Played, lines_in, shown_of, FollowsPlayed}
+use Rattle.dap_debuggee.specs.StayLaws.{frames-stay, sources-stay}
 use Rattle.dap_replay.specs.PlayedLaws.{refused_start, same_start, counts-played, remembers-played, answers-played, moves-played, sets_lines-played, sets_values-played, keeps_answers-played, keeps_frames-played, keeps_sources-played, no_threads-played, verifies_each-played, assigns_variables-played}
 use Rattle.dap_debuggee.specs.declared.answers.Asked.TheVariants.{Start}
 use Rattle.dap_debuggee.specs.declared.answers.State.{State}
@@ -174,6 +175,12 @@ its_frames v w s = record { frames = s.frames; scopes = s.scopes; children = s.c
 its_sources : (v w : StubbornView) → SameSources (shown_of v.inner) (shown_of w.inner) → SameSources (shown_stubborn v) (shown_stubborn w)
 its_sources v w s = record { sources = s.sources; content = s.content }
 
+its_frames_stay : (v w : StubbornView) → FramesStay (shown_of v.inner) (shown_of w.inner) → FramesStay (shown_stubborn v) (shown_stubborn w)
+its_frames_stay v w s = record { frames = s.frames; scopes = s.scopes; children = s.children }
+
+its_sources_stay : (v w : StubbornView) → SourcesStay (shown_of v.inner) (shown_of w.inner) → SourcesStay (shown_stubborn v) (shown_stubborn w)
+its_sources_stay v w s = record { sources = s.sources; content = s.content }
+
 -- of the recording it is the long value that is told, and that is set
 one_value : (v w : StubbornView) (holder : ℕ) (name value : List ℕ) → SetsOneValue holder name value (shown_of v.inner) (shown_of w.inner) → SetsOneValue holder name value (shown_stubborn v) (shown_stubborn w)
 one_value v w holder name value s = record {
@@ -243,12 +250,12 @@ keeps_answers-stubborn v w a r (inl f) keeps = same_answers v w (same v.inner w.
 keeps_answers-stubborn v w a r (inr f) keeps = same_answers v w (keeps_answers-played v.inner w.inner (passed_on a) r f.inner (same_keeping a r ∙ keeps))
 
 pub keeps_frames-stubborn : KeepsFrames shown_stubborn FollowsStubborn
-keeps_frames-stubborn v w a r (inl f) keeps = its_frames v w (same v.inner w.inner f.inner).frames
-keeps_frames-stubborn v w a r (inr f) keeps = its_frames v w (keeps_frames-played v.inner w.inner (passed_on a) r f.inner (same_frames a r ∙ keeps))
+keeps_frames-stubborn v w a r (inl f) keeps = frames-stay (shown_stubborn v) (shown_stubborn w) (its_frames v w (same v.inner w.inner f.inner).frames)
+keeps_frames-stubborn v w a r (inr f) keeps = its_frames_stay v w (keeps_frames-played v.inner w.inner (passed_on a) r f.inner (same_frames a r ∙ keeps))
 
 pub keeps_sources-stubborn : KeepsSources shown_stubborn FollowsStubborn
-keeps_sources-stubborn v w a r (inl f) = its_sources v w (same v.inner w.inner f.inner).sources
-keeps_sources-stubborn v w a r (inr f) = its_sources v w (keeps_sources-played v.inner w.inner (passed_on a) r f.inner)
+keeps_sources-stubborn v w a r (inl f) = sources-stay (shown_stubborn v) (shown_stubborn w) (its_sources v w (same v.inner w.inner f.inner).sources)
+keeps_sources-stubborn v w a r (inr f) = its_sources_stay v w (keeps_sources-played v.inner w.inner (passed_on a) r f.inner)
 
 pub no_threads-stubborn : NoThreads shown_stubborn
 no_threads-stubborn v = no_threads-played v.inner
