@@ -7,7 +7,7 @@ use Rattle.dap_adapter.specs.declared.served.ServeFault.TheVariants.{Read, Write
 use Rattle.dap_channel.specs.Channel.{IoEvent, Ran, bytes_read, bytes_written, MayGoOn, HasEnded, HasReadFailed}
 use Rattle.dap_channel.specs.Sent.{Flushes, WritesShort, saturating_count}
 use Rattle.dap_session.specs.declared.fault.AdapterFault.{AdapterFault}
-use Rattle.dap_host.specs.Fetching.{has_line, Fetches}
+use Rattle.dap_host.specs.Fetching.{has_line, Fetches, FetchesMost}
 use Rattle.dap_host.specs.Hearing.{HostState, Hears, Stops}
 
 -- the channel, the host, and the bytes that were read and are no line yet
@@ -84,9 +84,9 @@ pub record StopsBy {C : Type 0} (goes : C → IoEvent → C → Type 0) (start :
   pub stops : Stops there.host line [] made h fault
   pub flushes : Flushes goes c d made
 
--- what is made of a line, also where the adapter is closed by it; nothing where memory is refused
+-- what is made of a line, also where the adapter is closed by it
 abbrev pub Makes : HostState → List ℕ → List ℕ → Type 0
-Makes h line made = ((k : HostState) × Hears h line [] made k) ⊎ (((k : HostState) × (fault : AdapterFault) × Stops h line [] made k fault) ⊎ (made ≡ []))
+Makes h line made = ((k : HostState) × Hears h line [] made k) ⊎ ((k : HostState) × (fault : AdapterFault) × Stops h line [] made k fault)
 
 -- the writer failed, or took nothing, after a front of what was made of a line
 pub record StopsWriting {C : Type 0} (goes : C → IoEvent → C → Type 0) (start : HostPoint C) (d : C) (written : ℕ) : Type 0 where
@@ -104,7 +104,7 @@ pub record StopsWriting {C : Type 0} (goes : C → IoEvent → C → Type 0) (st
   pub count : written ≡ saturating_count (went + out)
   pub short : WritesShort goes c d (take out made)
 
--- memory was refused, or too many calls are due; no part of an answer is written
+-- memory was refused; no part of an answer is written
 pub record StopsBetween {C : Type 0} (goes : C → IoEvent → C → Type 0) (start : HostPoint C) (d : C) : Type 0 where
   pub heard : List (List ℕ)
   pub went : ℕ
@@ -114,13 +114,18 @@ pub record StopsBetween {C : Type 0} (goes : C → IoEvent → C → Type 0) (st
   pub ran : Ran goes there.channel log d
   pub none_written : bytes_written log ≡ []
 
-abbrev pub Hosts : {C : Type 0} → (C → IoEvent → C → Type 0) → HostPoint C → C → Result (Unit {0}) ServeFault → Type 0
-Hosts goes start d (Ok done) = HearsAll goes start d
-Hosts goes start d (Err Read) = StopsReading goes start d
-Hosts goes start d (Err (Write written)) = StopsWriting goes start d written
-Hosts goes start d (Err (Adapter fault)) = StopsBy goes start d fault
-Hosts goes start d (Err TooManyReads) = StopsBetween goes start d
-Hosts goes start d (Err OutOfMemory) = StopsBetween goes start d
+-- as many lines were heard as may be, or as many reads were made for one as may be
+pub data StopsAtMost {C : Type 0} (goes : C → IoEvent → C → Type 0) (most : ℕ) (start : HostPoint C) (d : C) : Type 0 where
+  at_lines : (heard : List (List ℕ)) (went : ℕ) (p : HostPoint C) → Heard goes start heard went p → length heard ≡ most → d ≡ p.channel → StopsAtMost goes most start d
+  at_reads : (heard : List (List ℕ)) (went : ℕ) (p : HostPoint C) (held : List ℕ) → Heard goes start heard went p → FetchesMost goes most p.channel p.held d held → StopsAtMost goes most start d
+
+abbrev pub Hosts : {C : Type 0} → (C → IoEvent → C → Type 0) → ℕ → HostPoint C → C → Result (Unit {0}) ServeFault → Type 0
+Hosts goes most start d (Ok done) = HearsAll goes start d
+Hosts goes most start d (Err Read) = StopsReading goes start d
+Hosts goes most start d (Err (Write written)) = StopsWriting goes start d written
+Hosts goes most start d (Err (Adapter fault)) = StopsBy goes start d fault
+Hosts goes most start d (Err TooManyReads) = StopsAtMost goes most start d
+Hosts goes most start d (Err OutOfMemory) = StopsBetween goes start d
 
 -- ---- the whole input
 

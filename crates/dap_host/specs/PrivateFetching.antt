@@ -3,7 +3,7 @@ use Rattle.std.specs.Prelude.{◌≡◌, ℕ, ◌<◌, Bool, true, false, List, 
 use Rattle.dap_channel.specs.Channel.{IoEvent, Gave, ReadFailed, Ran, bytes_written, HasReadFailed}
 use Rattle.dap_adapter.specs.declared.served.ServeFault.{ServeFault}
 use Rattle.dap_adapter.specs.declared.served.ServeFault.TheVariants as serve
-use Rattle.dap_host.specs.Fetching.{has_line, Fetches}
+use Rattle.dap_host.specs.Fetching.{has_line, Fetches, FetchesMost}
 use Rattle.dap_host.specs.declared.fetching.Found.{Found}
 use Rattle.dap_host.specs.declared.fetching.Found.TheVariants as found
 
@@ -38,8 +38,8 @@ ReadStops goes c held d now fault = ⊥
 abbrev pub Quiet : {C : Type 0} → (C → IoEvent → C → Type 0) → C → C → Type 0
 Quiet goes c d = (log : List IoEvent) × Ran goes c log d × (bytes_written log ≡ [])
 
-abbrev pub FetchStops : {C : Type 0} → (C → IoEvent → C → Type 0) → C → List ℕ → C → List ℕ → ServeFault → Type 0
-FetchStops goes c held d now serve.Read = Fetches goes HasReadFailed c held d now
-FetchStops goes c held d now serve.OutOfMemory = Quiet goes c d
-FetchStops goes c held d now serve.TooManyReads = Quiet goes c d
-FetchStops goes c held d now fault = ⊥
+abbrev pub FetchStops : {C : Type 0} → (C → IoEvent → C → Type 0) → ℕ → C → List ℕ → C → List ℕ → ServeFault → Type 0
+FetchStops goes most c held d now serve.Read = Fetches goes HasReadFailed c held d now
+FetchStops goes most c held d now serve.OutOfMemory = Quiet goes c d
+FetchStops goes most c held d now serve.TooManyReads = FetchesMost goes most c held d now
+FetchStops goes most c held d now fault = ⊥

@@ -24,11 +24,12 @@ serve_fault_of fault = serve.Adapter fault
 abbrev pub with_held : List ℕ → HostingState → HostingState
 with_held held v = record v { held = held }
 
--- how far it has come
-pub record SoFar {C : Type 0} (goes : C → IoEvent → C → Type 0) (start : HostPoint C) (c : C) (v : HostingState) : Type 0 where
+-- so many lines were heard, and it has come here
+pub record SoFar {C : Type 0} (goes : C → IoEvent → C → Type 0) (start : HostPoint C) (n : ℕ) (c : C) (v : HostingState) : Type 0 where
   pub heard : List (List ℕ)
   pub went : ℕ
   pub lines_heard : Heard goes start heard went (point_of c v.host v.held)
+  pub many : length heard ≡ n
   pub count : v.written ≡ saturating_count went
 
 -- ---- an answer

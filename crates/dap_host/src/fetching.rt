@@ -56,7 +56,7 @@ pub(crate) fn fetch<C: Channel>(
     ensures line { IfOk result (λ more. more ≡ has_line held.new.items) }
     ensures fetched { IfOk result (λ more. more ≡ true → Fetches C.goes MayGoOn channel.old held.old.items channel.new held.new.items) }
     ensures ended { IfOk result (λ more. more ≡ false → Fetches C.goes HasEnded channel.old held.old.items channel.new held.new.items) }
-    ensures stops { IfErr result (FetchStops C.goes channel.old held.old.items channel.new held.new.items) }
+    ensures stops { IfErr result (FetchStops C.goes max_reads channel.old held.old.items channel.new held.new.items) }
 {
     if has_line(held) {
         return Ok(true);

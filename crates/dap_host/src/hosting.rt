@@ -1,5 +1,5 @@
 //! A host over a channel: each line is answered whole before the next is heard.
-ghost use Rattle.std.specs.Prelude.{◌≡◌, [], true, false, IfOk, IfErr, OnOk, Err};
+ghost use Rattle.std.specs.Prelude.{◌≡◌, ℕ, ◌+◌, [], true, false, IfOk, IfErr, OnOk, Err};
 ghost use Rattle.dap_host.specs.Hearing.{IsGoing};
 ghost use Rattle.dap_host.specs.Fetching.{has_line};
 ghost use Rattle.dap_host.specs.Hosting.{HostPoint, point_of, HearsAll, Hosts, AnswersInput};
@@ -118,9 +118,9 @@ impl Hosting {
     ) -> Result<bool, ServeFault>
         requires { IsGoing self.old.host }
         ensures going { IfOk result (λ more. more ≡ true → IsGoing self.new.host) }
-        ensures heard { IfOk result (λ more. more ≡ true → (start : HostPoint C) → SoFar C.goes start channel.old self.old → SoFar C.goes start channel.new self.new) }
-        ensures all { IfOk result (λ more. more ≡ false → (start : HostPoint C) → SoFar C.goes start channel.old self.old → HearsAll C.goes start channel.new) }
-        ensures stops { IfErr result (λ fault. (start : HostPoint C) → SoFar C.goes start channel.old self.old → Hosts C.goes start channel.new (Err fault)) }
+        ensures heard { IfOk result (λ more. more ≡ true → (start : HostPoint C) (n : ℕ) → SoFar C.goes start n channel.old self.old → SoFar C.goes start (n + 1) channel.new self.new) }
+        ensures all { IfOk result (λ more. more ≡ false → (start : HostPoint C) (n : ℕ) → SoFar C.goes start n channel.old self.old → HearsAll C.goes start channel.new) }
+        ensures stops { IfErr result (λ fault. (start : HostPoint C) (n : ℕ) → SoFar C.goes start n channel.old self.old → Hosts C.goes max_reads start channel.new (Err fault)) }
     {
         // A law for the proof: what calls come to that are made one after the other.
         calls_add_up::<C>();
@@ -156,7 +156,7 @@ pub fn host_channel<C: Channel>(
     ensures input { OnOk result (AnswersInput C.goes channel.old host channel.new) }
 
     // In which order, and why it stops.
-    ensures hosts { Hosts C.goes (point_of channel.old host []) channel.new result }
+    ensures hosts { Hosts C.goes max_reads (point_of channel.old host []) channel.new result }
 {
     // A law for the proof: what calls come to that are made one after the other.
     calls_add_up::<C>();
