@@ -6,3 +6,4 @@ mod LineLemmas
 mod FetchLemmas
 mod HostingLemmas
 mod LogLemmas
+mod StreamLemmas

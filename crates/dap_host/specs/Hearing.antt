@@ -1,6 +1,6 @@
 -- What a host's line leads to: it is skipped, or refused, or an adapter over a fed debuggee takes what it says. The format is this
 -- profile's choice.
-use Rattle.std.specs.Prelude.{◌≡◌, ℕ, ◌+◌, ◌<◌, ◌≤◌, Bool, true, false, List, [], ◌++◌, length, take, drop, codes, bytes_eq, Option, Some, None, Ok, Err, if◌then◌else◌}
+use Rattle.std.specs.Prelude.{◌≡◌, ℕ, ◌+◌, ◌<◌, ◌≤◌, Bool, true, false, List, [], ◌∷◌, ◌++◌, length, take, drop, codes, bytes_eq, Option, Some, None, Ok, Err, if◌then◌else◌}
 use Rattle.dap_adapter.specs.AdapterState.{AdapterState}
 use Rattle.dap_adapter.specs.Parts.{AnswersPiece, PollsOn, StopsAfter}
 use Rattle.dap_adapter.specs.Run.{to_take, to_poll, has_ended}
@@ -47,11 +47,12 @@ pub record HostState : Type 0 where
   pub limits : Settings
   pub number : ℕ
 
--- its adapter is open, and what it wrote can be read
+-- its adapter is open, between two messages, and what it wrote can be read
 pub record IsGoing (h : HostState) : Type 0 where
   pub used : List ℕ
   pub history : List Entry
   pub stands : StandsFor h.adapter used history
+  pub none_held : stands.received.rest ≡ []
   pub limits_are : h.adapter.session.limits ≡ h.limits
 
 -- a host of this file to which no line came
@@ -59,6 +60,7 @@ pub record IsFresh (limits : Settings) (bytes : List ℕ) (h : HostState) : Type
   pub base : Played
   pub sources : HasSources bytes h.sources
   pub reads : ReadsBase h.sources (Ok base)
+  pub stands : StandsFor h.adapter [] []
   pub session : h.adapter.session ≡ fresh_session limits
   pub debuggee : h.adapter.debuggee ≡ fresh_live base
   pub limits_are : h.limits ≡ limits
@@ -137,11 +139,12 @@ pub record HandsOut (outs : List Message) (before after : List ℕ) : Type 0 whe
   pub acts : List HostAct
   pub lines : after ≡ before ++ (message_lines outs ++ act_lines acts)
 
--- the adapter answers a message: these lines are all that it writes for it, and nothing else
+-- the adapter takes a message, and answers it: these lines are all that it writes for it, and nothing else
 pub record AnswersMessage (old : HostState) (body before after : List ℕ) (new : HostState) : Type 0 where
   pub bytes : List ℕ
   pub ended : Bool
   pub answers : AnswersPiece shown_live FollowsLive old.adapter (frame_of body) [] new.adapter bytes ended
+  pub taken : answers.runs_on.bodies ≡ body ∷ []
   pub out : HandsOut answers.outs before after
   pub same : SameButAdapter old new
 

@@ -6,3 +6,4 @@ pub mod Fetching
 pub mod PrivateFetching
 pub mod Hosting
 pub mod PrivateHosting
+pub mod StreamLaws

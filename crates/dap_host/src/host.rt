@@ -10,6 +10,7 @@ use crate::acts::push_acts;
 use crate::messages::push_messages;
 use crate::moments::{base_of, coming_of, sources_in};
 use crate::refusal::{Refusal, push_refusal};
+use crate::streams::frames_come_one_by_one;
 use crate::told::{Told, Unread, happening_in, read_told};
 use dap_adapter::{Adapter, AdapterFault, Phase};
 use dap_debuggee::State;
@@ -132,6 +133,8 @@ impl Host {
         ensures going { IfOk result IsGoing }
         ensures refused { IfErr result (FileRefused bytes.now) }
     {
+        // For the proof: no message is under way.
+        frames_come_one_by_one(&limits);
         let sources = sources_in(alloc, bytes)?;
         let base = match base_of(alloc, &sources) {
             Ok(base) => base,
@@ -240,11 +243,14 @@ impl Host {
 
     /// Hands a message to the adapter.
     fn answer(&mut self, alloc: Global, body: &[u8], out: &mut Vec<u8>) -> Result<(), AdapterFault>
-        requires { IsGoing self.old }
+        requires going { IsGoing self.old }
+        requires takes { TakesMessage self.old body.now }
         ensures answers { OnOk result (AnswersMessage self.old body.now out.old.items out.new.items self.new) }
         ensures going { OnOk result (IsGoing self.new) }
         ensures stops { IfErr result (λ fault. fault ≢ AdapterFault.OutOfMemory → StopsMessage self.old body.now out.old.items out.new.items self.new fault) }
     {
+        // For the proof: the frame of a body is one message.
+        frames_come_one_by_one(&self.limits);
         let Ok(frame) = frame_with(alloc, body) else {
             return Err(AdapterFault::OutOfMemory);
         };
@@ -295,6 +301,8 @@ impl Host {
         ensures going { OnOk result (IsGoing self.new) }
         ensures stops { IfErr result (λ fault. fault ≢ AdapterFault.OutOfMemory → StopsTelling self.old out.old.items out.new.items self.new fault) }
     {
+        // For the proof: no message is under way.
+        frames_come_one_by_one(&self.limits);
         self.mail.post(coming);
         let mut bytes = Vec::new(alloc);
         match self.adapter.tell(alloc, &mut bytes) {

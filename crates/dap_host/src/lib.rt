@@ -13,6 +13,7 @@ mod hosting;
 mod messages;
 mod moments;
 mod refusal;
+mod streams;
 mod told;
 
 pub use host::Host;

@@ -2,31 +2,18 @@
 ghost use Rattle.std.specs.Prelude.{◌≡◌, ◌++◌, List, OnOk};
 ghost use Rattle.std.specs.List.{flat_map};
 ghost use Rattle.std.specs.Str.Lines.{lines};
-ghost use Rattle.dap_frame.specs.Settings.{AreInRange};
 ghost use Rattle.dap_message.specs.ReadBack.{AllReadBack};
 ghost use Rattle.dap_message.specs.declared.message.Message.{Message};
 ghost use Rattle.dap_outbox.specs.Draft.{bytes_of};
 ghost use Rattle.dap_host.specs.Written.{marked_line, message_lines};
 
+use crate::streams::limits_are_in_range;
 use dap_check::split_line;
 use dap_frame::{Limits, each_stream_has_one_split, written_is_read_again};
 use dap_message::laws::canonical_text_is_one_line;
 use dap_stream::laws::{bodies_are_framed_again, each_body_is_a_line};
 use dap_stream::unwrap;
 use std::alloc::{AllocError, Global};
-
-/// That limits are in their ranges, for the proof.
-fn limits_are_in_range(limits: &Limits)
-    ensures { AreInRange limits.now }
-{
-    let _header = limits.header();
-    let _body = limits.body();
-    let _requests = limits.requests();
-    let _references = limits.references();
-    let _breakpoints = limits.breakpoints();
-    let _seq = limits.seq();
-    let _reference = limits.reference();
-}
 
 /// Appends a line behind the mark of the adapter.
 fn push_line(out: &mut Vec<u8>, line: &[u8]) -> Result<(), AllocError>
