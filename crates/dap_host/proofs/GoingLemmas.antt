@@ -73,13 +73,13 @@ module _ (h : HostState) (going : IsGoing h) (laws : StreamLaws (bounds_of h.lim
     whole [] is all =
         let used_is : answers.used ≡ frame_of body = sym (append-nil answers.used) ∙ sym is in
         let more : Split (bounds_of h.limits) (going.used ++ answers.used) (going.stands.received.bodies ++ body ∷ []) [] = subst (λ (z : List ℕ). Split (bounds_of h.limits) (going.used ++ z) (going.stands.received.bodies ++ body ∷ []) []) (sym used_is)
-            (one_frame_more (bounds_of h.limits) going.used going.stands.received.bodies (frame_of body) body so_far (laws.frame body takes.fits)) in
+        (one_frame_more (bounds_of h.limits) going.used going.stands.received.bodies (frame_of body) body so_far (laws.frame body takes.fits)) in
         let same = laws.one (going.used ++ answers.used) (going.stands.received.bodies ++ answers.runs_on.bodies) (going.stands.received.bodies ++ body ∷ []) rest_there [] (split_there new to_take to_take answers.used answers.outs answers.runs_on) more in
         (same_front going.stands.received.bodies answers.runs_on.bodies (body ∷ []) same.0, same.1)
     whole (b ∷ later) is all =
         let none : NoFrame (bounds_of h.limits) answers.used = laws.no_frame body answers.used later b takes.fits is in
         let same = laws.one (going.used ++ answers.used) (going.stands.received.bodies ++ answers.runs_on.bodies) going.stands.received.bodies rest_there answers.used (split_there new to_take to_take answers.used answers.outs answers.runs_on)
-            (some_of_a_frame (bounds_of h.limits) going.used going.stands.received.bodies answers.used so_far none) in
+        (some_of_a_frame (bounds_of h.limits) going.used going.stands.received.bodies answers.used so_far none) in
         let none_come : answers.runs_on.bodies ≡ [] = same_front going.stands.received.bodies answers.runs_on.bodies [] (same.0 ∙ sym (append-nil going.stands.received.bodies)) in
         let stays : state_of new ≡ state_of h.adapter = stays_there shown_live FollowsLive (state_of h.adapter) answers.runs_on.bodies answers.outs to_take (state_of new) answers.runs_on.run none_come in
         let not_ended : ended ≡ false = sym answers.ended_is ∙ ap (λ (p : SessionState LiveState). has_ended p.session) stays ∙ takes.going in

@@ -1,6 +1,6 @@
 -- What a host's line leads to: it is skipped, or refused, or an adapter over a fed debuggee takes what it says. The format is this
 -- profile's choice.
-use Rattle.std.specs.Prelude.{◌≡◌, ℕ, ◌+◌, ◌<◌, ◌≤◌, Bool, true, false, List, [], ◌∷◌, ◌++◌, length, take, drop, codes, bytes_eq, Option, Some, None, Ok, Err, if◌then◌else◌}
+use Rattle.std.specs.Prelude.{◌≡◌, ◌⊎◌, ℕ, ◌+◌, ◌<◌, ◌≤◌, Bool, true, false, List, [], ◌∷◌, ◌++◌, length, take, drop, codes, bytes_eq, Option, Some, None, Ok, Err, if◌then◌else◌}
 use Rattle.dap_adapter.specs.AdapterState.{AdapterState}
 use Rattle.dap_adapter.specs.Parts.{AnswersPiece, PollsOn, StopsAfter}
 use Rattle.dap_adapter.specs.Run.{to_take, to_poll, has_ended}
@@ -132,6 +132,10 @@ pub record Refuses (old : HostState) (why : Refusal) (before after : List ℕ) (
   pub line : after ≡ before ++ refusal_line old.number why
   pub same : new ≡ old
 
+-- the line of this number is refused, or nothing is said
+abbrev pub MayRefuse : ℕ → List ℕ → List ℕ → Type 0
+MayRefuse number before after = (after ≡ before) ⊎ ((why : Drop) × (after ≡ before ++ refusal_line number (Dropped why)))
+
 -- ---- what is done
 
 -- the lines of what an adapter wrote, and then those of acts that the debugger has to do
@@ -155,13 +159,19 @@ pub record TellsIt (old : HostState) (before after : List ℕ) (new : HostState)
   pub out : HandsOut polls.outs before after
   pub same : SameButAdapter old new
 
+-- and where the debuggee drops after all what was told, the line is refused behind them
+pub record TellsOrDrops (old : HostState) (before after : List ℕ) (new : HostState) : Type 0 where
+  pub lines : List ℕ
+  pub tells : TellsIt old before lines new
+  pub dropped : MayRefuse old.number lines after
+
 pub data HearsMessage (old : HostState) (body before after : List ℕ) (new : HostState) : Type 0 where
   refused : (why : Refusal) → RefusesMessage old body why → Refuses old why before after new → HearsMessage old body before after new
   answered : TakesMessage old body → AnswersMessage old body before after new → HearsMessage old body before after new
 
 pub data HearsHappening (old : HostState) (text before after : List ℕ) (new : HostState) : Type 0 where
   not_heard : (why : Refusal) → RefusesTold old text why → Refuses old why before after new → HearsHappening old text before after new
-  heard : (coming : Coming) → HearsTold old text coming → TellsIt old before after new → HearsHappening old text before after new
+  heard : (coming : Coming) → HearsTold old text coming → TellsOrDrops old before after new → HearsHappening old text before after new
 
 -- ---- a line, by its first two bytes
 

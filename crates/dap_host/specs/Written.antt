@@ -9,7 +9,7 @@ use Rattle.dap_call.specs.declared.call.SourceKey.TheVariants.{Path, Reference}
 use Rattle.dap_debuggee.specs.declared.answers.How.{How}
 use Rattle.dap_debuggee.specs.declared.answers.How.TheVariants.{StepIn, Next, StepOut, Continue, StepBack, ReverseContinue}
 use Rattle.dap_live.specs.declared.mail.Dropped.{Dropped as Drop}
-use Rattle.dap_live.specs.declared.mail.Dropped.TheVariants.{OutOfTurn, OutOfRange, TooManySources}
+use Rattle.dap_live.specs.declared.mail.Dropped.TheVariants.{OutOfTurn, OutOfRange, TooManySources, Told, TooManyHolders}
 use Rattle.dap_live.specs.declared.mail.HostAct.{HostAct}
 use Rattle.dap_live.specs.declared.mail.HostAct.TheVariants.{Start, Resume, Pause, SetBreakpoints, Assign, End}
 use Rattle.dap_message.specs.Canon.{canon}
@@ -17,7 +17,7 @@ use Rattle.dap_message.specs.declared.message.Message.{Message}
 use Rattle.dap_recording.specs.RecordingKey.{name_of}
 use Rattle.dap_stream.specs.Lines.{name_of_body_refusal}
 use Rattle.dap_host.specs.declared.refusal.HostKey.{HostKey}
-use Rattle.dap_host.specs.declared.refusal.HostKey.TheVariants.{Happened, Category, Output, Reason, Thread, Moment, Code, Text, Value}
+use Rattle.dap_host.specs.declared.refusal.HostKey.TheVariants.{Happened, Category, Output, Reason, Thread, Moment, Code, Text, Value, Later, Holder, Variables, Name}
 use Rattle.dap_host.specs.declared.refusal.Refusal.{Refusal}
 use Rattle.dap_host.specs.declared.refusal.Refusal.TheVariants.{BadLine, Body, BodyTooLong, Ended, NotJson, BadKey, BadMoment, Dropped}
 
@@ -91,11 +91,17 @@ host_key_name Moment = codes "moment"
 host_key_name Code = codes "code"
 host_key_name Text = codes "text"
 host_key_name Value = codes "value"
+host_key_name Later = codes "later"
+host_key_name Holder = codes "holder"
+host_key_name Variables = codes "variables"
+host_key_name Name = codes "name"
 
 abbrev pub dropped_name : Drop → List ℕ
 dropped_name OutOfTurn = codes "OutOfTurn"
 dropped_name OutOfRange = codes "OutOfRange"
 dropped_name TooManySources = codes "TooManySources"
+dropped_name Told = codes "Told"
+dropped_name TooManyHolders = codes "TooManyHolders"
 
 unfoldable pub reason_of : Refusal → List ℕ
 reason_of BadLine = codes "BadLine"

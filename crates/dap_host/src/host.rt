@@ -114,7 +114,7 @@ impl Model for Host {
 
 impl Host {
     ghost use Rattle.std.specs.Prelude.{◌≡◌, ◌≢◌, ◌++◌, List, IfOk, IfErr, OnOk, OnErr, IfSome, None, Err, true};
-    ghost use Rattle.dap_host.specs.Hearing.{IsFresh, IsGoing, HandsOut, RefusesMessage, TakesMessage, HearsTold, IsUnheard, AnswersMessage, TellsIt, StopsMessage, StopsTelling, HearsMessage, HearsHappening, HearsMarked, StopsMarked, Hears, Stops};
+    ghost use Rattle.dap_host.specs.Hearing.{IsFresh, IsGoing, HandsOut, RefusesMessage, TakesMessage, HearsTold, IsUnheard, AnswersMessage, MayRefuse, TellsIt, TellsOrDrops, StopsMessage, StopsTelling, HearsMessage, HearsHappening, HearsMarked, StopsMarked, Hears, Stops};
     ghost use Rattle.dap_host.specs.Moments.{FileRefused};
     ghost use Rattle.dap_host.specs.Written.{message_lines, refusal_line};
     ghost use Rattle.dap_message.specs.ReadBack.{AllReadBack};
@@ -287,10 +287,38 @@ impl Host {
         ensures stops { IfErr result (λ fault. fault ≢ AdapterFault.OutOfMemory → ((coming : Coming) × HearsTold self.old text.now coming) × StopsTelling self.old out.old.items out.new.items self.new fault) }
     {
         match self.coming_in(alloc, text) {
-            Ok(coming) => self.tell(alloc, coming, out),
+            Ok(coming) => self.tell_or_refuse(alloc, coming, out),
             Err(Unread::Refused(why)) => self.refuse(why, out),
             Err(Unread::OutOfMemory) => Err(AdapterFault::OutOfMemory),
         }
+    }
+
+    /// Refuses the line, where the debuggee dropped what it told.
+    fn refuse_dropped(&self, out: &mut Vec<u8>) -> Result<(), AdapterFault>
+        ensures refused { OnOk result (MayRefuse self.now.number out.old.items out.new.items) }
+        ensures memory { IfErr result (λ fault. fault ≡ AdapterFault.OutOfMemory) }
+    {
+        match self.mail.take_dropped() {
+            None => Ok(()),
+            Some(why) => self.refuse(Refusal::Dropped(why), out),
+        }
+    }
+
+    /// Lets the adapter tell what happened, and refuses the line where that is dropped after all.
+    fn tell_or_refuse(
+        &mut self,
+        alloc: Global,
+        coming: Coming,
+        out: &mut Vec<u8>,
+    ) -> Result<(), AdapterFault>
+        requires going { IsGoing self.old }
+        requires in_a_run { has_debuggee self.old.adapter.session.phase ≡ true }
+        ensures tells { OnOk result (TellsOrDrops self.old out.old.items out.new.items self.new) }
+        ensures going { OnOk result (IsGoing self.new) }
+        ensures stops { IfErr result (λ fault. fault ≢ AdapterFault.OutOfMemory → StopsTelling self.old out.old.items out.new.items self.new fault) }
+    {
+        self.tell(alloc, coming, out)?;
+        self.refuse_dropped(out)
     }
 
     /// Lets the adapter tell what happened.

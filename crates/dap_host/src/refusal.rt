@@ -20,6 +20,10 @@ pub enum HostKey {
     Code,
     Text,
     Value,
+    Later,
+    Holder,
+    Variables,
+    Name,
 }
 
 impl HostKey {
@@ -39,6 +43,10 @@ impl HostKey {
             HostKey::Code => "code",
             HostKey::Text => "text",
             HostKey::Value => "value",
+            HostKey::Later => "later",
+            HostKey::Holder => "holder",
+            HostKey::Variables => "variables",
+            HostKey::Name => "name",
         }
     }
 }
@@ -71,6 +79,8 @@ fn dropped_name(dropped: Dropped) -> &'static str
         Dropped::OutOfTurn => "OutOfTurn",
         Dropped::OutOfRange => "OutOfRange",
         Dropped::TooManySources => "TooManySources",
+        Dropped::Told => "Told",
+        Dropped::TooManyHolders => "TooManyHolders",
     }
 }
 

@@ -6,10 +6,10 @@ use Rattle.dap_host.proofs.GoingLemmas.{err_weaker}
 use Rattle.dap_host.proofs.host.Host.hear_happening.Goals as goal
 
 pub returns-in-Ok-clause-hears : goal.returns-in-Ok-clause-hears
-returns-in-Ok-clause-hears c = on_ok_weaker c.tell.result (λ tells. heard _ c.in-Ok.ensures.hears tells) c.tell.ensures.tells
+returns-in-Ok-clause-hears c = on_ok_weaker c.tell_or_refuse.result (λ tells. heard _ c.in-Ok.ensures.hears tells) c.tell_or_refuse.ensures.tells
 
 pub returns-in-Ok-clause-stops : goal.returns-in-Ok-clause-stops
-returns-in-Ok-clause-stops c = err_weaker c.tell.result (λ fault stops some. ((_, c.in-Ok.ensures.hears), stops some)) c.tell.ensures.stops
+returns-in-Ok-clause-stops c = err_weaker c.tell_or_refuse.result (λ fault stops some. ((_, c.in-Ok.ensures.hears), stops some)) c.tell_or_refuse.ensures.stops
 
 pub returns-in-Err-Refused-clause-hears : goal.returns-in-Err-Refused-clause-hears
 returns-in-Err-Refused-clause-hears c = let w = c.in-Err-Refused.why-is in on_ok_weaker c.refuse.result (λ line.
