@@ -27,9 +27,10 @@ use Rattle.dap_live.specs.declared.mail.Dropped.{Dropped as Drop}
 use Rattle.dap_host.specs.Moments.{Fails}
 use Rattle.dap_host.specs.StreamLaws.{StreamLaws}
 use Rattle.dap_host.proofs.StreamLemmas.{same_front, one_frame_more, some_of_a_frame, stays_there}
-use Rattle.dap_host.specs.Told.{told_of}
+use Rattle.dap_host.specs.Told.{said_of}
 use Rattle.dap_host.specs.declared.refusal.Refusal.TheVariants.{Dropped}
 use Rattle.dap_host.specs.declared.told.Told.{Told}
+use Rattle.dap_host.specs.declared.told.Said.TheVariants.{Happened}
 use Rattle.dap_host.specs.declared.told.Unread.{Unread}
 use Rattle.dap_host.specs.declared.told.Unread.TheVariants.{Refused, OutOfMemory as NoMemory}
 
@@ -213,14 +214,14 @@ if_err (Err e) f h = f e h
 pub err_weaker : {A E : Type 0} {P Q : E → Type 0} (r : Result A E) → ((e : E) → P e → Q e) → IfErr r P → IfErr r Q
 err_weaker r f h = if_err r f h
 
-at_moment : (h : HostState) (text : List ℕ) (t : Told) → told_of text ≡ Ok t → drop_of h.adapter.session.phase t ≡ None → (u : Unread) → Fails h.sources t u → IsUnheard h text u
+at_moment : (h : HostState) (text : List ℕ) (t : Told) → said_of text ≡ Ok (Happened t) → drop_of h.adapter.session.phase t ≡ None → (u : Unread) → Fails h.sources t u → IsUnheard h text u
 at_moment h text t is kept (Refused why) fails = bad_moment t is kept fails
 at_moment h text t is kept NoMemory fails = tt
 
-pub unheard_at : (o h : HostState) (text sources : List ℕ) (phase : Phase) (t : Told) (r : Result Coming Unread) (found : Option Drop) → o ≡ h → told_of text ≡ Ok t → phase ≡ o.adapter.session.phase → found ≡ drop_of phase t → found ≡ None → sources ≡ o.sources → IfErr r (Fails sources t) → IfErr r (IsUnheard h text)
+pub unheard_at : (o h : HostState) (text sources : List ℕ) (phase : Phase) (t : Told) (r : Result Coming Unread) (found : Option Drop) → o ≡ h → said_of text ≡ Ok (Happened t) → phase ≡ o.adapter.session.phase → found ≡ drop_of phase t → found ≡ None → sources ≡ o.sources → IfErr r (Fails sources t) → IfErr r (IsUnheard h text)
 unheard_at o h text sources phase t r found e is p d none s fails =
     let kept : drop_of o.adapter.session.phase t ≡ None = ap (λ (z : Phase). drop_of z t) (sym p) ∙ (sym d ∙ none) in
     subst (λ (z : HostState). IfErr r (IsUnheard z text)) e (if_err r (λ u. at_moment o text t is kept u) (subst (λ (z : List ℕ). IfErr r (Fails z t)) s fails))
 
-pub dropped_at : (o h : HostState) (text : List ℕ) (phase : Phase) (t : Told) (found : Option Drop) (why : Drop) → o ≡ h → told_of text ≡ Ok t → phase ≡ o.adapter.session.phase → found ≡ drop_of phase t → found ≡ Some why → RefusesTold h text (Dropped why)
+pub dropped_at : (o h : HostState) (text : List ℕ) (phase : Phase) (t : Told) (found : Option Drop) (why : Drop) → o ≡ h → said_of text ≡ Ok (Happened t) → phase ≡ o.adapter.session.phase → found ≡ drop_of phase t → found ≡ Some why → RefusesTold h text (Dropped why)
 dropped_at o h text phase t found why e is p d some = subst (λ (z : HostState). RefusesTold z text (Dropped why)) e (dropped t why is (ap (λ (z : Phase). drop_of z t) (sym p) ∙ (sym d ∙ some)) refl)

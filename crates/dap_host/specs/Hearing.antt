@@ -25,15 +25,17 @@ use Rattle.dap_message.specs.Refusals.{Bad}
 use Rattle.dap_message.specs.declared.message.Message.{Message}
 use Rattle.dap_replay.specs.Played.{Played}
 use Rattle.dap_session.specs.Session.{fresh_session}
+use Rattle.dap_tables.specs.References.{target_of}
 use Rattle.dap_session.specs.declared.fault.AdapterFault.{AdapterFault}
 use Rattle.dap_session.specs.declared.fault.AdapterFault.TheVariants.{OutOfMemory}
 use Rattle.dap_host.specs.Moments.{IsComing, Fails, HasSources, ReadsBase}
-use Rattle.dap_host.specs.Told.{told_of, happening_of}
-use Rattle.dap_host.specs.Written.{message_lines, act_lines, refusal_line}
+use Rattle.dap_host.specs.Told.{said_of, happening_of}
+use Rattle.dap_host.specs.Written.{message_lines, act_lines, refusal_line, target_line}
 use Rattle.dap_host.specs.declared.host.Mark.{Mark}
 use Rattle.dap_host.specs.declared.host.Mark.TheVariants as mark
 use Rattle.dap_host.specs.declared.refusal.Refusal.{Refusal}
 use Rattle.dap_host.specs.declared.refusal.Refusal.TheVariants.{BadLine, Body, BodyTooLong, Ended, Dropped}
+use Rattle.dap_host.specs.declared.told.Said.TheVariants.{Happened, Target}
 use Rattle.dap_host.specs.declared.told.Told.{Told}
 use Rattle.dap_host.specs.declared.told.Unread.{Unread}
 use Rattle.dap_host.specs.declared.told.Unread.TheVariants.{Refused, OutOfMemory as NoMemory}
@@ -111,9 +113,9 @@ drop_of phase told = dropped_in (state_of phase) told
 
 -- why what a host tells is refused: it is not read, or it is dropped, or its moment is none
 pub data RefusesTold (h : HostState) (text : List ℕ) (why : Refusal) : Type 0 where
-  unread : told_of text ≡ Err why → RefusesTold h text why
-  dropped : (told : Told) (drop : Drop) → told_of text ≡ Ok told → drop_of h.adapter.session.phase told ≡ Some drop → why ≡ Dropped drop → RefusesTold h text why
-  bad_moment : (told : Told) → told_of text ≡ Ok told → drop_of h.adapter.session.phase told ≡ None → Fails h.sources told (Refused why) → RefusesTold h text why
+  unread : said_of text ≡ Err why → RefusesTold h text why
+  dropped : (told : Told) (drop : Drop) → said_of text ≡ Ok (Happened told) → drop_of h.adapter.session.phase told ≡ Some drop → why ≡ Dropped drop → RefusesTold h text why
+  bad_moment : (told : Told) → said_of text ≡ Ok (Happened told) → drop_of h.adapter.session.phase told ≡ None → Fails h.sources told (Refused why) → RefusesTold h text why
 
 -- the same; nothing is said where memory was refused
 abbrev pub IsUnheard : HostState → List ℕ → Unread → Type 0
@@ -123,7 +125,7 @@ IsUnheard h text NoMemory = Unit {0}
 -- what a host tells that is heard: this comes of it
 pub record HearsTold (h : HostState) (text : List ℕ) (coming : Coming) : Type 0 where
   pub told : Told
-  pub is : told_of text ≡ Ok told
+  pub is : said_of text ≡ Ok (Happened told)
   pub kept : drop_of h.adapter.session.phase told ≡ None
   pub comes : IsComing h.sources told coming
 
@@ -159,6 +161,11 @@ pub record TellsIt (old : HostState) (before after : List ℕ) (new : HostState)
   pub out : HandsOut polls.outs before after
   pub same : SameButAdapter old new
 
+-- what a number of the client names is answered, and nothing else has changed
+pub record AnswersTarget (old : HostState) (number : ℕ) (before after : List ℕ) (new : HostState) : Type 0 where
+  pub line : after ≡ before ++ target_line number (target_of old.adapter.session.references number)
+  pub same : new ≡ old
+
 -- and where the debuggee drops after all what was told, the line is refused behind them
 pub record TellsOrDrops (old : HostState) (before after : List ℕ) (new : HostState) : Type 0 where
   pub lines : List ℕ
@@ -171,6 +178,7 @@ pub data HearsMessage (old : HostState) (body before after : List ℕ) (new : Ho
 
 pub data HearsHappening (old : HostState) (text before after : List ℕ) (new : HostState) : Type 0 where
   not_heard : (why : Refusal) → RefusesTold old text why → Refuses old why before after new → HearsHappening old text before after new
+  asked : (number : ℕ) → said_of text ≡ Ok (Target number) → AnswersTarget old number before after new → HearsHappening old text before after new
   heard : (coming : Coming) → HearsTold old text coming → TellsOrDrops old before after new → HearsHappening old text before after new
 
 -- ---- a line, by its first two bytes

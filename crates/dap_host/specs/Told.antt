@@ -13,13 +13,17 @@ use Rattle.dap_json.specs.Read.{json_of}
 use Rattle.dap_json.specs.Steps.{◌>>=◌, Returns}
 use Rattle.dap_recording.specs.Reading.{exit_of}
 use Rattle.dap_host.specs.declared.refusal.HostKey.{HostKey}
-use Rattle.dap_host.specs.declared.refusal.HostKey.TheVariants.{Happened, Category, Output, Reason, Thread, Moment, Code, Text, Value, Later, Holder, Variables, Name}
+use Rattle.dap_host.specs.declared.refusal.HostKey.TheVariants.{Happened, Category, Output, Reason, Thread, Moment, Code, Text, Value, Later, Holder, Variables, Name, Asked, Number}
 use Rattle.dap_host.specs.declared.refusal.Refusal.{Refusal}
 use Rattle.dap_host.specs.declared.refusal.Refusal.TheVariants.{NotJson, BadKey}
 use Rattle.dap_host.specs.declared.told.Kind.{Kind}
 use Rattle.dap_host.specs.declared.told.Kind.TheVariants as kind
 use Rattle.dap_host.specs.declared.told.Told.{Told}
 use Rattle.dap_host.specs.declared.told.Told.TheVariants as told
+use Rattle.dap_host.specs.declared.told.Question.{Question}
+use Rattle.dap_host.specs.declared.told.Question.TheVariants as question
+use Rattle.dap_host.specs.declared.told.Said.{Said}
+use Rattle.dap_host.specs.declared.told.Said.TheVariants as said
 use Rattle.dap_host.specs.declared.told.Unread.{Unread}
 use Rattle.dap_host.specs.declared.told.Unread.TheVariants as unread
 
@@ -181,26 +185,52 @@ told_in d = do
   kind ← or_bad Happened (option_and_then kind_named (text_at (codes "happened") d))
   told_by kind d
 
+-- ---- what is said: what happened, or a question
+
+abbrev pub question_named : List ℕ → Option Question
+question_named name = if bytes_eq name (codes "target") then Some question.Target else None
+
+abbrev pub number_in : Data → Read ℕ
+number_in d = or_bad Number (option_and_then number_of (tree_at (codes "number") d))
+
+unfoldable pub asked_in : Data → Read Said
+asked_in d = do
+  question ← or_bad Asked (option_and_then question_named (text_at (codes "asked") d))
+  number ← number_in d
+  Ok (said.Target number)
+
+unfoldable pub happened_in : Data → Read Said
+happened_in d = do
+  told ← told_in d
+  Ok (said.Happened told)
+
+abbrev pub said_by : Option Data → Data → Read Said
+said_by None d = happened_in d
+said_by (Some asked) d = asked_in d
+
+abbrev pub said_in : Data → Read Said
+said_in d = said_by (tree_at (codes "asked") d) d
+
 -- ---- a text
 
-abbrev pub or_refusal : Read Told → Result Told Refusal
-or_refusal (Ok t) = Ok t
+abbrev pub or_refusal : Read Said → Result Said Refusal
+or_refusal (Ok s) = Ok s
 or_refusal (Err k) = Err (BadKey k)
 
-abbrev pub told_or_none : Option Data → Result Told Refusal
-told_or_none None = Err NotJson
-told_or_none (Some d) = or_refusal (told_in d)
+abbrev pub said_or_none : Option Data → Result Said Refusal
+said_or_none None = Err NotJson
+said_or_none (Some d) = or_refusal (said_in d)
 
--- what a text tells, or why it is refused
-abbrev pub told_of : List ℕ → Result Told Refusal
-told_of text = told_or_none (json_of text)
+-- what a text says, or why it is refused
+abbrev pub said_of : List ℕ → Result Said Refusal
+said_of text = said_or_none (json_of text)
 
-abbrev pub Says : Unread → Result Told Refusal → Type 0
+abbrev pub Says : Unread → Result Said Refusal → Type 0
 Says (unread.Refused why) read = read ≡ Err why
 Says unread.OutOfMemory read = Unit {0}
 
-abbrev pub Tells : Result Told Unread → List ℕ → Type 0
-Tells result text = Returns (λ x. x) Says result (told_of text)
+abbrev pub Tells : Result Said Unread → List ℕ → Type 0
+Tells result text = Returns (λ x. x) Says result (said_of text)
 
 -- ---- what happens by it
 

@@ -24,6 +24,8 @@ pub enum HostKey {
     Holder,
     Variables,
     Name,
+    Asked,
+    Number,
 }
 
 impl HostKey {
@@ -47,6 +49,8 @@ impl HostKey {
             HostKey::Holder => "holder",
             HostKey::Variables => "variables",
             HostKey::Name => "name",
+            HostKey::Asked => "asked",
+            HostKey::Number => "number",
         }
     }
 }

@@ -5,6 +5,8 @@ ghost use Rattle.serde_json.specs.View.{view, items_view};
 ghost use Rattle.dap_json.specs.Field.{tree_at};
 ghost use Rattle.dap_host.specs.Told.{later_in as later_at, holder_in as holder_at, told_holder_in as told_holder_at, variable_of, each_variable, variables_of as variables_of_items, variables_in as variables_told, learned_by as learned_of_key, GivesList};
 ghost use Rattle.dap_host.specs.Told.{Gives, Tells, text_in, category_in as category_of, category_named as category_of_name, thread_in as thread_of, code_in as code_of, value_in as value_of, output_in as output_of, stop_in as stop_of, continued_in as continued_of, exit_in as exit_of, learned_in as learned_of, kind_named as kind_of_name, told_in as told_of, happening_of};
+ghost use Rattle.dap_host.specs.Told.{question_named as question_of_name, number_in as number_of_key, asked_in as asked_of, happened_in as happened_of, said_in as said_of};
+ghost use Rattle.std.specs.Option.{is_some};
 ghost use Rattle.dap_host.specs.Written.{host_key_name};
 ghost use Rattle.dap_host.specs.declared.refusal.Refusal.{Refusal};
 ghost use Rattle.dap_host.specs.declared.told.Unread.{Unread};
@@ -44,6 +46,14 @@ pub(crate) enum Told {
         holder: u64,
         variables: List<Variable>,
     },
+}
+
+/// What a host says: what it tells, or a question.
+#[derive(Drop)]
+pub(crate) enum Said {
+    Happened(Told),
+    /// What a number of the client names.
+    Target(u32),
 }
 
 /// Why what a host tells is not read.
@@ -319,12 +329,70 @@ fn told_in(alloc: Global, told: &mut Value) -> Result<Told, Unread>
     }
 }
 
-/// What the JSON text of a host tells.
-pub(crate) fn read_told(alloc: Global, text: &[u8]) -> Result<Told, Unread>
+#[derive(Clone, Copy)]
+enum Question {
+    Target,
+}
+
+fn question_named(name: &str) -> Option<Question>
+    ensures { result ≡ question_of_name name.now }
+{
+    match name {
+        "target" => Some(Question::Target),
+        _ => None,
+    }
+}
+
+/// A number of the client.
+fn number_in(said: &Value) -> Result<u32, Unread>
+    ensures { Gives result (number_of_key (view said.now)) }
+{
+    field::present(said, "number")
+        .and_then(numbers::number)
+        .ok_or(bad(HostKey::Number))
+}
+
+#[tactic(auto, unfolding(crate::specs::Told::asked_in))]
+fn asked_in(said: &Value) -> Result<Said, Unread>
+    ensures { Gives result (asked_of (view said.now)) }
+{
+    let _question = field::text(said, "asked")
+        .and_then(question_named)
+        .ok_or(bad(HostKey::Asked))?;
+    let number = number_in(said)?;
+    Ok(Said::Target(number))
+}
+
+#[tactic(auto, unfolding(crate::specs::Told::happened_in))]
+fn happened_in(alloc: Global, said: &mut Value) -> Result<Said, Unread>
+    ensures { Gives result (happened_of (view said.old)) }
+{
+    let told = told_in(alloc, said)?;
+    Ok(Said::Happened(told))
+}
+
+fn is_question(said: &Value) -> bool
+    ensures { result ≡ is_some (tree_at (codes "asked") (view said.now)) }
+{
+    field::present(said, "asked").is_some()
+}
+
+/// What is said: a question where there is one, else what happened.
+fn said_in(alloc: Global, said: &mut Value) -> Result<Said, Unread>
+    ensures { Gives result (said_of (view said.old)) }
+{
+    if is_question(said) {
+        return asked_in(said);
+    }
+    happened_in(alloc, said)
+}
+
+/// What the JSON text of a host says.
+pub(crate) fn read_said(alloc: Global, text: &[u8]) -> Result<Said, Unread>
     ensures { Tells result text.now }
 {
     match parse(alloc, text) {
-        Ok(mut told) => told_in(alloc, &mut told),
+        Ok(mut said) => said_in(alloc, &mut said),
         Err(ParseFault::NotJson) => Err(Unread::Refused(Refusal::NotJson)),
         Err(ParseFault::OutOfMemory) => Err(Unread::OutOfMemory),
     }
