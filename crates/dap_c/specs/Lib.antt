@@ -1,0 +1,4 @@
+pub mod Behind
+pub mod FramesHandled
+pub mod Limited
+pub mod Refused

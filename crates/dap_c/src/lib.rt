@@ -1,0 +1,22 @@
+//! The library for programs in C, and in whatever can call C.
+//!
+//! Each export calls the library's own function, and has its clauses over the value behind the handle. What the library
+//! holds between two calls is behind a handle that the caller keeps: two words, all zero where nothing is held. Bytes come
+//! in by a pointer and a length, and go out by a copy into the caller's buffer, whose length a call before has told.
+//! Nothing here is global, calls back, starts a thread, reads or writes. `docs/C.md` has the calls in a table.
+//!
+//! A file a concern: `codes` has what calls answer, `copying` puts bytes into a buffer, and the others have the exports.
+#![tactic(auto)]
+
+mod codes;
+mod copying;
+mod frames;
+mod limits;
+mod write;
+
+pub use frames::{
+    FramesHandle, YtFed, YtFrames, yt_frames_body, yt_frames_feed, yt_frames_finish,
+    yt_frames_free, yt_frames_open, yt_frames_release,
+};
+pub use limits::{YtLimits, yt_limits_usual};
+pub use write::yt_frame;
