@@ -11,6 +11,7 @@
 mod codes;
 mod copying;
 mod frames;
+mod heading;
 mod limits;
 mod write;
 
@@ -18,5 +19,6 @@ pub use frames::{
     FramesHandle, YtFed, YtFrames, yt_frames_body, yt_frames_feed, yt_frames_finish,
     yt_frames_free, yt_frames_open, yt_frames_release,
 };
+pub use heading::{YtHeading, yt_heading};
 pub use limits::{YtLimits, yt_limits_usual};
 pub use write::yt_frame;
