@@ -1,1 +1,2 @@
+mod ClientHandles
 mod FramesHandles

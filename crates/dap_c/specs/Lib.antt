@@ -1,5 +1,11 @@
 pub mod Behind
+pub mod CallGiven
+pub mod ClientCalls
+pub mod ClientFaults
+pub mod ClientHandled
+pub mod ClientSeen
 pub mod FramesHandled
 pub mod HeadingFound
+pub mod Heap
 pub mod Limited
 pub mod Refused

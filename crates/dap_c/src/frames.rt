@@ -2,7 +2,7 @@
 //!
 //! Pieces of a stream come in, and the bodies in it go out one by one. What a reader is and does is in `dap_frame`; each
 //! export has the clauses of its function there. Only the reader behind the handle and the caller's buffer are touched.
-ghost use Rattle.std.specs.Prelude.{◌≡◌, ◌<◌, ◌≤◌, List, [], ◌++◌, ℕ, length, drop, IfOk, IfErr, OnOk, Option, Some, None, IsSome, IfSome, IfNone, true, false};
+ghost use Rattle.std.specs.Prelude.{◌≡◌, ◌<◌, ◌≤◌, List, [], ◌++◌, ℕ, length, drop, IfOk, IfErr, OnOk, Option, Some, None, IsSome, IfSome, IfNone, is_some};
 ghost use Rattle.dap_frame.specs.Feeds.{Completes, Gathers};
 ghost use Rattle.dap_frame.specs.Intake.{Intake, IsReady, IsUnderWay, IsGivenUp, StandsFor};
 ghost use Rattle.dap_frame.specs.Intake.{IsClosed};
@@ -42,8 +42,7 @@ impl Model for FramesHandle {
 pub struct YtFrames {
     pub inner: FramesHandle,
     pub full: bool,
-    ghost held: { full ≡ true → IsSome inner.value },
-    ghost none: { full ≡ false → inner.value ≡ None },
+    ghost held: { full ≡ is_some inner.value },
 }
 
 /// What a piece did.
@@ -160,7 +159,7 @@ pub extern "C" fn yt_frames_free(alloc: Global, frames: &mut YtFrames)
     taken(alloc, frames);
 }
 
-fn cause_of(refusal: Refusal) -> u32
+pub(crate) fn cause_of(refusal: Refusal) -> u32
     ensures { result ≡ refusal_number refusal }
 {
     match refusal {
