@@ -1,14 +1,12 @@
 -- Why a client sends nothing, answers nothing or is closed, as a code and as what is found of it.
 use Rattle.std.specs.Prelude.{◌≡◌, ℕ}
-use Rattle.dap_message.specs.declared.fault.BodyRefusal.{BodyRefusal}
-use Rattle.dap_message.specs.declared.fault.BodyRefusal.TheVariants.{NotJson, NotObject, BadSeq, BadType, BadCommand, BadRequestSeq, BadSuccess, BadEvent, BadMessage}
 use Rattle.dap_client.specs.declared.fault.AnswerFault.{AnswerFault}
 use Rattle.dap_client.specs.declared.fault.AnswerFault.TheVariants as answer
 use Rattle.dap_client.specs.declared.fault.ClientFault.{ClientFault}
 use Rattle.dap_client.specs.declared.fault.ClientFault.TheVariants as take
 use Rattle.dap_client.specs.declared.fault.SendFault.{SendFault}
 use Rattle.dap_client.specs.declared.fault.SendFault.TheVariants as send
-use Rattle.dap_c.specs.Refused.{refusal_number}
+use Rattle.dap_c.specs.Refused.{refusal_number, body_number}
 use Rattle.dap_c.specs.declared.found.YtFound.{YtFound}
 
 abbrev pub send_number : SendFault → ℕ
@@ -37,18 +35,6 @@ take_number (take.RepeatedSeq seq) = 35
 take_number take.ReferenceLimit = 36
 take_number take.SeqExhausted = 18
 take_number take.OutOfMemory = 104
-
--- why a body is refused: the place in the order in which the refusals are tested
-abbrev pub body_number : BodyRefusal → ℕ
-body_number NotJson = 1
-body_number NotObject = 2
-body_number BadSeq = 3
-body_number BadType = 4
-body_number BadCommand = 5
-body_number BadRequestSeq = 6
-body_number BadSuccess = 7
-body_number BadEvent = 8
-body_number BadMessage = 9
 
 -- where and why, of a fault that closes a client
 abbrev pub IsFaultFound : ClientFault → YtFound → Type 0

@@ -9,7 +9,7 @@ use Rattle.dap_client.specs.Session.{oldest_of}
 use Rattle.dap_client.specs.declared.phase.Phase.{Phase}
 use Rattle.dap_client.specs.declared.phase.Phase.TheVariants.{Fresh, Initializing, Configuring, Running, Stopped, Resuming, Exited, Ended}
 use Rattle.dap_c.specs.declared.client_state.YtCapabilities.{YtCapabilities}
-use Rattle.dap_c.specs.declared.client_state.YtClientState.{YtClientState}
+use Rattle.dap_c.specs.declared.client_state.YtClientSeen.{YtClientSeen}
 
 abbrev pub phase_number : Phase → ℕ
 phase_number Fresh = 0
@@ -22,7 +22,7 @@ phase_number Exited = 6
 phase_number Ended = 7
 
 -- what is seen of a client
-pub record IsStateOf (seen : YtClientState) (c : ClientState) : Type 0 where
+pub record IsStateOf (seen : YtClientSeen) (c : ClientState) : Type 0 where
   pub phase : seen.phase ≡ phase_number c.session.seen.phase
   pub ready : seen.ready ≡ c.session.seen.ready
   pub outstanding : seen.outstanding ≡ length c.session.outstanding
@@ -32,7 +32,7 @@ pub record IsStateOf (seen : YtClientState) (c : ClientState) : Type 0 where
   pub held : seen.held ≡ length c.intake.held
 
 -- the same, of what came and went
-pub record IsStateIn (seen : YtClientState) (h : List Entry) : Type 0 where
+pub record IsStateIn (seen : YtClientSeen) (h : List Entry) : Type 0 where
   pub phase : seen.phase ≡ phase_number (phase_in h)
   pub ready : seen.ready ≡ ready_in h
   pub outstanding : seen.outstanding ≡ length (waiting Went h)

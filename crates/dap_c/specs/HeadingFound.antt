@@ -3,7 +3,7 @@ use Rattle.std.specs.Prelude.{◌≡◌, ℕ, List, Bool, false, length}
 use Rattle.dap_message.specs.declared.message.Message.{Message}
 use Rattle.dap_message.specs.declared.message.Kind.{Kind}
 use Rattle.dap_message.specs.declared.message.Kind.TheVariants.{Request, Response, Event, Other}
-use Rattle.dap_c.specs.declared.heading.YtHeading.{YtHeading}
+use Rattle.dap_c.specs.declared.heading.YtHeadingFound.{YtHeadingFound}
 
 abbrev pub kind_number : Kind → ℕ
 kind_number (Request command arguments) = 1
@@ -32,7 +32,7 @@ succeeds (Event event body) = false
 succeeds (Other tag) = false
 
 -- this is found of a message
-pub record IsFound (found : YtHeading) (m : Message) : Type 0 where
+pub record IsFound (found : YtHeadingFound) (m : Message) : Type 0 where
   pub seq : found.seq ≡ m.seq
   pub kind : found.kind ≡ kind_number m.kind
   pub name : found.name ≡ length (name_of m.kind)

@@ -1,5 +1,6 @@
 pub mod Behind
 pub mod CallGiven
+pub mod CheckFound
 pub mod ClientCalls
 pub mod ClientFaults
 pub mod ClientHandled

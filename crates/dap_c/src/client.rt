@@ -14,20 +14,19 @@ ghost use Rattle.dap_client.specs.declared.fault.ClientFault.{ClientFault as The
 ghost use Rattle.dap_c.specs.Behind.{FromTo};
 ghost use Rattle.dap_c.specs.CallGiven.{IsCallOf, IsCodeOfCall};
 ghost use Rattle.dap_c.specs.ClientCalls.{Sends, Refuses, Answers, RefusesAnswer, TakesPiece, RefusesPiece, IsAsBefore, bytes_so_far, terminal_of, process_of};
-ghost use Rattle.dap_c.specs.ClientFaults.{send_number, answer_number, take_number, body_number, IsFaultFound};
+ghost use Rattle.dap_c.specs.ClientFaults.{send_number, answer_number, take_number, IsFaultFound};
 ghost use Rattle.dap_c.specs.Limited.{settings_of};
 
 use crate::call::call_given;
+use crate::causes::{body_cause, cause_of};
 use crate::client_handle::{YtClient, full, taken};
 use crate::codes::*;
 use crate::copying::put;
-use crate::found::{YtFound, nothing_found};
-use crate::frames::cause_of;
+use crate::found::{YtFound, fault_at, nothing_found};
 use crate::held_client::HeldClient;
 use crate::limits::{self, YtLimits};
 use dap_call::Call;
 use dap_client::{AnswerFault, Client, ClientFault, Got, SendFault, Terminal};
-use dap_message::BodyRefusal;
 use std::alloc::Global;
 
 /// What was sent.
@@ -284,35 +283,6 @@ fn take_code(fault: ClientFault) -> u32
         ClientFault::ReferenceLimit => YT_REFERENCE_LIMIT,
         ClientFault::SeqExhausted => YT_SEQ_EXHAUSTED,
         ClientFault::OutOfMemory => YT_NO_MEMORY,
-    }
-}
-
-fn body_cause(refusal: BodyRefusal) -> u32
-    ensures { result ≡ body_number refusal }
-{
-    match refusal {
-        BodyRefusal::NotJson => 1,
-        BodyRefusal::NotObject => 2,
-        BodyRefusal::BadSeq => 3,
-        BodyRefusal::BadType => 4,
-        BodyRefusal::BadCommand => 5,
-        BodyRefusal::BadRequestSeq => 6,
-        BodyRefusal::BadSuccess => 7,
-        BodyRefusal::BadEvent => 8,
-        BodyRefusal::BadMessage => 9,
-    }
-}
-
-fn fault_at(at: u64, cause: u32) -> YtFound
-    ensures at { result.at ≡ at }
-    ensures cause { result.cause ≡ cause }
-{
-    YtFound {
-        used: 0,
-        bytes: 0,
-        frame: 0,
-        at,
-        cause,
     }
 }
 

@@ -14,7 +14,7 @@ use std::alloc::Global;
 /// What is seen of a client.
 #[repr(C)]
 #[derive(Drop)]
-pub struct YtClientState {
+pub struct YtClientSeen {
     /// Requests that were sent and are not answered yet.
     pub outstanding: usize,
     /// Requests of the adapter that are kept, which wait for `yt_client_answer`.
@@ -64,11 +64,11 @@ fn phase_code(phase: Phase) -> u32
     }
 }
 
-fn state_of(client: &Client) -> YtClientState
+fn state_of(client: &Client) -> YtClientSeen
     ensures is { IsStateOf result client.now }
     ensures seen { (s : List ℕ) (h : List Entry) → StandsFor client.now s h → IsStateIn result h }
 {
-    YtClientState {
+    YtClientSeen {
         outstanding: client.outstanding(),
         incoming: client.incoming(),
         oldest_incoming: client.oldest_incoming().unwrap_or(0),
@@ -84,7 +84,7 @@ fn state_of(client: &Client) -> YtClientState
 pub extern "C" fn yt_client_state(
     alloc: Global,
     client: &mut YtClient,
-    state: &mut YtClientState,
+    state: &mut YtClientSeen,
 ) -> u32
     ensures none { client.old.inner.value ≡ None → (result ≡ YT_NONE) × (state.new ≡ state.old) }
     ensures same { client.new.inner.value ≡ client.old.inner.value }

@@ -1,4 +1,5 @@
 //! What a piece of a stream did, as both ends report it.
+ghost use Rattle.std.specs.Prelude.{◌≡◌};
 
 /// What a piece of a stream did.
 #[repr(C)]
@@ -24,5 +25,19 @@ pub(crate) fn nothing_found() -> YtFound {
         frame: 0,
         at: 0,
         cause: 0,
+    }
+}
+
+/// A fault at a place of the stream.
+pub(crate) fn fault_at(at: u64, cause: u32) -> YtFound
+    ensures at { result.at ≡ at }
+    ensures cause { result.cause ≡ cause }
+{
+    YtFound {
+        used: 0,
+        bytes: 0,
+        frame: 0,
+        at,
+        cause,
     }
 }

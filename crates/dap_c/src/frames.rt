@@ -11,15 +11,16 @@ ghost use Rattle.dap_frame.specs.declared.Refusal.{Refusal};
 ghost use Rattle.dap_c.specs.Behind.{FromTo};
 ghost use Rattle.dap_c.specs.FramesHandled.{handle_owns};
 ghost use Rattle.dap_c.specs.Limited.{settings_of};
-ghost use Rattle.dap_c.specs.Refused.{refusal_number, end_number, ClosesWith, IsRefusedAgain, EndsWithCode};
+ghost use Rattle.dap_c.specs.Refused.{end_number, ClosesWith, IsRefusedAgain, EndsWithCode};
 
+use crate::causes::cause_of;
 use crate::codes::{
     YT_BAD_LIMITS, YT_FRAME, YT_NO_MEMORY, YT_NONE, YT_NOTHING, YT_OK, YT_READY, YT_SMALL,
     YT_TRUNCATED,
 };
 use crate::copying::put;
 use crate::limits::{self, YtLimits};
-use dap_frame::{End, FrameFault, Frames, Refusal};
+use dap_frame::{End, FrameFault, Frames};
 use dap_slot::Slot;
 use std::alloc::Global;
 use std::marker::Model;
@@ -157,19 +158,6 @@ pub extern "C" fn yt_frames_free(alloc: Global, frames: &mut YtFrames)
     ensures { frames.new.inner.value ≡ None }
 {
     taken(alloc, frames);
-}
-
-pub(crate) fn cause_of(refusal: Refusal) -> u32
-    ensures { result ≡ refusal_number refusal }
-{
-    match refusal {
-        Refusal::HeaderTooLong => 1,
-        Refusal::BadHeader => 2,
-        Refusal::NoLength => 3,
-        Refusal::TwoLengths => 4,
-        Refusal::BadLength => 5,
-        Refusal::BodyTooLong => 6,
-    }
 }
 
 /// What a piece did to a reader, with its code.

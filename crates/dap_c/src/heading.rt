@@ -14,7 +14,7 @@ use std::alloc::Global;
 /// What a message says of itself.
 #[repr(C)]
 #[derive(Drop)]
-pub struct YtHeading {
+pub struct YtHeadingFound {
     pub seq: u64,
     /// The number of the request that a response answers; 0 of other messages.
     pub request_seq: u64,
@@ -26,8 +26,8 @@ pub struct YtHeading {
     pub success: bool,
 }
 
-fn none() -> YtHeading {
-    YtHeading {
+fn none() -> YtHeadingFound {
+    YtHeadingFound {
         seq: 0,
         request_seq: 0,
         name: 0,
@@ -48,7 +48,7 @@ fn name_in<'a>(heading: &Heading<'a>) -> &'a str
     }
 }
 
-fn found_of(heading: &Heading<'_>) -> YtHeading
+fn found_of(heading: &Heading<'_>) -> YtHeadingFound
     ensures { (m : Message) → IsHeadingOf heading.now m → IsFound result m }
 {
     let name = name_in(heading).len();
@@ -62,7 +62,7 @@ fn found_of(heading: &Heading<'_>) -> YtHeading
         HeadingKind::Event { .. } => (3, 0, false),
         HeadingKind::Other { .. } => (4, 0, false),
     };
-    YtHeading {
+    YtHeadingFound {
         seq: heading.seq,
         request_seq,
         name,
@@ -77,7 +77,7 @@ fn found_of(heading: &Heading<'_>) -> YtHeading
 pub extern "C" fn yt_heading(
     alloc: Global,
     body: &[u8],
-    heading: &mut YtHeading,
+    heading: &mut YtHeadingFound,
     name: &mut [u8],
 ) -> u32
     ensures found { (result ≡ YT_NOTHING → ⊥) → (m : Message) × Msg body.now m × IsFound heading.new m × (result ≡ YT_OK → name.new ≡ name_of m.kind ++ drop (length (name_of m.kind)) name.old) }

@@ -9,7 +9,8 @@
 #![tactic(auto)]
 
 mod call;
-//mod check;
+mod causes;
+mod check;
 mod client;
 mod client_handle;
 mod client_state;
@@ -19,22 +20,24 @@ mod found;
 mod frames;
 mod heading;
 mod held_client;
+mod layout;
 mod limits;
 mod write;
 
-//pub use check::{YtVerdict, yt_check, yt_explain};
+pub use check::{YtVerdict, yt_check, yt_explain};
 pub use client::{
     YtSent, yt_client_answer, yt_client_bytes, yt_client_frame, yt_client_free, yt_client_open,
     yt_client_send, yt_client_take,
 };
 pub use client_handle::{ClientHandle, YtClient};
-pub use client_state::{YtCapabilities, YtClientState, yt_client_capabilities, yt_client_state};
+pub use client_state::{YtCapabilities, YtClientSeen, yt_client_capabilities, yt_client_state};
 pub use found::YtFound;
 pub use frames::{
     FramesHandle, YtFed, YtFrames, yt_frames_body, yt_frames_feed, yt_frames_finish,
     yt_frames_free, yt_frames_open, yt_frames_release,
 };
-pub use heading::{YtHeading, yt_heading};
+pub use heading::{YtHeadingFound, yt_heading};
 pub use held_client::HeldClient;
+pub use layout::{YtSizes, yt_sizes_of};
 pub use limits::{YtLimits, yt_limits_usual};
 pub use write::yt_frame;
