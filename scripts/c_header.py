@@ -11,9 +11,11 @@ import sys
 from pathlib import Path
 
 HERE = Path(__file__).resolve().parent.parent
-# in the order of the header: a crate, and its files
+# in the order of the header
 FILES = [
-    ("dap_c", ["codes", "limits", "found", "frames", "write", "heading", "check", "client_handle", "client", "client_state", "layout"]),
+    ("dap_c_parts", "codes"), ("dap_c_parts", "limits"), ("dap_c", "limits"), ("dap_c_parts", "found"), ("dap_c", "frames"), ("dap_c", "write"),
+    ("dap_c", "heading"), ("dap_c", "check"), ("dap_c", "client_handle"), ("dap_c", "client"), ("dap_c", "client_state"),
+    ("dap_c", "layout"),
 ]
 NUMBERS = {
     "u8": ("uint8_t", 1), "u32": ("uint32_t", 4), "u64": ("uint64_t", 8), "i32": ("int32_t", 4), "i64": ("int64_t", 8),
@@ -121,9 +123,8 @@ def fields_of(lines):
 class Header:
     def __init__(self):
         self.codes, self.structs, self.exports, self.order = [], {}, [], []
-        for crate, files in FILES:
-            for file in files:
-                self.read(file, source(crate, file))
+        for crate, file in FILES:
+            self.read(file, source(crate, file))
 
     def read(self, file, text):
         for comment, attributes, lines in items(text):

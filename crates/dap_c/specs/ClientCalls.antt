@@ -16,7 +16,7 @@ use Rattle.dap_client.specs.declared.terminal.Terminal.{Terminal}
 use Rattle.dap_client.specs.declared.terminal.Terminal.TheVariants.{Started, Refused}
 use Rattle.dap_c.specs.CallGiven.{IsCallOf}
 use Rattle.dap_c.specs.ClientFaults.{send_number, answer_number, take_number, IsFaultFound}
-use Rattle.dap_c.specs.declared.found.YtFound.{YtFound}
+use Rattle.dap_c_parts.specs.declared.found.YtFound.{YtFound}
 use Rattle.dap_c.specs.declared.held_client.HeldClient.{HeldClient}
 
 -- a call was sent, with this number

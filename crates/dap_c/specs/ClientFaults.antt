@@ -6,8 +6,8 @@ use Rattle.dap_client.specs.declared.fault.ClientFault.{ClientFault}
 use Rattle.dap_client.specs.declared.fault.ClientFault.TheVariants as take
 use Rattle.dap_client.specs.declared.fault.SendFault.{SendFault}
 use Rattle.dap_client.specs.declared.fault.SendFault.TheVariants as send
-use Rattle.dap_c.specs.Refused.{refusal_number, body_number}
-use Rattle.dap_c.specs.declared.found.YtFound.{YtFound}
+use Rattle.dap_c_parts.specs.Causes.{refusal_number, body_number}
+use Rattle.dap_c_parts.specs.declared.found.YtFound.{YtFound}
 
 abbrev pub send_number : SendFault → ℕ
 send_number send.Ended = 11

@@ -5,7 +5,7 @@ use denote.RawPtr.{Ptr}
 use Rattle.dap_slot.specs.Owned.{slot_owns}
 use Rattle.dap_frame.specs.Intake.{Intake}
 use Rattle.dap_frame.specs.contracts.frames.Frames.{the_row}
-use Rattle.dap_c.specs.Heap.{may_free}
+use Rattle.dap_c_parts.specs.Heap.{may_free}
 
 abbrev pub handle_owns : Ptr → Option Intake → Fml
 handle_owns = slot_owns may_free the_row

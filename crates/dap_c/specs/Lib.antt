@@ -1,4 +1,3 @@
-pub mod Behind
 pub mod CallGiven
 pub mod CheckFound
 pub mod ClientCalls
@@ -7,6 +6,4 @@ pub mod ClientHandled
 pub mod ClientSeen
 pub mod FramesHandled
 pub mod HeadingFound
-pub mod Heap
-pub mod Limited
 pub mod Refused

@@ -7,7 +7,7 @@ ghost use Rattle.dap_call.specs.Command.{command_named};
 ghost use Rattle.dap_call.specs.PlainCall.{is_plain_call};
 ghost use Rattle.dap_c.specs.CallGiven.{IsCallOf, IsCodeOfCall, given_in};
 
-use crate::codes::{YT_BAD_ARGUMENTS, YT_BAD_COMMAND, YT_NO_MEMORY};
+use dap_c_parts::codes::{YT_BAD_ARGUMENTS, YT_BAD_COMMAND, YT_NO_MEMORY};
 use dap_call::{Call, CallFault, Command, read_call};
 use dap_json::{ParseFault, parse};
 use serde_json::Value;

@@ -14,10 +14,10 @@ ghost use Rattle.dap_explain.specs.Reasons.{reason_of};
 ghost use Rattle.dap_explain.specs.Sentences.{sentence_of};
 ghost use Rattle.dap_c.specs.CheckFound.{any_of, rule_of, fault_code, fault_line, TellsChecked, PutsIfAny};
 
-use crate::codes::{
+use dap_c_parts::codes::{
     YT_BAD_ARGUMENTS, YT_BAD_LINE, YT_FINDING, YT_NO_MEMORY, YT_NO_MESSAGE, YT_NOTHING, YT_OK,
 };
-use crate::copying::put;
+use dap_c_parts::copying::put;
 use dap_check::{AnySeq, CheckFault, Checked, Rule, check};
 use dap_explain::{explain, sentence};
 use std::alloc::Global;

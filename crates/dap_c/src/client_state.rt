@@ -6,7 +6,7 @@ ghost use Rattle.dap_client.specs.StandsFor.{StandsFor};
 ghost use Rattle.dap_c.specs.ClientSeen.{IsStateOf, IsStateIn, AreFlagsOf, phase_number};
 
 use crate::client_handle::{YtClient, full, taken};
-use crate::codes::{YT_NONE, YT_OK};
+use dap_c_parts::codes::{YT_NONE, YT_OK};
 use dap_call::Capabilities;
 use dap_client::{Client, Phase};
 use std::alloc::Global;

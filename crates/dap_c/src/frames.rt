@@ -8,18 +8,18 @@ ghost use Rattle.dap_frame.specs.Intake.{Intake, IsReady, IsUnderWay, IsGivenUp,
 ghost use Rattle.dap_frame.specs.Intake.{IsClosed};
 ghost use Rattle.dap_frame.specs.Settings.{bounds_of, first_outside};
 ghost use Rattle.dap_frame.specs.declared.Refusal.{Refusal};
-ghost use Rattle.dap_c.specs.Behind.{FromTo};
+ghost use Rattle.dap_c_parts.specs.Behind.{FromTo};
 ghost use Rattle.dap_c.specs.FramesHandled.{handle_owns};
-ghost use Rattle.dap_c.specs.Limited.{settings_of};
+ghost use Rattle.dap_c_parts.specs.Limited.{settings_of};
 ghost use Rattle.dap_c.specs.Refused.{end_number, ClosesWith, IsRefusedAgain, EndsWithCode};
 
-use crate::causes::cause_of;
-use crate::codes::{
+use dap_c_parts::causes::cause_of;
+use dap_c_parts::codes::{
     YT_BAD_LIMITS, YT_FRAME, YT_NO_MEMORY, YT_NONE, YT_NOTHING, YT_OK, YT_READY, YT_SMALL,
     YT_TRUNCATED,
 };
-use crate::copying::put;
-use crate::limits::{self, YtLimits};
+use dap_c_parts::copying::put;
+use dap_c_parts::limits::{self, YtLimits};
 use dap_frame::{End, FrameFault, Frames};
 use dap_slot::Slot;
 use std::alloc::Global;

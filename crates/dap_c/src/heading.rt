@@ -6,8 +6,8 @@ ghost use Rattle.dap_message.specs.Meaning.{Msg};
 ghost use Rattle.dap_message.specs.declared.message.Message.{Message};
 ghost use Rattle.dap_c.specs.HeadingFound.{IsFound, name_of};
 
-use crate::codes::{YT_NOTHING, YT_OK, YT_SMALL};
-use crate::copying::put;
+use dap_c_parts::codes::{YT_NOTHING, YT_OK, YT_SMALL};
+use dap_c_parts::copying::put;
 use dap_message::{Heading, HeadingKind, Scratch, read_heading};
 use std::alloc::Global;
 

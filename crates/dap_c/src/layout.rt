@@ -5,10 +5,10 @@ use crate::check::YtVerdict;
 use crate::client::YtSent;
 use crate::client_handle::YtClient;
 use crate::client_state::{YtCapabilities, YtClientSeen};
-use crate::found::YtFound;
 use crate::frames::{YtFed, YtFrames};
 use crate::heading::YtHeadingFound;
-use crate::limits::YtLimits;
+use dap_c_parts::found::YtFound;
+use dap_c_parts::limits::YtLimits;
 use std::mem::size_of;
 
 /// The size of each struct, in bytes.

@@ -5,18 +5,14 @@
 //! in by a pointer and a length, and go out by a copy into the caller's buffer, whose length a call before has told.
 //! Nothing here is global, calls back, starts a thread, reads or writes. `docs/C.md` has the calls in a table.
 //!
-//! A file a concern: `codes` has what calls answer, `copying` puts bytes into a buffer, and the others have the exports.
+//! A file a concern. The adapter's end is in `dap_c_adapter`; what both share, as the codes, is in `dap_c_parts`.
 #![tactic(auto)]
 
 mod call;
-mod causes;
 mod check;
 mod client;
 mod client_handle;
 mod client_state;
-mod codes;
-mod copying;
-mod found;
 mod frames;
 mod heading;
 mod held_client;
@@ -31,7 +27,6 @@ pub use client::{
 };
 pub use client_handle::{ClientHandle, YtClient};
 pub use client_state::{YtCapabilities, YtClientSeen, yt_client_capabilities, yt_client_state};
-pub use found::YtFound;
 pub use frames::{
     FramesHandle, YtFed, YtFrames, yt_frames_body, yt_frames_feed, yt_frames_finish,
     yt_frames_free, yt_frames_open, yt_frames_release,
@@ -39,5 +34,5 @@ pub use frames::{
 pub use heading::{YtHeadingFound, yt_heading};
 pub use held_client::HeldClient;
 pub use layout::{YtSizes, yt_sizes_of};
-pub use limits::{YtLimits, yt_limits_usual};
+pub use limits::yt_limits_usual;
 pub use write::yt_frame;

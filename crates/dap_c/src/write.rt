@@ -2,8 +2,8 @@
 ghost use Rattle.std.specs.Prelude.{◌≡◌, ◌<◌, ◌≤◌, ◌++◌, length, drop};
 ghost use Rattle.dap_frame.specs.Written.{frame_of};
 
-use crate::codes::{YT_NO_MEMORY, YT_OK, YT_SMALL};
-use crate::copying::put;
+use dap_c_parts::codes::{YT_NO_MEMORY, YT_OK, YT_SMALL};
+use dap_c_parts::copying::put;
 use dap_frame::write_frame;
 use std::alloc::Global;
 

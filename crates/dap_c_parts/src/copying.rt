@@ -4,7 +4,7 @@ ghost use Rattle.std.specs.Prelude.{◌≡◌, ◌<◌, ◌≤◌, ◌++◌, len
 use crate::codes::{YT_OK, YT_SMALL};
 
 /// Puts bytes into a buffer, or nothing where there is no room for all of them.
-pub(crate) fn put(from: &[u8], out: &mut [u8]) -> u32
+pub fn put(from: &[u8], out: &mut [u8]) -> u32
     ensures put { result ≡ YT_OK → out.new ≡ from.now ++ drop (length from.now) out.old }
     ensures room { result ≡ YT_OK → length from.now ≤ length out.old }
     ensures small { result ≡ YT_SMALL → (length out.old < length from.now) × (out.new ≡ out.old) }

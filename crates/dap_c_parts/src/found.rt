@@ -18,7 +18,11 @@ pub struct YtFound {
 }
 
 /// Nothing is found.
-pub(crate) fn nothing_found() -> YtFound {
+pub fn nothing_found() -> YtFound
+    ensures used { result.used ≡ 0 }
+    ensures bytes { result.bytes ≡ 0 }
+    ensures frame { result.frame ≡ 0 }
+{
     YtFound {
         used: 0,
         bytes: 0,
@@ -29,9 +33,12 @@ pub(crate) fn nothing_found() -> YtFound {
 }
 
 /// A fault at a place of the stream.
-pub(crate) fn fault_at(at: u64, cause: u32) -> YtFound
+pub fn fault_at(at: u64, cause: u32) -> YtFound
     ensures at { result.at ≡ at }
     ensures cause { result.cause ≡ cause }
+    ensures used { result.used ≡ 0 }
+    ensures bytes { result.bytes ≡ 0 }
+    ensures frame { result.frame ≡ 0 }
 {
     YtFound {
         used: 0,

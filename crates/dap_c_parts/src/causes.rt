@@ -1,11 +1,11 @@
 //! Why a frame or a body is refused, as a number from 1: the place in the order in which the refusals are tested.
 ghost use Rattle.std.specs.Prelude.{◌≡◌};
-ghost use Rattle.dap_c.specs.Refused.{refusal_number, body_number};
+ghost use Rattle.dap_c_parts.specs.Causes.{refusal_number, body_number};
 
 use dap_frame::Refusal;
 use dap_message::BodyRefusal;
 
-pub(crate) fn cause_of(refusal: Refusal) -> u32
+pub fn cause_of(refusal: Refusal) -> u32
     ensures { result ≡ refusal_number refusal }
 {
     match refusal {
@@ -18,7 +18,7 @@ pub(crate) fn cause_of(refusal: Refusal) -> u32
     }
 }
 
-pub(crate) fn body_cause(refusal: BodyRefusal) -> u32
+pub fn body_cause(refusal: BodyRefusal) -> u32
     ensures { result ≡ body_number refusal }
 {
     match refusal {
