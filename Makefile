@@ -14,8 +14,9 @@ ZSHDIR ?= $(PREFIX)/share/zsh/site-functions
 FISHDIR ?= $(PREFIX)/share/fish/vendor_completions.d
 INSTALL ?= install
 
-# What is installed as the program: release/dap, or what bin/dap becomes where the toolchain is there, which may make it first.
-PROGRAM = $(shell if command -v rt >/dev/null; then DAP_WHICH=yes bin/dap; else echo release/dap; fi)
+# What is installed as the program: the path that is given, or else release/dap, or what bin/dap becomes where the toolchain is
+# there, which may make it first. The shell asks, and not make, so that `make -n install` makes nothing.
+PROGRAM ?=
 PAGES := $(wildcard release/man/*.1)
 
 .PHONY: help install uninstall
@@ -24,7 +25,11 @@ help:
 	@sed -n '1,/^$$/s/^# \{0,1\}//p' Makefile
 
 install:
-	program="$(PROGRAM)" && test -x "$$program" && $(INSTALL) -D -m 755 "$$program" "$(DESTDIR)$(BINDIR)/dap"
+	program="$(PROGRAM)"; \
+	if test -z "$$program"; then \
+	    if command -v rt >/dev/null; then program=$$(DAP_WHICH=yes bin/dap); else program=release/dap; fi; \
+	fi; \
+	test -x "$$program" && $(INSTALL) -D -m 755 "$$program" "$(DESTDIR)$(BINDIR)/dap"
 	$(INSTALL) -D -m 644 -t "$(DESTDIR)$(MANDIR)" $(PAGES)
 	$(INSTALL) -D -m 644 release/completions/dap.bash "$(DESTDIR)$(BASHDIR)/dap"
 	$(INSTALL) -D -m 644 release/completions/_dap "$(DESTDIR)$(ZSHDIR)/_dap"

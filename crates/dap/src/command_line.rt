@@ -288,6 +288,23 @@ fn drive<'a>(alloc: Global, limit_texts: &'a [String]) -> Result<Command<'a>, Al
     with_limits(alloc, drive, limit_texts, LIMIT_OPTIONS.len())
 }
 
+fn host<'a>(alloc: Global, limit_texts: &'a [String]) -> Result<Command<'a>, AllocError> {
+    let host = Command::new(alloc, "host")
+        .about(
+            "Is the adapter of a debugger in another program, over lines of standard input and standard output",
+        )
+        .after_help(
+            "Lines in:\n  > MESSAGE  a message of the client\n  ! OBJECT   what the debugger did, with `happened`: output, stopped, continued, exited or learned\nLines out:\n  < MESSAGE  a message for the client\n  ! OBJECT   what the debugger has to do, with `act`: start, resume, pause, setBreakpoints, setVariable or end; or the number of a line that is `refused`, and `why`\nEach line is answered whole before the next one is taken. Empty lines are skipped, and counted.\n\nStatuses: 0 the input ended, 2 usage, 3 the sources or a message is refused or no sequence number is left, 5 read or write, 6 memory",
+        )
+        .arg(file_word(
+            alloc,
+            "sources",
+            "SOURCES",
+            "The sources of what is debugged: a JSON object with `sources` as a recording has them, of at most 67108864 bytes",
+        ))?;
+    with_limits(alloc, host, limit_texts, LIMIT_OPTIONS.len())
+}
+
 /// The command line of the program.
 pub(crate) fn command<'a>(
     alloc: Global,
@@ -304,7 +321,8 @@ pub(crate) fn command<'a>(
         .subcommand(wrap(alloc, limit_texts)?)?
         .subcommand(unwrap(alloc, limit_texts)?)?
         .subcommand(check(alloc)?)?
-        .subcommand(drive(alloc, limit_texts)?)
+        .subcommand(drive(alloc, limit_texts)?)?
+        .subcommand(host(alloc, limit_texts)?)
 }
 
 /// The limits that the options set, and the defaults for the others and for those that the subcommand does not have.

@@ -12,6 +12,7 @@ use clap::error::{Error, ErrorKind};
 use dap_adapter::ServeFault;
 use dap_channel::{Input, Pipe};
 use dap_frame::{End, Limits};
+use dap_host::{Host, host_channel};
 use dap_replay::Recorded;
 use dap_tool::{
     DriveFault, FileFault, FollowFault, Form, MAX_FILE, OpenFault, Shown, Style, ToolFault,
@@ -99,6 +100,7 @@ fn run_subcommand(rt: &HostRuntime, matches: &ArgMatches<'_>) -> u8 {
         Some(("unwrap", matches)) => unwrap(rt, matches),
         Some(("check", matches)) => check(rt, matches),
         Some(("drive", matches)) => drive(rt, matches),
+        Some(("host", matches)) => host(rt, matches),
         _ => USAGE,
     }
 }
@@ -348,6 +350,53 @@ fn tell_driving(
     )
 }
 
+/// Is the adapter of a debugger in another program, and answers the exit status. A file that has no sources is told before
+/// anything is read of the input.
+fn host(rt: &HostRuntime, matches: &ArgMatches<'_>) -> u8 {
+    let Ok(limits) = command_line::limits(matches) else {
+        return USAGE;
+    };
+    let host = match read_host(rt, matches, limits) {
+        Ok(host) => host,
+        Err(code) => return code,
+    };
+    let mut pipe = Pipe::new(rt.reader(), io::writer(rt));
+    match host_channel(rt.alloc(), &mut pipe, host, most_reads()) {
+        Ok(()) => 0,
+        Err(ServeFault::Write { written }) => {
+            tell_unwritten(
+                rt,
+                matches,
+                &ToolFault::Serve(ServeFault::Write { written }),
+            )
+        }
+        Err(fault) => tell(
+            rt,
+            matches,
+            Subject {
+                name: INPUT,
+                bytes: &[],
+            },
+            &ToolFault::Serve(fault),
+        ),
+    }
+}
+
+/// The host of the sources that the command line names; or the exit status where the file has none, which is told.
+fn read_host(rt: &HostRuntime, matches: &ArgMatches<'_>, limits: Limits) -> Result<Host, u8> {
+    let bytes = read_file(rt, matches, SOURCES)?;
+    match Host::open(rt.alloc(), limits, &bytes) {
+        Ok(host) => Ok(host),
+        Err(fault) => {
+            let file = Subject {
+                name: name_of(matches, SOURCES),
+                bytes: &bytes,
+            };
+            Err(tell(rt, matches, file, &ToolFault::Recording(fault)))
+        }
+    }
+}
+
 /// The recording that the command line names, not started; or the exit status where the file is none, which is told.
 fn read_recording(rt: &HostRuntime, matches: &ArgMatches<'_>) -> Result<Recorded, u8>
     ensures { IfOk result (λ recording. recording.state ≡ State.NotStarted) }
@@ -376,6 +425,8 @@ const FILE: &str = "file";
 const RECORDING: &str = "recording";
 
 const SCRIPT: &str = "script";
+
+const SOURCES: &str = "sources";
 
 /// The name of the file that a word of the command line names, or of standard input, where that is `-`.
 fn name_of<'a>(matches: &'a ArgMatches<'_>, word: &str) -> &'a str {

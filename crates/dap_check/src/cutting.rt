@@ -1,5 +1,6 @@
 //! The lines of a text, one after the other.
-ghost use Rattle.std.specs.Prelude.{◌≡◌, ◌<◌, ◌==◌, ◌∷◌, length, position};
+ghost use Rattle.std.specs.Prelude.{◌≡◌, ℕ, ◌<◌, ◌==◌, List, ◌∷◌, ◌++◌, length, position, IsTrue};
+ghost use Rattle.std.specs.List.{list_any};
 ghost use Rattle.std.specs.Str.Lines.{lines, strip_carriage_return};
 
 use memchr::memchr;
@@ -22,10 +23,11 @@ fn without_carriage_return(line: &[u8]) -> &[u8]
 }
 
 /// The first line of a text that has bytes, and what follows it. A line ends with a line feed, which the last may lack; a
-/// carriage return right before it is no part of the line.
+/// carriage return right before it is no part of the line. A line that has its line feed is the first one whatever follows the text.
 pub fn split_line(text: &[u8]) -> (&[u8], &[u8])
     requires { 0 < length text.now }
     ensures lines { lines text.now ≡ result.0.now ∷ lines result.1.now }
+    ensures whole { IsTrue (list_any (λ byte. byte == 10) text.now) → (more : List ℕ) → lines (text.now ++ more) ≡ result.0.now ∷ lines (result.1.now ++ more) }
     ensures shorter { length result.1.now < length text.now }
 {
     let Some(end) = line_end(text) else {

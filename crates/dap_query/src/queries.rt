@@ -90,13 +90,6 @@ impl Queries {
         self.references.target(number)
     }
 
-    /// What a live number names.
-    pub fn target(&self, number: u32) -> Option<&Target>
-        ensures { option_copied result ≡ target_of self.now.references number }
-    {
-        self.references.target(number)
-    }
-
     /// The object of a live number.
     pub fn object(&self, number: u32) -> Option<u64>
         ensures { result ≡ object_of self.now.references number }

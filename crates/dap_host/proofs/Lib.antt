@@ -1,0 +1,9 @@
+mod AddsLemmas
+mod MessageLemmas
+mod MomentLemmas
+mod GoingLemmas
+mod LineLemmas
+mod FetchLemmas
+mod HostingLemmas
+mod LogLemmas
+mod StreamLemmas

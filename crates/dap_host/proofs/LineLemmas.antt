@@ -1,0 +1,37 @@
+-- A line is counted, and heard by its mark.
+use Rattle.std.proofs.Common.{◌≡◌, ℕ, ◌+◌, List, [], ◌∷◌, length, refl, sym, ap, ◌∙◌, subst, arith, inr, Err}
+use Rattle.std.specs.Prelude.{drop}
+use Rattle.dap_channel.specs.Sent.{saturating_count}
+use Rattle.dap_recording.specs.declared.reading.RecordingFault.{RecordingFault}
+use Rattle.dap_recording.specs.declared.reading.RecordingFault.TheVariants as fault
+use Rattle.dap_session.specs.declared.fault.AdapterFault.{AdapterFault}
+use Rattle.dap_host.specs.Hearing.{HostState, IsGoing, counted, mark_of, HearsMarked, StopsMarked, Hears, Stops}
+use Rattle.dap_host.specs.Moments.{HasSources, ReadsBase, FileRefused}
+
+-- only the count is another
+pub counted_is : (o h k : HostState) → o ≡ h → k ≡ record o { number = k.number } → k.number ≡ saturating_count (o.number + 1) → k ≡ counted h
+counted_is o h k e is n = is ∙ (ap (λ (z : ℕ). record o { number = z }) n ∙ ap counted e)
+
+pub counted_going : (o h k : HostState) → o ≡ h → k ≡ record o { number = k.number } → IsGoing h → IsGoing k
+counted_going o h k e is going =
+    let there : IsGoing o = subst IsGoing (sym e) going in
+    subst IsGoing (sym is) (record { used = there.used; history = there.history; stands = there.stands; limits_are = there.limits_are })
+
+pub hears_none : (h k : HostState) (line before : List ℕ) → length line ≡ 0 → k ≡ counted h → Hears h line before before k
+hears_none h k [] before none is = (refl, is)
+hears_none h k (x ∷ xs) before none is = absurd (omega arith)
+
+pub hears_some : (h g k : HostState) (line before after : List ℕ) → (length line ≡ 0 → ⊥) → g ≡ counted h → HearsMarked (mark_of line) g (drop 2 line) before after k → Hears h line before after k
+hears_some h g k [] before after some is hears = absurd (some refl)
+hears_some h g k (x ∷ xs) before after some is hears = subst (λ (z : HostState). HearsMarked (mark_of (x ∷ xs)) z (drop 2 (x ∷ xs)) before after k) is hears
+
+pub stops_line : (h g k : HostState) (line before after : List ℕ) (fault : AdapterFault) → g ≡ counted h → StopsMarked (mark_of line) g (drop 2 line) before after k fault → Stops h line before after k fault
+stops_line h g k line before after fault is stops = subst (λ (z : HostState). StopsMarked (mark_of line) z (drop 2 line) before after k fault) is stops
+
+-- ---- a file without sources
+
+pub bad_base : (bytes text read : List ℕ) (f : RecordingFault) → HasSources bytes text → read ≡ text → ReadsBase read (Err f) → FileRefused bytes f
+bad_base bytes text read fault.NotJson has e reads = inr (record { text = text; sources = has; reads = subst (λ (z : List ℕ). ReadsBase z (Err fault.NotJson)) e reads })
+bad_base bytes text read fault.NotObject has e reads = inr (record { text = text; sources = has; reads = subst (λ (z : List ℕ). ReadsBase z (Err fault.NotObject)) e reads })
+bad_base bytes text read (fault.BadKey k) has e reads = inr (record { text = text; sources = has; reads = subst (λ (z : List ℕ). ReadsBase z (Err (fault.BadKey k))) e reads })
+bad_base bytes text read fault.OutOfMemory has e reads = tt

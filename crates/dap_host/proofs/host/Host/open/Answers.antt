@@ -1,0 +1,24 @@
+use Rattle.std.proofs.Common.{refl, subst, List, ℕ, Ok, ◌∙◌, ap}
+use Rattle.dap_live.specs.LiveShown.{fresh_live}
+use Rattle.dap_host.specs.Moments.{ReadsBase}
+use Rattle.dap_host.proofs.GoingLemmas.{fresh_going}
+use Rattle.dap_host.proofs.LineLemmas.{bad_base}
+use Rattle.dap_host.proofs.host.Host.open.Goals as goal
+
+pub returns-in-Err-clause-refused : goal.returns-in-Err-clause-refused
+returns-in-Err-clause-refused c = bad_base c.args.bytes.now c.in_ok-sources.sources.items c.deref.result.now c.in-Err.fault c.in_ok-sources.ensures.sources c.deref.ensures.value c.in-Err.ensures
+
+pub returns-clause-fresh : goal.returns-clause-fresh
+returns-clause-fresh c = record {
+  base = c.in-Ok.base;
+  sources = c.in_ok-sources.ensures.sources;
+  reads = subst (λ (z : List ℕ). ReadsBase z (Ok c.in-Ok.base)) c.deref.ensures.value c.in-Ok.ensures;
+  stands = c.in_ok-adapter.ensures.stands;
+  session = c.in_ok-adapter.ensures.session;
+  debuggee = c.in_ok-adapter.ensures.debuggee ∙ (c.open-live.ensures ∙ ap fresh_live c.base.view_is);
+  limits_are = refl;
+  number = refl;
+}
+
+pub returns-clause-going : goal.returns-clause-going
+returns-clause-going c = fresh_going _ c.args.limits c.in_ok-adapter.ensures.stands c.in_ok-adapter.ensures.session refl c.frames_come_one_by_one.ensures

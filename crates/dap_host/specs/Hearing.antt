@@ -1,0 +1,199 @@
+-- What a host's line leads to: it is skipped, or refused, or an adapter over a fed debuggee takes what it says. The format is this
+-- profile's choice.
+use Rattle.std.specs.Prelude.{◌≡◌, ℕ, ◌+◌, ◌<◌, ◌≤◌, Bool, true, false, List, [], ◌∷◌, ◌++◌, length, take, drop, codes, bytes_eq, Option, Some, None, Ok, Err, if◌then◌else◌}
+use Rattle.dap_adapter.specs.AdapterState.{AdapterState}
+use Rattle.dap_adapter.specs.Parts.{AnswersPiece, PollsOn, StopsAfter}
+use Rattle.dap_adapter.specs.Run.{to_take, to_poll, has_ended}
+use Rattle.dap_adapter.specs.StandsFor.{StandsFor}
+use Rattle.dap_channel.specs.Sent.{saturating_count}
+use Rattle.dap_debuggee.specs.declared.answers.State.{State}
+use Rattle.dap_debuggee.specs.declared.answers.State.TheVariants as state
+use Rattle.dap_decision.specs.declared.phase.Phase.{Phase}
+use Rattle.dap_decision.specs.declared.phase.Phase.TheVariants.{Running, Stopped}
+use Rattle.dap_frame.specs.Settings.{Settings}
+use Rattle.dap_frame.specs.Written.{frame_of}
+use Rattle.dap_history.specs.History.{Entry}
+use Rattle.dap_live.specs.Dropping.{why_dropped}
+use Rattle.dap_live.specs.LiveLaws.{FollowsLive}
+use Rattle.dap_live.specs.LiveShown.{LiveState, shown_live, fresh_live}
+use Rattle.dap_live.specs.declared.mail.Coming.{Coming}
+use Rattle.dap_live.specs.declared.mail.Dropped.{Dropped as Drop}
+use Rattle.dap_live.specs.declared.mail.Dropped.TheVariants.{OutOfTurn}
+use Rattle.dap_live.specs.declared.mail.HostAct.{HostAct}
+use Rattle.dap_message.specs.Meaning.{Msg}
+use Rattle.dap_message.specs.Refusals.{Bad}
+use Rattle.dap_message.specs.declared.message.Message.{Message}
+use Rattle.dap_replay.specs.Played.{Played}
+use Rattle.dap_session.specs.Session.{fresh_session}
+use Rattle.dap_session.specs.declared.fault.AdapterFault.{AdapterFault}
+use Rattle.dap_session.specs.declared.fault.AdapterFault.TheVariants.{OutOfMemory}
+use Rattle.dap_host.specs.Moments.{IsComing, Fails, HasSources, ReadsBase}
+use Rattle.dap_host.specs.Told.{told_of, happening_of}
+use Rattle.dap_host.specs.Written.{message_lines, act_lines, refusal_line}
+use Rattle.dap_host.specs.declared.host.Mark.{Mark}
+use Rattle.dap_host.specs.declared.host.Mark.TheVariants as mark
+use Rattle.dap_host.specs.declared.refusal.Refusal.{Refusal}
+use Rattle.dap_host.specs.declared.refusal.Refusal.TheVariants.{BadLine, Body, BodyTooLong, Ended, Dropped}
+use Rattle.dap_host.specs.declared.told.Told.{Told}
+use Rattle.dap_host.specs.declared.told.Unread.{Unread}
+use Rattle.dap_host.specs.declared.told.Unread.TheVariants.{Refused, OutOfMemory as NoMemory}
+
+-- ---- a host
+
+-- the adapter, the sources as JSON, the limits, and how many lines came
+pub record HostState : Type 0 where
+  pub adapter : AdapterState LiveState
+  pub sources : List ℕ
+  pub limits : Settings
+  pub number : ℕ
+
+-- its adapter is open, between two messages, and what it wrote can be read
+pub record IsGoing (h : HostState) : Type 0 where
+  pub used : List ℕ
+  pub history : List Entry
+  pub stands : StandsFor h.adapter used history
+  pub none_held : stands.received.rest ≡ []
+  pub limits_are : h.adapter.session.limits ≡ h.limits
+
+-- a host of this file to which no line came
+pub record IsFresh (limits : Settings) (bytes : List ℕ) (h : HostState) : Type 0 where
+  pub base : Played
+  pub sources : HasSources bytes h.sources
+  pub reads : ReadsBase h.sources (Ok base)
+  pub stands : StandsFor h.adapter [] []
+  pub session : h.adapter.session ≡ fresh_session limits
+  pub debuggee : h.adapter.debuggee ≡ fresh_live base
+  pub limits_are : h.limits ≡ limits
+  pub number : h.number ≡ 0
+
+-- a line more came
+abbrev pub counted : HostState → HostState
+counted h = record h { number = saturating_count (h.number + 1) }
+
+-- all but the adapter is the same
+pub record SameButAdapter (old new : HostState) : Type 0 where
+  pub sources : new.sources ≡ old.sources
+  pub limits : new.limits ≡ old.limits
+  pub number : new.number ≡ old.number
+
+-- ---- refusals
+
+pub record IsMessage (body : List ℕ) : Type 0 where
+  pub message : Message
+  pub reads : Msg body message
+
+-- why a message of the client is refused: it is none, or too long, or comes once the session has ended
+abbrev pub RefusesMessage : HostState → List ℕ → Refusal → Type 0
+RefusesMessage h body (Body cause) = Bad body cause
+RefusesMessage h body BodyTooLong = IsMessage body × (h.limits.body < length body)
+RefusesMessage h body Ended = IsMessage body × (length body ≤ h.limits.body) × (has_ended h.adapter.session ≡ true)
+RefusesMessage h body why = ⊥
+
+-- a message of the client that is taken
+pub record TakesMessage (h : HostState) (body : List ℕ) : Type 0 where
+  pub is : IsMessage body
+  pub fits : length body ≤ h.limits.body
+  pub going : has_ended h.adapter.session ≡ false
+
+-- where the debuggee is, if there is one to ask
+abbrev pub state_of : Phase → Option State
+state_of Running = Some state.Running
+state_of Stopped = Some state.Stopped
+state_of _ = None
+
+abbrev pub dropped_in : Option State → Told → Option Drop
+dropped_in None told = Some OutOfTurn
+dropped_in (Some s) told = why_dropped s (happening_of told)
+
+-- why what is told is dropped in a phase
+abbrev pub drop_of : Phase → Told → Option Drop
+drop_of phase told = dropped_in (state_of phase) told
+
+-- why what a host tells is refused: it is not read, or it is dropped, or its moment is none
+pub data RefusesTold (h : HostState) (text : List ℕ) (why : Refusal) : Type 0 where
+  unread : told_of text ≡ Err why → RefusesTold h text why
+  dropped : (told : Told) (drop : Drop) → told_of text ≡ Ok told → drop_of h.adapter.session.phase told ≡ Some drop → why ≡ Dropped drop → RefusesTold h text why
+  bad_moment : (told : Told) → told_of text ≡ Ok told → drop_of h.adapter.session.phase told ≡ None → Fails h.sources told (Refused why) → RefusesTold h text why
+
+-- the same; nothing is said where memory was refused
+abbrev pub IsUnheard : HostState → List ℕ → Unread → Type 0
+IsUnheard h text (Refused why) = RefusesTold h text why
+IsUnheard h text NoMemory = Unit {0}
+
+-- what a host tells that is heard: this comes of it
+pub record HearsTold (h : HostState) (text : List ℕ) (coming : Coming) : Type 0 where
+  pub told : Told
+  pub is : told_of text ≡ Ok told
+  pub kept : drop_of h.adapter.session.phase told ≡ None
+  pub comes : IsComing h.sources told coming
+
+-- a line is refused, and nothing else has changed
+pub record Refuses (old : HostState) (why : Refusal) (before after : List ℕ) (new : HostState) : Type 0 where
+  pub line : after ≡ before ++ refusal_line old.number why
+  pub same : new ≡ old
+
+-- ---- what is done
+
+-- the lines of what an adapter wrote, and then those of acts that the debugger has to do
+pub record HandsOut (outs : List Message) (before after : List ℕ) : Type 0 where
+  pub acts : List HostAct
+  pub lines : after ≡ before ++ (message_lines outs ++ act_lines acts)
+
+-- the adapter takes a message, and answers it: these lines are all that it writes for it, and nothing else
+pub record AnswersMessage (old : HostState) (body before after : List ℕ) (new : HostState) : Type 0 where
+  pub bytes : List ℕ
+  pub ended : Bool
+  pub answers : AnswersPiece shown_live FollowsLive old.adapter (frame_of body) [] new.adapter bytes ended
+  pub taken : answers.runs_on.bodies ≡ body ∷ []
+  pub out : HandsOut answers.outs before after
+  pub same : SameButAdapter old new
+
+-- the adapter asks the debuggee what happened, and tells it: these lines are all that it writes then
+pub record TellsIt (old : HostState) (before after : List ℕ) (new : HostState) : Type 0 where
+  pub bytes : List ℕ
+  pub polls : PollsOn shown_live FollowsLive old.adapter [] new.adapter bytes
+  pub out : HandsOut polls.outs before after
+  pub same : SameButAdapter old new
+
+pub data HearsMessage (old : HostState) (body before after : List ℕ) (new : HostState) : Type 0 where
+  refused : (why : Refusal) → RefusesMessage old body why → Refuses old why before after new → HearsMessage old body before after new
+  answered : TakesMessage old body → AnswersMessage old body before after new → HearsMessage old body before after new
+
+pub data HearsHappening (old : HostState) (text before after : List ℕ) (new : HostState) : Type 0 where
+  not_heard : (why : Refusal) → RefusesTold old text why → Refuses old why before after new → HearsHappening old text before after new
+  heard : (coming : Coming) → HearsTold old text coming → TellsIt old before after new → HearsHappening old text before after new
+
+-- ---- a line, by its first two bytes
+
+abbrev pub mark_of : List ℕ → Mark
+mark_of line = if bytes_eq (take 2 line) (codes "> ") then mark.Message else (if bytes_eq (take 2 line) (codes "! ") then mark.Happening else mark.None)
+
+abbrev pub HearsMarked : Mark → HostState → List ℕ → List ℕ → List ℕ → HostState → Type 0
+HearsMarked mark.Message old text before after new = HearsMessage old text before after new
+HearsMarked mark.Happening old text before after new = HearsHappening old text before after new
+HearsMarked mark.None old text before after new = Refuses old BadLine before after new
+
+-- an empty line is skipped, and counted
+abbrev pub Hears : HostState → List ℕ → List ℕ → List ℕ → HostState → Type 0
+Hears old [] before after new = (after ≡ before) × (new ≡ counted old)
+Hears old line before after new = HearsMarked (mark_of line) (counted old) (drop 2 line) before after new
+
+-- ---- why it stops, where memory is not refused: the adapter is closed within an answer, and what it wrote before is appended
+
+pub record StopsMessage (old : HostState) (body before after : List ℕ) (new : HostState) (fault : AdapterFault) : Type 0 where
+  pub bytes : List ℕ
+  pub stops : StopsAfter shown_live FollowsLive old.adapter to_take (frame_of body) [] fault new.adapter bytes
+  pub lines : after ≡ before ++ message_lines stops.outs
+
+pub record StopsTelling (old : HostState) (before after : List ℕ) (new : HostState) (fault : AdapterFault) : Type 0 where
+  pub bytes : List ℕ
+  pub stops : StopsAfter shown_live FollowsLive old.adapter (to_poll 0) [] [] fault new.adapter bytes
+  pub lines : after ≡ before ++ message_lines stops.outs
+
+abbrev pub StopsMarked : Mark → HostState → List ℕ → List ℕ → List ℕ → HostState → AdapterFault → Type 0
+StopsMarked mark.Message old text before after new fault = TakesMessage old text × StopsMessage old text before after new fault
+StopsMarked mark.Happening old text before after new fault = ((coming : Coming) × HearsTold old text coming) × StopsTelling old before after new fault
+StopsMarked mark.None old text before after new fault = ⊥
+
+abbrev pub Stops : HostState → List ℕ → List ℕ → List ℕ → HostState → AdapterFault → Type 0
+Stops old line before after new fault = StopsMarked (mark_of line) (counted old) (drop 2 line) before after new fault

@@ -1,0 +1,347 @@
+//! A host's lines, one after the other.
+ghost use Rattle.std.specs.Prelude.{◌≡◌, IfOk, drop};
+ghost use Rattle.dap_session.specs.declared.fault.AdapterFault.{AdapterFault};
+ghost use Rattle.dap_decision.specs.Table.{is_phase};
+ghost use Rattle.dap_decision.specs.declared.phase.Phase.{Phase};
+ghost use Rattle.dap_frame.specs.Written.{frame_of};
+ghost use Rattle.dap_host.specs.Hearing.{mark_of, state_of, drop_of};
+
+use crate::acts::push_acts;
+use crate::messages::push_messages;
+use crate::moments::{base_of, coming_of, sources_in};
+use crate::refusal::{Refusal, push_refusal};
+use crate::streams::frames_come_one_by_one;
+use crate::told::{Told, Unread, happening_in, read_told};
+use dap_adapter::{Adapter, AdapterFault, Phase};
+use dap_debuggee::State;
+use dap_frame::{Limits, write_frame};
+use dap_live::{Coming, Dropped, Live, Mail, why_dropped};
+use dap_message::{BodyFault, read_message};
+use dap_recording::RecordingFault;
+use std::alloc::{AllocError, Global};
+use std::marker::Model;
+use std::rc::Rc;
+
+/// Where what a line says goes, by its first two bytes.
+#[derive(Clone, Copy)]
+pub(crate) enum Mark {
+    Message,
+    Happening,
+    None,
+}
+
+fn mark_of(line: &[u8]) -> Mark
+    ensures { result ≡ mark_of line.now }
+{
+    if line.starts_with(b"> ") {
+        return Mark::Message;
+    }
+    if line.starts_with(b"! ") {
+        return Mark::Happening;
+    }
+    Mark::None
+}
+
+/// What is behind a mark.
+fn behind_mark(line: &[u8]) -> &[u8]
+    ensures { result.now ≡ drop 2 line.now }
+{
+    match line {
+        [_, _, rest @ ..] => rest,
+        _ => &[],
+    }
+}
+
+fn is_ended(phase: Phase) -> bool
+    ensures { result ≡ is_phase Phase.Ended phase }
+{
+    matches!(phase, Phase::Ended)
+}
+
+/// Where the debuggee is that is in a run; else there is none to ask.
+fn state_in(phase: Phase) -> Option<State>
+    ensures { result ≡ state_of phase }
+{
+    match phase {
+        Phase::Running => Some(State::Running),
+        Phase::Stopped => Some(State::Stopped),
+        _ => None,
+    }
+}
+
+/// Why what is told is dropped in a phase.
+fn dropped_in(phase: Phase, told: &Told) -> Result<Option<Dropped>, AllocError>
+    ensures { IfOk result (λ dropped. dropped ≡ drop_of phase told.now) }
+{
+    match state_in(phase) {
+        None => Ok(Some(Dropped::OutOfTurn)),
+        Some(state) => Ok(why_dropped(state, &happening_in(told)?)),
+    }
+}
+
+/// The frame of a body.
+fn frame_with(alloc: Global, body: &[u8]) -> Result<Vec<u8>, AllocError>
+    ensures { IfOk result (λ frame. frame.items ≡ frame_of body.now) }
+{
+    let mut frame = Vec::new(alloc);
+    write_frame(&mut frame, body)?;
+    Ok(frame)
+}
+
+/// An adapter over a debuggee that a host feeds by lines.
+#[derive(Drop)]
+pub struct Host {
+    adapter: Adapter<Live>,
+    mail: Rc<Mail>,
+    /// As JSON.
+    sources: Vec<u8>,
+    limits: Limits,
+    /// How many lines came.
+    number: u64,
+}
+
+impl Model for Host {
+    ghost use Rattle.std.specs.Coded.{codes};
+    ghost use Rattle.dap_json.specs.Stored.{coded_data};
+    ghost use Rattle.dap_host.specs.Hearing.{HostState};
+
+    ghost Value = { HostState };
+
+    ghost coded = { Prim.hlevel (codes, coded_data) };
+
+    ghost view = { λ h. record { adapter = h.adapter; sources = h.sources.items; limits = h.limits; number = h.number } };
+}
+
+impl Host {
+    ghost use Rattle.std.specs.Prelude.{◌≡◌, ◌≢◌, ◌++◌, List, IfOk, IfErr, OnOk, OnErr, IfSome, None, Err, true};
+    ghost use Rattle.dap_host.specs.Hearing.{IsFresh, IsGoing, HandsOut, RefusesMessage, TakesMessage, HearsTold, IsUnheard, AnswersMessage, TellsIt, StopsMessage, StopsTelling, HearsMessage, HearsHappening, HearsMarked, StopsMarked, Hears, Stops};
+    ghost use Rattle.dap_host.specs.Moments.{FileRefused};
+    ghost use Rattle.dap_host.specs.Written.{message_lines, refusal_line};
+    ghost use Rattle.dap_message.specs.ReadBack.{AllReadBack};
+    ghost use Rattle.dap_message.specs.declared.message.Message.{Message};
+    ghost use Rattle.dap_outbox.specs.Draft.{bytes_of};
+    ghost use Rattle.dap_session.specs.Polling.{has_debuggee};
+
+    /// A host of a debuggee that is not started. The bytes are a JSON object with the `sources` of a recording, the first of
+    /// which has a line; a recording is one, and what else it has is not looked at.
+    ///
+    /// # Errors
+    /// Those of `Recorded::read`. `BadKey` with `line` or `source` comes also where the first source has no line, or there is
+    /// none.
+    pub fn open(alloc: Global, limits: Limits, bytes: &[u8]) -> Result<Host, RecordingFault>
+        ensures fresh { IfOk result (IsFresh limits bytes.now) }
+        ensures going { IfOk result IsGoing }
+        ensures refused { IfErr result (FileRefused bytes.now) }
+    {
+        // For the proof: no message is under way.
+        frames_come_one_by_one(&limits);
+        let sources = sources_in(alloc, bytes)?;
+        let base = match base_of(alloc, &sources) {
+            Ok(base) => base,
+            Err(fault) => return Err(fault),
+        };
+        let mail = Rc::new(alloc, Mail::new(alloc))?;
+        let live = Live::open(alloc, base, mail.clone()?);
+        let adapter = Adapter::open(alloc, limits, live)?;
+        Ok(Host {
+            adapter,
+            mail,
+            sources,
+            limits,
+            number: 0,
+        })
+    }
+
+    /// Hears a line, without the line feed at its end, and appends the lines that are due then to `out`. A line without bytes is
+    /// skipped; lines are counted from 1, also that one.
+    ///
+    /// # Errors
+    /// Those of `Adapter::answer` and `Adapter::tell`, where the adapter is closed: then the lines of what was made before are
+    /// appended. `OutOfMemory` too where memory is refused for a line: then a part of the lines may be appended.
+    pub fn line(
+        &mut self,
+        alloc: Global,
+        line: &[u8],
+        out: &mut Vec<u8>,
+    ) -> Result<(), AdapterFault>
+        requires { IsGoing self.old }
+        ensures hears { OnOk result (Hears self.old line.now out.old.items out.new.items self.new) }
+        ensures going { OnOk result (IsGoing self.new) }
+
+        // Why it stops.
+        ensures stops { IfErr result (λ fault. fault ≢ AdapterFault.OutOfMemory → Stops self.old line.now out.old.items out.new.items self.new fault) }
+    {
+        self.number = self.number.saturating_add(1);
+        if line.is_empty() {
+            return Ok(());
+        }
+        self.hear(alloc, line, out)
+    }
+
+    /// Hears a line that has bytes, and is counted.
+    fn hear(&mut self, alloc: Global, line: &[u8], out: &mut Vec<u8>) -> Result<(), AdapterFault>
+        requires { IsGoing self.old }
+        ensures hears { OnOk result (HearsMarked (mark_of line.now) self.old (drop 2 line.now) out.old.items out.new.items self.new) }
+        ensures going { OnOk result (IsGoing self.new) }
+        ensures stops { IfErr result (λ fault. fault ≢ AdapterFault.OutOfMemory → StopsMarked (mark_of line.now) self.old (drop 2 line.now) out.old.items out.new.items self.new fault) }
+    {
+        match mark_of(line) {
+            Mark::Message => self.hear_message(alloc, behind_mark(line), out),
+            Mark::Happening => self.hear_happening(alloc, behind_mark(line), out),
+            Mark::None => self.refuse(Refusal::BadLine, out),
+        }
+    }
+
+    /// Refuses the line.
+    fn refuse(&self, why: Refusal, out: &mut Vec<u8>) -> Result<(), AdapterFault>
+        ensures refused { OnOk result (out.new.items ≡ out.old.items ++ refusal_line self.now.number why) }
+        ensures memory { IfErr result (λ fault. fault ≡ AdapterFault.OutOfMemory) }
+    {
+        match push_refusal(out, self.number, why) {
+            Ok(()) => Ok(()),
+            Err(_) => Err(AdapterFault::OutOfMemory),
+        }
+    }
+
+    /// Why a message of the client is refused, before it is handed to the adapter.
+    fn refusal_of(&self, alloc: Global, body: &[u8]) -> Result<Option<Refusal>, AllocError>
+        ensures refused { IfOk result (λ refusal. IfSome refusal (RefusesMessage self.now body.now)) }
+        ensures taken { IfOk result (λ refusal. refusal ≡ None → TakesMessage self.now body.now) }
+    {
+        match read_message(alloc, body) {
+            Ok(_message) => {}
+            Err(BodyFault::Refused(cause)) => return Ok(Some(Refusal::Body(cause))),
+            Err(BodyFault::OutOfMemory) => return Err(AllocError),
+        }
+        if body.len() > self.limits.body() {
+            return Ok(Some(Refusal::BodyTooLong));
+        }
+        if is_ended(self.adapter.phase()) {
+            return Ok(Some(Refusal::Ended));
+        }
+        Ok(None)
+    }
+
+    /// Hears a message of the client.
+    fn hear_message(
+        &mut self,
+        alloc: Global,
+        body: &[u8],
+        out: &mut Vec<u8>,
+    ) -> Result<(), AdapterFault>
+        requires { IsGoing self.old }
+        ensures hears { OnOk result (HearsMessage self.old body.now out.old.items out.new.items self.new) }
+        ensures going { OnOk result (IsGoing self.new) }
+        ensures stops { IfErr result (λ fault. fault ≢ AdapterFault.OutOfMemory → TakesMessage self.old body.now × StopsMessage self.old body.now out.old.items out.new.items self.new fault) }
+    {
+        match self.refusal_of(alloc, body) {
+            Ok(None) => self.answer(alloc, body, out),
+            Ok(Some(why)) => self.refuse(why, out),
+            Err(_) => Err(AdapterFault::OutOfMemory),
+        }
+    }
+
+    /// Hands a message to the adapter.
+    fn answer(&mut self, alloc: Global, body: &[u8], out: &mut Vec<u8>) -> Result<(), AdapterFault>
+        requires going { IsGoing self.old }
+        requires takes { TakesMessage self.old body.now }
+        ensures answers { OnOk result (AnswersMessage self.old body.now out.old.items out.new.items self.new) }
+        ensures going { OnOk result (IsGoing self.new) }
+        ensures stops { IfErr result (λ fault. fault ≢ AdapterFault.OutOfMemory → StopsMessage self.old body.now out.old.items out.new.items self.new fault) }
+    {
+        // For the proof: the frame of a body is one message.
+        frames_come_one_by_one(&self.limits);
+        let Ok(frame) = frame_with(alloc, body) else {
+            return Err(AdapterFault::OutOfMemory);
+        };
+        let mut bytes = Vec::new(alloc);
+        match self.adapter.answer(alloc, &frame, &mut bytes) {
+            Ok(_ended) => self.hand_out(alloc, &bytes, out),
+            Err(fault) => Err(self.break_off(alloc, &bytes, fault, out)),
+        }
+    }
+
+    /// What comes by what a host tells.
+    fn coming_in(&self, alloc: Global, text: &[u8]) -> Result<Coming, Unread>
+        ensures hears { IfOk result (HearsTold self.now text.now) }
+        ensures refused { IfErr result (IsUnheard self.now text.now) }
+    {
+        let told = read_told(alloc, text)?;
+        match dropped_in(self.adapter.phase(), &told) {
+            Ok(None) => coming_of(alloc, &self.sources, told),
+            Ok(Some(why)) => Err(Unread::Refused(Refusal::Dropped(why))),
+            Err(_) => Err(Unread::OutOfMemory),
+        }
+    }
+
+    /// Hears what happened.
+    fn hear_happening(
+        &mut self,
+        alloc: Global,
+        text: &[u8],
+        out: &mut Vec<u8>,
+    ) -> Result<(), AdapterFault>
+        requires { IsGoing self.old }
+        ensures hears { OnOk result (HearsHappening self.old text.now out.old.items out.new.items self.new) }
+        ensures going { OnOk result (IsGoing self.new) }
+        ensures stops { IfErr result (λ fault. fault ≢ AdapterFault.OutOfMemory → ((coming : Coming) × HearsTold self.old text.now coming) × StopsTelling self.old out.old.items out.new.items self.new fault) }
+    {
+        match self.coming_in(alloc, text) {
+            Ok(coming) => self.tell(alloc, coming, out),
+            Err(Unread::Refused(why)) => self.refuse(why, out),
+            Err(Unread::OutOfMemory) => Err(AdapterFault::OutOfMemory),
+        }
+    }
+
+    /// Lets the adapter tell what happened.
+    fn tell(&mut self, alloc: Global, coming: Coming, out: &mut Vec<u8>) -> Result<(), AdapterFault>
+        requires going { IsGoing self.old }
+        requires in_a_run { has_debuggee self.old.adapter.session.phase ≡ true }
+        ensures tells { OnOk result (TellsIt self.old out.old.items out.new.items self.new) }
+        ensures going { OnOk result (IsGoing self.new) }
+        ensures stops { IfErr result (λ fault. fault ≢ AdapterFault.OutOfMemory → StopsTelling self.old out.old.items out.new.items self.new fault) }
+    {
+        // For the proof: no message is under way.
+        frames_come_one_by_one(&self.limits);
+        self.mail.post(coming);
+        let mut bytes = Vec::new(alloc);
+        match self.adapter.tell(alloc, &mut bytes) {
+            Ok(()) => self.hand_out(alloc, &bytes, out),
+            Err(fault) => Err(self.break_off(alloc, &bytes, fault, out)),
+        }
+    }
+
+    /// Appends the lines of what the adapter wrote, and of what the debugger has to do.
+    fn hand_out(&self, alloc: Global, bytes: &[u8], out: &mut Vec<u8>) -> Result<(), AdapterFault>
+        ensures out { OnOk result ((outs : List Message) → bytes.now ≡ bytes_of outs → AllReadBack self.now.limits.body outs → HandsOut outs out.old.items out.new.items) }
+        ensures memory { IfErr result (λ fault. fault ≡ AdapterFault.OutOfMemory) }
+    {
+        let Ok(acts) = self.mail.take_acts(alloc) else {
+            return Err(AdapterFault::OutOfMemory);
+        };
+        if push_messages(alloc, self.limits, bytes, out).is_err() {
+            return Err(AdapterFault::OutOfMemory);
+        }
+        match push_acts(alloc, out, &acts) {
+            Ok(()) => Ok(()),
+            Err(_) => Err(AdapterFault::OutOfMemory),
+        }
+    }
+
+    /// Appends the lines of what the adapter wrote before a fault, and answers why it stops.
+    fn break_off(
+        &self,
+        alloc: Global,
+        bytes: &[u8],
+        fault: AdapterFault,
+        out: &mut Vec<u8>,
+    ) -> AdapterFault
+        ensures is { result ≢ AdapterFault.OutOfMemory → result ≡ fault }
+        ensures out { result ≢ AdapterFault.OutOfMemory → (outs : List Message) → bytes.now ≡ bytes_of outs → AllReadBack self.now.limits.body outs → out.new.items ≡ out.old.items ++ message_lines outs }
+    {
+        match push_messages(alloc, self.limits, bytes, out) {
+            Ok(()) => fault,
+            Err(_) => AdapterFault::OutOfMemory,
+        }
+    }
+}
