@@ -1,7 +1,8 @@
 -- What a debuggee that a host feeds is seen as, and what it shows: what the host told last.
 -- This profile's choice.
-use Rattle.std.specs.Prelude.{ℕ, ℤ, ◌≤◌, List, [], length, Option, Some, None, option_map, option_and_then, bytes_eq, if◌then◌else◌}
+use Rattle.std.specs.Prelude.{ℕ, ℤ, ◌≤◌, Bool, true, List, [], ◌∷◌, length, Option, Some, None, option_map, option_and_then, bytes_eq, if◌then◌else◌}
 use Rattle.dap_debuggee.specs.Shown.{Shown, Last}
+use Rattle.dap_debuggee.specs.Laws.{variable_named}
 use Rattle.dap_debuggee.specs.declared.answers.State.{State}
 use Rattle.dap_debuggee.specs.declared.answers.State.TheVariants.{NotStarted, Running, Stopped, Gone}
 use Rattle.dap_debuggee.specs.declared.answers.Thread.{Thread}
@@ -10,17 +11,18 @@ use Rattle.dap_debuggee.specs.declared.answers.Scope.{Scope}
 use Rattle.dap_debuggee.specs.declared.answers.Variable.{Variable}
 use Rattle.dap_debuggee.specs.declared.answers.Evaluation.{Evaluation}
 use Rattle.dap_debuggee.specs.declared.answers.Assigned.{Assigned}
-use Rattle.dap_replay.specs.Played.{Played, shown_of, lines_in}
+use Rattle.dap_replay.specs.Played.{Played, shown_of, lines_in, first_of, variables_at, evaluation, assigned_of}
 use Rattle.dap_tables.specs.SourceMap.{OfSource}
 use Rattle.dap_live.specs.declared.held.Learned.{Learned}
+use Rattle.dap_live.specs.declared.here.Here.{Here}
 
 -- ---- the view
 
 pub record LiveState : Type 0 where
   -- its sources are the debuggee's
   pub base : Played
-  -- what the host showed at the last stop
-  pub here : Option Played
+  -- what is shown of the last stop: a moment, whether more is told later, and what was told or set since
+  pub here : Option Here
   -- what the host told last of a text, until the next poll
   pub learned : Option Learned
   pub state : State
@@ -30,9 +32,9 @@ pub record LiveState : Type 0 where
   pub last : Option Last
 
 -- what is shown has no more sources than there are
-abbrev pub IsFew : Played → Option Played → Type 0
+abbrev pub IsFew : Played → Option Here → Type 0
 IsFew base None = Unit {0}
-IsFew base (Some here) = length (shown_of here).sources ≤ length (shown_of base).sources
+IsFew base (Some here) = length (shown_of here.moment).sources ≤ length (shown_of base).sources
 
 abbrev pub fresh_live : Played → LiveState
 fresh_live base = record {
@@ -48,31 +50,43 @@ fresh_live base = record {
 -- ---- queries
 
 -- nothing before the start and once gone; what was shown at the last stop while it runs
-abbrev pub now_shown : State → Option Played → Option Played
+abbrev pub now_shown : State → Option Here → Option Here
 now_shown NotStarted here = None
 now_shown Running here = here
 now_shown Stopped here = here
 now_shown Gone here = None
 
-abbrev pub threads_in : Option Played → List Thread
+abbrev pub threads_in : Option Here → List Thread
 threads_in None = []
-threads_in (Some m) = (shown_of m).threads
+threads_in (Some here) = (shown_of here.moment).threads
 
-abbrev pub frames_in : Option Played → ℤ → Option (List Frame)
+abbrev pub frames_in : Option Here → ℤ → Option (List Frame)
 frames_in None thread = None
-frames_in (Some m) thread = (shown_of m).frames thread
+frames_in (Some here) thread = (shown_of here.moment).frames thread
 
-abbrev pub scopes_in : Option Played → ℕ → Option (List Scope)
+abbrev pub scopes_in : Option Here → ℕ → Option (List Scope)
 scopes_in None frame = None
-scopes_in (Some m) frame = (shown_of m).scopes frame
+scopes_in (Some here) frame = (shown_of here.moment).scopes frame
 
-abbrev pub children_in : Option Played → ℕ → Option (List Variable)
+-- where more is told later, a holder without variables is still to be told
+abbrev pub unless_later : Bool → List Variable → Option (List Variable)
+unless_later true [] = None
+unless_later later variables = Some variables
+
+-- what was told or set comes before what the moment has
+abbrev pub children_in : Option Here → ℕ → Option (List Variable)
 children_in None holder = None
-children_in (Some m) holder = (shown_of m).children holder
+children_in (Some here) holder = first_of (variables_at holder here.told) (option_and_then (unless_later here.later) ((shown_of here.moment).children holder))
 
-abbrev pub evaluation_in : Option Played → Option ℕ → List ℕ → Option Evaluation
+-- the first variable of a name, in the first scope that has one; none where a scope before that is still to be told
+abbrev pub variable_in : (ℕ → Option (List Variable)) → List ℕ → List Scope → Option Variable
+variable_in children name [] = None
+variable_in children name (scope ∷ scopes) = option_and_then (λ variables. first_of (variable_named name variables) (variable_in children name scopes)) (children scope.holder)
+
+abbrev pub evaluation_in : Option Here → Option ℕ → List ℕ → Option Evaluation
 evaluation_in None frame text = None
-evaluation_in (Some m) frame text = (shown_of m).evaluate frame text
+evaluation_in (Some here) None text = None
+evaluation_in (Some here) (Some frame) text = option_map evaluation (option_and_then (variable_in (children_in (Some here)) text) ((shown_of here.moment).scopes frame))
 
 -- what the host told, where it is of this text
 abbrev pub told_of : Option Learned → List ℕ → Option Learned
@@ -85,12 +99,11 @@ value_told learned text = option_and_then (λ l. l.value) (told_of learned text)
 -- what the host told comes before what is shown, also that there is no value
 abbrev pub evaluated : Option Learned → Option Evaluation → Option Evaluation
 evaluated None shown = shown
-evaluated (Some l) shown = option_map (λ value. record { value = value; holder = None }) l.value
+evaluated (Some l) shown = option_map (λ value. record { value = value; holder = l.holder }) l.value
 
 -- a variable that is shown, where the host told what the text comes to
-abbrev pub assigned_by : Option (List ℕ) → Option Played → ℕ → List ℕ → Option Assigned
-assigned_by (Some value) (Some m) holder name = (shown_of m).assigned holder name value
-assigned_by _ _ holder name = None
+abbrev pub assigned_by : Option (List ℕ) → List ℕ → Option (List Variable) → Option Assigned
+assigned_by told name variables = option_and_then (λ value. assigned_of name value variables) told
 
 abbrev pub shown_live : LiveState → Shown
 shown_live v = record {
@@ -103,7 +116,7 @@ shown_live v = record {
   scopes = scopes_in (now_shown v.state v.here);
   children = children_in (now_shown v.state v.here);
   evaluate = λ frame text. evaluated (told_of v.learned text) (evaluation_in (now_shown v.state v.here) frame text);
-  assigned = λ holder name text. assigned_by (value_told v.learned text) (now_shown v.state v.here) holder name;
+  assigned = λ holder name text. assigned_by (value_told v.learned text) name (children_in (now_shown v.state v.here) holder);
   sources = (shown_of v.base).sources;
   content = (shown_of v.base).content;
   verify = (shown_of v.base).verify;

@@ -1,10 +1,13 @@
--- How the code holds the last act. Only private clauses and the view of the debuggee cite this file.
+-- How the code holds the last act, and what a private function does not take. Only private clauses and the view of the debuggee cite this file.
 use Rattle.std.specs.Prelude.{Option}
 use Rattle.dap_debuggee.specs.Shown.{Last, done, refused, happened}
 use Rattle.dap_debuggee.specs.declared.answers.Asked.TheVariants.{Poll}
+use Rattle.dap_debuggee.specs.declared.answers.Happening.{Happening}
+use Rattle.dap_debuggee.specs.declared.answers.Happening.TheVariants as happening
 use Rattle.dap_replay.specs.Played.{Played}
 use Rattle.dap_live.specs.declared.held.LiveLast.{LiveLast}
 use Rattle.dap_live.specs.declared.held.LiveLast.TheVariants.{Done, Refused, Polled}
+use Rattle.dap_live.specs.declared.here.Here.{Here}
 use Rattle.dap_live.specs.LiveShown.{LiveState}
 
 abbrev pub last_of : LiveLast → Last
@@ -12,5 +15,12 @@ last_of (Done asked) = record { asked = asked; reply = done }
 last_of (Refused asked) = record { asked = asked; reply = refused }
 last_of (Polled h) = record { asked = Poll; reply = happened h }
 
-abbrev pub with_here : Option Played → LiveState → LiveState
+abbrev pub with_here : Option Here → LiveState → LiveState
 with_here here v = record v { here = here }
+
+abbrev pub with_base : Played → LiveState → LiveState
+with_base base v = record v { base = base }
+
+abbrev pub IsNoStop : Happening → Type 0
+IsNoStop (happening.Stopped reason thread) = ⊥
+IsNoStop _ = Unit {0}

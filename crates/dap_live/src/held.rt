@@ -1,5 +1,6 @@
 //! What a debuggee holds that a host feeds.
 
+use crate::here::Here;
 use crate::mail::Mail;
 use dap_debuggee::{Asked, Happening, State};
 use dap_json::Text;
@@ -22,6 +23,8 @@ pub(crate) enum LiveLast {
 pub(crate) struct Learned {
     pub(crate) text: Text,
     pub(crate) value: Option<Text>,
+    /// What holds the parts of the value.
+    pub(crate) holder: Option<u64>,
 }
 
 /// A debuggee that a host feeds.
@@ -29,8 +32,8 @@ pub(crate) struct Learned {
 pub struct Live {
     /// Its sources are the debuggee's.
     pub(crate) base: Recorded,
-    /// What was shown at the last stop. It stays while the debuggee runs.
-    pub(crate) here: Option<Recorded>,
+    /// What is shown of the last stop. It stays while the debuggee runs.
+    pub(crate) here: Option<Here>,
     pub(crate) learned: Option<Learned>,
     pub(crate) state: State,
     /// The lines that are set.

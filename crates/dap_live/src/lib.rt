@@ -8,6 +8,7 @@
 
 mod dropping;
 mod held;
+mod here;
 mod live;
 mod mail;
 

@@ -1,12 +1,12 @@
 //! The debuggee: what it does when it is asked, and what it tells.
-ghost use Rattle.std.specs.Prelude.{◌≡◌, ◌≤◌, Some, None, IfOk, IsTrue, length, option_map};
+ghost use Rattle.std.specs.Prelude.{◌≡◌, ◌≤◌, ◌+◌, ◌↔◌, IfOk, IsTrue, length};
 ghost use Rattle.dap_debuggee.specs.Laws.{state_after};
 ghost use Rattle.dap_debuggee.specs.Shown.{to_poll, happened};
 ghost use Rattle.dap_replay.specs.Played.{Played, shown_of};
-ghost use Rattle.dap_live.specs.declared.held.Learned.{Learned};
 
 use crate::dropping::why_dropped;
 use crate::held::{Learned, Live, LiveLast};
+use crate::here::Here;
 use crate::mail::{Coming, Dropped, HostAct};
 use dap_call::SourceKey;
 use dap_debuggee::{
@@ -15,7 +15,11 @@ use dap_debuggee::{
 };
 use dap_json::{List, Text};
 use dap_replay::Recorded;
+use dap_replay::variables::{self, HolderMap};
 use std::alloc::{AllocError, Global};
+
+/// How many sources there are at most.
+const MAX_SOURCES: usize = 65536;
 
 fn copied(happening: &Happening) -> Result<Happening, AllocError>
     ensures { IfOk result (λ copy. copy ≡ happening.now) }
@@ -54,16 +58,25 @@ fn has_few_sources(base: &Recorded, shows: &Recorded) -> bool
     shows.source_count() <= base.source_count()
 }
 
+/// Whether there is room for the sources of one recording behind those of another.
+fn has_room(base: &Recorded, more: &Recorded) -> bool
+    ensures { IsTrue result ↔ length (shown_of base.now).sources + length (shown_of more.now).sources ≤ 65536 }
+{
+    base.source_count().saturating_add(more.source_count()) <= MAX_SOURCES
+}
+
 impl Live {
-    ghost use Rattle.std.specs.Prelude.{◌≡◌, OnOk, OnErr, option_map};
+    ghost use Rattle.std.specs.Prelude.{◌≡◌, ◌≤◌, ◌+◌, length, Some, None, OnOk, OnErr, IfOk, option_map};
     ghost use Rattle.std.specs.Option.{IsSome};
     ghost use Rattle.dap_debuggee.specs.Laws.{is_short};
     ghost use Rattle.dap_debuggee.specs.Shown.{to_poll, to_set_breakpoints, to_assign, done, happened};
     ghost use Rattle.dap_debuggee.specs.declared.answers.Happening.{Happening};
-    ghost use Rattle.dap_live.specs.LiveShown.{shown_live, IsFew, now_shown, told_of, value_told, assigned_by};
-    ghost use Rattle.dap_live.specs.LiveLaws.{FollowsLive, SetsHere, noted};
-    ghost use Rattle.dap_live.specs.Dropping.{heard, IsHeardOr};
-    ghost use Rattle.dap_live.specs.PrivateHeld.{last_of, with_here};
+    ghost use Rattle.dap_replay.specs.Played.{shown_of, with_sources_of};
+    ghost use Rattle.dap_live.specs.declared.here.Here.{Here};
+    ghost use Rattle.dap_live.specs.LiveShown.{shown_live, IsFew, now_shown, children_in, told_of, value_told};
+    ghost use Rattle.dap_live.specs.LiveLaws.{FollowsLive, with_told, noted};
+    ghost use Rattle.dap_live.specs.Dropping.{heard, IsHeardOr, why_untold};
+    ghost use Rattle.dap_live.specs.PrivateHeld.{last_of, with_here, with_base, IsNoStop};
 
     /// Counts and remembers an act.
     fn note(&mut self, last: LiveLast)
@@ -82,8 +95,8 @@ impl Live {
     }
 
     /// What is shown now.
-    fn shown_now(&self) -> Option<&Recorded>
-        ensures { option_map (λ r. r.now) result ≡ now_shown self.now.state self.now.here }
+    fn shown_now(&self) -> Option<&Here>
+        ensures { option_map (λ here. here.now) result ≡ now_shown self.now.state self.now.here }
     {
         match self.state {
             State::NotStarted | State::Gone => None,
@@ -91,6 +104,23 @@ impl Live {
                 None => None,
                 Some(here) => Some(here),
             },
+        }
+    }
+
+    /// The variables of a holder that are shown.
+    fn children_at(&self, holder: u64) -> Option<&[Variable]>
+        ensures { option_map (λ v. v.now) result ≡ children_in (now_shown self.now.state self.now.here) holder }
+    {
+        self.shown_now()?.children_at(holder)
+    }
+
+    /// Why variables of a holder are not heard.
+    fn why_untold(&self, holder: u64) -> Option<Dropped>
+        ensures { result ≡ why_untold (now_shown self.now.state self.now.here) holder }
+    {
+        match self.shown_now() {
+            None => Some(Dropped::OutOfTurn),
+            Some(here) => here.why_untold(holder),
         }
     }
 
@@ -119,6 +149,7 @@ impl Live {
 
     /// Nothing happened, and the host may have told what a text comes to.
     fn see_nothing(&mut self, learned: Option<Learned>) -> Happening
+        ensures learned { self.new.learned ≡ learned }
         ensures nothing { result ≡ Happening.Nothing }
         ensures follows { FollowsLive self.old to_poll (happened result) self.new }
     {
@@ -136,8 +167,10 @@ impl Live {
         self.see_nothing(None)
     }
 
-    /// Tells what the host says, or nothing where that is dropped.
+    /// Tells what the host says, or nothing where that is dropped. It is no stop.
+    #[tactic(auto, using(crate::proofs::Shows::same_shown, crate::proofs::Shows::same_sources))]
     fn see(&mut self, happening: Happening) -> Result<Happening, AllocError>
+        requires { IsNoStop happening }
         ensures heard { IfOk result (λ h. h ≡ heard self.old.state happening) }
         ensures follows { IfOk result (λ h. FollowsLive self.old to_poll (happened h) self.new) }
         ensures in_range { IfOk result (λ h. IsTrue (is_short h)) }
@@ -152,16 +185,18 @@ impl Live {
         Ok(happening)
     }
 
-    /// Tells a stop, and shows where; or nothing where that is dropped.
+    /// Tells a stop, and shows where, and whether more is told later; or nothing where that is dropped.
     fn stop(
         &mut self,
         alloc: Global,
         reason: Text,
         thread: i64,
         mut shows: Recorded,
+        more: bool,
     ) -> Result<Happening, AllocError>
         ensures heard { IfOk result (λ h. IsHeardOr self.old.state (Happening.Stopped reason thread) h) }
         ensures follows { IfOk result (λ h. FollowsLive self.old to_poll (happened h) self.new) }
+        ensures later { IfOk result (λ h. h ≡ Happening.Stopped reason thread → option_map (λ (here : Here). here.later) self.new.here ≡ Some more) }
         ensures in_range { IfOk result (λ h. IsTrue (is_short h)) }
     {
         // Refused where it is started already.
@@ -175,10 +210,40 @@ impl Live {
         }
         let copy = copied(&happening)?;
         self.state = State::Stopped;
-        self.here = Some(shows);
+        self.here = Some(Here {
+            moment: shows,
+            later: more,
+            told: HolderMap::new(alloc),
+        });
         self.learned = None;
         self.note(LiveLast::Polled(copy));
         Ok(happening)
+    }
+
+    /// Puts sources behind those there are.
+    #[tactic(auto, using(crate::proofs::Shows::few_more))]
+    fn put_sources(&mut self, alloc: Global, more: Recorded) -> Result<(), AllocError>
+        requires { length (shown_of self.old.base).sources + length (shown_of more).sources ≤ 65536 }
+        ensures put { OnOk result (self.new ≡ with_base (with_sources_of more self.old.base) self.old) }
+        ensures memory { OnErr result (self.new ≡ self.old) }
+    {
+        self.base.add_sources(alloc, more)?;
+        Ok(())
+    }
+
+    /// Tells nothing, and has more sources, unless they are dropped.
+    fn see_sources(&mut self, alloc: Global, more: Recorded) -> Result<Happening, AllocError>
+        ensures nothing { IfOk result (λ h. h ≡ Happening.Nothing) }
+        ensures heard { OnOk result (length (shown_of self.old.base).sources + length (shown_of more).sources ≤ 65536 → self.new.base ≡ with_sources_of more self.old.base) }
+        ensures follows { IfOk result (λ h. FollowsLive self.old to_poll (happened h) self.new) }
+    {
+        if !has_room(&self.base, &more) {
+            return Ok(self.drop_it(Dropped::TooManySources));
+        }
+        self.put_sources(alloc, more)?;
+        self.learned = None;
+        self.note(LiveLast::Polled(Happening::Nothing));
+        Ok(Happening::Nothing)
     }
 
     /// Puts lines in place of those of a source.
@@ -200,23 +265,34 @@ impl Live {
         Ok(())
     }
 
-    /// Sets a value in what was shown.
-    fn put_value(
-        &mut self,
-        alloc: Global,
-        holder: u64,
-        name: &str,
-        value: &str,
-    ) -> Result<(), AllocError>
-        requires { IsSome (assigned_by (Some value.now) self.old.here holder name.now) }
-        ensures set { OnOk result (SetsHere (Some value.now) holder name.now self.old.here self.new.here) }
-        ensures others { self.new ≡ with_here self.new.here self.old }
+    /// Puts variables of a holder before what the moment has.
+    fn put_told(&mut self, holder: u64, variables: Vec<Variable>) -> Result<(), AllocError>
+        ensures put { OnOk result (self.new ≡ with_here (with_told holder variables.items self.old.here) self.old) }
         ensures memory { OnErr result (self.new ≡ self.old) }
     {
         match &mut self.here {
-            None => unreachable!(),
-            Some(here) => here.assign(alloc, holder, name, value),
+            None => Ok(()),
+            Some(here) => here.told.put(holder, variables),
         }
+    }
+
+    /// Tells nothing, and shows the variables of a holder, unless they are dropped.
+    fn see_variables(
+        &mut self,
+        holder: u64,
+        variables: List<Variable>,
+    ) -> Result<Happening, AllocError>
+        ensures nothing { IfOk result (λ h. h ≡ Happening.Nothing) }
+        ensures heard { OnOk result (why_untold (now_shown self.old.state self.old.here) holder ≡ None → self.new.here ≡ with_told holder variables self.old.here) }
+        ensures follows { IfOk result (λ h. FollowsLive self.old to_poll (happened h) self.new) }
+    {
+        if let Some(why) = self.why_untold(holder) {
+            return Ok(self.drop_it(why));
+        }
+        self.put_told(holder, variables.into_vec())?;
+        self.learned = None;
+        self.note(LiveLast::Polled(Happening::Nothing));
+        Ok(Happening::Nothing)
     }
 
     /// Sets a variable to the value that the host told of a text.
@@ -235,13 +311,17 @@ impl Live {
             unreachable!()
         };
         let value = value.clone()?;
+        let Some(variables) = self.children_at(holder) else {
+            unreachable!()
+        };
+        let changed = variables::with_value(alloc, variables, name, value.as_str())?;
         let act = HostAct::Assign {
             holder,
             name: Text::copied(alloc, name)?,
-            value: value.clone()?,
+            value,
         };
         self.mail.ask(alloc, act)?;
-        match self.put_value(alloc, holder, name, value.as_str()) {
+        match self.put_told(holder, changed) {
             Ok(()) => {
                 self.note(LiveLast::Done(Asked::Assign));
                 Ok(())
@@ -309,9 +389,19 @@ impl Debuggee for Live {
     fn poll(&mut self, alloc: Global) -> Result<Happening, AllocError> {
         match self.mail.take_coming() {
             None => Ok(self.see_nothing(None)),
-            Some(Coming::Learned { text, value }) => {
-                Ok(self.see_nothing(Some(Learned { text, value })))
-            }
+            Some(
+                Coming::Learned {
+                    text,
+                    value,
+                    holder,
+                },
+            ) => Ok(self.see_nothing(Some(Learned {
+                text,
+                value,
+                holder,
+            }))),
+            Some(Coming::Variables { holder, variables }) => self.see_variables(holder, variables),
+            Some(Coming::Sources(more)) => self.see_sources(alloc, more),
             Some(Coming::Output { category, text }) => {
                 self.see(Happening::Output { category, text })
             }
@@ -320,8 +410,9 @@ impl Debuggee for Live {
                     reason,
                     thread,
                     shows,
+                    later,
                 },
-            ) => self.stop(alloc, reason, thread, shows),
+            ) => self.stop(alloc, reason, thread, shows, later),
             Some(Coming::Continued { thread }) => self.see(Happening::Continued { thread }),
             Some(Coming::Exited { code }) => self.see(Happening::Exited { code }),
         }
@@ -355,7 +446,7 @@ impl Debuggee for Live {
     fn threads(&self, alloc: Global) -> Result<Vec<Thread>, AllocError> {
         match self.shown_now() {
             None => Ok(Vec::new(alloc)),
-            Some(here) => here.threads(alloc),
+            Some(here) => here.moment.threads(alloc),
         }
     }
 
@@ -363,14 +454,14 @@ impl Debuggee for Live {
         self.has_few_shown();
         match self.shown_now() {
             None => Err(DebuggeeFault::Refused),
-            Some(here) => here.frames(alloc, thread),
+            Some(here) => here.moment.frames(alloc, thread),
         }
     }
 
     fn scopes(&self, alloc: Global, frame: u64) -> Result<Vec<Scope>, DebuggeeFault> {
         match self.shown_now() {
             None => Err(DebuggeeFault::Refused),
-            Some(here) => here.scopes(alloc, frame),
+            Some(here) => here.moment.scopes(alloc, frame),
         }
     }
 
@@ -381,15 +472,18 @@ impl Debuggee for Live {
         start: u32,
         count: u32,
     ) -> Result<Vec<Variable>, DebuggeeFault> {
-        match self.shown_now() {
+        match self.children_at(holder) {
             None => Err(DebuggeeFault::Refused),
-            Some(here) => here.children(alloc, holder, start, count),
+            Some(found) => Ok(variables::copied(
+                alloc,
+                variables::window(found, start as usize, count as usize),
+            )?),
         }
     }
 
     fn evaluate(
         &self,
-        alloc: Global,
+        _alloc: Global,
         frame: Option<u64>,
         text: &str,
     ) -> Result<Evaluation, DebuggeeFault> {
@@ -398,19 +492,19 @@ impl Debuggee for Live {
                 None => Err(DebuggeeFault::Refused),
                 Some(value) => Ok(Evaluation {
                     value: value.clone()?,
-                    holder: None,
+                    holder: learned.holder,
                 }),
             };
         }
         match self.shown_now() {
             None => Err(DebuggeeFault::Refused),
-            Some(here) => here.evaluate(alloc, frame, text),
+            Some(here) => here.evaluate(frame, text),
         }
     }
 
     fn assigned(
         &self,
-        alloc: Global,
+        _alloc: Global,
         holder: u64,
         name: &str,
         text: &str,
@@ -418,9 +512,14 @@ impl Debuggee for Live {
         let Some(value) = self.value_of(text) else {
             return Err(DebuggeeFault::Refused);
         };
-        match self.shown_now() {
+        let Some(variables) = self.children_at(holder) else {
+            return Err(DebuggeeFault::Refused);
+        };
+        match variables::named(variables, name) {
             None => Err(DebuggeeFault::Refused),
-            Some(here) => here.assigned(alloc, holder, name, value.as_str()),
+            Some(_) => Ok(Assigned {
+                value: value.clone()?,
+            }),
         }
     }
 

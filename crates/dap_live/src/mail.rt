@@ -3,7 +3,7 @@
 //! Contracts see nothing of it: no clause says what a cell holds.
 
 use dap_call::SourceKey;
-use dap_debuggee::{Category, How};
+use dap_debuggee::{Category, How, Variable};
 use dap_json::{List, Text};
 use dap_replay::Recorded;
 use std::alloc::{AllocError, Global};
@@ -23,6 +23,9 @@ pub enum Coming {
         reason: Text,
         thread: i64,
         shows: Recorded,
+        /// Whether more is told later. A holder of the moment that has no variables is then refused until they are told; else it
+        /// has none.
+        later: bool,
     },
     /// It went on by itself.
     Continued {
@@ -36,7 +39,18 @@ pub enum Coming {
     Learned {
         text: Text,
         value: Option<Text>,
+        /// What holds the parts of the value: a holder of the moment, or one whose variables are told.
+        holder: Option<u64>,
     },
+    /// The variables of a holder that has none yet, until the next stop: one of a moment of which more is told later, of a
+    /// variable, or of a value. The moment's holders are counted from 0, in the order of its recording; others are any numbers
+    /// beyond those. At most 65536 holders of a stop are told.
+    Variables {
+        holder: u64,
+        variables: List<Variable>,
+    },
+    /// The sources of a recording come behind those there are, at most 65536 in all. Its moments do not matter.
+    Sources(Recorded),
 }
 
 /// What the host has to do.
@@ -53,7 +67,8 @@ pub enum HostAct {
         source: SourceKey,
         lines: List<u32>,
     },
-    /// The first variable of the name directly in the holder, by its number in the moment that is shown, has the value.
+    /// The first variable of the name directly in the holder has the value. The holder is named by its number in the moment that
+    /// is shown, or by the one that was told.
     Assign {
         holder: u64,
         name: Text,
@@ -69,8 +84,12 @@ pub enum Dropped {
     OutOfTurn,
     /// A text is too long, or the id of a thread is too great.
     OutOfRange,
-    /// The moment has more sources than the debuggee.
+    /// The moment has more sources than the debuggee, or it would have more than 65536.
     TooManySources,
+    /// The holder has its variables already.
+    Told,
+    /// So many holders were told since the last stop, or have a value that was set, that there is room for no more.
+    TooManyHolders,
 }
 
 /// What is under way between a host and its debuggee.

@@ -8,7 +8,7 @@ use Rattle.std.specs.Map.{lookup}
 use Rattle.std.specs.Ordering.{is_eq, match_ordering, nat_cmp}
 use Rattle.std.specs.declared.cmp.Ordering.TheVariants.{Less, Equal, Greater}
 use Rattle.dap_debuggee.specs.Laws.{with_value}
-use Rattle.dap_replay.specs.Played.{Played, OfHolder, changed_at, with_variables, first_of, variables_held}
+use Rattle.dap_replay.specs.Played.{Played, OfHolder, variables_at, with_variables, first_of, variables_held}
 use Rattle.dap_replay.specs.PrivateHeld.{of_holder, holders_in, KeepHolders}
 use Rattle.dap_debuggee.specs.declared.answers.Variable.{Variable}
 use Rattle.dap_replay.proofs.Ranges.{some_same}
@@ -42,11 +42,11 @@ module _ {A : Type 0} where
   items-by true v o rest h = refl
   items-by false v o rest h = h
 
-  pub looked_up : (h : ℕ) (es : List (ℕ × Vec Variable A)) → option_map (λ (x : Vec Variable A). x.items) (lookup (is_at (nat_cmp h)) es) ≡ changed_at h (map of_holder es)
+  pub looked_up : (h : ℕ) (es : List (ℕ × Vec Variable A)) → option_map (λ (x : Vec Variable A). x.items) (lookup (is_at (nat_cmp h)) es) ≡ variables_at h (map of_holder es)
   looked_up h [] = refl
   looked_up h (e ∷ es) =
-      items-by (is_eq (nat_cmp h e.0)) e.1 (lookup (is_at (nat_cmp h)) es) (changed_at h (map of_holder es)) (looked_up h es)
-      ∙ ap (λ b. if b then Some e.1.items else changed_at h (map of_holder es)) (eq-cmp h e.0)
+      items-by (is_eq (nat_cmp h e.0)) e.1 (lookup (is_at (nat_cmp h)) es) (variables_at h (map of_holder es)) (looked_up h es)
+      ∙ ap (λ b. if b then Some e.1.items else variables_at h (map of_holder es)) (eq-cmp h e.0)
 
 -- ---- what holds children
 
@@ -76,16 +76,16 @@ at-by : (b : Bool) (recorded : List (List Variable)) (h : ℕ) (ys : List Variab
 at-by true recorded h ys c rest is old later e = subst (λ n. AreRecorded recorded n ys) (sym (eqb-true h c.holder is)) (subst (λ (zs : List Variable). AreRecorded recorded c.holder zs) (some_same c.variables ys e) old)
 at-by false recorded h ys c rest is old later e = later e
 
-changed-recorded : (recorded : List (List Variable)) (h : ℕ) (ys : List Variable) (changed : List OfHolder) → KeepHolders recorded changed → changed_at h changed ≡ Some ys → AreRecorded recorded h ys
+changed-recorded : (recorded : List (List Variable)) (h : ℕ) (ys : List Variable) (changed : List OfHolder) → KeepHolders recorded changed → variables_at h changed ≡ Some ys → AreRecorded recorded h ys
 changed-recorded recorded h ys [] old e = absurd (cc e)
-changed-recorded recorded h ys (c ∷ changed) old e = at-by (nat_eq h c.holder) recorded h ys c (changed_at h changed) refl old.0 (changed-recorded recorded h ys changed old.1) e
+changed-recorded recorded h ys (c ∷ changed) old e = at-by (nat_eq h c.holder) recorded h ys c (variables_at h changed) refl old.0 (changed-recorded recorded h ys changed old.1) e
 
 held-by : (o : Option (List Variable)) (recorded : List (List Variable)) (h : ℕ) (ys : List Variable) → (o ≡ Some ys → AreRecorded recorded h ys) → first_of o (slice_get recorded h) ≡ Some ys → AreRecorded recorded h ys
 held-by None recorded h ys changed e = ap (option_map holders_in) e
 held-by (Some zs) recorded h ys changed e = changed e
 
 pub held-recorded : (v : Played) → KeepHolders v.recording.variables v.changed → (h : ℕ) (ys : List Variable) → variables_held v h ≡ Some ys → AreRecorded v.recording.variables h ys
-held-recorded v keeps h ys e = held-by (changed_at h v.changed) v.recording.variables h ys (changed-recorded v.recording.variables h ys v.changed keeps) e
+held-recorded v keeps h ys e = held-by (variables_at h v.changed) v.recording.variables h ys (changed-recorded v.recording.variables h ys v.changed keeps) e
 
 -- a value more that is set
 pub keep-value : (v : Played) (holder : ℕ) (name value : List ℕ) (xs : List Variable) → KeepHolders v.recording.variables v.changed → variables_held v holder ≡ Some xs → KeepHolders v.recording.variables (with_variables holder (with_value name value xs) v.changed)

@@ -12,4 +12,5 @@ pub mod PlayedExamples
 pub mod PollsExamples
 pub mod Telling
 pub mod Longest
+pub mod Wider
 pub mod Stops

@@ -8,7 +8,7 @@ use Rattle.std.specs.Option.{IsSome}
 use Rattle.std.specs.Ordering.{int_eq}
 use Rattle.dap_debuggee.specs.Laws.{variable_named}
 use Rattle.dap_replay.specs.PrivateHeld.{KeepHolders}
-use Rattle.dap_replay.specs.Played.{Played, shown_of, moment_shown, threads_at, thread_shown, source_shown, is_there, is_in, if_within, scopes_shown, first_of, variables_held, changed_at, value_in, evaluation}
+use Rattle.dap_replay.specs.Played.{Played, shown_of, moment_shown, threads_at, thread_shown, source_shown, is_there, is_in, if_within, scopes_shown, first_of, variables_held, variables_at, value_in, evaluation}
 use Rattle.dap_recording.specs.Recording.{IsRecording, IsWithin, HasOwnNumbers}
 use Rattle.dap_replay.specs.ShownNumbers.{ShownCanBeAsked}
 use Rattle.dap_debuggee.specs.declared.answers.Thread.{Thread}
@@ -83,7 +83,7 @@ frame_asked v good m is n p =
 holder_asked : (v : Played) → IsRecording v.recording → (m : Moment) → moment_shown v ≡ Some m → (n : ℕ) → IsWithin m.holders n → IsSome ((shown_of v).children n)
 holder_asked v good m is n p =
     let own = shown_own v good m is in
-    is_shown (λ m. m.holders) (moment_shown v) m n (variables_held v n) is p (some_held (changed_at n v.changed) (slice_get v.recording.variables n) (stands v.recording.variables n (omega (arith, p.to, own.holders_stand))))
+    is_shown (λ m. m.holders) (moment_shown v) m n (variables_held v n) is p (some_held (variables_at n v.changed) (slice_get v.recording.variables n) (stands v.recording.variables n (omega (arith, p.to, own.holders_stand))))
 
 -- ---- frames
 

@@ -1,6 +1,6 @@
 -- A recorded debuggee: what it is seen as, what it shows, and what each act does.
 -- This profile's choice.
-use Rattle.std.specs.Prelude.{◌≡◌, ℕ, zero, suc, ◌+◌, ◌-◌, ◌%◌, ◌^◌, ℤ, pos, Bool, true, false, ◌&&◌, ◌||◌, not, nat_le, nat_lt, nat_eq, bytes_eq, slice_index, List, [], ◌∷◌, length, map, take, drop, Option, Some, None, option_map, option_and_then, unwrap_or, if◌then◌else◌, Result, Ok, Err}
+use Rattle.std.specs.Prelude.{◌≡◌, ℕ, zero, suc, ◌+◌, ◌-◌, ◌%◌, ◌^◌, ℤ, pos, Bool, true, false, ◌&&◌, ◌||◌, not, nat_le, nat_lt, nat_eq, bytes_eq, slice_index, List, [], ◌∷◌, ◌++◌, length, map, take, drop, Option, Some, None, option_map, option_and_then, unwrap_or, if◌then◌else◌, Result, Ok, Err}
 use Rattle.std.specs.List.{list_any, slice_get, find}
 use Rattle.std.specs.Option.{IsSome}
 use Rattle.std.specs.Ordering.{int_eq}
@@ -68,9 +68,9 @@ lines_in set key = set_of key set
 
 -- ---- values that were set
 
-abbrev pub changed_at : ℕ → List OfHolder → Option (List Variable)
-changed_at holder [] = None
-changed_at holder (c ∷ changed) = if nat_eq holder c.holder then Some c.variables else changed_at holder changed
+abbrev pub variables_at : ℕ → List OfHolder → Option (List Variable)
+variables_at holder [] = None
+variables_at holder (c ∷ changed) = if nat_eq holder c.holder then Some c.variables else variables_at holder changed
 
 abbrev pub with_variables : ℕ → List Variable → List OfHolder → List OfHolder
 with_variables holder variables [] = record { holder = holder; variables = variables } ∷ []
@@ -85,7 +85,7 @@ first_of (Some x) other = Some x
 
 -- a value that was set lies on top of the recording
 abbrev pub variables_held : Played → ℕ → Option (List Variable)
-variables_held v holder = first_of (changed_at holder v.changed) (slice_get v.recording.variables holder)
+variables_held v holder = first_of (variables_at holder v.changed) (slice_get v.recording.variables holder)
 
 -- ---- output
 
@@ -247,9 +247,12 @@ abbrev pub evaluation_in : Played → Option ℕ → List ℕ → Option Evaluat
 evaluation_in v None name = None
 evaluation_in v (Some frame) name = option_map evaluation (option_and_then (value_in (variables_held v) name) (scopes_shown v frame))
 
--- the value is the text
+-- the value is the text, where one of the variables has the name
+abbrev pub assigned_of : List ℕ → List ℕ → Option (List Variable) → Option Assigned
+assigned_of name text variables = option_map (λ variable. record { value = text }) (option_and_then (variable_named name) variables)
+
 abbrev pub assigned_in : Played → ℕ → List ℕ → List ℕ → Option Assigned
-assigned_in v holder name text = option_map (λ variable. record { value = text }) (option_and_then (variable_named name) (children_shown v holder))
+assigned_in v holder name text = assigned_of name text (children_shown v holder)
 
 abbrev pub source_shown : RecordedSource → Source
 source_shown source = record { name = source.name; path = source.path; on_disk = source.on_disk }
@@ -296,6 +299,12 @@ pub record FollowsPlayed (v : Played) (a : Act) (r : Reply) (w : Played) : Type 
   pub allowed : IsAllowed v a
   pub reply : r ≡ (act_on a v).0
   pub view : w ≡ with_ask a r (act_on a v).1
+
+-- ---- sources that come later
+
+-- those of another recording come behind those there are
+abbrev pub with_sources_of : Played → Played → Played
+with_sources_of more v = let r : Recording = v.recording in record v { recording = record r { sources = r.sources ++ more.recording.sources } }
 
 -- ---- as it begins
 

@@ -1,14 +1,14 @@
 -- A recorded debuggee keeps the laws of every debuggee.
-use Rattle.std.proofs.Common.{◌≡◌, ℕ, ◌+◌, ◌%◌, ◌^◌, ℤ, Bool, true, false, ◌&&◌, not, nat_lt, nat_eq, bytes_eq, if◌then◌else◌, List, [], ◌∷◌, length, map, Option, Some, None, IsTrue, refl, sym, ap, subst, suc, option_map, unwrap_or, ◌∙◌, true≢false, eq-eqb}
+use Rattle.std.proofs.Common.{◌≡◌, ℕ, ◌+◌, ◌%◌, ◌^◌, ℤ, Bool, true, false, ◌&&◌, not, nat_lt, nat_eq, if◌then◌else◌, List, [], ◌∷◌, length, map, Option, Some, None, IsTrue, refl, sym, ap, subst, suc, option_map, unwrap_or, ◌∙◌, true≢false}
 use Rattle.std.proofs.lemmas.Bool.{eqb-true}
-use Rattle.std.specs.List.{slice_get, find}
+use Rattle.std.specs.List.{slice_get}
 use Rattle.std.specs.Option.{IsSome}
-use Rattle.std.specs.Prelude.{option_and_then}
 use Rattle.dap_call.specs.declared.call.SourceKey.{SourceKey}
 use Rattle.dap_debuggee.specs.Shown.{Act, to_start, to_resume, to_pause, to_poll, to_set_breakpoints, to_assign, to_end, Reply, done, refused, happened}
-use Rattle.dap_debuggee.specs.Laws.{may_answer, state_after, keeps_answers, keeps_frames, lines_after, Counts, Remembers, Answers, Moves, SetsLines, SetsValues, SetsWhatIsTold, KeepsAnswers, KeepsFrames, KeepsSources, SameFrames, SameSources, NoThreads, VerifiesEach, AssignsVariables, variable_named, with_value}
+use Rattle.dap_debuggee.specs.Laws.{may_answer, state_after, keeps_answers, keeps_frames, lines_after, Counts, Remembers, Answers, Moves, SetsLines, SetsValues, SetsWhatIsTold, KeepsAnswers, KeepsFrames, KeepsSources, SameFrames, SameSources, NoThreads, VerifiesEach, AssignsVariables, with_value}
 use Rattle.dap_debuggee.specs.StayLaws.{frames-stay, sources-stay}
-use Rattle.dap_replay.specs.Played.{Played, Run, OfHolder, changed_at, with_variables, variables_held, first_of, if_within, is_in, moment_shown, children_shown, after_assign, act_on, with_ask, after_start, after_resume, start_in, resume_in, pause_in, poll_result, step_of_run, end_of_run, with_run, with_pause, with_lines, at_rest, with_source_lines, lines_in, first_piece, shown_of, has_source_line, source_shown, FollowsPlayed}
+use Rattle.dap_replay.specs.VariableLaws.{variables-put, variables-of_others, named-in, assigned-by, assigned-there}
+use Rattle.dap_replay.specs.Played.{Played, Run, variables_at, assigned_of, variables_held, first_of, if_within, is_in, moment_shown, children_shown, after_assign, act_on, with_ask, after_start, after_resume, start_in, resume_in, pause_in, poll_result, step_of_run, end_of_run, with_run, with_pause, with_lines, at_rest, with_source_lines, lines_in, first_piece, shown_of, has_source_line, source_shown, FollowsPlayed}
 use Rattle.dap_debuggee.specs.declared.answers.Assigned.{Assigned}
 use Rattle.dap_debuggee.specs.declared.answers.Variable.{Variable}
 use Rattle.dap_recording.specs.declared.recording.Moment.{Moment}
@@ -425,28 +425,6 @@ sets_lines-played v w a r f key = ap (λ (p : Played). lines_in p.set key) f.vie
 
 -- ---- a value that is set
 
--- of the holder that is named
-here-by : (b e : Bool) (holder : ℕ) (xs : List Variable) (c : OfHolder) (changed : List OfHolder) → nat_eq holder c.holder ≡ e → changed_at holder (with_variables holder xs changed) ≡ Some xs
-    → changed_at holder (if b then record { holder = holder; variables = xs } ∷ c ∷ changed else (if e then record { holder = c.holder; variables = xs } ∷ changed else c ∷ with_variables holder xs changed)) ≡ Some xs
-here-by true e holder xs c changed is rest = rw (eq-eqb holder holder refl) refl
-here-by false true holder xs c changed is rest = rw is refl
-here-by false false holder xs c changed is rest = rw is rest
-
-changed-here : (holder : ℕ) (xs : List Variable) (changed : List OfHolder) → changed_at holder (with_variables holder xs changed) ≡ Some xs
-changed-here holder xs [] = rw (eq-eqb holder holder refl) refl
-changed-here holder xs (c ∷ changed) = here-by (nat_lt holder c.holder) (nat_eq holder c.holder) holder xs c changed refl (changed-here holder xs changed)
-
--- and of any other
-else-by : (b e : Bool) (holder h : ℕ) (xs : List Variable) (c : OfHolder) (changed : List OfHolder) → nat_eq holder c.holder ≡ e → nat_eq h holder ≡ false → changed_at h (with_variables holder xs changed) ≡ changed_at h changed
-    → changed_at h (if b then record { holder = holder; variables = xs } ∷ c ∷ changed else (if e then record { holder = c.holder; variables = xs } ∷ changed else c ∷ with_variables holder xs changed)) ≡ changed_at h (c ∷ changed)
-else-by true e holder h xs c changed is other rest = rw other refl
-else-by false true holder h xs c changed is other rest = let apart : nat_eq h c.holder ≡ false = subst (λ n. nat_eq h n ≡ false) (eqb-true holder c.holder is) other in rw apart refl
-else-by false false holder h xs c changed is other rest = ap (λ (o : Option (List Variable)). if nat_eq h c.holder then Some c.variables else o) rest
-
-changed-elsewhere : (holder h : ℕ) (xs : List Variable) (changed : List OfHolder) → nat_eq h holder ≡ false → changed_at h (with_variables holder xs changed) ≡ changed_at h changed
-changed-elsewhere holder h xs [] other = rw other refl
-changed-elsewhere holder h xs (c ∷ changed) other = else-by (nat_lt holder c.holder) (nat_eq holder c.holder) holder h xs c changed refl other (changed-elsewhere holder h xs changed other)
-
 -- what is shown by a number, and what is made of it
 map-if : {A B : Type 0} (b : Bool) (f : A → B) (found : Option A) → option_map f (if b then found else None) ≡ (if b then option_map f found else None)
 map-if true f found = refl
@@ -465,55 +443,19 @@ pub found-within : {A : Type 0} (span : Moment → Span) (o : Option Moment) (n 
 found-within span None n found x e = absurd (cc e)
 found-within span (Some m) n found x e = found-if (is_in (span m) n) found x e
 
--- the value is the text, of a variable that is there
-value-is : (o : Option Variable) (text : List ℕ) (a : Assigned) → option_map (λ variable. record { value = text }) o ≡ Some a → a.value ≡ text
-value-is None text a e = absurd (cc e)
-value-is (Some x) text a e = let same : (let out : Assigned = record { value = text } in out) ≡ a = cc in sym (ap (λ (y : Assigned). y.value) same)
-
-named-in : (o : Option (List Variable)) (name text : List ℕ) (a : Assigned) → option_map (λ variable. record { value = text }) (option_and_then (variable_named name) o) ≡ Some a → (xs : List Variable) × (o ≡ Some xs) × (a.value ≡ text)
-named-in None name text a e = absurd (cc e)
-named-in (Some xs) name text a e = (xs, refl, value-is (variable_named name xs) text a e)
-
 children-by : (b : Bool) (v : Played) (holder h : ℕ) (name text : List ℕ) (xs : List Variable) → nat_eq h holder ≡ b → variables_held v holder ≡ Some xs
     → children_shown (after_assign holder name text v) h ≡ (if b then option_map (with_value name text) (children_shown v h) else children_shown v h)
 children-by true v holder h name text xs is held =
     let same : h ≡ holder = eqb-true h holder is in
-    let set : changed_at h (after_assign holder name text v).changed ≡ Some (with_value name text xs) =
-    subst (λ n. changed_at n (after_assign holder name text v).changed ≡ Some (with_value name text xs)) (sym same)
-    (changed-here holder (with_value name text (unwrap_or (variables_held v holder) [])) v.changed ∙ ap (λ (o : Option (List Variable)). Some (with_value name text (unwrap_or o []))) held) in
+    let set : variables_at h (after_assign holder name text v).changed ≡ Some (with_value name text xs) =
+    subst (λ n. variables_at n (after_assign holder name text v).changed ≡ Some (with_value name text xs)) (sym same)
+    (variables-put holder (with_value name text (unwrap_or (variables_held v holder) [])) v.changed ∙ ap (λ (o : Option (List Variable)). Some (with_value name text (unwrap_or o []))) held) in
     let before : variables_held v h ≡ Some xs = subst (λ n. variables_held v n ≡ Some xs) (sym same) held in
     ap (λ (o : Option (List Variable)). if_within (λ m. m.holders) (moment_shown v) h (first_of o (slice_get v.recording.variables h))) set
     ∙ ap (λ (o : Option (List Variable)). if_within (λ m. m.holders) (moment_shown v) h (option_map (with_value name text) o)) (sym before)
     ∙ sym (map-within (λ m. m.holders) (moment_shown v) h (with_value name text) (variables_held v h))
 children-by false v holder h name text xs is held =
-    ap (λ (o : Option (List Variable)). if_within (λ m. m.holders) (moment_shown v) h (first_of o (slice_get v.recording.variables h))) (changed-elsewhere holder h (with_value name text (unwrap_or (variables_held v holder) [])) v.changed is)
-
--- the names stay, and so what can be set
-head-by : (b c : Bool) (x y : Variable) (xs ys : List Variable) (n text : List ℕ) → (let f : Variable → Assigned = (λ variable. record { value = text }) in option_map f (find (λ variable. bytes_eq n variable.name) xs) ≡ option_map f (find (λ variable. bytes_eq n variable.name) ys))
-    → (let f : Variable → Assigned = (λ variable. record { value = text }) in option_map f (if c then Some x else find (λ variable. bytes_eq n variable.name) xs) ≡ option_map f (if c then Some y else find (λ variable. bytes_eq n variable.name) ys))
-head-by b true x y xs ys n text rest = refl
-head-by b false x y xs ys n text rest = rest
-
-names-by : (b : Bool) (x : Variable) (xs : List Variable) (name value n text : List ℕ)
-    → (let f : Variable → Assigned = (λ variable. record { value = text }) in option_map f (variable_named n (with_value name value xs)) ≡ option_map f (variable_named n xs))
-    → (let f : Variable → Assigned = (λ variable. record { value = text }) in option_map f (variable_named n (if b then record { name = x.name; value = value; holder = x.holder } ∷ xs else x ∷ with_value name value xs)) ≡ option_map f (variable_named n (x ∷ xs)))
-names-by true x xs name value n text rest = head-by true (bytes_eq n x.name) (record { name = x.name; value = value; holder = x.holder }) x xs xs n text refl
-names-by false x xs name value n text rest = head-by false (bytes_eq n x.name) x x (with_value name value xs) xs n text rest
-
-names-stay : (xs : List Variable) (name value n text : List ℕ) → (let f : Variable → Assigned = (λ variable. record { value = text }) in option_map f (variable_named n (with_value name value xs)) ≡ option_map f (variable_named n xs))
-names-stay [] name value n text = refl
-names-stay (x ∷ xs) name value n text = names-by (bytes_eq name x.name) x xs name value n text (names-stay xs name value n text)
-
-abbrev set_in : List ℕ → List ℕ → Option (List Variable) → Option Assigned
-set_in n text o = option_map (λ variable. record { value = text }) (option_and_then (variable_named n) o)
-
-assigned-map : (o : Option (List Variable)) (name value n text : List ℕ) → set_in n text (option_map (with_value name value) o) ≡ set_in n text o
-assigned-map None name value n text = refl
-assigned-map (Some xs) name value n text = names-stay xs name value n text
-
-assigned-by : (b : Bool) (o : Option (List Variable)) (name value n text : List ℕ) → set_in n text (if b then option_map (with_value name value) o else o) ≡ set_in n text o
-assigned-by true o name value n text = assigned-map o name value n text
-assigned-by false o name value n text = refl
+    ap (λ (o : Option (List Variable)). if_within (λ m. m.holders) (moment_shown v) h (first_of o (slice_get v.recording.variables h))) (variables-of_others holder h (with_value name text (unwrap_or (variables_held v holder) [])) v.changed is)
 
 sets-one : (v : Played) (holder : ℕ) (name text : List ℕ) (a : Assigned) (r : Reply) → (shown_of v).assigned holder name text ≡ Some a → SetsWhatIsTold (shown_of v) (shown_of (with_ask (to_assign holder name text) r (after_assign holder name text v))) holder name text
 sets-one v holder name text a r is =
@@ -527,7 +469,7 @@ sets-one v holder name text a r is =
         frames = λ t. refl;
         scopes = λ n. refl;
         children = λ h. children-by (nat_eq h holder) v holder h name text named.0 refl held;
-        assigned = λ h n t. ap (set_in n t) (children-by (nat_eq h holder) v holder h name text named.0 refl held) ∙ assigned-by (nat_eq h holder) (children_shown v h) name text n t;
+        assigned = λ h n t. ap (assigned_of n t) (children-by (nat_eq h holder) v holder h name text named.0 refl held) ∙ assigned-by (nat_eq h holder) (children_shown v h) name text n t;
         sources = record { sources = refl; content = λ n. refl };
         verify = λ source lines. refl;
       };
@@ -541,9 +483,5 @@ pub sets_values-played : SetsValues shown_of FollowsPlayed
 sets_values-played v w holder name text r f =
     subst (λ p. SetsWhatIsTold (shown_of v) (shown_of p) holder name text) (sym f.view) (sets-some v holder name text ((shown_of v).assigned holder name text) r refl f.allowed)
 
-some-before : {A B : Type 0} (f : A → B) (o : Option A) → IsSome (option_map f o) → IsSome o
-some-before f None h = h
-some-before f (Some x) h = refl
-
 pub assigns_variables-played : AssignsVariables shown_of
-assigns_variables-played v holder name text h = some-before (λ variable. record { value = text }) (option_and_then (variable_named name) (children_shown v holder)) h
+assigns_variables-played v holder name text h = assigned-there (children_shown v holder) name text h

@@ -99,12 +99,12 @@ lines_of_key sources (Path path) = most_lines path sources
 lines_of_key sources (Reference zero) = 0
 lines_of_key sources (Reference (suc n)) = unwrap_or (option_map (λ source. source.lines) (slice_get sources n)) 0
 
--- the variables of each holder in which one was set
+-- the variables of each holder
 abbrev pub of_holder : {A : Type 0} → ℕ × Vec Variable A → OfHolder
 of_holder e = record { holder = e.0; variables = e.1.items }
 
-abbrev pub changed_of : {A : Type 0} → BTreeMap ℕ (Vec Variable A) → List OfHolder
-changed_of m = map of_holder m.entries
+abbrev pub entries_of : {A : Type 0} → BTreeMap ℕ (Vec Variable A) → List OfHolder
+entries_of m = map of_holder m.entries
 
 -- what holds the children of each variable
 abbrev pub holders_in : List Variable → List (Option ℕ)

@@ -1,39 +1,10 @@
 //! What a recorded debuggee does when it is asked.
-ghost use Rattle.std.specs.Prelude.{◌≡◌, IfOk};
-ghost use Rattle.dap_debuggee.specs.Laws.{with_value};
 
 use crate::recorded::{Going, LastAsked, Recorded};
+use crate::variables;
 use dap_call::SourceKey;
-use dap_debuggee::{Asked, DebuggeeFault, How, State, Variable};
-use dap_json::Text;
+use dap_debuggee::{Asked, DebuggeeFault, How, State};
 use std::alloc::{AllocError, Global};
-
-/// The same variables, the first of which with a name has a value.
-fn with_value(
-    alloc: Global,
-    variables: &[Variable],
-    name: &str,
-    value: &str,
-) -> Result<Vec<Variable>, AllocError>
-    ensures { IfOk result (λ changed. changed.items ≡ with_value name.now value.now variables.now) }
-{
-    let mut changed = Vec::with_capacity(alloc, variables.len())?;
-    let mut is_set = false;
-    for variable in variables {
-        let is_it = !is_set && name == variable.name.as_str();
-        changed.push(Variable {
-            name: variable.name.clone()?,
-            value: if is_it {
-                Text::copied(alloc, value)?
-            } else {
-                variable.value.clone()?
-            },
-            holder: variable.holder,
-        })?;
-        is_set = is_set || is_it;
-    }
-    Ok(changed)
-}
 
 impl Recorded {
     ghost use Rattle.std.specs.Prelude.{◌≡◌, ◌<◌, length, None, OnOk, OnErr, IsErrOf};
@@ -158,11 +129,11 @@ impl Recorded {
         ensures set { OnOk result (self.new ≡ after_assign holder name.now text.now self.old) }
         ensures memory { OnErr result (self.new ≡ self.old) }
     {
-        let Some(variables) = self.variables_of(holder) else {
+        let Some(held) = self.variables_of(holder) else {
             unreachable!()
         };
-        let changed = with_value(alloc, variables, name, text)?;
-        self.changed.insert(holder, changed)?;
+        let changed = variables::with_value(alloc, held, name, text)?;
+        self.changed.put(holder, changed)?;
         Ok(())
     }
 

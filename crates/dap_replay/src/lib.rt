@@ -7,6 +7,7 @@
 
 mod acts;
 mod laws;
+mod more_sources;
 mod moves;
 mod paths;
 mod polls;
@@ -15,6 +16,7 @@ mod read;
 mod recorded;
 mod run;
 mod set_lines;
+pub mod variables;
 
 pub use dap_json::List;
 pub use laws::{

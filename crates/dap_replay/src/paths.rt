@@ -1,5 +1,5 @@
 //! How many lines there are under a path.
-ghost use Rattle.std.specs.Prelude.{◌≡◌, ℕ, List as Items, max, unwrap_or, IfOk, OnOk};
+ghost use Rattle.std.specs.Prelude.{◌≡◌, ℕ, List as Items, ◌++◌, max, unwrap_or, IfOk, OnOk};
 ghost use Rattle.std.specs.BTreeMap.{get_by_text};
 ghost use Rattle.dap_replay.specs.PrivateHeld.{path_lines_of, most_lines, HasMost};
 
@@ -30,14 +30,39 @@ fn add(
     Ok(())
 }
 
+/// Adds sources to those that were looked at.
+fn add_all(
+    most: &mut BTreeMap<String, u64>,
+    alloc: Global,
+    sources: &[RecordedSource],
+) -> Result<(), AllocError>
+    ensures { OnOk result ((path : Items ℕ) → unwrap_or (get_by_text most.new path) 0 ≡ max (unwrap_or (get_by_text most.old path) 0) (most_lines path sources.now)) }
+{
+    for source in sources {
+        add(most, alloc, source)?;
+    }
+    Ok(())
+}
+
 /// How many lines there are under each path of the sources.
 pub(crate) fn of_sources(alloc: Global, sources: &[RecordedSource]) -> Result<Paths, AllocError>
     ensures { IfOk result (λ p. HasMost p.most sources.now) }
 {
     let mut most = BTreeMap::new(alloc);
-    for source in sources {
-        add(&mut most, alloc, source)?;
-    }
+    add_all(&mut most, alloc, sources)?;
+    Ok(Paths { most })
+}
+
+/// The same, with more sources behind them.
+pub(crate) fn of_both(
+    alloc: Global,
+    sources: &[RecordedSource],
+    more: &[RecordedSource],
+) -> Result<Paths, AllocError>
+    ensures { IfOk result (λ p. HasMost p.most (sources.now ++ more.now)) }
+{
+    let Paths { mut most } = of_sources(alloc, sources)?;
+    add_all(&mut most, alloc, more)?;
     Ok(Paths { most })
 }
 

@@ -1,11 +1,10 @@
 //! What a recorded debuggee tells of the moment that it shows.
 ghost use Rattle.std.specs.Prelude.{◌≡◌, ◌&&◌, nat_le, IfOk, map, option_map};
-ghost use Rattle.dap_debuggee.specs.Laws.{variable_named};
-ghost use Rattle.dap_debuggee.specs.Shown.{window as window_of};
 ghost use Rattle.dap_replay.specs.PrivateHeld.{thread_with};
 ghost use Rattle.dap_replay.specs.Played.{is_in as is_in_span, source_shown, thread_shown};
 
 use crate::recorded::Recorded;
+use crate::variables;
 use dap_call::SourceKey;
 use dap_debuggee::{
     Assigned, DebuggeeFault, Evaluation, Frame, Scope, Source, State, Thread, Variable,
@@ -55,20 +54,6 @@ fn scopes(alloc: Global, scopes: &[Scope]) -> Result<Vec<Scope>, AllocError>
     Ok(copy)
 }
 
-fn variables(alloc: Global, variables: &[Variable]) -> Result<Vec<Variable>, AllocError>
-    ensures { IfOk result (λ copy. copy.items ≡ variables.now) }
-{
-    let mut copy = Vec::with_capacity(alloc, variables.len())?;
-    for variable in variables {
-        copy.push(Variable {
-            name: variable.name.clone()?,
-            value: variable.value.clone()?,
-            holder: variable.holder,
-        })?;
-    }
-    Ok(copy)
-}
-
 fn copied_path(path: &Option<Text>) -> Result<Option<Text>, AllocError>
     ensures { IfOk result (λ copy. copy ≡ path.now) }
 {
@@ -98,30 +83,6 @@ fn sources(alloc: Global, sources: &[RecordedSource]) -> Result<Vec<Source>, All
     Ok(shown)
 }
 
-/// From the place `start` on, at most `count` elements where `count` is above 0.
-fn window(variables: &[Variable], start: usize, count: usize) -> &[Variable]
-    ensures { result.now ≡ window_of start count variables.now }
-{
-    let (_, rest) = variables.split_at(start.min(variables.len()));
-    if count == 0 {
-        return rest;
-    }
-    let (part, _) = rest.split_at(count.min(rest.len()));
-    part
-}
-
-/// The first variable with a name.
-fn named<'v>(variables: &'v [Variable], name: &str) -> Option<&'v Variable>
-    ensures { option_map (λ v. v.now) result ≡ variable_named name.now variables.now }
-{
-    for variable in variables {
-        if name == variable.name.as_str() {
-            return Some(variable);
-        }
-    }
-    None
-}
-
 fn verified(alloc: Global, most: u64, lines: &[u32]) -> Result<Vec<bool>, AllocError>
     ensures { IfOk result (λ answers. answers.items ≡ map (λ line. nat_le 1 line && nat_le line most) lines.now) }
 {
@@ -145,7 +106,7 @@ impl Recorded {
     ghost use Rattle.dap_debuggee.specs.Laws.{AnswersQuery, variable_named};
     ghost use Rattle.dap_debuggee.specs.Shown.{window};
     ghost use Rattle.dap_replay.specs.PrivateHeld.{lines_of_key};
-    ghost use Rattle.dap_replay.specs.Played.{moment_shown, threads_at, scopes_shown, children_shown, changed_at, variables_held, value_in as value_within, thread_shown, shown_of};
+    ghost use Rattle.dap_replay.specs.Played.{moment_shown, threads_at, variables_held, value_in as value_within, thread_shown, shown_of};
 
     /// The moment that is shown; none before the start and once gone.
     fn moment(&self) -> Option<&Moment>
@@ -168,8 +129,8 @@ impl Recorded {
     }
 
     /// The scopes of a frame of the moment that is shown.
-    fn scopes_at(&self, frame: u64) -> Option<&[Scope]>
-        ensures { option_map (λ s. s.now) result ≡ scopes_shown self.now frame }
+    pub fn scopes_at(&self, frame: u64) -> Option<&[Scope]>
+        ensures { option_map (λ s. s.now) result ≡ (shown_of self.now).scopes frame }
     {
         let moment = self.moment()?;
         if !is_in(moment.frames, frame) {
@@ -177,16 +138,6 @@ impl Recorded {
         }
         let scopes = self.recording.scopes.as_slice().get(frame as usize)?;
         Some(scopes.as_slice())
-    }
-
-    /// The variables of a holder in which one was set.
-    fn changed_at(&self, holder: u64) -> Option<&[Variable]>
-        ensures { option_map (λ v. v.now) result ≡ changed_at holder self.now.changed }
-    {
-        match self.changed.get(&holder) {
-            None => None,
-            Some(variables) => Some(variables.as_slice()),
-        }
     }
 
     /// The variables of a holder as they are recorded.
@@ -201,7 +152,7 @@ impl Recorded {
     pub(crate) fn variables_of(&self, holder: u64) -> Option<&[Variable]>
         ensures { option_map (λ v. v.now) result ≡ variables_held self.now holder }
     {
-        match self.changed_at(holder) {
+        match self.changed.get(holder) {
             None => self.recorded_of(holder),
             Some(variables) => Some(variables),
         }
@@ -211,7 +162,7 @@ impl Recorded {
     fn value_in_scope(&self, name: &str, scope: &Scope) -> Option<&Variable>
         ensures { option_map (λ v. v.now) result ≡ variable_named name.now (unwrap_or (variables_held self.now scope.now.holder) []) }
     {
-        named(self.variables_of(scope.holder)?, name)
+        variables::named(self.variables_of(scope.holder)?, name)
     }
 
     /// The first variable with a name directly in one of the scopes, in order.
@@ -227,8 +178,8 @@ impl Recorded {
     }
 
     /// The variables of a holder of the moment that is shown.
-    fn children_at(&self, holder: u64) -> Option<&[Variable]>
-        ensures { option_map (λ v. v.now) result ≡ children_shown self.now holder }
+    pub fn children_at(&self, holder: u64) -> Option<&[Variable]>
+        ensures { option_map (λ v. v.now) result ≡ (shown_of self.now).children holder }
     {
         let moment = self.moment()?;
         if !is_in(moment.holders, holder) {
@@ -281,7 +232,10 @@ impl Recorded {
     {
         match self.children_at(holder) {
             None => Err(DebuggeeFault::Refused),
-            Some(found) => Ok(variables(alloc, window(found, start as usize, count as usize))?),
+            Some(found) => Ok(variables::copied(
+                alloc,
+                variables::window(found, start as usize, count as usize),
+            )?),
         }
     }
 
@@ -347,7 +301,7 @@ impl Recorded {
         let Some(children) = self.children_at(holder) else {
             return Err(DebuggeeFault::Refused);
         };
-        match named(children, name) {
+        match variables::named(children, name) {
             None => Err(DebuggeeFault::Refused),
             Some(_) => Ok(Assigned {
                 value: Text::copied(alloc, text)?,

@@ -8,6 +8,7 @@ ghost use Rattle.dap_recording.specs.Recording.{IsRecording};
 use crate::moves::{Move, Plan, Reason};
 use crate::paths::Paths;
 use crate::set_lines::SetLines;
+use crate::variables::HolderMap;
 use crate::{moves, paths};
 use dap_call::SourceKey;
 use dap_debuggee::{
@@ -17,7 +18,6 @@ use dap_debuggee::{
 use dap_json::Text;
 use dap_recording::Recording;
 use std::alloc::{AllocError, Global};
-use std::collections::BTreeMap;
 use std::marker::Model;
 
 /// The rest of a run.
@@ -72,7 +72,7 @@ pub struct Recorded {
     /// The lines that are set.
     pub(crate) set: SetLines,
     /// The variables of each holder in which one was set since the debuggee went on.
-    pub(crate) changed: BTreeMap<u64, Vec<Variable>>,
+    pub(crate) changed: HolderMap,
     pub(crate) acts: u64,
     pub(crate) last: LastAsked,
 }
@@ -80,7 +80,7 @@ pub struct Recorded {
 impl Model for Recorded {
     ghost use Rattle.std.specs.Prelude.{◌<◌, length};
     ghost use Rattle.dap_replay.specs.Played.{Played};
-    ghost use Rattle.dap_replay.specs.PrivateHeld.{run_of, last_of, changed_of, IsOutputWhole, HasMost, HasRun, KeepHolders};
+    ghost use Rattle.dap_replay.specs.PrivateHeld.{run_of, last_of, IsOutputWhole, HasMost, HasRun, KeepHolders};
     ghost use Rattle.dap_recording.specs.Recording.{IsRecording};
 
     ghost Value = { Played };
@@ -91,12 +91,12 @@ impl Model for Recorded {
       at = r.at;
       run = run_of r.recording.moments r.going;
       set = r.set;
-      changed = changed_of r.changed;
+      changed = r.changed;
       acts = r.acts;
       last = last_of r.recording r.last;
     } };
 
-    ghost invariant = { λ r. IsRecording r.recording × (r.at < length r.recording.moments) × IsOutputWhole r.recording.moments r.going × HasMost r.paths.most r.recording.sources × HasRun r.state r.going × KeepHolders r.recording.variables (changed_of r.changed) };
+    ghost invariant = { λ r. IsRecording r.recording × (r.at < length r.recording.moments) × IsOutputWhole r.recording.moments r.going × HasMost r.paths.most r.recording.sources × HasRun r.state r.going × KeepHolders r.recording.variables r.changed };
 }
 
 impl Recorded {
@@ -122,7 +122,7 @@ impl Recorded {
             at: 0,
             going: None,
             set: SetLines::new(alloc),
-            changed: BTreeMap::new(alloc),
+            changed: HolderMap::new(alloc),
             acts: 0,
             last: LastAsked::Never,
         })

@@ -1,6 +1,8 @@
-//! Worked examples of recordings that are read and played, as tests alone.
+//! Worked examples of recordings that are read and played, and of a debuggee that a host feeds, as tests alone.
 #![tactic(auto)]
 
+#[cfg(test)]
+mod feeding;
 #[cfg(test)]
 mod keys;
 #[cfg(test)]

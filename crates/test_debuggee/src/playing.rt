@@ -110,7 +110,7 @@ fn add_happening<D: Debuggee>(
     }
 }
 
-fn add_poll<D: Debuggee>(alloc: Global, debuggee: &mut D, told: &mut String) -> bool {
+pub(crate) fn add_poll<D: Debuggee>(alloc: Global, debuggee: &mut D, told: &mut String) -> bool {
     match debuggee.poll(alloc) {
         Ok(happening) => add_happening(alloc, debuggee, &happening, told),
         Err(_) => false,
@@ -247,7 +247,12 @@ fn add_of<D: Debuggee>(
     }
 }
 
-fn add_answer<D: Debuggee>(alloc: Global, debuggee: &mut D, word: &str, told: &mut String) -> bool {
+pub(crate) fn add_answer<D: Debuggee>(
+    alloc: Global,
+    debuggee: &mut D,
+    word: &str,
+    told: &mut String,
+) -> bool {
     if let Some((word, rest)) = word.split_once(":") {
         return add_of(alloc, debuggee, word, rest, told);
     }

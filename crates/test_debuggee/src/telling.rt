@@ -156,7 +156,12 @@ fn add_verified(told: &mut String, answers: &[bool]) -> bool {
 }
 
 /// What a debuggee tells, as text.
-fn add_told<D: Debuggee>(alloc: Global, debuggee: &D, query: Query, told: &mut String) -> bool {
+pub(crate) fn add_told<D: Debuggee>(
+    alloc: Global,
+    debuggee: &D,
+    query: Query,
+    told: &mut String,
+) -> bool {
     match query {
         Query::Threads => match debuggee.threads(alloc) {
             Ok(threads) => add_threads(told, &threads),

@@ -1,5 +1,5 @@
-use Rattle.std.proofs.Common.{◌≡◌, ◌+◌, List, [], false, if◌then◌else◌, map, ap, ◌∙◌}
-use Rattle.dap_replay.specs.PrivateHeld.{of_holder, changed_of, output_left}
+use Rattle.std.proofs.Common.{◌≡◌, ◌+◌, false, List, if◌then◌else◌, ap, ◌∙◌}
+use Rattle.dap_replay.specs.PrivateHeld.{output_left}
 use Rattle.dap_replay.specs.Moves.{move_of, is_forward}
 use Rattle.dap_replay.specs.Played.{Played, OfHolder, run_from, with_changed, lines_in, move_from}
 use Rattle.dap_replay.proofs.Outputs.{goes}
@@ -17,7 +17,6 @@ returns c =
     ∙ ap (λ moments. move_of v.recording.sources moments (lines_in c.plan.result.set.now) how c.self.inside.at) c.plan.ensures.moments
     ∙ ap (λ set. move_of v.recording.sources v.recording.moments (lines_in set) how c.self.inside.at) c.plan.ensures.set
     ∙ ap (λ (w : Played). move_of v.recording.sources v.recording.moments (lines_in v.set) how w.at) c.self.view_is in
-    let none : changed_of c.clear.new.self ≡ [] = ap (map of_holder) c.clear.ensures.empty in
-    ap (λ (w : Played). with_changed (changed_of c.clear.new.self) (run_from w.at (output_left w.recording.moments (record { moment = w.at + 1; told = 0; last = last; to = move; paused = false })) move w)) c.self.view_is
-    ∙ ap (λ (cs : List OfHolder). with_changed cs (run_from v.at (output_left v.recording.moments (record { moment = v.at + 1; told = 0; last = last; to = move; paused = false })) move v)) none
+    ap (λ (w : Played). with_changed c.clear.new.self (run_from w.at (output_left w.recording.moments (record { moment = w.at + 1; told = 0; last = last; to = move; paused = false })) move w)) c.self.view_is
+    ∙ ap (λ (cs : List OfHolder). with_changed cs (run_from v.at (output_left v.recording.moments (record { moment = v.at + 1; told = 0; last = last; to = move; paused = false })) move v)) c.clear.ensures
     ∙ goes v how move last is (c.last_told-last.ensures ∙ ap (λ (w : Played). if is_forward how then move.to else w.at) c.self.view_is)

@@ -1,18 +1,18 @@
 use Rattle.std.proofs.Common.{Global, Vec, Some, option_map, ap, ◌∙◌}
-use Rattle.dap_replay.specs.Played.{Played, changed_at}
+use Rattle.dap_replay.specs.Played.{variables_at}
 use Rattle.dap_debuggee.specs.declared.answers.Variable.{Variable}
 use Rattle.dap_replay.proofs.Changed.{looked_up}
-use Rattle.dap_replay.proofs.recorded.Recorded.changed_at.Goals as goal
+use Rattle.dap_replay.proofs.variables.HolderMap.get.Goals as goal
 
 pub returns-in-None : goal.returns-in-None
 returns-in-None c =
     ap (option_map (λ (x : Vec Variable Global). x.items)) c.in-None.ensures.value
-    ∙ looked_up c.args.holder c.self.inside.changed.entries
-    ∙ ap (λ (v : Played). changed_at c.args.holder v.changed) c.self.view_is
+    ∙ looked_up c.args.holder c.self.inside.lists.entries
+    ∙ ap (variables_at c.args.holder) c.self.view_is
 
 pub returns-in-Some : goal.returns-in-Some
 returns-in-Some c =
     ap (λ xs. Some xs) c.as_slice.ensures.value
     ∙ ap (option_map (λ (x : Vec Variable Global). x.items)) c.in-Some.ensures.value
-    ∙ looked_up c.args.holder c.self.inside.changed.entries
-    ∙ ap (λ (v : Played). changed_at c.args.holder v.changed) c.self.view_is
+    ∙ looked_up c.args.holder c.self.inside.lists.entries
+    ∙ ap (variables_at c.args.holder) c.self.view_is

@@ -1,0 +1,142 @@
+//! Lists of variables, and those of each holder by its number.
+ghost use Rattle.std.specs.Prelude.{◌≡◌, IfOk, option_map};
+ghost use Rattle.dap_debuggee.specs.Laws.{variable_named, with_value as with_value_in};
+ghost use Rattle.dap_debuggee.specs.Shown.{window as window_of};
+
+use dap_debuggee::Variable;
+use dap_json::Text;
+use std::alloc::{AllocError, Global};
+use std::collections::BTreeMap;
+use std::marker::Model;
+
+/// The first variable with a name.
+pub fn named<'v>(variables: &'v [Variable], name: &str) -> Option<&'v Variable>
+    ensures { option_map (λ v. v.now) result ≡ variable_named name.now variables.now }
+{
+    for variable in variables {
+        if name == variable.name.as_str() {
+            return Some(variable);
+        }
+    }
+    None
+}
+
+/// From the place `start` on, at most `count` elements where `count` is above 0.
+pub fn window(variables: &[Variable], start: usize, count: usize) -> &[Variable]
+    ensures { result.now ≡ window_of start count variables.now }
+{
+    let (_, rest) = variables.split_at(start.min(variables.len()));
+    if count == 0 {
+        return rest;
+    }
+    let (part, _) = rest.split_at(count.min(rest.len()));
+    part
+}
+
+/// The same variables, each with texts that it shares with the other.
+pub fn copied(alloc: Global, variables: &[Variable]) -> Result<Vec<Variable>, AllocError>
+    ensures { IfOk result (λ copy. copy.items ≡ variables.now) }
+{
+    let mut copy = Vec::with_capacity(alloc, variables.len())?;
+    for original in variables {
+        copy.push(Variable {
+            name: original.name.clone()?,
+            value: original.value.clone()?,
+            holder: original.holder,
+        })?;
+    }
+    Ok(copy)
+}
+
+/// The same variables, the first of which with a name has a value.
+pub fn with_value(
+    alloc: Global,
+    variables: &[Variable],
+    name: &str,
+    value: &str,
+) -> Result<Vec<Variable>, AllocError>
+    ensures { IfOk result (λ changed. changed.items ≡ with_value_in name.now value.now variables.now) }
+{
+    let mut changed = Vec::with_capacity(alloc, variables.len())?;
+    let mut is_set = false;
+    for variable in variables {
+        let is_it = !is_set && name == variable.name.as_str();
+        changed.push(Variable {
+            name: variable.name.clone()?,
+            value: if is_it {
+                Text::copied(alloc, value)?
+            } else {
+                variable.value.clone()?
+            },
+            holder: variable.holder,
+        })?;
+        is_set = is_set || is_it;
+    }
+    Ok(changed)
+}
+
+/// The variables of each of some holders, by the holder's number. A contract sees them in the order of the numbers.
+#[derive(Drop)]
+pub struct HolderMap {
+    lists: BTreeMap<u64, Vec<Variable>>,
+}
+
+impl Model for HolderMap {
+    ghost use Rattle.std.specs.Prelude.{List};
+    ghost use Rattle.dap_replay.specs.Played.{OfHolder};
+    ghost use Rattle.dap_replay.specs.PrivateHeld.{entries_of};
+
+    ghost Value = { List OfHolder };
+
+    ghost view = { λ m. entries_of m.lists };
+}
+
+impl HolderMap {
+    ghost use Rattle.std.specs.Prelude.{◌≡◌, [], length, option_map, OnOk, OnErr};
+    ghost use Rattle.dap_replay.specs.Played.{variables_at, with_variables};
+
+    /// No holder has variables here.
+    pub fn new(alloc: Global) -> HolderMap
+        ensures { result ≡ [] }
+    {
+        HolderMap {
+            lists: BTreeMap::new(alloc),
+        }
+    }
+
+    /// How many holders have variables here.
+    pub fn len(&self) -> usize
+        ensures { result ≡ length self.now }
+    {
+        self.lists.len()
+    }
+
+    /// The variables of a holder.
+    pub fn get(&self, holder: u64) -> Option<&[Variable]>
+        ensures { option_map (λ v. v.now) result ≡ variables_at holder self.now }
+    {
+        match self.lists.get(&holder) {
+            None => None,
+            Some(variables) => Some(variables.as_slice()),
+        }
+    }
+
+    /// Puts variables in place of those that a holder has.
+    ///
+    /// # Errors
+    /// `AllocError` where memory is refused. All is then as it was.
+    pub fn put(&mut self, holder: u64, variables: Vec<Variable>) -> Result<(), AllocError>
+        ensures put { OnOk result (self.new ≡ with_variables holder variables.items self.old) }
+        ensures memory { OnErr result (self.new ≡ self.old) }
+    {
+        self.lists.insert(holder, variables)?;
+        Ok(())
+    }
+
+    /// Leaves no holder with variables.
+    pub fn clear(&mut self)
+        ensures { self.new ≡ [] }
+    {
+        self.lists.clear();
+    }
+}

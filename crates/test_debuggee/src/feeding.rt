@@ -1,0 +1,227 @@
+//! What a debuggee that a host feeds is told, and what it answers then.
+//!
+//! | a word | what |
+//! |---|---|
+//! | `!stop`, `!later` | the host tells a stop, whole or with more told later, and the debuggee is polled |
+//! | `!tell:HOLDER:NAME:VALUE` | the same with a variable of a holder |
+//! | `!learn:TEXT:VALUE` | the same with the value of a text, whose parts are those of holder 70 |
+//! | `!sources` | the same with the sources of the recording, once more |
+//! | `!dropped` | why what was told last is dropped |
+//! | `!all-sources`, `!second-text` | the sources; the text of the second |
+//! | any other | as in `playing` |
+
+use crate::playing::{add_answer, add_poll};
+use crate::telling::{Query, add_told};
+use dap_debuggee::Variable;
+use dap_json::{List, Text};
+use dap_live::{Coming, Dropped, Live, Mail};
+use dap_replay::Recorded;
+use std::alloc::Global;
+use std::rc::Rc;
+use std::test::Fail;
+
+/// A moment of one frame with two scopes, the first of which has no variables.
+const TWO_SCOPES: &str =
+    "{\"exit\":0,\"sources\":[{\"name\":\"a.c\",\"path\":\"/a.c\",\"text\":\"one\\n\"}],\"moments\":[{\"thread\":1,\"threads\":[{\"id\":1,\"name\":\"main\",\"frames\":[{\"name\":\"main\",\"source\":0,\"line\":1,\"scopes\":[{\"name\":\"Locals\"},{\"name\":\"Globals\",\"variables\":[{\"name\":\"x\",\"value\":\"1\"}]}]}]}]}]}";
+
+fn two_scopes(alloc: Global) -> Option<Recorded> {
+    Recorded::read(alloc, TWO_SCOPES.as_bytes()).ok()
+}
+
+fn text(alloc: Global, text: &str) -> Option<Text> {
+    Text::copied(alloc, text).ok()
+}
+
+fn stop(alloc: Global, later: bool) -> Option<Coming> {
+    Some(Coming::Stopped {
+        reason: text(alloc, "step")?,
+        thread: 1,
+        shows: two_scopes(alloc)?,
+        later,
+    })
+}
+
+fn variable(alloc: Global, name: &str, value: &str) -> Option<Variable> {
+    Some(Variable {
+        name: text(alloc, name)?,
+        value: text(alloc, value)?,
+        holder: None,
+    })
+}
+
+/// `HOLDER:NAME:VALUE`.
+fn variables(alloc: Global, words: &str) -> Option<Coming> {
+    let (holder, rest) = words.split_once(":")?;
+    let (name, value) = rest.split_once(":")?;
+    let mut variables = Vec::new(alloc);
+    variables.push(variable(alloc, name, value)?).ok()?;
+    Some(Coming::Variables {
+        holder: holder.parse::<u64>().ok()?,
+        variables: List::new(variables),
+    })
+}
+
+/// `TEXT:VALUE`.
+fn learned(alloc: Global, words: &str) -> Option<Coming> {
+    let (name, value) = words.split_once(":")?;
+    Some(Coming::Learned {
+        text: text(alloc, name)?,
+        value: Some(text(alloc, value)?),
+        holder: Some(70),
+    })
+}
+
+fn sources(alloc: Global) -> Option<Coming> {
+    Some(Coming::Sources(two_scopes(alloc)?))
+}
+
+/// What a word tells.
+fn coming(alloc: Global, word: &str) -> Option<Coming> {
+    match word {
+        "!stop" => stop(alloc, false),
+        "!later" => stop(alloc, true),
+        "!sources" => sources(alloc),
+        _ => {
+            let (word, rest) = word.split_once(":")?;
+            match word {
+                "!tell" => variables(alloc, rest),
+                "!learn" => learned(alloc, rest),
+                _ => None,
+            }
+        }
+    }
+}
+
+fn reason(dropped: Option<Dropped>) -> &'static str {
+    match dropped {
+        None => "heard",
+        Some(Dropped::OutOfTurn) => "out of turn",
+        Some(Dropped::OutOfRange) => "out of range",
+        Some(Dropped::TooManySources) => "too many sources",
+        Some(Dropped::Told) => "told",
+        Some(Dropped::TooManyHolders) => "too many holders",
+    }
+}
+
+fn add_heard(
+    alloc: Global,
+    live: &mut Live,
+    mail: &Mail,
+    word: &str,
+    answers: &mut String,
+) -> bool {
+    match coming(alloc, word) {
+        None => false,
+        Some(coming) => {
+            mail.post(coming);
+            add_poll(alloc, live, answers)
+        }
+    }
+}
+
+fn add_word(alloc: Global, live: &mut Live, mail: &Mail, word: &str, answers: &mut String) -> bool {
+    match word {
+        "!dropped" => answers.push_str(reason(mail.take_dropped())).is_ok(),
+        "!all-sources" => add_told(alloc, live, Query::Sources, answers),
+        "!second-text" => add_told(alloc, live, Query::Content(1), answers),
+        _ => {
+            if word.starts_with("!") {
+                add_heard(alloc, live, mail, word, answers)
+            } else {
+                add_answer(alloc, live, word, answers)
+            }
+        }
+    }
+}
+
+fn add_words(
+    alloc: Global,
+    live: &mut Live,
+    mail: &Mail,
+    words: &str,
+    answers: &mut String,
+) -> bool {
+    for word in words.split(' ') {
+        if !add_word(alloc, live, mail, word, answers) || answers.push_str("; ").is_err() {
+            return false;
+        }
+    }
+    true
+}
+
+fn is_answered(alloc: Global, live: &mut Live, mail: &Mail, words: &str, wanted: &str) -> bool {
+    let mut answers = String::new(alloc);
+    add_words(alloc, live, mail, words, &mut answers) && answers.as_str() == wanted
+}
+
+/// Whether a fresh debuggee answers so.
+fn is_fed(alloc: Global, words: &str, wanted: &str) -> bool {
+    let Some(base) = two_scopes(alloc) else {
+        return false;
+    };
+    let Ok(mail) = Rc::new(alloc, Mail::new(alloc)) else {
+        return false;
+    };
+    let Ok(shared) = mail.clone() else {
+        return false;
+    };
+    let mut live = Live::open(alloc, base, shared);
+    let is_so = is_answered(alloc, &mut live, &mail, words, wanted);
+    drop(live);
+    is_so
+}
+
+static FEEDS: [(&str, &str); 9] = [
+    // A moment that is whole.
+    (
+        "start !stop children:0 children:1 value:0:x",
+        "done; step 1 line 1; ; x=1; ; 1; ",
+    ),
+    // A scope that is still to be told hides the one behind it, and is told once.
+    (
+        "start !later children:0 value:0:x !tell:0:x:2 !dropped children:0 value:0:x !tell:0:x:3 !dropped children:0",
+        "done; step 1 line 1; refused; refused; nothing; heard; x=2; ; 2; nothing; told; x=2; ; ",
+    ),
+    // What the moment has is not told again, and nothing is told before a stop, nor once it is gone.
+    (
+        "start !tell:0:x:2 !dropped !stop !tell:0:x:2 !dropped !tell:1:x:2 !dropped end !tell:5:x:2 !dropped children:1",
+        "done; nothing; out of turn; step 1 line 1; nothing; told; nothing; told; ended; nothing; out of turn; refused; ",
+    ),
+    // The parts of a value.
+    (
+        "start !stop !learn:p:P value:0:p !tell:70:a:7 value:0:p !learn:p:P value:0:p",
+        "done; step 1 line 1; nothing; P of refused; nothing; refused; nothing; P of a=7; ; ",
+    ),
+    // A value is set in what was told, and in what the moment has.
+    (
+        "start !later !tell:0:x:2 assigned:0:x:9 !learn:9:9 assign:0:x:9 assign:0:y:9 assign:1:x:9 children:0 children:1 value:0:x",
+        "done; step 1 line 1; nothing; refused; nothing; set; refused; set; x=9; ; x=9; ; 9; ",
+    ),
+    // It stays while the debuggee runs, and goes with the next stop.
+    (
+        "start !later !tell:0:x:2 next children:0 !tell:7:y:3 children:7 !later children:0 children:7",
+        "done; step 1 line 1; nothing; done; x=2; ; nothing; y=3; ; step 1 line 1; refused; refused; ",
+    ),
+    // Sources come behind those there are, in any state.
+    (
+        "!second-text !sources !dropped !all-sources !second-text start !stop !sources !all-sources end !sources !all-sources",
+        "refused; nothing; heard; a.ca.c; one\n; done; step 1 line 1; nothing; a.ca.ca.c; ended; nothing; a.ca.ca.ca.c; ",
+    ),
+    // A stop where it is stopped.
+    (
+        "start !stop !stop !dropped !dropped",
+        "done; step 1 line 1; nothing; out of turn; heard; ",
+    ),
+    // What a text comes to is forgotten by the next poll.
+    (
+        "start !stop !learn:x:5 value:0:x !sources value:0:x",
+        "done; step 1 line 1; nothing; 5 of refused; nothing; 1; ",
+    ),
+];
+
+#[test]
+fn feeds(rt: HostRuntime) {
+    for (words, wanted) in &FEEDS {
+        assert!(rt; is_fed(rt.alloc(), words, wanted), "{words}");
+    }
+}
