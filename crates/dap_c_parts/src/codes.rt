@@ -12,6 +12,9 @@ pub const YT_FINDING: u32 = 2;
 /// The stream ends within a frame.
 pub const YT_TRUNCATED: u32 = 3;
 
+/// No request waits.
+pub const YT_IDLE: u32 = 4;
+
 /// `disconnect` was sent, or the client is closed.
 pub const YT_ENDED: u32 = 11;
 
@@ -63,6 +66,21 @@ pub const YT_BAD_LINE: u32 = 41;
 /// A line is no message.
 pub const YT_NO_MESSAGE: u32 = 42;
 
+/// What the host says does not happen in the state that the debuggee is in, and is dropped.
+pub const YT_OUT_OF_TURN: u32 = 51;
+
+/// What the host says is too long or too great, and is dropped.
+pub const YT_OUT_OF_RANGE: u32 = 52;
+
+/// The moment that the host shows has more sources than the debuggee, and is dropped.
+pub const YT_TOO_MANY_SOURCES: u32 = 53;
+
+/// The holder has its variables already.
+pub const YT_TOLD: u32 = 54;
+
+/// So many holders were told that there is room for no more.
+pub const YT_TOO_MANY_HOLDERS: u32 = 55;
+
 /// The handle holds nothing.
 pub const YT_NONE: u32 = 100;
 
@@ -83,3 +101,6 @@ pub const YT_SMALL: u32 = 105;
 
 /// There is nothing to put.
 pub const YT_NOTHING: u32 = 106;
+
+/// The bytes are no recording.
+pub const YT_BAD_RECORDING: u32 = 107;
