@@ -15,8 +15,11 @@ HERE = Path(__file__).resolve().parent.parent
 FILES = [
     ("dap_c_parts", "codes"), ("dap_c_parts", "limits"), ("dap_c", "limits"), ("dap_c_parts", "found"), ("dap_c", "frames"), ("dap_c", "write"),
     ("dap_c", "heading"), ("dap_c", "check"), ("dap_c", "client_handle"), ("dap_c", "client"), ("dap_c", "client_state"),
-    ("dap_c", "layout"),
+    ("dap_c", "layout"), ("dap_c_adapter", "adapter_handle"), ("dap_c_adapter", "adapter"), ("dap_c_adapter", "telling"), ("dap_c_adapter", "acts"),
+    ("dap_c_adapter", "adapter_state"), ("dap_c_adapter", "adapter_layout"),
 ]
+# what tells the sizes of the structs of a crate, and that crate's name in it
+SIZES = {"dap_c": ("yt_sizes", "yt_sizes_of"), "dap_c_adapter": ("yt_adapter_sizes", "yt_adapter_sizes_of")}
 NUMBERS = {
     "u8": ("uint8_t", 1), "u32": ("uint32_t", 4), "u64": ("uint64_t", 8), "i32": ("int32_t", 4), "i64": ("int64_t", 8),
     "usize": ("size_t", 8), "bool": ("bool", 1),
@@ -124,9 +127,10 @@ class Header:
     def __init__(self):
         self.codes, self.structs, self.exports, self.order = [], {}, [], []
         for crate, file in FILES:
-            self.read(file, source(crate, file))
+            if (HERE / "crates" / crate).is_dir():
+                self.read("dap_c" if crate == "dap_c_parts" else crate, file, source(crate, file))
 
-    def read(self, file, text):
+    def read(self, crate, file, text):
         for comment, attributes, lines in items(text):
             code = re.fullmatch(r"pub const (YT_\w+): u32 = (\d+);", lines[0])
             struct = re.fullmatch(r"pub struct (\w+) \{", lines[0])
@@ -134,11 +138,11 @@ class Header:
                 self.codes.append((code[1], int(code[2]), comment))
             elif struct and "#[repr(C)]" in attributes:
                 self.structs[struct[1]] = fields_of(lines)
-                self.order.append((file, "struct", struct[1], comment))
+                self.order.append((crate, file, "struct", struct[1], comment))
             elif 'extern "C"' in lines[0]:
                 if "#[unsafe(no_mangle)]" not in attributes:
                     stop(f"no export: {lines[0]}")
-                self.order.append((file, "export", self.export(" ".join(lines)), comment))
+                self.order.append((crate, file, "export", self.export(" ".join(lines)), comment))
 
     def export(self, text):
         found = re.match(r'pub extern "C" fn (\w+)\((.*?)\)(?: -> (\w+))?(?= +(?:ensures|requires|\{))', text)
@@ -194,7 +198,7 @@ class Header:
         out += [f"    {name} = {number}, /* {in_c(comment)} */" for name, number, comment in self.codes]
         out.append("};")
         section = None
-        for file, what, name, comment in self.order:
+        for _, file, what, name, comment in self.order:
             if what == "struct" and not self.crossing(name):
                 continue
             if file != section:
@@ -216,21 +220,20 @@ class Header:
         """Sizes and offsets: by the compiler against the rule, and by the library itself."""
         out = ["/* Made by scripts/make-c: the structs of yarntaupe.h lie as the library has them. */", '#include "yarntaupe.h"',
                "#include <stdio.h>", ""]
-        names = [name for _, what, name, _ in self.order if what == "struct" and self.crossing(name)]
-        for name in names:
+        crossing = [(crate, name) for crate, _, what, name, _ in self.order if what == "struct" and self.crossing(name)]
+        for _, name in crossing:
             places, size = self.layout(name)
             c = c_name(name)
             out.append(f'_Static_assert(sizeof({c}) == {size}, "{c}");')
             out += [f'_Static_assert(offsetof({c}, {field}) == {at}, "{c}.{field}");' for field, at in places]
-        out += ["", "int main(void) {", "    yt_sizes sizes;", "    yt_sizes_of(&sizes);", "    int wrong = 0;"]
-        for name in names:
+        out += ["", "int main(void) {", "    int wrong = 0;"]
+        for crate in dict.fromkeys(crate for crate, _ in crossing):
+            sizes, told = SIZES[crate]
+            out += [f"    {sizes} in_{crate};", f"    {told}(&in_{crate});"]
+        for crate, name in crossing:
             c = c_name(name)
-            field = c[3:]
-            if name == "YtSizes":
-                out.append(f"    wrong += sizes.{field} != sizeof({c});")
-            else:
-                out.append(f'    if (sizes.{field} != sizeof({c})) wrong += printf("{c}: %zu\\n", sizes.{field});')
-        out += [f'    printf("{len(names)} structs\\n");', "    return wrong != 0;", "}", ""]
+            out.append(f'    if (in_{crate}.{c[3:]} != sizeof({c})) wrong += printf("{c}: %zu\\n", in_{crate}.{c[3:]});')
+        out += [f'    printf("{len(crossing)} structs\\n");', "    return wrong != 0;", "}", ""]
         return "\n".join(out)
 
 
