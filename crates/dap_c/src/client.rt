@@ -91,7 +91,7 @@ pub extern "C" fn yt_client_open(alloc: Global, client: &mut YtClient, limits: &
 pub extern "C" fn yt_client_free(alloc: Global, client: &mut YtClient)
     ensures { client.new.inner.value ≡ None }
 {
-    taken(alloc, client);
+    drop(taken(alloc, client));
 }
 
 fn send_code(fault: SendFault) -> u32

@@ -157,7 +157,7 @@ pub extern "C" fn yt_frames_open(alloc: Global, frames: &mut YtFrames, limits: &
 pub extern "C" fn yt_frames_free(alloc: Global, frames: &mut YtFrames)
     ensures { frames.new.inner.value ≡ None }
 {
-    taken(alloc, frames);
+    drop(taken(alloc, frames));
 }
 
 /// What a piece did to a reader, with its code.
