@@ -33,7 +33,7 @@ MOST_SHOWN = 100  # elements in the text of a value
 MOST_TEXT = 500  # characters of a value
 MOST_OUTPUT = 128  # bytes of a piece of output, as `dap host` has it
 LEVELS = 3  # how deep the text of a value goes
-OURS = 1 << 32  # holders from here on are ours; those of a moment are counted from 0
+OURS = 1000000  # holders from here on are ours; those of a moment are counted from 0
 RECORDS = gdb.TYPE_CODE_STRUCT, gdb.TYPE_CODE_UNION
 COMMANDS = {"stepIn": "step", "next": "next", "stepOut": "finish", "continue": "continue",
             "stepBack": "reverse-step", "reverseContinue": "reverse-continue"}
