@@ -7,3 +7,4 @@ mod FetchLemmas
 mod HostingLemmas
 mod LogLemmas
 mod StreamLemmas
+pub mod VariableLemmas

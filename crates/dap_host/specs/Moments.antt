@@ -44,10 +44,11 @@ moment_refusal fault.OutOfMemory = unread.OutOfMemory
 -- what comes of what is told, over these sources
 abbrev pub IsComing : List ℕ → Told → Coming → Type 0
 IsComing sources (told.Output category text) c = c ≡ coming.Output category text
-IsComing sources (told.Stopped reason thread moment) c = (shows : Played) × ReadsMoment sources moment (Ok shows) × (c ≡ coming.Stopped reason thread shows)
+IsComing sources (told.Stopped reason thread moment later) c = (shows : Played) × ReadsMoment sources moment (Ok shows) × (c ≡ coming.Stopped reason thread shows later)
 IsComing sources (told.Continued thread) c = c ≡ coming.Continued thread
 IsComing sources (told.Exited code) c = c ≡ coming.Exited code
-IsComing sources (told.Learned text value) c = c ≡ coming.Learned text value
+IsComing sources (told.Learned text value holder) c = c ≡ coming.Learned text value holder
+IsComing sources (told.Variables holder variables) c = c ≡ coming.Variables holder variables
 
 -- why nothing comes of it: its moment is none
 pub record IsBadMoment (sources : List ℕ) (moment : Data) (why : Unread) : Type 0 where
@@ -56,7 +57,7 @@ pub record IsBadMoment (sources : List ℕ) (moment : Data) (why : Unread) : Typ
   pub is : why ≡ moment_refusal cause
 
 abbrev pub Fails : List ℕ → Told → Unread → Type 0
-Fails sources (told.Stopped reason thread moment) (unread.Refused why) = IsBadMoment sources moment (unread.Refused why)
+Fails sources (told.Stopped reason thread moment later) (unread.Refused why) = IsBadMoment sources moment (unread.Refused why)
 Fails sources t (unread.Refused why) = ⊥
 Fails sources t unread.OutOfMemory = Unit {0}
 

@@ -57,17 +57,28 @@ pub(crate) fn coming_of(alloc: Global, sources: &[u8], told: Told) -> Result<Com
             reason,
             thread,
             moment,
+            later,
         } => match read_moment(alloc, sources, &moment) {
             Ok(shows) => Ok(Coming::Stopped {
                 reason,
                 thread,
                 shows,
+                later,
             }),
             Err(fault) => Err(unread_moment(fault)),
         },
         Told::Continued { thread } => Ok(Coming::Continued { thread }),
         Told::Exited { code } => Ok(Coming::Exited { code }),
-        Told::Learned { text, value } => Ok(Coming::Learned { text, value }),
+        Told::Learned {
+            text,
+            value,
+            holder,
+        } => Ok(Coming::Learned {
+            text,
+            value,
+            holder,
+        }),
+        Told::Variables { holder, variables } => Ok(Coming::Variables { holder, variables }),
     }
 }
 

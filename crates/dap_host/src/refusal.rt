@@ -20,6 +20,12 @@ pub enum HostKey {
     Code,
     Text,
     Value,
+    Later,
+    Holder,
+    Variables,
+    Name,
+    Asked,
+    Number,
 }
 
 impl HostKey {
@@ -39,6 +45,12 @@ impl HostKey {
             HostKey::Code => "code",
             HostKey::Text => "text",
             HostKey::Value => "value",
+            HostKey::Later => "later",
+            HostKey::Holder => "holder",
+            HostKey::Variables => "variables",
+            HostKey::Name => "name",
+            HostKey::Asked => "asked",
+            HostKey::Number => "number",
         }
     }
 }
@@ -71,6 +83,8 @@ fn dropped_name(dropped: Dropped) -> &'static str
         Dropped::OutOfTurn => "OutOfTurn",
         Dropped::OutOfRange => "OutOfRange",
         Dropped::TooManySources => "TooManySources",
+        Dropped::Told => "Told",
+        Dropped::TooManyHolders => "TooManyHolders",
     }
 }
 
