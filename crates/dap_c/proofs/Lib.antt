@@ -1,0 +1,2 @@
+mod ClientHandles
+mod FramesHandles

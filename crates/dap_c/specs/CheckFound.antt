@@ -1,0 +1,42 @@
+-- What is found of a transcript, as a caller in C sees it.
+use Rattle.std.specs.Prelude.{◌≡◌, ℕ, ◌<◌, ◌==◌, List, ◌++◌, length, drop, if◌then◌else◌, Option, Some, None}
+use Rattle.dap_check.specs.declared.checking.CheckFault.{CheckFault}
+use Rattle.dap_check.specs.declared.checking.CheckFault.TheVariants.{BadLine, Body, OutOfMemory}
+use Rattle.dap_check.specs.declared.rule.AnySeq.{AnySeq}
+use Rattle.dap_check.specs.declared.rule.AnySeq.TheVariants.{OfNone, OfClient, OfAdapter, OfBoth}
+use Rattle.dap_check.specs.declared.rule.Checked.{Checked}
+use Rattle.dap_check.specs.declared.rule.Checked.TheVariants.{Legal, Finding}
+use Rattle.dap_check.specs.declared.rule.Rule.{Rule}
+use Rattle.dap_check.specs.declared.rule.Rule.TheVariants.{Seq, Answer, FirstRequest, Initialized, Gate, Reference, Disconnect}
+use Rattle.dap_check.specs.Legal.{number_of}
+use Rattle.dap_c.specs.declared.check.YtVerdict.{YtVerdict}
+
+-- whose numbers are not tested, by a number
+abbrev pub any_of : ℕ → Option AnySeq
+any_of n = if n == 0 then Some OfNone else (if n == 1 then Some OfClient else (if n == 2 then Some OfAdapter else (if n == 3 then Some OfBoth else None)))
+
+-- a rule, by its number
+abbrev pub rule_of : ℕ → Option Rule
+rule_of n = if n == 1 then Some Seq else (if n == 2 then Some Answer else (if n == 3 then Some FirstRequest else (if n == 4 then Some Initialized else (if n == 5 then Some Gate else (if n == 6 then Some Reference else (if n == 7 then Some Disconnect else None))))))
+
+-- this code and this verdict are told of a transcript
+abbrev pub TellsChecked : Checked → ℕ → YtVerdict → Type 0
+TellsChecked Legal code v = code ≡ 0
+TellsChecked (Finding line rule) code v = (code ≡ 2) × (v.line ≡ line) × (v.rule ≡ number_of rule)
+
+-- this code is told of a text that is no transcript
+abbrev pub fault_code : CheckFault → ℕ
+fault_code (BadLine line) = 41
+fault_code (Body line cause) = 42
+fault_code OutOfMemory = 104
+
+-- and this line
+abbrev pub fault_line : CheckFault → ℕ
+fault_line (BadLine line) = line
+fault_line (Body line cause) = line
+fault_line OutOfMemory = 0
+
+-- a text, or none, is put into a buffer with this code, where there is room for it
+abbrev pub PutsIfAny : Option (List ℕ) → ℕ → ℕ → List ℕ → List ℕ → Type 0
+PutsIfAny None code size old new = (code ≡ 106) × (new ≡ old)
+PutsIfAny (Some text) code size old new = (size ≡ length text) × (code ≡ 0 → new ≡ text ++ drop (length text) old) × (code ≡ 105 → (length old < length text) × (new ≡ old)) × ((code ≡ 105 → ⊥) → code ≡ 0)

@@ -1,0 +1,55 @@
+-- What can be seen of a client, as a caller in C sees it.
+use Rattle.std.specs.Prelude.{◌≡◌, ℕ, List, length, Option, option_map, unwrap_or}
+use Rattle.std.specs.List.{slice_get}
+use Rattle.dap_call.specs.declared.capabilities.Capabilities.{Capabilities}
+use Rattle.dap_history.specs.History.{Entry, Came, Went, waiting}
+use Rattle.dap_client.specs.ClientState.{ClientState}
+use Rattle.dap_client.specs.Seen.{phase_in, ready_in, capabilities_in, references_in}
+use Rattle.dap_client.specs.Session.{oldest_of}
+use Rattle.dap_client.specs.declared.phase.Phase.{Phase}
+use Rattle.dap_client.specs.declared.phase.Phase.TheVariants.{Fresh, Initializing, Configuring, Running, Stopped, Resuming, Exited, Ended}
+use Rattle.dap_c.specs.declared.client_state.YtCapabilities.{YtCapabilities}
+use Rattle.dap_c.specs.declared.client_state.YtClientSeen.{YtClientSeen}
+
+abbrev pub phase_number : Phase → ℕ
+phase_number Fresh = 0
+phase_number Initializing = 1
+phase_number Configuring = 2
+phase_number Running = 3
+phase_number Stopped = 4
+phase_number Resuming = 5
+phase_number Exited = 6
+phase_number Ended = 7
+
+-- what is seen of a client
+pub record IsStateOf (seen : YtClientSeen) (c : ClientState) : Type 0 where
+  pub phase : seen.phase ≡ phase_number c.session.seen.phase
+  pub ready : seen.ready ≡ c.session.seen.ready
+  pub outstanding : seen.outstanding ≡ length c.session.outstanding
+  pub incoming : seen.incoming ≡ length c.session.incoming
+  pub oldest_incoming : seen.oldest_incoming ≡ unwrap_or (oldest_of c.session.incoming) 0
+  pub references : seen.references ≡ length c.session.seen.known
+  pub held : seen.held ≡ length c.intake.held
+
+-- the same, of what came and went
+pub record IsStateIn (seen : YtClientSeen) (h : List Entry) : Type 0 where
+  pub phase : seen.phase ≡ phase_number (phase_in h)
+  pub ready : seen.ready ≡ ready_in h
+  pub outstanding : seen.outstanding ≡ length (waiting Went h)
+  pub incoming : seen.incoming ≡ length (waiting Came h)
+  pub references : seen.references ≡ length (references_in h)
+
+-- the flags that an adapter offers
+pub record AreFlagsOf (flags : YtCapabilities) (c : Capabilities) : Type 0 where
+  pub breakpoint_locations : flags.breakpoint_locations ≡ c.breakpoint_locations
+  pub cancel : flags.cancel ≡ c.cancel
+  pub completions : flags.completions ≡ c.completions
+  pub configuration_done : flags.configuration_done ≡ c.configuration_done
+  pub exception_info : flags.exception_info ≡ c.exception_info
+  pub function_breakpoints : flags.function_breakpoints ≡ c.function_breakpoints
+  pub loaded_sources : flags.loaded_sources ≡ c.loaded_sources
+  pub modules : flags.modules ≡ c.modules
+  pub restart : flags.restart ≡ c.restart
+  pub set_variable : flags.set_variable ≡ c.set_variable
+  pub step_back : flags.step_back ≡ c.step_back
+  pub terminate : flags.terminate ≡ c.terminate

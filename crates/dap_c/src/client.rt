@@ -1,0 +1,454 @@
+//! The client's end behind a handle.
+//!
+//! Calls of the host and bytes of the adapter come in; requests to be written and the adapter's frames go out. What a client
+//! is and does is in `dap_client`; each export has the clauses of its function there. Only the client behind the handle and
+//! what the caller lends for an answer are touched.
+ghost use Rattle.std.specs.Prelude.{◌≡◌, ◌⊎◌, ◌<◌, ◌≤◌, ◌++◌, [], length, drop, IfOk, IfErr, OnOk, OnErr, IfSome, IsSome, IsTrue, Some, None, true, false, take, is_some, vec_len, vec_capacity, if◌then◌else◌, ◌+◌};
+ghost use Rattle.dap_call.specs.PlainCall.{is_plain_call};
+ghost use Rattle.dap_call.specs.declared.call.Call.{Call as TheCall};
+ghost use Rattle.dap_frame.specs.Settings.{first_outside};
+ghost use Rattle.dap_client.specs.Session.{fresh_session};
+ghost use Rattle.dap_client.specs.StandsFor.{StandsFor};
+ghost use Rattle.dap_client.specs.TerminalResponse.{is_plain_terminal};
+ghost use Rattle.dap_client.specs.declared.fault.ClientFault.{ClientFault as TheFault};
+ghost use Rattle.dap_c_parts.specs.Behind.{FromTo};
+ghost use Rattle.dap_c.specs.CallGiven.{IsCallOf, IsCodeOfCall};
+ghost use Rattle.dap_c.specs.ClientCalls.{Sends, Refuses, Answers, RefusesAnswer, TakesPiece, RefusesPiece, IsAsBefore, bytes_so_far, terminal_of, process_of};
+ghost use Rattle.dap_c.specs.ClientFaults.{send_number, answer_number, take_number, IsFaultFound};
+ghost use Rattle.dap_c_parts.specs.Limited.{settings_of};
+
+use crate::call::call_given;
+use crate::client_handle::{YtClient, full, taken};
+use crate::held_client::HeldClient;
+use dap_c_parts::causes::{body_cause, cause_of};
+use dap_c_parts::codes::*;
+use dap_c_parts::copying::put;
+use dap_c_parts::found::{YtFound, fault_at, nothing_found};
+use dap_c_parts::limits::{self, YtLimits};
+use dap_call::Call;
+use dap_client::{AnswerFault, Client, ClientFault, Got, SendFault, Terminal};
+use std::alloc::Global;
+
+/// What was sent.
+#[repr(C)]
+#[derive(Drop)]
+pub struct YtSent {
+    /// The request's own number, which its response names as `request_seq`.
+    pub seq: u64,
+    /// How many bytes are to be written.
+    pub bytes: usize,
+}
+
+fn opened(alloc: Global, limits: &YtLimits) -> Result<Box<HeldClient>, u32>
+    ensures session { IfOk result (λ b. b.value.client.session ≡ fresh_session (settings_of limits.now)) }
+    ensures fault { IfOk result (λ b. b.value.client.fault ≡ None) }
+    ensures stands { IfOk result (λ b. StandsFor b.value.client [] []) }
+    ensures in_range { OnOk result (first_outside (settings_of limits.now) ≡ None) }
+    ensures refused { IfErr result (λ code. code ≡ YT_BAD_LIMITS → IsSome (first_outside (settings_of limits.now))) }
+    ensures code { IfErr result (λ code. (code ≡ YT_BAD_LIMITS → ⊥) → code ≡ YT_NO_MEMORY) }
+{
+    let Ok(limits) = limits::read(limits) else {
+        return Err(YT_BAD_LIMITS);
+    };
+    let Ok(client) = Client::open(alloc, limits) else {
+        return Err(YT_NO_MEMORY);
+    };
+    let held = HeldClient {
+        client,
+        bytes: Vec::new(alloc),
+        frame: Vec::new(alloc),
+        whole: false,
+    };
+    match Box::new(alloc, held) {
+        Ok(held) => Ok(held),
+        Err(_) => Err(YT_NO_MEMORY),
+    }
+}
+
+/// Opens a client, and lets go what the handle held. Where it answers other than `YT_OK`, the handle holds none.
+#[unsafe(no_mangle)]
+pub extern "C" fn yt_client_open(alloc: Global, client: &mut YtClient, limits: &YtLimits) -> u32
+    ensures open { result ≡ YT_OK → IsSome client.new.inner.value }
+    ensures closed { (result ≡ YT_OK → ⊥) → client.new.inner.value ≡ None }
+    ensures session { IfSome client.new.inner.value (λ c. c.client.session ≡ fresh_session (settings_of limits.now)) }
+    ensures fault { IfSome client.new.inner.value (λ c. c.client.fault ≡ None) }
+    ensures stands { IfSome client.new.inner.value (λ c. StandsFor c.client [] []) }
+    ensures refused { result ≡ YT_BAD_LIMITS → IsSome (first_outside (settings_of limits.now)) }
+    ensures in_range { result ≡ YT_OK → first_outside (settings_of limits.now) ≡ None }
+{
+    taken(alloc, client);
+    match opened(alloc, limits) {
+        Ok(held) => {
+            *client = full(held);
+            YT_OK
+        }
+        Err(code) => code,
+    }
+}
+
+/// Lets go what the handle held.
+#[unsafe(no_mangle)]
+pub extern "C" fn yt_client_free(alloc: Global, client: &mut YtClient)
+    ensures { client.new.inner.value ≡ None }
+{
+    drop(taken(alloc, client));
+}
+
+fn send_code(fault: SendFault) -> u32
+    ensures { result ≡ send_number fault }
+{
+    match fault {
+        SendFault::Ended => YT_ENDED,
+        SendFault::WrongPhase => YT_WRONG_PHASE,
+        SendFault::NotSupported => YT_NOT_SUPPORTED,
+        SendFault::NotStopped => YT_NOT_STOPPED,
+        SendFault::UnknownReference => YT_UNKNOWN_REFERENCE,
+        SendFault::TooLarge => YT_TOO_LARGE,
+        SendFault::Full => YT_FULL,
+        SendFault::SeqExhausted => YT_SEQ_EXHAUSTED,
+        SendFault::OutOfMemory => YT_NO_MEMORY,
+    }
+}
+
+/// Sends a call that can be written, with its code.
+fn send_call(alloc: Global, held: &mut HeldClient, call: &Call, sent: &mut YtSent) -> u32
+    requires { IsTrue (is_plain_call call.now) }
+    ensures sends { result ≡ YT_OK → Sends held.old held.new call.now sent.new.seq }
+    ensures length { result ≡ YT_OK → sent.new.bytes ≡ length held.new.bytes.items }
+    ensures refuses { (result ≡ YT_OK → ⊥) → Refuses held.old held.new call.now result }
+    ensures unchanged { (result ≡ YT_OK → ⊥) → held.new ≡ held.old }
+    ensures frame { (held.new.frame ≡ held.old.frame) × (held.new.whole ≡ held.old.whole) }
+{
+    match held.client.send(alloc, call) {
+        Ok(done) => {
+            held.bytes = done.bytes;
+            *sent = YtSent {
+                seq: done.seq,
+                bytes: held.bytes.len(),
+            };
+            YT_OK
+        }
+        Err(fault) => send_code(fault),
+    }
+}
+
+fn send(
+    alloc: Global,
+    held: &mut HeldClient,
+    command: &[u8],
+    arguments: &[u8],
+    sent: &mut YtSent,
+) -> u32
+    ensures sends { result ≡ YT_OK → (call : TheCall) × IsCallOf command.now arguments.now call × Sends held.old held.new call sent.new.seq }
+    ensures length { result ≡ YT_OK → sent.new.bytes ≡ length held.new.bytes.items }
+    ensures refuses { (result ≡ YT_OK → ⊥) → IsCodeOfCall result ⊎ ((call : TheCall) × IsCallOf command.now arguments.now call × Refuses held.old held.new call result) }
+    ensures unchanged { (result ≡ YT_OK → ⊥) → held.new.client ≡ held.old.client }
+    ensures nothing { (result ≡ YT_OK → ⊥) → held.new.bytes.items ≡ [] }
+    ensures frame { (held.new.frame ≡ held.old.frame) × (held.new.whole ≡ held.old.whole) }
+{
+    held.bytes.clear();
+    match call_given(alloc, command, arguments) {
+        Ok(call) => send_call(alloc, held, &call, sent),
+        Err(code) => code,
+    }
+}
+
+/// Sends a request: its command, and its arguments as JSON, or no bytes where it has none. What is to be written is fetched
+/// by `yt_client_bytes` before the next call on the handle. A refused call changes nothing, and the client goes on.
+#[unsafe(no_mangle)]
+pub extern "C" fn yt_client_send(
+    alloc: Global,
+    client: &mut YtClient,
+    command: &[u8],
+    arguments: &[u8],
+    sent: &mut YtSent,
+) -> u32
+    ensures none { client.old.inner.value ≡ None → (result ≡ YT_NONE) × (client.new.inner.value ≡ None) × (sent.new ≡ sent.old) }
+    ensures held { IsSome client.old.inner.value → IsSome client.new.inner.value }
+    ensures sends { FromTo client.old.inner.value client.new.inner.value (λ c d. result ≡ YT_OK → (call : TheCall) × IsCallOf command.now arguments.now call × Sends c d call sent.new.seq) }
+    ensures length { FromTo client.old.inner.value client.new.inner.value (λ c d. result ≡ YT_OK → sent.new.bytes ≡ length d.bytes.items) }
+    ensures refuses { FromTo client.old.inner.value client.new.inner.value (λ c d. (result ≡ YT_OK → ⊥) → IsCodeOfCall result ⊎ ((call : TheCall) × IsCallOf command.now arguments.now call × Refuses c d call result)) }
+    ensures unchanged { FromTo client.old.inner.value client.new.inner.value (λ c d. (result ≡ YT_OK → ⊥) → d.client ≡ c.client) }
+    ensures frame { FromTo client.old.inner.value client.new.inner.value (λ c d. (d.frame ≡ c.frame) × (d.whole ≡ c.whole)) }
+{
+    let Some(mut held) = taken(alloc, client) else {
+        return YT_NONE;
+    };
+    let code = send(alloc, &mut *held, command, arguments, sent);
+    *client = full(held);
+    code
+}
+
+/// What became of a command, where its numbers are in their ranges.
+fn terminal_given(runs: bool, process: u32, shell: u32) -> Terminal
+    ensures { result ≡ terminal_of runs process shell }
+{
+    if !runs {
+        return Terminal::Refused;
+    }
+    Terminal::Started {
+        process_id: process_given(process),
+        shell_process_id: process_given(shell),
+    }
+}
+
+fn process_given(number: u32) -> Option<u32>
+    ensures { result ≡ process_of number }
+{
+    match number {
+        0 => None,
+        number => Some(number),
+    }
+}
+
+fn answer_code(fault: AnswerFault) -> u32
+    ensures { result ≡ answer_number fault }
+{
+    match fault {
+        AnswerFault::Ended => YT_ENDED,
+        AnswerFault::NotKept => YT_NOT_KEPT,
+        AnswerFault::SeqExhausted => YT_SEQ_EXHAUSTED,
+        AnswerFault::OutOfMemory => YT_NO_MEMORY,
+    }
+}
+
+fn answer(
+    alloc: Global,
+    held: &mut HeldClient,
+    request_seq: u64,
+    terminal: Terminal,
+    bytes: &mut usize,
+) -> u32
+    ensures answers { result ≡ YT_OK → Answers held.old held.new request_seq terminal }
+    ensures plain { result ≡ YT_OK → IsTrue (is_plain_terminal terminal) }
+    ensures length { bytes.new ≡ length held.new.bytes.items }
+    ensures refuses { (result ≡ YT_OK → ⊥) → (result ≡ YT_BAD_ARGUMENTS) ⊎ RefusesAnswer held.old held.new request_seq result }
+    ensures unchanged { (result ≡ YT_OK → ⊥) → held.new.client ≡ held.old.client }
+    ensures frame { (held.new.frame ≡ held.old.frame) × (held.new.whole ≡ held.old.whole) }
+{
+    held.bytes.clear();
+    *bytes = 0;
+    if !terminal.plain() {
+        return YT_BAD_ARGUMENTS;
+    }
+    match held.client.answer(alloc, request_seq, terminal) {
+        Ok(written) => {
+            held.bytes = written;
+            *bytes = held.bytes.len();
+            YT_OK
+        }
+        Err(fault) => answer_code(fault),
+    }
+}
+
+/// Answers a request of the adapter that is kept: whether the command runs in a terminal, and the numbers of its process and
+/// of the shell's, 0 where one is not known. `bytes` is how many bytes are to be written. A refused answer changes nothing,
+/// and the client goes on.
+#[unsafe(no_mangle)]
+pub extern "C" fn yt_client_answer(
+    alloc: Global,
+    client: &mut YtClient,
+    request_seq: u64,
+    runs: bool,
+    process: u32,
+    shell: u32,
+    bytes: &mut usize,
+) -> u32
+    ensures none { client.old.inner.value ≡ None → (result ≡ YT_NONE) × (client.new.inner.value ≡ None) × (bytes.new ≡ bytes.old) }
+    ensures held { IsSome client.old.inner.value → IsSome client.new.inner.value }
+    ensures answers { FromTo client.old.inner.value client.new.inner.value (λ c d. result ≡ YT_OK → Answers c d request_seq (terminal_of runs process shell)) }
+    ensures length { FromTo client.old.inner.value client.new.inner.value (λ c d. bytes.new ≡ length d.bytes.items) }
+    ensures refuses { FromTo client.old.inner.value client.new.inner.value (λ c d. (result ≡ YT_OK → ⊥) → (result ≡ YT_BAD_ARGUMENTS) ⊎ RefusesAnswer c d request_seq result) }
+    ensures unchanged { FromTo client.old.inner.value client.new.inner.value (λ c d. (result ≡ YT_OK → ⊥) → d.client ≡ c.client) }
+    ensures frame { FromTo client.old.inner.value client.new.inner.value (λ c d. (d.frame ≡ c.frame) × (d.whole ≡ c.whole)) }
+{
+    let Some(mut held) = taken(alloc, client) else {
+        return YT_NONE;
+    };
+    let terminal = terminal_given(runs, process, shell);
+    let code = answer(alloc, &mut *held, request_seq, terminal, bytes);
+    *client = full(held);
+    code
+}
+
+fn take_code(fault: ClientFault) -> u32
+    ensures { result ≡ take_number fault }
+{
+    match fault {
+        ClientFault::Frame(_) => YT_FRAME,
+        ClientFault::Body { .. } => YT_BODY,
+        ClientFault::Unmatched { .. } => YT_UNMATCHED,
+        ClientFault::CommandMismatch { .. } => YT_COMMAND_MISMATCH,
+        ClientFault::RepeatedSeq { .. } => YT_REPEATED_SEQ,
+        ClientFault::ReferenceLimit => YT_REFERENCE_LIMIT,
+        ClientFault::SeqExhausted => YT_SEQ_EXHAUSTED,
+        ClientFault::OutOfMemory => YT_NO_MEMORY,
+    }
+}
+
+fn fault_found(fault: ClientFault) -> YtFound
+    ensures { IsFaultFound fault result }
+{
+    match fault {
+        ClientFault::Frame(fault) => fault_at(fault.offset, cause_of(fault.cause)),
+        ClientFault::Body { cause, offset } => fault_at(offset, body_cause(cause)),
+        ClientFault::Unmatched { request_seq } => fault_at(request_seq, 0),
+        ClientFault::CommandMismatch { request_seq } => fault_at(request_seq, 0),
+        ClientFault::RepeatedSeq { seq } => fault_at(seq, 0),
+        ClientFault::ReferenceLimit | ClientFault::SeqExhausted | ClientFault::OutOfMemory => {
+            fault_at(0, 0)
+        }
+    }
+}
+
+/// A frame that was whole is let go: the bytes of the next one are gathered from now on.
+fn begin_frame(held: &mut HeldClient)
+    ensures frame { held.new.frame.items ≡ bytes_so_far held.old }
+    ensures whole { held.new.whole ≡ false }
+    ensures client { held.new.client ≡ held.old.client }
+    ensures bytes { held.new.bytes.items ≡ [] }
+{
+    held.bytes.clear();
+    if held.whole {
+        held.frame.clear();
+        held.whole = false;
+    }
+}
+
+/// Keeps what a client gave, and the bytes that it used.
+fn keep(held: &mut HeldClient, piece: &[u8], got: Got) -> YtFound
+    requires room { vec_len held.old.frame + length piece.now ≤ vec_capacity held.old.frame }
+    requires used { got.used ≤ length piece.now }
+    ensures used { result.used ≡ got.used }
+    ensures bytes { held.new.bytes.items ≡ got.bytes.items }
+    ensures bytes_length { result.bytes ≡ length got.bytes.items }
+    ensures whole { held.new.whole ≡ is_some got.delivered }
+    ensures frame { held.new.frame.items ≡ held.old.frame.items ++ take got.used piece.now }
+    ensures frame_length { result.frame ≡ (if is_some got.delivered then length held.new.frame.items else 0) }
+    ensures client { held.new.client ≡ held.old.client }
+{
+    let Got {
+        used,
+        delivered,
+        bytes,
+    } = got;
+    let (front, _) = piece.split_at(used);
+    let Ok(()) = held.frame.extend_from_slice(front) else {
+        unreachable!()
+    };
+    held.whole = delivered.is_some();
+    held.bytes = bytes;
+    YtFound {
+        used,
+        bytes: held.bytes.len(),
+        frame: if held.whole { held.frame.len() } else { 0 },
+        at: 0,
+        cause: 0,
+    }
+}
+
+fn take_piece(alloc: Global, held: &mut HeldClient, piece: &[u8], found: &mut YtFound) -> u32
+    ensures takes { result ≡ YT_OK → TakesPiece held.old held.new piece.now found.new }
+    ensures progress { result ≡ YT_OK → 0 < length piece.now → 0 < found.new.used }
+    ensures within { result ≡ YT_OK → found.new.used ≤ length piece.now }
+    ensures open { result ≡ YT_OK → held.new.client.fault ≡ None }
+    ensures limits { held.new.client.session.limits ≡ held.old.client.session.limits }
+    ensures refuses { (result ≡ YT_OK → ⊥) → IsAsBefore held.old held.new result ⊎ RefusesPiece held.old held.new piece.now result found.new }
+    ensures tables { (result ≡ YT_OK → ⊥) → held.new.client.session ≡ held.old.client.session }
+    ensures latched { IfSome held.old.client.fault (λ fault. ((result ≡ YT_NO_MEMORY) ⊎ (result ≡ take_number fault)) × (held.new.client ≡ held.old.client)) }
+{
+    begin_frame(held);
+    if held.frame.reserve(piece.len()).is_err() {
+        *found = nothing_found();
+        return YT_NO_MEMORY;
+    }
+    match held.client.take(alloc, piece) {
+        Ok(got) => {
+            *found = keep(held, piece, got);
+            YT_OK
+        }
+        Err(fault) => {
+            *found = fault_found(fault);
+            take_code(fault)
+        }
+    }
+}
+
+/// Uses the bytes of a piece up to the end of one frame at most. What is to be written is fetched by `yt_client_bytes`, and
+/// the frame that became whole by `yt_client_frame`, before the next call on the handle. Where it answers other than `YT_OK`,
+/// the client is closed, and answers that from then on; but where it is `YT_NO_MEMORY`, it may have been refused before
+/// anything was taken, and the same piece can be given once more.
+#[unsafe(no_mangle)]
+pub extern "C" fn yt_client_take(
+    alloc: Global,
+    client: &mut YtClient,
+    piece: &[u8],
+    found: &mut YtFound,
+) -> u32
+    ensures none { client.old.inner.value ≡ None → (result ≡ YT_NONE) × (client.new.inner.value ≡ None) × (found.new ≡ found.old) }
+    ensures held { IsSome client.old.inner.value → IsSome client.new.inner.value }
+    ensures takes { FromTo client.old.inner.value client.new.inner.value (λ c d. result ≡ YT_OK → TakesPiece c d piece.now found.new) }
+    ensures progress { result ≡ YT_OK → 0 < length piece.now → 0 < found.new.used }
+    ensures within { result ≡ YT_OK → found.new.used ≤ length piece.now }
+    ensures open { FromTo client.old.inner.value client.new.inner.value (λ c d. result ≡ YT_OK → d.client.fault ≡ None) }
+    ensures limits { FromTo client.old.inner.value client.new.inner.value (λ c d. d.client.session.limits ≡ c.client.session.limits) }
+    ensures refuses { FromTo client.old.inner.value client.new.inner.value (λ c d. (result ≡ YT_OK → ⊥) → IsAsBefore c d result ⊎ RefusesPiece c d piece.now result found.new) }
+    ensures tables { FromTo client.old.inner.value client.new.inner.value (λ c d. (result ≡ YT_OK → ⊥) → d.client.session ≡ c.client.session) }
+    ensures latched { (fault : TheFault) → FromTo client.old.inner.value client.new.inner.value (λ c d. c.client.fault ≡ Some fault → ((result ≡ YT_NO_MEMORY) ⊎ (result ≡ take_number fault)) × (d.client ≡ c.client)) }
+{
+    let Some(mut held) = taken(alloc, client) else {
+        return YT_NONE;
+    };
+    let code = take_piece(alloc, &mut *held, piece, found);
+    *client = full(held);
+    code
+}
+
+/// Puts what is to be written into a buffer.
+#[unsafe(no_mangle)]
+pub extern "C" fn yt_client_bytes(alloc: Global, client: &mut YtClient, out: &mut [u8]) -> u32
+    ensures none { client.old.inner.value ≡ None → (result ≡ YT_NONE) × (out.new ≡ out.old) }
+    ensures same { client.new.inner.value ≡ client.old.inner.value }
+    ensures bytes { IfSome client.old.inner.value (λ c. result ≡ YT_OK → out.new ≡ c.bytes.items ++ drop (length c.bytes.items) out.old) }
+    ensures small { IfSome client.old.inner.value (λ c. result ≡ YT_SMALL → (length out.old < length c.bytes.items) × (out.new ≡ out.old)) }
+    ensures codes { IsSome client.old.inner.value → (result ≡ YT_SMALL → ⊥) → result ≡ YT_OK }
+{
+    let Some(held) = taken(alloc, client) else {
+        return YT_NONE;
+    };
+    let code = put(held.bytes.as_slice(), out);
+    *client = full(held);
+    code
+}
+
+fn put_frame(held: &HeldClient, out: &mut [u8]) -> u32
+    ensures frame { result ≡ YT_OK → (held.now.whole ≡ true) × (out.new ≡ held.now.frame.items ++ drop (length held.now.frame.items) out.old) }
+    ensures small { result ≡ YT_SMALL → (length out.old < length held.now.frame.items) × (out.new ≡ out.old) }
+    ensures nothing { result ≡ YT_NOTHING → (held.now.whole ≡ false) × (out.new ≡ out.old) }
+    ensures codes { (result ≡ YT_OK → ⊥) → (result ≡ YT_SMALL → ⊥) → result ≡ YT_NOTHING }
+{
+    if held.whole {
+        put(held.frame.as_slice(), out)
+    } else {
+        YT_NOTHING
+    }
+}
+
+/// Puts the frame whose message the last call of `yt_client_take` delivered into a buffer, with its header block:
+/// `YT_NOTHING` where it delivered none.
+#[unsafe(no_mangle)]
+pub extern "C" fn yt_client_frame(alloc: Global, client: &mut YtClient, out: &mut [u8]) -> u32
+    ensures none { client.old.inner.value ≡ None → (result ≡ YT_NONE) × (out.new ≡ out.old) }
+    ensures same { client.new.inner.value ≡ client.old.inner.value }
+    ensures frame { IfSome client.old.inner.value (λ c. result ≡ YT_OK → (c.whole ≡ true) × (out.new ≡ c.frame.items ++ drop (length c.frame.items) out.old)) }
+    ensures small { IfSome client.old.inner.value (λ c. result ≡ YT_SMALL → (length out.old < length c.frame.items) × (out.new ≡ out.old)) }
+    ensures nothing { IfSome client.old.inner.value (λ c. result ≡ YT_NOTHING → (c.whole ≡ false) × (out.new ≡ out.old)) }
+    ensures codes { IsSome client.old.inner.value → (result ≡ YT_OK → ⊥) → (result ≡ YT_SMALL → ⊥) → result ≡ YT_NOTHING }
+{
+    let Some(held) = taken(alloc, client) else {
+        return YT_NONE;
+    };
+    let code = put_frame(&*held, out);
+    *client = full(held);
+    code
+}

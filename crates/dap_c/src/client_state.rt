@@ -1,0 +1,141 @@
+//! What can be seen of a client: the client behind a handle is read, and what is seen goes out. Nothing is changed.
+ghost use Rattle.std.specs.Prelude.{◌≡◌, List, ℕ, IfSome, IsSome, None};
+ghost use Rattle.dap_history.specs.History.{Entry};
+ghost use Rattle.dap_client.specs.Seen.{capabilities_in};
+ghost use Rattle.dap_client.specs.StandsFor.{StandsFor};
+ghost use Rattle.dap_c.specs.ClientSeen.{IsStateOf, IsStateIn, AreFlagsOf, phase_number};
+
+use crate::client_handle::{YtClient, full, taken};
+use dap_c_parts::codes::{YT_NONE, YT_OK};
+use dap_call::Capabilities;
+use dap_client::{Client, Phase};
+use std::alloc::Global;
+
+/// What is seen of a client.
+#[repr(C)]
+#[derive(Drop)]
+pub struct YtClientSeen {
+    /// Requests that were sent and are not answered yet.
+    pub outstanding: usize,
+    /// Requests of the adapter that are kept, which wait for `yt_client_answer`.
+    pub incoming: usize,
+    /// The number of the oldest one; 0 where none is kept.
+    pub oldest_incoming: u64,
+    /// References that are known.
+    pub references: usize,
+    /// Bytes held of the frame under way.
+    pub held: usize,
+    /// 0 fresh, 1 initializing, 2 configuring, 3 running, 4 stopped, 5 resuming, 6 exited, 7 ended.
+    pub phase: u32,
+    /// The event `initialized` came.
+    pub ready: bool,
+}
+
+/// What the adapter offers.
+#[repr(C)]
+#[derive(Drop)]
+pub struct YtCapabilities {
+    pub breakpoint_locations: bool,
+    pub cancel: bool,
+    pub completions: bool,
+    pub configuration_done: bool,
+    pub exception_info: bool,
+    pub function_breakpoints: bool,
+    pub loaded_sources: bool,
+    pub modules: bool,
+    pub restart: bool,
+    pub set_variable: bool,
+    pub step_back: bool,
+    pub terminate: bool,
+}
+
+fn phase_code(phase: Phase) -> u32
+    ensures { result ≡ phase_number phase }
+{
+    match phase {
+        Phase::Fresh => 0,
+        Phase::Initializing => 1,
+        Phase::Configuring => 2,
+        Phase::Running => 3,
+        Phase::Stopped => 4,
+        Phase::Resuming => 5,
+        Phase::Exited => 6,
+        Phase::Ended => 7,
+    }
+}
+
+fn state_of(client: &Client) -> YtClientSeen
+    ensures is { IsStateOf result client.now }
+    ensures seen { (s : List ℕ) (h : List Entry) → StandsFor client.now s h → IsStateIn result h }
+{
+    YtClientSeen {
+        outstanding: client.outstanding(),
+        incoming: client.incoming(),
+        oldest_incoming: client.oldest_incoming().unwrap_or(0),
+        references: client.references(),
+        held: client.held(),
+        phase: phase_code(client.phase()),
+        ready: client.ready(),
+    }
+}
+
+/// Tells what is seen of a client.
+#[unsafe(no_mangle)]
+pub extern "C" fn yt_client_state(
+    alloc: Global,
+    client: &mut YtClient,
+    state: &mut YtClientSeen,
+) -> u32
+    ensures none { client.old.inner.value ≡ None → (result ≡ YT_NONE) × (state.new ≡ state.old) }
+    ensures same { client.new.inner.value ≡ client.old.inner.value }
+    ensures ok { IsSome client.old.inner.value → result ≡ YT_OK }
+    ensures is { IfSome client.old.inner.value (λ c. IsStateOf state.new c.client) }
+    ensures seen { IfSome client.old.inner.value (λ c. (s : List ℕ) (h : List Entry) → StandsFor c.client s h → IsStateIn state.new h) }
+{
+    let Some(held) = taken(alloc, client) else {
+        return YT_NONE;
+    };
+    *state = state_of(&held.client);
+    *client = full(held);
+    YT_OK
+}
+
+fn flags_of(capabilities: Capabilities) -> YtCapabilities
+    ensures { AreFlagsOf result capabilities }
+{
+    YtCapabilities {
+        breakpoint_locations: capabilities.breakpoint_locations,
+        cancel: capabilities.cancel,
+        completions: capabilities.completions,
+        configuration_done: capabilities.configuration_done,
+        exception_info: capabilities.exception_info,
+        function_breakpoints: capabilities.function_breakpoints,
+        loaded_sources: capabilities.loaded_sources,
+        modules: capabilities.modules,
+        restart: capabilities.restart,
+        set_variable: capabilities.set_variable,
+        step_back: capabilities.step_back,
+        terminate: capabilities.terminate,
+    }
+}
+
+/// Tells what the adapter offers: the flags of the last success of `initialize`, as `capabilities` events changed them.
+#[unsafe(no_mangle)]
+pub extern "C" fn yt_client_capabilities(
+    alloc: Global,
+    client: &mut YtClient,
+    capabilities: &mut YtCapabilities,
+) -> u32
+    ensures none { client.old.inner.value ≡ None → (result ≡ YT_NONE) × (capabilities.new ≡ capabilities.old) }
+    ensures same { client.new.inner.value ≡ client.old.inner.value }
+    ensures ok { IsSome client.old.inner.value → result ≡ YT_OK }
+    ensures value { IfSome client.old.inner.value (λ c. AreFlagsOf capabilities.new c.client.session.seen.capabilities) }
+    ensures seen { IfSome client.old.inner.value (λ c. (s : List ℕ) (h : List Entry) → StandsFor c.client s h → AreFlagsOf capabilities.new (capabilities_in h)) }
+{
+    let Some(held) = taken(alloc, client) else {
+        return YT_NONE;
+    };
+    *capabilities = flags_of(held.client.capabilities());
+    *client = full(held);
+    YT_OK
+}

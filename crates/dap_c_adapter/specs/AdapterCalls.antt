@@ -1,0 +1,109 @@
+-- What the exports of an adapter do, in the words of dap_adapter, over the adapter behind the handle and a debuggee that the
+-- host feeds.
+use Rattle.std.specs.Prelude.{◌≡◌, ◌⊎◌, ℕ, List, [], ◌∷◌, ◌++◌, length, take, Option, Some, None, is_some, if◌then◌else◌}
+use Rattle.dap_message.specs.declared.message.Message.{Message}
+use Rattle.dap_live.specs.LiveShown.{shown_live}
+use Rattle.dap_live.specs.LiveLaws.{FollowsLive}
+use Rattle.dap_session.specs.declared.fault.AdapterFault.{AdapterFault}
+use Rattle.dap_adapter.specs.AdapterState.{state_of}
+use Rattle.dap_adapter.specs.Calls.{Takes, TakeRefused, TurnGives, TurnRefused, AreFewer, Saw, PollRefused}
+use Rattle.dap_adapter.specs.declared.taken.Turned.{Turned}
+use Rattle.dap_adapter.specs.declared.taken.Turned.TheVariants.{Idle, Done}
+use Rattle.dap_c_adapter.specs.AdapterFaults.{adapter_number, IsAdapterFaultFound}
+use Rattle.dap_c_parts.specs.declared.found.YtFound.{YtFound}
+use Rattle.dap_c_adapter.specs.declared.held_adapter.HeldAdapter.{HeldAdapter}
+
+-- the bytes that were used since the message before
+abbrev pub frame_so_far : HeldAdapter → List ℕ
+frame_so_far h = if h.whole then [] else h.frame.items
+
+-- a piece was taken, as dap_adapter says it, and this was found
+pub record AdapterTakes (old new : HeldAdapter) (piece : List ℕ) (found : YtFound) : Type 0 where
+  pub delivered : Option Message
+  pub takes : Takes FollowsLive old.adapter piece found.used new.bytes.items delivered new.adapter
+  pub bytes_length : found.bytes ≡ length new.bytes.items
+  pub whole : new.whole ≡ is_some delivered
+  pub frame_is : new.frame.items ≡ frame_so_far old ++ take found.used piece
+  pub frame_length : found.frame ≡ (if is_some delivered then length new.frame.items else 0)
+
+-- memory was refused before the piece was taken, and nothing changed
+pub record IsAdapterAsBefore (old new : HeldAdapter) (code : ℕ) : Type 0 where
+  pub code_is : code ≡ 104
+  pub adapter : new.adapter ≡ old.adapter
+  pub frame : frame_so_far new ≡ frame_so_far old
+
+-- a piece was refused, and the adapter is closed
+pub record RefusesAdapterPiece (old new : HeldAdapter) (piece : List ℕ) (code : ℕ) (found : YtFound) : Type 0 where
+  pub fault : AdapterFault
+  pub code_is : code ≡ adapter_number fault
+  pub found_is : IsAdapterFaultFound fault found
+  pub why : old.adapter.fault ≡ None → TakeRefused old.adapter.intake (state_of old.adapter) piece fault new.adapter.debuggee
+  pub latches : new.adapter.fault ≡ Some fault
+  pub session : new.adapter.session ≡ old.adapter.session
+  pub held : new.adapter.intake.held ≡ []
+
+-- the code of a turn, and what is to be written then
+abbrev pub IsTurn : Turned → ℕ → List ℕ → Type 0
+IsTurn Idle code bytes = (code ≡ 4) × (bytes ≡ [])
+IsTurn (Done written) code bytes = (code ≡ 0) × (bytes ≡ written.items)
+
+-- a request was handled, or none waits, as dap_adapter says it
+pub record AdapterTurns (old new : HeldAdapter) (code : ℕ) : Type 0 where
+  pub turned : Turned
+  pub gives : TurnGives shown_live FollowsLive old.adapter turned new.adapter
+  pub is : IsTurn turned code new.bytes.items
+  pub fewer : AreFewer turned old.adapter.session.kept new.adapter.session.kept
+
+-- a turn was refused, and the adapter is closed
+pub record RefusesTurn (old new : HeldAdapter) (code : ℕ) (found : YtFound) : Type 0 where
+  pub fault : AdapterFault
+  pub code_is : code ≡ adapter_number fault
+  pub found_is : IsAdapterFaultFound fault found
+  pub why : old.adapter.fault ≡ None → TurnRefused shown_live old.adapter fault new.adapter
+  pub latches : new.adapter.fault ≡ Some fault
+  pub held : new.adapter.intake.held ≡ []
+
+-- what the host said was heard, or dropped for a reason
+abbrev pub IsToldCode : ℕ → Type 0
+IsToldCode code = (code ≡ 0) ⊎ (code ≡ 51) ⊎ (code ≡ 52) ⊎ (code ≡ 53) ⊎ (code ≡ 54) ⊎ (code ≡ 55)
+
+-- the debuggee was asked what happened, and that was told
+pub record AdapterSaw (old new : HeldAdapter) (code : ℕ) (found : YtFound) : Type 0 where
+  pub code_is : IsToldCode code
+  pub saw : Saw FollowsLive old.adapter new.bytes.items new.adapter
+  pub bytes_length : found.bytes ≡ length new.bytes.items
+  pub is_open : new.adapter.fault ≡ None
+
+-- a poll was refused, and the adapter is closed
+pub record RefusesPoll (old new : HeldAdapter) (code : ℕ) (found : YtFound) : Type 0 where
+  pub fault : AdapterFault
+  pub code_is : code ≡ adapter_number fault
+  pub found_is : IsAdapterFaultFound fault found
+  pub why : old.adapter.fault ≡ None → PollRefused FollowsLive old.adapter fault new.adapter
+  pub latches : new.adapter.fault ≡ Some fault
+  pub session : new.adapter.session ≡ old.adapter.session
+  pub held : new.adapter.intake.held ≡ []
+
+-- a recording that is none, or memory that was refused, as a code
+abbrev pub IsCodeOfRecording : ℕ → Type 0
+IsCodeOfRecording code = (code ≡ 107) ⊎ (code ≡ 104)
+
+-- the same, or a text that is none
+abbrev pub IsCodeOfText : ℕ → Type 0
+IsCodeOfText code = (code ≡ 103) ⊎ IsCodeOfRecording code
+
+-- the same, or limits that are out of their ranges
+abbrev pub IsCodeOfOpen : ℕ → Type 0
+IsCodeOfOpen code = (code ≡ 101) ⊎ IsCodeOfRecording code
+
+-- what the host says could not be read, and the adapter is as it was
+pub record IsUntold (old new : HeldAdapter) (code : ℕ) : Type 0 where
+  pub code_is : IsCodeOfText code
+  pub adapter : new.adapter ≡ old.adapter
+
+-- the session is as it was, with what is to be written and the frame
+pub record KeepsSession (old new : HeldAdapter) : Type 0 where
+  pub adapter : new.adapter ≡ old.adapter
+  pub bytes : new.bytes ≡ old.bytes
+  pub frame : new.frame ≡ old.frame
+  pub whole : new.whole ≡ old.whole

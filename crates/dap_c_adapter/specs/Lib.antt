@@ -1,0 +1,5 @@
+pub mod Acts
+pub mod AdapterCalls
+pub mod AdapterFaults
+pub mod AdapterHandled
+pub mod AdapterSeen

@@ -1,0 +1,372 @@
+//! The adapter's end behind a handle, over a debuggee that the host feeds.
+//!
+//! Bytes of a client come in; answers and events to be written go out. What an adapter is and does is in `dap_adapter`, and
+//! what the debuggee shows in `dap_live`; each export has the clauses of its function there. Only the adapter behind the
+//! handle and what the caller lends for an answer are touched.
+ghost use Rattle.std.specs.Prelude.{◌≡◌, ◌⊎◌, ◌<◌, ◌≤◌, ◌++◌, [], length, drop, take, IfOk, IfErr, OnOk, OnErr, IfSome, IsSome, Some, None, true, false, is_some, vec_len, vec_capacity, if◌then◌else◌, ◌+◌};
+ghost use Rattle.dap_frame.specs.Settings.{first_outside};
+ghost use Rattle.dap_session.specs.Session.{fresh_session};
+ghost use Rattle.dap_session.specs.declared.fault.AdapterFault.{AdapterFault as TheFault};
+ghost use Rattle.dap_adapter.specs.StandsFor.{StandsFor};
+ghost use Rattle.dap_c_adapter.specs.AdapterCalls.{AdapterTakes, RefusesAdapterPiece, IsAdapterAsBefore, AdapterTurns, RefusesTurn, frame_so_far, IsCodeOfOpen};
+ghost use Rattle.dap_c_adapter.specs.AdapterFaults.{adapter_number, IsAdapterFaultFound};
+ghost use Rattle.dap_c_parts.specs.Behind.{FromTo};
+ghost use Rattle.dap_c_parts.specs.Limited.{settings_of};
+
+use crate::adapter_handle::{YtAdapter, full, taken};
+use crate::held_adapter::HeldAdapter;
+use crate::telling::recording_given;
+use dap_adapter::{Adapter, AdapterFault, Taken, Turned};
+use dap_c_parts::causes::{body_cause, cause_of};
+use dap_c_parts::codes::*;
+use dap_c_parts::copying::put;
+use dap_c_parts::found::{YtFound, fault_at, nothing_found};
+use dap_c_parts::limits::{self, YtLimits};
+use dap_frame::Limits;
+use dap_live::{Live, Mail};
+use dap_replay::Recorded;
+use std::alloc::Global;
+use std::rc::Rc;
+
+/// The adapter over a debuggee with these sources.
+fn adapter_over(
+    alloc: Global,
+    limits: Limits,
+    base: Recorded,
+    mail: Rc<Mail>,
+) -> Option<Adapter<Live>>
+    ensures session { IfSome result (λ a. a.session ≡ fresh_session limits) }
+    ensures fault { IfSome result (λ a. a.fault ≡ None) }
+    ensures stands { IfSome result (λ a. StandsFor a [] []) }
+{
+    match Adapter::open(alloc, limits, Live::open(alloc, base, mail)) {
+        Ok(adapter) => Some(adapter),
+        Err(_) => None,
+    }
+}
+
+fn opened(alloc: Global, limits: &YtLimits, base: &[u8]) -> Result<Box<HeldAdapter>, u32>
+    ensures session { IfOk result (λ b. b.value.adapter.session ≡ fresh_session (settings_of limits.now)) }
+    ensures fault { IfOk result (λ b. b.value.adapter.fault ≡ None) }
+    ensures stands { IfOk result (λ b. StandsFor b.value.adapter [] []) }
+    ensures in_range { OnOk result (first_outside (settings_of limits.now) ≡ None) }
+    ensures refused { IfErr result (λ code. code ≡ YT_BAD_LIMITS → IsSome (first_outside (settings_of limits.now))) }
+    ensures code { IfErr result IsCodeOfOpen }
+{
+    let Ok(limits) = limits::read(limits) else {
+        return Err(YT_BAD_LIMITS);
+    };
+    let base = recording_given(alloc, base)?;
+    let Ok(mail) = Rc::new(alloc, Mail::new(alloc)) else {
+        return Err(YT_NO_MEMORY);
+    };
+    let Ok(other) = mail.clone() else {
+        return Err(YT_NO_MEMORY);
+    };
+    let Some(adapter) = adapter_over(alloc, limits, base, other) else {
+        return Err(YT_NO_MEMORY);
+    };
+    boxed(alloc, adapter, mail)
+}
+
+fn boxed(alloc: Global, adapter: Adapter<Live>, mail: Rc<Mail>) -> Result<Box<HeldAdapter>, u32>
+    ensures adapter { IfOk result (λ b. b.value.adapter ≡ adapter) }
+    ensures code { IfErr result (λ code. code ≡ YT_NO_MEMORY) }
+{
+    let held = HeldAdapter {
+        adapter,
+        mail,
+        bytes: Vec::new(alloc),
+        frame: Vec::new(alloc),
+        whole: false,
+        acts: Vec::new(alloc),
+        act: None,
+        variables: Vec::new(alloc),
+    };
+    match Box::new(alloc, held) {
+        Ok(held) => Ok(held),
+        Err(_) => Err(YT_NO_MEMORY),
+    }
+}
+
+/// Opens an adapter, and lets go what the handle held. `base` is a recording (docs/RECORDINGS.md) whose sources are the
+/// debuggee's; its moments do not matter. Where it answers other than `YT_OK`, the handle holds none.
+#[unsafe(no_mangle)]
+pub extern "C" fn yt_adapter_open(
+    alloc: Global,
+    adapter: &mut YtAdapter,
+    limits: &YtLimits,
+    base: &[u8],
+) -> u32
+    ensures open { result ≡ YT_OK → IsSome adapter.new.inner.value }
+    ensures closed { (result ≡ YT_OK → ⊥) → adapter.new.inner.value ≡ None }
+    ensures session { IfSome adapter.new.inner.value (λ a. a.adapter.session ≡ fresh_session (settings_of limits.now)) }
+    ensures fault { IfSome adapter.new.inner.value (λ a. a.adapter.fault ≡ None) }
+    ensures stands { IfSome adapter.new.inner.value (λ a. StandsFor a.adapter [] []) }
+    ensures refused { result ≡ YT_BAD_LIMITS → IsSome (first_outside (settings_of limits.now)) }
+    ensures in_range { result ≡ YT_OK → first_outside (settings_of limits.now) ≡ None }
+{
+    taken(alloc, adapter);
+    match opened(alloc, limits, base) {
+        Ok(held) => {
+            *adapter = full(held);
+            YT_OK
+        }
+        Err(code) => code,
+    }
+}
+
+/// Lets go what the handle held.
+#[unsafe(no_mangle)]
+pub extern "C" fn yt_adapter_free(alloc: Global, adapter: &mut YtAdapter)
+    ensures { adapter.new.inner.value ≡ None }
+{
+    taken(alloc, adapter);
+}
+
+pub(crate) fn adapter_code(fault: AdapterFault) -> u32
+    ensures { result ≡ adapter_number fault }
+{
+    match fault {
+        AdapterFault::Frame(_) => YT_FRAME,
+        AdapterFault::Body { .. } => YT_BODY,
+        AdapterFault::RepeatedSeq { .. } => YT_REPEATED_SEQ,
+        AdapterFault::Unmatched { .. } => YT_UNMATCHED,
+        AdapterFault::CommandMismatch { .. } => YT_COMMAND_MISMATCH,
+        AdapterFault::Ended => YT_ENDED,
+        AdapterFault::SeqExhausted => YT_SEQ_EXHAUSTED,
+        AdapterFault::OutOfMemory => YT_NO_MEMORY,
+    }
+}
+
+pub(crate) fn adapter_fault_found(fault: AdapterFault) -> YtFound
+    ensures { IsAdapterFaultFound fault result }
+{
+    match fault {
+        AdapterFault::Frame(fault) => fault_at(fault.offset, cause_of(fault.cause)),
+        AdapterFault::Body { cause, offset } => fault_at(offset, body_cause(cause)),
+        AdapterFault::RepeatedSeq { seq } => fault_at(seq, 0),
+        AdapterFault::Unmatched { request_seq } => fault_at(request_seq, 0),
+        AdapterFault::CommandMismatch { request_seq } => fault_at(request_seq, 0),
+        AdapterFault::Ended | AdapterFault::SeqExhausted | AdapterFault::OutOfMemory => {
+            fault_at(0, 0)
+        }
+    }
+}
+
+/// A frame that was whole is let go: the bytes of the next one are gathered from now on.
+fn begin_frame(held: &mut HeldAdapter)
+    ensures frame { held.new.frame.items ≡ frame_so_far held.old }
+    ensures whole { held.new.whole ≡ false }
+    ensures adapter { held.new.adapter ≡ held.old.adapter }
+    ensures bytes { held.new.bytes.items ≡ [] }
+{
+    held.bytes.clear();
+    if held.whole {
+        held.frame.clear();
+        held.whole = false;
+    }
+}
+
+/// Keeps what an adapter gave, and the bytes that it used.
+fn keep(held: &mut HeldAdapter, piece: &[u8], taken: Taken) -> YtFound
+    requires room { vec_len held.old.frame + length piece.now ≤ vec_capacity held.old.frame }
+    requires used { taken.used ≤ length piece.now }
+    ensures used { result.used ≡ taken.used }
+    ensures bytes { held.new.bytes.items ≡ taken.bytes.items }
+    ensures bytes_length { result.bytes ≡ length taken.bytes.items }
+    ensures whole { held.new.whole ≡ is_some taken.delivered }
+    ensures frame { held.new.frame.items ≡ held.old.frame.items ++ take taken.used piece.now }
+    ensures frame_length { result.frame ≡ (if is_some taken.delivered then length held.new.frame.items else 0) }
+    ensures adapter { held.new.adapter ≡ held.old.adapter }
+{
+    let Taken {
+        used,
+        delivered,
+        bytes,
+    } = taken;
+    let (front, _) = piece.split_at(used);
+    let Ok(()) = held.frame.extend_from_slice(front) else {
+        unreachable!()
+    };
+    held.whole = delivered.is_some();
+    held.bytes = bytes;
+    YtFound {
+        used,
+        bytes: held.bytes.len(),
+        frame: if held.whole { held.frame.len() } else { 0 },
+        at: 0,
+        cause: 0,
+    }
+}
+
+fn take_piece(alloc: Global, held: &mut HeldAdapter, piece: &[u8], found: &mut YtFound) -> u32
+    ensures takes { result ≡ YT_OK → AdapterTakes held.old held.new piece.now found.new }
+    ensures progress { result ≡ YT_OK → 0 < length piece.now → 0 < found.new.used }
+    ensures within { result ≡ YT_OK → found.new.used ≤ length piece.now }
+    ensures open { result ≡ YT_OK → held.new.adapter.fault ≡ None }
+    ensures limits { held.new.adapter.session.limits ≡ held.old.adapter.session.limits }
+    ensures refuses { (result ≡ YT_OK → ⊥) → IsAdapterAsBefore held.old held.new result ⊎ RefusesAdapterPiece held.old held.new piece.now result found.new }
+    ensures tables { (result ≡ YT_OK → ⊥) → held.new.adapter.session ≡ held.old.adapter.session }
+    ensures latched { IfSome held.old.adapter.fault (λ fault. ((result ≡ YT_NO_MEMORY) ⊎ (result ≡ adapter_number fault)) × (held.new.adapter ≡ held.old.adapter)) }
+{
+    begin_frame(held);
+    if held.frame.reserve(piece.len()).is_err() {
+        *found = nothing_found();
+        return YT_NO_MEMORY;
+    }
+    match held.adapter.take(alloc, piece) {
+        Ok(taken) => {
+            *found = keep(held, piece, taken);
+            YT_OK
+        }
+        Err(fault) => {
+            *found = adapter_fault_found(fault);
+            adapter_code(fault)
+        }
+    }
+}
+
+/// Uses the bytes of a piece up to the end of one frame at most. What is to be written is fetched by `yt_adapter_bytes`, and
+/// the frame that became whole by `yt_adapter_frame`, before the next call on the handle. Where it answers other than
+/// `YT_OK`, the adapter is closed, and answers that from then on; but where it is `YT_NO_MEMORY`, it may have been refused
+/// before anything was taken, and the same piece can be given once more.
+#[unsafe(no_mangle)]
+pub extern "C" fn yt_adapter_take(
+    alloc: Global,
+    adapter: &mut YtAdapter,
+    piece: &[u8],
+    found: &mut YtFound,
+) -> u32
+    ensures none { adapter.old.inner.value ≡ None → (result ≡ YT_NONE) × (adapter.new.inner.value ≡ None) × (found.new ≡ found.old) }
+    ensures held { IsSome adapter.old.inner.value → IsSome adapter.new.inner.value }
+    ensures takes { FromTo adapter.old.inner.value adapter.new.inner.value (λ a b. result ≡ YT_OK → AdapterTakes a b piece.now found.new) }
+    ensures progress { result ≡ YT_OK → 0 < length piece.now → 0 < found.new.used }
+    ensures within { result ≡ YT_OK → found.new.used ≤ length piece.now }
+    ensures open { FromTo adapter.old.inner.value adapter.new.inner.value (λ a b. result ≡ YT_OK → b.adapter.fault ≡ None) }
+    ensures limits { FromTo adapter.old.inner.value adapter.new.inner.value (λ a b. b.adapter.session.limits ≡ a.adapter.session.limits) }
+    ensures refuses { FromTo adapter.old.inner.value adapter.new.inner.value (λ a b. (result ≡ YT_OK → ⊥) → IsAdapterAsBefore a b result ⊎ RefusesAdapterPiece a b piece.now result found.new) }
+    ensures tables { FromTo adapter.old.inner.value adapter.new.inner.value (λ a b. (result ≡ YT_OK → ⊥) → b.adapter.session ≡ a.adapter.session) }
+    ensures latched { (fault : TheFault) → FromTo adapter.old.inner.value adapter.new.inner.value (λ a b. a.adapter.fault ≡ Some fault → ((result ≡ YT_NO_MEMORY) ⊎ (result ≡ adapter_number fault)) × (b.adapter ≡ a.adapter)) }
+{
+    let Some(mut held) = taken(alloc, adapter) else {
+        return YT_NONE;
+    };
+    let code = take_piece(alloc, &mut *held, piece, found);
+    *adapter = full(held);
+    code
+}
+
+/// What is to be written, and no frame.
+pub(crate) fn only_bytes(held: &HeldAdapter) -> YtFound
+    ensures { result.bytes ≡ length held.now.bytes.items }
+{
+    YtFound {
+        used: 0,
+        bytes: held.bytes.len(),
+        frame: 0,
+        at: 0,
+        cause: 0,
+    }
+}
+
+fn turn(alloc: Global, held: &mut HeldAdapter, found: &mut YtFound) -> u32
+    ensures turns { (result ≡ YT_OK) ⊎ (result ≡ YT_IDLE) → AdapterTurns held.old held.new result }
+    ensures length { (result ≡ YT_OK) ⊎ (result ≡ YT_IDLE) → found.new.bytes ≡ length held.new.bytes.items }
+    ensures open { (result ≡ YT_OK) ⊎ (result ≡ YT_IDLE) → held.new.adapter.fault ≡ None }
+    ensures limits { held.new.adapter.session.limits ≡ held.old.adapter.session.limits }
+    ensures refuses { (result ≡ YT_OK → ⊥) → (result ≡ YT_IDLE → ⊥) → RefusesTurn held.old held.new result found.new }
+    ensures tables { (result ≡ YT_OK → ⊥) → (result ≡ YT_IDLE → ⊥) → held.new.adapter.session ≡ held.old.adapter.session }
+    ensures frame { (held.new.frame ≡ held.old.frame) × (held.new.whole ≡ held.old.whole) }
+{
+    held.bytes.clear();
+    match held.adapter.turn(alloc) {
+        Ok(Turned::Idle) => {
+            *found = nothing_found();
+            YT_IDLE
+        }
+        Ok(Turned::Done { bytes }) => {
+            held.bytes = bytes;
+            *found = only_bytes(held);
+            YT_OK
+        }
+        Err(fault) => {
+            *found = adapter_fault_found(fault);
+            adapter_code(fault)
+        }
+    }
+}
+
+/// Handles the request that came first of those that are not parked: `YT_IDLE` where none waits. What is to be written is
+/// fetched by `yt_adapter_bytes` before the next call on the handle.
+#[unsafe(no_mangle)]
+pub extern "C" fn yt_adapter_turn(
+    alloc: Global,
+    adapter: &mut YtAdapter,
+    found: &mut YtFound,
+) -> u32
+    ensures none { adapter.old.inner.value ≡ None → (result ≡ YT_NONE) × (adapter.new.inner.value ≡ None) × (found.new ≡ found.old) }
+    ensures held { IsSome adapter.old.inner.value → IsSome adapter.new.inner.value }
+    ensures turns { FromTo adapter.old.inner.value adapter.new.inner.value (λ a b. (result ≡ YT_OK) ⊎ (result ≡ YT_IDLE) → AdapterTurns a b result) }
+    ensures length { FromTo adapter.old.inner.value adapter.new.inner.value (λ a b. (result ≡ YT_OK) ⊎ (result ≡ YT_IDLE) → found.new.bytes ≡ length b.bytes.items) }
+    ensures open { FromTo adapter.old.inner.value adapter.new.inner.value (λ a b. (result ≡ YT_OK) ⊎ (result ≡ YT_IDLE) → b.adapter.fault ≡ None) }
+    ensures limits { FromTo adapter.old.inner.value adapter.new.inner.value (λ a b. b.adapter.session.limits ≡ a.adapter.session.limits) }
+    ensures refuses { FromTo adapter.old.inner.value adapter.new.inner.value (λ a b. (result ≡ YT_OK → ⊥) → (result ≡ YT_IDLE → ⊥) → RefusesTurn a b result found.new) }
+    ensures frame { FromTo adapter.old.inner.value adapter.new.inner.value (λ a b. (b.frame ≡ a.frame) × (b.whole ≡ a.whole)) }
+{
+    let Some(mut held) = taken(alloc, adapter) else {
+        return YT_NONE;
+    };
+    let code = turn(alloc, &mut *held, found);
+    *adapter = full(held);
+    code
+}
+
+/// Puts what is to be written into a buffer.
+#[unsafe(no_mangle)]
+pub extern "C" fn yt_adapter_bytes(alloc: Global, adapter: &mut YtAdapter, out: &mut [u8]) -> u32
+    ensures none { adapter.old.inner.value ≡ None → (result ≡ YT_NONE) × (out.new ≡ out.old) }
+    ensures same { adapter.new.inner.value ≡ adapter.old.inner.value }
+    ensures bytes { IfSome adapter.old.inner.value (λ a. result ≡ YT_OK → out.new ≡ a.bytes.items ++ drop (length a.bytes.items) out.old) }
+    ensures small { IfSome adapter.old.inner.value (λ a. result ≡ YT_SMALL → (length out.old < length a.bytes.items) × (out.new ≡ out.old)) }
+    ensures codes { IsSome adapter.old.inner.value → (result ≡ YT_SMALL → ⊥) → result ≡ YT_OK }
+{
+    let Some(held) = taken(alloc, adapter) else {
+        return YT_NONE;
+    };
+    let code = put(held.bytes.as_slice(), out);
+    *adapter = full(held);
+    code
+}
+
+fn put_frame(held: &HeldAdapter, out: &mut [u8]) -> u32
+    ensures frame { result ≡ YT_OK → (held.now.whole ≡ true) × (out.new ≡ held.now.frame.items ++ drop (length held.now.frame.items) out.old) }
+    ensures small { result ≡ YT_SMALL → (length out.old < length held.now.frame.items) × (out.new ≡ out.old) }
+    ensures nothing { result ≡ YT_NOTHING → (held.now.whole ≡ false) × (out.new ≡ out.old) }
+    ensures codes { (result ≡ YT_OK → ⊥) → (result ≡ YT_SMALL → ⊥) → result ≡ YT_NOTHING }
+{
+    if held.whole {
+        put(held.frame.as_slice(), out)
+    } else {
+        YT_NOTHING
+    }
+}
+
+/// Puts the frame whose message the last call of `yt_adapter_take` delivered into a buffer, with its header block:
+/// `YT_NOTHING` where it delivered none.
+#[unsafe(no_mangle)]
+pub extern "C" fn yt_adapter_frame(alloc: Global, adapter: &mut YtAdapter, out: &mut [u8]) -> u32
+    ensures none { adapter.old.inner.value ≡ None → (result ≡ YT_NONE) × (out.new ≡ out.old) }
+    ensures same { adapter.new.inner.value ≡ adapter.old.inner.value }
+    ensures frame { IfSome adapter.old.inner.value (λ a. result ≡ YT_OK → (a.whole ≡ true) × (out.new ≡ a.frame.items ++ drop (length a.frame.items) out.old)) }
+    ensures small { IfSome adapter.old.inner.value (λ a. result ≡ YT_SMALL → (length out.old < length a.frame.items) × (out.new ≡ out.old)) }
+    ensures nothing { IfSome adapter.old.inner.value (λ a. result ≡ YT_NOTHING → (a.whole ≡ false) × (out.new ≡ out.old)) }
+    ensures codes { IsSome adapter.old.inner.value → (result ≡ YT_OK → ⊥) → (result ≡ YT_SMALL → ⊥) → result ≡ YT_NOTHING }
+{
+    let Some(held) = taken(alloc, adapter) else {
+        return YT_NONE;
+    };
+    let code = put_frame(&*held, out);
+    *adapter = full(held);
+    code
+}

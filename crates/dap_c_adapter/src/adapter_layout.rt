@@ -1,0 +1,29 @@
+//! How large the adapter's structs are that cross to C. Nothing is touched but the answer.
+
+use crate::acts::YtAct;
+use crate::adapter_handle::YtAdapter;
+use crate::adapter_state::{YtAdapterSeen, YtTarget};
+use std::mem::size_of;
+
+/// The size of each struct of the adapter, in bytes.
+#[repr(C)]
+#[derive(Drop)]
+pub struct YtAdapterSizes {
+    pub adapter: usize,
+    pub act: usize,
+    pub adapter_seen: usize,
+    pub target: usize,
+    pub adapter_sizes: usize,
+}
+
+/// Tells the size of each struct of the adapter.
+#[unsafe(no_mangle)]
+pub extern "C" fn yt_adapter_sizes_of(sizes: &mut YtAdapterSizes) {
+    *sizes = YtAdapterSizes {
+        adapter: size_of::<YtAdapter>(),
+        act: size_of::<YtAct>(),
+        adapter_seen: size_of::<YtAdapterSeen>(),
+        target: size_of::<YtTarget>(),
+        adapter_sizes: size_of::<YtAdapterSizes>(),
+    };
+}

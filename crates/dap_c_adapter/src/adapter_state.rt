@@ -1,0 +1,137 @@
+//! What can be seen of an adapter: the adapter behind a handle is read, and what is seen goes out. Nothing is changed.
+ghost use Rattle.std.specs.Prelude.{◌≡◌, length, IfSome, IsSome, None};
+ghost use Rattle.dap_tables.specs.References.{target_of};
+ghost use Rattle.dap_c_adapter.specs.AdapterSeen.{IsAdapterState, IsTarget, phase_number, kind_number};
+
+use crate::adapter_handle::{YtAdapter, full, taken};
+use crate::held_adapter::HeldAdapter;
+use dap_adapter::{Adapter, Phase, ReferenceKind};
+use dap_c_parts::codes::{YT_NONE, YT_NOTHING, YT_OK};
+use dap_live::Live;
+use std::alloc::Global;
+
+/// What is seen of an adapter.
+#[repr(C)]
+#[derive(Drop)]
+pub struct YtAdapterSeen {
+    /// Requests that are kept.
+    pub kept: usize,
+    /// References that are live.
+    pub references: usize,
+    /// Breakpoints that are set.
+    pub breakpoints: usize,
+    /// Own requests that are not answered: at most one, which asks for a terminal.
+    pub asked: usize,
+    /// Bytes held of the frame under way.
+    pub held: usize,
+    /// 0 fresh, 1 ready, 2 configured, 3 parked, 4 asked, 5 running, 6 stopped, 7 exited, 8 ended.
+    pub phase: u32,
+}
+
+/// What a number of the client names.
+#[repr(C)]
+#[derive(Drop)]
+pub struct YtTarget {
+    /// The debuggee's own number.
+    pub object: u64,
+    /// 1 a stack frame, 2 what holds variables.
+    pub kind: u32,
+}
+
+fn phase_code(phase: Phase) -> u32
+    ensures { result ≡ phase_number phase }
+{
+    match phase {
+        Phase::Fresh => 0,
+        Phase::Ready => 1,
+        Phase::Configured => 2,
+        Phase::Parked => 3,
+        Phase::Asked => 4,
+        Phase::Running => 5,
+        Phase::Stopped => 6,
+        Phase::Exited => 7,
+        Phase::Ended => 8,
+    }
+}
+
+fn kind_code(kind: ReferenceKind) -> u32
+    ensures { result ≡ kind_number kind }
+{
+    match kind {
+        ReferenceKind::Frame => 1,
+        ReferenceKind::Holder => 2,
+    }
+}
+
+fn state_of(adapter: &Adapter<Live>) -> YtAdapterSeen
+    ensures { IsAdapterState result adapter.now.session (length adapter.now.intake.held) }
+{
+    YtAdapterSeen {
+        kept: adapter.kept(),
+        references: adapter.references(),
+        breakpoints: adapter.breakpoints(),
+        asked: adapter.asked(),
+        held: adapter.held(),
+        phase: phase_code(adapter.phase()),
+    }
+}
+
+/// Tells what is seen of an adapter.
+#[unsafe(no_mangle)]
+pub extern "C" fn yt_adapter_state(
+    alloc: Global,
+    adapter: &mut YtAdapter,
+    state: &mut YtAdapterSeen,
+) -> u32
+    ensures none { adapter.old.inner.value ≡ None → (result ≡ YT_NONE) × (state.new ≡ state.old) }
+    ensures same { adapter.new.inner.value ≡ adapter.old.inner.value }
+    ensures ok { IsSome adapter.old.inner.value → result ≡ YT_OK }
+    ensures is { IfSome adapter.old.inner.value (λ a. IsAdapterState state.new a.adapter.session (length a.adapter.intake.held)) }
+{
+    let Some(held) = taken(alloc, adapter) else {
+        return YT_NONE;
+    };
+    *state = state_of(&held.adapter);
+    *adapter = full(held);
+    YT_OK
+}
+
+fn find_target(held: &HeldAdapter, number: u32, target: &mut YtTarget) -> u32
+    ensures target { result ≡ YT_OK → IfSome (target_of held.now.adapter.session.references number) (IsTarget target.new) }
+    ensures some { result ≡ YT_OK → IsSome (target_of held.now.adapter.session.references number) }
+    ensures nothing { (result ≡ YT_OK → ⊥) → (result ≡ YT_NOTHING) × (target_of held.now.adapter.session.references number ≡ None) × (target.new ≡ target.old) }
+{
+    match held.adapter.target(number) {
+        None => YT_NOTHING,
+        Some(found) => {
+            *target = YtTarget {
+                object: found.object,
+                kind: kind_code(found.kind),
+            };
+            YT_OK
+        }
+    }
+}
+
+/// Finds the frame, or what holds variables, that a number of the client names while it is live: a `frameId` or a
+/// `variablesReference` of a request. `YT_NOTHING` where it names none.
+#[unsafe(no_mangle)]
+pub extern "C" fn yt_adapter_target(
+    alloc: Global,
+    adapter: &mut YtAdapter,
+    number: u32,
+    target: &mut YtTarget,
+) -> u32
+    ensures none { adapter.old.inner.value ≡ None → (result ≡ YT_NONE) × (target.new ≡ target.old) }
+    ensures same { adapter.new.inner.value ≡ adapter.old.inner.value }
+    ensures target { IfSome adapter.old.inner.value (λ a. result ≡ YT_OK → IfSome (target_of a.adapter.session.references number) (IsTarget target.new)) }
+    ensures some { IfSome adapter.old.inner.value (λ a. result ≡ YT_OK → IsSome (target_of a.adapter.session.references number)) }
+    ensures nothing { IfSome adapter.old.inner.value (λ a. (result ≡ YT_OK → ⊥) → (result ≡ YT_NOTHING) × (target_of a.adapter.session.references number ≡ None) × (target.new ≡ target.old)) }
+{
+    let Some(held) = taken(alloc, adapter) else {
+        return YT_NONE;
+    };
+    let code = find_target(&*held, number, target);
+    *adapter = full(held);
+    code
+}

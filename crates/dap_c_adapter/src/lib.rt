@@ -1,0 +1,29 @@
+//! The adapter's end for programs in C, over a debuggee that the caller feeds: a debugger in another language.
+//!
+//! It is of the same kind as `dap_c`, whose head says how. The host is not called: it fetches what it has to do, and says what
+//! happened. A file a concern: `adapter` has the session, `telling` what the host says, `acts` what it has to do.
+#![tactic(auto)]
+
+mod acts;
+mod adapter;
+mod adapter_handle;
+mod adapter_layout;
+mod adapter_state;
+mod held_adapter;
+mod telling;
+
+pub use acts::{
+    YtAct, yt_adapter_act, yt_adapter_lines, yt_adapter_name, yt_adapter_source, yt_adapter_value,
+};
+pub use adapter::{
+    yt_adapter_bytes, yt_adapter_frame, yt_adapter_free, yt_adapter_open, yt_adapter_take,
+    yt_adapter_turn,
+};
+pub use adapter_handle::{AdapterHandle, YtAdapter};
+pub use adapter_layout::{YtAdapterSizes, yt_adapter_sizes_of};
+pub use adapter_state::{YtAdapterSeen, YtTarget, yt_adapter_state, yt_adapter_target};
+pub use held_adapter::HeldAdapter;
+pub use telling::{
+    yt_adapter_continued, yt_adapter_exited, yt_adapter_learned, yt_adapter_output,
+    yt_adapter_sources, yt_adapter_stopped, yt_adapter_variable, yt_adapter_variables,
+};

@@ -1,0 +1,396 @@
+//! What a host says of its debuggee: what happened comes in, and what is to be written for it goes out.
+//!
+//! What does not happen in the state that the debuggee is in, or is out of its range, is dropped, and the code says why. No
+//! clause says what is shown then: it is what the host told, whatever that is. Only the adapter behind the handle and what
+//! the caller lends for an answer are touched.
+ghost use Rattle.std.specs.Prelude.{◌≡◌, ◌⊎◌, IfErr, IsSome, None, [], length};
+ghost use Rattle.dap_c_adapter.specs.AdapterCalls.{AdapterSaw, RefusesPoll, IsUntold, IsCodeOfText, IsCodeOfRecording, IsToldCode};
+ghost use Rattle.dap_c_parts.specs.Behind.{FromTo};
+
+use crate::adapter::{adapter_code, adapter_fault_found, only_bytes};
+use crate::adapter_handle::{YtAdapter, full, taken};
+use crate::held_adapter::HeldAdapter;
+use dap_c_parts::codes::*;
+use dap_c_parts::found::YtFound;
+use dap_debuggee::{Category, Variable};
+use dap_json::{List, Text};
+use dap_live::{Coming, Dropped, Mail};
+use dap_recording::RecordingFault;
+use dap_replay::Recorded;
+use std::alloc::Global;
+
+fn told_code(mail: &Mail) -> u32
+    ensures { IsToldCode result }
+{
+    // The debuggee was not asked: nothing happens in this phase.
+    if mail.take_coming().is_some() {
+        return YT_OUT_OF_TURN;
+    }
+    match mail.take_dropped() {
+        None => YT_OK,
+        Some(Dropped::OutOfTurn) => YT_OUT_OF_TURN,
+        Some(Dropped::OutOfRange) => YT_OUT_OF_RANGE,
+        Some(Dropped::TooManySources) => YT_TOO_MANY_SOURCES,
+        Some(Dropped::Told) => YT_TOLD,
+        Some(Dropped::TooManyHolders) => YT_TOO_MANY_HOLDERS,
+    }
+}
+
+/// Hands what the host says to the debuggee, and asks it what happened.
+fn tell(alloc: Global, held: &mut HeldAdapter, coming: Coming, found: &mut YtFound) -> u32
+    ensures tells { AdapterSaw held.old held.new result found.new ⊎ RefusesPoll held.old held.new result found.new }
+    ensures limits { held.new.adapter.session.limits ≡ held.old.adapter.session.limits }
+    ensures frame { (held.new.frame ≡ held.old.frame) × (held.new.whole ≡ held.old.whole) }
+{
+    held.bytes.clear();
+    held.mail.post(coming);
+    match held.adapter.poll(alloc) {
+        Ok(bytes) => {
+            held.bytes = bytes;
+            *found = only_bytes(held);
+            told_code(&held.mail)
+        }
+        Err(fault) => {
+            *found = adapter_fault_found(fault);
+            adapter_code(fault)
+        }
+    }
+}
+
+/// The same, where it could be read.
+fn tell_given(
+    alloc: Global,
+    held: &mut HeldAdapter,
+    coming: Result<Coming, u32>,
+    found: &mut YtFound,
+) -> u32
+    requires { IfErr coming IsCodeOfText }
+    ensures tells { AdapterSaw held.old held.new result found.new ⊎ RefusesPoll held.old held.new result found.new ⊎ IsUntold held.old held.new result }
+    ensures limits { held.new.adapter.session.limits ≡ held.old.adapter.session.limits }
+    ensures frame { (held.new.frame ≡ held.old.frame) × (held.new.whole ≡ held.old.whole) }
+{
+    match coming {
+        Ok(coming) => tell(alloc, held, coming, found),
+        Err(code) => {
+            held.bytes.clear();
+            *found = only_bytes(held);
+            code
+        }
+    }
+}
+
+/// The same, over a handle.
+fn tell_handle(
+    alloc: Global,
+    adapter: &mut YtAdapter,
+    coming: Result<Coming, u32>,
+    found: &mut YtFound,
+) -> u32
+    requires { IfErr coming IsCodeOfText }
+    ensures none { adapter.old.inner.value ≡ None → (result ≡ YT_NONE) × (adapter.new.inner.value ≡ None) × (found.new ≡ found.old) }
+    ensures held { IsSome adapter.old.inner.value → IsSome adapter.new.inner.value }
+    ensures tells { FromTo adapter.old.inner.value adapter.new.inner.value (λ a b. AdapterSaw a b result found.new ⊎ RefusesPoll a b result found.new ⊎ IsUntold a b result) }
+    ensures limits { FromTo adapter.old.inner.value adapter.new.inner.value (λ a b. b.adapter.session.limits ≡ a.adapter.session.limits) }
+    ensures frame { FromTo adapter.old.inner.value adapter.new.inner.value (λ a b. (b.frame ≡ a.frame) × (b.whole ≡ a.whole)) }
+{
+    let Some(mut held) = taken(alloc, adapter) else {
+        return YT_NONE;
+    };
+    let code = tell_given(alloc, &mut *held, coming, found);
+    *adapter = full(held);
+    code
+}
+
+fn text_given(alloc: Global, bytes: &[u8]) -> Result<Text, u32>
+    ensures { IfErr result IsCodeOfText }
+{
+    let Ok(text) = std::str::from_utf8(bytes) else {
+        return Err(YT_BAD_ARGUMENTS);
+    };
+    match Text::copied(alloc, text) {
+        Ok(text) => Ok(text),
+        Err(_) => Err(YT_NO_MEMORY),
+    }
+}
+
+pub(crate) fn recording_given(alloc: Global, bytes: &[u8]) -> Result<Recorded, u32>
+    ensures { IfErr result IsCodeOfRecording }
+{
+    match Recorded::read(alloc, bytes) {
+        Ok(recorded) => Ok(recorded),
+        Err(RecordingFault::OutOfMemory) => Err(YT_NO_MEMORY),
+        Err(_) => Err(YT_BAD_RECORDING),
+    }
+}
+
+fn output_given(alloc: Global, category: u32, output: &[u8]) -> Result<Coming, u32>
+    ensures { IfErr result IsCodeOfText }
+{
+    let category = match category {
+        0 => Category::Console,
+        1 => Category::Stdout,
+        2 => Category::Stderr,
+        _ => return Err(YT_BAD_ARGUMENTS),
+    };
+    let text = text_given(alloc, output)?;
+    Ok(Coming::Output { category, text })
+}
+
+fn stop_given(
+    alloc: Global,
+    reason: &[u8],
+    thread: i64,
+    shows: &[u8],
+    later: bool,
+) -> Result<Coming, u32>
+    ensures { IfErr result IsCodeOfText }
+{
+    let reason = text_given(alloc, reason)?;
+    let shows = recording_given(alloc, shows)?;
+    Ok(Coming::Stopped {
+        reason,
+        thread,
+        shows,
+        later,
+    })
+}
+
+/// Tells output: `category` is 0 console, 1 stdout, 2 stderr; at most 128 bytes of UTF-8.
+#[unsafe(no_mangle)]
+pub extern "C" fn yt_adapter_output(
+    alloc: Global,
+    adapter: &mut YtAdapter,
+    category: u32,
+    output: &[u8],
+    found: &mut YtFound,
+) -> u32
+    ensures none { adapter.old.inner.value ≡ None → (result ≡ YT_NONE) × (adapter.new.inner.value ≡ None) × (found.new ≡ found.old) }
+    ensures held { IsSome adapter.old.inner.value → IsSome adapter.new.inner.value }
+    ensures tells { FromTo adapter.old.inner.value adapter.new.inner.value (λ a b. AdapterSaw a b result found.new ⊎ RefusesPoll a b result found.new ⊎ IsUntold a b result) }
+    ensures limits { FromTo adapter.old.inner.value adapter.new.inner.value (λ a b. b.adapter.session.limits ≡ a.adapter.session.limits) }
+    ensures frame { FromTo adapter.old.inner.value adapter.new.inner.value (λ a b. (b.frame ≡ a.frame) × (b.whole ≡ a.whole)) }
+{
+    tell_handle(alloc, adapter, output_given(alloc, category, output), found)
+}
+
+/// Tells a stop: a reason of at most 64 bytes, the thread that stopped, and a recording (docs/RECORDINGS.md) whose first moment
+/// is what is shown. `later` says that more of it is told later, by `yt_adapter_variables`.
+#[unsafe(no_mangle)]
+pub extern "C" fn yt_adapter_stopped(
+    alloc: Global,
+    adapter: &mut YtAdapter,
+    reason: &[u8],
+    thread: i64,
+    shows: &[u8],
+    later: bool,
+    found: &mut YtFound,
+) -> u32
+    ensures none { adapter.old.inner.value ≡ None → (result ≡ YT_NONE) × (adapter.new.inner.value ≡ None) × (found.new ≡ found.old) }
+    ensures held { IsSome adapter.old.inner.value → IsSome adapter.new.inner.value }
+    ensures tells { FromTo adapter.old.inner.value adapter.new.inner.value (λ a b. AdapterSaw a b result found.new ⊎ RefusesPoll a b result found.new ⊎ IsUntold a b result) }
+    ensures limits { FromTo adapter.old.inner.value adapter.new.inner.value (λ a b. b.adapter.session.limits ≡ a.adapter.session.limits) }
+    ensures frame { FromTo adapter.old.inner.value adapter.new.inner.value (λ a b. (b.frame ≡ a.frame) × (b.whole ≡ a.whole)) }
+{
+    tell_handle(
+        alloc,
+        adapter,
+        stop_given(alloc, reason, thread, shows, later),
+        found,
+    )
+}
+
+/// Tells that it went on by itself.
+#[unsafe(no_mangle)]
+pub extern "C" fn yt_adapter_continued(
+    alloc: Global,
+    adapter: &mut YtAdapter,
+    thread: i64,
+    found: &mut YtFound,
+) -> u32
+    ensures none { adapter.old.inner.value ≡ None → (result ≡ YT_NONE) × (adapter.new.inner.value ≡ None) × (found.new ≡ found.old) }
+    ensures held { IsSome adapter.old.inner.value → IsSome adapter.new.inner.value }
+    ensures tells { FromTo adapter.old.inner.value adapter.new.inner.value (λ a b. AdapterSaw a b result found.new ⊎ RefusesPoll a b result found.new ⊎ IsUntold a b result) }
+    ensures limits { FromTo adapter.old.inner.value adapter.new.inner.value (λ a b. b.adapter.session.limits ≡ a.adapter.session.limits) }
+    ensures frame { FromTo adapter.old.inner.value adapter.new.inner.value (λ a b. (b.frame ≡ a.frame) × (b.whole ≡ a.whole)) }
+{
+    tell_handle(alloc, adapter, Ok(Coming::Continued { thread }), found)
+}
+
+/// Tells that it exited.
+#[unsafe(no_mangle)]
+pub extern "C" fn yt_adapter_exited(
+    alloc: Global,
+    adapter: &mut YtAdapter,
+    code: i32,
+    found: &mut YtFound,
+) -> u32
+    ensures none { adapter.old.inner.value ≡ None → (result ≡ YT_NONE) × (adapter.new.inner.value ≡ None) × (found.new ≡ found.old) }
+    ensures held { IsSome adapter.old.inner.value → IsSome adapter.new.inner.value }
+    ensures tells { FromTo adapter.old.inner.value adapter.new.inner.value (λ a b. AdapterSaw a b result found.new ⊎ RefusesPoll a b result found.new ⊎ IsUntold a b result) }
+    ensures limits { FromTo adapter.old.inner.value adapter.new.inner.value (λ a b. b.adapter.session.limits ≡ a.adapter.session.limits) }
+    ensures frame { FromTo adapter.old.inner.value adapter.new.inner.value (λ a b. (b.frame ≡ a.frame) × (b.whole ≡ a.whole)) }
+{
+    tell_handle(alloc, adapter, Ok(Coming::Exited { code }), found)
+}
+
+/// What holds the parts of a value, where it has some.
+fn holder_given(has_parts: bool, holder: u64) -> Option<u64> {
+    if has_parts { Some(holder) } else { None }
+}
+
+fn value_given(
+    alloc: Global,
+    asked: &[u8],
+    known: bool,
+    value: &[u8],
+    holder: Option<u64>,
+) -> Result<Coming, u32>
+    ensures { IfErr result IsCodeOfText }
+{
+    let text = text_given(alloc, asked)?;
+    let value = text_given(alloc, value)?;
+    Ok(Coming::Learned {
+        text,
+        value: if known { Some(value) } else { None },
+        holder,
+    })
+}
+
+fn variable_given(
+    alloc: Global,
+    name: &[u8],
+    value: &[u8],
+    holder: Option<u64>,
+) -> Result<Variable, u32>
+    ensures { IfErr result IsCodeOfText }
+{
+    let name = text_given(alloc, name)?;
+    let value = text_given(alloc, value)?;
+    Ok(Variable {
+        name,
+        value,
+        holder,
+    })
+}
+
+/// Tells what a text comes to, or that it has no value, between `yt_adapter_take` of the request that asks it and the turn.
+/// `holder` holds the parts of the value, where it has some.
+#[unsafe(no_mangle)]
+pub extern "C" fn yt_adapter_learned(
+    alloc: Global,
+    adapter: &mut YtAdapter,
+    asked: &[u8],
+    known: bool,
+    value: &[u8],
+    has_parts: bool,
+    holder: u64,
+    found: &mut YtFound,
+) -> u32
+    ensures none { adapter.old.inner.value ≡ None → (result ≡ YT_NONE) × (adapter.new.inner.value ≡ None) × (found.new ≡ found.old) }
+    ensures held { IsSome adapter.old.inner.value → IsSome adapter.new.inner.value }
+    ensures tells { FromTo adapter.old.inner.value adapter.new.inner.value (λ a b. AdapterSaw a b result found.new ⊎ RefusesPoll a b result found.new ⊎ IsUntold a b result) }
+    ensures limits { FromTo adapter.old.inner.value adapter.new.inner.value (λ a b. b.adapter.session.limits ≡ a.adapter.session.limits) }
+    ensures frame { FromTo adapter.old.inner.value adapter.new.inner.value (λ a b. (b.frame ≡ a.frame) × (b.whole ≡ a.whole)) }
+{
+    let holder = holder_given(has_parts, holder);
+    let coming = value_given(alloc, asked, known, value, holder);
+    tell_handle(alloc, adapter, coming, found)
+}
+
+fn keep_variable(held: &mut HeldAdapter, variable: Result<Variable, u32>) -> u32
+    requires { IfErr variable IsCodeOfText }
+    ensures code { (result ≡ YT_OK → ⊥) → IsCodeOfText result }
+    ensures adapter { held.new.adapter ≡ held.old.adapter }
+    ensures others { (held.new.bytes ≡ held.old.bytes) × (held.new.frame ≡ held.old.frame) × (held.new.whole ≡ held.old.whole) }
+{
+    match variable {
+        Ok(variable) => match held.variables.push(variable) {
+            Ok(()) => YT_OK,
+            Err(_) => YT_NO_MEMORY,
+        },
+        Err(code) => code,
+    }
+}
+
+/// One more of the variables that `yt_adapter_variables` tells next. `holder` holds its parts, where it has some.
+#[unsafe(no_mangle)]
+pub extern "C" fn yt_adapter_variable(
+    alloc: Global,
+    adapter: &mut YtAdapter,
+    name: &[u8],
+    value: &[u8],
+    has_parts: bool,
+    holder: u64,
+) -> u32
+    ensures none { adapter.old.inner.value ≡ None → (result ≡ YT_NONE) × (adapter.new.inner.value ≡ None) }
+    ensures held { IsSome adapter.old.inner.value → IsSome adapter.new.inner.value }
+    ensures code { IsSome adapter.old.inner.value → (result ≡ YT_OK → ⊥) → IsCodeOfText result }
+    ensures same { FromTo adapter.old.inner.value adapter.new.inner.value (λ a b. (b.adapter ≡ a.adapter) × (b.bytes ≡ a.bytes) × (b.frame ≡ a.frame) × (b.whole ≡ a.whole)) }
+{
+    let Some(mut held) = taken(alloc, adapter) else {
+        return YT_NONE;
+    };
+    let variable = variable_given(alloc, name, value, holder_given(has_parts, holder));
+    let code = keep_variable(&mut *held, variable);
+    *adapter = full(held);
+    code
+}
+
+fn tell_variables(alloc: Global, held: &mut HeldAdapter, holder: u64, found: &mut YtFound) -> u32
+    ensures tells { AdapterSaw held.old held.new result found.new ⊎ RefusesPoll held.old held.new result found.new }
+    ensures limits { held.new.adapter.session.limits ≡ held.old.adapter.session.limits }
+    ensures frame { (held.new.frame ≡ held.old.frame) × (held.new.whole ≡ held.old.whole) }
+{
+    let variables = std::mem::replace(&mut held.variables, Vec::new(alloc));
+    let coming = Coming::Variables {
+        holder,
+        variables: List::new(variables),
+    };
+    tell(alloc, held, coming, found)
+}
+
+/// Tells the variables of a holder that has none yet: those that `yt_adapter_variable` has gathered since the last call.
+#[unsafe(no_mangle)]
+pub extern "C" fn yt_adapter_variables(
+    alloc: Global,
+    adapter: &mut YtAdapter,
+    holder: u64,
+    found: &mut YtFound,
+) -> u32
+    ensures none { adapter.old.inner.value ≡ None → (result ≡ YT_NONE) × (adapter.new.inner.value ≡ None) × (found.new ≡ found.old) }
+    ensures held { IsSome adapter.old.inner.value → IsSome adapter.new.inner.value }
+    ensures tells { FromTo adapter.old.inner.value adapter.new.inner.value (λ a b. AdapterSaw a b result found.new ⊎ RefusesPoll a b result found.new) }
+    ensures limits { FromTo adapter.old.inner.value adapter.new.inner.value (λ a b. b.adapter.session.limits ≡ a.adapter.session.limits) }
+    ensures frame { FromTo adapter.old.inner.value adapter.new.inner.value (λ a b. (b.frame ≡ a.frame) × (b.whole ≡ a.whole)) }
+{
+    let Some(mut held) = taken(alloc, adapter) else {
+        return YT_NONE;
+    };
+    let code = tell_variables(alloc, &mut *held, holder, found);
+    *adapter = full(held);
+    code
+}
+
+fn sources_given(alloc: Global, sources: &[u8]) -> Result<Coming, u32>
+    ensures { IfErr result IsCodeOfText }
+{
+    let sources = recording_given(alloc, sources)?;
+    Ok(Coming::Sources(sources))
+}
+
+/// Tells of more sources: those of a recording (docs/RECORDINGS.md) come behind those there are. Its moments do not matter.
+#[unsafe(no_mangle)]
+pub extern "C" fn yt_adapter_sources(
+    alloc: Global,
+    adapter: &mut YtAdapter,
+    sources: &[u8],
+    found: &mut YtFound,
+) -> u32
+    ensures none { adapter.old.inner.value ≡ None → (result ≡ YT_NONE) × (adapter.new.inner.value ≡ None) × (found.new ≡ found.old) }
+    ensures held { IsSome adapter.old.inner.value → IsSome adapter.new.inner.value }
+    ensures tells { FromTo adapter.old.inner.value adapter.new.inner.value (λ a b. AdapterSaw a b result found.new ⊎ RefusesPoll a b result found.new ⊎ IsUntold a b result) }
+    ensures limits { FromTo adapter.old.inner.value adapter.new.inner.value (λ a b. b.adapter.session.limits ≡ a.adapter.session.limits) }
+    ensures frame { FromTo adapter.old.inner.value adapter.new.inner.value (λ a b. (b.frame ≡ a.frame) × (b.whole ≡ a.whole)) }
+{
+    tell_handle(alloc, adapter, sources_given(alloc, sources), found)
+}

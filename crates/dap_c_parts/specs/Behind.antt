@@ -1,0 +1,6 @@
+-- Two values behind a handle: before a call, and after it.
+use Rattle.std.specs.Prelude.{◌≡◌, Option, Some}
+
+-- where the handle held something before and after a call, this holds of the two
+abbrev pub FromTo : {A : Type 0} → Option A → Option A → (A → A → Type 0) → Type 0
+FromTo {A} old new P = (f g : A) → old ≡ Some f → new ≡ Some g → P f g

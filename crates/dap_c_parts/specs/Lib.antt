@@ -1,0 +1,4 @@
+pub mod Behind
+pub mod Causes
+pub mod Heap
+pub mod Limited

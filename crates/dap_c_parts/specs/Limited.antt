@@ -1,0 +1,6 @@
+-- The limits of a caller in C, as those of `dap_frame`.
+use Rattle.dap_frame.specs.Settings.{Settings, settings}
+use Rattle.dap_c_parts.specs.declared.limits.YtLimits.{YtLimits}
+
+abbrev pub settings_of : YtLimits → Settings
+settings_of l = settings l.header l.body l.requests l.references l.breakpoints l.seq l.reference
