@@ -1,10 +1,8 @@
 -- Sources that are kept leave the host going, and what is told is one thing.
-use Rattle.std.proofs.Common.{◌≡◌, ◌⊎◌, ℕ, List, Option, Some, None, Result, Ok, Err, refl, sym, subst, ◌∙◌, inl, inr}
+use Rattle.std.proofs.Common.{◌≡◌, ◌⊎◌, ℕ, List, Option, Some, None, Ok, sym, subst, inl, inr}
 use Rattle.dap_host.specs.Hearing.{HostState, IsGoing, MayKeep}
 use Rattle.dap_host.specs.Moments.{IsMore, joined}
 use Rattle.dap_host.specs.Told.{said_of}
-use Rattle.dap_host.specs.declared.refusal.Refusal.{Refusal}
-use Rattle.dap_host.specs.declared.told.Said.{Said}
 use Rattle.dap_host.specs.declared.told.Said.TheVariants.{Happened}
 use Rattle.dap_host.specs.declared.told.Told.{Told}
 

@@ -4,11 +4,10 @@ use Rattle.serde_json.specs.View.{view, items_view}
 use Rattle.serde_json.specs.declared.value.Value.{Value}
 use Rattle.dap_json.specs.Steps.{◌>>=◌}
 use Rattle.dap_debuggee.specs.declared.answers.Variable.{Variable}
-use Rattle.dap_host.specs.Told.{each_variable, variable_of, Gives, GivesList}
+use Rattle.dap_host.specs.Told.{each_variable, variable_of}
 use Rattle.dap_host.specs.declared.told.Unread.{Unread}
 use Rattle.dap_host.specs.declared.told.Unread.TheVariants.{Refused, OutOfMemory}
 use Rattle.dap_host.specs.declared.refusal.Refusal.{Refusal}
-use Rattle.dap_host.specs.declared.refusal.HostKey.{HostKey}
 use Rattle.dap_host.specs.Told.{Read, SaysKey}
 
 next_variable : (vs : List Value) (i : ℕ) (v : Value) (before : List Variable) → i < length vs → v ≡ get_or vs i v

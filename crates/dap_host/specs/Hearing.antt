@@ -27,7 +27,6 @@ use Rattle.dap_replay.specs.Played.{Played}
 use Rattle.dap_session.specs.Session.{fresh_session}
 use Rattle.dap_tables.specs.References.{target_of}
 use Rattle.dap_session.specs.declared.fault.AdapterFault.{AdapterFault}
-use Rattle.dap_session.specs.declared.fault.AdapterFault.TheVariants.{OutOfMemory}
 use Rattle.dap_host.specs.Moments.{IsComing, IsMore, joined, Fails, HasSources, ReadsBase}
 use Rattle.dap_host.specs.Told.{said_of, happening_of}
 use Rattle.dap_host.specs.Written.{message_lines, act_lines, refusal_line, target_line}

@@ -13,7 +13,6 @@ use Rattle.dap_replay.specs.Played.{Reads}
 use Rattle.dap_recording.specs.declared.reading.RecordingFault.{RecordingFault}
 use Rattle.dap_recording.specs.declared.reading.RecordingFault.TheVariants as fault
 use Rattle.dap_recording.specs.declared.reading.RecordingKey.TheVariants.{Sources}
-use Rattle.dap_host.specs.declared.refusal.Refusal.{Refusal}
 use Rattle.dap_host.specs.declared.refusal.Refusal.TheVariants.{NotJson, BadMoment, BadSources}
 use Rattle.dap_host.specs.declared.told.Told.{Told}
 use Rattle.dap_host.specs.declared.told.Told.TheVariants as told

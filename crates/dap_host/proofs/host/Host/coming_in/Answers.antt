@@ -1,4 +1,3 @@
-use Rattle.std.proofs.Common.{◌∙◌, ap}
 use Rattle.dap_host.proofs.GoingLemmas.{unheard_at, dropped_at}
 use Rattle.dap_host.proofs.host.Host.coming_in.Goals as goal
 
