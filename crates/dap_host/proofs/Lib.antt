@@ -8,3 +8,4 @@ mod HostingLemmas
 mod LogLemmas
 mod StreamLemmas
 pub mod VariableLemmas
+mod KeepLemmas

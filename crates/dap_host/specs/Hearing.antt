@@ -28,7 +28,7 @@ use Rattle.dap_session.specs.Session.{fresh_session}
 use Rattle.dap_tables.specs.References.{target_of}
 use Rattle.dap_session.specs.declared.fault.AdapterFault.{AdapterFault}
 use Rattle.dap_session.specs.declared.fault.AdapterFault.TheVariants.{OutOfMemory}
-use Rattle.dap_host.specs.Moments.{IsComing, Fails, HasSources, ReadsBase}
+use Rattle.dap_host.specs.Moments.{IsComing, IsMore, joined, Fails, HasSources, ReadsBase}
 use Rattle.dap_host.specs.Told.{said_of, happening_of}
 use Rattle.dap_host.specs.Written.{message_lines, act_lines, refusal_line, target_line}
 use Rattle.dap_host.specs.declared.host.Mark.{Mark}
@@ -172,6 +172,17 @@ pub record TellsOrDrops (old : HostState) (before after : List ℕ) (new : HostS
   pub tells : TellsIt old before lines new
   pub dropped : MayRefuse old.number lines after
 
+-- sources that are told are behind those that there were, where they are not dropped
+abbrev pub MayKeep : Option (List ℕ) → HostState → HostState → Type 0
+MayKeep None told new = new ≡ told
+MayKeep (Some more) told new = (new ≡ told) ⊎ (new ≡ record told { sources = joined told.sources more })
+
+-- and then sources that were told are kept
+pub record TellsAndKeeps (old : HostState) (more : Option (List ℕ)) (before after : List ℕ) (new : HostState) : Type 0 where
+  pub told : HostState
+  pub tells : TellsOrDrops old before after told
+  pub keeps : MayKeep more told new
+
 pub data HearsMessage (old : HostState) (body before after : List ℕ) (new : HostState) : Type 0 where
   refused : (why : Refusal) → RefusesMessage old body why → Refuses old why before after new → HearsMessage old body before after new
   answered : TakesMessage old body → AnswersMessage old body before after new → HearsMessage old body before after new
@@ -179,7 +190,7 @@ pub data HearsMessage (old : HostState) (body before after : List ℕ) (new : Ho
 pub data HearsHappening (old : HostState) (text before after : List ℕ) (new : HostState) : Type 0 where
   not_heard : (why : Refusal) → RefusesTold old text why → Refuses old why before after new → HearsHappening old text before after new
   asked : (number : ℕ) → said_of text ≡ Ok (Target number) → AnswersTarget old number before after new → HearsHappening old text before after new
-  heard : (coming : Coming) → HearsTold old text coming → TellsOrDrops old before after new → HearsHappening old text before after new
+  heard : (coming : Coming) (hears : HearsTold old text coming) (more : Option (List ℕ)) → IsMore hears.told more → TellsAndKeeps old more before after new → HearsHappening old text before after new
 
 -- ---- a line, by its first two bytes
 

@@ -13,7 +13,7 @@ use Rattle.dap_json.specs.Read.{json_of}
 use Rattle.dap_json.specs.Steps.{◌>>=◌, Returns}
 use Rattle.dap_recording.specs.Reading.{exit_of}
 use Rattle.dap_host.specs.declared.refusal.HostKey.{HostKey}
-use Rattle.dap_host.specs.declared.refusal.HostKey.TheVariants.{Happened, Category, Output, Reason, Thread, Moment, Code, Text, Value, Later, Holder, Variables, Name, Asked, Number}
+use Rattle.dap_host.specs.declared.refusal.HostKey.TheVariants.{Happened, Category, Output, Reason, Thread, Moment, Code, Text, Value, Later, Holder, Variables, Name, Asked, Number, Sources}
 use Rattle.dap_host.specs.declared.refusal.Refusal.{Refusal}
 use Rattle.dap_host.specs.declared.refusal.Refusal.TheVariants.{NotJson, BadKey}
 use Rattle.dap_host.specs.declared.told.Kind.{Kind}
@@ -165,13 +165,19 @@ abbrev pub learned_by : Option Data → Data → Read Told
 learned_by None t = learned_in t
 learned_by (Some d) t = variables_in d t
 
+unfoldable pub loaded_in : Data → Read Told
+loaded_in d = do
+  sources ← or_bad Sources (tree_at (codes "sources") d)
+  Ok (told.Loaded sources)
+
 abbrev pub kind_named : List ℕ → Option Kind
 kind_named name =
     if bytes_eq name (codes "output") then Some kind.Output else
     (if bytes_eq name (codes "stopped") then Some kind.Stopped else
     (if bytes_eq name (codes "continued") then Some kind.Continued else
     (if bytes_eq name (codes "exited") then Some kind.Exited else
-    (if bytes_eq name (codes "learned") then Some kind.Learned else None))))
+    (if bytes_eq name (codes "learned") then Some kind.Learned else
+    (if bytes_eq name (codes "loaded") then Some kind.Loaded else None)))))
 
 abbrev pub told_by : Kind → Data → Read Told
 told_by kind.Output d = output_in d
@@ -179,6 +185,7 @@ told_by kind.Stopped d = stop_in d
 told_by kind.Continued d = continued_in d
 told_by kind.Exited d = exit_in d
 told_by kind.Learned d = learned_by (tree_at (codes "variables") d) d
+told_by kind.Loaded d = loaded_in d
 
 unfoldable pub told_in : Data → Read Told
 told_in d = do
@@ -241,3 +248,4 @@ happening_of (told.Continued thread) = happening.Continued thread
 happening_of (told.Exited code) = happening.Exited code
 happening_of (told.Learned text value holder) = happening.Nothing
 happening_of (told.Variables holder variables) = happening.Nothing
+happening_of (told.Loaded sources) = happening.Nothing

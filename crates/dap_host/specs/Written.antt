@@ -20,9 +20,9 @@ use Rattle.dap_tables.specs.declared.reference_kind.ReferenceKind.{ReferenceKind
 use Rattle.dap_tables.specs.declared.reference_kind.ReferenceKind.TheVariants.{Frame, Holder as Locals}
 use Rattle.dap_tables.specs.declared.target.Target.{Target}
 use Rattle.dap_host.specs.declared.refusal.HostKey.{HostKey}
-use Rattle.dap_host.specs.declared.refusal.HostKey.TheVariants.{Happened, Category, Output, Reason, Thread, Moment, Code, Text, Value, Later, Holder, Variables, Name, Asked, Number}
+use Rattle.dap_host.specs.declared.refusal.HostKey.TheVariants.{Happened, Category, Output, Reason, Thread, Moment, Code, Text, Value, Later, Holder, Variables, Name, Asked, Number, Sources}
 use Rattle.dap_host.specs.declared.refusal.Refusal.{Refusal}
-use Rattle.dap_host.specs.declared.refusal.Refusal.TheVariants.{BadLine, Body, BodyTooLong, Ended, NotJson, BadKey, BadMoment, Dropped}
+use Rattle.dap_host.specs.declared.refusal.Refusal.TheVariants.{BadLine, Body, BodyTooLong, Ended, NotJson, BadKey, BadMoment, BadSources, Dropped}
 
 -- ---- messages for the client
 
@@ -116,6 +116,7 @@ host_key_name Variables = codes "variables"
 host_key_name Name = codes "name"
 host_key_name Asked = codes "asked"
 host_key_name Number = codes "number"
+host_key_name Sources = codes "sources"
 
 abbrev pub dropped_name : Drop → List ℕ
 dropped_name OutOfTurn = codes "OutOfTurn"
@@ -132,6 +133,7 @@ reason_of Ended = codes "Ended"
 reason_of NotJson = codes "NotJson"
 reason_of (BadKey k) = codes "BadKey " ++ host_key_name k
 reason_of (BadMoment k) = codes "BadMoment " ++ name_of k
+reason_of (BadSources k) = codes "BadSources " ++ name_of k
 reason_of (Dropped why) = dropped_name why
 
 abbrev pub refusal_front : ℕ → List ℕ

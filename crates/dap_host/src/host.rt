@@ -8,7 +8,7 @@ ghost use Rattle.dap_host.specs.Hearing.{mark_of, state_of, drop_of};
 
 use crate::acts::push_acts;
 use crate::messages::push_messages;
-use crate::moments::{base_of, coming_of, sources_in};
+use crate::moments::{base_of, coming_of, join, more_of, sources_in};
 use crate::refusal::{Refusal, push_refusal};
 use crate::streams::frames_come_one_by_one;
 use crate::targets::push_target;
@@ -114,8 +114,8 @@ impl Model for Host {
 }
 
 impl Host {
-    ghost use Rattle.std.specs.Prelude.{◌≡◌, ◌≢◌, ◌++◌, List, IfOk, IfErr, OnOk, OnErr, IfSome, None, Ok, Err, true};
-    ghost use Rattle.dap_host.specs.Hearing.{IsFresh, IsGoing, HandsOut, RefusesMessage, TakesMessage, HearsTold, IsUnheard, AnswersMessage, MayRefuse, TellsIt, TellsOrDrops, StopsMessage, StopsTelling, HearsMessage, HearsHappening, HearsMarked, StopsMarked, Hears, Stops};
+    ghost use Rattle.std.specs.Prelude.{◌≡◌, ◌≢◌, ◌++◌, List, IfOk, IfErr, OnOk, OnErr, IfSome, None, Ok, Err, true, option_map};
+    ghost use Rattle.dap_host.specs.Hearing.{IsFresh, IsGoing, HandsOut, RefusesMessage, TakesMessage, HearsTold, IsUnheard, AnswersMessage, MayRefuse, MayKeep, TellsIt, TellsOrDrops, TellsAndKeeps, StopsMessage, StopsTelling, HearsMessage, HearsHappening, HearsMarked, StopsMarked, Hears, Stops};
     ghost use Rattle.dap_host.specs.Moments.{FileRefused};
     ghost use Rattle.dap_host.specs.Told.{said_of};
     ghost use Rattle.dap_host.specs.Written.{message_lines, refusal_line, target_line};
@@ -329,22 +329,60 @@ impl Host {
         ensures going { OnOk result (IsGoing self.new) }
         ensures stops { IfErr result (λ fault. fault ≢ AdapterFault.OutOfMemory → ((coming : Coming) × HearsTold self.old text.now coming) × StopsTelling self.old out.old.items out.new.items self.new fault) }
     {
+        let Ok(more) = more_of(alloc, &told) else {
+            return Err(AdapterFault::OutOfMemory);
+        };
         match self.coming_in(alloc, text, told) {
-            Ok(coming) => self.tell_or_refuse(alloc, coming, out),
+            Ok(coming) => self.tell_and_keep(alloc, coming, more, out),
             Err(Unread::Refused(why)) => self.refuse(why, out),
             Err(Unread::OutOfMemory) => Err(AdapterFault::OutOfMemory),
         }
     }
 
-    /// Refuses the line, where the debuggee dropped what it told.
-    fn refuse_dropped(&self, out: &mut Vec<u8>) -> Result<(), AdapterFault>
+    /// Refuses the line, where the debuggee dropped what it told. Whether it did not.
+    fn refuse_dropped(&self, out: &mut Vec<u8>) -> Result<bool, AdapterFault>
         ensures refused { OnOk result (MayRefuse self.now.number out.old.items out.new.items) }
         ensures memory { IfErr result (λ fault. fault ≡ AdapterFault.OutOfMemory) }
     {
         match self.mail.take_dropped() {
-            None => Ok(()),
-            Some(why) => self.refuse(Refusal::Dropped(why), out),
+            None => Ok(true),
+            Some(why) => {
+                self.refuse(Refusal::Dropped(why), out)?;
+                Ok(false)
+            }
         }
+    }
+
+    /// Keeps sources that were told, behind those that there were.
+    fn keep(&mut self, more: Option<Vec<u8>>, is_heard: bool) -> Result<(), AdapterFault>
+        ensures keeps { OnOk result (MayKeep (option_map (λ text. text.items) more) self.old self.new) }
+        ensures memory { IfErr result (λ fault. fault ≡ AdapterFault.OutOfMemory) }
+    {
+        match more {
+            Some(more) if is_heard => match join(&mut self.sources, &more) {
+                Ok(()) => Ok(()),
+                Err(_) => Err(AdapterFault::OutOfMemory),
+            },
+            _ => Ok(()),
+        }
+    }
+
+    /// Lets the adapter tell what happened, and keeps sources that were told.
+    fn tell_and_keep(
+        &mut self,
+        alloc: Global,
+        coming: Coming,
+        more: Option<Vec<u8>>,
+        out: &mut Vec<u8>,
+    ) -> Result<(), AdapterFault>
+        requires going { IsGoing self.old }
+        requires in_a_run { has_debuggee self.old.adapter.session.phase ≡ true }
+        ensures tells { OnOk result (TellsAndKeeps self.old (option_map (λ text. text.items) more) out.old.items out.new.items self.new) }
+        ensures going { OnOk result (IsGoing self.new) }
+        ensures stops { IfErr result (λ fault. fault ≢ AdapterFault.OutOfMemory → StopsTelling self.old out.old.items out.new.items self.new fault) }
+    {
+        let is_heard = self.tell_or_refuse(alloc, coming, out)?;
+        self.keep(more, is_heard)
     }
 
     /// Lets the adapter tell what happened, and refuses the line where that is dropped after all.
@@ -353,7 +391,7 @@ impl Host {
         alloc: Global,
         coming: Coming,
         out: &mut Vec<u8>,
-    ) -> Result<(), AdapterFault>
+    ) -> Result<bool, AdapterFault>
         requires going { IsGoing self.old }
         requires in_a_run { has_debuggee self.old.adapter.session.phase ≡ true }
         ensures tells { OnOk result (TellsOrDrops self.old out.old.items out.new.items self.new) }

@@ -26,6 +26,7 @@ pub enum HostKey {
     Name,
     Asked,
     Number,
+    Sources,
 }
 
 impl HostKey {
@@ -51,6 +52,7 @@ impl HostKey {
             HostKey::Name => "name",
             HostKey::Asked => "asked",
             HostKey::Number => "number",
+            HostKey::Sources => "sources",
         }
     }
 }
@@ -72,6 +74,8 @@ pub enum Refusal {
     BadKey(HostKey),
     /// The moment is none, by this key of recordings.
     BadMoment(RecordingKey),
+    /// The sources are none, by this key of recordings.
+    BadSources(RecordingKey),
     /// It is dropped.
     Dropped(Dropped),
 }
@@ -109,6 +113,7 @@ fn push_reason(out: &mut Vec<u8>, why: Refusal) -> Result<(), AllocError>
         Refusal::NotJson => out.extend_from_slice(b"NotJson"),
         Refusal::BadKey(key) => push_key(out, b"BadKey ", key.name()),
         Refusal::BadMoment(key) => push_key(out, b"BadMoment ", key.name()),
+        Refusal::BadSources(key) => push_key(out, b"BadSources ", key.name()),
         Refusal::Dropped(dropped) => out.extend_from_slice(dropped_name(dropped).as_bytes()),
     }
 }

@@ -3,7 +3,7 @@ ghost use Rattle.std.specs.Prelude.{◌≡◌, [], codes, IfOk};
 ghost use Rattle.serde_json.specs.Find.{as_array};
 ghost use Rattle.serde_json.specs.View.{view, items_view};
 ghost use Rattle.dap_json.specs.Field.{tree_at};
-ghost use Rattle.dap_host.specs.Told.{later_in as later_at, holder_in as holder_at, told_holder_in as told_holder_at, variable_of, each_variable, variables_of as variables_of_items, variables_in as variables_told, learned_by as learned_of_key, GivesList};
+ghost use Rattle.dap_host.specs.Told.{later_in as later_at, holder_in as holder_at, told_holder_in as told_holder_at, variable_of, each_variable, variables_of as variables_of_items, variables_in as variables_told, learned_by as learned_of_key, loaded_in as loaded_of, GivesList};
 ghost use Rattle.dap_host.specs.Told.{Gives, Tells, text_in, category_in as category_of, category_named as category_of_name, thread_in as thread_of, code_in as code_of, value_in as value_of, output_in as output_of, stop_in as stop_of, continued_in as continued_of, exit_in as exit_of, learned_in as learned_of, kind_named as kind_of_name, told_in as told_of, happening_of};
 ghost use Rattle.dap_host.specs.Told.{question_named as question_of_name, number_in as number_of_key, asked_in as asked_of, happened_in as happened_of, said_in as said_of};
 ghost use Rattle.std.specs.Option.{is_some};
@@ -45,6 +45,9 @@ pub(crate) enum Told {
     Variables {
         holder: u64,
         variables: List<Variable>,
+    },
+    Loaded {
+        sources: Tree,
     },
 }
 
@@ -289,6 +292,14 @@ fn learned_by(alloc: Global, told: &Value) -> Result<Told, Unread>
     }
 }
 
+#[tactic(auto, unfolding(crate::specs::Told::loaded_in))]
+fn loaded_in(told: &mut Value) -> Result<Told, Unread>
+    ensures { Gives result (loaded_of (view told.old)) }
+{
+    let sources = field::take_tree(told, "sources").ok_or(bad(HostKey::Sources))?;
+    Ok(Told::Loaded { sources })
+}
+
 /// A kind of what a host tells.
 #[derive(Clone, Copy)]
 enum Kind {
@@ -297,6 +308,7 @@ enum Kind {
     Continued,
     Exited,
     Learned,
+    Loaded,
 }
 
 fn kind_named(name: &str) -> Option<Kind>
@@ -308,6 +320,7 @@ fn kind_named(name: &str) -> Option<Kind>
         "continued" => Some(Kind::Continued),
         "exited" => Some(Kind::Exited),
         "learned" => Some(Kind::Learned),
+        "loaded" => Some(Kind::Loaded),
         _ => None,
     }
 }
@@ -326,6 +339,7 @@ fn told_in(alloc: Global, told: &mut Value) -> Result<Told, Unread>
         Kind::Continued => continued_in(told),
         Kind::Exited => exit_in(told),
         Kind::Learned => learned_by(alloc, told),
+        Kind::Loaded => loaded_in(told),
     }
 }
 
@@ -413,6 +427,8 @@ pub(crate) fn happening_in(told: &Told) -> Result<Happening, AllocError>
         }),
         Told::Continued { thread } => Ok(Happening::Continued { thread: *thread }),
         Told::Exited { code } => Ok(Happening::Exited { code: *code }),
-        Told::Learned { .. } | Told::Variables { .. } => Ok(Happening::Nothing),
+        Told::Learned { .. } | Told::Variables { .. } | Told::Loaded { .. } => {
+            Ok(Happening::Nothing)
+        }
     }
 }
