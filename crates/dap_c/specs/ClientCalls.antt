@@ -1,10 +1,9 @@
 -- What the exports of a client do, in the words of dap_client, over the client behind the handle.
-use Rattle.std.specs.Prelude.{◌≡◌, ◌⊎◌, ℕ, ◌+◌, ◌==◌, List, [], ◌∷◌, ◌++◌, length, take, Bool, Option, Some, None, is_some, if◌then◌else◌}
-use Rattle.dap_history.specs.History.{Entry, Out}
+use Rattle.std.specs.Prelude.{◌≡◌, ℕ, ◌+◌, ◌==◌, List, [], ◌∷◌, ◌++◌, length, take, Bool, Option, Some, None, is_some, if◌then◌else◌}
+use Rattle.dap_history.specs.History.{Out}
 use Rattle.dap_message.specs.ReadBack.{ReadsBack}
 use Rattle.dap_message.specs.Types.Call.{Call}
 use Rattle.dap_client.specs.Calls.{refusal_of, answer_refusal_of, NotSent, NotAnswered, Takes, TakeRefused}
-use Rattle.dap_client.specs.ClientState.{ClientState}
 use Rattle.dap_client.specs.Sending.{next_message, sent_bytes, after_send}
 use Rattle.dap_client.specs.StandsFor.{GoesOn}
 use Rattle.dap_client.specs.TerminalResponse.{next_terminal_response, terminal_response_bytes, after_terminal_response}
@@ -14,7 +13,6 @@ use Rattle.dap_client.specs.declared.fault.SendFault.{SendFault}
 use Rattle.dap_client.specs.declared.got.Got.{Got}
 use Rattle.dap_client.specs.declared.terminal.Terminal.{Terminal}
 use Rattle.dap_client.specs.declared.terminal.Terminal.TheVariants.{Started, Refused}
-use Rattle.dap_c.specs.CallGiven.{IsCallOf}
 use Rattle.dap_c.specs.ClientFaults.{send_number, answer_number, take_number, IsFaultFound}
 use Rattle.dap_c_parts.specs.declared.found.YtFound.{YtFound}
 use Rattle.dap_c.specs.declared.held_client.HeldClient.{HeldClient}

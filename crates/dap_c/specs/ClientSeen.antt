@@ -1,10 +1,9 @@
 -- What can be seen of a client, as a caller in C sees it.
-use Rattle.std.specs.Prelude.{◌≡◌, ℕ, List, length, Option, option_map, unwrap_or}
-use Rattle.std.specs.List.{slice_get}
+use Rattle.std.specs.Prelude.{◌≡◌, ℕ, List, length, unwrap_or}
 use Rattle.dap_call.specs.declared.capabilities.Capabilities.{Capabilities}
 use Rattle.dap_history.specs.History.{Entry, Came, Went, waiting}
 use Rattle.dap_client.specs.ClientState.{ClientState}
-use Rattle.dap_client.specs.Seen.{phase_in, ready_in, capabilities_in, references_in}
+use Rattle.dap_client.specs.Seen.{phase_in, ready_in, references_in}
 use Rattle.dap_client.specs.Session.{oldest_of}
 use Rattle.dap_client.specs.declared.phase.Phase.{Phase}
 use Rattle.dap_client.specs.declared.phase.Phase.TheVariants.{Fresh, Initializing, Configuring, Running, Stopped, Resuming, Exited, Ended}

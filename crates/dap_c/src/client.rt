@@ -3,7 +3,7 @@
 //! Calls of the host and bytes of the adapter come in; requests to be written and the adapter's frames go out. What a client
 //! is and does is in `dap_client`; each export has the clauses of its function there. Only the client behind the handle and
 //! what the caller lends for an answer are touched.
-ghost use Rattle.std.specs.Prelude.{◌≡◌, ◌⊎◌, ◌<◌, ◌≤◌, ◌++◌, [], length, drop, IfOk, IfErr, OnOk, OnErr, IfSome, IsSome, IsTrue, Some, None, true, false, take, is_some, vec_len, vec_capacity, if◌then◌else◌, ◌+◌};
+ghost use Rattle.std.specs.Prelude.{◌≡◌, ◌⊎◌, ◌<◌, ◌≤◌, ◌++◌, [], length, drop, IfOk, IfErr, OnOk, OnErr, IfSome, IsSome, IsTrue, IsUtf8, Some, None, true, false, take, is_some, vec_len, vec_capacity, if◌then◌else◌, ◌+◌};
 ghost use Rattle.dap_call.specs.PlainCall.{is_plain_call};
 ghost use Rattle.dap_call.specs.declared.call.Call.{Call as TheCall};
 ghost use Rattle.dap_frame.specs.Settings.{first_outside};
@@ -95,7 +95,8 @@ pub extern "C" fn yt_client_free(alloc: Global, client: &mut YtClient)
 }
 
 fn send_code(fault: SendFault) -> u32
-    ensures { result ≡ send_number fault }
+    ensures number { result ≡ send_number fault }
+    ensures of_a_call { (result ≡ YT_BAD_COMMAND → ⊥) × (result ≡ YT_BAD_ARGUMENTS → ⊥) }
 {
     match fault {
         SendFault::Ended => YT_ENDED,
@@ -116,6 +117,7 @@ fn send_call(alloc: Global, held: &mut HeldClient, call: &Call, sent: &mut YtSen
     ensures sends { result ≡ YT_OK → Sends held.old held.new call.now sent.new.seq }
     ensures length { result ≡ YT_OK → sent.new.bytes ≡ length held.new.bytes.items }
     ensures refuses { (result ≡ YT_OK → ⊥) → Refuses held.old held.new call.now result }
+    ensures of_a_call { (result ≡ YT_BAD_COMMAND → ⊥) × (result ≡ YT_BAD_ARGUMENTS → ⊥) }
     ensures unchanged { (result ≡ YT_OK → ⊥) → held.new ≡ held.old }
     ensures frame { (held.new.frame ≡ held.old.frame) × (held.new.whole ≡ held.old.whole) }
 {
@@ -142,6 +144,7 @@ fn send(
     ensures sends { result ≡ YT_OK → (call : TheCall) × IsCallOf command.now arguments.now call × Sends held.old held.new call sent.new.seq }
     ensures length { result ≡ YT_OK → sent.new.bytes ≡ length held.new.bytes.items }
     ensures refuses { (result ≡ YT_OK → ⊥) → IsCodeOfCall result ⊎ ((call : TheCall) × IsCallOf command.now arguments.now call × Refuses held.old held.new call result) }
+    ensures wanted { (call : TheCall) → IsUtf8 command.now → IsCallOf command.now arguments.now call → IsTrue (is_plain_call call) → (result ≡ YT_BAD_COMMAND → ⊥) × (result ≡ YT_BAD_ARGUMENTS → ⊥) }
     ensures unchanged { (result ≡ YT_OK → ⊥) → held.new.client ≡ held.old.client }
     ensures nothing { (result ≡ YT_OK → ⊥) → held.new.bytes.items ≡ [] }
     ensures frame { (held.new.frame ≡ held.old.frame) × (held.new.whole ≡ held.old.whole) }
@@ -168,6 +171,7 @@ pub extern "C" fn yt_client_send(
     ensures sends { FromTo client.old.inner.value client.new.inner.value (λ c d. result ≡ YT_OK → (call : TheCall) × IsCallOf command.now arguments.now call × Sends c d call sent.new.seq) }
     ensures length { FromTo client.old.inner.value client.new.inner.value (λ c d. result ≡ YT_OK → sent.new.bytes ≡ length d.bytes.items) }
     ensures refuses { FromTo client.old.inner.value client.new.inner.value (λ c d. (result ≡ YT_OK → ⊥) → IsCodeOfCall result ⊎ ((call : TheCall) × IsCallOf command.now arguments.now call × Refuses c d call result)) }
+    ensures wanted { (call : TheCall) → IsUtf8 command.now → IsCallOf command.now arguments.now call → IsTrue (is_plain_call call) → (result ≡ YT_BAD_COMMAND → ⊥) × (result ≡ YT_BAD_ARGUMENTS → ⊥) }
     ensures unchanged { FromTo client.old.inner.value client.new.inner.value (λ c d. (result ≡ YT_OK → ⊥) → d.client ≡ c.client) }
     ensures frame { FromTo client.old.inner.value client.new.inner.value (λ c d. (d.frame ≡ c.frame) × (d.whole ≡ c.whole)) }
 {

@@ -121,7 +121,7 @@ pub extern "C" fn yt_adapter_open(
 pub extern "C" fn yt_adapter_free(alloc: Global, adapter: &mut YtAdapter)
     ensures { adapter.new.inner.value ≡ None }
 {
-    taken(alloc, adapter);
+    drop(taken(alloc, adapter));
 }
 
 pub(crate) fn adapter_code(fault: AdapterFault) -> u32

@@ -26,11 +26,11 @@ pub fn put_numbers(from: &[u32], out: &mut [u32]) -> u32
     ensures small { result ≡ YT_SMALL → (length out.old < length from.now) × (out.new ≡ out.old) }
     ensures codes { (result ≡ YT_SMALL → ⊥) → result ≡ YT_OK }
 {
-    let count = from.len();
-    if out.len() < count {
+    let size = from.len();
+    if out.len() < size {
         return YT_SMALL;
     }
-    let (into, _) = out.split_at_mut(count);
+    let (into, _) = out.split_at_mut(size);
     into.copy_from_slice(from);
     YT_OK
 }

@@ -1,4 +1,4 @@
-use Rattle.std.proofs.Common.{◌≡◌, rules, sym, subst}
+use Rattle.std.proofs.Common.{rules, sym, subst}
 use Rattle.dap_client.specs.Calls.{Takes}
 use Rattle.dap_client.specs.ClientState.{ClientState}
 use Rattle.dap_c.proofs.client.take_piece.Goals as goal
