@@ -273,7 +273,7 @@ class Host:
                 if answer.startswith(b"< ") and not self.silent:
                     self.client_out.write(b"Content-Length: %d\r\n\r\n%s" % (len(answer) - 3, answer[2:-1]))
                     self.client_out.flush()
-                    self.over = self.over or told.get("request_seq") == self.ending
+                    self.over = self.over or told.get("request_seq", 0) == self.ending
                 elif "act" in told:
                     acts.append(told)
                 elif "target" in told:
