@@ -28,12 +28,12 @@ import gdb
 HERE = os.path.dirname(os.path.abspath(__file__))
 DAP = os.environ.get("DAP") or os.path.join(HERE, "..", "..", "bin", "dap")
 MOST_FRAMES = 100  # of a thread
-MOST_VARIABLES = 3000  # at a stop, with their parts
-MOST_PARTS = 100  # of a variable
+MOST_PARTS = 1000  # of a variable
+MOST_SHOWN = 100  # elements in the text of a value
 MOST_TEXT = 500  # characters of a value
 MOST_OUTPUT = 128  # bytes of a piece of output, as `dap host` has it
-LEVELS = 3  # how deep there are parts of parts
-POINTERS = 1  # how many pointers are followed on the way down
+LEVELS = 3  # how deep the text of a value goes
+OURS = 1000000  # holders from here on are ours; those of a moment are counted from 0
 RECORDS = gdb.TYPE_CODE_STRUCT, gdb.TYPE_CODE_UNION
 COMMANDS = {"stepIn": "step", "next": "next", "stepOut": "finish", "continue": "continue",
             "stepBack": "reverse-step", "reverseContinue": "reverse-continue"}
@@ -45,26 +45,32 @@ def clean(text):
 
 
 def shown(value):
-    return clean(value.format_string(max_elements=MOST_PARTS, max_depth=LEVELS))[:MOST_TEXT]
+    return clean(value.format_string(max_elements=MOST_SHOWN, max_depth=LEVELS))[:MOST_TEXT]
 
 
 class Sources:
-    """The sources that gdb knows of at its start. The first is for frames that are in none of them.
+    """The sources that gdb knows of. The first is for frames that are in none of them.
 
     Each has as many empty lines as its file has lines: an editor reads the file itself."""
 
     def __init__(self):
         self.all, self.places = [{"name": "(no source)", "text": "\n"}], {}
+        self.find()
+
+    def find(self):
+        """Those that gdb has found since: they come behind the others."""
+        before = len(self.all)
         try:
             listed = gdb.execute("info sources", to_string=True)
         except gdb.error:  # there is no debug information
             listed = ""
-        for path in sorted(set(listed.replace("\n", ", ").split(", "))):
+        for path in sorted(set(listed.replace("\n", ", ").split(", ")) - set(self.places)):
             if path.startswith("/") and os.path.isfile(path):
                 self.places[path] = len(self.all)
                 with open(path, "rb") as file:
                     text = "\n" * len(file.readlines())
                 self.all.append({"name": os.path.basename(path), "path": path, "text": text, "onDisk": True})
+        return self.all[before:]
 
     def place(self, path, line):
         """The place of the source and the line in it, where there is such a line."""
@@ -72,42 +78,45 @@ class Sources:
         return (place, line) if 1 <= line <= len(self.all[place]["text"]) else (0, 1)
 
 
-def parts_of(name, expression, value, pointers):
-    """What is in a value: of each part its name, the expression that gives it, its value, and how many pointers may follow."""
+def parts_of(name, expression, value):
+    """What is in a value: of each part its name, the expression that gives it, and its value."""
     printer = gdb.default_visualizer(value)
     if printer:
         for part, inner in printer.children() if hasattr(printer, "children") else ():
-            yield part, None, gdb.Value(inner), pointers
+            yield part, None, gdb.Value(inner)
         return
     if value.type.strip_typedefs().code == gdb.TYPE_CODE_REF:
         value = value.referenced_value()
     kind = value.type.strip_typedefs()
-    if kind.code == gdb.TYPE_CODE_PTR and pointers and int(value):
-        target, pointers = kind.target().strip_typedefs(), pointers - 1
+    if kind.code == gdb.TYPE_CODE_PTR and int(value):
+        target = kind.target().strip_typedefs()
         if target.code in RECORDS:
             value, kind, expression = value.dereference(), target, "*(%s)" % expression
         elif target.code not in (gdb.TYPE_CODE_VOID, gdb.TYPE_CODE_FUNC) and target.sizeof > 1:
-            yield "*" + name, "*(%s)" % expression, value.dereference(), pointers
+            yield "*" + name, "*(%s)" % expression, value.dereference()
     if kind.code in RECORDS:
         for field in kind.fields():
             named = field.name and not field.is_base_class
             inner = "(%s).%s" % (expression, field.name) if named else expression
-            yield field.name or "(unnamed)", inner, value[field], pointers
+            yield field.name or "(unnamed)", inner, value[field]
     elif kind.code == gdb.TYPE_CODE_ARRAY:
         low, high = kind.range()
         for i in range(low, high + 1):
-            yield "[%d]" % i, "(%s)[%d]" % (expression, i), value[i], pointers
+            yield "[%d]" % i, "(%s)[%d]" % (expression, i), value[i]
 
 
-class Snapshot:
-    """The moment at which the program stands: all that the client can look at until the next stop."""
+class Stop:
+    """Where the program stands: its threads and their frames. What is in a scope or a value is looked up once it is asked for."""
 
     def __init__(self, sources):
-        self.sources, self.left, here = sources, MOST_VARIABLES, gdb.selected_thread()
-        others = [thread for thread in gdb.selected_inferior().threads() if thread.num != here.num]
-        threads = [self.thread(thread) for thread in [here, *others]]
+        self.sources, here = sources, gdb.selected_thread()
+        self.frames = []  # of each frame of the moment, its thread and level
+        self.holders = {}  # of each holder, the frame that it is in, and a call that gives its parts
+        self.parts = {}  # of each holder that was told, its parts
+        self.scopes, self.ours = 0, OURS
+        threads = [self.thread(thread) for thread in sorted(gdb.selected_inferior().threads(), key=lambda thread: thread.num)]
         here.switch()
-        self.moment = {"threads": sorted(threads, key=lambda thread: thread["id"]), "thread": here.num}
+        self.thread_of_moment, self.moment = here.num, {"threads": threads, "thread": here.num}
 
     def thread(self, thread):
         frames = []
@@ -117,39 +126,58 @@ class Snapshot:
             while frame and len(frames) < MOST_FRAMES:
                 where, name = frame.find_sal(), clean(frame.name() or hex(frame.pc()))
                 place, line = self.sources.place(where.symtab and where.symtab.fullname(), where.line)
-                frames.append({"name": name, "source": place, "line": line, "scopes": self.scopes(frame)})
+                self.frames.append((thread.num, len(frames)))
+                frames.append({"name": name, "source": place, "line": line, "scopes": self.scopes_of(frame)})
                 frame = frame.older()
         except gdb.error as fault:
+            self.frames += [] if frames else [(thread.num, 0)]
             frames = frames or [{"name": "<%s>" % clean(fault), "source": 0, "line": 1}]
         return {"id": thread.num, "name": clean(thread.name or "thread"), "frames": frames}
 
-    def scopes(self, frame):
-        arguments, variables, seen = [], [], set()
+    def scopes_of(self, frame):
         try:
-            block = frame.block()
+            frame.block()
         except RuntimeError:  # the function has no debug information
             return []
-        while block:
-            for symbol in block:
-                if (symbol.is_variable or symbol.is_argument) and symbol.name not in seen and self.left > 0:
-                    seen.add(symbol.name)
-                    found = self.variable(symbol.name, symbol.name, frame.read_var(symbol, block))
-                    (arguments if symbol.is_argument else variables).append(found)
-            block = None if block.function else block.superblock
-        return [{"name": "Locals", "variables": variables}, {"name": "Arguments", "variables": arguments}]
+        for arguments in False, True:
+            self.holders[self.scopes] = self.frames[-1], lambda arguments=arguments: symbols_of(gdb.selected_frame(), arguments)
+            self.scopes += 1
+        return [{"name": "Locals", "variables": []}, {"name": "Arguments", "variables": []}]
 
-    def variable(self, name, expression, value, pointers=POINTERS, levels=LEVELS):
-        """A variable of the moment. `dap host` does not look at its `expression`."""
-        self.left -= 1
-        variable = {"name": clean(name), "expression": expression}
+    def holder_of(self, where, name, expression, value):
+        """The holder of what is in a value, if something is."""
         try:
-            variable["value"] = shown(value)
-            if levels and self.left > 0:
-                parts = itertools.islice(parts_of(name, expression, value, pointers), MOST_PARTS)
-                variable["variables"] = [self.variable(*part, levels - 1) for part in parts]
-        except Exception as fault:  # a printer of the user's may raise anything
-            variable.setdefault("value", "<%s>" % clean(fault))
-        return variable
+            next(parts_of(name, expression, value))
+        except Exception:  # there is none, or a printer of the user's raised something
+            return {}
+        self.ours += 1
+        self.holders[self.ours] = where, lambda: parts_of(name, expression, value)
+        return {"holder": self.ours}
+
+    def variables(self, holder):
+        """The variables of a holder, in the frame that is selected."""
+        where, call = self.holders[holder]
+        self.parts[holder] = list(itertools.islice(call(), MOST_PARTS))
+        return [self.variable(where, *part) for part in self.parts[holder]]
+
+    def variable(self, where, name, expression, value):
+        try:
+            text = shown(value)
+        except Exception as fault:
+            text = "<%s>" % clean(fault)
+        return {"name": clean(name), "value": text, **self.holder_of(where, name, expression, value)}
+
+
+def symbols_of(frame, arguments):
+    """The variables of a frame, or its arguments, each once."""
+    block, seen = frame.block(), set()
+    while block:
+        for symbol in block:
+            if (symbol.is_variable or symbol.is_argument) and symbol.name not in seen:
+                seen.add(symbol.name)
+                if symbol.is_argument == arguments:
+                    yield symbol.name, symbol.name, frame.read_var(symbol, block)
+        block = None if block.function else block.superblock
 
 
 class Terminal:
@@ -178,8 +206,9 @@ class Host:
     def __init__(self):
         self.client_in, self.client_out = os.fdopen(os.dup(0), "rb"), os.fdopen(os.dup(1), "wb")
         self.terminal, self.due, self.busy = Terminal(), collections.deque(), False
-        self.dap, self.heard, self.over, self.asked, self.known = None, [], False, {}, {}
-        self.launch, self.points, self.running, self.entry, self.moment, self.setting = None, {}, False, False, None, ""
+        self.dap, self.heard, self.over, self.target, self.ending = None, [], False, {}, None
+        self.launch, self.points, self.running, self.entry, self.here, self.setting = None, {}, False, False, None, ""
+        self.found_more = False
 
     def later(self, call, *arguments):
         """Calls it in gdb's thread, after all that is due before."""
@@ -204,6 +233,7 @@ class Host:
         gdb.execute("set inferior-tty " + os.ttyname(self.terminal.slave))
         gdb.events.stop.connect(self.on_stop)
         gdb.events.exited.connect(self.on_exit)
+        gdb.events.new_objfile.connect(self.on_objfile)
         meant_for_gdb = signal.pthread_sigmask(signal.SIG_BLOCK, signal.valid_signals())
         threading.Thread(target=self.hear_client, daemon=True).start()
         threading.Thread(target=self.hear_program, daemon=True).start()
@@ -243,9 +273,11 @@ class Host:
                 if answer.startswith(b"< ") and not self.silent:
                     self.client_out.write(b"Content-Length: %d\r\n\r\n%s" % (len(answer) - 3, answer[2:-1]))
                     self.client_out.flush()
-                    self.note(told)
+                    self.over = self.over or told.get("request_seq") == self.ending
                 elif "act" in told:
                     acts.append(told)
+                elif "target" in told:
+                    self.target = told
                 elif told.get("refused", self.count) != self.count:
                     gdb.write("dap host: %s: %s\n" % (told["why"], text[:200].decode(errors="replace")), gdb.STDERR)
         except (OSError, json.JSONDecodeError):  # the client or `dap host` has ended
@@ -278,6 +310,9 @@ class Host:
         self.entry = False
         self.later(self.tell_stop, reason, "The program received %s.\n" % signal_name if reason == "exception" else "")
 
+    def on_objfile(self, event):
+        self.found_more = True
+
     def on_exit(self, event):
         died_of = gdb.convenience_variable("_exitsignal")
         self.later(self.tell_exit, event.exit_code if hasattr(event, "exit_code") else 128 + int(died_of or 0))
@@ -293,8 +328,12 @@ class Host:
     def tell_stop(self, reason, note=""):
         self.tell_output(True)
         self.say_output("console", note)
-        self.running, self.moment, self.known = False, Snapshot(self.sources).moment, {}
-        self.say("stopped", reason=reason, thread=self.moment["thread"], moment=self.moment)
+        if self.found_more:
+            self.found_more, more = False, self.sources.find()
+            if more:
+                self.say("loaded", sources=more)
+        self.running, self.here = False, Stop(self.sources)
+        self.say("stopped", reason=reason, thread=self.here.thread_of_moment, moment=self.here.moment, later=True)
 
     def tell_exit(self, code):
         if self.running:
@@ -372,11 +411,11 @@ class Host:
         self.later(self.end)
 
     def hear(self, body):
-        self.asked = {}
         try:
             message = json.loads(body)
-            self.learn(message["command"], message.get("arguments"))
-            self.asked = message
+            if message["command"] == "disconnect":
+                self.ending = message["seq"]
+            self.learn(message["command"], message.get("arguments") or {})
         except (ValueError, KeyError, TypeError, AttributeError, StopIteration):
             pass  # `dap host` answers what is wrong with it
         line = b"> " + b" ".join(body.splitlines())
@@ -384,23 +423,41 @@ class Host:
             self.heard.append(line)
         self.line(line)
 
+    def object_of(self, kind, number):
+        """The frame or the holder that a number of the client stands for."""
+        self.target = {}
+        self.line(b"! " + json.dumps({"asked": "target", "number": number}).encode())
+        if self.target.get("kind") != kind:
+            raise KeyError(number)
+        return self.target["object"]
+
     def learn(self, command, arguments):
         """Works out what the client asks for, before it is answered."""
         if command == "launch" and self.launch is None:
-            self.launch = arguments or {}
+            self.launch = arguments
             if isinstance(self.launch.get("program"), str):
                 self.tried("file " + self.launch["program"])
                 self.start_dap()
+        elif command == "variables" and not self.running:
+            self.tell_holder(self.object_of("holder", arguments["variablesReference"]))
         elif command == "evaluate" and not self.running:
-            newest = (self.moment["thread"], 0), []
-            text, (where, scopes) = arguments["expression"], self.known.get(arguments.get("frameId"), newest)
-            if text not in (one["name"] for scope in scopes for one in scope["variables"]):  # what is learned has no parts
-                self.say("learned", text=text, **self.value_of(where, text, arguments.get("context") == "repl"))
+            frame = arguments.get("frameId")
+            where = (self.here.thread_of_moment, 0) if frame is None else self.here.frames[self.object_of("frame", frame)]
+            text = arguments["expression"]
+            self.say("learned", text=text, **self.value_of(where, text, arguments.get("context") == "repl"))
         elif command == "setVariable" and not self.running:
-            text, (where, variables) = arguments["value"], self.known[arguments["variablesReference"]]
-            expression = next(one["expression"] for one in variables if one["name"] == arguments["name"])
+            holder, text = self.object_of("holder", arguments["variablesReference"]), arguments["value"]
+            self.tell_holder(holder)
+            expression = next(one for name, one, _ in self.here.parts[holder] if clean(name) == arguments["name"])
             self.setting = "%s = %s" % (expression, text)
+            where = self.here.holders[holder][0]
             self.say("learned", text=text, **self.value_of(where, text, True, expression))
+
+    def tell_holder(self, holder):
+        """Tells the variables of a holder, once a stop."""
+        if holder not in self.here.parts:
+            self.select(*self.here.holders[holder][0])
+            self.say("learned", holder=holder, variables=self.here.variables(holder))
 
     def value_of(self, where, text, tells, expression=None):
         """The value of the text in a frame, as the type of the expression where there is one."""
@@ -408,7 +465,9 @@ class Host:
         try:
             self.select(*where)
             value = gdb.parse_and_eval(text)
-            return {"value": shown(value.cast(gdb.parse_and_eval(expression).type) if expression else value)}
+            if expression:
+                return {"value": shown(value.cast(gdb.parse_and_eval(expression).type))}
+            return {"value": shown(value), **self.here.holder_of(where, text, text, value)}
         except (gdb.error, RuntimeError) as fault:
             if tells:
                 self.say_output("console", "%s\n" % clean(fault))
@@ -419,27 +478,6 @@ class Host:
     def set_enabled(self, enabled):
         for point in itertools.chain(*self.points.values()):
             point.enabled = enabled
-
-    def note(self, message):
-        """Keeps what the numbers of an answer stand for: in which frame it is, and what is in it."""
-        command, body, asked = message.get("command"), message.get("body"), self.asked.get("arguments") or {}
-        if not message.get("success") or message["request_seq"] != self.asked.get("seq"):
-            return
-        if command == "disconnect":
-            self.over = True
-        elif command == "stackTrace":
-            frames = next(thread["frames"] for thread in self.moment["threads"] if thread["id"] == asked["threadId"])
-            for level, answer in enumerate(body["stackFrames"], asked.get("startFrame") or 0):
-                self.known[answer["id"]] = (asked["threadId"], level), frames[level]["scopes"]
-        elif command in ("scopes", "variables"):
-            where, parts = self.known[asked["frameId" if command == "scopes" else "variablesReference"]]
-            start = 0 if len(body[command]) == len(parts) else asked.get("start") or 0
-            for answer, part in zip(body[command], parts[start:]):
-                self.known[answer["variablesReference"]] = where, part.get("variables", [])
-        elif command == "evaluate" and body["variablesReference"]:
-            where, scopes = self.known[asked["frameId"]]
-            found = next(one for scope in scopes for one in scope["variables"] if one["name"] == asked["expression"])
-            self.known[body["variablesReference"]] = where, found["variables"]
 
 
 def main():

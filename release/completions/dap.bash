@@ -3,7 +3,7 @@ _dap() {
     local word=${COMP_WORDS[COMP_CWORD]} before=${COMP_WORDS[COMP_CWORD - 1]} command=${COMP_WORDS[1]} options
     COMPREPLY=()
     if ((COMP_CWORD == 1)); then
-        COMPREPLY=($(compgen -W 'serve show wrap unwrap check drive help -h --help -V --version' -- "$word"))
+        COMPREPLY=($(compgen -W 'serve show wrap unwrap check drive host help -h --help -V --version' -- "$word"))
         return
     fi
     # A number comes after these, as a word of its own or after a sign of equality.
@@ -15,8 +15,9 @@ _dap() {
         unwrap) options='--explain --max-header --max-body -h --help' ;;
         check) options='--all --any-seq --bodies --explain --open -h --help' ;;
         drive) options='--explain --max-header --max-body --max-requests --max-references --max-breakpoints --max-seq --max-reference -h --help' ;;
+        host) options='--explain --max-header --max-body --max-requests --max-references --max-breakpoints --max-seq --max-reference -h --help' ;;
         help)
-            if ((COMP_CWORD == 2)); then COMPREPLY=($(compgen -W 'serve show wrap unwrap check drive' -- "$word")); fi
+            if ((COMP_CWORD == 2)); then COMPREPLY=($(compgen -W 'serve show wrap unwrap check drive host' -- "$word")); fi
             return
             ;;
         *) return ;;

@@ -294,14 +294,15 @@ fn host<'a>(alloc: Global, limit_texts: &'a [String]) -> Result<Command<'a>, All
             "Is the adapter of a debugger in another program, over lines of standard input and standard output",
         )
         .after_help(
-            "Lines in:\n  > MESSAGE  a message of the client\n  ! OBJECT   what the debugger did, with `happened`: output, stopped, continued, exited or learned\nLines out:\n  < MESSAGE  a message for the client\n  ! OBJECT   what the debugger has to do, with `act`: start, resume, pause, setBreakpoints, setVariable or end; or the number of a line that is `refused`, and `why`\nEach line is answered whole before the next one is taken. Empty lines are skipped, and counted.\n\nStatuses: 0 the input ended, 2 usage, 3 the sources or a message is refused or no sequence number is left, 5 read or write, 6 memory",
+            "Lines in:\n  > MESSAGE  a message of the client\n  ! OBJECT   what the debugger did, with `happened`: output, stopped, continued, exited, learned or loaded; or a question, with `asked`\nLines out:\n  < MESSAGE  a message for the client\n  ! OBJECT   what the debugger has to do, with `act`: start, resume, pause, setBreakpoints, setVariable or end; what a number of the client names, with `target`; or the number of a line that is `refused`, and `why`\nEach line is answered whole before the next one is taken. Empty lines are skipped, and counted.\n\nStatuses: 0 the input ended, 2 usage, 3 the sources or a message is refused or no sequence number is left, 5 read or write, 6 memory",
         )
         .arg(file_word(
             alloc,
             "sources",
             "SOURCES",
             "The sources of what is debugged: a JSON object with `sources` as a recording has them, of at most 67108864 bytes",
-        ))?;
+        ))?
+        .arg(explain_faults(alloc))?;
     with_limits(alloc, host, limit_texts, LIMIT_OPTIONS.len())
 }
 

@@ -3,6 +3,7 @@
 
 ghost use Rattle.std.specs.Prelude.{◌≡◌, IfOk};
 ghost use Rattle.dap_debuggee.specs.declared.answers.State.{State};
+ghost use Rattle.dap_host.specs.Hearing.{IsGoing};
 
 mod command_line;
 mod layout;
@@ -383,7 +384,9 @@ fn host(rt: &HostRuntime, matches: &ArgMatches<'_>) -> u8 {
 }
 
 /// The host of the sources that the command line names; or the exit status where the file has none, which is told.
-fn read_host(rt: &HostRuntime, matches: &ArgMatches<'_>, limits: Limits) -> Result<Host, u8> {
+fn read_host(rt: &HostRuntime, matches: &ArgMatches<'_>, limits: Limits) -> Result<Host, u8>
+    ensures { IfOk result IsGoing }
+{
     let bytes = read_file(rt, matches, SOURCES)?;
     match Host::open(rt.alloc(), limits, &bytes) {
         Ok(host) => Ok(host),

@@ -27,9 +27,10 @@ use Rattle.dap_live.specs.declared.mail.Dropped.{Dropped as Drop}
 use Rattle.dap_host.specs.Moments.{Fails}
 use Rattle.dap_host.specs.StreamLaws.{StreamLaws}
 use Rattle.dap_host.proofs.StreamLemmas.{same_front, one_frame_more, some_of_a_frame, stays_there}
-use Rattle.dap_host.specs.Told.{told_of}
+use Rattle.dap_host.specs.Told.{said_of}
 use Rattle.dap_host.specs.declared.refusal.Refusal.TheVariants.{Dropped}
 use Rattle.dap_host.specs.declared.told.Told.{Told}
+use Rattle.dap_host.specs.declared.told.Said.TheVariants.{Happened}
 use Rattle.dap_host.specs.declared.told.Unread.{Unread}
 use Rattle.dap_host.specs.declared.told.Unread.TheVariants.{Refused, OutOfMemory as NoMemory}
 
@@ -73,13 +74,13 @@ module _ (h : HostState) (going : IsGoing h) (laws : StreamLaws (bounds_of h.lim
     whole [] is all =
         let used_is : answers.used ≡ frame_of body = sym (append-nil answers.used) ∙ sym is in
         let more : Split (bounds_of h.limits) (going.used ++ answers.used) (going.stands.received.bodies ++ body ∷ []) [] = subst (λ (z : List ℕ). Split (bounds_of h.limits) (going.used ++ z) (going.stands.received.bodies ++ body ∷ []) []) (sym used_is)
-            (one_frame_more (bounds_of h.limits) going.used going.stands.received.bodies (frame_of body) body so_far (laws.frame body takes.fits)) in
+        (one_frame_more (bounds_of h.limits) going.used going.stands.received.bodies (frame_of body) body so_far (laws.frame body takes.fits)) in
         let same = laws.one (going.used ++ answers.used) (going.stands.received.bodies ++ answers.runs_on.bodies) (going.stands.received.bodies ++ body ∷ []) rest_there [] (split_there new to_take to_take answers.used answers.outs answers.runs_on) more in
         (same_front going.stands.received.bodies answers.runs_on.bodies (body ∷ []) same.0, same.1)
     whole (b ∷ later) is all =
         let none : NoFrame (bounds_of h.limits) answers.used = laws.no_frame body answers.used later b takes.fits is in
         let same = laws.one (going.used ++ answers.used) (going.stands.received.bodies ++ answers.runs_on.bodies) going.stands.received.bodies rest_there answers.used (split_there new to_take to_take answers.used answers.outs answers.runs_on)
-            (some_of_a_frame (bounds_of h.limits) going.used going.stands.received.bodies answers.used so_far none) in
+        (some_of_a_frame (bounds_of h.limits) going.used going.stands.received.bodies answers.used so_far none) in
         let none_come : answers.runs_on.bodies ≡ [] = same_front going.stands.received.bodies answers.runs_on.bodies [] (same.0 ∙ sym (append-nil going.stands.received.bodies)) in
         let stays : state_of new ≡ state_of h.adapter = stays_there shown_live FollowsLive (state_of h.adapter) answers.runs_on.bodies answers.outs to_take (state_of new) answers.runs_on.run none_come in
         let not_ended : ended ≡ false = sym answers.ended_is ∙ ap (λ (p : SessionState LiveState). has_ended p.session) stays ∙ takes.going in
@@ -213,14 +214,14 @@ if_err (Err e) f h = f e h
 pub err_weaker : {A E : Type 0} {P Q : E → Type 0} (r : Result A E) → ((e : E) → P e → Q e) → IfErr r P → IfErr r Q
 err_weaker r f h = if_err r f h
 
-at_moment : (h : HostState) (text : List ℕ) (t : Told) → told_of text ≡ Ok t → drop_of h.adapter.session.phase t ≡ None → (u : Unread) → Fails h.sources t u → IsUnheard h text u
+at_moment : (h : HostState) (text : List ℕ) (t : Told) → said_of text ≡ Ok (Happened t) → drop_of h.adapter.session.phase t ≡ None → (u : Unread) → Fails h.sources t u → IsUnheard h text u
 at_moment h text t is kept (Refused why) fails = bad_moment t is kept fails
 at_moment h text t is kept NoMemory fails = tt
 
-pub unheard_at : (o h : HostState) (text sources : List ℕ) (phase : Phase) (t : Told) (r : Result Coming Unread) (found : Option Drop) → o ≡ h → told_of text ≡ Ok t → phase ≡ o.adapter.session.phase → found ≡ drop_of phase t → found ≡ None → sources ≡ o.sources → IfErr r (Fails sources t) → IfErr r (IsUnheard h text)
+pub unheard_at : (o h : HostState) (text sources : List ℕ) (phase : Phase) (t : Told) (r : Result Coming Unread) (found : Option Drop) → o ≡ h → said_of text ≡ Ok (Happened t) → phase ≡ o.adapter.session.phase → found ≡ drop_of phase t → found ≡ None → sources ≡ o.sources → IfErr r (Fails sources t) → IfErr r (IsUnheard h text)
 unheard_at o h text sources phase t r found e is p d none s fails =
     let kept : drop_of o.adapter.session.phase t ≡ None = ap (λ (z : Phase). drop_of z t) (sym p) ∙ (sym d ∙ none) in
     subst (λ (z : HostState). IfErr r (IsUnheard z text)) e (if_err r (λ u. at_moment o text t is kept u) (subst (λ (z : List ℕ). IfErr r (Fails z t)) s fails))
 
-pub dropped_at : (o h : HostState) (text : List ℕ) (phase : Phase) (t : Told) (found : Option Drop) (why : Drop) → o ≡ h → told_of text ≡ Ok t → phase ≡ o.adapter.session.phase → found ≡ drop_of phase t → found ≡ Some why → RefusesTold h text (Dropped why)
+pub dropped_at : (o h : HostState) (text : List ℕ) (phase : Phase) (t : Told) (found : Option Drop) (why : Drop) → o ≡ h → said_of text ≡ Ok (Happened t) → phase ≡ o.adapter.session.phase → found ≡ drop_of phase t → found ≡ Some why → RefusesTold h text (Dropped why)
 dropped_at o h text phase t found why e is p d some = subst (λ (z : HostState). RefusesTold z text (Dropped why)) e (dropped t why is (ap (λ (z : Phase). drop_of z t) (sym p) ∙ (sym d ∙ some)) refl)

@@ -7,3 +7,5 @@ mod FetchLemmas
 mod HostingLemmas
 mod LogLemmas
 mod StreamLemmas
+pub mod VariableLemmas
+mod KeepLemmas

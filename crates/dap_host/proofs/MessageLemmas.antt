@@ -1,7 +1,6 @@
 -- What an adapter wrote is listed as a line for each message.
-use Rattle.std.proofs.Common.{◌≡◌, ℕ, ◌-◌, ◌<◌, ◌≤◌, ◌==◌, Bool, true, false, List, [], ◌∷◌, ◌++◌, length, map, get_or, refl, sym, ap, ap₂, ◌∙◌, subst, arith}
+use Rattle.std.proofs.Common.{◌≡◌, ℕ, ◌≤◌, true, false, List, [], ◌∷◌, ◌++◌, length, map, refl, sym, ap, ap₂, ◌∙◌, subst, arith}
 use Rattle.std.specs.Prelude.{flat_map, All}
-use Rattle.std.specs.List.{list_all, AllByRecursion}
 use Rattle.std.specs.Str.Lines.{lines}
 use Rattle.std.proofs.lemmas.Bool.Decides.{nat_tests}
 use Rattle.std.proofs.lemmas.List.Elements.{All-nil, All-cons}
@@ -14,14 +13,14 @@ use Rattle.dap_frame.specs.Written.{frame_of}
 use Rattle.dap_frame.specs.declared.frames.End.{End}
 use Rattle.dap_message.specs.Canon.{canon}
 use Rattle.dap_message.specs.OneLine.{is_printed, IsOneLine, CanonIsOneLine}
-use Rattle.dap_message.specs.ReadBack.{ReadsBack, AllReadBack}
+use Rattle.dap_message.specs.ReadBack.{AllReadBack}
 use Rattle.dap_message.specs.declared.message.Message.{Message}
 use Rattle.dap_outbox.specs.Draft.{bytes_of}
 use Rattle.dap_stream.specs.Lines.{is_break, unbroken}
-use Rattle.dap_stream.specs.Listing.{ShowsAll, ListsAll, stops_in}
+use Rattle.dap_stream.specs.Listing.{ListsAll, stops_in}
 use Rattle.dap_stream.specs.Unwrapping.{lines_of_bodies, IsUnbroken, EachBodyIsALine, BodiesAreFramedAgain}
 use Rattle.dap_stream.specs.declared.lines.Form.TheVariants.{Body}
-use Rattle.dap_host.specs.Written.{marked_line, message_line, message_lines}
+use Rattle.dap_host.specs.Written.{marked_line, message_lines}
 
 bodies_of : List Message → List (List ℕ)
 bodies_of outs = map canon outs

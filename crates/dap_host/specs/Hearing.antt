@@ -1,6 +1,6 @@
 -- What a host's line leads to: it is skipped, or refused, or an adapter over a fed debuggee takes what it says. The format is this
 -- profile's choice.
-use Rattle.std.specs.Prelude.{◌≡◌, ℕ, ◌+◌, ◌<◌, ◌≤◌, Bool, true, false, List, [], ◌∷◌, ◌++◌, length, take, drop, codes, bytes_eq, Option, Some, None, Ok, Err, if◌then◌else◌}
+use Rattle.std.specs.Prelude.{◌≡◌, ◌⊎◌, ℕ, ◌+◌, ◌<◌, ◌≤◌, Bool, true, false, List, [], ◌∷◌, ◌++◌, length, take, drop, codes, bytes_eq, Option, Some, None, Ok, Err, if◌then◌else◌}
 use Rattle.dap_adapter.specs.AdapterState.{AdapterState}
 use Rattle.dap_adapter.specs.Parts.{AnswersPiece, PollsOn, StopsAfter}
 use Rattle.dap_adapter.specs.Run.{to_take, to_poll, has_ended}
@@ -25,15 +25,16 @@ use Rattle.dap_message.specs.Refusals.{Bad}
 use Rattle.dap_message.specs.declared.message.Message.{Message}
 use Rattle.dap_replay.specs.Played.{Played}
 use Rattle.dap_session.specs.Session.{fresh_session}
+use Rattle.dap_tables.specs.References.{target_of}
 use Rattle.dap_session.specs.declared.fault.AdapterFault.{AdapterFault}
-use Rattle.dap_session.specs.declared.fault.AdapterFault.TheVariants.{OutOfMemory}
-use Rattle.dap_host.specs.Moments.{IsComing, Fails, HasSources, ReadsBase}
-use Rattle.dap_host.specs.Told.{told_of, happening_of}
-use Rattle.dap_host.specs.Written.{message_lines, act_lines, refusal_line}
+use Rattle.dap_host.specs.Moments.{IsComing, IsMore, joined, Fails, HasSources, ReadsBase}
+use Rattle.dap_host.specs.Told.{said_of, happening_of}
+use Rattle.dap_host.specs.Written.{message_lines, act_lines, refusal_line, target_line}
 use Rattle.dap_host.specs.declared.host.Mark.{Mark}
 use Rattle.dap_host.specs.declared.host.Mark.TheVariants as mark
 use Rattle.dap_host.specs.declared.refusal.Refusal.{Refusal}
 use Rattle.dap_host.specs.declared.refusal.Refusal.TheVariants.{BadLine, Body, BodyTooLong, Ended, Dropped}
+use Rattle.dap_host.specs.declared.told.Said.TheVariants.{Happened, Target}
 use Rattle.dap_host.specs.declared.told.Told.{Told}
 use Rattle.dap_host.specs.declared.told.Unread.{Unread}
 use Rattle.dap_host.specs.declared.told.Unread.TheVariants.{Refused, OutOfMemory as NoMemory}
@@ -111,9 +112,9 @@ drop_of phase told = dropped_in (state_of phase) told
 
 -- why what a host tells is refused: it is not read, or it is dropped, or its moment is none
 pub data RefusesTold (h : HostState) (text : List ℕ) (why : Refusal) : Type 0 where
-  unread : told_of text ≡ Err why → RefusesTold h text why
-  dropped : (told : Told) (drop : Drop) → told_of text ≡ Ok told → drop_of h.adapter.session.phase told ≡ Some drop → why ≡ Dropped drop → RefusesTold h text why
-  bad_moment : (told : Told) → told_of text ≡ Ok told → drop_of h.adapter.session.phase told ≡ None → Fails h.sources told (Refused why) → RefusesTold h text why
+  unread : said_of text ≡ Err why → RefusesTold h text why
+  dropped : (told : Told) (drop : Drop) → said_of text ≡ Ok (Happened told) → drop_of h.adapter.session.phase told ≡ Some drop → why ≡ Dropped drop → RefusesTold h text why
+  bad_moment : (told : Told) → said_of text ≡ Ok (Happened told) → drop_of h.adapter.session.phase told ≡ None → Fails h.sources told (Refused why) → RefusesTold h text why
 
 -- the same; nothing is said where memory was refused
 abbrev pub IsUnheard : HostState → List ℕ → Unread → Type 0
@@ -123,7 +124,7 @@ IsUnheard h text NoMemory = Unit {0}
 -- what a host tells that is heard: this comes of it
 pub record HearsTold (h : HostState) (text : List ℕ) (coming : Coming) : Type 0 where
   pub told : Told
-  pub is : told_of text ≡ Ok told
+  pub is : said_of text ≡ Ok (Happened told)
   pub kept : drop_of h.adapter.session.phase told ≡ None
   pub comes : IsComing h.sources told coming
 
@@ -131,6 +132,10 @@ pub record HearsTold (h : HostState) (text : List ℕ) (coming : Coming) : Type 
 pub record Refuses (old : HostState) (why : Refusal) (before after : List ℕ) (new : HostState) : Type 0 where
   pub line : after ≡ before ++ refusal_line old.number why
   pub same : new ≡ old
+
+-- the line of this number is refused, or nothing is said
+abbrev pub MayRefuse : ℕ → List ℕ → List ℕ → Type 0
+MayRefuse number before after = (after ≡ before) ⊎ ((why : Drop) × (after ≡ before ++ refusal_line number (Dropped why)))
 
 -- ---- what is done
 
@@ -155,13 +160,36 @@ pub record TellsIt (old : HostState) (before after : List ℕ) (new : HostState)
   pub out : HandsOut polls.outs before after
   pub same : SameButAdapter old new
 
+-- what a number of the client names is answered, and nothing else has changed
+pub record AnswersTarget (old : HostState) (number : ℕ) (before after : List ℕ) (new : HostState) : Type 0 where
+  pub line : after ≡ before ++ target_line number (target_of old.adapter.session.references number)
+  pub same : new ≡ old
+
+-- and where the debuggee drops after all what was told, the line is refused behind them
+pub record TellsOrDrops (old : HostState) (before after : List ℕ) (new : HostState) : Type 0 where
+  pub lines : List ℕ
+  pub tells : TellsIt old before lines new
+  pub dropped : MayRefuse old.number lines after
+
+-- sources that are told are behind those that there were, where they are not dropped
+abbrev pub MayKeep : Option (List ℕ) → HostState → HostState → Type 0
+MayKeep None told new = new ≡ told
+MayKeep (Some more) told new = (new ≡ told) ⊎ (new ≡ record told { sources = joined told.sources more })
+
+-- and then sources that were told are kept
+pub record TellsAndKeeps (old : HostState) (more : Option (List ℕ)) (before after : List ℕ) (new : HostState) : Type 0 where
+  pub told : HostState
+  pub tells : TellsOrDrops old before after told
+  pub keeps : MayKeep more told new
+
 pub data HearsMessage (old : HostState) (body before after : List ℕ) (new : HostState) : Type 0 where
   refused : (why : Refusal) → RefusesMessage old body why → Refuses old why before after new → HearsMessage old body before after new
   answered : TakesMessage old body → AnswersMessage old body before after new → HearsMessage old body before after new
 
 pub data HearsHappening (old : HostState) (text before after : List ℕ) (new : HostState) : Type 0 where
   not_heard : (why : Refusal) → RefusesTold old text why → Refuses old why before after new → HearsHappening old text before after new
-  heard : (coming : Coming) → HearsTold old text coming → TellsIt old before after new → HearsHappening old text before after new
+  asked : (number : ℕ) → said_of text ≡ Ok (Target number) → AnswersTarget old number before after new → HearsHappening old text before after new
+  heard : (coming : Coming) (hears : HearsTold old text coming) (more : Option (List ℕ)) → IsMore hears.told more → TellsAndKeeps old more before after new → HearsHappening old text before after new
 
 -- ---- a line, by its first two bytes
 

@@ -1,5 +1,5 @@
 -- The lines that a host is answered with: messages, acts and refusals. All are this profile's choice.
-use Rattle.std.specs.Prelude.{ℕ, ℤ, List, [], ◌∷◌, ◌++◌, map, codes, decimal}
+use Rattle.std.specs.Prelude.{ℕ, ℤ, Option, Some, None, List, [], ◌∷◌, ◌++◌, map, codes, decimal}
 use Rattle.std.specs.Fmt.{signed_decimal}
 use Rattle.std.specs.List.{flat_map}
 use Rattle.json.specs.Print.{print}
@@ -9,17 +9,20 @@ use Rattle.dap_call.specs.declared.call.SourceKey.TheVariants.{Path, Reference}
 use Rattle.dap_debuggee.specs.declared.answers.How.{How}
 use Rattle.dap_debuggee.specs.declared.answers.How.TheVariants.{StepIn, Next, StepOut, Continue, StepBack, ReverseContinue}
 use Rattle.dap_live.specs.declared.mail.Dropped.{Dropped as Drop}
-use Rattle.dap_live.specs.declared.mail.Dropped.TheVariants.{OutOfTurn, OutOfRange, TooManySources}
+use Rattle.dap_live.specs.declared.mail.Dropped.TheVariants.{OutOfTurn, OutOfRange, TooManySources, Told, TooManyHolders}
 use Rattle.dap_live.specs.declared.mail.HostAct.{HostAct}
 use Rattle.dap_live.specs.declared.mail.HostAct.TheVariants.{Start, Resume, Pause, SetBreakpoints, Assign, End}
 use Rattle.dap_message.specs.Canon.{canon}
 use Rattle.dap_message.specs.declared.message.Message.{Message}
 use Rattle.dap_recording.specs.RecordingKey.{name_of}
 use Rattle.dap_stream.specs.Lines.{name_of_body_refusal}
+use Rattle.dap_tables.specs.declared.reference_kind.ReferenceKind.{ReferenceKind}
+use Rattle.dap_tables.specs.declared.reference_kind.ReferenceKind.TheVariants.{Frame, Holder as Locals}
+use Rattle.dap_tables.specs.declared.target.Target.{Target}
 use Rattle.dap_host.specs.declared.refusal.HostKey.{HostKey}
-use Rattle.dap_host.specs.declared.refusal.HostKey.TheVariants.{Happened, Category, Output, Reason, Thread, Moment, Code, Text, Value}
+use Rattle.dap_host.specs.declared.refusal.HostKey.TheVariants.{Happened, Category, Output, Reason, Thread, Moment, Code, Text, Value, Later, Holder, Variables, Name, Asked, Number, Sources}
 use Rattle.dap_host.specs.declared.refusal.Refusal.{Refusal}
-use Rattle.dap_host.specs.declared.refusal.Refusal.TheVariants.{BadLine, Body, BodyTooLong, Ended, NotJson, BadKey, BadMoment, Dropped}
+use Rattle.dap_host.specs.declared.refusal.Refusal.TheVariants.{BadLine, Body, BodyTooLong, Ended, NotJson, BadKey, BadMoment, BadSources, Dropped}
 
 -- ---- messages for the client
 
@@ -79,6 +82,22 @@ act_line act = codes "! " ++ (print (act_tokens act) ++ codes "\n")
 abbrev pub act_lines : List HostAct → List ℕ
 act_lines acts = flat_map act_line acts
 
+-- ---- what a number of the client names
+
+abbrev pub kind_name : ReferenceKind → List ℕ
+kind_name Frame = codes "frame"
+kind_name Locals = codes "holder"
+
+abbrev pub named_members : Option Target → List Token
+named_members None = text_member (codes "kind") (codes "none")
+named_members (Some target) = text_member (codes "kind") (kind_name target.kind) ++ number_member (codes "object") target.object
+
+abbrev pub target_tokens : ℕ → Option Target → List Token
+target_tokens n target = begin_object ∷ (number_member (codes "target") n ++ (named_members target ++ end_object ∷ []))
+
+abbrev pub target_line : ℕ → Option Target → List ℕ
+target_line n target = codes "! " ++ (print (target_tokens n target) ++ codes "\n")
+
 -- ---- refusals
 
 abbrev pub host_key_name : HostKey → List ℕ
@@ -91,11 +110,20 @@ host_key_name Moment = codes "moment"
 host_key_name Code = codes "code"
 host_key_name Text = codes "text"
 host_key_name Value = codes "value"
+host_key_name Later = codes "later"
+host_key_name Holder = codes "holder"
+host_key_name Variables = codes "variables"
+host_key_name Name = codes "name"
+host_key_name Asked = codes "asked"
+host_key_name Number = codes "number"
+host_key_name Sources = codes "sources"
 
 abbrev pub dropped_name : Drop → List ℕ
 dropped_name OutOfTurn = codes "OutOfTurn"
 dropped_name OutOfRange = codes "OutOfRange"
 dropped_name TooManySources = codes "TooManySources"
+dropped_name Told = codes "Told"
+dropped_name TooManyHolders = codes "TooManyHolders"
 
 unfoldable pub reason_of : Refusal → List ℕ
 reason_of BadLine = codes "BadLine"
@@ -105,6 +133,7 @@ reason_of Ended = codes "Ended"
 reason_of NotJson = codes "NotJson"
 reason_of (BadKey k) = codes "BadKey " ++ host_key_name k
 reason_of (BadMoment k) = codes "BadMoment " ++ name_of k
+reason_of (BadSources k) = codes "BadSources " ++ name_of k
 reason_of (Dropped why) = dropped_name why
 
 abbrev pub refusal_front : ℕ → List ℕ

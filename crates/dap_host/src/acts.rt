@@ -27,7 +27,7 @@ fn how_name(how: How) -> &'static str
 }
 
 /// A key with a text.
-fn write_text(out: &mut Writer, name: &str, text: &str) -> Result<(), AllocError>
+pub(crate) fn write_text(out: &mut Writer, name: &str, text: &str) -> Result<(), AllocError>
     ensures { OnOk result (Adds out.old out.new (text_member name.now text.now)) }
 {
     out.key(name)?;
@@ -35,7 +35,7 @@ fn write_text(out: &mut Writer, name: &str, text: &str) -> Result<(), AllocError
 }
 
 /// A key with a number.
-fn write_number(out: &mut Writer, name: &str, n: u64) -> Result<(), AllocError>
+pub(crate) fn write_number(out: &mut Writer, name: &str, n: u64) -> Result<(), AllocError>
     ensures { OnOk result (Adds out.old out.new (number_member name.now n)) }
 {
     out.key(name)?;

@@ -8,10 +8,11 @@ ghost use Rattle.dap_host.specs.Hearing.{mark_of, state_of, drop_of};
 
 use crate::acts::push_acts;
 use crate::messages::push_messages;
-use crate::moments::{base_of, coming_of, sources_in};
+use crate::moments::{base_of, coming_of, join, more_of, sources_in};
 use crate::refusal::{Refusal, push_refusal};
 use crate::streams::frames_come_one_by_one;
-use crate::told::{Told, Unread, happening_in, read_told};
+use crate::targets::push_target;
+use crate::told::{Said, Told, Unread, happening_in, read_said};
 use dap_adapter::{Adapter, AdapterFault, Phase};
 use dap_debuggee::State;
 use dap_frame::{Limits, write_frame};
@@ -113,10 +114,13 @@ impl Model for Host {
 }
 
 impl Host {
-    ghost use Rattle.std.specs.Prelude.{◌≡◌, ◌≢◌, ◌++◌, List, IfOk, IfErr, OnOk, OnErr, IfSome, None, Err, true};
-    ghost use Rattle.dap_host.specs.Hearing.{IsFresh, IsGoing, HandsOut, RefusesMessage, TakesMessage, HearsTold, IsUnheard, AnswersMessage, TellsIt, StopsMessage, StopsTelling, HearsMessage, HearsHappening, HearsMarked, StopsMarked, Hears, Stops};
+    ghost use Rattle.std.specs.Prelude.{◌≡◌, ◌≢◌, ◌++◌, List, IfOk, IfErr, OnOk, OnErr, IfSome, None, Ok, Err, true, option_map};
+    ghost use Rattle.dap_host.specs.Hearing.{IsFresh, IsGoing, HandsOut, RefusesMessage, TakesMessage, HearsTold, IsUnheard, AnswersMessage, MayRefuse, MayKeep, TellsIt, TellsOrDrops, TellsAndKeeps, StopsMessage, StopsTelling, HearsMessage, HearsHappening, HearsMarked, StopsMarked, Hears, Stops};
     ghost use Rattle.dap_host.specs.Moments.{FileRefused};
-    ghost use Rattle.dap_host.specs.Written.{message_lines, refusal_line};
+    ghost use Rattle.dap_host.specs.Told.{said_of};
+    ghost use Rattle.dap_host.specs.Written.{message_lines, refusal_line, target_line};
+    ghost use Rattle.dap_host.specs.declared.told.Said.{Said};
+    ghost use Rattle.dap_tables.specs.References.{target_of};
     ghost use Rattle.dap_message.specs.ReadBack.{AllReadBack};
     ghost use Rattle.dap_message.specs.declared.message.Message.{Message};
     ghost use Rattle.dap_outbox.specs.Draft.{bytes_of};
@@ -261,12 +265,12 @@ impl Host {
         }
     }
 
-    /// What comes by what a host tells.
-    fn coming_in(&self, alloc: Global, text: &[u8]) -> Result<Coming, Unread>
-        ensures hears { IfOk result (HearsTold self.now text.now) }
-        ensures refused { IfErr result (IsUnheard self.now text.now) }
+    /// What comes by what a host tells by a text.
+    fn coming_in(&self, alloc: Global, _text: &[u8], told: Told) -> Result<Coming, Unread>
+        requires { said_of _text.now ≡ Ok (Said.Happened told) }
+        ensures hears { IfOk result (HearsTold self.now _text.now) }
+        ensures refused { IfErr result (IsUnheard self.now _text.now) }
     {
-        let told = read_told(alloc, text)?;
         match dropped_in(self.adapter.phase(), &told) {
             Ok(None) => coming_of(alloc, &self.sources, told),
             Ok(Some(why)) => Err(Unread::Refused(Refusal::Dropped(why))),
@@ -286,11 +290,116 @@ impl Host {
         ensures going { OnOk result (IsGoing self.new) }
         ensures stops { IfErr result (λ fault. fault ≢ AdapterFault.OutOfMemory → ((coming : Coming) × HearsTold self.old text.now coming) × StopsTelling self.old out.old.items out.new.items self.new fault) }
     {
-        match self.coming_in(alloc, text) {
-            Ok(coming) => self.tell(alloc, coming, out),
+        match read_said(alloc, text) {
+            Ok(Said::Happened(told)) => self.hear_told(alloc, text, told, out),
+            Ok(Said::Target(number)) => self.answer_target(alloc, number, out),
             Err(Unread::Refused(why)) => self.refuse(why, out),
             Err(Unread::OutOfMemory) => Err(AdapterFault::OutOfMemory),
         }
+    }
+
+    /// Answers what a number of the client names.
+    fn answer_target(
+        &self,
+        alloc: Global,
+        number: u32,
+        out: &mut Vec<u8>,
+    ) -> Result<(), AdapterFault>
+        ensures answered { OnOk result (out.new.items ≡ out.old.items ++ target_line number (target_of self.now.adapter.session.references number)) }
+        ensures memory { IfErr result (λ fault. fault ≡ AdapterFault.OutOfMemory) }
+    {
+        let target = self.adapter.target(number).copied();
+        match push_target(alloc, out, number, target) {
+            Ok(()) => Ok(()),
+            Err(_) => Err(AdapterFault::OutOfMemory),
+        }
+    }
+
+    /// Hears what happened by a text, as it is read.
+    fn hear_told(
+        &mut self,
+        alloc: Global,
+        text: &[u8],
+        told: Told,
+        out: &mut Vec<u8>,
+    ) -> Result<(), AdapterFault>
+        requires going { IsGoing self.old }
+        requires is { said_of text.now ≡ Ok (Said.Happened told) }
+        ensures hears { OnOk result (HearsHappening self.old text.now out.old.items out.new.items self.new) }
+        ensures going { OnOk result (IsGoing self.new) }
+        ensures stops { IfErr result (λ fault. fault ≢ AdapterFault.OutOfMemory → ((coming : Coming) × HearsTold self.old text.now coming) × StopsTelling self.old out.old.items out.new.items self.new fault) }
+    {
+        let Ok(more) = more_of(alloc, &told) else {
+            return Err(AdapterFault::OutOfMemory);
+        };
+        match self.coming_in(alloc, text, told) {
+            Ok(coming) => self.tell_and_keep(alloc, coming, more, out),
+            Err(Unread::Refused(why)) => self.refuse(why, out),
+            Err(Unread::OutOfMemory) => Err(AdapterFault::OutOfMemory),
+        }
+    }
+
+    /// Refuses the line, where the debuggee dropped what it told. Whether it did not.
+    fn refuse_dropped(&self, out: &mut Vec<u8>) -> Result<bool, AdapterFault>
+        ensures refused { OnOk result (MayRefuse self.now.number out.old.items out.new.items) }
+        ensures memory { IfErr result (λ fault. fault ≡ AdapterFault.OutOfMemory) }
+    {
+        match self.mail.take_dropped() {
+            None => Ok(true),
+            Some(why) => {
+                self.refuse(Refusal::Dropped(why), out)?;
+                Ok(false)
+            }
+        }
+    }
+
+    /// Keeps sources that were told, behind those that there were.
+    fn keep(&mut self, more: Option<Vec<u8>>, is_heard: bool) -> Result<(), AdapterFault>
+        ensures keeps { OnOk result (MayKeep (option_map (λ text. text.items) more) self.old self.new) }
+        ensures memory { IfErr result (λ fault. fault ≡ AdapterFault.OutOfMemory) }
+    {
+        match more {
+            Some(more) if is_heard => match join(&mut self.sources, &more) {
+                Ok(()) => Ok(()),
+                Err(_) => Err(AdapterFault::OutOfMemory),
+            },
+            _ => Ok(()),
+        }
+    }
+
+    /// Lets the adapter tell what happened, and keeps sources that were told.
+    fn tell_and_keep(
+        &mut self,
+        alloc: Global,
+        coming: Coming,
+        more: Option<Vec<u8>>,
+        out: &mut Vec<u8>,
+    ) -> Result<(), AdapterFault>
+        requires going { IsGoing self.old }
+        requires in_a_run { has_debuggee self.old.adapter.session.phase ≡ true }
+        ensures tells { OnOk result (TellsAndKeeps self.old (option_map (λ text. text.items) more) out.old.items out.new.items self.new) }
+        ensures going { OnOk result (IsGoing self.new) }
+        ensures stops { IfErr result (λ fault. fault ≢ AdapterFault.OutOfMemory → StopsTelling self.old out.old.items out.new.items self.new fault) }
+    {
+        let is_heard = self.tell_or_refuse(alloc, coming, out)?;
+        self.keep(more, is_heard)
+    }
+
+    /// Lets the adapter tell what happened, and refuses the line where that is dropped after all.
+    fn tell_or_refuse(
+        &mut self,
+        alloc: Global,
+        coming: Coming,
+        out: &mut Vec<u8>,
+    ) -> Result<bool, AdapterFault>
+        requires going { IsGoing self.old }
+        requires in_a_run { has_debuggee self.old.adapter.session.phase ≡ true }
+        ensures tells { OnOk result (TellsOrDrops self.old out.old.items out.new.items self.new) }
+        ensures going { OnOk result (IsGoing self.new) }
+        ensures stops { IfErr result (λ fault. fault ≢ AdapterFault.OutOfMemory → StopsTelling self.old out.old.items out.new.items self.new fault) }
+    {
+        self.tell(alloc, coming, out)?;
+        self.refuse_dropped(out)
     }
 
     /// Lets the adapter tell what happened.

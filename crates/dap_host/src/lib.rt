@@ -14,6 +14,7 @@ mod messages;
 mod moments;
 mod refusal;
 mod streams;
+mod targets;
 mod told;
 
 pub use host::Host;

@@ -1,7 +1,7 @@
 //! Moments and sources, as they are read: each moment as the only one of a recording.
-ghost use Rattle.std.specs.Prelude.{◌≡◌, ◌≢◌, IfOk, IfErr, Ok, Err};
+ghost use Rattle.std.specs.Prelude.{◌≡◌, ◌≢◌, IfOk, IfErr, OnOk, Ok, Err, option_map};
 ghost use Rattle.dap_recording.specs.declared.reading.RecordingFault.{RecordingFault};
-ghost use Rattle.dap_host.specs.Moments.{ReadsMoment, IsComing, Fails, HasSources, LacksSources, ReadsBase, moment_refusal, recording_text as text_of_recording};
+ghost use Rattle.dap_host.specs.Moments.{ReadsMoment, ReadsSources, IsComing, IsMore, joined, Fails, HasSources, LacksSources, ReadsBase, moment_refusal, sources_refusal, recording_text as text_of_recording};
 
 use crate::refusal::Refusal;
 use crate::told::{Told, Unread};
@@ -46,6 +46,52 @@ fn unread_moment(fault: RecordingFault) -> Unread
     }
 }
 
+/// The recording of sources, and why it is none.
+fn read_sources(alloc: Global, sources: &Tree) -> Result<Recorded, RecordingFault>
+    ensures shows { IfOk result (λ base. ReadsSources sources.now (Ok base)) }
+    ensures fails { IfErr result (λ fault. fault ≢ RecordingFault.OutOfMemory → ReadsSources sources.now (Err fault)) }
+{
+    let sources = dap_json::write(alloc, sources.value())?;
+    base_of(alloc, &sources)
+}
+
+/// Why sources are refused.
+fn unread_sources(fault: RecordingFault) -> Unread
+    ensures { result ≡ sources_refusal fault }
+{
+    match fault {
+        RecordingFault::BadKey { key } => Unread::Refused(Refusal::BadSources(key)),
+        RecordingFault::NotJson => Unread::Refused(Refusal::NotJson),
+        RecordingFault::NotObject => Unread::Refused(Refusal::NotJson),
+        RecordingFault::OutOfMemory => Unread::OutOfMemory,
+    }
+}
+
+/// The JSON text of the sources that are told, if some are.
+pub(crate) fn more_of(alloc: Global, told: &Told) -> Result<Option<Vec<u8>>, AllocError>
+    ensures { IfOk result (λ more. IsMore told.now (option_map (λ text. text.items) more)) }
+{
+    match told {
+        Told::Loaded { sources } => Ok(Some(dap_json::write(alloc, sources.value())?)),
+        Told::Output { .. }
+        | Told::Stopped { .. }
+        | Told::Continued { .. }
+        | Told::Exited { .. }
+        | Told::Learned { .. }
+        | Told::Variables { .. } => Ok(None),
+    }
+}
+
+/// Puts the items of a JSON array behind those of another; both have some.
+pub(crate) fn join(sources: &mut Vec<u8>, more: &[u8]) -> Result<(), AllocError>
+    ensures { OnOk result (sources.new.items ≡ joined sources.old.items more.now) }
+{
+    sources.truncate(sources.len().saturating_sub(1));
+    sources.extend_from_slice(b",")?;
+    let (_, items) = more.split_at(more.len().min(1));
+    sources.extend_from_slice(items)
+}
+
 /// What comes of what is told. A moment is over these sources as JSON.
 pub(crate) fn coming_of(alloc: Global, sources: &[u8], told: Told) -> Result<Coming, Unread>
     ensures comes { IfOk result (IsComing sources.now told) }
@@ -57,17 +103,32 @@ pub(crate) fn coming_of(alloc: Global, sources: &[u8], told: Told) -> Result<Com
             reason,
             thread,
             moment,
+            later,
         } => match read_moment(alloc, sources, &moment) {
             Ok(shows) => Ok(Coming::Stopped {
                 reason,
                 thread,
                 shows,
+                later,
             }),
             Err(fault) => Err(unread_moment(fault)),
         },
         Told::Continued { thread } => Ok(Coming::Continued { thread }),
         Told::Exited { code } => Ok(Coming::Exited { code }),
-        Told::Learned { text, value } => Ok(Coming::Learned { text, value }),
+        Told::Learned {
+            text,
+            value,
+            holder,
+        } => Ok(Coming::Learned {
+            text,
+            value,
+            holder,
+        }),
+        Told::Variables { holder, variables } => Ok(Coming::Variables { holder, variables }),
+        Told::Loaded { sources } => match read_sources(alloc, &sources) {
+            Ok(base) => Ok(Coming::Sources(base)),
+            Err(fault) => Err(unread_sources(fault)),
+        },
     }
 }
 

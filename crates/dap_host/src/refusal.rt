@@ -20,6 +20,13 @@ pub enum HostKey {
     Code,
     Text,
     Value,
+    Later,
+    Holder,
+    Variables,
+    Name,
+    Asked,
+    Number,
+    Sources,
 }
 
 impl HostKey {
@@ -39,6 +46,13 @@ impl HostKey {
             HostKey::Code => "code",
             HostKey::Text => "text",
             HostKey::Value => "value",
+            HostKey::Later => "later",
+            HostKey::Holder => "holder",
+            HostKey::Variables => "variables",
+            HostKey::Name => "name",
+            HostKey::Asked => "asked",
+            HostKey::Number => "number",
+            HostKey::Sources => "sources",
         }
     }
 }
@@ -60,6 +74,8 @@ pub enum Refusal {
     BadKey(HostKey),
     /// The moment is none, by this key of recordings.
     BadMoment(RecordingKey),
+    /// The sources are none, by this key of recordings.
+    BadSources(RecordingKey),
     /// It is dropped.
     Dropped(Dropped),
 }
@@ -71,6 +87,8 @@ fn dropped_name(dropped: Dropped) -> &'static str
         Dropped::OutOfTurn => "OutOfTurn",
         Dropped::OutOfRange => "OutOfRange",
         Dropped::TooManySources => "TooManySources",
+        Dropped::Told => "Told",
+        Dropped::TooManyHolders => "TooManyHolders",
     }
 }
 
@@ -95,6 +113,7 @@ fn push_reason(out: &mut Vec<u8>, why: Refusal) -> Result<(), AllocError>
         Refusal::NotJson => out.extend_from_slice(b"NotJson"),
         Refusal::BadKey(key) => push_key(out, b"BadKey ", key.name()),
         Refusal::BadMoment(key) => push_key(out, b"BadMoment ", key.name()),
+        Refusal::BadSources(key) => push_key(out, b"BadSources ", key.name()),
         Refusal::Dropped(dropped) => out.extend_from_slice(dropped_name(dropped).as_bytes()),
     }
 }

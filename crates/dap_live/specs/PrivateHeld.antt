@@ -1,10 +1,10 @@
--- How the code holds the last act, and what a private function does not take. Only private clauses and the view of the debuggee cite this file.
-use Rattle.std.specs.Prelude.{Option}
-use Rattle.dap_debuggee.specs.Shown.{Last, done, refused, happened}
+-- How the code holds the last act, and what private functions take and show. Only private clauses and the view of the debuggee cite this file.
+use Rattle.std.specs.Prelude.{◌≡◌, Bool, [], Option, Some}
+use Rattle.dap_debuggee.specs.Shown.{Last, Reply, to_start, done, refused, happened}
 use Rattle.dap_debuggee.specs.declared.answers.Asked.TheVariants.{Poll}
 use Rattle.dap_debuggee.specs.declared.answers.Happening.{Happening}
 use Rattle.dap_debuggee.specs.declared.answers.Happening.TheVariants as happening
-use Rattle.dap_replay.specs.Played.{Played}
+use Rattle.dap_replay.specs.Played.{Played, FollowsPlayed}
 use Rattle.dap_live.specs.declared.held.LiveLast.{LiveLast}
 use Rattle.dap_live.specs.declared.held.LiveLast.TheVariants.{Done, Refused, Polled}
 use Rattle.dap_live.specs.declared.here.Here.{Here}
@@ -24,3 +24,10 @@ with_base base v = record v { base = base }
 abbrev pub IsNoStop : Happening → Type 0
 IsNoStop (happening.Stopped reason thread) = ⊥
 IsNoStop _ = Unit {0}
+
+-- the first moment of what the host told is shown, and nothing is told of it yet
+pub record ShowsFirst (shows : Played) (later : Bool) (after : Option Here) : Type 0 where
+  pub moment : Played
+  pub reply : Reply
+  pub started : FollowsPlayed shows to_start reply moment
+  pub here : after ≡ Some (record { moment = moment; later = later; told = [] })

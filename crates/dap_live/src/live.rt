@@ -72,11 +72,10 @@ impl Live {
     ghost use Rattle.dap_debuggee.specs.Shown.{to_poll, to_set_breakpoints, to_assign, done, happened};
     ghost use Rattle.dap_debuggee.specs.declared.answers.Happening.{Happening};
     ghost use Rattle.dap_replay.specs.Played.{shown_of, with_sources_of};
-    ghost use Rattle.dap_live.specs.declared.here.Here.{Here};
     ghost use Rattle.dap_live.specs.LiveShown.{shown_live, IsFew, now_shown, children_in, told_of, value_told};
     ghost use Rattle.dap_live.specs.LiveLaws.{FollowsLive, with_told, noted};
     ghost use Rattle.dap_live.specs.Dropping.{heard, IsHeardOr, why_untold};
-    ghost use Rattle.dap_live.specs.PrivateHeld.{last_of, with_here, with_base, IsNoStop};
+    ghost use Rattle.dap_live.specs.PrivateHeld.{last_of, with_here, with_base, IsNoStop, ShowsFirst};
 
     /// Counts and remembers an act.
     fn note(&mut self, last: LiveLast)
@@ -196,7 +195,7 @@ impl Live {
     ) -> Result<Happening, AllocError>
         ensures heard { IfOk result (λ h. IsHeardOr self.old.state (Happening.Stopped reason thread) h) }
         ensures follows { IfOk result (λ h. FollowsLive self.old to_poll (happened h) self.new) }
-        ensures later { IfOk result (λ h. h ≡ Happening.Stopped reason thread → option_map (λ (here : Here). here.later) self.new.here ≡ Some more) }
+        ensures shows { IfOk result (λ h. h ≡ Happening.Stopped reason thread → ShowsFirst shows more self.new.here) }
         ensures in_range { IfOk result (λ h. IsTrue (is_short h)) }
     {
         // Refused where it is started already.

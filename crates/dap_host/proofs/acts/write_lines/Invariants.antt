@@ -1,4 +1,4 @@
-use Rattle.std.proofs.Common.{◌≡◌, ◌++◌, ◌∷◌, take, map}
+use Rattle.std.proofs.Common.{◌∷◌, take}
 use Rattle.std.specs.Prelude.{codes}
 use Rattle.json.specs.Token.{key, begin_array}
 use Rattle.dap_body.specs.Adds.{Adds}

@@ -1,4 +1,3 @@
-use Rattle.std.proofs.Common.{◌≡◌, ℕ}
 use Rattle.dap_host.specs.Fetching.{FetchesMost}
 use Rattle.dap_host.proofs.fetching.fetch.Given as goal
 

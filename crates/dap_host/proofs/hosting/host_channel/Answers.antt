@@ -25,4 +25,4 @@ pub returns-clause-hosts : goal.returns-clause-hosts
 returns-clause-hosts g c =
     let all : c.loop-line._line ≡ c.args.max_reads = grind (arith, nat_tests, c.loop-line-test.false, c.loop-line.auto._line-end) in
     too_many g.C.Channel.goes c.args.max_reads (point_of c.args.channel.now c.args.host []) c.loop-line.channel c.loop-line.hosting
-        (subst (λ (n : ℕ). SoFar g.C.Channel.goes (point_of c.args.channel.now c.args.host []) n c.loop-line.channel c.loop-line.hosting) all c.loop-line.invariant.0)
+    (subst (λ (n : ℕ). SoFar g.C.Channel.goes (point_of c.args.channel.now c.args.host []) n c.loop-line.channel c.loop-line.hosting) all c.loop-line.invariant.0)

@@ -1,16 +1,15 @@
-use Rattle.std.proofs.Common.{refl, subst}
+use Rattle.std.proofs.Common.{Ok, refl, subst, ap, ◌∙◌}
 use Rattle.std.proofs.lemmas.Result.{on_ok_weaker}
-use Rattle.dap_host.specs.Hearing.{not_heard, heard, IsUnheard}
+use Rattle.dap_host.specs.Hearing.{not_heard, asked, unread}
+use Rattle.dap_host.specs.Told.{said_of, Says}
+use Rattle.dap_host.specs.declared.told.Said.{Said}
 use Rattle.dap_host.specs.declared.told.Unread.{Unread}
-use Rattle.dap_host.proofs.GoingLemmas.{err_weaker}
 use Rattle.dap_host.proofs.host.Host.hear_happening.Goals as goal
 
-pub returns-in-Ok-clause-hears : goal.returns-in-Ok-clause-hears
-returns-in-Ok-clause-hears c = on_ok_weaker c.tell.result (λ tells. heard _ c.in-Ok.ensures.hears tells) c.tell.ensures.tells
-
-pub returns-in-Ok-clause-stops : goal.returns-in-Ok-clause-stops
-returns-in-Ok-clause-stops c = err_weaker c.tell.result (λ fault stops some. ((_, c.in-Ok.ensures.hears), stops some)) c.tell.ensures.stops
+pub returns-in-Ok-Target-clause-hears : goal.returns-in-Ok-Target-clause-hears
+returns-in-Ok-Target-clause-hears c = let n = c.in-Ok-Target.number-is in on_ok_weaker c.answer_target.result (λ line.
+    asked c.in-Ok-Target.number (c.in-Ok-Target.ensures ∙ ap (λ (z : Said). Ok z) c.in-Ok-Target.field-0-is) (record { line = rw (← n) line; same = refl })) c.answer_target.ensures.answered
 
 pub returns-in-Err-Refused-clause-hears : goal.returns-in-Err-Refused-clause-hears
 returns-in-Err-Refused-clause-hears c = let w = c.in-Err-Refused.why-is in on_ok_weaker c.refuse.result (λ line.
-    not_heard _ (subst (λ (z : Unread). IsUnheard c.args.self.now c.args.text.now z) c.in-Err-Refused.field-0-is c.in-Err-Refused.ensures.refused) (record { line = rw (← w) line; same = refl })) c.refuse.ensures.refused
+    not_heard _ (unread (subst (λ (z : Unread). Says z (said_of c.args.text.now)) c.in-Err-Refused.field-0-is c.in-Err-Refused.ensures)) (record { line = rw (← w) line; same = refl })) c.refuse.ensures.refused
