@@ -1,6 +1,6 @@
 -- What the exports of an adapter do, in the words of dap_adapter, over the adapter behind the handle and a debuggee that the
 -- host feeds.
-use Rattle.std.specs.Prelude.{◌≡◌, ◌⊎◌, ℕ, List, [], ◌∷◌, ◌++◌, length, take, Option, Some, None, is_some, if◌then◌else◌}
+use Rattle.std.specs.Prelude.{◌≡◌, ◌⊎◌, ℕ, List, [], ◌++◌, length, take, Option, Some, None, is_some, if◌then◌else◌}
 use Rattle.dap_message.specs.declared.message.Message.{Message}
 use Rattle.dap_live.specs.LiveShown.{shown_live}
 use Rattle.dap_live.specs.LiveLaws.{FollowsLive}

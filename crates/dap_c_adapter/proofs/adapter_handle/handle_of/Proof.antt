@@ -1,27 +1,25 @@
 -- `handle_of` takes the slot apart.
 use Rattle.std.proofs.Common.{◌≡◌, List, [], ◌∷◌, ◌++◌, refl, sym, subst}
-use mir.Syntax.{impl, tnil, dnil}
 use mir.Val.{Val}
 use base.Logic.{SProp, ent, emp, id⊢}
 use base.Fml.{ftrue}
 use prog.Wp.{WpFn}
-use types.Kit.{‵, raw, ◌⊛◌, ◌$◌, ◌∵◌, !, qed, by, move, keep, drop, split, fsplit, fjoin, suffices, use0}
+use types.Kit.{‵, raw, ◌⊛◌, ◌$◌, ◌∵◌, !, qed, by, move, keep, split, fsplit, fjoin, suffices, use0}
 use types.Run.{stop, fld, of_opd, no_more, and_then, returns, enter}
 use types.ByLocal.{alloc_all, pass_all, free_all, look_at, get, get_in, sets}
 use types.Part.{agg, sub, whole}
 use contract.Monad.{fact, fact_i}
 use contract.Running.{tables}
 use denote.Exit.{yes}
-use denote.RattleType.{RattleType, owns}
+use denote.RattleType.{owns}
 use denote.Signature.{types_at, plain}
 use denote.RawPtr.{ptr_val}
 use denote.Steps.{nothing}
 use denote.Triple.Walked.{Stays, stay_dropped, walk_of, Goes-dropped}
-use Rattle.core.proofs.alloc.Calls.{Al, handle_tells}
 use Rattle.std.proofs.raw_atomic.Walks.{proved_at, leaves}
 use Rattle.std_heap.specs.contracts.GlobalAllocator.TheImpl.{ghosts}
-use Rattle.dap_slot.proofs.Values.{both, ptr_fits, slot_parts, slot_whole}
-use Rattle.dap_c_adapter.proofs.AdapterHandles.{R, Z, LZ, S, slot_fits, Hd, word, handle_fits, handle_parts, handle_whole}
+use Rattle.dap_slot.proofs.Values.{both, ptr_fits, slot_parts}
+use Rattle.dap_c_adapter.proofs.AdapterHandles.{R, Z, LZ, S, slot_fits, word, handle_fits, handle_whole}
 use Rattle.dap_c_adapter.specs.contracts.adapter_handle.handle_of.{ended, clauses}
 use Rattle.dap_c_adapter.specs.contracts.adapter_handle.handle_of.Key.{name as #self}
 use Rattle.dap_c_adapter.proofs.adapter_handle.handle_of.Statement.{statement}

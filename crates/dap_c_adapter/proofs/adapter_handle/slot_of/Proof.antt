@@ -5,14 +5,14 @@ use mir.Val.{Val}
 use base.Logic.{SProp, ent, emp, id⊢}
 use base.Fml.{ftrue}
 use prog.Wp.{WpFn}
-use types.Kit.{‵, raw, ◌⊛◌, ◌$◌, ◌∵◌, !, qed, by, move, keep, drop, split, fsplit, fjoin, suffices, use0}
+use types.Kit.{‵, raw, ◌⊛◌, ◌$◌, ◌∵◌, !, qed, by, move, keep, split, fsplit, fjoin, suffices, use0}
 use types.Run.{stop, fld, of_opd, no_more, and_then, returns, enter}
 use types.ByLocal.{alloc_all, pass_all, free_all, look_at, get, get_in, sets}
 use types.Part.{agg, sub, whole}
 use contract.Monad.{fact, fact_i}
 use contract.Running.{tables}
 use denote.Exit.{yes}
-use denote.RattleType.{RattleType, owns}
+use denote.RattleType.{owns}
 use denote.Signature.{types_at, plain}
 use denote.RawPtr.{ptr_val}
 use denote.Steps.{nothing}
@@ -20,8 +20,8 @@ use denote.Triple.Walked.{Stays, stay_dropped, walk_of, Goes-dropped}
 use Rattle.core.proofs.alloc.Calls.{Al, handle_tells}
 use Rattle.std.proofs.raw_atomic.Walks.{proved_at, leaves}
 use Rattle.std_heap.specs.contracts.GlobalAllocator.TheImpl.{ghosts}
-use Rattle.dap_slot.proofs.Values.{both, ptr_fits, slot_parts, slot_whole}
-use Rattle.dap_c_adapter.proofs.AdapterHandles.{R, Z, LZ, S, slot_fits, Hd, word, handle_fits, handle_parts, handle_whole}
+use Rattle.dap_slot.proofs.Values.{both, ptr_fits, slot_whole}
+use Rattle.dap_c_adapter.proofs.AdapterHandles.{R, Z, LZ, slot_fits, Hd, word, handle_fits, handle_parts}
 use Rattle.dap_c_adapter.specs.contracts.adapter_handle.slot_of.{ended, clauses}
 use Rattle.dap_c_adapter.specs.contracts.adapter_handle.slot_of.Key.{name as #self}
 use Rattle.dap_c_adapter.proofs.adapter_handle.slot_of.Statement.{statement}
