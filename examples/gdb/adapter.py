@@ -160,6 +160,16 @@ class Stop:
         self.parts[holder] = list(itertools.islice(call(), MOST_PARTS))
         return [self.variable(where, *part) for part in self.parts[holder]]
 
+    def is_told(self, where, text):
+        """Whether this is the name of a variable that `dap host` finds in the frame's scopes."""
+        for holder in range(self.scopes):
+            if self.holders[holder][0] == where:
+                if holder not in self.parts:
+                    return False
+                if any(clean(name) == text for name, _, _ in self.parts[holder]):
+                    return True
+        return False
+
     def variable(self, where, name, expression, value):
         try:
             text = shown(value)
@@ -444,6 +454,8 @@ class Host:
             frame = arguments.get("frameId")
             where = (self.here.thread_of_moment, 0) if frame is None else self.here.frames[self.object_of("frame", frame)]
             text = arguments["expression"]
+            if self.here.is_told(where, text):  # the client has its number
+                return
             self.say("learned", text=text, **self.value_of(where, text, arguments.get("context") == "repl"))
         elif command == "setVariable" and not self.running:
             holder, text = self.object_of("holder", arguments["variablesReference"]), arguments["value"]
