@@ -1,37 +1,6 @@
 /* The adapter's end over a debuggee that this program feeds: a session with breakpoints, a stop, variables that are told later,
  * a value that is set, an exit; what a host says out of turn; and each allocation refused in turn, as in refused.c. */
-#include "yarntaupe.h"
-#include <stdio.h>
-#include <stdlib.h>
-#include <string.h>
-
-void *__real_malloc(size_t size);
-void *__real_realloc(void *block, size_t size);
-void __real_free(void *block);
-
-static long countdown, live, met, wrong;
-
-static int refuses(void) { return countdown > 0 && --countdown == 0 && ++met; }
-
-void *__wrap_malloc(size_t size) {
-    if (refuses()) return NULL;
-    live++;
-    return __real_malloc(size);
-}
-
-void *__wrap_realloc(void *block, size_t size) {
-    if (refuses()) return NULL;
-    if (!block) live++;
-    return __real_realloc(block, size);
-}
-
-void __wrap_free(void *block) {
-    if (block) live--;
-    __real_free(block);
-}
-
-#define CHECK(what) ((what) ? (void)0 : (void)(wrong++, printf("line %d, after %ld refusals: %s\n", __LINE__, met, #what)))
-#define BYTES(text) (const uint8_t *)(text), strlen(text)
+#include "refusing.h"
 
 static const char BASE[] =
     "{\"exit\":0,\"sources\":[{\"name\":\"a.c\",\"path\":\"/w/a.c\",\"text\":\"1\\n2\\n3\\n4\\n\"}],"

@@ -1,38 +1,7 @@
 /* Each allocation refused in turn at the border to C. Linked with --wrap, so that the library's malloc and realloc are those
- * below. Each scenario runs with its first allocation refused, then with its second, until it meets none. Each call comes to
+ * of refusing.h. Each scenario runs with its first allocation refused, then with its second, until it meets none. Each call comes to
  * what it says or to YT_NO_MEMORY; then the handle is as it was, or the end is closed and says so; and nothing is leaked. */
-#include "yarntaupe.h"
-#include <stdio.h>
-#include <stdlib.h>
-#include <string.h>
-
-void *__real_malloc(size_t size);
-void *__real_realloc(void *block, size_t size);
-void __real_free(void *block);
-
-static long countdown, live, met, wrong;
-
-static int refuses(void) { return countdown > 0 && --countdown == 0 && ++met; }
-
-void *__wrap_malloc(size_t size) {
-    if (refuses()) return NULL;
-    live++;
-    return __real_malloc(size);
-}
-
-void *__wrap_realloc(void *block, size_t size) {
-    if (refuses()) return NULL;
-    if (!block) live++;
-    return __real_realloc(block, size);
-}
-
-void __wrap_free(void *block) {
-    if (block) live--;
-    __real_free(block);
-}
-
-#define CHECK(what) ((what) ? (void)0 : (void)(wrong++, printf("line %d, after %ld refusals: %s\n", __LINE__, met, #what)))
-#define BYTES(text) (const uint8_t *)(text), strlen(text)
+#include "refusing.h"
 
 static void frames_scenario(void) {
     yt_limits limits;
