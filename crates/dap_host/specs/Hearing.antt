@@ -1,6 +1,7 @@
 -- What a host's line leads to: it is skipped, or refused, or an adapter over a fed debuggee takes what it says. The format is this
 -- profile's choice.
-use Rattle.std.specs.Prelude.{◌≡◌, ◌⊎◌, ℕ, ◌+◌, ◌<◌, ◌≤◌, Bool, true, false, List, [], ◌∷◌, ◌++◌, length, take, drop, codes, bytes_eq, Option, Some, None, Ok, Err, if◌then◌else◌}
+use Rattle.std.specs.Prelude.{◌≡◌, ℕ, ◌+◌, ◌<◌, ◌≤◌, Bool, true, false, List, [], ◌∷◌, ◌++◌, length, take, drop, codes, bytes_eq, Option, Some, None, Ok, Err, if◌then◌else◌}
+use Rattle.serde_json.specs.Data.{Data}
 use Rattle.dap_adapter.specs.AdapterState.{AdapterState}
 use Rattle.dap_adapter.specs.Parts.{AnswersPiece, PollsOn, StopsAfter}
 use Rattle.dap_adapter.specs.Run.{to_take, to_poll, has_ended}
@@ -18,16 +19,17 @@ use Rattle.dap_live.specs.LiveLaws.{FollowsLive}
 use Rattle.dap_live.specs.LiveShown.{LiveState, shown_live, fresh_live}
 use Rattle.dap_live.specs.declared.mail.Coming.{Coming}
 use Rattle.dap_live.specs.declared.mail.Dropped.{Dropped as Drop}
-use Rattle.dap_live.specs.declared.mail.Dropped.TheVariants.{OutOfTurn}
+use Rattle.dap_live.specs.declared.mail.Dropped.TheVariants.{OutOfTurn, TooManySources}
 use Rattle.dap_live.specs.declared.mail.HostAct.{HostAct}
 use Rattle.dap_message.specs.Meaning.{Msg}
 use Rattle.dap_message.specs.Refusals.{Bad}
 use Rattle.dap_message.specs.declared.message.Message.{Message}
+use Rattle.dap_recording.specs.declared.recording.RecordedSource.{RecordedSource}
 use Rattle.dap_replay.specs.Played.{Played}
 use Rattle.dap_session.specs.Session.{fresh_session}
 use Rattle.dap_tables.specs.References.{target_of}
 use Rattle.dap_session.specs.declared.fault.AdapterFault.{AdapterFault}
-use Rattle.dap_host.specs.Moments.{IsComing, IsMore, joined, Fails, HasSources, ReadsBase}
+use Rattle.dap_host.specs.Moments.{IsComing, Fails, HasSources, ReadsSources, with_sources_of, HasRoom}
 use Rattle.dap_host.specs.Told.{said_of, happening_of}
 use Rattle.dap_host.specs.Written.{message_lines, act_lines, refusal_line, target_line}
 use Rattle.dap_host.specs.declared.host.Mark.{Mark}
@@ -41,10 +43,10 @@ use Rattle.dap_host.specs.declared.told.Unread.TheVariants.{Refused, OutOfMemory
 
 -- ---- a host
 
--- the adapter, the sources as JSON, the limits, and how many lines came
+-- the adapter, the sources over which moments are read, the limits, and how many lines came
 pub record HostState : Type 0 where
   pub adapter : AdapterState LiveState
-  pub sources : List ℕ
+  pub sources : List RecordedSource
   pub limits : Settings
   pub number : ℕ
 
@@ -58,9 +60,11 @@ pub record IsGoing (h : HostState) : Type 0 where
 
 -- a host of this file to which no line came
 pub record IsFresh (limits : Settings) (bytes : List ℕ) (h : HostState) : Type 0 where
+  pub told : Data
+  pub has : HasSources bytes told
   pub base : Played
-  pub sources : HasSources bytes h.sources
-  pub reads : ReadsBase h.sources (Ok base)
+  pub reads : ReadsSources told (Ok base)
+  pub sources : h.sources ≡ base.recording.sources
   pub stands : StandsFor h.adapter [] []
   pub session : h.adapter.session ≡ fresh_session limits
   pub debuggee : h.adapter.debuggee ≡ fresh_live base
@@ -110,11 +114,12 @@ dropped_in (Some s) told = why_dropped s (happening_of told)
 abbrev pub drop_of : Phase → Told → Option Drop
 drop_of phase told = dropped_in (state_of phase) told
 
--- why what a host tells is refused: it is not read, or it is dropped, or its moment is none
+-- why what a host tells is refused: it is not read, or it is dropped, or its moment is none, or there is no room for its sources
 pub data RefusesTold (h : HostState) (text : List ℕ) (why : Refusal) : Type 0 where
   unread : said_of text ≡ Err why → RefusesTold h text why
   dropped : (told : Told) (drop : Drop) → said_of text ≡ Ok (Happened told) → drop_of h.adapter.session.phase told ≡ Some drop → why ≡ Dropped drop → RefusesTold h text why
   bad_moment : (told : Told) → said_of text ≡ Ok (Happened told) → drop_of h.adapter.session.phase told ≡ None → Fails h.sources told (Refused why) → RefusesTold h text why
+  no_room : (told : Told) (coming : Coming) → said_of text ≡ Ok (Happened told) → drop_of h.adapter.session.phase told ≡ None → IsComing h.sources told coming → (HasRoom h.sources coming → ⊥) → why ≡ Dropped TooManySources → RefusesTold h text why
 
 -- the same; nothing is said where memory was refused
 abbrev pub IsUnheard : HostState → List ℕ → Unread → Type 0
@@ -127,15 +132,17 @@ pub record HearsTold (h : HostState) (text : List ℕ) (coming : Coming) : Type 
   pub is : said_of text ≡ Ok (Happened told)
   pub kept : drop_of h.adapter.session.phase told ≡ None
   pub comes : IsComing h.sources told coming
+  pub room : HasRoom h.sources coming
 
 -- a line is refused, and nothing else has changed
 pub record Refuses (old : HostState) (why : Refusal) (before after : List ℕ) (new : HostState) : Type 0 where
   pub line : after ≡ before ++ refusal_line old.number why
   pub same : new ≡ old
 
--- the line of this number is refused, or nothing is said
-abbrev pub MayRefuse : ℕ → List ℕ → List ℕ → Type 0
-MayRefuse number before after = (after ≡ before) ⊎ ((why : Drop) × (after ≡ before ++ refusal_line number (Dropped why)))
+-- nothing is said of what is heard; else the line of this number is refused
+abbrev pub SaysDropped : Bool → ℕ → List ℕ → List ℕ → Type 0
+SaysDropped true number before after = after ≡ before
+SaysDropped false number before after = (why : Drop) × (after ≡ before ++ refusal_line number (Dropped why))
 
 -- ---- what is done
 
@@ -165,22 +172,22 @@ pub record AnswersTarget (old : HostState) (number : ℕ) (before after : List �
   pub line : after ≡ before ++ target_line number (target_of old.adapter.session.references number)
   pub same : new ≡ old
 
--- and where the debuggee drops after all what was told, the line is refused behind them
-pub record TellsOrDrops (old : HostState) (before after : List ℕ) (new : HostState) : Type 0 where
+-- where the debuggee drops after all what was told, the line is refused behind them
+pub record TellsOrDrops (old : HostState) (is_heard : Bool) (before after : List ℕ) (new : HostState) : Type 0 where
   pub lines : List ℕ
   pub tells : TellsIt old before lines new
-  pub dropped : MayRefuse old.number lines after
+  pub says : SaysDropped is_heard old.number lines after
 
--- sources that are told are behind those that there were, where they are not dropped
-abbrev pub MayKeep : Option (List ℕ) → HostState → HostState → Type 0
-MayKeep None told new = new ≡ told
-MayKeep (Some more) told new = (new ≡ told) ⊎ (new ≡ record told { sources = joined told.sources more })
+-- sources that come are then behind those that there were; where they are dropped, all is as it was
+abbrev pub kept : Bool → Coming → HostState → HostState
+kept true c h = record h { sources = with_sources_of c h.sources }
+kept false c h = h
 
--- and then sources that were told are kept
-pub record TellsAndKeeps (old : HostState) (more : Option (List ℕ)) (before after : List ℕ) (new : HostState) : Type 0 where
+pub record TellsAndKeeps (old : HostState) (c : Coming) (before after : List ℕ) (new : HostState) : Type 0 where
+  pub is_heard : Bool
   pub told : HostState
-  pub tells : TellsOrDrops old before after told
-  pub keeps : MayKeep more told new
+  pub tells : TellsOrDrops old is_heard before after told
+  pub keeps : new ≡ kept is_heard c told
 
 pub data HearsMessage (old : HostState) (body before after : List ℕ) (new : HostState) : Type 0 where
   refused : (why : Refusal) → RefusesMessage old body why → Refuses old why before after new → HearsMessage old body before after new
@@ -189,7 +196,7 @@ pub data HearsMessage (old : HostState) (body before after : List ℕ) (new : Ho
 pub data HearsHappening (old : HostState) (text before after : List ℕ) (new : HostState) : Type 0 where
   not_heard : (why : Refusal) → RefusesTold old text why → Refuses old why before after new → HearsHappening old text before after new
   asked : (number : ℕ) → said_of text ≡ Ok (Target number) → AnswersTarget old number before after new → HearsHappening old text before after new
-  heard : (coming : Coming) (hears : HearsTold old text coming) (more : Option (List ℕ)) → IsMore hears.told more → TellsAndKeeps old more before after new → HearsHappening old text before after new
+  heard : (coming : Coming) → HearsTold old text coming → TellsAndKeeps old coming before after new → HearsHappening old text before after new
 
 -- ---- a line, by its first two bytes
 

@@ -1,5 +1,5 @@
 -- What is read of a recording holds of every recording.
-use Rattle.std.proofs.Common.{◌≡◌, ℕ, suc, ◌+◌, ◌<◌, ◌≤◌, ◌&&◌, ℤ, Bool, true, false, not, nat_le, nat_lt, nat_eq, if◌then◌else◌, List, [], ◌∷◌, ◌++◌, length, map, Option, Some, None, is_some, option_and_then, option_map, Result, Ok, Err, IfOk, length-append, append_assoc, append-nil, eq-eqb, refl, sym, ap, subst, ◌∙◌, arith, true≢false}
+use Rattle.std.proofs.Common.{◌≡◌, ℕ, suc, ◌+◌, ◌<◌, ◌≤◌, ◌&&◌, ℤ, pos, Bool, true, false, not, nat_le, nat_lt, nat_eq, if◌then◌else◌, List, [], ◌∷◌, ◌++◌, length, map, Option, Some, None, is_some, option_and_then, option_map, Result, Ok, Err, IfOk, length-append, append_assoc, append-nil, eq-eqb, refl, sym, ap, subst, ◌∙◌, arith, true≢false}
 use Rattle.std.proofs.lemmas.Bool.{leb-true, ltb-true, lt-ltb, and_parts, and_from}
 use Rattle.std.proofs.lemmas.Grind.{flat_map-append}
 use Rattle.std.proofs.lemmas.List.{map-append}
@@ -10,9 +10,10 @@ use Rattle.serde_json.specs.Data.{Data, Items, no_items, item}
 use Rattle.serde_json.specs.Events.{items_len}
 use Rattle.serde_json.specs.Find.{as_number, as_u64, as_i64, as_str, as_bool, as_array}
 use Rattle.dap_json.specs.Field.{if_passes, is_object}
+use Rattle.dap_json.specs.Steps.{◌>>=◌}
 use Rattle.dap_call.specs.Argument.{is_int, int_of, number_of}
 use Rattle.dap_debuggee.specs.Laws.{is_frame}
-use Rattle.dap_recording.specs.Reading.{Read, Gives, or_fault, verdict_of, or_bad, required_at, optional_at, optional_or, element, value_at, some_items, few_items, exit_of, line_of, source_place, lines_at, place_of, new_id, thread_place, Numbered, each, each_source, scopes_of, frame_of, thread_of, moment_of, moments_of, source_of, recording_of}
+use Rattle.dap_recording.specs.Reading.{Read, Gives, or_fault, verdict_of, or_bad, required_at, optional_at, optional_or, element, value_at, some_items, few_items, few_in, exit_of, line_of, source_place, lines_at, place_of, new_id, thread_place, Numbered, each, each_source, scopes_of, frame_of, thread_of, moment_of, moments_of, source_of, sources_of, recording_of, alone, alone_over}
 use Rattle.dap_recording.specs.Recording.{objects_of, IsRecording, line_count, is_thread, is_moment, is_rising, are_distinct}
 use Rattle.dap_debuggee.specs.declared.answers.Frame.{Frame}
 use Rattle.dap_recording.specs.declared.reading.RecordingFault.{RecordingFault}
@@ -58,11 +59,17 @@ some_count k d ds e =
     let p = if_ok (nat_le 1 (items_len b.0)) k b.0 ds b.2 in
     subst (λ es. 1 ≤ items_len es) p.1 (leb-true 1 (items_len b.0) p.0)
 
-few_count : (k : RecordingKey) (d : Data) (ds : Items) → few_items k d ≡ Ok ds → items_len ds ≤ 65536
-few_count k d ds e =
-    let b = bind_ok (required_at as_array k d) (λ es. if nat_le (items_len es) 65536 then Ok es else Err k) ds e in
+few_by : (k : RecordingKey) (r : Read Items) (ds : Items) → (r >>= (λ es. if nat_le (items_len es) 65536 then Ok es else Err k)) ≡ Ok ds → items_len ds ≤ 65536
+few_by k r ds e =
+    let b = bind_ok r (λ es. if nat_le (items_len es) 65536 then Ok es else Err k) ds e in
     let p = if_ok (nat_le (items_len b.0) 65536) k b.0 ds b.2 in
     subst (λ es. items_len es ≤ 65536) p.1 (leb-true (items_len b.0) 65536 p.0)
+
+few_count : (k : RecordingKey) (d : Data) (ds : Items) → few_items k d ≡ Ok ds → items_len ds ≤ 65536
+few_count k d ds e = few_by k (required_at as_array k d) ds e
+
+few_in_count : (k : RecordingKey) (d : Data) (ds : Items) → few_in k d ≡ Ok ds → items_len ds ≤ 65536
+few_in_count k d ds e = few_by k (or_bad k (as_array d)) ds e
 
 -- ---- elements
 
@@ -278,8 +285,25 @@ sources_hold (item d ds) found all e p =
 abbrev MomentsHold : ℕ → List Moment × Numbered → Type 0
 MomentsHold sources r = list_all (is_moment sources) r.0 ≡ true
 
+-- moments that are some, read over sources that hold
+recording_holds : (exit : ℤ) (sources : List RecordedSource) (given : Items) (moments : List Moment × Numbered)
+    → length sources ≤ 65536 → list_all is_counted sources ≡ true → 1 ≤ items_len given → moments_of sources given (record { scopes = []; variables = [] }) ≡ Ok moments
+    → IsRecording (record { exit = exit; sources = sources; moments = moments.0; scopes = moments.1.scopes; variables = moments.1.variables })
+unfolding moments_of
+recording_holds exit sources given moments most counted least read =
+    let count = each_count (λ earlier. moment_of sources) given [] (record { scopes = []; variables = [] }) moments read in
+    let all = each_holds (λ earlier. moment_of sources) (MomentsHold (length sources)) (λ found s x next is p. all_more (is_moment (length sources)) found next.0 p (moment_holds sources x s next is)) given [] (record { scopes = []; variables = [] }) moments read refl in
+    record {
+      sources = most;
+      lines = counted;
+      some = omega (arith, count, least);
+      moments = all;
+      holders = λ n. holders_once sources given moments read n;
+      spans = spans_read sources given moments read;
+    }
+
 pub is_read : (d : Data) (r : Recording) → recording_of d ≡ Ok r → IsRecording r
-unfolding recording_of moments_of
+unfolding recording_of
 is_read d r e =
     with_ok (required_at exit_of key.Exit d) _ r e (λ exit exited e1.
     with_ok (few_items key.Sources d) _ r e1 (λ texts few e2.
@@ -288,18 +312,36 @@ is_read d r e =
     with_ok (moments_of sources given (record { scopes = []; variables = [] })) _ r e4 (λ moments read e5.
     let counted = sources_hold texts [] sources told refl in
     let most = few_count key.Sources d texts few in
-    let count = each_count (λ earlier. moment_of sources) given [] (record { scopes = []; variables = [] }) moments read in
-    let least = some_count key.Moments d given some in
-    let all = each_holds (λ earlier. moment_of sources) (MomentsHold (length sources)) (λ found s x next is p. all_more (is_moment (length sources)) found next.0 p (moment_holds sources x s next is)) given [] (record { scopes = []; variables = [] }) moments read refl in
     subst IsRecording (ok_same (record { exit = exit; sources = sources; moments = moments.0; scopes = moments.1.scopes; variables = moments.1.variables }) r e5)
-    (record {
-      sources = omega (arith, counted.1, most);
-      lines = counted.0;
-      some = omega (arith, count, least);
-      moments = all;
-      holders = λ n. holders_once sources given moments read n;
-      spans = spans_read sources given moments read;
-    }))))))
+    (recording_holds exit sources given moments (omega (arith, counted.1, most)) counted.0 (some_count key.Moments d given some) read))))))
+
+-- one moment, read over sources that hold
+pub alone_holds : (sources : List RecordedSource) (d : Data) (r : Recording) → alone sources d ≡ Ok r → length sources ≤ 65536 → list_all is_counted sources ≡ true → IsRecording r
+unfolding alone moments_of
+alone_holds sources d r e most counted =
+    with_ok (moment_of sources d (record { scopes = []; variables = [] })) _ r e (λ moment read e1.
+    let moments : List Moment × Numbered = (moment.0 ∷ [], moment.1) in
+    let all : moments_of sources (item d no_items) (record { scopes = []; variables = [] }) ≡ Ok moments =
+    ap (λ (x : Read (Moment × Numbered)). x >>= (λ next. each (λ earlier. moment_of sources) no_items ([] ++ next.0 ∷ []) next.1)) read in
+    subst IsRecording (ok_same (record { exit = pos 0; sources = sources; moments = moments.0; scopes = moments.1.scopes; variables = moments.1.variables }) r e1)
+    (recording_holds (pos 0) sources (item d no_items) moments most counted (omega arith) all))
+
+-- sources that were read hold
+sources_are_read : (d : Data) (sources : List RecordedSource) → sources_of d ≡ Ok sources → (length sources ≤ 65536) × (list_all is_counted sources ≡ true)
+sources_are_read d sources e =
+    with_ok (few_in key.Sources d) _ sources e (λ given few e1.
+    let counted = sources_hold given [] sources e1 refl in
+    let most = few_in_count key.Sources d given few in
+    (omega (arith, counted.1, most), counted.0))
+
+pub over_read : (ds d : Data) (result : Result Recording RecordingFault) (sources : List RecordedSource) → sources_of ds ≡ Ok sources → Gives result (alone sources d) → IfOk result (λ r. IsRecording r)
+over_read ds d (Ok r) sources read gives = let are = sources_are_read ds sources read in alone_holds sources d r gives are.0 are.1
+over_read ds d (Err fault) sources read gives = tt
+
+pub over_these : (these : Recording) (d : Data) (result : Result Recording RecordingFault) (sources : List RecordedSource) → sources ≡ these.sources → IsRecording these → Gives result (alone sources d) → IfOk result (λ r. IsRecording r)
+over_these these d (Ok r) sources same is gives =
+    alone_holds sources d r gives (subst (λ (xs : List RecordedSource). length xs ≤ 65536) (sym same) is.sources) (subst (λ (xs : List RecordedSource). list_all is_counted xs ≡ true) (sym same) is.lines)
+over_these these d (Err fault) sources same is gives = tt
 
 pub read_holds : (d : Data) (result : Result Recording RecordingFault) → Gives result (recording_of d) → IfOk result (λ r. IsRecording r)
 read_holds d (Ok r) gives = is_read d r gives

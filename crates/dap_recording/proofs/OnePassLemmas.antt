@@ -7,9 +7,9 @@ use Rattle.serde_json.specs.Events.{items_len}
 use Rattle.serde_json.specs.Find.{as_array}
 use Rattle.serde_json.proofs.Views.{get_member-put, get_member-put_other}
 use Rattle.dap_json.specs.Steps.{◌>>=◌}
-use Rattle.dap_recording.specs.Reading.{Read, Numbered, each, moment_of, or_bad, exit_of, few_items, some_items, each_source, moments_of, recording_of}
+use Rattle.dap_recording.specs.Reading.{Read, Numbered, each, moment_of, or_bad, exit_of, few_items, some_items, each_source, sources_of, moments_of, recording_of}
 use Rattle.dap_recording.specs.RecordingKey.{name_of}
-use Rattle.dap_recording.specs.PrivateOnePass.{exit_in, sources_in, sources_of, moments_in, HoldsSeen}
+use Rattle.dap_recording.specs.PrivateOnePass.{exit_in, sources_in, moments_in, HoldsSeen}
 use Rattle.dap_recording.specs.declared.one_pass.Seen.{Seen}
 use Rattle.dap_recording.specs.declared.reading.RecordingKey.TheVariants as key
 use Rattle.dap_recording.specs.declared.recording.RecordedSource.{RecordedSource}

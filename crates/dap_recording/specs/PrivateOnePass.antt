@@ -1,10 +1,8 @@
 -- Words for the private functions that read a recording with no tree of the whole.
-use Rattle.std.specs.Prelude.{◌≡◌, ℤ, List, [], Some, Ok, Err, nat_le, if◌then◌else◌}
-use Rattle.serde_json.specs.Data.{Data, Members, object}
-use Rattle.serde_json.specs.Events.{items_len}
-use Rattle.serde_json.specs.Find.{as_array}
+use Rattle.std.specs.Prelude.{◌≡◌, ℤ, List, [], Some, Ok}
+use Rattle.serde_json.specs.Data.{Members, object}
 use Rattle.dap_json.specs.Steps.{◌>>=◌}
-use Rattle.dap_recording.specs.Reading.{Read, Numbered, or_bad, required_at, exit_of, few_items, some_items, each_source, moments_of}
+use Rattle.dap_recording.specs.Reading.{Read, Numbered, required_at, exit_of, few_items, some_items, each_source, moments_of}
 use Rattle.dap_recording.specs.declared.reading.RecordingKey.TheVariants as key
 use Rattle.dap_recording.specs.declared.recording.RecordedSource.{RecordedSource}
 use Rattle.dap_recording.specs.declared.recording.Moment.{Moment}
@@ -16,14 +14,6 @@ exit_in ms = required_at exit_of key.Exit (object ms)
 abbrev pub sources_in : Members → Read (List RecordedSource)
 sources_in ms = do
   given ← few_items key.Sources (object ms)
-  each_source given []
-
--- the same of the value at that key
-abbrev pub sources_of : Data → Read (List RecordedSource)
-sources_of d = do
-  given ← do
-    ds ← or_bad key.Sources (as_array d)
-    if nat_le (items_len ds) 65536 then Ok ds else Err key.Sources
   each_source given []
 
 abbrev pub moments_in : List RecordedSource → Members → Read (List Moment × Numbered)

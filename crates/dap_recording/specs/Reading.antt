@@ -1,6 +1,6 @@
 -- Which recording JSON data is, or the first bad key in the order of the format's keys.
 -- The format is this profile's own. An absent key is absent; `null` is a value like any other.
-use Rattle.std.specs.Prelude.{◌≡◌, ℕ, suc, ◌&&◌, ℤ, false, not, nat_le, nat_lt, List, [], ◌∷◌, ◌++◌, length, Option, Some, None, is_some, option_and_then, option_map, unwrap_or, Result, Ok, Err, if◌then◌else◌, Vec}
+use Rattle.std.specs.Prelude.{◌≡◌, ℕ, suc, ◌&&◌, ℤ, pos, false, not, nat_le, nat_lt, List, [], ◌∷◌, ◌++◌, length, Option, Some, None, is_some, option_and_then, option_map, unwrap_or, Result, Ok, Err, if◌then◌else◌, Vec}
 use Rattle.std.specs.Borrow.{Bor}
 use Rattle.std.specs.declared.alloc.Global.{Global}
 use Rattle.std.specs.List.{slice_get}
@@ -103,6 +103,12 @@ some_items k d = do
 abbrev pub few_items : RecordingKey → Data → Read Items
 few_items k d = do
   ds ← required_at as_array k d
+  if nat_le (items_len ds) 65536 then Ok ds else Err k
+
+-- the same of the array itself
+abbrev pub few_in : RecordingKey → Data → Read Items
+few_in k d = do
+  ds ← or_bad k (as_array d)
   if nat_le (items_len ds) 65536 then Ok ds else Err k
 
 -- ---- shapes
@@ -263,6 +269,12 @@ each_source (item d ds) found = do
   source ← source_of d
   each_source ds (found ++ source ∷ [])
 
+-- of an array
+abbrev pub sources_of : Data → Read (List RecordedSource)
+sources_of d = do
+  given ← few_in key.Sources d
+  each_source given []
+
 unfoldable pub recording_of : Data → Read Recording
 recording_of d = do
   exit ← required_at exit_of key.Exit d
@@ -271,6 +283,18 @@ recording_of d = do
   given ← some_items key.Moments d
   moments ← moments_of sources given (record { scopes = []; variables = [] })
   Ok (record { exit = exit; sources = sources; moments = moments.0; scopes = moments.1.scopes; variables = moments.1.variables })
+
+-- one moment over sources that were read
+unfoldable pub alone : List RecordedSource → Data → Read Recording
+alone sources d = do
+  moment ← moment_of sources d (record { scopes = []; variables = [] })
+  Ok (record { exit = pos 0; sources = sources; moments = moment.0 ∷ []; scopes = moment.1.scopes; variables = moment.1.variables })
+
+-- sources, and one moment over them
+abbrev pub alone_over : Data → Data → Read Recording
+alone_over sources d = do
+  read ← sources_of sources
+  alone read d
 
 abbrev pub or_fault : Read Recording → Result Recording RecordingFault
 or_fault (Ok r) = Ok r

@@ -4,6 +4,7 @@
 //! This crate knows the format of recordings; it must not know how one is played.
 #![tactic(auto)]
 
+mod alone;
 pub mod numbers;
 mod one_pass;
 mod read;
@@ -15,4 +16,5 @@ mod texts;
 
 pub use dap_json::List;
 pub use reading::{RecordingFault, RecordingKey};
-pub use recording::{Moment, RecordedSource, RecordedThread, Recording, Span};
+pub use recording::{Moment, RecordedSource, RecordedThread, Recording, Sources, Span};
+pub use texts::Texts;

@@ -7,13 +7,13 @@ ghost use Rattle.serde_json.specs.Data.{Data, Items as DataItems, Members, array
 ghost use Rattle.serde_json.specs.View.{view};
 ghost use Rattle.dap_json.specs.Read.{json_of};
 ghost use Rattle.dap_json.specs.ObjectReader.{IsRestOf, IsNext};
-ghost use Rattle.dap_recording.specs.Reading.{moment_of, moments_of, recording_of, verdict_of};
+ghost use Rattle.dap_recording.specs.Reading.{moment_of, moments_of, sources_of, recording_of, verdict_of};
 ghost use Rattle.dap_recording.specs.RecordingKey.{name_of};
-ghost use Rattle.dap_recording.specs.PrivateOnePass.{HoldsSeen, sources_of};
+ghost use Rattle.dap_recording.specs.PrivateOnePass.{HoldsSeen};
 ghost use Rattle.dap_recording.specs.declared.reading.RecordingKey.TheVariants as key;
 
 use crate::reading::{RecordingFault, RecordingKey};
-use crate::recording::{Moment, RecordedSource, Recording};
+use crate::recording::{Moment, RecordedSource, Recording, Sources};
 use crate::rows::Numbers;
 use crate::texts::Texts;
 use crate::{numbers, rows};
@@ -54,7 +54,7 @@ impl From<RecordingFault> for NotGiven {
 #[derive(Drop)]
 struct Seen {
     exit: Option<i32>,
-    sources: Option<List<RecordedSource>>,
+    sources: Option<Sources>,
     moments: Option<(List<Moment>, Numbers)>,
 }
 
@@ -102,18 +102,11 @@ fn take_exit(
 }
 
 /// The sources that the items of an array are.
-#[tactic(auto, using(crate::proofs::Elements::count_is_length))]
-fn sources(texts: &mut Texts, value: &Value) -> Result<List<RecordedSource>, NotGiven>
+fn sources(texts: &mut Texts, value: &Value) -> Result<Sources, NotGiven>
     ensures { IfOk result (λ sources. sources_of (view value.now) ≡ Ok sources) }
 {
-    let Some(items) = value.as_array() else {
-        return Err(NotGiven);
-    };
-    if items.len() > numbers::MAX_SOURCES {
-        return Err(NotGiven);
-    }
-    let sources = rows::sources(texts, items)?;
-    Ok(List::new(sources))
+    let sources = rows::sources_in(texts, value)?;
+    Ok(Sources::new(texts.alloc, sources)?)
 }
 
 /// Takes the sources, which come before the moments.
@@ -221,7 +214,7 @@ fn recording_seen(seen: Seen) -> Option<Recording>
     let (Some(exit), Some(sources), Some((moments, numbers))) = (exit, sources, moments) else {
         return None;
     };
-    Some(numbers.into_recording(exit, sources.into_vec(), moments.into_vec()))
+    Some(numbers.into_recording(exit, sources, moments.into_vec()))
 }
 
 /// The recording that bytes are, if it is given here.

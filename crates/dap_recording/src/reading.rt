@@ -3,7 +3,7 @@ ghost use Rattle.std.specs.Prelude.{◌≡◌, [], false};
 ghost use Rattle.serde_json.specs.View.{view};
 ghost use Rattle.serde_json.specs.Find.{as_str, as_bool, as_array};
 ghost use Rattle.serde_json.specs.Data.{no_items};
-ghost use Rattle.dap_recording.specs.Reading.{Gives, GivesItems, element as element_of, exit_of, some_items as some_items_of, few_items as few_items_of, required_at, optional_at, optional_or};
+ghost use Rattle.dap_recording.specs.Reading.{Gives, GivesItems, element as element_of, exit_of, some_items as some_items_of, few_items as few_items_of, few_in, required_at, optional_at, optional_or};
 
 use crate::numbers;
 use crate::texts::Texts;
@@ -207,6 +207,20 @@ pub(crate) fn some_items(value: &Value, key: RecordingKey) -> Result<&[Value], R
 {
     let items = items(value, key)?;
     if items.is_empty() {
+        return Err(bad(key));
+    }
+    Ok(items)
+}
+
+/// The elements of an array, which is not too long.
+#[tactic(auto, using(crate::proofs::Elements::count_is_length))]
+pub(crate) fn few(value: &Value, key: RecordingKey) -> Result<&[Value], RecordingFault>
+    ensures { GivesItems result (few_in key (view value.now)) }
+{
+    let Some(items) = value.as_array() else {
+        return Err(bad(key));
+    };
+    if items.len() > numbers::MAX_SOURCES {
         return Err(bad(key));
     }
     Ok(items)

@@ -2,11 +2,11 @@
 ghost use Rattle.std.specs.Prelude.{◌≡◌, [], IfOk};
 ghost use Rattle.serde_json.specs.View.{view, items_view};
 ghost use Rattle.dap_recording.specs.declared.reading.RecordingKey.TheVariants as key;
-ghost use Rattle.dap_recording.specs.Reading.{Numbered, GivesListWith, GivesList, Gives, GivesWith, value_at, required_at, read_variables, variable_row, variables_of, holder_of, with_holder, each, each_source, scope_of, scopes_of, frame_of, thread_of, moment_of, moments_of, source_of, recording_of, source_place as source_place_of, line_of, lines_at, place_of, new_id as new_id_of, thread_place as thread_place_of};
+ghost use Rattle.dap_recording.specs.Reading.{Numbered, GivesListWith, GivesList, Gives, GivesWith, value_at, required_at, read_variables, variable_row, variables_of, holder_of, with_holder, each, each_source, scope_of, scopes_of, frame_of, thread_of, moment_of, moments_of, source_of, recording_of, source_place as source_place_of, line_of, lines_at, place_of, new_id as new_id_of, thread_place as thread_place_of, sources_of, alone as alone_of};
 
 use crate::read_threads::ReadThreads;
 use crate::reading::{RecordingFault, RecordingKey, bad};
-use crate::recording::{Moment, RecordedSource, RecordedThread, Recording, Span};
+use crate::recording::{Moment, RecordedSource, RecordedThread, Recording, Sources, Span};
 use crate::texts::Texts;
 use crate::{numbers, reading};
 use dap_debuggee::{Frame, Scope, Variable};
@@ -394,15 +394,15 @@ impl Numbers {
     pub(crate) fn into_recording(
         self,
         exit: i32,
-        sources: Vec<RecordedSource>,
+        sources: Sources,
         moments: Vec<Moment>,
     ) -> Recording
-        ensures { result ≡ record { exit = exit; sources = sources.items; moments = moments.items; scopes = self.scopes; variables = self.variables } }
+        ensures { result ≡ record { exit = exit; sources = sources; moments = moments.items; scopes = self.scopes; variables = self.variables } }
     {
         let Numbers { scopes, variables } = self;
         Recording {
             exit,
-            sources: List::new(sources),
+            sources,
             moments: List::new(moments),
             scopes: List::new(scopes),
             variables: List::new(variables),
@@ -421,5 +421,33 @@ pub(crate) fn recording(texts: &mut Texts, value: &Value) -> Result<Recording, R
     let items = reading::some_items(value, RecordingKey::Moments)?;
     let mut numbers = Numbers::new(texts.alloc);
     let moments = moments(texts, &sources, items, &mut numbers)?;
+    let sources = Sources::new(texts.alloc, sources)?;
     Ok(numbers.into_recording(exit, sources, moments))
+}
+
+/// The sources that an array is.
+pub(crate) fn sources_in(
+    texts: &mut Texts,
+    value: &Value,
+) -> Result<Vec<RecordedSource>, RecordingFault>
+    ensures { GivesList result (sources_of (view value.now)) }
+{
+    let items = reading::few(value, RecordingKey::Sources)?;
+    sources(texts, items)
+}
+
+/// The recording of one moment over sources.
+#[tactic(auto, unfolding(crate::specs::Reading::alone))]
+pub(crate) fn alone(
+    texts: &mut Texts,
+    sources: Sources,
+    value: &Value,
+) -> Result<Recording, RecordingFault>
+    ensures { Gives result (alone_of sources (view value.now)) }
+{
+    let mut numbers = Numbers::new(texts.alloc);
+    let moment = moment(texts, sources.as_slice(), value, &mut numbers)?;
+    let mut moments = Vec::with_capacity(texts.alloc, 1)?;
+    moments.push(moment)?;
+    Ok(numbers.into_recording(0, sources, moments))
 }

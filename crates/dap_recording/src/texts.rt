@@ -1,4 +1,4 @@
-//! The texts of a recording that is being read. Many of them are the same, and those share their memory.
+//! The texts of recordings that are read. Many of them are the same, and those share their memory.
 ghost use Rattle.std.specs.Prelude.{◌≡◌, IfOk};
 
 use dap_json::Text;
@@ -13,9 +13,10 @@ const MOST_PLACES: usize = 4096;
 /// For so many bytes of a recording there is one place.
 const BYTES_A_PLACE: usize = 256;
 
-/// Texts that came last, each at a place that its bytes give.
+/// Texts that came last, each at a place that its bytes give. Whoever reads many moments keeps one. It takes at most 4096 texts of
+/// 64 bytes.
 #[derive(Drop)]
-pub(crate) struct Texts {
+pub struct Texts {
     pub(crate) alloc: Global,
     places: Vec<Text>,
 }
@@ -30,8 +31,11 @@ fn hash_of(bytes: &[u8]) -> usize {
 }
 
 impl Texts {
-    /// None came yet of a recording of so many bytes.
-    pub(crate) fn new(alloc: Global, bytes: usize) -> Result<Texts, AllocError> {
+    /// None came yet, of so many bytes of recordings: the more these are, the more texts are kept.
+    ///
+    /// # Errors
+    /// `AllocError` where memory for the places is refused.
+    pub fn new(alloc: Global, bytes: usize) -> Result<Texts, AllocError> {
         let count = (bytes / BYTES_A_PLACE).min(MOST_PLACES);
         let mut places = Vec::with_capacity(alloc, count)?;
         for _ in 0..count {

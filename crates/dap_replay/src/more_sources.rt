@@ -1,27 +1,9 @@
 //! Sources that come later.
-ghost use Rattle.std.specs.Prelude.{◌≡◌, ◌++◌, OnOk, OnErr};
 
 use crate::paths;
 use crate::recorded::Recorded;
-use dap_json::List;
-use dap_recording::{RecordedSource, Recording};
 use std::alloc::{AllocError, Global};
-use std::mem;
-
-/// Puts sources behind those that are in a list.
-fn append(
-    alloc: Global,
-    sources: &mut List<RecordedSource>,
-    more: List<RecordedSource>,
-) -> Result<(), AllocError>
-    ensures added { OnOk result (sources.new ≡ sources.old ++ more) }
-    ensures memory { OnErr result (sources.new ≡ sources.old) }
-{
-    let mut all = mem::replace(sources, List::new(Vec::new(alloc))).into_vec();
-    let appended = all.append(&mut more.into_vec());
-    *sources = List::new(all);
-    appended
-}
+use std::sync::Arc;
 
 impl Recorded {
     ghost use Rattle.std.specs.Prelude.{◌≡◌, ◌≤◌, ◌+◌, length, OnOk, OnErr};
@@ -32,15 +14,16 @@ impl Recorded {
     ///
     /// # Errors
     /// `AllocError` where memory is refused. All is then as it was.
-    pub fn add_sources(&mut self, alloc: Global, more: Recorded) -> Result<(), AllocError>
-        requires { length (shown_of self.old).sources + length (shown_of more).sources ≤ 65536 }
-        ensures added { OnOk result (self.new ≡ with_sources_of more self.old) }
+    pub fn add_sources(&mut self, alloc: Global, more: &Recorded) -> Result<(), AllocError>
+        requires { length (shown_of self.old).sources + length (shown_of more.now).sources ≤ 65536 }
+        ensures added { OnOk result (self.new ≡ with_sources_of more.now self.old) }
         ensures memory { OnErr result (self.new ≡ self.old) }
     {
-        let Recorded { recording, .. } = more;
-        let Recording { sources, .. } = recording;
-        let paths = paths::of_both(alloc, self.recording.sources.as_slice(), sources.as_slice())?;
-        append(alloc, &mut self.recording.sources, sources)?;
+        let sources = &self.recording.sources;
+        let more = &more.recording.sources;
+        let paths = paths::of_both(alloc, sources.as_slice(), more.as_slice())?;
+        let paths = Arc::new(alloc, paths)?;
+        self.recording.sources = sources.with(alloc, more)?;
         self.paths = paths;
         Ok(())
     }

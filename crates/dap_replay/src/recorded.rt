@@ -19,6 +19,7 @@ use dap_json::Text;
 use dap_recording::Recording;
 use std::alloc::{AllocError, Global};
 use std::marker::Model;
+use std::sync::Arc;
 
 /// The rest of a run.
 #[derive(Clone, Copy, Debug)]
@@ -63,8 +64,8 @@ pub(crate) enum LastAsked {
 #[derive(Drop)]
 pub struct Recorded {
     pub(crate) recording: Recording,
-    /// How many lines there are under each path of its sources.
-    pub(crate) paths: Paths,
+    /// How many lines there are under each path of its sources. Debuggees of the same sources share it.
+    pub(crate) paths: Arc<Paths>,
     pub(crate) state: State,
     /// The place of the moment that is shown.
     pub(crate) at: usize,
@@ -96,7 +97,7 @@ impl Model for Recorded {
       last = last_of r.recording r.last;
     } };
 
-    ghost invariant = { λ r. IsRecording r.recording × (r.at < length r.recording.moments) × IsOutputWhole r.recording.moments r.going × HasMost r.paths.most r.recording.sources × HasRun r.state r.going × KeepHolders r.recording.variables r.changed };
+    ghost invariant = { λ r. IsRecording r.recording × (r.at < length r.recording.moments) × IsOutputWhole r.recording.moments r.going × HasMost r.paths.value.most r.recording.sources × HasRun r.state r.going × KeepHolders r.recording.variables r.changed };
 }
 
 impl Recorded {
@@ -104,7 +105,7 @@ impl Recorded {
     ghost use Rattle.std.specs.Option.{IsSome};
     ghost use Rattle.dap_replay.specs.Played.{fresh_played, after_start, after_resume};
     ghost use Rattle.dap_recording.specs.Recording.{IsRecording};
-    ghost use Rattle.dap_replay.specs.PrivateHeld.{after_act, KeepHolders};
+    ghost use Rattle.dap_replay.specs.PrivateHeld.{after_act, HasMost, KeepHolders};
     ghost use Rattle.dap_replay.specs.Played.{shown_of};
     ghost use Rattle.dap_replay.specs.ShownNumbers.{ShownCanBeAsked, NamesOneHolder};
     ghost use Rattle.dap_tables.specs.SourceMap.{count, HasNoEmptyList};
@@ -115,7 +116,17 @@ impl Recorded {
         ensures { IfOk result (λ r. r ≡ fresh_played recording) }
     {
         let paths = paths::of_sources(alloc, recording.sources.as_slice())?;
-        Ok(Recorded {
+        let paths = Arc::new(alloc, paths)?;
+        Ok(Recorded::of_both(alloc, recording, paths))
+    }
+
+    /// The same, where the lines under each path are known.
+    pub(crate) fn of_both(alloc: Global, recording: Recording, paths: Arc<Paths>) -> Recorded
+        requires is { IsRecording recording }
+        requires paths { HasMost paths.value.most recording.sources }
+        ensures { result ≡ fresh_played recording }
+    {
+        Recorded {
             recording,
             paths,
             state: State::NotStarted,
@@ -125,7 +136,7 @@ impl Recorded {
             changed: HolderMap::new(alloc),
             acts: 0,
             last: LastAsked::Never,
-        })
+        }
     }
 
     /// Counts and remembers an act.
@@ -138,7 +149,7 @@ impl Recorded {
 
     /// What holds of the recording, and of the values that were set. There is nothing to run.
     #[inline(always)]
-    fn is_recording(&self)
+    pub(crate) fn is_recording(&self)
         ensures recording { IsRecording self.now.recording }
         ensures changed { KeepHolders self.now.recording.variables self.now.changed }
     {

@@ -1,5 +1,5 @@
 use Rattle.std.proofs.Common.{◌≡◌, ◌∙◌, Ok, sym, ap}
-use Rattle.dap_recording.specs.PrivateOnePass.{sources_of}
+use Rattle.dap_recording.specs.Reading.{sources_of}
 use Rattle.dap_recording.proofs.OnePassLemmas.{sources_taken}
 use Rattle.dap_recording.proofs.one_pass.take_sources.Goals as goal
 
