@@ -16,6 +16,7 @@ use Rattle.dap_live.specs.LiveShown.{LiveState, shown_live}
 use Rattle.dap_message.specs.ReadBack.{AllReadBack}
 use Rattle.dap_message.specs.declared.message.Message.{Message}
 use Rattle.dap_outbox.specs.Draft.{bytes_of}
+use Rattle.dap_recording.specs.declared.recording.RecordedSource.{RecordedSource}
 use Rattle.dap_session.specs.Polling.{has_debuggee}
 use Rattle.dap_session.specs.Session.{Session, fresh_session}
 use Rattle.dap_session.specs.SessionState.{SessionState}
@@ -218,10 +219,10 @@ at_moment : (h : HostState) (text : List ℕ) (t : Told) → said_of text ≡ Ok
 at_moment h text t is kept (Refused why) fails = bad_moment t is kept fails
 at_moment h text t is kept NoMemory fails = tt
 
-pub unheard_at : (o h : HostState) (text sources : List ℕ) (phase : Phase) (t : Told) (r : Result Coming Unread) (found : Option Drop) → o ≡ h → said_of text ≡ Ok (Happened t) → phase ≡ o.adapter.session.phase → found ≡ drop_of phase t → found ≡ None → sources ≡ o.sources → IfErr r (Fails sources t) → IfErr r (IsUnheard h text)
+pub unheard_at : (o h : HostState) (text : List ℕ) (sources : List RecordedSource) (phase : Phase) (t : Told) (r : Result Coming Unread) (found : Option Drop) → o ≡ h → said_of text ≡ Ok (Happened t) → phase ≡ o.adapter.session.phase → found ≡ drop_of phase t → found ≡ None → sources ≡ o.sources → IfErr r (Fails sources t) → IfErr r (IsUnheard h text)
 unheard_at o h text sources phase t r found e is p d none s fails =
     let kept : drop_of o.adapter.session.phase t ≡ None = ap (λ (z : Phase). drop_of z t) (sym p) ∙ (sym d ∙ none) in
-    subst (λ (z : HostState). IfErr r (IsUnheard z text)) e (if_err r (λ u. at_moment o text t is kept u) (subst (λ (z : List ℕ). IfErr r (Fails z t)) s fails))
+    subst (λ (z : HostState). IfErr r (IsUnheard z text)) e (if_err r (λ u. at_moment o text t is kept u) (subst (λ (z : List RecordedSource). IfErr r (Fails z t)) s fails))
 
 pub dropped_at : (o h : HostState) (text : List ℕ) (phase : Phase) (t : Told) (found : Option Drop) (why : Drop) → o ≡ h → said_of text ≡ Ok (Happened t) → phase ≡ o.adapter.session.phase → found ≡ drop_of phase t → found ≡ Some why → RefusesTold h text (Dropped why)
 dropped_at o h text phase t found why e is p d some = subst (λ (z : HostState). RefusesTold z text (Dropped why)) e (dropped t why is (ap (λ (z : Phase). drop_of z t) (sym p) ∙ (sym d ∙ some)) refl)

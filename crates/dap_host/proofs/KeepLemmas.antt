@@ -1,12 +1,13 @@
--- Sources that are kept leave the host going, and what is told is one thing.
-use Rattle.std.proofs.Common.{◌≡◌, ◌⊎◌, ℕ, List, Option, Some, None, Ok, sym, subst, inl, inr}
-use Rattle.dap_host.specs.Hearing.{HostState, IsGoing, MayKeep}
-use Rattle.dap_host.specs.Moments.{IsMore, joined}
-use Rattle.dap_host.specs.Told.{said_of}
-use Rattle.dap_host.specs.declared.told.Said.TheVariants.{Happened}
-use Rattle.dap_host.specs.declared.told.Told.{Told}
+-- Sources that are kept leave the host going.
+use Rattle.std.proofs.Common.{◌≡◌, Bool, true, false, List, Option, Some, None, refl, sym, ap, subst, ◌∙◌}
+use Rattle.dap_live.specs.declared.mail.Coming.{Coming}
+use Rattle.dap_recording.specs.declared.recording.RecordedSource.{RecordedSource}
+use Rattle.dap_replay.specs.Played.{Played}
+use Rattle.dap_host.specs.Hearing.{HostState, IsGoing, kept}
+use Rattle.dap_host.specs.Moments.{sources_after}
+use Rattle.dap_host.specs.PrivateKeeping.{AreAll, keeps_all}
 
-going_with : (h : HostState) (sources : List ℕ) → IsGoing h → IsGoing (record h { sources = sources })
+going_with : (h : HostState) (sources : List RecordedSource) → IsGoing h → IsGoing (record h { sources = sources })
 going_with h sources going = record {
   used = going.used;
   history = going.history;
@@ -15,15 +16,13 @@ going_with h sources going = record {
   limits_are = going.limits_are;
 }
 
-kept_going : (h k : HostState) (more : List ℕ) → (k ≡ h) ⊎ (k ≡ record h { sources = joined h.sources more }) → IsGoing h → IsGoing k
-kept_going h k more (inl same) going = subst IsGoing (sym same) going
-kept_going h k more (inr is) going = subst IsGoing (sym is) (going_with h (joined h.sources more) going)
+pub keeps_going : (is_heard : Bool) (all : Option Played) (h k : HostState) → k ≡ keeps_all is_heard all h → IsGoing h → IsGoing k
+keeps_going true (Some all) h k is going = subst IsGoing (sym is) (going_with h all.recording.sources going)
+keeps_going true None h k is going = subst IsGoing (sym is) going
+keeps_going false all h k is going = subst IsGoing (sym is) going
 
-pub keeps_going : (more : Option (List ℕ)) (h k : HostState) → MayKeep more h k → IsGoing h → IsGoing k
-keeps_going None h k same going = subst IsGoing (sym same) going
-keeps_going (Some more) h k keeps going = kept_going h k more keeps going
-
--- a text tells one thing
-pub one_told : (text : List ℕ) (t u : Told) (more : Option (List ℕ)) → said_of text ≡ Ok (Happened t) → said_of text ≡ Ok (Happened u) → IsMore t more → IsMore u more
-one_told text t u more is also holds =
-    let same : t ≡ u = cc in subst (λ (z : Told). IsMore z more) same holds
+-- what is held until then is what is kept
+pub all_kept : (is_heard : Bool) (all : Option Played) (c : Coming) (h k : HostState) (sources : List RecordedSource) → h.sources ≡ sources → AreAll c sources all → k ≡ keeps_all is_heard all h → k ≡ kept is_heard c h
+all_kept true (Some all) c h k sources same are is = is ∙ ap (λ (xs : List RecordedSource). record h { sources = xs }) (are ∙ ap (sources_after c) (sym same))
+all_kept true None c h k sources same are is = is ∙ ap (λ (xs : List RecordedSource). record h { sources = xs }) (same ∙ sym are ∙ ap (sources_after c) (sym same))
+all_kept false all c h k sources same are is = is

@@ -1,6 +1,5 @@
 mod AddsLemmas
 mod MessageLemmas
-mod MomentLemmas
 mod GoingLemmas
 mod LineLemmas
 mod FetchLemmas

@@ -1,12 +1,13 @@
 -- A line is counted, and heard by its mark.
-use Rattle.std.proofs.Common.{◌≡◌, ℕ, ◌+◌, List, [], ◌∷◌, length, refl, sym, ap, ◌∙◌, subst, arith, inr, Err}
+use Rattle.std.proofs.Common.{◌≡◌, ◌≢◌, ℕ, ◌+◌, List, [], ◌∷◌, length, refl, sym, ap, ◌∙◌, subst, arith, inr, Err}
 use Rattle.std.specs.Prelude.{drop}
+use Rattle.serde_json.specs.Data.{Data}
 use Rattle.dap_channel.specs.Sent.{saturating_count}
 use Rattle.dap_recording.specs.declared.reading.RecordingFault.{RecordingFault}
 use Rattle.dap_recording.specs.declared.reading.RecordingFault.TheVariants as fault
 use Rattle.dap_session.specs.declared.fault.AdapterFault.{AdapterFault}
 use Rattle.dap_host.specs.Hearing.{HostState, IsGoing, counted, mark_of, HearsMarked, StopsMarked, Hears, Stops}
-use Rattle.dap_host.specs.Moments.{HasSources, ReadsBase, FileRefused}
+use Rattle.dap_host.specs.Moments.{HasSources, ReadsSources, FileRefused}
 
 -- only the count is another
 pub counted_is : (o h k : HostState) → o ≡ h → k ≡ record o { number = k.number } → k.number ≡ saturating_count (o.number + 1) → k ≡ counted h
@@ -30,8 +31,8 @@ stops_line h g k line before after fault is stops = subst (λ (z : HostState). S
 
 -- ---- a file without sources
 
-pub bad_base : (bytes text read : List ℕ) (f : RecordingFault) → HasSources bytes text → read ≡ text → ReadsBase read (Err f) → FileRefused bytes f
-bad_base bytes text read fault.NotJson has e reads = inr (record { text = text; sources = has; reads = subst (λ (z : List ℕ). ReadsBase z (Err fault.NotJson)) e reads })
-bad_base bytes text read fault.NotObject has e reads = inr (record { text = text; sources = has; reads = subst (λ (z : List ℕ). ReadsBase z (Err fault.NotObject)) e reads })
-bad_base bytes text read (fault.BadKey k) has e reads = inr (record { text = text; sources = has; reads = subst (λ (z : List ℕ). ReadsBase z (Err (fault.BadKey k))) e reads })
-bad_base bytes text read fault.OutOfMemory has e reads = tt
+pub bad_base : (bytes : List ℕ) (sources : Data) (f : RecordingFault) → HasSources bytes sources → (f ≢ fault.OutOfMemory → ReadsSources sources (Err f)) → FileRefused bytes f
+bad_base bytes sources fault.NotJson has reads = inr (record { sources = sources; has = has; reads = reads (λ e. cc e) })
+bad_base bytes sources fault.NotObject has reads = inr (record { sources = sources; has = has; reads = reads (λ e. cc e) })
+bad_base bytes sources (fault.BadKey k) has reads = inr (record { sources = sources; has = has; reads = reads (λ e. cc e) })
+bad_base bytes sources fault.OutOfMemory has reads = tt

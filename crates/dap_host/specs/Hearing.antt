@@ -29,7 +29,7 @@ use Rattle.dap_replay.specs.Played.{Played}
 use Rattle.dap_session.specs.Session.{fresh_session}
 use Rattle.dap_tables.specs.References.{target_of}
 use Rattle.dap_session.specs.declared.fault.AdapterFault.{AdapterFault}
-use Rattle.dap_host.specs.Moments.{IsComing, Fails, HasSources, ReadsSources, with_sources_of, HasRoom}
+use Rattle.dap_host.specs.Moments.{IsComing, Fails, HasSources, ReadsSources, sources_after, HasRoom}
 use Rattle.dap_host.specs.Told.{said_of, happening_of}
 use Rattle.dap_host.specs.Written.{message_lines, act_lines, refusal_line, target_line}
 use Rattle.dap_host.specs.declared.host.Mark.{Mark}
@@ -114,24 +114,28 @@ dropped_in (Some s) told = why_dropped s (happening_of told)
 abbrev pub drop_of : Phase → Told → Option Drop
 drop_of phase told = dropped_in (state_of phase) told
 
+-- this comes of what a host tells
+pub record Comes (h : HostState) (text : List ℕ) (coming : Coming) : Type 0 where
+  pub told : Told
+  pub is : said_of text ≡ Ok (Happened told)
+  pub in_turn : drop_of h.adapter.session.phase told ≡ None
+  pub comes : IsComing h.sources told coming
+
 -- why what a host tells is refused: it is not read, or it is dropped, or its moment is none, or there is no room for its sources
 pub data RefusesTold (h : HostState) (text : List ℕ) (why : Refusal) : Type 0 where
   unread : said_of text ≡ Err why → RefusesTold h text why
   dropped : (told : Told) (drop : Drop) → said_of text ≡ Ok (Happened told) → drop_of h.adapter.session.phase told ≡ Some drop → why ≡ Dropped drop → RefusesTold h text why
   bad_moment : (told : Told) → said_of text ≡ Ok (Happened told) → drop_of h.adapter.session.phase told ≡ None → Fails h.sources told (Refused why) → RefusesTold h text why
-  no_room : (told : Told) (coming : Coming) → said_of text ≡ Ok (Happened told) → drop_of h.adapter.session.phase told ≡ None → IsComing h.sources told coming → (HasRoom h.sources coming → ⊥) → why ≡ Dropped TooManySources → RefusesTold h text why
+  no_room : (coming : Coming) → Comes h text coming → (HasRoom h.sources coming → ⊥) → why ≡ Dropped TooManySources → RefusesTold h text why
 
 -- the same; nothing is said where memory was refused
 abbrev pub IsUnheard : HostState → List ℕ → Unread → Type 0
 IsUnheard h text (Refused why) = RefusesTold h text why
 IsUnheard h text NoMemory = Unit {0}
 
--- what a host tells that is heard: this comes of it
+-- it is heard, where there is room
 pub record HearsTold (h : HostState) (text : List ℕ) (coming : Coming) : Type 0 where
-  pub told : Told
-  pub is : said_of text ≡ Ok (Happened told)
-  pub kept : drop_of h.adapter.session.phase told ≡ None
-  pub comes : IsComing h.sources told coming
+  pub comes : Comes h text coming
   pub room : HasRoom h.sources coming
 
 -- a line is refused, and nothing else has changed
@@ -180,7 +184,7 @@ pub record TellsOrDrops (old : HostState) (is_heard : Bool) (before after : List
 
 -- sources that come are then behind those that there were; where they are dropped, all is as it was
 abbrev pub kept : Bool → Coming → HostState → HostState
-kept true c h = record h { sources = with_sources_of c h.sources }
+kept true c h = record h { sources = sources_after c h.sources }
 kept false c h = h
 
 pub record TellsAndKeeps (old : HostState) (c : Coming) (before after : List ℕ) (new : HostState) : Type 0 where

@@ -2,6 +2,7 @@ pub mod Written
 pub mod Told
 pub mod Moments
 pub mod Hearing
+pub mod PrivateKeeping
 pub mod Fetching
 pub mod PrivateFetching
 pub mod Hosting

@@ -75,9 +75,9 @@ Fails sources t unread.OutOfMemory = Unit {0}
 -- ---- sources that are told
 
 -- those that come are behind those there are; nothing else brings sources
-abbrev pub with_sources_of : Coming → List RecordedSource → List RecordedSource
-with_sources_of (coming.Sources base) sources = sources ++ base.recording.sources
-with_sources_of _ sources = sources
+abbrev pub sources_after : Coming → List RecordedSource → List RecordedSource
+sources_after (coming.Sources base) sources = sources ++ base.recording.sources
+sources_after _ sources = sources
 
 -- there is room for those that come
 abbrev pub HasRoom : List RecordedSource → Coming → Type 0

@@ -8,8 +8,9 @@ ghost use Rattle.dap_host.specs.Hearing.{mark_of, state_of, drop_of};
 
 use crate::acts::push_acts;
 use crate::messages::push_messages;
-use crate::moments::{base_of, coming_of, join, more_of, sources_in};
+use crate::moments::{coming_of, sources_in};
 use crate::refusal::{Refusal, push_refusal};
+use crate::sources::HostSources;
 use crate::streams::frames_come_one_by_one;
 use crate::targets::push_target;
 use crate::told::{Said, Told, Unread, happening_in, read_said};
@@ -19,6 +20,7 @@ use dap_frame::{Limits, write_frame};
 use dap_live::{Coming, Dropped, Live, Mail, why_dropped};
 use dap_message::{BodyFault, read_message};
 use dap_recording::RecordingFault;
+use dap_replay::Recorded;
 use std::alloc::{AllocError, Global};
 use std::marker::Model;
 use std::rc::Rc;
@@ -94,8 +96,7 @@ fn frame_with(alloc: Global, body: &[u8]) -> Result<Vec<u8>, AllocError>
 pub struct Host {
     adapter: Adapter<Live>,
     mail: Rc<Mail>,
-    /// As JSON.
-    sources: Vec<u8>,
+    sources: HostSources,
     limits: Limits,
     /// How many lines came.
     number: u64,
@@ -110,13 +111,14 @@ impl Model for Host {
 
     ghost coded = { Prim.hlevel (codes, coded_data) };
 
-    ghost view = { λ h. record { adapter = h.adapter; sources = h.sources.items; limits = h.limits; number = h.number } };
+    ghost view = { λ h. record { adapter = h.adapter; sources = h.sources; limits = h.limits; number = h.number } };
 }
 
 impl Host {
-    ghost use Rattle.std.specs.Prelude.{◌≡◌, ◌≢◌, ◌++◌, List, IfOk, IfErr, OnOk, OnErr, IfSome, None, Ok, Err, true, option_map};
-    ghost use Rattle.dap_host.specs.Hearing.{IsFresh, IsGoing, HandsOut, RefusesMessage, TakesMessage, HearsTold, IsUnheard, AnswersMessage, MayRefuse, MayKeep, TellsIt, TellsOrDrops, TellsAndKeeps, StopsMessage, StopsTelling, HearsMessage, HearsHappening, HearsMarked, StopsMarked, Hears, Stops};
-    ghost use Rattle.dap_host.specs.Moments.{FileRefused};
+    ghost use Rattle.std.specs.Prelude.{◌≡◌, ◌≢◌, ◌↔◌, ◌++◌, List, IfOk, IfErr, OnOk, OnErr, IfSome, IsTrue, None, Ok, Err, true};
+    ghost use Rattle.dap_host.specs.Hearing.{IsFresh, IsGoing, HandsOut, RefusesMessage, TakesMessage, Comes, HearsTold, IsUnheard, AnswersMessage, SaysDropped, TellsIt, TellsOrDrops, TellsAndKeeps, StopsMessage, StopsTelling, HearsMessage, HearsHappening, HearsMarked, StopsMarked, Hears, Stops};
+    ghost use Rattle.dap_host.specs.Moments.{FileRefused, HasRoom};
+    ghost use Rattle.dap_host.specs.PrivateKeeping.{AreAll, keeps_all};
     ghost use Rattle.dap_host.specs.Told.{said_of};
     ghost use Rattle.dap_host.specs.Written.{message_lines, refusal_line, target_line};
     ghost use Rattle.dap_host.specs.declared.told.Said.{Said};
@@ -139,9 +141,9 @@ impl Host {
     {
         // For the proof: no message is under way.
         frames_come_one_by_one(&limits);
-        let sources = sources_in(alloc, bytes)?;
-        let base = match base_of(alloc, &sources) {
-            Ok(base) => base,
+        let told = sources_in(alloc, bytes)?;
+        let (sources, base) = match HostSources::open(alloc, &told) {
+            Ok(opened) => opened,
             Err(fault) => return Err(fault),
         };
         let mail = Rc::new(alloc, Mail::new(alloc))?;
@@ -266,13 +268,14 @@ impl Host {
     }
 
     /// What comes by what a host tells by a text.
-    fn coming_in(&self, alloc: Global, _text: &[u8], told: Told) -> Result<Coming, Unread>
+    fn coming_in(&mut self, alloc: Global, _text: &[u8], told: Told) -> Result<Coming, Unread>
         requires { said_of _text.now ≡ Ok (Said.Happened told) }
-        ensures hears { IfOk result (HearsTold self.now _text.now) }
-        ensures refused { IfErr result (IsUnheard self.now _text.now) }
+        ensures comes { IfOk result (Comes self.old _text.now) }
+        ensures refused { IfErr result (IsUnheard self.old _text.now) }
+        ensures same { self.new ≡ self.old }
     {
         match dropped_in(self.adapter.phase(), &told) {
-            Ok(None) => coming_of(alloc, &self.sources, told),
+            Ok(None) => coming_of(alloc, &mut self.sources, told),
             Ok(Some(why)) => Err(Unread::Refused(Refusal::Dropped(why))),
             Err(_) => Err(Unread::OutOfMemory),
         }
@@ -329,19 +332,46 @@ impl Host {
         ensures going { OnOk result (IsGoing self.new) }
         ensures stops { IfErr result (λ fault. fault ≢ AdapterFault.OutOfMemory → ((coming : Coming) × HearsTold self.old text.now coming) × StopsTelling self.old out.old.items out.new.items self.new fault) }
     {
-        let Ok(more) = more_of(alloc, &told) else {
-            return Err(AdapterFault::OutOfMemory);
-        };
         match self.coming_in(alloc, text, told) {
-            Ok(coming) => self.tell_and_keep(alloc, coming, more, out),
+            Ok(coming) => self.hear_coming(alloc, text, coming, out),
             Err(Unread::Refused(why)) => self.refuse(why, out),
             Err(Unread::OutOfMemory) => Err(AdapterFault::OutOfMemory),
         }
     }
 
+    /// Hears what comes by a text, if there is room for it.
+    fn hear_coming(
+        &mut self,
+        alloc: Global,
+        _text: &[u8],
+        coming: Coming,
+        out: &mut Vec<u8>,
+    ) -> Result<(), AdapterFault>
+        requires going { IsGoing self.old }
+        requires comes { Comes self.old _text.now coming }
+        ensures hears { OnOk result (HearsHappening self.old _text.now out.old.items out.new.items self.new) }
+        ensures going { OnOk result (IsGoing self.new) }
+        ensures stops { IfErr result (λ fault. fault ≢ AdapterFault.OutOfMemory → ((coming : Coming) × HearsTold self.old _text.now coming) × StopsTelling self.old out.old.items out.new.items self.new fault) }
+    {
+        if !self.has_room(&coming) {
+            return self.refuse(Refusal::Dropped(Dropped::TooManySources), out);
+        }
+        self.tell_and_keep(alloc, coming, out)
+    }
+
+    /// Whether there is room for sources that come.
+    fn has_room(&self, coming: &Coming) -> bool
+        ensures { IsTrue result ↔ HasRoom self.now.sources coming.now }
+    {
+        match coming {
+            Coming::Sources(more) => self.sources.has_room(more),
+            _ => true,
+        }
+    }
+
     /// Refuses the line, where the debuggee dropped what it told. Whether it did not.
     fn refuse_dropped(&self, out: &mut Vec<u8>) -> Result<bool, AdapterFault>
-        ensures refused { OnOk result (MayRefuse self.now.number out.old.items out.new.items) }
+        ensures says { IfOk result (λ is_heard. SaysDropped is_heard self.now.number out.old.items out.new.items) }
         ensures memory { IfErr result (λ fault. fault ≡ AdapterFault.OutOfMemory) }
     {
         match self.mail.take_dropped() {
@@ -353,17 +383,26 @@ impl Host {
         }
     }
 
-    /// Keeps sources that were told, behind those that there were.
-    fn keep(&mut self, more: Option<Vec<u8>>, is_heard: bool) -> Result<(), AdapterFault>
-        ensures keeps { OnOk result (MayKeep (option_map (λ text. text.items) more) self.old self.new) }
-        ensures memory { IfErr result (λ fault. fault ≡ AdapterFault.OutOfMemory) }
+    /// All sources, once those come that are told.
+    fn all_sources(&mut self, alloc: Global, coming: &Coming) -> Result<Option<Recorded>, AllocError>
+        requires { HasRoom self.old.sources coming.now }
+        ensures all { IfOk result (λ all. AreAll coming.now self.old.sources all) }
+        ensures same { self.new ≡ self.old }
     {
-        match more {
-            Some(more) if is_heard => match join(&mut self.sources, &more) {
-                Ok(()) => Ok(()),
-                Err(_) => Err(AdapterFault::OutOfMemory),
-            },
-            _ => Ok(()),
+        match coming {
+            Coming::Sources(more) => Ok(Some(self.sources.with(alloc, more)?)),
+            _ => Ok(None),
+        }
+    }
+
+    /// Keeps all sources, where what came is heard.
+    fn keep(&mut self, all: Option<Recorded>, is_heard: bool)
+        ensures { self.new ≡ keeps_all is_heard all self.old }
+    {
+        if let Some(all) = all {
+            if is_heard {
+                self.sources.replace(all);
+            }
         }
     }
 
@@ -372,17 +411,21 @@ impl Host {
         &mut self,
         alloc: Global,
         coming: Coming,
-        more: Option<Vec<u8>>,
         out: &mut Vec<u8>,
     ) -> Result<(), AdapterFault>
         requires going { IsGoing self.old }
         requires in_a_run { has_debuggee self.old.adapter.session.phase ≡ true }
-        ensures tells { OnOk result (TellsAndKeeps self.old (option_map (λ text. text.items) more) out.old.items out.new.items self.new) }
+        requires room { HasRoom self.old.sources coming }
+        ensures tells { OnOk result (TellsAndKeeps self.old coming out.old.items out.new.items self.new) }
         ensures going { OnOk result (IsGoing self.new) }
         ensures stops { IfErr result (λ fault. fault ≢ AdapterFault.OutOfMemory → StopsTelling self.old out.old.items out.new.items self.new fault) }
     {
+        let Ok(all) = self.all_sources(alloc, &coming) else {
+            return Err(AdapterFault::OutOfMemory);
+        };
         let is_heard = self.tell_or_refuse(alloc, coming, out)?;
-        self.keep(more, is_heard)
+        self.keep(all, is_heard);
+        Ok(())
     }
 
     /// Lets the adapter tell what happened, and refuses the line where that is dropped after all.
@@ -394,7 +437,7 @@ impl Host {
     ) -> Result<bool, AdapterFault>
         requires going { IsGoing self.old }
         requires in_a_run { has_debuggee self.old.adapter.session.phase ≡ true }
-        ensures tells { OnOk result (TellsOrDrops self.old out.old.items out.new.items self.new) }
+        ensures tells { IfOk result (λ is_heard. TellsOrDrops self.old is_heard out.old.items out.new.items self.new) }
         ensures going { OnOk result (IsGoing self.new) }
         ensures stops { IfErr result (λ fault. fault ≢ AdapterFault.OutOfMemory → StopsTelling self.old out.old.items out.new.items self.new fault) }
     {

@@ -13,6 +13,7 @@ mod hosting;
 mod messages;
 mod moments;
 mod refusal;
+mod sources;
 mod streams;
 mod targets;
 mod told;

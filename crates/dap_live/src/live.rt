@@ -226,7 +226,7 @@ impl Live {
         ensures put { OnOk result (self.new ≡ with_base (with_sources_of more self.old.base) self.old) }
         ensures memory { OnErr result (self.new ≡ self.old) }
     {
-        self.base.add_sources(alloc, more)?;
+        self.base.add_sources(alloc, &more)?;
         Ok(())
     }
 

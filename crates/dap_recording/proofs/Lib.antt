@@ -5,6 +5,7 @@ pub mod ReadSteps
 pub mod HoldersRead
 pub mod SpansRead
 pub mod IsRead
+pub mod Same
 pub mod ReadingExamples
 pub mod ThreeMoments
 pub mod RecordingExamples

@@ -35,6 +35,7 @@ impl Recording {
     /// Those of [`of_parts`](Recording::of_parts).
     pub fn with_moment(&self, texts: &mut Texts, moment: &Tree) -> Result<Recording, RecordingFault>
         ensures verdict { Gives result (alone self.now.sources moment.now) }
+        ensures sources { IfOk result (λ recording. recording.sources ≡ self.now.sources) }
         ensures holds { IsRecording self.now → IfOk result (λ recording. IsRecording recording) }
     {
         let sources = self.sources.clone()?;

@@ -5,6 +5,7 @@ use dap_recording::{Recording, RecordingFault, Texts};
 use std::alloc::Global;
 
 impl Recorded {
+    ghost use Rattle.std.specs.Prelude.{◌≡◌, IfOk};
     ghost use Rattle.dap_json.specs.Read.{json_of};
     ghost use Rattle.dap_recording.specs.Reading.{verdict_of, or_fault, alone, alone_over};
     ghost use Rattle.dap_replay.specs.Played.{Reads};
@@ -45,7 +46,8 @@ impl Recorded {
         texts: &mut Texts,
         moment: &Tree,
     ) -> Result<Recorded, RecordingFault>
-        ensures { Reads result (or_fault (alone self.now.recording.sources moment.now)) }
+        ensures reads { Reads result (or_fault (alone self.now.recording.sources moment.now)) }
+        ensures sources { IfOk result (λ recorded. recorded.recording.sources ≡ self.now.recording.sources) }
     {
         // For the proof: what holds of the sources.
         self.is_recording();
