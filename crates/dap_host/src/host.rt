@@ -384,7 +384,11 @@ impl Host {
     }
 
     /// All sources, once those come that are told.
-    fn all_sources(&mut self, alloc: Global, coming: &Coming) -> Result<Option<Recorded>, AllocError>
+    fn all_sources(
+        &mut self,
+        alloc: Global,
+        coming: &Coming,
+    ) -> Result<Option<Recorded>, AllocError>
         requires { HasRoom self.old.sources coming.now }
         ensures all { IfOk result (λ all. AreAll coming.now self.old.sources all) }
         ensures same { self.new ≡ self.old }

@@ -132,10 +132,7 @@ impl HostSources {
         ensures all { IfOk result (λ all. all.recording.sources ≡ self.old ++ more.now.recording.sources) }
         ensures same { self.new ≡ self.old }
     {
-        let mut all = again(
-            self.base
-                .with_moment(alloc, &mut self.texts, &self.nowhere),
-        )?;
+        let mut all = again(self.base.with_moment(alloc, &mut self.texts, &self.nowhere))?;
         all.add_sources(alloc, more)?;
         Ok(all)
     }

@@ -6,6 +6,7 @@ pub mod HoldersRead
 pub mod SpansRead
 pub mod IsRead
 pub mod Same
+pub mod AloneLemmas
 pub mod ReadingExamples
 pub mod ThreeMoments
 pub mod RecordingExamples

@@ -1,5 +1,6 @@
 pub mod Recording
 pub mod RecordingKey
 pub mod Reading
+pub mod AloneLaw
 pub mod PrivateReadThreads
 pub mod PrivateOnePass

@@ -5,6 +5,7 @@
 #![tactic(auto)]
 
 mod alone;
+pub mod laws;
 pub mod numbers;
 mod one_pass;
 mod read;

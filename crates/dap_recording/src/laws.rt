@@ -1,0 +1,8 @@
+//! Laws of reading. Each function is empty: its contract is the law.
+ghost use Rattle.dap_recording.specs.AloneLaw.{AloneIsTheOnlyOne};
+
+/// A moment over sources is read as the only one of a recording.
+#[tactic(auto, using(crate::proofs::AloneLemmas::alone_is_the_only_one))]
+pub fn alone_is_the_only_one()
+    ensures { AloneIsTheOnlyOne }
+{}
