@@ -41,6 +41,8 @@ def tasks():
         yield "show_" + kind, Task("dap", "show", (kind, BYTES))
     for kind in ("large", "small"):
         yield "frames_" + kind, Task("bench_frames", (kind, BYTES))
+    for kind in ("large", "small"):
+        yield "frames_c_" + kind, Task("frames_c", (kind, BYTES))
     for kind, size in (("requests", REQUESTS), ("stopped", STOPPED)):
         yield "serve_" + kind, Task("dap", "serve", files.recording_for(kind), given=(kind, size))
     for kind in ("client_mixed", "client_events"):
