@@ -57,19 +57,19 @@ impl Model for HostSources {
     ghost use Rattle.std.specs.Prelude.{◌≡◌, List, Some};
     ghost use Rattle.dap_json.specs.Read.{json_of};
     ghost use Rattle.dap_recording.specs.declared.recording.RecordedSource.{RecordedSource};
-    ghost use Rattle.dap_host.specs.Moments.{nowhere};
+    ghost use Rattle.dap_host.specs.Moments.{nowhere as nowhere_text};
 
     ghost Value = { List RecordedSource };
 
     ghost view = { λ s. s.base.recording.sources };
 
-    ghost invariant = { λ s. json_of nowhere ≡ Some s.nowhere };
+    ghost invariant = { λ s. json_of nowhere_text ≡ Some s.nowhere };
 }
 
 impl HostSources {
     ghost use Rattle.std.specs.Prelude.{◌≡◌, ◌≢◌, ◌≤◌, ◌↔◌, ◌+◌, ◌++◌, Some, Ok, Err, IfOk, IfErr, IsTrue, length};
     ghost use Rattle.dap_json.specs.Read.{json_of};
-    ghost use Rattle.dap_host.specs.Moments.{nowhere, ReadsMoment, ReadsSources};
+    ghost use Rattle.dap_host.specs.Moments.{ReadsMoment, ReadsSources};
 
     /// Sources as JSON, and a debuggee that has them and has not stopped yet.
     pub(crate) fn open(

@@ -1,18 +1,19 @@
-use Rattle.std.proofs.Common.{refl, subst, List, ℕ, Ok, ◌∙◌, ap}
+use Rattle.std.proofs.Common.{refl, ◌∙◌, ap}
 use Rattle.dap_live.specs.LiveShown.{fresh_live}
-use Rattle.dap_host.specs.Moments.{ReadsBase}
 use Rattle.dap_host.proofs.GoingLemmas.{fresh_going}
 use Rattle.dap_host.proofs.LineLemmas.{bad_base}
 use Rattle.dap_host.proofs.host.Host.open.Goals as goal
 
 pub returns-in-Err-clause-refused : goal.returns-in-Err-clause-refused
-returns-in-Err-clause-refused c = bad_base c.args.bytes.now c.in_ok-sources.sources.items c.deref.result.now c.in-Err.fault c.in_ok-sources.ensures.sources c.deref.ensures.value c.in-Err.ensures
+returns-in-Err-clause-refused c = bad_base c.args.bytes.now c.in_ok-told.told c.in-Err.fault c.in_ok-told.ensures.sources c.in-Err.ensures.fails
 
 pub returns-clause-fresh : goal.returns-clause-fresh
 returns-clause-fresh c = record {
+  told = c.in_ok-told.told;
+  has = c.in_ok-told.ensures.sources;
   base = c.in-Ok.base;
-  sources = c.in_ok-sources.ensures.sources;
-  reads = subst (λ (z : List ℕ). ReadsBase z (Ok c.in-Ok.base)) c.deref.ensures.value c.in-Ok.ensures;
+  reads = c.in-Ok.ensures.reads;
+  sources = c.in-Ok.ensures.sources;
   stands = c.in_ok-adapter.ensures.stands;
   session = c.in_ok-adapter.ensures.session;
   debuggee = c.in_ok-adapter.ensures.debuggee ∙ (c.open-live.ensures ∙ ap fresh_live c.base.view_is);
