@@ -5,7 +5,6 @@ use Rattle.dap_adapter.specs.declared.served.ServeFault.TheVariants as serve
 use Rattle.dap_channel.specs.Channel.{IoEvent}
 use Rattle.dap_channel.specs.Sent.{Flushes, WritesShort, saturating_count}
 use Rattle.dap_session.specs.declared.fault.AdapterFault.{AdapterFault}
-use Rattle.dap_session.specs.declared.fault.AdapterFault.TheVariants.{OutOfMemory}
 use Rattle.dap_host.specs.Hearing.{HostState, Stops}
 use Rattle.dap_host.specs.PrivateFetching.{Quiet}
 use Rattle.dap_host.specs.Hosting.{HostPoint, point_of, BeginsWith, Answered, Makes, Heard}
@@ -15,10 +14,6 @@ pub record HostingState : Type 0 where
   pub host : HostState
   pub held : List ℕ
   pub written : ℕ
-
-abbrev pub serve_fault_of : AdapterFault → ServeFault
-serve_fault_of OutOfMemory = serve.OutOfMemory
-serve_fault_of fault = serve.Adapter fault
 
 -- the same, and this is held
 abbrev pub with_held : List ℕ → HostingState → HostingState

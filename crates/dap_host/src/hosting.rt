@@ -3,7 +3,7 @@ ghost use Rattle.std.specs.Prelude.{◌≡◌, ℕ, ◌+◌, [], true, false, If
 ghost use Rattle.dap_host.specs.Hearing.{IsGoing};
 ghost use Rattle.dap_host.specs.Fetching.{has_line};
 ghost use Rattle.dap_host.specs.Hosting.{HostPoint, point_of, HearsAll, Hosts, AnswersInput};
-ghost use Rattle.dap_host.specs.PrivateHosting.{serve_fault_of, Answers, AnswerStops, AnswersFirst, FirstStops, AnswersLast, LastStops, SoFar};
+ghost use Rattle.dap_host.specs.PrivateHosting.{Answers, AnswerStops, AnswersFirst, FirstStops, AnswersLast, LastStops, SoFar};
 
 use crate::fetching::fetch;
 use crate::host::Host;
@@ -12,15 +12,6 @@ use dap_channel::{Channel, calls_add_up, send};
 use dap_check::split_line;
 use std::alloc::Global;
 use std::marker::Model;
-
-fn serve_fault(fault: AdapterFault) -> ServeFault
-    ensures { result ≡ serve_fault_of fault }
-{
-    match fault {
-        AdapterFault::OutOfMemory => ServeFault::OutOfMemory,
-        other => ServeFault::Adapter(other),
-    }
-}
 
 /// Hears a line, and writes and flushes what is due then, before a fault too. It answers how many bytes went out in all.
 fn answer_line<C: Channel>(
@@ -47,7 +38,7 @@ fn answer_line<C: Channel>(
     };
     match heard {
         Ok(()) => Ok(total),
-        Err(fault) => Err(serve_fault(fault)),
+        Err(fault) => Err(ServeFault::Adapter(fault)),
     }
 }
 
