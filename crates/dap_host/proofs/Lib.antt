@@ -1,4 +1,6 @@
 mod AddsLemmas
+mod BodyLemmas
+mod FoundLemmas
 mod MessageLemmas
 mod GoingLemmas
 mod LineLemmas

@@ -6,12 +6,13 @@ ghost use Rattle.dap_host.specs.PrivateFetching.{ReadsOnce, ReadStops, FetchStop
 
 use dap_adapter::ServeFault;
 use dap_channel::Channel;
+use memchr::memchr;
 
 /// Whether there is a line feed.
 fn has_line(bytes: &[u8]) -> bool
     ensures { result ≡ has_line bytes.now }
 {
-    bytes.iter().any(|byte| *byte == b'\n')
+    memchr(b'\n', bytes).is_some()
 }
 
 /// What a read found.

@@ -9,6 +9,7 @@ ghost use Rattle.dap_host.specs.Hearing.{mark_of, state_of, drop_of};
 use crate::acts::push_acts;
 use crate::messages::push_messages;
 use crate::moments::{coming_of, sources_in};
+use crate::reading::body_refusal;
 use crate::refusal::{Refusal, push_refusal};
 use crate::sources::HostSources;
 use crate::streams::frames_come_one_by_one;
@@ -17,8 +18,8 @@ use crate::told::{Said, Told, Unread, happening_in, read_said};
 use dap_adapter::{Adapter, AdapterFault, Phase};
 use dap_debuggee::State;
 use dap_frame::{Limits, write_frame};
+use dap_json::object_reader::Scratch;
 use dap_live::{Coming, Dropped, Live, Mail, why_dropped};
-use dap_message::{BodyFault, read_message};
 use dap_recording::RecordingFault;
 use dap_replay::Recorded;
 use std::alloc::{AllocError, Global};
@@ -100,6 +101,8 @@ pub struct Host {
     limits: Limits,
     /// How many lines came.
     number: u64,
+    /// For what lines say.
+    scratch: Scratch,
 }
 
 impl Model for Host {
@@ -155,6 +158,7 @@ impl Host {
             sources,
             limits,
             number: 0,
+            scratch: Scratch::new(alloc),
         })
     }
 
@@ -210,14 +214,13 @@ impl Host {
     }
 
     /// Why a message of the client is refused, before it is handed to the adapter.
-    fn refusal_of(&self, alloc: Global, body: &[u8]) -> Result<Option<Refusal>, AllocError>
-        ensures refused { IfOk result (λ refusal. IfSome refusal (RefusesMessage self.now body.now)) }
-        ensures taken { IfOk result (λ refusal. refusal ≡ None → TakesMessage self.now body.now) }
+    fn refusal_of(&mut self, alloc: Global, body: &[u8]) -> Result<Option<Refusal>, AllocError>
+        ensures refused { IfOk result (λ refusal. IfSome refusal (RefusesMessage self.old body.now)) }
+        ensures taken { IfOk result (λ refusal. refusal ≡ None → TakesMessage self.old body.now) }
+        ensures same { self.new ≡ self.old }
     {
-        match read_message(alloc, body) {
-            Ok(_message) => {}
-            Err(BodyFault::Refused(cause)) => return Ok(Some(Refusal::Body(cause))),
-            Err(BodyFault::OutOfMemory) => return Err(AllocError),
+        if let Some(cause) = body_refusal(alloc, &mut self.scratch, body)? {
+            return Ok(Some(Refusal::Body(cause)));
         }
         if body.len() > self.limits.body() {
             return Ok(Some(Refusal::BodyTooLong));
@@ -263,7 +266,7 @@ impl Host {
         let mut bytes = Vec::new(alloc);
         match self.adapter.answer(alloc, &frame, &mut bytes) {
             Ok(_ended) => self.hand_out(alloc, &bytes, out),
-            Err(fault) => Err(self.break_off(alloc, &bytes, fault, out)),
+            Err(fault) => Err(self.break_off(&bytes, fault, out)),
         }
     }
 
@@ -293,7 +296,7 @@ impl Host {
         ensures going { OnOk result (IsGoing self.new) }
         ensures stops { IfErr result (λ fault. fault ≢ AdapterFault.OutOfMemory → ((coming : Coming) × HearsTold self.old text.now coming) × StopsTelling self.old out.old.items out.new.items self.new fault) }
     {
-        match read_said(alloc, text) {
+        match read_said(alloc, &mut self.scratch, text) {
             Ok(Said::Happened(told)) => self.hear_told(alloc, text, told, out),
             Ok(Said::Target(number)) => self.answer_target(alloc, number, out),
             Err(Unread::Refused(why)) => self.refuse(why, out),
@@ -463,7 +466,7 @@ impl Host {
         let mut bytes = Vec::new(alloc);
         match self.adapter.tell(alloc, &mut bytes) {
             Ok(()) => self.hand_out(alloc, &bytes, out),
-            Err(fault) => Err(self.break_off(alloc, &bytes, fault, out)),
+            Err(fault) => Err(self.break_off(&bytes, fault, out)),
         }
     }
 
@@ -475,7 +478,7 @@ impl Host {
         let Ok(acts) = self.mail.take_acts(alloc) else {
             return Err(AdapterFault::OutOfMemory);
         };
-        if push_messages(alloc, self.limits, bytes, out).is_err() {
+        if push_messages(self.limits, bytes, out).is_err() {
             return Err(AdapterFault::OutOfMemory);
         }
         match push_acts(alloc, out, &acts) {
@@ -485,17 +488,11 @@ impl Host {
     }
 
     /// Appends the lines of what the adapter wrote before a fault, and answers why it stops.
-    fn break_off(
-        &self,
-        alloc: Global,
-        bytes: &[u8],
-        fault: AdapterFault,
-        out: &mut Vec<u8>,
-    ) -> AdapterFault
+    fn break_off(&self, bytes: &[u8], fault: AdapterFault, out: &mut Vec<u8>) -> AdapterFault
         ensures is { result ≢ AdapterFault.OutOfMemory → result ≡ fault }
         ensures out { result ≢ AdapterFault.OutOfMemory → (outs : List Message) → bytes.now ≡ bytes_of outs → AllReadBack self.now.limits.body outs → out.new.items ≡ out.old.items ++ message_lines outs }
     {
-        match push_messages(alloc, self.limits, bytes, out) {
+        match push_messages(self.limits, bytes, out) {
             Ok(()) => fault,
             Err(_) => AdapterFault::OutOfMemory,
         }

@@ -11,9 +11,11 @@ ghost use Rattle.dap_host.specs.Written.{host_key_name};
 ghost use Rattle.dap_host.specs.declared.refusal.Refusal.{Refusal};
 ghost use Rattle.dap_host.specs.declared.told.Unread.{Unread};
 
+use crate::reading::read_value;
 use crate::refusal::{HostKey, Refusal};
 use dap_debuggee::{Category, Happening, Variable};
-use dap_json::{List, ParseFault, Text, Tree, field, parse};
+use dap_json::object_reader::Scratch;
+use dap_json::{List, ParseFault, Text, Tree, field};
 use dap_recording::numbers;
 use serde_json::Value;
 use std::alloc::{AllocError, AllocFailed, Global};
@@ -402,10 +404,10 @@ fn said_in(alloc: Global, said: &mut Value) -> Result<Said, Unread>
 }
 
 /// What the JSON text of a host says.
-pub(crate) fn read_said(alloc: Global, text: &[u8]) -> Result<Said, Unread>
+pub(crate) fn read_said(alloc: Global, scratch: &mut Scratch, text: &[u8]) -> Result<Said, Unread>
     ensures { Tells result text.now }
 {
-    match parse(alloc, text) {
+    match read_value(alloc, scratch, text) {
         Ok(mut said) => said_in(alloc, &mut said),
         Err(ParseFault::NotJson) => Err(Unread::Refused(Refusal::NotJson)),
         Err(ParseFault::OutOfMemory) => Err(Unread::OutOfMemory),

@@ -1,13 +1,21 @@
-use Rattle.std.proofs.Common.{◌∙◌, ◌++◌, ℕ, List, ap}
-use Rattle.std.specs.List.{flat_map}
-use Rattle.std.specs.Str.Lines.{lines}
-use Rattle.std.proofs.lemmas.Result.{on_ok_weaker}
-use Rattle.dap_host.specs.Written.{marked_line}
-use Rattle.dap_host.proofs.MessageLemmas.{lines_listed, marked_messages}
+use Rattle.std.proofs.Common.{◌≡◌, ◌<◌, ◌^◌, length, subst, sym, arith}
+use Rattle.std.proofs.lemmas.Bool.Decides.{nat_tests}
+use Rattle.dap_host.proofs.MessageLemmas.{Lists, none_listed, one_listed, all_listed}
 use Rattle.dap_host.proofs.messages.push_messages.Goals as goal
 
+pub loop-rest-init : goal.loop-rest-init
+loop-rest-init c = none_listed c.args.limits.body c.args.bytes.now c.args.out.now.items
+
+pub loop-rest-preserved : goal.loop-rest-preserved
+loop-rest-preserved c =
+    let l = c.loop-rest in
+    let small : c.args.limits.body < 2 ^ 64 = omega (arith, c.limits_are_in_range.ensures.body.1) in
+    let some : 0 < length l.rest.now = grind (arith, nat_tests, c.loop-rest-test.ensures) in
+    let more = one_listed c.args.limits.body c.args.bytes.now c.args.out.now.items l.out.items l.rest.now c.in-Some.later.now c.in-Some.body.now small some c.in-Some.ensures.first l.invariant in
+    subst (λ z. Lists c.args.limits.body c.args.bytes.now c.args.out.now.items z c.in-Some.later.now) (sym c.in_ok-push_line.ensures) more
+
 pub returns : goal.returns
-returns c = on_ok_weaker c.push_marked.result (λ pushed. λ outs are fits.
-    let listed = lines_listed c.args.limits c.args.bytes.now c.new-text.result.items c.unwrap.new.out.items c.in-Ok._end outs c.limits_are_in_range.ensures c.written_is_read_again.ensures c.each_stream_has_one_split.ensures c.each_body_is_a_line.ensures c.bodies_are_framed_again.ensures c.canonical_text_is_one_line.ensures
-    c.new-text.ensures.items c.in-Ok.ensures are fits in
-    pushed ∙ ap (λ (z : List ℕ). c.args.out.now.items ++ z) (ap (λ (z : List ℕ). flat_map marked_line (lines z)) c.deref.ensures.value ∙ (ap (λ (z : List (List ℕ)). flat_map marked_line z) listed ∙ marked_messages outs))) c.push_marked.ensures
+returns c =
+    let l = c.loop-rest in
+    let none : length l.rest.now ≡ 0 = grind (arith, nat_tests, c.loop-rest-test.ensures) in
+    all_listed c.args.limits.body c.args.bytes.now c.args.out.now.items l.out.items l.rest.now none l.invariant

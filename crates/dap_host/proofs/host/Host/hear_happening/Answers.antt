@@ -1,15 +1,25 @@
-use Rattle.std.proofs.Common.{Ok, refl, subst, ap, ◌∙◌}
+use Rattle.std.proofs.Common.{Ok, subst, ap, ◌∙◌, ◌++◌}
 use Rattle.std.proofs.lemmas.Result.{on_ok_weaker}
-use Rattle.dap_host.specs.Hearing.{not_heard, asked, unread}
+use Rattle.dap_tables.specs.References.{target_of}
+use Rattle.dap_host.specs.Hearing.{HostState, not_heard, asked, unread}
 use Rattle.dap_host.specs.Told.{said_of, Says}
+use Rattle.dap_host.specs.Written.{refusal_line, target_line}
 use Rattle.dap_host.specs.declared.told.Said.{Said}
 use Rattle.dap_host.specs.declared.told.Unread.{Unread}
 use Rattle.dap_host.proofs.host.Host.hear_happening.Goals as goal
 
 pub returns-in-Ok-Target-clause-hears : goal.returns-in-Ok-Target-clause-hears
-returns-in-Ok-Target-clause-hears c = let n = c.in-Ok-Target.number-is in on_ok_weaker c.answer_target.result (λ line.
-    asked c.in-Ok-Target.number (c.in-Ok-Target.ensures ∙ ap (λ (z : Said). Ok z) c.in-Ok-Target.field-0-is) (record { line = rw (← n) line; same = refl })) c.answer_target.ensures.answered
+returns-in-Ok-Target-clause-hears c =
+    let n = c.in-Ok-Target.number-is in
+    let same = c.self.view_is in
+    on_ok_weaker c.answer_target.result (λ line.
+    asked c.in-Ok-Target.number (c.in-Ok-Target.ensures ∙ ap (λ (z : Said). Ok z) c.in-Ok-Target.field-0-is)
+    (record { line = rw (← n) line ∙ ap (λ (h : HostState). c.args.out.now.items ++ target_line c.in-Ok-Target.number (target_of h.adapter.session.references c.in-Ok-Target.number)) same; same = same })) c.answer_target.ensures.answered
 
 pub returns-in-Err-Refused-clause-hears : goal.returns-in-Err-Refused-clause-hears
-returns-in-Err-Refused-clause-hears c = let w = c.in-Err-Refused.why-is in on_ok_weaker c.refuse.result (λ line.
-    not_heard _ (unread (subst (λ (z : Unread). Says z (said_of c.args.text.now)) c.in-Err-Refused.field-0-is c.in-Err-Refused.ensures)) (record { line = rw (← w) line; same = refl })) c.refuse.ensures.refused
+returns-in-Err-Refused-clause-hears c =
+    let w = c.in-Err-Refused.why-is in
+    let same = c.self.view_is in
+    on_ok_weaker c.refuse.result (λ line.
+    not_heard _ (unread (subst (λ (z : Unread). Says z (said_of c.args.text.now)) c.in-Err-Refused.field-0-is c.in-Err-Refused.ensures))
+    (record { line = rw (← w) line ∙ ap (λ (h : HostState). c.args.out.now.items ++ refusal_line h.number c.in-Err-Refused.why) same; same = same })) c.refuse.ensures.refused
