@@ -1,7 +1,7 @@
 """`bench/run --check`: counts tasks of a small, fixed size, and how some costs grow, and compares them with `limits`.
 
 A line of `limits` is a name, the most that it may be or `-`, and what it is for the reader. The name of a growth with `:growth`
-behind it is what it is at 4n to what it is at n. Blank lines and those after `#` are for the reader too.
+behind it is what it is at 4n to what it is at n; that of a task with `:to:` and another is the ratio of both. Blank lines and those after `#` are for the reader too.
 """
 import os
 
@@ -10,7 +10,10 @@ import files
 from counting import plainly
 from files import Missing
 
-BYTES, TAKEN_BYTES, REQUESTS, STOPPED = 2000000, 4000000, 20000, 2000
+BYTES, TAKEN_BYTES, REQUESTS, STOPPED, STOPS = 2000000, 4000000, 20000, 2000, 300
+
+# Tasks that are compared with another too.
+RATIOS = {"host_stops": "serve_stops", "host_stops_later": "serve_stops"}
 
 
 def limits():
@@ -50,6 +53,9 @@ def tasks():
     for kind in ("transcript", "transcript_small"):
         yield "check_" + kind, Task("dap", "check", (kind, TAKEN_BYTES))
     yield "check_bodies", Task("dap", "check", "--all", "--bodies", ("transcript", TAKEN_BYTES))
+    yield "serve_stops", Task("dap", "serve", ("stops_recording", STOPS), given=("stops", STOPS))
+    for kind in ("host_stops", "host_stops_later"):
+        yield kind, Task("dap", "host", ("stops_sources", STOPS), given=(kind, STOPS))
 
 
 class Report:
@@ -97,10 +103,15 @@ def check_growth(report):
 def main():
     """The status."""
     report = Report()
+    numbers = {}
     for name, task in tasks():
         number = report.counted(name, task.instructions)
         if number is not None:
+            numbers[name] = number
             report.compare(name, number)
+    for name, other in RATIOS.items():
+        if name in numbers and other in numbers:
+            report.compare("%s:to:%s" % (name, other), numbers[name] / numbers[other])
     check_growth(report)
     print(", ".join("%d %s" % (count, how) for how, count in report.counts.items()))
     return 1 if report.counts["FAILED"] else 0

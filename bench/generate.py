@@ -22,6 +22,11 @@ KIND `transcript` is both sides of such a session as `client_mixed`, in order, e
 `transcript_small` one of short lines. SIZE is that of the lines, also of `transcript_framed` and `transcript_small_framed`,
 which have the same messages as frames. All rules of a transcript are kept.
 
+KIND `stops` is the requests of a client that steps on SIZE times less one, and at each stop asks for the stack, the scope of its
+newest frame and the variables of that; `stops_recording` is what a server plays then. `host_stops` is the same for a host of
+`stops_sources`: each request as a line, and what the debugger did; in `host_stops_later` the variables are told once they are
+asked for. The SEED does not matter to these.
+
 The same KIND, SIZE and SEED give the same bytes on every machine: of Python's generator only `random()` is used, whose
 sequence does not change between versions.
 
@@ -1004,6 +1009,81 @@ def stopped(count, seed, write):
         write(made)
 
 
+# ---- Stops, for a server and for a host
+
+STOP_LINES, STOP_FRAMES, STOP_VARIABLES = 200, 20, 100
+
+
+def stop_sources():
+    return [{"name": "a.c", "path": "/w/a.c", "text": "".join("line %d\n" % line for line in range(STOP_LINES))}]
+
+
+def stop_variables(stop):
+    return [{"name": "v%d" % i, "value": str(stop * 1000 + i)} for i in range(STOP_VARIABLES)]
+
+
+def stop_moment(stop, is_whole=True):
+    frames = [{"name": "f%d" % i, "source": 0, "line": 1 + (stop + i) % STOP_LINES} for i in range(STOP_FRAMES)]
+    frames[0]["scopes"] = [{"name": "Locals", "variables": stop_variables(stop)} if is_whole else {"name": "Locals"}]
+    return {"threads": [{"id": 1, "name": "main", "frames": frames}], "thread": 1}
+
+
+def stops_recording(count, _, write):
+    made = {"exit": 0, "sources": stop_sources(), "moments": [stop_moment(stop) for stop in range(count)]}
+    write(PLAIN.encode(made).encode("utf-8"))
+
+
+def stops_sources(_, __, write):
+    write(PLAIN.encode({"sources": stop_sources()}).encode("utf-8"))
+
+
+def looks_at_stops(count):
+    """The requests of each part of a session, before the first stop and at each: those that look, and the one that goes on. A
+    stop gives numbers to its frames and to the scope."""
+    yield [("initialize", {"adapterID": "bench"}), ("launch", {}), ("configurationDone", None)], []
+    for stop in range(count):
+        first = (STOP_FRAMES + 1) * stop
+        looks = [("stackTrace", {"threadId": 1}), ("scopes", {"frameId": first + 1})]
+        ends = [("next", {"threadId": 1})] if stop + 1 < count else [("disconnect", {})]
+        yield looks, [("variables", {"variablesReference": first + STOP_FRAMES + 1})] + ends
+
+
+def numbered(requests, seqs):
+    for command, arguments in requests:
+        made = {"seq": next(seqs), "type": "request", "command": command}
+        if arguments is not None:
+            made["arguments"] = arguments
+        yield PLAIN.encode(made)
+
+
+def stops(count, _, write):
+    seqs = itertools.count(1)
+    for looks, ends in looks_at_stops(count):
+        for request in numbered(looks + ends, seqs):
+            write(frame(request))
+
+
+def host_stops(is_whole):
+    def write_lines(count, _, write):
+        seqs = itertools.count(1)
+
+        def say(mark, text):
+            write(("%s %s\n" % (mark, text)).encode("utf-8"))
+
+        for stop, (looks, ends) in enumerate(looks_at_stops(count), -1):
+            if stop >= 0:
+                told = {"happened": "stopped", "reason": "step" if stop else "entry", "thread": 1,
+                        "moment": stop_moment(stop, is_whole)}
+                say("!", PLAIN.encode(told if is_whole else {**told, "later": True}))
+            for request in numbered(looks, seqs):
+                say(">", request)
+            if stop >= 0 and not is_whole:
+                say("!", PLAIN.encode({"happened": "learned", "holder": 0, "variables": stop_variables(stop)}))
+            for request in numbered(ends, seqs):
+                say(">", request)
+    return write_lines
+
+
 def stream(kind, total, seed, write):
     draw = random.Random(seed).random
     written = 0
@@ -1028,6 +1108,8 @@ KINDS = {
     "client_events": side(1, False), "client_events_requests": side(0, False),
     "transcript": transcript(Transcript), "transcript_framed": transcript(Transcript, framed),
     "transcript_small": transcript(ShortTranscript), "transcript_small_framed": transcript(ShortTranscript, framed),
+    "stops": stops, "stops_recording": stops_recording, "stops_sources": stops_sources,
+    "host_stops": host_stops(True), "host_stops_later": host_stops(False),
 }
 
 
