@@ -144,13 +144,14 @@ impl Host {
     {
         // For the proof: no message is under way.
         frames_come_one_by_one(&limits);
+        let mail = Rc::new(alloc, Mail::new(alloc))?;
+        let shared = mail.clone()?;
         let told = sources_in(alloc, bytes)?;
         let (sources, base) = match HostSources::open(alloc, &told) {
             Ok(opened) => opened,
             Err(fault) => return Err(fault),
         };
-        let mail = Rc::new(alloc, Mail::new(alloc))?;
-        let live = Live::open(alloc, base, mail.clone()?);
+        let live = Live::open(alloc, base, shared);
         let adapter = Adapter::open(alloc, limits, live)?;
         Ok(Host {
             adapter,

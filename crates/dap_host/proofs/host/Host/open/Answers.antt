@@ -1,5 +1,4 @@
-use Rattle.std.proofs.Common.{refl, ◌∙◌, ap}
-use Rattle.dap_live.specs.LiveShown.{fresh_live}
+use Rattle.std.proofs.Common.{refl, ◌∙◌}
 use Rattle.dap_host.proofs.GoingLemmas.{fresh_going}
 use Rattle.dap_host.proofs.LineLemmas.{bad_base}
 use Rattle.dap_host.proofs.host.Host.open.Goals as goal
@@ -11,12 +10,12 @@ pub returns-clause-fresh : goal.returns-clause-fresh
 returns-clause-fresh c = record {
   told = c.in_ok-told.told;
   has = c.in_ok-told.ensures.sources;
-  base = c.in-Ok.base;
+  base = c.in-Ok.opened.1;
   reads = c.in-Ok.ensures.reads;
   sources = c.in-Ok.ensures.sources;
   stands = c.in_ok-adapter.ensures.stands;
   session = c.in_ok-adapter.ensures.session;
-  debuggee = c.in_ok-adapter.ensures.debuggee ∙ (c.open-live.ensures ∙ ap fresh_live c.base.view_is);
+  debuggee = c.in_ok-adapter.ensures.debuggee ∙ c.open-live.ensures;
   limits_are = refl;
   number = refl;
 }

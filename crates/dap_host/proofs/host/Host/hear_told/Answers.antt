@@ -1,0 +1,19 @@
+use Rattle.std.proofs.Common.{◌≡◌, ◌≢◌, ◌++◌, subst}
+use Rattle.std.specs.Prelude.{IfErr}
+use Rattle.std.proofs.lemmas.Result.{on_ok_weaker}
+use Rattle.dap_live.specs.declared.mail.Coming.{Coming}
+use Rattle.dap_session.specs.declared.fault.AdapterFault.TheVariants.{OutOfMemory}
+use Rattle.dap_host.specs.Hearing.{HostState, HearsTold, StopsTelling, not_heard, IsUnheard}
+use Rattle.dap_host.specs.Written.{refusal_line}
+use Rattle.dap_host.specs.declared.told.Unread.{Unread}
+use Rattle.dap_host.proofs.host.Host.hear_told.Goals as goal
+
+pub returns-in-Ok-clause-stops : goal.returns-in-Ok-clause-stops
+returns-in-Ok-clause-stops c = subst (λ (h : HostState). IfErr c.hear_coming.result (λ fault. fault ≢ OutOfMemory → ((coming : Coming) × HearsTold h c.args.text.now coming) × StopsTelling h c.args.out.now.items c.hear_coming.new.out.items c.hear_coming.new.self fault))
+    c.in-Ok.ensures.same c.hear_coming.ensures.stops
+
+pub returns-in-Err-Refused-clause-hears : goal.returns-in-Err-Refused-clause-hears
+returns-in-Err-Refused-clause-hears c = let w = c.in-Err-Refused.why-is in on_ok_weaker c.refuse.result (λ line.
+    let is : c.refuse.new.out.items ≡ c.args.out.now.items ++ refusal_line c.coming_in.new.self.number c.in-Err-Refused.why = rw (← w) line in
+    not_heard c.in-Err-Refused.why (subst (λ (z : Unread). IsUnheard c.args.self.now c.args.text.now z) c.in-Err-Refused.field-0-is c.in-Err-Refused.ensures.refused)
+    (record { line = subst (λ (h : HostState). c.refuse.new.out.items ≡ c.args.out.now.items ++ refusal_line h.number c.in-Err-Refused.why) c.in-Err-Refused.ensures.same is; same = c.in-Err-Refused.ensures.same })) c.refuse.ensures.refused
