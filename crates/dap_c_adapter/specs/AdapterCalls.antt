@@ -1,8 +1,12 @@
 -- What the exports of an adapter do, in the words of dap_adapter, over the adapter behind the handle and a debuggee that the
 -- host feeds.
-use Rattle.std.specs.Prelude.{◌≡◌, ◌⊎◌, ℕ, List, [], ◌++◌, length, take, Option, Some, None, is_some, if◌then◌else◌}
+use Rattle.std.specs.Prelude.{◌≡◌, ◌⊎◌, ℕ, List, [], ◌++◌, length, take, false, Option, Some, None, Ok, is_some, if◌then◌else◌}
 use Rattle.dap_message.specs.declared.message.Message.{Message}
-use Rattle.dap_live.specs.LiveShown.{shown_live}
+use Rattle.serde_json.specs.Data.{Data}
+use Rattle.dap_recording.specs.declared.recording.Recording.{Recording}
+use Rattle.dap_recording.specs.Reading.{verdict_of}
+use Rattle.dap_replay.specs.Played.{fresh_played}
+use Rattle.dap_live.specs.LiveShown.{LiveState, fresh_live, shown_live}
 use Rattle.dap_live.specs.LiveLaws.{FollowsLive}
 use Rattle.dap_session.specs.declared.fault.AdapterFault.{AdapterFault}
 use Rattle.dap_adapter.specs.AdapterState.{state_of}
@@ -13,9 +17,31 @@ use Rattle.dap_c_adapter.specs.AdapterFaults.{adapter_number, IsAdapterFaultFoun
 use Rattle.dap_c_parts.specs.declared.found.YtFound.{YtFound}
 use Rattle.dap_c_adapter.specs.declared.held_adapter.HeldAdapter.{HeldAdapter}
 
+-- the debuggee of an adapter that was opened over a recording: not started, with nothing told
+pub record IsOpenedOver (json : Option Data) (debuggee : LiveState) : Type 0 where
+  pub recording : Recording
+  pub read : verdict_of json ≡ Ok recording
+  pub is : debuggee ≡ fresh_live (fresh_played recording)
+
+-- these bytes, read as JSON, are no recording
+abbrev pub IsNoRecording : Option Data → Type 0
+IsNoRecording json = (recording : Recording) → verdict_of json ≡ Ok recording → ⊥
+
 -- the bytes that were used since the message before
 abbrev pub frame_so_far : HeldAdapter → List ℕ
 frame_so_far h = if h.whole then [] else h.frame.items
+
+-- nothing waits to be fetched, and no byte of a frame came
+pub record HasNothing (h : HeldAdapter) : Type 0 where
+  pub bytes : h.bytes.items ≡ []
+  pub frame : h.frame.items ≡ []
+  pub whole : h.whole ≡ false
+
+-- no byte was used, none is to be written, and no frame became whole
+pub record FindsNothing (found : YtFound) : Type 0 where
+  pub used : found.used ≡ 0
+  pub bytes : found.bytes ≡ 0
+  pub frame : found.frame ≡ 0
 
 -- a piece was taken, as dap_adapter says it, and this was found
 pub record AdapterTakes (old new : HeldAdapter) (piece : List ℕ) (found : YtFound) : Type 0 where
@@ -83,6 +109,7 @@ pub record RefusesPoll (old new : HeldAdapter) (code : ℕ) (found : YtFound) : 
   pub latches : new.adapter.fault ≡ Some fault
   pub session : new.adapter.session ≡ old.adapter.session
   pub held : new.adapter.intake.held ≡ []
+  pub none_written : new.bytes.items ≡ []
 
 -- a recording that is none, or memory that was refused, as a code
 abbrev pub IsCodeOfRecording : ℕ → Type 0
@@ -100,6 +127,7 @@ IsCodeOfOpen code = (code ≡ 101) ⊎ IsCodeOfRecording code
 pub record IsUntold (old new : HeldAdapter) (code : ℕ) : Type 0 where
   pub code_is : IsCodeOfText code
   pub adapter : new.adapter ≡ old.adapter
+  pub none_written : new.bytes.items ≡ []
 
 -- the session is as it was, with what is to be written and the frame
 pub record KeepsSession (old new : HeldAdapter) : Type 0 where

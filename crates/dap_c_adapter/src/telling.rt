@@ -3,8 +3,14 @@
 //! What does not happen in the state that the debuggee is in, or is out of its range, is dropped, and the code says why. No
 //! clause says what is shown then: it is what the host told, whatever that is. Only the adapter behind the handle and what
 //! the caller lends for an answer are touched.
-ghost use Rattle.std.specs.Prelude.{◌≡◌, ◌⊎◌, IfErr, IsSome, None, [], length};
-ghost use Rattle.dap_c_adapter.specs.AdapterCalls.{AdapterSaw, RefusesPoll, IsUntold, IsCodeOfText, IsCodeOfRecording, IsToldCode};
+ghost use Rattle.std.specs.Prelude.{◌≡◌, ◌⊎◌, ◌++◌, ◌∷◌, IfOk, IfErr, IfSome, IsSome, Some, None, Ok, false, [], length, if◌then◌else◌};
+ghost use Rattle.dap_json.specs.Read.{json_of};
+ghost use Rattle.dap_recording.specs.Reading.{verdict_of};
+ghost use Rattle.dap_replay.specs.Played.{fresh_played};
+ghost use Rattle.dap_session.specs.Polling.{has_debuggee};
+ghost use Rattle.dap_session.specs.declared.fault.AdapterFault.{AdapterFault as TheFault};
+ghost use Rattle.dap_c_adapter.specs.AdapterCalls.{AdapterSaw, RefusesPoll, IsUntold, IsCodeOfText, IsCodeOfRecording, IsToldCode, IsNoRecording};
+ghost use Rattle.dap_c_adapter.specs.AdapterFaults.{adapter_number, IsAdapterFaultFound};
 ghost use Rattle.dap_c_parts.specs.Behind.{FromTo};
 
 use crate::adapter::{adapter_code, adapter_fault_found, only_bytes};
@@ -39,6 +45,9 @@ fn told_code(mail: &Mail) -> u32
 /// Hands what the host says to the debuggee, and asks it what happened.
 fn tell(alloc: Global, held: &mut HeldAdapter, coming: Coming, found: &mut YtFound) -> u32
     ensures tells { AdapterSaw held.old held.new result found.new ⊎ RefusesPoll held.old held.new result found.new }
+    ensures latched { IfSome held.old.adapter.fault (λ fault. (result ≡ adapter_number fault) × IsAdapterFaultFound fault found.new × (held.new.adapter ≡ held.old.adapter)) }
+    ensures apart { held.old.adapter.fault ≡ None → has_debuggee held.old.adapter.session.phase ≡ false → held.new.adapter.fault ≡ None }
+    ensures length { found.new.bytes ≡ length held.new.bytes.items }
     ensures limits { held.new.adapter.session.limits ≡ held.old.adapter.session.limits }
     ensures frame { (held.new.frame ≡ held.old.frame) × (held.new.whole ≡ held.old.whole) }
 {
@@ -66,6 +75,9 @@ fn tell_given(
 ) -> u32
     requires { IfErr coming IsCodeOfText }
     ensures tells { AdapterSaw held.old held.new result found.new ⊎ RefusesPoll held.old held.new result found.new ⊎ IsUntold held.old held.new result }
+    ensures latched { IfSome held.old.adapter.fault (λ fault. ((result ≡ adapter_number fault) ⊎ IsCodeOfText result) × (held.new.adapter ≡ held.old.adapter)) }
+    ensures apart { held.old.adapter.fault ≡ None → has_debuggee held.old.adapter.session.phase ≡ false → held.new.adapter.fault ≡ None }
+    ensures length { found.new.bytes ≡ length held.new.bytes.items }
     ensures limits { held.new.adapter.session.limits ≡ held.old.adapter.session.limits }
     ensures frame { (held.new.frame ≡ held.old.frame) × (held.new.whole ≡ held.old.whole) }
 {
@@ -90,6 +102,9 @@ fn tell_handle(
     ensures none { adapter.old.inner.value ≡ None → (result ≡ YT_NONE) × (adapter.new.inner.value ≡ None) × (found.new ≡ found.old) }
     ensures held { IsSome adapter.old.inner.value → IsSome adapter.new.inner.value }
     ensures tells { FromTo adapter.old.inner.value adapter.new.inner.value (λ a b. AdapterSaw a b result found.new ⊎ RefusesPoll a b result found.new ⊎ IsUntold a b result) }
+    ensures latched { (fault : TheFault) → FromTo adapter.old.inner.value adapter.new.inner.value (λ a b. a.adapter.fault ≡ Some fault → ((result ≡ adapter_number fault) ⊎ IsCodeOfText result) × (b.adapter ≡ a.adapter)) }
+    ensures apart { FromTo adapter.old.inner.value adapter.new.inner.value (λ a b. a.adapter.fault ≡ None → has_debuggee a.adapter.session.phase ≡ false → b.adapter.fault ≡ None) }
+    ensures length { FromTo adapter.old.inner.value adapter.new.inner.value (λ a b. found.new.bytes ≡ length b.bytes.items) }
     ensures limits { FromTo adapter.old.inner.value adapter.new.inner.value (λ a b. b.adapter.session.limits ≡ a.adapter.session.limits) }
     ensures frame { FromTo adapter.old.inner.value adapter.new.inner.value (λ a b. (b.frame ≡ a.frame) × (b.whole ≡ a.whole)) }
 {
@@ -114,7 +129,9 @@ fn text_given(alloc: Global, bytes: &[u8]) -> Result<Text, u32>
 }
 
 pub(crate) fn recording_given(alloc: Global, bytes: &[u8]) -> Result<Recorded, u32>
-    ensures { IfErr result IsCodeOfRecording }
+    ensures read { IfOk result (λ r. (verdict_of (json_of bytes.now) ≡ Ok r.recording) × (r ≡ fresh_played r.recording)) }
+    ensures no_recording { IfErr result (λ code. code ≡ YT_BAD_RECORDING → IsNoRecording (json_of bytes.now)) }
+    ensures code { IfErr result IsCodeOfRecording }
 {
     match Recorded::read(alloc, bytes) {
         Ok(recorded) => Ok(recorded),
@@ -167,6 +184,9 @@ pub extern "C" fn yt_adapter_output(
     ensures none { adapter.old.inner.value ≡ None → (result ≡ YT_NONE) × (adapter.new.inner.value ≡ None) × (found.new ≡ found.old) }
     ensures held { IsSome adapter.old.inner.value → IsSome adapter.new.inner.value }
     ensures tells { FromTo adapter.old.inner.value adapter.new.inner.value (λ a b. AdapterSaw a b result found.new ⊎ RefusesPoll a b result found.new ⊎ IsUntold a b result) }
+    ensures latched { (fault : TheFault) → FromTo adapter.old.inner.value adapter.new.inner.value (λ a b. a.adapter.fault ≡ Some fault → ((result ≡ adapter_number fault) ⊎ IsCodeOfText result) × (b.adapter ≡ a.adapter)) }
+    ensures apart { FromTo adapter.old.inner.value adapter.new.inner.value (λ a b. a.adapter.fault ≡ None → has_debuggee a.adapter.session.phase ≡ false → b.adapter.fault ≡ None) }
+    ensures length { FromTo adapter.old.inner.value adapter.new.inner.value (λ a b. found.new.bytes ≡ length b.bytes.items) }
     ensures limits { FromTo adapter.old.inner.value adapter.new.inner.value (λ a b. b.adapter.session.limits ≡ a.adapter.session.limits) }
     ensures frame { FromTo adapter.old.inner.value adapter.new.inner.value (λ a b. (b.frame ≡ a.frame) × (b.whole ≡ a.whole)) }
 {
@@ -188,6 +208,9 @@ pub extern "C" fn yt_adapter_stopped(
     ensures none { adapter.old.inner.value ≡ None → (result ≡ YT_NONE) × (adapter.new.inner.value ≡ None) × (found.new ≡ found.old) }
     ensures held { IsSome adapter.old.inner.value → IsSome adapter.new.inner.value }
     ensures tells { FromTo adapter.old.inner.value adapter.new.inner.value (λ a b. AdapterSaw a b result found.new ⊎ RefusesPoll a b result found.new ⊎ IsUntold a b result) }
+    ensures latched { (fault : TheFault) → FromTo adapter.old.inner.value adapter.new.inner.value (λ a b. a.adapter.fault ≡ Some fault → ((result ≡ adapter_number fault) ⊎ IsCodeOfText result) × (b.adapter ≡ a.adapter)) }
+    ensures apart { FromTo adapter.old.inner.value adapter.new.inner.value (λ a b. a.adapter.fault ≡ None → has_debuggee a.adapter.session.phase ≡ false → b.adapter.fault ≡ None) }
+    ensures length { FromTo adapter.old.inner.value adapter.new.inner.value (λ a b. found.new.bytes ≡ length b.bytes.items) }
     ensures limits { FromTo adapter.old.inner.value adapter.new.inner.value (λ a b. b.adapter.session.limits ≡ a.adapter.session.limits) }
     ensures frame { FromTo adapter.old.inner.value adapter.new.inner.value (λ a b. (b.frame ≡ a.frame) × (b.whole ≡ a.whole)) }
 {
@@ -210,6 +233,9 @@ pub extern "C" fn yt_adapter_continued(
     ensures none { adapter.old.inner.value ≡ None → (result ≡ YT_NONE) × (adapter.new.inner.value ≡ None) × (found.new ≡ found.old) }
     ensures held { IsSome adapter.old.inner.value → IsSome adapter.new.inner.value }
     ensures tells { FromTo adapter.old.inner.value adapter.new.inner.value (λ a b. AdapterSaw a b result found.new ⊎ RefusesPoll a b result found.new ⊎ IsUntold a b result) }
+    ensures latched { (fault : TheFault) → FromTo adapter.old.inner.value adapter.new.inner.value (λ a b. a.adapter.fault ≡ Some fault → ((result ≡ adapter_number fault) ⊎ IsCodeOfText result) × (b.adapter ≡ a.adapter)) }
+    ensures apart { FromTo adapter.old.inner.value adapter.new.inner.value (λ a b. a.adapter.fault ≡ None → has_debuggee a.adapter.session.phase ≡ false → b.adapter.fault ≡ None) }
+    ensures length { FromTo adapter.old.inner.value adapter.new.inner.value (λ a b. found.new.bytes ≡ length b.bytes.items) }
     ensures limits { FromTo adapter.old.inner.value adapter.new.inner.value (λ a b. b.adapter.session.limits ≡ a.adapter.session.limits) }
     ensures frame { FromTo adapter.old.inner.value adapter.new.inner.value (λ a b. (b.frame ≡ a.frame) × (b.whole ≡ a.whole)) }
 {
@@ -227,6 +253,9 @@ pub extern "C" fn yt_adapter_exited(
     ensures none { adapter.old.inner.value ≡ None → (result ≡ YT_NONE) × (adapter.new.inner.value ≡ None) × (found.new ≡ found.old) }
     ensures held { IsSome adapter.old.inner.value → IsSome adapter.new.inner.value }
     ensures tells { FromTo adapter.old.inner.value adapter.new.inner.value (λ a b. AdapterSaw a b result found.new ⊎ RefusesPoll a b result found.new ⊎ IsUntold a b result) }
+    ensures latched { (fault : TheFault) → FromTo adapter.old.inner.value adapter.new.inner.value (λ a b. a.adapter.fault ≡ Some fault → ((result ≡ adapter_number fault) ⊎ IsCodeOfText result) × (b.adapter ≡ a.adapter)) }
+    ensures apart { FromTo adapter.old.inner.value adapter.new.inner.value (λ a b. a.adapter.fault ≡ None → has_debuggee a.adapter.session.phase ≡ false → b.adapter.fault ≡ None) }
+    ensures length { FromTo adapter.old.inner.value adapter.new.inner.value (λ a b. found.new.bytes ≡ length b.bytes.items) }
     ensures limits { FromTo adapter.old.inner.value adapter.new.inner.value (λ a b. b.adapter.session.limits ≡ a.adapter.session.limits) }
     ensures frame { FromTo adapter.old.inner.value adapter.new.inner.value (λ a b. (b.frame ≡ a.frame) × (b.whole ≡ a.whole)) }
 {
@@ -289,6 +318,9 @@ pub extern "C" fn yt_adapter_learned(
     ensures none { adapter.old.inner.value ≡ None → (result ≡ YT_NONE) × (adapter.new.inner.value ≡ None) × (found.new ≡ found.old) }
     ensures held { IsSome adapter.old.inner.value → IsSome adapter.new.inner.value }
     ensures tells { FromTo adapter.old.inner.value adapter.new.inner.value (λ a b. AdapterSaw a b result found.new ⊎ RefusesPoll a b result found.new ⊎ IsUntold a b result) }
+    ensures latched { (fault : TheFault) → FromTo adapter.old.inner.value adapter.new.inner.value (λ a b. a.adapter.fault ≡ Some fault → ((result ≡ adapter_number fault) ⊎ IsCodeOfText result) × (b.adapter ≡ a.adapter)) }
+    ensures apart { FromTo adapter.old.inner.value adapter.new.inner.value (λ a b. a.adapter.fault ≡ None → has_debuggee a.adapter.session.phase ≡ false → b.adapter.fault ≡ None) }
+    ensures length { FromTo adapter.old.inner.value adapter.new.inner.value (λ a b. found.new.bytes ≡ length b.bytes.items) }
     ensures limits { FromTo adapter.old.inner.value adapter.new.inner.value (λ a b. b.adapter.session.limits ≡ a.adapter.session.limits) }
     ensures frame { FromTo adapter.old.inner.value adapter.new.inner.value (λ a b. (b.frame ≡ a.frame) × (b.whole ≡ a.whole)) }
 {
@@ -338,6 +370,9 @@ pub extern "C" fn yt_adapter_variable(
 
 fn tell_variables(alloc: Global, held: &mut HeldAdapter, holder: u64, found: &mut YtFound) -> u32
     ensures tells { AdapterSaw held.old held.new result found.new ⊎ RefusesPoll held.old held.new result found.new }
+    ensures latched { IfSome held.old.adapter.fault (λ fault. (result ≡ adapter_number fault) × IsAdapterFaultFound fault found.new × (held.new.adapter ≡ held.old.adapter)) }
+    ensures apart { held.old.adapter.fault ≡ None → has_debuggee held.old.adapter.session.phase ≡ false → held.new.adapter.fault ≡ None }
+    ensures length { found.new.bytes ≡ length held.new.bytes.items }
     ensures limits { held.new.adapter.session.limits ≡ held.old.adapter.session.limits }
     ensures frame { (held.new.frame ≡ held.old.frame) × (held.new.whole ≡ held.old.whole) }
 {
@@ -360,6 +395,9 @@ pub extern "C" fn yt_adapter_variables(
     ensures none { adapter.old.inner.value ≡ None → (result ≡ YT_NONE) × (adapter.new.inner.value ≡ None) × (found.new ≡ found.old) }
     ensures held { IsSome adapter.old.inner.value → IsSome adapter.new.inner.value }
     ensures tells { FromTo adapter.old.inner.value adapter.new.inner.value (λ a b. AdapterSaw a b result found.new ⊎ RefusesPoll a b result found.new) }
+    ensures latched { (fault : TheFault) → FromTo adapter.old.inner.value adapter.new.inner.value (λ a b. a.adapter.fault ≡ Some fault → (result ≡ adapter_number fault) × IsAdapterFaultFound fault found.new × (b.adapter ≡ a.adapter)) }
+    ensures apart { FromTo adapter.old.inner.value adapter.new.inner.value (λ a b. a.adapter.fault ≡ None → has_debuggee a.adapter.session.phase ≡ false → b.adapter.fault ≡ None) }
+    ensures length { FromTo adapter.old.inner.value adapter.new.inner.value (λ a b. found.new.bytes ≡ length b.bytes.items) }
     ensures limits { FromTo adapter.old.inner.value adapter.new.inner.value (λ a b. b.adapter.session.limits ≡ a.adapter.session.limits) }
     ensures frame { FromTo adapter.old.inner.value adapter.new.inner.value (λ a b. (b.frame ≡ a.frame) × (b.whole ≡ a.whole)) }
 {
@@ -389,6 +427,9 @@ pub extern "C" fn yt_adapter_sources(
     ensures none { adapter.old.inner.value ≡ None → (result ≡ YT_NONE) × (adapter.new.inner.value ≡ None) × (found.new ≡ found.old) }
     ensures held { IsSome adapter.old.inner.value → IsSome adapter.new.inner.value }
     ensures tells { FromTo adapter.old.inner.value adapter.new.inner.value (λ a b. AdapterSaw a b result found.new ⊎ RefusesPoll a b result found.new ⊎ IsUntold a b result) }
+    ensures latched { (fault : TheFault) → FromTo adapter.old.inner.value adapter.new.inner.value (λ a b. a.adapter.fault ≡ Some fault → ((result ≡ adapter_number fault) ⊎ IsCodeOfText result) × (b.adapter ≡ a.adapter)) }
+    ensures apart { FromTo adapter.old.inner.value adapter.new.inner.value (λ a b. a.adapter.fault ≡ None → has_debuggee a.adapter.session.phase ≡ false → b.adapter.fault ≡ None) }
+    ensures length { FromTo adapter.old.inner.value adapter.new.inner.value (λ a b. found.new.bytes ≡ length b.bytes.items) }
     ensures limits { FromTo adapter.old.inner.value adapter.new.inner.value (λ a b. b.adapter.session.limits ≡ a.adapter.session.limits) }
     ensures frame { FromTo adapter.old.inner.value adapter.new.inner.value (λ a b. (b.frame ≡ a.frame) × (b.whole ≡ a.whole)) }
 {
