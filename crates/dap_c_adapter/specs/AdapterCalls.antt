@@ -1,6 +1,7 @@
 -- What the exports of an adapter do, in the words of dap_adapter, over the adapter behind the handle and a debuggee that the
 -- host feeds.
-use Rattle.std.specs.Prelude.{◌≡◌, ◌⊎◌, ℕ, List, [], ◌++◌, length, take, false, Option, Some, None, Ok, is_some, if◌then◌else◌}
+use Rattle.std.specs.Prelude.{◌≡◌, ◌⊎◌, ℕ, List, [], ◌++◌, length, take, Bool, false, Option, Some, None, Ok, is_some, if◌then◌else◌}
+use Rattle.dap_debuggee.specs.declared.answers.Variable.{Variable}
 use Rattle.dap_message.specs.declared.message.Message.{Message}
 use Rattle.serde_json.specs.Data.{Data}
 use Rattle.dap_recording.specs.declared.recording.Recording.{Recording}
@@ -36,12 +37,6 @@ pub record HasNothing (h : HeldAdapter) : Type 0 where
   pub bytes : h.bytes.items ≡ []
   pub frame : h.frame.items ≡ []
   pub whole : h.whole ≡ false
-
--- no byte was used, none is to be written, and no frame became whole
-pub record FindsNothing (found : YtFound) : Type 0 where
-  pub used : found.used ≡ 0
-  pub bytes : found.bytes ≡ 0
-  pub frame : found.frame ≡ 0
 
 -- a piece was taken, as dap_adapter says it, and this was found
 pub record AdapterTakes (old new : HeldAdapter) (piece : List ℕ) (found : YtFound) : Type 0 where
@@ -129,9 +124,19 @@ pub record IsUntold (old new : HeldAdapter) (code : ℕ) : Type 0 where
   pub adapter : new.adapter ≡ old.adapter
   pub none_written : new.bytes.items ≡ []
 
+-- the acts that are still to be fetched, and the one that was fetched last, are as they were
+pub record KeepsActs (old new : HeldAdapter) : Type 0 where
+  pub acts : new.acts ≡ old.acts
+  pub act : new.act ≡ old.act
+
+-- a variable, as a caller in C says it
+abbrev pub variable_told : List ℕ → List ℕ → Bool → ℕ → Variable
+variable_told name value has_parts holder = record { name = name; value = value; holder = if has_parts then Some holder else None }
+
 -- the session is as it was, with what is to be written and the frame
 pub record KeepsSession (old new : HeldAdapter) : Type 0 where
   pub adapter : new.adapter ≡ old.adapter
   pub bytes : new.bytes ≡ old.bytes
   pub frame : new.frame ≡ old.frame
   pub whole : new.whole ≡ old.whole
+  pub gathered : new.variables ≡ old.variables

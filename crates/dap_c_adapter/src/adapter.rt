@@ -12,9 +12,10 @@ ghost use Rattle.dap_session.specs.Session.{fresh_session, oldest};
 ghost use Rattle.dap_session.specs.declared.fault.AdapterFault.{AdapterFault as TheFault};
 ghost use Rattle.dap_adapter.specs.StandsFor.{StandsFor};
 ghost use Rattle.dap_live.specs.LiveShown.{fresh_live};
-ghost use Rattle.dap_c_adapter.specs.AdapterCalls.{AdapterTakes, RefusesAdapterPiece, IsAdapterAsBefore, AdapterTurns, RefusesTurn, frame_so_far, IsCodeOfOpen, IsOpenedOver, IsNoRecording, HasNothing, FindsNothing};
+ghost use Rattle.dap_c_adapter.specs.AdapterCalls.{AdapterTakes, RefusesAdapterPiece, IsAdapterAsBefore, AdapterTurns, RefusesTurn, frame_so_far, IsCodeOfOpen, IsOpenedOver, IsNoRecording, HasNothing, KeepsActs};
 ghost use Rattle.dap_c_adapter.specs.AdapterFaults.{adapter_number, IsAdapterFaultFound};
 ghost use Rattle.dap_c_parts.specs.Behind.{FromTo};
+ghost use Rattle.dap_c_parts.specs.Finds.{FindsNothing};
 ghost use Rattle.dap_c_parts.specs.Limited.{settings_of};
 
 use crate::adapter_handle::{YtAdapter, full, taken};
@@ -176,6 +177,8 @@ fn begin_frame(held: &mut HeldAdapter)
     ensures whole { held.new.whole ≡ false }
     ensures adapter { held.new.adapter ≡ held.old.adapter }
     ensures bytes { held.new.bytes.items ≡ [] }
+    ensures acts { KeepsActs held.old held.new }
+    ensures gathered { held.new.variables ≡ held.old.variables }
 {
     held.bytes.clear();
     if held.whole {
@@ -194,6 +197,8 @@ fn keep(held: &mut HeldAdapter, piece: &[u8], taken: Taken) -> YtFound
     ensures whole { held.new.whole ≡ is_some taken.delivered }
     ensures frame { held.new.frame.items ≡ held.old.frame.items ++ take taken.used piece.now }
     ensures frame_length { result.frame ≡ (if is_some taken.delivered then length held.new.frame.items else 0) }
+    ensures acts { KeepsActs held.old held.new }
+    ensures gathered { held.new.variables ≡ held.old.variables }
     ensures adapter { held.new.adapter ≡ held.old.adapter }
 {
     let Taken {
@@ -228,6 +233,8 @@ fn take_piece(alloc: Global, held: &mut HeldAdapter, piece: &[u8], found: &mut Y
     ensures unasked { is_phase Asked held.old.adapter.session.phase ≡ false → (result ≡ YT_OK → ⊥) → held.new.adapter.debuggee ≡ held.old.adapter.debuggee }
     ensures length { found.new.bytes ≡ length held.new.bytes.items }
     ensures nothing { (result ≡ YT_OK → ⊥) → (held.new.bytes.items ≡ []) × (held.new.whole ≡ false) × FindsNothing found.new }
+    ensures acts { KeepsActs held.old held.new }
+    ensures gathered { held.new.variables ≡ held.old.variables }
     ensures latched { IfSome held.old.adapter.fault (λ fault. ((result ≡ YT_NO_MEMORY) ⊎ (result ≡ adapter_number fault)) × (held.new.adapter ≡ held.old.adapter)) }
 {
     begin_frame(held);
@@ -275,6 +282,8 @@ pub extern "C" fn yt_adapter_take(
     // What there is to fetch; where it is refused, nothing.
     ensures length { FromTo adapter.old.inner.value adapter.new.inner.value (λ a b. found.new.bytes ≡ length b.bytes.items) }
     ensures nothing { FromTo adapter.old.inner.value adapter.new.inner.value (λ a b. (result ≡ YT_OK → ⊥) → (b.bytes.items ≡ []) × (b.whole ≡ false) × FindsNothing found.new) }
+    ensures acts { FromTo adapter.old.inner.value adapter.new.inner.value (λ a b. KeepsActs a b) }
+    ensures gathered { FromTo adapter.old.inner.value adapter.new.inner.value (λ a b. b.variables ≡ a.variables) }
     ensures latched { (fault : TheFault) → FromTo adapter.old.inner.value adapter.new.inner.value (λ a b. a.adapter.fault ≡ Some fault → ((result ≡ YT_NO_MEMORY) ⊎ (result ≡ adapter_number fault)) × (b.adapter ≡ a.adapter)) }
 {
     let Some(mut held) = taken(alloc, adapter) else {
@@ -310,6 +319,8 @@ fn turn(alloc: Global, held: &mut HeldAdapter, found: &mut YtFound) -> u32
     ensures latched { IfSome held.old.adapter.fault (λ fault. (result ≡ adapter_number fault) × IsAdapterFaultFound fault found.new × (held.new.adapter ≡ held.old.adapter)) }
     ensures idle { held.old.adapter.fault ≡ None → oldest held.old.adapter.session.kept ≡ None → result ≡ YT_IDLE }
     ensures frame { (held.new.frame ≡ held.old.frame) × (held.new.whole ≡ held.old.whole) }
+    ensures acts { KeepsActs held.old held.new }
+    ensures gathered { held.new.variables ≡ held.old.variables }
 {
     held.bytes.clear();
     match held.adapter.turn(alloc) {
@@ -352,6 +363,8 @@ pub extern "C" fn yt_adapter_turn(
     ensures idle { FromTo adapter.old.inner.value adapter.new.inner.value (λ a b. a.adapter.fault ≡ None → oldest a.adapter.session.kept ≡ None → result ≡ YT_IDLE) }
     ensures unchanged { FromTo adapter.old.inner.value adapter.new.inner.value (λ a b. result ≡ YT_IDLE → b.adapter ≡ a.adapter) }
     ensures frame { FromTo adapter.old.inner.value adapter.new.inner.value (λ a b. (b.frame ≡ a.frame) × (b.whole ≡ a.whole)) }
+    ensures acts { FromTo adapter.old.inner.value adapter.new.inner.value (λ a b. KeepsActs a b) }
+    ensures gathered { FromTo adapter.old.inner.value adapter.new.inner.value (λ a b. b.variables ≡ a.variables) }
 {
     let Some(mut held) = taken(alloc, adapter) else {
         return YT_NONE;

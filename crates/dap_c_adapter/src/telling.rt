@@ -3,13 +3,13 @@
 //! What does not happen in the state that the debuggee is in, or is out of its range, is dropped, and the code says why. No
 //! clause says what is shown then: it is what the host told, whatever that is. Only the adapter behind the handle and what
 //! the caller lends for an answer are touched.
-ghost use Rattle.std.specs.Prelude.{◌≡◌, ◌⊎◌, ◌++◌, ◌∷◌, IfOk, IfErr, IfSome, IsSome, Some, None, Ok, false, [], length, if◌then◌else◌};
+ghost use Rattle.std.specs.Prelude.{◌≡◌, ◌⊎◌, ◌++◌, ◌∷◌, IfOk, IfErr, IfSome, IsSome, IsOk, IsUtf8, Some, None, Ok, false, [], length, if◌then◌else◌};
 ghost use Rattle.dap_json.specs.Read.{json_of};
 ghost use Rattle.dap_recording.specs.Reading.{verdict_of};
 ghost use Rattle.dap_replay.specs.Played.{fresh_played};
 ghost use Rattle.dap_session.specs.Polling.{has_debuggee};
 ghost use Rattle.dap_session.specs.declared.fault.AdapterFault.{AdapterFault as TheFault};
-ghost use Rattle.dap_c_adapter.specs.AdapterCalls.{AdapterSaw, RefusesPoll, IsUntold, IsCodeOfText, IsCodeOfRecording, IsToldCode, IsNoRecording};
+ghost use Rattle.dap_c_adapter.specs.AdapterCalls.{AdapterSaw, RefusesPoll, IsUntold, IsCodeOfText, IsCodeOfRecording, IsToldCode, IsNoRecording, KeepsActs, variable_told};
 ghost use Rattle.dap_c_adapter.specs.AdapterFaults.{adapter_number, IsAdapterFaultFound};
 ghost use Rattle.dap_c_parts.specs.Behind.{FromTo};
 
@@ -50,6 +50,8 @@ fn tell(alloc: Global, held: &mut HeldAdapter, coming: Coming, found: &mut YtFou
     ensures length { found.new.bytes ≡ length held.new.bytes.items }
     ensures limits { held.new.adapter.session.limits ≡ held.old.adapter.session.limits }
     ensures frame { (held.new.frame ≡ held.old.frame) × (held.new.whole ≡ held.old.whole) }
+    ensures acts { KeepsActs held.old held.new }
+    ensures gathered { held.new.variables ≡ held.old.variables }
 {
     held.bytes.clear();
     held.mail.post(coming);
@@ -80,6 +82,8 @@ fn tell_given(
     ensures length { found.new.bytes ≡ length held.new.bytes.items }
     ensures limits { held.new.adapter.session.limits ≡ held.old.adapter.session.limits }
     ensures frame { (held.new.frame ≡ held.old.frame) × (held.new.whole ≡ held.old.whole) }
+    ensures acts { KeepsActs held.old held.new }
+    ensures gathered { held.new.variables ≡ held.old.variables }
 {
     match coming {
         Ok(coming) => tell(alloc, held, coming, found),
@@ -107,6 +111,8 @@ fn tell_handle(
     ensures length { FromTo adapter.old.inner.value adapter.new.inner.value (λ a b. found.new.bytes ≡ length b.bytes.items) }
     ensures limits { FromTo adapter.old.inner.value adapter.new.inner.value (λ a b. b.adapter.session.limits ≡ a.adapter.session.limits) }
     ensures frame { FromTo adapter.old.inner.value adapter.new.inner.value (λ a b. (b.frame ≡ a.frame) × (b.whole ≡ a.whole)) }
+    ensures acts { FromTo adapter.old.inner.value adapter.new.inner.value (λ a b. KeepsActs a b) }
+    ensures gathered { FromTo adapter.old.inner.value adapter.new.inner.value (λ a b. b.variables ≡ a.variables) }
 {
     let Some(mut held) = taken(alloc, adapter) else {
         return YT_NONE;
@@ -117,7 +123,9 @@ fn tell_handle(
 }
 
 fn text_given(alloc: Global, bytes: &[u8]) -> Result<Text, u32>
-    ensures { IfErr result IsCodeOfText }
+    ensures text { IfOk result (λ text. text ≡ bytes.now) }
+    ensures wanted { IsUtf8 bytes.now → IfErr result (λ code. code ≡ YT_NO_MEMORY) }
+    ensures code { IfErr result IsCodeOfText }
 {
     let Ok(text) = std::str::from_utf8(bytes) else {
         return Err(YT_BAD_ARGUMENTS);
@@ -189,6 +197,8 @@ pub extern "C" fn yt_adapter_output(
     ensures length { FromTo adapter.old.inner.value adapter.new.inner.value (λ a b. found.new.bytes ≡ length b.bytes.items) }
     ensures limits { FromTo adapter.old.inner.value adapter.new.inner.value (λ a b. b.adapter.session.limits ≡ a.adapter.session.limits) }
     ensures frame { FromTo adapter.old.inner.value adapter.new.inner.value (λ a b. (b.frame ≡ a.frame) × (b.whole ≡ a.whole)) }
+    ensures acts { FromTo adapter.old.inner.value adapter.new.inner.value (λ a b. KeepsActs a b) }
+    ensures gathered { FromTo adapter.old.inner.value adapter.new.inner.value (λ a b. b.variables ≡ a.variables) }
 {
     tell_handle(alloc, adapter, output_given(alloc, category, output), found)
 }
@@ -213,6 +223,8 @@ pub extern "C" fn yt_adapter_stopped(
     ensures length { FromTo adapter.old.inner.value adapter.new.inner.value (λ a b. found.new.bytes ≡ length b.bytes.items) }
     ensures limits { FromTo adapter.old.inner.value adapter.new.inner.value (λ a b. b.adapter.session.limits ≡ a.adapter.session.limits) }
     ensures frame { FromTo adapter.old.inner.value adapter.new.inner.value (λ a b. (b.frame ≡ a.frame) × (b.whole ≡ a.whole)) }
+    ensures acts { FromTo adapter.old.inner.value adapter.new.inner.value (λ a b. KeepsActs a b) }
+    ensures gathered { FromTo adapter.old.inner.value adapter.new.inner.value (λ a b. b.variables ≡ a.variables) }
 {
     tell_handle(
         alloc,
@@ -238,6 +250,8 @@ pub extern "C" fn yt_adapter_continued(
     ensures length { FromTo adapter.old.inner.value adapter.new.inner.value (λ a b. found.new.bytes ≡ length b.bytes.items) }
     ensures limits { FromTo adapter.old.inner.value adapter.new.inner.value (λ a b. b.adapter.session.limits ≡ a.adapter.session.limits) }
     ensures frame { FromTo adapter.old.inner.value adapter.new.inner.value (λ a b. (b.frame ≡ a.frame) × (b.whole ≡ a.whole)) }
+    ensures acts { FromTo adapter.old.inner.value adapter.new.inner.value (λ a b. KeepsActs a b) }
+    ensures gathered { FromTo adapter.old.inner.value adapter.new.inner.value (λ a b. b.variables ≡ a.variables) }
 {
     tell_handle(alloc, adapter, Ok(Coming::Continued { thread }), found)
 }
@@ -258,12 +272,16 @@ pub extern "C" fn yt_adapter_exited(
     ensures length { FromTo adapter.old.inner.value adapter.new.inner.value (λ a b. found.new.bytes ≡ length b.bytes.items) }
     ensures limits { FromTo adapter.old.inner.value adapter.new.inner.value (λ a b. b.adapter.session.limits ≡ a.adapter.session.limits) }
     ensures frame { FromTo adapter.old.inner.value adapter.new.inner.value (λ a b. (b.frame ≡ a.frame) × (b.whole ≡ a.whole)) }
+    ensures acts { FromTo adapter.old.inner.value adapter.new.inner.value (λ a b. KeepsActs a b) }
+    ensures gathered { FromTo adapter.old.inner.value adapter.new.inner.value (λ a b. b.variables ≡ a.variables) }
 {
     tell_handle(alloc, adapter, Ok(Coming::Exited { code }), found)
 }
 
 /// What holds the parts of a value, where it has some.
-fn holder_given(has_parts: bool, holder: u64) -> Option<u64> {
+fn holder_given(has_parts: bool, holder: u64) -> Option<u64>
+    ensures { result ≡ (if has_parts then Some holder else None) }
+{
     if has_parts { Some(holder) } else { None }
 }
 
@@ -291,7 +309,9 @@ fn variable_given(
     value: &[u8],
     holder: Option<u64>,
 ) -> Result<Variable, u32>
-    ensures { IfErr result IsCodeOfText }
+    ensures variable { IfOk result (λ variable. variable ≡ record { name = name.now; value = value.now; holder = holder }) }
+    ensures wanted { IsUtf8 name.now → IsUtf8 value.now → IfErr result (λ code. code ≡ YT_NO_MEMORY) }
+    ensures code { IfErr result IsCodeOfText }
 {
     let name = text_given(alloc, name)?;
     let value = text_given(alloc, value)?;
@@ -323,6 +343,8 @@ pub extern "C" fn yt_adapter_learned(
     ensures length { FromTo adapter.old.inner.value adapter.new.inner.value (λ a b. found.new.bytes ≡ length b.bytes.items) }
     ensures limits { FromTo adapter.old.inner.value adapter.new.inner.value (λ a b. b.adapter.session.limits ≡ a.adapter.session.limits) }
     ensures frame { FromTo adapter.old.inner.value adapter.new.inner.value (λ a b. (b.frame ≡ a.frame) × (b.whole ≡ a.whole)) }
+    ensures acts { FromTo adapter.old.inner.value adapter.new.inner.value (λ a b. KeepsActs a b) }
+    ensures gathered { FromTo adapter.old.inner.value adapter.new.inner.value (λ a b. b.variables ≡ a.variables) }
 {
     let holder = holder_given(has_parts, holder);
     let coming = value_given(alloc, asked, known, value, holder);
@@ -334,6 +356,12 @@ fn keep_variable(held: &mut HeldAdapter, variable: Result<Variable, u32>) -> u32
     ensures code { (result ≡ YT_OK → ⊥) → IsCodeOfText result }
     ensures adapter { held.new.adapter ≡ held.old.adapter }
     ensures others { (held.new.bytes ≡ held.old.bytes) × (held.new.frame ≡ held.old.frame) × (held.new.whole ≡ held.old.whole) }
+    ensures acts { KeepsActs held.old held.new }
+    ensures gathers { IfOk variable (λ v. result ≡ YT_OK → held.new.variables.items ≡ held.old.variables.items ++ v ∷ []) }
+    ensures refused { (result ≡ YT_OK → ⊥) → held.new.variables.items ≡ held.old.variables.items }
+    ensures read { result ≡ YT_OK → IsOk variable }
+    ensures given { IfErr variable (λ code. result ≡ code) }
+    ensures no_memory { IfOk variable (λ v. (result ≡ YT_OK → ⊥) → result ≡ YT_NO_MEMORY) }
 {
     match variable {
         Ok(variable) => match held.variables.push(variable) {
@@ -358,6 +386,10 @@ pub extern "C" fn yt_adapter_variable(
     ensures held { IsSome adapter.old.inner.value → IsSome adapter.new.inner.value }
     ensures code { IsSome adapter.old.inner.value → (result ≡ YT_OK → ⊥) → IsCodeOfText result }
     ensures same { FromTo adapter.old.inner.value adapter.new.inner.value (λ a b. (b.adapter ≡ a.adapter) × (b.bytes ≡ a.bytes) × (b.frame ≡ a.frame) × (b.whole ≡ a.whole)) }
+    ensures acts { FromTo adapter.old.inner.value adapter.new.inner.value (λ a b. KeepsActs a b) }
+    ensures gathers { FromTo adapter.old.inner.value adapter.new.inner.value (λ a b. result ≡ YT_OK → b.variables.items ≡ a.variables.items ++ variable_told name.now value.now has_parts holder ∷ []) }
+    ensures refused { FromTo adapter.old.inner.value adapter.new.inner.value (λ a b. (result ≡ YT_OK → ⊥) → b.variables.items ≡ a.variables.items) }
+    ensures wanted { IsUtf8 name.now → IsUtf8 value.now → result ≡ YT_BAD_ARGUMENTS → ⊥ }
 {
     let Some(mut held) = taken(alloc, adapter) else {
         return YT_NONE;
@@ -375,6 +407,8 @@ fn tell_variables(alloc: Global, held: &mut HeldAdapter, holder: u64, found: &mu
     ensures length { found.new.bytes ≡ length held.new.bytes.items }
     ensures limits { held.new.adapter.session.limits ≡ held.old.adapter.session.limits }
     ensures frame { (held.new.frame ≡ held.old.frame) × (held.new.whole ≡ held.old.whole) }
+    ensures acts { KeepsActs held.old held.new }
+    ensures none_gathered { held.new.variables.items ≡ [] }
 {
     let variables = std::mem::replace(&mut held.variables, Vec::new(alloc));
     let coming = Coming::Variables {
@@ -400,6 +434,8 @@ pub extern "C" fn yt_adapter_variables(
     ensures length { FromTo adapter.old.inner.value adapter.new.inner.value (λ a b. found.new.bytes ≡ length b.bytes.items) }
     ensures limits { FromTo adapter.old.inner.value adapter.new.inner.value (λ a b. b.adapter.session.limits ≡ a.adapter.session.limits) }
     ensures frame { FromTo adapter.old.inner.value adapter.new.inner.value (λ a b. (b.frame ≡ a.frame) × (b.whole ≡ a.whole)) }
+    ensures acts { FromTo adapter.old.inner.value adapter.new.inner.value (λ a b. KeepsActs a b) }
+    ensures none_gathered { FromTo adapter.old.inner.value adapter.new.inner.value (λ a b. b.variables.items ≡ []) }
 {
     let Some(mut held) = taken(alloc, adapter) else {
         return YT_NONE;
@@ -432,6 +468,8 @@ pub extern "C" fn yt_adapter_sources(
     ensures length { FromTo adapter.old.inner.value adapter.new.inner.value (λ a b. found.new.bytes ≡ length b.bytes.items) }
     ensures limits { FromTo adapter.old.inner.value adapter.new.inner.value (λ a b. b.adapter.session.limits ≡ a.adapter.session.limits) }
     ensures frame { FromTo adapter.old.inner.value adapter.new.inner.value (λ a b. (b.frame ≡ a.frame) × (b.whole ≡ a.whole)) }
+    ensures acts { FromTo adapter.old.inner.value adapter.new.inner.value (λ a b. KeepsActs a b) }
+    ensures gathered { FromTo adapter.old.inner.value adapter.new.inner.value (λ a b. b.variables ≡ a.variables) }
 {
     tell_handle(alloc, adapter, sources_given(alloc, sources), found)
 }
