@@ -3,7 +3,7 @@
 //! What does not happen in the state that the debuggee is in, or is out of its range, is dropped, and the code says why. No
 //! clause says what is shown then: it is what the host told, whatever that is. Only the adapter behind the handle and what
 //! the caller lends for an answer are touched.
-ghost use Rattle.std.specs.Prelude.{◌≡◌, ◌⊎◌, ◌++◌, ◌∷◌, IfOk, IfErr, IfSome, IsSome, IsOk, IsUtf8, Some, None, Ok, false, [], length, if◌then◌else◌};
+ghost use Rattle.std.specs.Prelude.{◌≡◌, ◌⊎◌, ◌≤◌, ◌++◌, ◌∷◌, IfOk, IfErr, IfSome, IsSome, IsOk, IsUtf8, Some, None, Ok, Err, false, [], length, if◌then◌else◌};
 ghost use Rattle.dap_json.specs.Read.{json_of};
 ghost use Rattle.dap_recording.specs.Reading.{verdict_of};
 ghost use Rattle.dap_replay.specs.Played.{fresh_played};
@@ -48,6 +48,7 @@ fn tell(alloc: Global, held: &mut HeldAdapter, coming: Coming, found: &mut YtFou
     ensures latched { IfSome held.old.adapter.fault (λ fault. (result ≡ adapter_number fault) × IsAdapterFaultFound fault found.new × (held.new.adapter ≡ held.old.adapter)) }
     ensures apart { held.old.adapter.fault ≡ None → has_debuggee held.old.adapter.session.phase ≡ false → held.new.adapter.fault ≡ None }
     ensures length { found.new.bytes ≡ length held.new.bytes.items }
+    ensures heard { (result ≡ YT_BAD_ARGUMENTS → ⊥) × (result ≡ YT_BAD_RECORDING → ⊥) }
     ensures limits { held.new.adapter.session.limits ≡ held.old.adapter.session.limits }
     ensures frame { (held.new.frame ≡ held.old.frame) × (held.new.whole ≡ held.old.whole) }
     ensures acts { KeepsActs held.old held.new }
@@ -80,6 +81,7 @@ fn tell_given(
     ensures latched { IfSome held.old.adapter.fault (λ fault. ((result ≡ adapter_number fault) ⊎ IsCodeOfText result) × (held.new.adapter ≡ held.old.adapter)) }
     ensures apart { held.old.adapter.fault ≡ None → has_debuggee held.old.adapter.session.phase ≡ false → held.new.adapter.fault ≡ None }
     ensures length { found.new.bytes ≡ length held.new.bytes.items }
+    ensures why { (result ≡ YT_BAD_ARGUMENTS) ⊎ (result ≡ YT_BAD_RECORDING) → coming ≡ Err result }
     ensures limits { held.new.adapter.session.limits ≡ held.old.adapter.session.limits }
     ensures frame { (held.new.frame ≡ held.old.frame) × (held.new.whole ≡ held.old.whole) }
     ensures acts { KeepsActs held.old held.new }
@@ -109,6 +111,7 @@ fn tell_handle(
     ensures latched { (fault : TheFault) → FromTo adapter.old.inner.value adapter.new.inner.value (λ a b. a.adapter.fault ≡ Some fault → ((result ≡ adapter_number fault) ⊎ IsCodeOfText result) × (b.adapter ≡ a.adapter)) }
     ensures apart { FromTo adapter.old.inner.value adapter.new.inner.value (λ a b. a.adapter.fault ≡ None → has_debuggee a.adapter.session.phase ≡ false → b.adapter.fault ≡ None) }
     ensures length { FromTo adapter.old.inner.value adapter.new.inner.value (λ a b. found.new.bytes ≡ length b.bytes.items) }
+    ensures why { (result ≡ YT_BAD_ARGUMENTS) ⊎ (result ≡ YT_BAD_RECORDING) → coming ≡ Err result }
     ensures limits { FromTo adapter.old.inner.value adapter.new.inner.value (λ a b. b.adapter.session.limits ≡ a.adapter.session.limits) }
     ensures frame { FromTo adapter.old.inner.value adapter.new.inner.value (λ a b. (b.frame ≡ a.frame) × (b.whole ≡ a.whole)) }
     ensures acts { FromTo adapter.old.inner.value adapter.new.inner.value (λ a b. KeepsActs a b) }
@@ -125,6 +128,7 @@ fn tell_handle(
 fn text_given(alloc: Global, bytes: &[u8]) -> Result<Text, u32>
     ensures text { IfOk result (λ text. text ≡ bytes.now) }
     ensures wanted { IsUtf8 bytes.now → IfErr result (λ code. code ≡ YT_NO_MEMORY) }
+    ensures no_recording { IfErr result (λ code. code ≡ YT_BAD_RECORDING → ⊥) }
     ensures code { IfErr result IsCodeOfText }
 {
     let Ok(text) = std::str::from_utf8(bytes) else {
@@ -149,7 +153,8 @@ pub(crate) fn recording_given(alloc: Global, bytes: &[u8]) -> Result<Recorded, u
 }
 
 fn output_given(alloc: Global, category: u32, output: &[u8]) -> Result<Coming, u32>
-    ensures { IfErr result IsCodeOfText }
+    ensures wanted { category ≤ 2 → IsUtf8 output.now → IfErr result (λ code. code ≡ YT_NO_MEMORY) }
+    ensures code { IfErr result IsCodeOfText }
 {
     let category = match category {
         0 => Category::Console,
@@ -168,7 +173,9 @@ fn stop_given(
     shows: &[u8],
     later: bool,
 ) -> Result<Coming, u32>
-    ensures { IfErr result IsCodeOfText }
+    ensures wanted { IsUtf8 reason.now → IfErr result (λ code. code ≡ YT_BAD_ARGUMENTS → ⊥) }
+    ensures no_recording { IfErr result (λ code. code ≡ YT_BAD_RECORDING → IsNoRecording (json_of shows.now)) }
+    ensures code { IfErr result IsCodeOfText }
 {
     let reason = text_given(alloc, reason)?;
     let shows = recording_given(alloc, shows)?;
@@ -195,6 +202,7 @@ pub extern "C" fn yt_adapter_output(
     ensures latched { (fault : TheFault) → FromTo adapter.old.inner.value adapter.new.inner.value (λ a b. a.adapter.fault ≡ Some fault → ((result ≡ adapter_number fault) ⊎ IsCodeOfText result) × (b.adapter ≡ a.adapter)) }
     ensures apart { FromTo adapter.old.inner.value adapter.new.inner.value (λ a b. a.adapter.fault ≡ None → has_debuggee a.adapter.session.phase ≡ false → b.adapter.fault ≡ None) }
     ensures length { FromTo adapter.old.inner.value adapter.new.inner.value (λ a b. found.new.bytes ≡ length b.bytes.items) }
+    ensures wanted { category ≤ 2 → IsUtf8 output.now → (result ≡ YT_BAD_ARGUMENTS → ⊥) × (result ≡ YT_BAD_RECORDING → ⊥) }
     ensures limits { FromTo adapter.old.inner.value adapter.new.inner.value (λ a b. b.adapter.session.limits ≡ a.adapter.session.limits) }
     ensures frame { FromTo adapter.old.inner.value adapter.new.inner.value (λ a b. (b.frame ≡ a.frame) × (b.whole ≡ a.whole)) }
     ensures acts { FromTo adapter.old.inner.value adapter.new.inner.value (λ a b. KeepsActs a b) }
@@ -221,6 +229,8 @@ pub extern "C" fn yt_adapter_stopped(
     ensures latched { (fault : TheFault) → FromTo adapter.old.inner.value adapter.new.inner.value (λ a b. a.adapter.fault ≡ Some fault → ((result ≡ adapter_number fault) ⊎ IsCodeOfText result) × (b.adapter ≡ a.adapter)) }
     ensures apart { FromTo adapter.old.inner.value adapter.new.inner.value (λ a b. a.adapter.fault ≡ None → has_debuggee a.adapter.session.phase ≡ false → b.adapter.fault ≡ None) }
     ensures length { FromTo adapter.old.inner.value adapter.new.inner.value (λ a b. found.new.bytes ≡ length b.bytes.items) }
+    ensures wanted { IsUtf8 reason.now → result ≡ YT_BAD_ARGUMENTS → ⊥ }
+    ensures no_recording { result ≡ YT_BAD_RECORDING → IsNoRecording (json_of shows.now) }
     ensures limits { FromTo adapter.old.inner.value adapter.new.inner.value (λ a b. b.adapter.session.limits ≡ a.adapter.session.limits) }
     ensures frame { FromTo adapter.old.inner.value adapter.new.inner.value (λ a b. (b.frame ≡ a.frame) × (b.whole ≡ a.whole)) }
     ensures acts { FromTo adapter.old.inner.value adapter.new.inner.value (λ a b. KeepsActs a b) }
@@ -248,6 +258,7 @@ pub extern "C" fn yt_adapter_continued(
     ensures latched { (fault : TheFault) → FromTo adapter.old.inner.value adapter.new.inner.value (λ a b. a.adapter.fault ≡ Some fault → ((result ≡ adapter_number fault) ⊎ IsCodeOfText result) × (b.adapter ≡ a.adapter)) }
     ensures apart { FromTo adapter.old.inner.value adapter.new.inner.value (λ a b. a.adapter.fault ≡ None → has_debuggee a.adapter.session.phase ≡ false → b.adapter.fault ≡ None) }
     ensures length { FromTo adapter.old.inner.value adapter.new.inner.value (λ a b. found.new.bytes ≡ length b.bytes.items) }
+    ensures wanted { (result ≡ YT_BAD_ARGUMENTS → ⊥) × (result ≡ YT_BAD_RECORDING → ⊥) }
     ensures limits { FromTo adapter.old.inner.value adapter.new.inner.value (λ a b. b.adapter.session.limits ≡ a.adapter.session.limits) }
     ensures frame { FromTo adapter.old.inner.value adapter.new.inner.value (λ a b. (b.frame ≡ a.frame) × (b.whole ≡ a.whole)) }
     ensures acts { FromTo adapter.old.inner.value adapter.new.inner.value (λ a b. KeepsActs a b) }
@@ -270,6 +281,7 @@ pub extern "C" fn yt_adapter_exited(
     ensures latched { (fault : TheFault) → FromTo adapter.old.inner.value adapter.new.inner.value (λ a b. a.adapter.fault ≡ Some fault → ((result ≡ adapter_number fault) ⊎ IsCodeOfText result) × (b.adapter ≡ a.adapter)) }
     ensures apart { FromTo adapter.old.inner.value adapter.new.inner.value (λ a b. a.adapter.fault ≡ None → has_debuggee a.adapter.session.phase ≡ false → b.adapter.fault ≡ None) }
     ensures length { FromTo adapter.old.inner.value adapter.new.inner.value (λ a b. found.new.bytes ≡ length b.bytes.items) }
+    ensures wanted { (result ≡ YT_BAD_ARGUMENTS → ⊥) × (result ≡ YT_BAD_RECORDING → ⊥) }
     ensures limits { FromTo adapter.old.inner.value adapter.new.inner.value (λ a b. b.adapter.session.limits ≡ a.adapter.session.limits) }
     ensures frame { FromTo adapter.old.inner.value adapter.new.inner.value (λ a b. (b.frame ≡ a.frame) × (b.whole ≡ a.whole)) }
     ensures acts { FromTo adapter.old.inner.value adapter.new.inner.value (λ a b. KeepsActs a b) }
@@ -292,7 +304,8 @@ fn value_given(
     value: &[u8],
     holder: Option<u64>,
 ) -> Result<Coming, u32>
-    ensures { IfErr result IsCodeOfText }
+    ensures wanted { IsUtf8 asked.now → IsUtf8 value.now → IfErr result (λ code. code ≡ YT_NO_MEMORY) }
+    ensures code { IfErr result IsCodeOfText }
 {
     let text = text_given(alloc, asked)?;
     let value = text_given(alloc, value)?;
@@ -341,6 +354,7 @@ pub extern "C" fn yt_adapter_learned(
     ensures latched { (fault : TheFault) → FromTo adapter.old.inner.value adapter.new.inner.value (λ a b. a.adapter.fault ≡ Some fault → ((result ≡ adapter_number fault) ⊎ IsCodeOfText result) × (b.adapter ≡ a.adapter)) }
     ensures apart { FromTo adapter.old.inner.value adapter.new.inner.value (λ a b. a.adapter.fault ≡ None → has_debuggee a.adapter.session.phase ≡ false → b.adapter.fault ≡ None) }
     ensures length { FromTo adapter.old.inner.value adapter.new.inner.value (λ a b. found.new.bytes ≡ length b.bytes.items) }
+    ensures wanted { IsUtf8 asked.now → IsUtf8 value.now → (result ≡ YT_BAD_ARGUMENTS → ⊥) × (result ≡ YT_BAD_RECORDING → ⊥) }
     ensures limits { FromTo adapter.old.inner.value adapter.new.inner.value (λ a b. b.adapter.session.limits ≡ a.adapter.session.limits) }
     ensures frame { FromTo adapter.old.inner.value adapter.new.inner.value (λ a b. (b.frame ≡ a.frame) × (b.whole ≡ a.whole)) }
     ensures acts { FromTo adapter.old.inner.value adapter.new.inner.value (λ a b. KeepsActs a b) }
@@ -446,7 +460,8 @@ pub extern "C" fn yt_adapter_variables(
 }
 
 fn sources_given(alloc: Global, sources: &[u8]) -> Result<Coming, u32>
-    ensures { IfErr result IsCodeOfText }
+    ensures no_recording { IfErr result (λ code. code ≡ YT_BAD_RECORDING → IsNoRecording (json_of sources.now)) }
+    ensures code { IfErr result IsCodeOfRecording }
 {
     let sources = recording_given(alloc, sources)?;
     Ok(Coming::Sources(sources))
@@ -466,6 +481,8 @@ pub extern "C" fn yt_adapter_sources(
     ensures latched { (fault : TheFault) → FromTo adapter.old.inner.value adapter.new.inner.value (λ a b. a.adapter.fault ≡ Some fault → ((result ≡ adapter_number fault) ⊎ IsCodeOfText result) × (b.adapter ≡ a.adapter)) }
     ensures apart { FromTo adapter.old.inner.value adapter.new.inner.value (λ a b. a.adapter.fault ≡ None → has_debuggee a.adapter.session.phase ≡ false → b.adapter.fault ≡ None) }
     ensures length { FromTo adapter.old.inner.value adapter.new.inner.value (λ a b. found.new.bytes ≡ length b.bytes.items) }
+    ensures wanted { result ≡ YT_BAD_ARGUMENTS → ⊥ }
+    ensures no_recording { result ≡ YT_BAD_RECORDING → IsNoRecording (json_of sources.now) }
     ensures limits { FromTo adapter.old.inner.value adapter.new.inner.value (λ a b. b.adapter.session.limits ≡ a.adapter.session.limits) }
     ensures frame { FromTo adapter.old.inner.value adapter.new.inner.value (λ a b. (b.frame ≡ a.frame) × (b.whole ≡ a.whole)) }
     ensures acts { FromTo adapter.old.inner.value adapter.new.inner.value (λ a b. KeepsActs a b) }
