@@ -1,5 +1,5 @@
 -- What is found of a transcript, as a caller in C sees it.
-use Rattle.std.specs.Prelude.{◌≡◌, ℕ, ◌<◌, ◌==◌, List, ◌++◌, length, drop, if◌then◌else◌, Option, Some, None}
+use Rattle.std.specs.Prelude.{◌≡◌, ◌⊎◌, ℕ, ◌<◌, ◌==◌, List, ◌++◌, length, drop, if◌then◌else◌, Option, Some, None}
 use Rattle.dap_check.specs.declared.checking.CheckFault.{CheckFault}
 use Rattle.dap_check.specs.declared.checking.CheckFault.TheVariants.{BadLine, Body, OutOfMemory}
 use Rattle.dap_check.specs.declared.rule.AnySeq.{AnySeq}
@@ -21,20 +21,29 @@ rule_of n = if n == 1 then Some Seq else (if n == 2 then Some Answer else (if n 
 
 -- this code and this verdict are told of a transcript
 abbrev pub TellsChecked : Checked → ℕ → YtVerdict → Type 0
-TellsChecked Legal code v = code ≡ 0
+TellsChecked Legal code v = (code ≡ 0) × (v.line ≡ 0) × (v.rule ≡ 0)
 TellsChecked (Finding line rule) code v = (code ≡ 2) × (v.line ≡ line) × (v.rule ≡ number_of rule)
 
--- this code is told of a text that is no transcript
+-- why a text is no transcript, as a code
 abbrev pub fault_code : CheckFault → ℕ
 fault_code (BadLine line) = 41
 fault_code (Body line cause) = 42
 fault_code OutOfMemory = 104
 
--- and this line
+-- and the line
 abbrev pub fault_line : CheckFault → ℕ
 fault_line (BadLine line) = line
 fault_line (Body line cause) = line
 fault_line OutOfMemory = 0
+
+-- this code and this verdict are told of a text that is no transcript
+pub record TellsRefused (fault : CheckFault) (code : ℕ) (v : YtVerdict) : Type 0 where
+  pub code_is : code ≡ fault_code fault
+  pub line : v.line ≡ fault_line fault
+
+-- a line is of neither side, or no message, as a code
+abbrev pub IsCodeOfLine : ℕ → Type 0
+IsCodeOfLine code = (code ≡ 41) ⊎ (code ≡ 42)
 
 -- a text, or none, is put into a buffer with this code, where there is room for it
 abbrev pub PutsIfAny : Option (List ℕ) → ℕ → ℕ → List ℕ → List ℕ → Type 0

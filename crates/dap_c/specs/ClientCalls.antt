@@ -1,5 +1,5 @@
 -- What the exports of a client do, in the words of dap_client, over the client behind the handle.
-use Rattle.std.specs.Prelude.{◌≡◌, ℕ, ◌+◌, ◌==◌, List, [], ◌∷◌, ◌++◌, length, take, Bool, Option, Some, None, is_some, if◌then◌else◌}
+use Rattle.std.specs.Prelude.{◌≡◌, ℕ, ◌+◌, ◌==◌, List, [], ◌∷◌, ◌++◌, length, take, Bool, false, Option, Some, None, is_some, if◌then◌else◌}
 use Rattle.dap_history.specs.History.{Out}
 use Rattle.dap_message.specs.ReadBack.{ReadsBack}
 use Rattle.dap_message.specs.Types.Call.{Call}
@@ -58,6 +58,12 @@ pub record RefusesAnswer (old new : HeldClient) (request_seq code : ℕ) : Type 
 -- the bytes that were used since the message before
 abbrev pub bytes_so_far : HeldClient → List ℕ
 bytes_so_far h = if h.whole then [] else h.frame.items
+
+-- nothing waits to be fetched, and no byte of a frame came
+pub record HasNothing (h : HeldClient) : Type 0 where
+  pub bytes : h.bytes.items ≡ []
+  pub frame : h.frame.items ≡ []
+  pub whole : h.whole ≡ false
 
 -- a piece was taken, as dap_client says it, and this was found
 pub record TakesPiece (old new : HeldClient) (piece : List ℕ) (found : YtFound) : Type 0 where

@@ -1,5 +1,7 @@
 -- What can be seen of a client, as a caller in C sees it.
-use Rattle.std.specs.Prelude.{◌≡◌, ℕ, List, length, unwrap_or}
+use Rattle.std.specs.Prelude.{◌≡◌, ◌≤◌, ℕ, List, length, max, option_map, unwrap_or}
+use Rattle.std.specs.List.{slice_get}
+use Rattle.dap_frame.specs.Settings.{Settings}
 use Rattle.dap_call.specs.declared.capabilities.Capabilities.{Capabilities}
 use Rattle.dap_history.specs.History.{Entry, Came, Went, waiting}
 use Rattle.dap_client.specs.ClientState.{ClientState}
@@ -36,7 +38,15 @@ pub record IsStateIn (seen : YtClientSeen) (h : List Entry) : Type 0 where
   pub ready : seen.ready ≡ ready_in h
   pub outstanding : seen.outstanding ≡ length (waiting Went h)
   pub incoming : seen.incoming ≡ length (waiting Came h)
+  pub oldest_incoming : seen.oldest_incoming ≡ unwrap_or (option_map (λ q. q.seq) (slice_get (waiting Came h) 0)) 0
   pub references : seen.references ≡ length (references_in h)
+
+-- what is seen is within the limits of the client
+pub record IsWithin (seen : YtClientSeen) (limits : Settings) : Type 0 where
+  pub outstanding : seen.outstanding ≤ limits.requests
+  pub incoming : seen.incoming ≤ limits.requests
+  pub references : seen.references ≤ limits.references
+  pub held : seen.held ≤ max limits.header limits.body
 
 -- the flags that an adapter offers
 pub record AreFlagsOf (flags : YtCapabilities) (c : Capabilities) : Type 0 where

@@ -1,6 +1,6 @@
 //! Whether a transcript keeps the rules, and why a line of it breaks one: a text comes in; a verdict, or a sentence in the
 //! caller's buffer, goes out. Nothing else is touched.
-ghost use Rattle.std.specs.Prelude.{◌≡◌, ◌⊎◌, ◌++◌, ◌==◌, ◌∷◌, List, ℕ, IfOk, IfErr, IfSome, MatchResult, Option, Some, None, false, option_map, string_bytes};
+ghost use Rattle.std.specs.Prelude.{◌≡◌, ◌≢◌, ◌⊎◌, ◌++◌, ◌==◌, ◌∷◌, List, ℕ, IfOk, IfErr, IfSome, MatchResult, Option, Some, None, false, option_map, string_bytes};
 ghost use Rattle.std.specs.List.{list_any};
 ghost use Rattle.std.specs.Str.Lines.{lines};
 ghost use Rattle.dap_check.specs.Legal.{IsVerdict};
@@ -12,7 +12,7 @@ ghost use Rattle.dap_check.specs.declared.rule.Checked.{Checked};
 ghost use Rattle.dap_check.specs.declared.rule.Rule.{Rule};
 ghost use Rattle.dap_explain.specs.Reasons.{reason_of};
 ghost use Rattle.dap_explain.specs.Sentences.{sentence_of};
-ghost use Rattle.dap_c.specs.CheckFound.{any_of, rule_of, fault_code, fault_line, TellsChecked, PutsIfAny};
+ghost use Rattle.dap_c.specs.CheckFound.{any_of, rule_of, fault_code, fault_line, TellsChecked, TellsRefused, IsCodeOfLine, PutsIfAny};
 
 use dap_c_parts::codes::{
     YT_BAD_ARGUMENTS, YT_BAD_LINE, YT_FINDING, YT_NO_MEMORY, YT_NO_MESSAGE, YT_NOTHING, YT_OK,
@@ -103,6 +103,7 @@ fn judge(alloc: Global, text: &[u8], any_seq: AnySeq, verdict: &mut YtVerdict) -
     ensures finding { result ≡ YT_FINDING → (transcript : List Line) × (checked : Checked) × AreLines 1 (lines text.now) transcript × IsVerdict any_seq transcript checked × TellsChecked checked result verdict.new }
     ensures refused { (result ≡ YT_OK → ⊥) → (result ≡ YT_FINDING → ⊥) → (fault : CheckFault) × FirstRefused (lines text.now) fault × (result ≡ fault_code fault) × (verdict.new.line ≡ fault_line fault) }
     ensures checks { (transcript : List Line) (checked : Checked) → AreLines 1 (lines text.now) transcript → IsVerdict any_seq transcript checked → TellsChecked checked result verdict.new ⊎ (result ≡ YT_NO_MEMORY) }
+    ensures refuses { (fault : CheckFault) → FirstRefused (lines text.now) fault → fault ≢ CheckFault.OutOfMemory → TellsRefused fault result verdict.new ⊎ (result ≡ YT_NO_MEMORY) }
 {
     match check(alloc, text, any_seq) {
         Ok(checked) => tell(checked, verdict),
@@ -128,6 +129,7 @@ pub extern "C" fn yt_check(alloc: Global, text: &[u8], any_seq: u32, verdict: &m
 
     // And the other way, unless memory is refused.
     ensures checks { (any : AnySeq) (transcript : List Line) (checked : Checked) → any_of any_seq ≡ Some any → AreLines 1 (lines text.now) transcript → IsVerdict any transcript checked → TellsChecked checked result verdict.new ⊎ (result ≡ YT_NO_MEMORY) }
+    ensures refuses { (any : AnySeq) (fault : CheckFault) → any_of any_seq ≡ Some any → FirstRefused (lines text.now) fault → fault ≢ CheckFault.OutOfMemory → TellsRefused fault result verdict.new ⊎ (result ≡ YT_NO_MEMORY) }
 {
     match any_seq_of(any_seq) {
         None => YT_BAD_ARGUMENTS,
@@ -179,6 +181,7 @@ fn tell_why(
         → PutsIfAny (option_map sentence_of (reason_of rule earlier l)) result size.new out.old out.new ⊎ (result ≡ YT_NO_MEMORY) }
     ensures absent { (transcript : List Line) → AreLines 1 (lines text.now) transcript → list_any (λ l. l.number == line) transcript ≡ false
         → PutsIfAny None result size.new out.old out.new ⊎ (result ≡ YT_NO_MEMORY) }
+    ensures refused { IsCodeOfLine result → (fault : CheckFault) × IsRefusedIn (lines text.now) fault × (result ≡ fault_code fault) }
     ensures unchanged { (result ≡ YT_OK → ⊥) → out.new ≡ out.old }
 {
     match told(alloc, text, line, rule) {
@@ -207,6 +210,7 @@ pub extern "C" fn yt_explain(
         → PutsIfAny (option_map sentence_of (reason_of r earlier l)) result size.new out.old out.new ⊎ (result ≡ YT_NO_MEMORY) }
     ensures absent { (transcript : List Line) (r : Rule) → rule_of rule ≡ Some r → AreLines 1 (lines text.now) transcript → list_any (λ l. l.number == line) transcript ≡ false
         → PutsIfAny None result size.new out.old out.new ⊎ (result ≡ YT_NO_MEMORY) }
+    ensures refused { IsCodeOfLine result → (fault : CheckFault) × IsRefusedIn (lines text.now) fault × (result ≡ fault_code fault) }
     ensures unchanged { (result ≡ YT_OK → ⊥) → out.new ≡ out.old }
 {
     match rule_numbered(rule) {

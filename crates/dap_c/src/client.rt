@@ -12,8 +12,9 @@ ghost use Rattle.dap_client.specs.StandsFor.{StandsFor};
 ghost use Rattle.dap_client.specs.TerminalResponse.{is_plain_terminal};
 ghost use Rattle.dap_client.specs.declared.fault.ClientFault.{ClientFault as TheFault};
 ghost use Rattle.dap_c_parts.specs.Behind.{FromTo};
+ghost use Rattle.dap_c_parts.specs.Finds.{FindsNothing};
 ghost use Rattle.dap_c.specs.CallGiven.{IsCallOf, IsCodeOfCall};
-ghost use Rattle.dap_c.specs.ClientCalls.{Sends, Refuses, Answers, RefusesAnswer, TakesPiece, RefusesPiece, IsAsBefore, bytes_so_far, terminal_of, process_of};
+ghost use Rattle.dap_c.specs.ClientCalls.{Sends, Refuses, Answers, RefusesAnswer, TakesPiece, RefusesPiece, IsAsBefore, bytes_so_far, HasNothing, terminal_of, process_of};
 ghost use Rattle.dap_c.specs.ClientFaults.{send_number, answer_number, take_number, IsFaultFound};
 ghost use Rattle.dap_c_parts.specs.Limited.{settings_of};
 
@@ -43,8 +44,10 @@ fn opened(alloc: Global, limits: &YtLimits) -> Result<Box<HeldClient>, u32>
     ensures session { IfOk result (λ b. b.value.client.session ≡ fresh_session (settings_of limits.now)) }
     ensures fault { IfOk result (λ b. b.value.client.fault ≡ None) }
     ensures stands { IfOk result (λ b. StandsFor b.value.client [] []) }
+    ensures nothing { IfOk result (λ b. HasNothing b.value) }
     ensures in_range { OnOk result (first_outside (settings_of limits.now) ≡ None) }
     ensures refused { IfErr result (λ code. code ≡ YT_BAD_LIMITS → IsSome (first_outside (settings_of limits.now))) }
+    ensures wanted { IfErr result (λ code. IsSome (first_outside (settings_of limits.now)) → code ≡ YT_BAD_LIMITS) }
     ensures code { IfErr result (λ code. (code ≡ YT_BAD_LIMITS → ⊥) → code ≡ YT_NO_MEMORY) }
 {
     let Ok(limits) = limits::read(limits) else {
@@ -73,8 +76,11 @@ pub extern "C" fn yt_client_open(alloc: Global, client: &mut YtClient, limits: &
     ensures session { IfSome client.new.inner.value (λ c. c.client.session ≡ fresh_session (settings_of limits.now)) }
     ensures fault { IfSome client.new.inner.value (λ c. c.client.fault ≡ None) }
     ensures stands { IfSome client.new.inner.value (λ c. StandsFor c.client [] []) }
+    ensures nothing { IfSome client.new.inner.value HasNothing }
     ensures refused { result ≡ YT_BAD_LIMITS → IsSome (first_outside (settings_of limits.now)) }
+    ensures out_of_range { IsSome (first_outside (settings_of limits.now)) → result ≡ YT_BAD_LIMITS }
     ensures in_range { result ≡ YT_OK → first_outside (settings_of limits.now) ≡ None }
+    ensures codes { (result ≡ YT_OK → ⊥) → (result ≡ YT_BAD_LIMITS → ⊥) → result ≡ YT_NO_MEMORY }
 {
     taken(alloc, client);
     match opened(alloc, limits) {
@@ -119,6 +125,7 @@ fn send_call(alloc: Global, held: &mut HeldClient, call: &Call, sent: &mut YtSen
     ensures refuses { (result ≡ YT_OK → ⊥) → Refuses held.old held.new call.now result }
     ensures of_a_call { (result ≡ YT_BAD_COMMAND → ⊥) × (result ≡ YT_BAD_ARGUMENTS → ⊥) }
     ensures unchanged { (result ≡ YT_OK → ⊥) → held.new ≡ held.old }
+    ensures untold { (result ≡ YT_OK → ⊥) → sent.new ≡ sent.old }
     ensures frame { (held.new.frame ≡ held.old.frame) × (held.new.whole ≡ held.old.whole) }
 {
     match held.client.send(alloc, call) {
@@ -147,6 +154,7 @@ fn send(
     ensures wanted { (call : TheCall) → IsUtf8 command.now → IsCallOf command.now arguments.now call → IsTrue (is_plain_call call) → (result ≡ YT_BAD_COMMAND → ⊥) × (result ≡ YT_BAD_ARGUMENTS → ⊥) }
     ensures unchanged { (result ≡ YT_OK → ⊥) → held.new.client ≡ held.old.client }
     ensures nothing { (result ≡ YT_OK → ⊥) → held.new.bytes.items ≡ [] }
+    ensures untold { (result ≡ YT_OK → ⊥) → sent.new ≡ sent.old }
     ensures frame { (held.new.frame ≡ held.old.frame) × (held.new.whole ≡ held.old.whole) }
 {
     held.bytes.clear();
@@ -173,6 +181,8 @@ pub extern "C" fn yt_client_send(
     ensures refuses { FromTo client.old.inner.value client.new.inner.value (λ c d. (result ≡ YT_OK → ⊥) → IsCodeOfCall result ⊎ ((call : TheCall) × IsCallOf command.now arguments.now call × Refuses c d call result)) }
     ensures wanted { (call : TheCall) → IsUtf8 command.now → IsCallOf command.now arguments.now call → IsTrue (is_plain_call call) → (result ≡ YT_BAD_COMMAND → ⊥) × (result ≡ YT_BAD_ARGUMENTS → ⊥) }
     ensures unchanged { FromTo client.old.inner.value client.new.inner.value (λ c d. (result ≡ YT_OK → ⊥) → d.client ≡ c.client) }
+    ensures nothing { FromTo client.old.inner.value client.new.inner.value (λ c d. (result ≡ YT_OK → ⊥) → d.bytes.items ≡ []) }
+    ensures untold { (result ≡ YT_OK → ⊥) → sent.new ≡ sent.old }
     ensures frame { FromTo client.old.inner.value client.new.inner.value (λ c d. (d.frame ≡ c.frame) × (d.whole ≡ c.whole)) }
 {
     let Some(mut held) = taken(alloc, client) else {
@@ -206,7 +216,8 @@ fn process_given(number: u32) -> Option<u32>
 }
 
 fn answer_code(fault: AnswerFault) -> u32
-    ensures { result ≡ answer_number fault }
+    ensures number { result ≡ answer_number fault }
+    ensures of_an_answer { result ≡ YT_BAD_ARGUMENTS → ⊥ }
 {
     match fault {
         AnswerFault::Ended => YT_ENDED,
@@ -225,9 +236,11 @@ fn answer(
 ) -> u32
     ensures answers { result ≡ YT_OK → Answers held.old held.new request_seq terminal }
     ensures plain { result ≡ YT_OK → IsTrue (is_plain_terminal terminal) }
+    ensures wanted { IsTrue (is_plain_terminal terminal) → result ≡ YT_BAD_ARGUMENTS → ⊥ }
     ensures length { bytes.new ≡ length held.new.bytes.items }
     ensures refuses { (result ≡ YT_OK → ⊥) → (result ≡ YT_BAD_ARGUMENTS) ⊎ RefusesAnswer held.old held.new request_seq result }
     ensures unchanged { (result ≡ YT_OK → ⊥) → held.new.client ≡ held.old.client }
+    ensures nothing { (result ≡ YT_OK → ⊥) → held.new.bytes.items ≡ [] }
     ensures frame { (held.new.frame ≡ held.old.frame) × (held.new.whole ≡ held.old.whole) }
 {
     held.bytes.clear();
@@ -261,9 +274,12 @@ pub extern "C" fn yt_client_answer(
     ensures none { client.old.inner.value ≡ None → (result ≡ YT_NONE) × (client.new.inner.value ≡ None) × (bytes.new ≡ bytes.old) }
     ensures held { IsSome client.old.inner.value → IsSome client.new.inner.value }
     ensures answers { FromTo client.old.inner.value client.new.inner.value (λ c d. result ≡ YT_OK → Answers c d request_seq (terminal_of runs process shell)) }
+    ensures plain { result ≡ YT_OK → IsTrue (is_plain_terminal (terminal_of runs process shell)) }
+    ensures wanted { IsTrue (is_plain_terminal (terminal_of runs process shell)) → result ≡ YT_BAD_ARGUMENTS → ⊥ }
     ensures length { FromTo client.old.inner.value client.new.inner.value (λ c d. bytes.new ≡ length d.bytes.items) }
     ensures refuses { FromTo client.old.inner.value client.new.inner.value (λ c d. (result ≡ YT_OK → ⊥) → (result ≡ YT_BAD_ARGUMENTS) ⊎ RefusesAnswer c d request_seq result) }
     ensures unchanged { FromTo client.old.inner.value client.new.inner.value (λ c d. (result ≡ YT_OK → ⊥) → d.client ≡ c.client) }
+    ensures nothing { FromTo client.old.inner.value client.new.inner.value (λ c d. (result ≡ YT_OK → ⊥) → d.bytes.items ≡ []) }
     ensures frame { FromTo client.old.inner.value client.new.inner.value (λ c d. (d.frame ≡ c.frame) × (d.whole ≡ c.whole)) }
 {
     let Some(mut held) = taken(alloc, client) else {
@@ -291,7 +307,8 @@ fn take_code(fault: ClientFault) -> u32
 }
 
 fn fault_found(fault: ClientFault) -> YtFound
-    ensures { IsFaultFound fault result }
+    ensures found { IsFaultFound fault result }
+    ensures nothing { FindsNothing result }
 {
     match fault {
         ClientFault::Frame(fault) => fault_at(fault.offset, cause_of(fault.cause)),
@@ -359,6 +376,8 @@ fn take_piece(alloc: Global, held: &mut HeldClient, piece: &[u8], found: &mut Yt
     ensures limits { held.new.client.session.limits ≡ held.old.client.session.limits }
     ensures refuses { (result ≡ YT_OK → ⊥) → IsAsBefore held.old held.new result ⊎ RefusesPiece held.old held.new piece.now result found.new }
     ensures tables { (result ≡ YT_OK → ⊥) → held.new.client.session ≡ held.old.client.session }
+    ensures length { found.new.bytes ≡ length held.new.bytes.items }
+    ensures nothing { (result ≡ YT_OK → ⊥) → (held.new.bytes.items ≡ []) × (held.new.whole ≡ false) × FindsNothing found.new }
     ensures latched { IfSome held.old.client.fault (λ fault. ((result ≡ YT_NO_MEMORY) ⊎ (result ≡ take_number fault)) × (held.new.client ≡ held.old.client)) }
 {
     begin_frame(held);
@@ -398,6 +417,10 @@ pub extern "C" fn yt_client_take(
     ensures limits { FromTo client.old.inner.value client.new.inner.value (λ c d. d.client.session.limits ≡ c.client.session.limits) }
     ensures refuses { FromTo client.old.inner.value client.new.inner.value (λ c d. (result ≡ YT_OK → ⊥) → IsAsBefore c d result ⊎ RefusesPiece c d piece.now result found.new) }
     ensures tables { FromTo client.old.inner.value client.new.inner.value (λ c d. (result ≡ YT_OK → ⊥) → d.client.session ≡ c.client.session) }
+
+    // What there is to fetch; where it is refused, nothing.
+    ensures length { FromTo client.old.inner.value client.new.inner.value (λ c d. found.new.bytes ≡ length d.bytes.items) }
+    ensures nothing { FromTo client.old.inner.value client.new.inner.value (λ c d. (result ≡ YT_OK → ⊥) → (d.bytes.items ≡ []) × (d.whole ≡ false) × FindsNothing found.new) }
     ensures latched { (fault : TheFault) → FromTo client.old.inner.value client.new.inner.value (λ c d. c.client.fault ≡ Some fault → ((result ≡ YT_NO_MEMORY) ⊎ (result ≡ take_number fault)) × (d.client ≡ c.client)) }
 {
     let Some(mut held) = taken(alloc, client) else {

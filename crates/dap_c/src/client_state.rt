@@ -1,9 +1,10 @@
 //! What can be seen of a client: the client behind a handle is read, and what is seen goes out. Nothing is changed.
-ghost use Rattle.std.specs.Prelude.{◌≡◌, List, ℕ, IfSome, IsSome, None};
+ghost use Rattle.std.specs.Prelude.{◌≡◌, List, ℕ, IfSome, IsSome, Some, None};
 ghost use Rattle.dap_history.specs.History.{Entry};
 ghost use Rattle.dap_client.specs.Seen.{capabilities_in};
 ghost use Rattle.dap_client.specs.StandsFor.{StandsFor};
-ghost use Rattle.dap_c.specs.ClientSeen.{IsStateOf, IsStateIn, AreFlagsOf, phase_number};
+ghost use Rattle.dap_client.specs.declared.fault.ClientFault.{ClientFault as TheFault};
+ghost use Rattle.dap_c.specs.ClientSeen.{IsStateOf, IsStateIn, IsWithin, AreFlagsOf, phase_number};
 
 use crate::client_handle::{YtClient, full, taken};
 use dap_c_parts::codes::{YT_NONE, YT_OK};
@@ -67,6 +68,8 @@ fn phase_code(phase: Phase) -> u32
 fn state_of(client: &Client) -> YtClientSeen
     ensures is { IsStateOf result client.now }
     ensures seen { (s : List ℕ) (h : List Entry) → StandsFor client.now s h → IsStateIn result h }
+    ensures within { IsWithin result client.now.session.limits }
+    ensures closed { IfSome client.now.fault (λ fault. result.held ≡ 0) }
 {
     YtClientSeen {
         outstanding: client.outstanding(),
@@ -91,6 +94,8 @@ pub extern "C" fn yt_client_state(
     ensures ok { IsSome client.old.inner.value → result ≡ YT_OK }
     ensures is { IfSome client.old.inner.value (λ c. IsStateOf state.new c.client) }
     ensures seen { IfSome client.old.inner.value (λ c. (s : List ℕ) (h : List Entry) → StandsFor c.client s h → IsStateIn state.new h) }
+    ensures within { IfSome client.old.inner.value (λ c. IsWithin state.new c.client.session.limits) }
+    ensures closed { (fault : TheFault) → IfSome client.old.inner.value (λ c. c.client.fault ≡ Some fault → state.new.held ≡ 0) }
 {
     let Some(held) = taken(alloc, client) else {
         return YT_NONE;

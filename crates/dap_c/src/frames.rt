@@ -116,6 +116,7 @@ fn opened(alloc: Global, limits: &YtLimits) -> Result<Box<Frames>, u32>
     ensures fresh { IfOk result (λ b. StandsFor b.value [] [] []) }
     ensures in_range { OnOk result (first_outside (settings_of limits.now) ≡ None) }
     ensures out_of_range { IfErr result (λ code. code ≡ YT_BAD_LIMITS → IsSome (first_outside (settings_of limits.now))) }
+    ensures wanted { IfErr result (λ code. IsSome (first_outside (settings_of limits.now)) → code ≡ YT_BAD_LIMITS) }
     ensures code { IfErr result (λ code. (code ≡ YT_BAD_LIMITS → ⊥) → code ≡ YT_NO_MEMORY) }
 {
     let Ok(limits) = limits::read(limits) else {
@@ -140,7 +141,9 @@ pub extern "C" fn yt_frames_open(alloc: Global, frames: &mut YtFrames, limits: &
     ensures under_way { IfSome frames.new.inner.value IsUnderWay }
     ensures fresh { IfSome frames.new.inner.value (λ f. StandsFor f [] [] []) }
     ensures refused { result ≡ YT_BAD_LIMITS → IsSome (first_outside (settings_of limits.now)) }
+    ensures out_of_range { IsSome (first_outside (settings_of limits.now)) → result ≡ YT_BAD_LIMITS }
     ensures in_range { result ≡ YT_OK → first_outside (settings_of limits.now) ≡ None }
+    ensures codes { (result ≡ YT_OK → ⊥) → (result ≡ YT_BAD_LIMITS → ⊥) → result ≡ YT_NO_MEMORY }
 {
     taken(alloc, frames);
     match opened(alloc, limits) {
@@ -168,6 +171,8 @@ fn feed(held: &mut Frames, piece: &[u8], fed: &mut YtFed) -> u32
     ensures gathers { result ≡ YT_OK → IsUnderWay held.old → Gathers held.old held.new piece.now fed.new.used }
     ensures closes { result ≡ YT_FRAME → IsUnderWay held.old → ClosesWith held.old held.new piece.now fed.new.cause fed.new.offset }
     ensures within { fed.new.used ≤ length piece.now }
+    ensures some { result ≡ YT_FRAME → IsUnderWay held.old → 0 < length piece.now }
+    ensures none { (result ≡ YT_READY → ⊥) → fed.new.body ≡ 0 }
     ensures progress { (result ≡ YT_FRAME → ⊥) → IsUnderWay held.old → 0 < length piece.now → 0 < fed.new.used }
     ensures body { result ≡ YT_READY → fed.new.body ≡ length held.new.held }
     ensures waits { IsReady held.old → (held.new ≡ held.old) × (result ≡ YT_READY) × (fed.new.used ≡ 0) }
@@ -212,8 +217,11 @@ pub extern "C" fn yt_frames_feed(
     ensures completes { FromTo frames.old.inner.value frames.new.inner.value (λ f g. result ≡ YT_READY → IsUnderWay f → Completes f g piece.now fed.new.used) }
     ensures gathers { FromTo frames.old.inner.value frames.new.inner.value (λ f g. result ≡ YT_OK → IsUnderWay f → Gathers f g piece.now fed.new.used) }
     ensures closes { FromTo frames.old.inner.value frames.new.inner.value (λ f g. result ≡ YT_FRAME → IsUnderWay f → ClosesWith f g piece.now fed.new.cause fed.new.offset) }
+    ensures within { FromTo frames.old.inner.value frames.new.inner.value (λ f g. fed.new.used ≤ length piece.now) }
+    ensures some { FromTo frames.old.inner.value frames.new.inner.value (λ f g. result ≡ YT_FRAME → IsUnderWay f → 0 < length piece.now) }
     ensures progress { FromTo frames.old.inner.value frames.new.inner.value (λ f g. (result ≡ YT_FRAME → ⊥) → IsUnderWay f → 0 < length piece.now → 0 < fed.new.used) }
     ensures body { FromTo frames.old.inner.value frames.new.inner.value (λ f g. result ≡ YT_READY → fed.new.body ≡ length g.held) }
+    ensures no_body { FromTo frames.old.inner.value frames.new.inner.value (λ f g. (result ≡ YT_READY → ⊥) → fed.new.body ≡ 0) }
     ensures waits { FromTo frames.old.inner.value frames.new.inner.value (λ f g. IsReady f → (g ≡ f) × (result ≡ YT_READY) × (fed.new.used ≡ 0)) }
     ensures given_up { FromTo frames.old.inner.value frames.new.inner.value (λ f g. IsGivenUp f → (g ≡ f) × (result ≡ YT_OK) × (fed.new.used ≡ 0)) }
     ensures latched { (cause : Refusal) → FromTo frames.old.inner.value frames.new.inner.value (λ f g. IsClosed f cause → IsRefusedAgain f g cause result fed.new.cause fed.new.offset) }

@@ -1,5 +1,6 @@
 //! How large the structs are that cross to C, so that a program can compare its header with the library that it runs on.
 //! Nothing is touched but the answer.
+ghost use Rattle.std.specs.Prelude.{◌≡◌};
 
 use crate::check::YtVerdict;
 use crate::client::YtSent;
@@ -30,7 +31,19 @@ pub struct YtSizes {
 
 /// Tells the size of each struct.
 #[unsafe(no_mangle)]
-pub extern "C" fn yt_sizes_of(sizes: &mut YtSizes) {
+pub extern "C" fn yt_sizes_of(sizes: &mut YtSizes)
+    ensures limits { sizes.new.limits ≡ 56 }
+    ensures found { sizes.new.found ≡ 40 }
+    ensures frames { sizes.new.frames ≡ 16 }
+    ensures fed { sizes.new.fed ≡ 32 }
+    ensures heading_found { sizes.new.heading_found ≡ 32 }
+    ensures verdict { sizes.new.verdict ≡ 16 }
+    ensures client { sizes.new.client ≡ 16 }
+    ensures sent { sizes.new.sent ≡ 16 }
+    ensures client_seen { sizes.new.client_seen ≡ 48 }
+    ensures capabilities { sizes.new.capabilities ≡ 12 }
+    ensures sizes { sizes.new.sizes ≡ 88 }
+{
     *sizes = YtSizes {
         limits: size_of::<YtLimits>(),
         found: size_of::<YtFound>(),

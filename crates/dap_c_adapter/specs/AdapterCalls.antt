@@ -1,8 +1,13 @@
 -- What the exports of an adapter do, in the words of dap_adapter, over the adapter behind the handle and a debuggee that the
 -- host feeds.
-use Rattle.std.specs.Prelude.{◌≡◌, ◌⊎◌, ℕ, List, [], ◌++◌, length, take, Option, Some, None, is_some, if◌then◌else◌}
+use Rattle.std.specs.Prelude.{◌≡◌, ◌⊎◌, ℕ, List, [], ◌++◌, length, take, Bool, false, Option, Some, None, Ok, is_some, if◌then◌else◌}
+use Rattle.dap_debuggee.specs.declared.answers.Variable.{Variable}
 use Rattle.dap_message.specs.declared.message.Message.{Message}
-use Rattle.dap_live.specs.LiveShown.{shown_live}
+use Rattle.serde_json.specs.Data.{Data}
+use Rattle.dap_recording.specs.declared.recording.Recording.{Recording}
+use Rattle.dap_recording.specs.Reading.{verdict_of}
+use Rattle.dap_replay.specs.Played.{fresh_played}
+use Rattle.dap_live.specs.LiveShown.{LiveState, fresh_live, shown_live}
 use Rattle.dap_live.specs.LiveLaws.{FollowsLive}
 use Rattle.dap_session.specs.declared.fault.AdapterFault.{AdapterFault}
 use Rattle.dap_adapter.specs.AdapterState.{state_of}
@@ -13,9 +18,25 @@ use Rattle.dap_c_adapter.specs.AdapterFaults.{adapter_number, IsAdapterFaultFoun
 use Rattle.dap_c_parts.specs.declared.found.YtFound.{YtFound}
 use Rattle.dap_c_adapter.specs.declared.held_adapter.HeldAdapter.{HeldAdapter}
 
+-- the debuggee of an adapter that was opened over a recording: not started, with nothing told
+pub record IsOpenedOver (json : Option Data) (debuggee : LiveState) : Type 0 where
+  pub recording : Recording
+  pub read : verdict_of json ≡ Ok recording
+  pub is : debuggee ≡ fresh_live (fresh_played recording)
+
+-- these bytes, read as JSON, are no recording
+abbrev pub IsNoRecording : Option Data → Type 0
+IsNoRecording json = (recording : Recording) → verdict_of json ≡ Ok recording → ⊥
+
 -- the bytes that were used since the message before
 abbrev pub frame_so_far : HeldAdapter → List ℕ
 frame_so_far h = if h.whole then [] else h.frame.items
+
+-- nothing waits to be fetched, and no byte of a frame came
+pub record HasNothing (h : HeldAdapter) : Type 0 where
+  pub bytes : h.bytes.items ≡ []
+  pub frame : h.frame.items ≡ []
+  pub whole : h.whole ≡ false
 
 -- a piece was taken, as dap_adapter says it, and this was found
 pub record AdapterTakes (old new : HeldAdapter) (piece : List ℕ) (found : YtFound) : Type 0 where
@@ -83,6 +104,7 @@ pub record RefusesPoll (old new : HeldAdapter) (code : ℕ) (found : YtFound) : 
   pub latches : new.adapter.fault ≡ Some fault
   pub session : new.adapter.session ≡ old.adapter.session
   pub held : new.adapter.intake.held ≡ []
+  pub none_written : new.bytes.items ≡ []
 
 -- a recording that is none, or memory that was refused, as a code
 abbrev pub IsCodeOfRecording : ℕ → Type 0
@@ -100,6 +122,16 @@ IsCodeOfOpen code = (code ≡ 101) ⊎ IsCodeOfRecording code
 pub record IsUntold (old new : HeldAdapter) (code : ℕ) : Type 0 where
   pub code_is : IsCodeOfText code
   pub adapter : new.adapter ≡ old.adapter
+  pub none_written : new.bytes.items ≡ []
+
+-- the acts that are still to be fetched, and the one that was fetched last, are as they were
+pub record KeepsActs (old new : HeldAdapter) : Type 0 where
+  pub acts : new.acts ≡ old.acts
+  pub act : new.act ≡ old.act
+
+-- a variable, as a caller in C says it
+abbrev pub variable_told : List ℕ → List ℕ → Bool → ℕ → Variable
+variable_told name value has_parts holder = record { name = name; value = value; holder = if has_parts then Some holder else None }
 
 -- the session is as it was, with what is to be written and the frame
 pub record KeepsSession (old new : HeldAdapter) : Type 0 where
@@ -107,3 +139,4 @@ pub record KeepsSession (old new : HeldAdapter) : Type 0 where
   pub bytes : new.bytes ≡ old.bytes
   pub frame : new.frame ≡ old.frame
   pub whole : new.whole ≡ old.whole
+  pub gathered : new.variables ≡ old.variables

@@ -1,5 +1,6 @@
 -- What can be seen of an adapter, as a caller in C sees it.
-use Rattle.std.specs.Prelude.{◌≡◌, ℕ, length}
+use Rattle.std.specs.Prelude.{◌≡◌, ◌≤◌, ℕ, length, max}
+use Rattle.dap_frame.specs.Settings.{Settings}
 use Rattle.dap_decision.specs.declared.phase.Phase.{Phase}
 use Rattle.dap_decision.specs.declared.phase.Phase.TheVariants.{Fresh, Ready, Configured, Parked, Asked, Running, Stopped, Exited, Ended}
 use Rattle.dap_session.specs.Session.{Session, own_requests}
@@ -29,6 +30,14 @@ pub record IsAdapterState (seen : YtAdapterSeen) (s : Session) (held : ℕ) : Ty
   pub breakpoints : seen.breakpoints ≡ count s.breakpoints.sources
   pub asked : seen.asked ≡ length (own_requests s.asked)
   pub held_bytes : seen.held ≡ held
+
+-- what is seen is within the limits of the adapter
+pub record IsWithin (seen : YtAdapterSeen) (limits : Settings) : Type 0 where
+  pub kept : seen.kept ≤ limits.requests
+  pub references : seen.references ≤ limits.references
+  pub breakpoints : seen.breakpoints ≤ limits.breakpoints
+  pub asked : seen.asked ≤ 1
+  pub held : seen.held ≤ max limits.header limits.body
 
 abbrev pub kind_number : ReferenceKind → ℕ
 kind_number Frame = 1

@@ -119,6 +119,8 @@ fn found_of(act: &HostAct) -> YtAct
 fn next_act(alloc: Global, held: &mut HeldAdapter, act: &mut YtAct) -> u32
     ensures some { result ≡ YT_OK → IsSome held.new.act }
     ensures found { result ≡ YT_OK → IfSome held.new.act (λ a. IsActFound a act.new) }
+    ensures nothing { result ≡ YT_NOTHING → held.new.act ≡ None }
+    ensures untold { (result ≡ YT_OK → ⊥) → act.new ≡ act.old }
     ensures same { KeepsSession held.old held.new }
     ensures codes { (result ≡ YT_OK → ⊥) → (result ≡ YT_NOTHING → ⊥) → result ≡ YT_NO_MEMORY }
 {
@@ -146,6 +148,8 @@ pub extern "C" fn yt_adapter_act(alloc: Global, adapter: &mut YtAdapter, act: &m
     ensures held { IsSome adapter.old.inner.value → IsSome adapter.new.inner.value }
     ensures some { FromTo adapter.old.inner.value adapter.new.inner.value (λ a b. result ≡ YT_OK → IsSome b.act) }
     ensures found { FromTo adapter.old.inner.value adapter.new.inner.value (λ a b. result ≡ YT_OK → IfSome b.act (λ x. IsActFound x act.new)) }
+    ensures nothing { FromTo adapter.old.inner.value adapter.new.inner.value (λ a b. result ≡ YT_NOTHING → b.act ≡ None) }
+    ensures untold { (result ≡ YT_OK → ⊥) → act.new ≡ act.old }
     ensures same { FromTo adapter.old.inner.value adapter.new.inner.value (λ a b. KeepsSession a b) }
     ensures codes { IsSome adapter.old.inner.value → (result ≡ YT_OK → ⊥) → (result ≡ YT_NOTHING → ⊥) → result ≡ YT_NO_MEMORY }
 {

@@ -5,12 +5,17 @@
 //! handle and what the caller lends for an answer are touched.
 ghost use Rattle.std.specs.Prelude.{◌≡◌, ◌⊎◌, ◌<◌, ◌≤◌, ◌++◌, [], length, drop, take, IfOk, IfErr, OnOk, OnErr, IfSome, IsSome, Some, None, true, false, is_some, vec_len, vec_capacity, if◌then◌else◌, ◌+◌};
 ghost use Rattle.dap_frame.specs.Settings.{first_outside};
-ghost use Rattle.dap_session.specs.Session.{fresh_session};
+ghost use Rattle.dap_decision.specs.Table.{is_phase};
+ghost use Rattle.dap_decision.specs.declared.phase.Phase.TheVariants.{Asked};
+ghost use Rattle.dap_json.specs.Read.{json_of};
+ghost use Rattle.dap_session.specs.Session.{fresh_session, oldest};
 ghost use Rattle.dap_session.specs.declared.fault.AdapterFault.{AdapterFault as TheFault};
 ghost use Rattle.dap_adapter.specs.StandsFor.{StandsFor};
-ghost use Rattle.dap_c_adapter.specs.AdapterCalls.{AdapterTakes, RefusesAdapterPiece, IsAdapterAsBefore, AdapterTurns, RefusesTurn, frame_so_far, IsCodeOfOpen};
+ghost use Rattle.dap_live.specs.LiveShown.{fresh_live};
+ghost use Rattle.dap_c_adapter.specs.AdapterCalls.{AdapterTakes, RefusesAdapterPiece, IsAdapterAsBefore, AdapterTurns, RefusesTurn, frame_so_far, IsCodeOfOpen, IsOpenedOver, IsNoRecording, HasNothing, KeepsActs};
 ghost use Rattle.dap_c_adapter.specs.AdapterFaults.{adapter_number, IsAdapterFaultFound};
 ghost use Rattle.dap_c_parts.specs.Behind.{FromTo};
+ghost use Rattle.dap_c_parts.specs.Finds.{FindsNothing};
 ghost use Rattle.dap_c_parts.specs.Limited.{settings_of};
 
 use crate::adapter_handle::{YtAdapter, full, taken};
@@ -37,6 +42,7 @@ fn adapter_over(
 ) -> Option<Adapter<Live>>
     ensures session { IfSome result (λ a. a.session ≡ fresh_session limits) }
     ensures fault { IfSome result (λ a. a.fault ≡ None) }
+    ensures debuggee { IfSome result (λ a. a.debuggee ≡ fresh_live base) }
     ensures stands { IfSome result (λ a. StandsFor a [] []) }
 {
     match Adapter::open(alloc, limits, Live::open(alloc, base, mail)) {
@@ -48,9 +54,13 @@ fn adapter_over(
 fn opened(alloc: Global, limits: &YtLimits, base: &[u8]) -> Result<Box<HeldAdapter>, u32>
     ensures session { IfOk result (λ b. b.value.adapter.session ≡ fresh_session (settings_of limits.now)) }
     ensures fault { IfOk result (λ b. b.value.adapter.fault ≡ None) }
+    ensures debuggee { IfOk result (λ b. IsOpenedOver (json_of base.now) b.value.adapter.debuggee) }
     ensures stands { IfOk result (λ b. StandsFor b.value.adapter [] []) }
+    ensures nothing { IfOk result (λ b. HasNothing b.value) }
     ensures in_range { OnOk result (first_outside (settings_of limits.now) ≡ None) }
     ensures refused { IfErr result (λ code. code ≡ YT_BAD_LIMITS → IsSome (first_outside (settings_of limits.now))) }
+    ensures out_of_range { IfErr result (λ code. IsSome (first_outside (settings_of limits.now)) → code ≡ YT_BAD_LIMITS) }
+    ensures no_recording { IfErr result (λ code. code ≡ YT_BAD_RECORDING → IsNoRecording (json_of base.now)) }
     ensures code { IfErr result IsCodeOfOpen }
 {
     let Ok(limits) = limits::read(limits) else {
@@ -71,6 +81,7 @@ fn opened(alloc: Global, limits: &YtLimits, base: &[u8]) -> Result<Box<HeldAdapt
 
 fn boxed(alloc: Global, adapter: Adapter<Live>, mail: Rc<Mail>) -> Result<Box<HeldAdapter>, u32>
     ensures adapter { IfOk result (λ b. b.value.adapter ≡ adapter) }
+    ensures nothing { IfOk result (λ b. HasNothing b.value) }
     ensures code { IfErr result (λ code. code ≡ YT_NO_MEMORY) }
 {
     let held = HeldAdapter {
@@ -102,9 +113,14 @@ pub extern "C" fn yt_adapter_open(
     ensures closed { (result ≡ YT_OK → ⊥) → adapter.new.inner.value ≡ None }
     ensures session { IfSome adapter.new.inner.value (λ a. a.adapter.session ≡ fresh_session (settings_of limits.now)) }
     ensures fault { IfSome adapter.new.inner.value (λ a. a.adapter.fault ≡ None) }
+    ensures debuggee { IfSome adapter.new.inner.value (λ a. IsOpenedOver (json_of base.now) a.adapter.debuggee) }
     ensures stands { IfSome adapter.new.inner.value (λ a. StandsFor a.adapter [] []) }
+    ensures nothing { IfSome adapter.new.inner.value HasNothing }
     ensures refused { result ≡ YT_BAD_LIMITS → IsSome (first_outside (settings_of limits.now)) }
+    ensures out_of_range { IsSome (first_outside (settings_of limits.now)) → result ≡ YT_BAD_LIMITS }
     ensures in_range { result ≡ YT_OK → first_outside (settings_of limits.now) ≡ None }
+    ensures no_recording { result ≡ YT_BAD_RECORDING → IsNoRecording (json_of base.now) }
+    ensures codes { (result ≡ YT_OK → ⊥) → IsCodeOfOpen result }
 {
     taken(alloc, adapter);
     match opened(alloc, limits, base) {
@@ -140,7 +156,8 @@ pub(crate) fn adapter_code(fault: AdapterFault) -> u32
 }
 
 pub(crate) fn adapter_fault_found(fault: AdapterFault) -> YtFound
-    ensures { IsAdapterFaultFound fault result }
+    ensures found { IsAdapterFaultFound fault result }
+    ensures nothing { FindsNothing result }
 {
     match fault {
         AdapterFault::Frame(fault) => fault_at(fault.offset, cause_of(fault.cause)),
@@ -160,6 +177,8 @@ fn begin_frame(held: &mut HeldAdapter)
     ensures whole { held.new.whole ≡ false }
     ensures adapter { held.new.adapter ≡ held.old.adapter }
     ensures bytes { held.new.bytes.items ≡ [] }
+    ensures acts { KeepsActs held.old held.new }
+    ensures gathered { held.new.variables ≡ held.old.variables }
 {
     held.bytes.clear();
     if held.whole {
@@ -178,6 +197,8 @@ fn keep(held: &mut HeldAdapter, piece: &[u8], taken: Taken) -> YtFound
     ensures whole { held.new.whole ≡ is_some taken.delivered }
     ensures frame { held.new.frame.items ≡ held.old.frame.items ++ take taken.used piece.now }
     ensures frame_length { result.frame ≡ (if is_some taken.delivered then length held.new.frame.items else 0) }
+    ensures acts { KeepsActs held.old held.new }
+    ensures gathered { held.new.variables ≡ held.old.variables }
     ensures adapter { held.new.adapter ≡ held.old.adapter }
 {
     let Taken {
@@ -208,6 +229,12 @@ fn take_piece(alloc: Global, held: &mut HeldAdapter, piece: &[u8], found: &mut Y
     ensures limits { held.new.adapter.session.limits ≡ held.old.adapter.session.limits }
     ensures refuses { (result ≡ YT_OK → ⊥) → IsAdapterAsBefore held.old held.new result ⊎ RefusesAdapterPiece held.old held.new piece.now result found.new }
     ensures tables { (result ≡ YT_OK → ⊥) → held.new.adapter.session ≡ held.old.adapter.session }
+    ensures debuggee { (result ≡ YT_OK → ⊥) → (result ≡ YT_NO_MEMORY → ⊥) → held.new.adapter.debuggee ≡ held.old.adapter.debuggee }
+    ensures unasked { is_phase Asked held.old.adapter.session.phase ≡ false → (result ≡ YT_OK → ⊥) → held.new.adapter.debuggee ≡ held.old.adapter.debuggee }
+    ensures length { found.new.bytes ≡ length held.new.bytes.items }
+    ensures nothing { (result ≡ YT_OK → ⊥) → (held.new.bytes.items ≡ []) × (held.new.whole ≡ false) × FindsNothing found.new }
+    ensures acts { KeepsActs held.old held.new }
+    ensures gathered { held.new.variables ≡ held.old.variables }
     ensures latched { IfSome held.old.adapter.fault (λ fault. ((result ≡ YT_NO_MEMORY) ⊎ (result ≡ adapter_number fault)) × (held.new.adapter ≡ held.old.adapter)) }
 {
     begin_frame(held);
@@ -247,6 +274,16 @@ pub extern "C" fn yt_adapter_take(
     ensures limits { FromTo adapter.old.inner.value adapter.new.inner.value (λ a b. b.adapter.session.limits ≡ a.adapter.session.limits) }
     ensures refuses { FromTo adapter.old.inner.value adapter.new.inner.value (λ a b. (result ≡ YT_OK → ⊥) → IsAdapterAsBefore a b result ⊎ RefusesAdapterPiece a b piece.now result found.new) }
     ensures tables { FromTo adapter.old.inner.value adapter.new.inner.value (λ a b. (result ≡ YT_OK → ⊥) → b.adapter.session ≡ a.adapter.session) }
+
+    // The debuggee is as it was, unless memory is refused to a response that lets it start.
+    ensures debuggee { FromTo adapter.old.inner.value adapter.new.inner.value (λ a b. (result ≡ YT_OK → ⊥) → (result ≡ YT_NO_MEMORY → ⊥) → b.adapter.debuggee ≡ a.adapter.debuggee) }
+    ensures unasked { FromTo adapter.old.inner.value adapter.new.inner.value (λ a b. is_phase Asked a.adapter.session.phase ≡ false → (result ≡ YT_OK → ⊥) → b.adapter.debuggee ≡ a.adapter.debuggee) }
+
+    // What there is to fetch; where it is refused, nothing.
+    ensures length { FromTo adapter.old.inner.value adapter.new.inner.value (λ a b. found.new.bytes ≡ length b.bytes.items) }
+    ensures nothing { FromTo adapter.old.inner.value adapter.new.inner.value (λ a b. (result ≡ YT_OK → ⊥) → (b.bytes.items ≡ []) × (b.whole ≡ false) × FindsNothing found.new) }
+    ensures acts { FromTo adapter.old.inner.value adapter.new.inner.value (λ a b. KeepsActs a b) }
+    ensures gathered { FromTo adapter.old.inner.value adapter.new.inner.value (λ a b. b.variables ≡ a.variables) }
     ensures latched { (fault : TheFault) → FromTo adapter.old.inner.value adapter.new.inner.value (λ a b. a.adapter.fault ≡ Some fault → ((result ≡ YT_NO_MEMORY) ⊎ (result ≡ adapter_number fault)) × (b.adapter ≡ a.adapter)) }
 {
     let Some(mut held) = taken(alloc, adapter) else {
@@ -272,12 +309,18 @@ pub(crate) fn only_bytes(held: &HeldAdapter) -> YtFound
 
 fn turn(alloc: Global, held: &mut HeldAdapter, found: &mut YtFound) -> u32
     ensures turns { (result ≡ YT_OK) ⊎ (result ≡ YT_IDLE) → AdapterTurns held.old held.new result }
-    ensures length { (result ≡ YT_OK) ⊎ (result ≡ YT_IDLE) → found.new.bytes ≡ length held.new.bytes.items }
+    ensures length { found.new.bytes ≡ length held.new.bytes.items }
     ensures open { (result ≡ YT_OK) ⊎ (result ≡ YT_IDLE) → held.new.adapter.fault ≡ None }
     ensures limits { held.new.adapter.session.limits ≡ held.old.adapter.session.limits }
     ensures refuses { (result ≡ YT_OK → ⊥) → (result ≡ YT_IDLE → ⊥) → RefusesTurn held.old held.new result found.new }
-    ensures tables { (result ≡ YT_OK → ⊥) → (result ≡ YT_IDLE → ⊥) → held.new.adapter.session ≡ held.old.adapter.session }
+    ensures tables { (result ≡ YT_OK → ⊥) → held.new.adapter.session ≡ held.old.adapter.session }
+    ensures unchanged { result ≡ YT_IDLE → held.new.adapter ≡ held.old.adapter }
+    ensures nothing { (result ≡ YT_OK → ⊥) → (held.new.bytes.items ≡ []) × FindsNothing found.new }
+    ensures latched { IfSome held.old.adapter.fault (λ fault. (result ≡ adapter_number fault) × IsAdapterFaultFound fault found.new × (held.new.adapter ≡ held.old.adapter)) }
+    ensures idle { held.old.adapter.fault ≡ None → oldest held.old.adapter.session.kept ≡ None → result ≡ YT_IDLE }
     ensures frame { (held.new.frame ≡ held.old.frame) × (held.new.whole ≡ held.old.whole) }
+    ensures acts { KeepsActs held.old held.new }
+    ensures gathered { held.new.variables ≡ held.old.variables }
 {
     held.bytes.clear();
     match held.adapter.turn(alloc) {
@@ -308,11 +351,20 @@ pub extern "C" fn yt_adapter_turn(
     ensures none { adapter.old.inner.value ≡ None → (result ≡ YT_NONE) × (adapter.new.inner.value ≡ None) × (found.new ≡ found.old) }
     ensures held { IsSome adapter.old.inner.value → IsSome adapter.new.inner.value }
     ensures turns { FromTo adapter.old.inner.value adapter.new.inner.value (λ a b. (result ≡ YT_OK) ⊎ (result ≡ YT_IDLE) → AdapterTurns a b result) }
-    ensures length { FromTo adapter.old.inner.value adapter.new.inner.value (λ a b. (result ≡ YT_OK) ⊎ (result ≡ YT_IDLE) → found.new.bytes ≡ length b.bytes.items) }
+    ensures length { FromTo adapter.old.inner.value adapter.new.inner.value (λ a b. found.new.bytes ≡ length b.bytes.items) }
     ensures open { FromTo adapter.old.inner.value adapter.new.inner.value (λ a b. (result ≡ YT_OK) ⊎ (result ≡ YT_IDLE) → b.adapter.fault ≡ None) }
     ensures limits { FromTo adapter.old.inner.value adapter.new.inner.value (λ a b. b.adapter.session.limits ≡ a.adapter.session.limits) }
     ensures refuses { FromTo adapter.old.inner.value adapter.new.inner.value (λ a b. (result ≡ YT_OK → ⊥) → (result ≡ YT_IDLE → ⊥) → RefusesTurn a b result found.new) }
+    ensures tables { FromTo adapter.old.inner.value adapter.new.inner.value (λ a b. (result ≡ YT_OK → ⊥) → b.adapter.session ≡ a.adapter.session) }
+    ensures nothing { FromTo adapter.old.inner.value adapter.new.inner.value (λ a b. (result ≡ YT_OK → ⊥) → (b.bytes.items ≡ []) × FindsNothing found.new) }
+    ensures latched { (fault : TheFault) → FromTo adapter.old.inner.value adapter.new.inner.value (λ a b. a.adapter.fault ≡ Some fault → (result ≡ adapter_number fault) × IsAdapterFaultFound fault found.new × (b.adapter ≡ a.adapter)) }
+
+    // Where no request waits, memory is not asked for, and nothing changes.
+    ensures idle { FromTo adapter.old.inner.value adapter.new.inner.value (λ a b. a.adapter.fault ≡ None → oldest a.adapter.session.kept ≡ None → result ≡ YT_IDLE) }
+    ensures unchanged { FromTo adapter.old.inner.value adapter.new.inner.value (λ a b. result ≡ YT_IDLE → b.adapter ≡ a.adapter) }
     ensures frame { FromTo adapter.old.inner.value adapter.new.inner.value (λ a b. (b.frame ≡ a.frame) × (b.whole ≡ a.whole)) }
+    ensures acts { FromTo adapter.old.inner.value adapter.new.inner.value (λ a b. KeepsActs a b) }
+    ensures gathered { FromTo adapter.old.inner.value adapter.new.inner.value (λ a b. b.variables ≡ a.variables) }
 {
     let Some(mut held) = taken(alloc, adapter) else {
         return YT_NONE;

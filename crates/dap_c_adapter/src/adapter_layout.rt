@@ -1,4 +1,5 @@
 //! How large the adapter's structs are that cross to C. Nothing is touched but the answer.
+ghost use Rattle.std.specs.Prelude.{◌≡◌};
 
 use crate::acts::YtAct;
 use crate::adapter_handle::YtAdapter;
@@ -18,7 +19,13 @@ pub struct YtAdapterSizes {
 
 /// Tells the size of each struct of the adapter.
 #[unsafe(no_mangle)]
-pub extern "C" fn yt_adapter_sizes_of(sizes: &mut YtAdapterSizes) {
+pub extern "C" fn yt_adapter_sizes_of(sizes: &mut YtAdapterSizes)
+    ensures adapter { sizes.new.adapter ≡ 16 }
+    ensures act { sizes.new.act ≡ 64 }
+    ensures adapter_seen { sizes.new.adapter_seen ≡ 48 }
+    ensures target { sizes.new.target ≡ 16 }
+    ensures adapter_sizes { sizes.new.adapter_sizes ≡ 40 }
+{
     *sizes = YtAdapterSizes {
         adapter: size_of::<YtAdapter>(),
         act: size_of::<YtAct>(),

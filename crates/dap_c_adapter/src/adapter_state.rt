@@ -1,7 +1,8 @@
 //! What can be seen of an adapter: the adapter behind a handle is read, and what is seen goes out. Nothing is changed.
-ghost use Rattle.std.specs.Prelude.{◌≡◌, length, IfSome, IsSome, None};
+ghost use Rattle.std.specs.Prelude.{◌≡◌, length, IfSome, IsSome, Some, None};
+ghost use Rattle.dap_session.specs.declared.fault.AdapterFault.{AdapterFault as TheFault};
 ghost use Rattle.dap_tables.specs.References.{target_of};
-ghost use Rattle.dap_c_adapter.specs.AdapterSeen.{IsAdapterState, IsTarget, phase_number, kind_number};
+ghost use Rattle.dap_c_adapter.specs.AdapterSeen.{IsAdapterState, IsWithin, IsTarget, phase_number, kind_number};
 
 use crate::adapter_handle::{YtAdapter, full, taken};
 use crate::held_adapter::HeldAdapter;
@@ -64,7 +65,9 @@ fn kind_code(kind: ReferenceKind) -> u32
 }
 
 fn state_of(adapter: &Adapter<Live>) -> YtAdapterSeen
-    ensures { IsAdapterState result adapter.now.session (length adapter.now.intake.held) }
+    ensures is { IsAdapterState result adapter.now.session (length adapter.now.intake.held) }
+    ensures within { IsWithin result adapter.now.session.limits }
+    ensures closed { IfSome adapter.now.fault (λ fault. result.held ≡ 0) }
 {
     YtAdapterSeen {
         kept: adapter.kept(),
@@ -87,6 +90,8 @@ pub extern "C" fn yt_adapter_state(
     ensures same { adapter.new.inner.value ≡ adapter.old.inner.value }
     ensures ok { IsSome adapter.old.inner.value → result ≡ YT_OK }
     ensures is { IfSome adapter.old.inner.value (λ a. IsAdapterState state.new a.adapter.session (length a.adapter.intake.held)) }
+    ensures within { IfSome adapter.old.inner.value (λ a. IsWithin state.new a.adapter.session.limits) }
+    ensures closed { (fault : TheFault) → IfSome adapter.old.inner.value (λ a. a.adapter.fault ≡ Some fault → state.new.held ≡ 0) }
 {
     let Some(held) = taken(alloc, adapter) else {
         return YT_NONE;

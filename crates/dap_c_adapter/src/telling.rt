@@ -3,8 +3,14 @@
 //! What does not happen in the state that the debuggee is in, or is out of its range, is dropped, and the code says why. No
 //! clause says what is shown then: it is what the host told, whatever that is. Only the adapter behind the handle and what
 //! the caller lends for an answer are touched.
-ghost use Rattle.std.specs.Prelude.{◌≡◌, ◌⊎◌, IfErr, IsSome, None, [], length};
-ghost use Rattle.dap_c_adapter.specs.AdapterCalls.{AdapterSaw, RefusesPoll, IsUntold, IsCodeOfText, IsCodeOfRecording, IsToldCode};
+ghost use Rattle.std.specs.Prelude.{◌≡◌, ◌⊎◌, ◌≤◌, ◌++◌, ◌∷◌, IfOk, IfErr, IfSome, IsSome, IsOk, IsUtf8, Some, None, Ok, Err, false, [], length, if◌then◌else◌};
+ghost use Rattle.dap_json.specs.Read.{json_of};
+ghost use Rattle.dap_recording.specs.Reading.{verdict_of};
+ghost use Rattle.dap_replay.specs.Played.{fresh_played};
+ghost use Rattle.dap_session.specs.Polling.{has_debuggee};
+ghost use Rattle.dap_session.specs.declared.fault.AdapterFault.{AdapterFault as TheFault};
+ghost use Rattle.dap_c_adapter.specs.AdapterCalls.{AdapterSaw, RefusesPoll, IsUntold, IsCodeOfText, IsCodeOfRecording, IsToldCode, IsNoRecording, KeepsActs, variable_told};
+ghost use Rattle.dap_c_adapter.specs.AdapterFaults.{adapter_number, IsAdapterFaultFound};
 ghost use Rattle.dap_c_parts.specs.Behind.{FromTo};
 
 use crate::adapter::{adapter_code, adapter_fault_found, only_bytes};
@@ -39,8 +45,14 @@ fn told_code(mail: &Mail) -> u32
 /// Hands what the host says to the debuggee, and asks it what happened.
 fn tell(alloc: Global, held: &mut HeldAdapter, coming: Coming, found: &mut YtFound) -> u32
     ensures tells { AdapterSaw held.old held.new result found.new ⊎ RefusesPoll held.old held.new result found.new }
+    ensures latched { IfSome held.old.adapter.fault (λ fault. (result ≡ adapter_number fault) × IsAdapterFaultFound fault found.new × (held.new.adapter ≡ held.old.adapter)) }
+    ensures apart { held.old.adapter.fault ≡ None → has_debuggee held.old.adapter.session.phase ≡ false → held.new.adapter.fault ≡ None }
+    ensures length { found.new.bytes ≡ length held.new.bytes.items }
+    ensures heard { (result ≡ YT_BAD_ARGUMENTS → ⊥) × (result ≡ YT_BAD_RECORDING → ⊥) }
     ensures limits { held.new.adapter.session.limits ≡ held.old.adapter.session.limits }
     ensures frame { (held.new.frame ≡ held.old.frame) × (held.new.whole ≡ held.old.whole) }
+    ensures acts { KeepsActs held.old held.new }
+    ensures gathered { held.new.variables ≡ held.old.variables }
 {
     held.bytes.clear();
     held.mail.post(coming);
@@ -66,8 +78,14 @@ fn tell_given(
 ) -> u32
     requires { IfErr coming IsCodeOfText }
     ensures tells { AdapterSaw held.old held.new result found.new ⊎ RefusesPoll held.old held.new result found.new ⊎ IsUntold held.old held.new result }
+    ensures latched { IfSome held.old.adapter.fault (λ fault. ((result ≡ adapter_number fault) ⊎ IsCodeOfText result) × (held.new.adapter ≡ held.old.adapter)) }
+    ensures apart { held.old.adapter.fault ≡ None → has_debuggee held.old.adapter.session.phase ≡ false → held.new.adapter.fault ≡ None }
+    ensures length { found.new.bytes ≡ length held.new.bytes.items }
+    ensures why { (result ≡ YT_BAD_ARGUMENTS) ⊎ (result ≡ YT_BAD_RECORDING) → coming ≡ Err result }
     ensures limits { held.new.adapter.session.limits ≡ held.old.adapter.session.limits }
     ensures frame { (held.new.frame ≡ held.old.frame) × (held.new.whole ≡ held.old.whole) }
+    ensures acts { KeepsActs held.old held.new }
+    ensures gathered { held.new.variables ≡ held.old.variables }
 {
     match coming {
         Ok(coming) => tell(alloc, held, coming, found),
@@ -90,8 +108,14 @@ fn tell_handle(
     ensures none { adapter.old.inner.value ≡ None → (result ≡ YT_NONE) × (adapter.new.inner.value ≡ None) × (found.new ≡ found.old) }
     ensures held { IsSome adapter.old.inner.value → IsSome adapter.new.inner.value }
     ensures tells { FromTo adapter.old.inner.value adapter.new.inner.value (λ a b. AdapterSaw a b result found.new ⊎ RefusesPoll a b result found.new ⊎ IsUntold a b result) }
+    ensures latched { (fault : TheFault) → FromTo adapter.old.inner.value adapter.new.inner.value (λ a b. a.adapter.fault ≡ Some fault → ((result ≡ adapter_number fault) ⊎ IsCodeOfText result) × (b.adapter ≡ a.adapter)) }
+    ensures apart { FromTo adapter.old.inner.value adapter.new.inner.value (λ a b. a.adapter.fault ≡ None → has_debuggee a.adapter.session.phase ≡ false → b.adapter.fault ≡ None) }
+    ensures length { FromTo adapter.old.inner.value adapter.new.inner.value (λ a b. found.new.bytes ≡ length b.bytes.items) }
+    ensures why { (result ≡ YT_BAD_ARGUMENTS) ⊎ (result ≡ YT_BAD_RECORDING) → coming ≡ Err result }
     ensures limits { FromTo adapter.old.inner.value adapter.new.inner.value (λ a b. b.adapter.session.limits ≡ a.adapter.session.limits) }
     ensures frame { FromTo adapter.old.inner.value adapter.new.inner.value (λ a b. (b.frame ≡ a.frame) × (b.whole ≡ a.whole)) }
+    ensures acts { FromTo adapter.old.inner.value adapter.new.inner.value (λ a b. KeepsActs a b) }
+    ensures gathered { FromTo adapter.old.inner.value adapter.new.inner.value (λ a b. b.variables ≡ a.variables) }
 {
     let Some(mut held) = taken(alloc, adapter) else {
         return YT_NONE;
@@ -102,7 +126,10 @@ fn tell_handle(
 }
 
 fn text_given(alloc: Global, bytes: &[u8]) -> Result<Text, u32>
-    ensures { IfErr result IsCodeOfText }
+    ensures text { IfOk result (λ text. text ≡ bytes.now) }
+    ensures wanted { IsUtf8 bytes.now → IfErr result (λ code. code ≡ YT_NO_MEMORY) }
+    ensures no_recording { IfErr result (λ code. code ≡ YT_BAD_RECORDING → ⊥) }
+    ensures code { IfErr result IsCodeOfText }
 {
     let Ok(text) = std::str::from_utf8(bytes) else {
         return Err(YT_BAD_ARGUMENTS);
@@ -114,7 +141,9 @@ fn text_given(alloc: Global, bytes: &[u8]) -> Result<Text, u32>
 }
 
 pub(crate) fn recording_given(alloc: Global, bytes: &[u8]) -> Result<Recorded, u32>
-    ensures { IfErr result IsCodeOfRecording }
+    ensures read { IfOk result (λ r. (verdict_of (json_of bytes.now) ≡ Ok r.recording) × (r ≡ fresh_played r.recording)) }
+    ensures no_recording { IfErr result (λ code. code ≡ YT_BAD_RECORDING → IsNoRecording (json_of bytes.now)) }
+    ensures code { IfErr result IsCodeOfRecording }
 {
     match Recorded::read(alloc, bytes) {
         Ok(recorded) => Ok(recorded),
@@ -124,7 +153,8 @@ pub(crate) fn recording_given(alloc: Global, bytes: &[u8]) -> Result<Recorded, u
 }
 
 fn output_given(alloc: Global, category: u32, output: &[u8]) -> Result<Coming, u32>
-    ensures { IfErr result IsCodeOfText }
+    ensures wanted { category ≤ 2 → IsUtf8 output.now → IfErr result (λ code. code ≡ YT_NO_MEMORY) }
+    ensures code { IfErr result IsCodeOfText }
 {
     let category = match category {
         0 => Category::Console,
@@ -143,7 +173,9 @@ fn stop_given(
     shows: &[u8],
     later: bool,
 ) -> Result<Coming, u32>
-    ensures { IfErr result IsCodeOfText }
+    ensures wanted { IsUtf8 reason.now → IfErr result (λ code. code ≡ YT_BAD_ARGUMENTS → ⊥) }
+    ensures no_recording { IfErr result (λ code. code ≡ YT_BAD_RECORDING → IsNoRecording (json_of shows.now)) }
+    ensures code { IfErr result IsCodeOfText }
 {
     let reason = text_given(alloc, reason)?;
     let shows = recording_given(alloc, shows)?;
@@ -167,8 +199,14 @@ pub extern "C" fn yt_adapter_output(
     ensures none { adapter.old.inner.value ≡ None → (result ≡ YT_NONE) × (adapter.new.inner.value ≡ None) × (found.new ≡ found.old) }
     ensures held { IsSome adapter.old.inner.value → IsSome adapter.new.inner.value }
     ensures tells { FromTo adapter.old.inner.value adapter.new.inner.value (λ a b. AdapterSaw a b result found.new ⊎ RefusesPoll a b result found.new ⊎ IsUntold a b result) }
+    ensures latched { (fault : TheFault) → FromTo adapter.old.inner.value adapter.new.inner.value (λ a b. a.adapter.fault ≡ Some fault → ((result ≡ adapter_number fault) ⊎ IsCodeOfText result) × (b.adapter ≡ a.adapter)) }
+    ensures apart { FromTo adapter.old.inner.value adapter.new.inner.value (λ a b. a.adapter.fault ≡ None → has_debuggee a.adapter.session.phase ≡ false → b.adapter.fault ≡ None) }
+    ensures length { FromTo adapter.old.inner.value adapter.new.inner.value (λ a b. found.new.bytes ≡ length b.bytes.items) }
+    ensures wanted { category ≤ 2 → IsUtf8 output.now → (result ≡ YT_BAD_ARGUMENTS → ⊥) × (result ≡ YT_BAD_RECORDING → ⊥) }
     ensures limits { FromTo adapter.old.inner.value adapter.new.inner.value (λ a b. b.adapter.session.limits ≡ a.adapter.session.limits) }
     ensures frame { FromTo adapter.old.inner.value adapter.new.inner.value (λ a b. (b.frame ≡ a.frame) × (b.whole ≡ a.whole)) }
+    ensures acts { FromTo adapter.old.inner.value adapter.new.inner.value (λ a b. KeepsActs a b) }
+    ensures gathered { FromTo adapter.old.inner.value adapter.new.inner.value (λ a b. b.variables ≡ a.variables) }
 {
     tell_handle(alloc, adapter, output_given(alloc, category, output), found)
 }
@@ -188,8 +226,15 @@ pub extern "C" fn yt_adapter_stopped(
     ensures none { adapter.old.inner.value ≡ None → (result ≡ YT_NONE) × (adapter.new.inner.value ≡ None) × (found.new ≡ found.old) }
     ensures held { IsSome adapter.old.inner.value → IsSome adapter.new.inner.value }
     ensures tells { FromTo adapter.old.inner.value adapter.new.inner.value (λ a b. AdapterSaw a b result found.new ⊎ RefusesPoll a b result found.new ⊎ IsUntold a b result) }
+    ensures latched { (fault : TheFault) → FromTo adapter.old.inner.value adapter.new.inner.value (λ a b. a.adapter.fault ≡ Some fault → ((result ≡ adapter_number fault) ⊎ IsCodeOfText result) × (b.adapter ≡ a.adapter)) }
+    ensures apart { FromTo adapter.old.inner.value adapter.new.inner.value (λ a b. a.adapter.fault ≡ None → has_debuggee a.adapter.session.phase ≡ false → b.adapter.fault ≡ None) }
+    ensures length { FromTo adapter.old.inner.value adapter.new.inner.value (λ a b. found.new.bytes ≡ length b.bytes.items) }
+    ensures wanted { IsUtf8 reason.now → result ≡ YT_BAD_ARGUMENTS → ⊥ }
+    ensures no_recording { result ≡ YT_BAD_RECORDING → IsNoRecording (json_of shows.now) }
     ensures limits { FromTo adapter.old.inner.value adapter.new.inner.value (λ a b. b.adapter.session.limits ≡ a.adapter.session.limits) }
     ensures frame { FromTo adapter.old.inner.value adapter.new.inner.value (λ a b. (b.frame ≡ a.frame) × (b.whole ≡ a.whole)) }
+    ensures acts { FromTo adapter.old.inner.value adapter.new.inner.value (λ a b. KeepsActs a b) }
+    ensures gathered { FromTo adapter.old.inner.value adapter.new.inner.value (λ a b. b.variables ≡ a.variables) }
 {
     tell_handle(
         alloc,
@@ -210,8 +255,14 @@ pub extern "C" fn yt_adapter_continued(
     ensures none { adapter.old.inner.value ≡ None → (result ≡ YT_NONE) × (adapter.new.inner.value ≡ None) × (found.new ≡ found.old) }
     ensures held { IsSome adapter.old.inner.value → IsSome adapter.new.inner.value }
     ensures tells { FromTo adapter.old.inner.value adapter.new.inner.value (λ a b. AdapterSaw a b result found.new ⊎ RefusesPoll a b result found.new ⊎ IsUntold a b result) }
+    ensures latched { (fault : TheFault) → FromTo adapter.old.inner.value adapter.new.inner.value (λ a b. a.adapter.fault ≡ Some fault → ((result ≡ adapter_number fault) ⊎ IsCodeOfText result) × (b.adapter ≡ a.adapter)) }
+    ensures apart { FromTo adapter.old.inner.value adapter.new.inner.value (λ a b. a.adapter.fault ≡ None → has_debuggee a.adapter.session.phase ≡ false → b.adapter.fault ≡ None) }
+    ensures length { FromTo adapter.old.inner.value adapter.new.inner.value (λ a b. found.new.bytes ≡ length b.bytes.items) }
+    ensures wanted { (result ≡ YT_BAD_ARGUMENTS → ⊥) × (result ≡ YT_BAD_RECORDING → ⊥) }
     ensures limits { FromTo adapter.old.inner.value adapter.new.inner.value (λ a b. b.adapter.session.limits ≡ a.adapter.session.limits) }
     ensures frame { FromTo adapter.old.inner.value adapter.new.inner.value (λ a b. (b.frame ≡ a.frame) × (b.whole ≡ a.whole)) }
+    ensures acts { FromTo adapter.old.inner.value adapter.new.inner.value (λ a b. KeepsActs a b) }
+    ensures gathered { FromTo adapter.old.inner.value adapter.new.inner.value (λ a b. b.variables ≡ a.variables) }
 {
     tell_handle(alloc, adapter, Ok(Coming::Continued { thread }), found)
 }
@@ -227,14 +278,22 @@ pub extern "C" fn yt_adapter_exited(
     ensures none { adapter.old.inner.value ≡ None → (result ≡ YT_NONE) × (adapter.new.inner.value ≡ None) × (found.new ≡ found.old) }
     ensures held { IsSome adapter.old.inner.value → IsSome adapter.new.inner.value }
     ensures tells { FromTo adapter.old.inner.value adapter.new.inner.value (λ a b. AdapterSaw a b result found.new ⊎ RefusesPoll a b result found.new ⊎ IsUntold a b result) }
+    ensures latched { (fault : TheFault) → FromTo adapter.old.inner.value adapter.new.inner.value (λ a b. a.adapter.fault ≡ Some fault → ((result ≡ adapter_number fault) ⊎ IsCodeOfText result) × (b.adapter ≡ a.adapter)) }
+    ensures apart { FromTo adapter.old.inner.value adapter.new.inner.value (λ a b. a.adapter.fault ≡ None → has_debuggee a.adapter.session.phase ≡ false → b.adapter.fault ≡ None) }
+    ensures length { FromTo adapter.old.inner.value adapter.new.inner.value (λ a b. found.new.bytes ≡ length b.bytes.items) }
+    ensures wanted { (result ≡ YT_BAD_ARGUMENTS → ⊥) × (result ≡ YT_BAD_RECORDING → ⊥) }
     ensures limits { FromTo adapter.old.inner.value adapter.new.inner.value (λ a b. b.adapter.session.limits ≡ a.adapter.session.limits) }
     ensures frame { FromTo adapter.old.inner.value adapter.new.inner.value (λ a b. (b.frame ≡ a.frame) × (b.whole ≡ a.whole)) }
+    ensures acts { FromTo adapter.old.inner.value adapter.new.inner.value (λ a b. KeepsActs a b) }
+    ensures gathered { FromTo adapter.old.inner.value adapter.new.inner.value (λ a b. b.variables ≡ a.variables) }
 {
     tell_handle(alloc, adapter, Ok(Coming::Exited { code }), found)
 }
 
 /// What holds the parts of a value, where it has some.
-fn holder_given(has_parts: bool, holder: u64) -> Option<u64> {
+fn holder_given(has_parts: bool, holder: u64) -> Option<u64>
+    ensures { result ≡ (if has_parts then Some holder else None) }
+{
     if has_parts { Some(holder) } else { None }
 }
 
@@ -245,7 +304,8 @@ fn value_given(
     value: &[u8],
     holder: Option<u64>,
 ) -> Result<Coming, u32>
-    ensures { IfErr result IsCodeOfText }
+    ensures wanted { IsUtf8 asked.now → IsUtf8 value.now → IfErr result (λ code. code ≡ YT_NO_MEMORY) }
+    ensures code { IfErr result IsCodeOfText }
 {
     let text = text_given(alloc, asked)?;
     let value = text_given(alloc, value)?;
@@ -262,7 +322,9 @@ fn variable_given(
     value: &[u8],
     holder: Option<u64>,
 ) -> Result<Variable, u32>
-    ensures { IfErr result IsCodeOfText }
+    ensures variable { IfOk result (λ variable. variable ≡ record { name = name.now; value = value.now; holder = holder }) }
+    ensures wanted { IsUtf8 name.now → IsUtf8 value.now → IfErr result (λ code. code ≡ YT_NO_MEMORY) }
+    ensures code { IfErr result IsCodeOfText }
 {
     let name = text_given(alloc, name)?;
     let value = text_given(alloc, value)?;
@@ -289,8 +351,14 @@ pub extern "C" fn yt_adapter_learned(
     ensures none { adapter.old.inner.value ≡ None → (result ≡ YT_NONE) × (adapter.new.inner.value ≡ None) × (found.new ≡ found.old) }
     ensures held { IsSome adapter.old.inner.value → IsSome adapter.new.inner.value }
     ensures tells { FromTo adapter.old.inner.value adapter.new.inner.value (λ a b. AdapterSaw a b result found.new ⊎ RefusesPoll a b result found.new ⊎ IsUntold a b result) }
+    ensures latched { (fault : TheFault) → FromTo adapter.old.inner.value adapter.new.inner.value (λ a b. a.adapter.fault ≡ Some fault → ((result ≡ adapter_number fault) ⊎ IsCodeOfText result) × (b.adapter ≡ a.adapter)) }
+    ensures apart { FromTo adapter.old.inner.value adapter.new.inner.value (λ a b. a.adapter.fault ≡ None → has_debuggee a.adapter.session.phase ≡ false → b.adapter.fault ≡ None) }
+    ensures length { FromTo adapter.old.inner.value adapter.new.inner.value (λ a b. found.new.bytes ≡ length b.bytes.items) }
+    ensures wanted { IsUtf8 asked.now → IsUtf8 value.now → (result ≡ YT_BAD_ARGUMENTS → ⊥) × (result ≡ YT_BAD_RECORDING → ⊥) }
     ensures limits { FromTo adapter.old.inner.value adapter.new.inner.value (λ a b. b.adapter.session.limits ≡ a.adapter.session.limits) }
     ensures frame { FromTo adapter.old.inner.value adapter.new.inner.value (λ a b. (b.frame ≡ a.frame) × (b.whole ≡ a.whole)) }
+    ensures acts { FromTo adapter.old.inner.value adapter.new.inner.value (λ a b. KeepsActs a b) }
+    ensures gathered { FromTo adapter.old.inner.value adapter.new.inner.value (λ a b. b.variables ≡ a.variables) }
 {
     let holder = holder_given(has_parts, holder);
     let coming = value_given(alloc, asked, known, value, holder);
@@ -302,6 +370,12 @@ fn keep_variable(held: &mut HeldAdapter, variable: Result<Variable, u32>) -> u32
     ensures code { (result ≡ YT_OK → ⊥) → IsCodeOfText result }
     ensures adapter { held.new.adapter ≡ held.old.adapter }
     ensures others { (held.new.bytes ≡ held.old.bytes) × (held.new.frame ≡ held.old.frame) × (held.new.whole ≡ held.old.whole) }
+    ensures acts { KeepsActs held.old held.new }
+    ensures gathers { IfOk variable (λ v. result ≡ YT_OK → held.new.variables.items ≡ held.old.variables.items ++ v ∷ []) }
+    ensures refused { (result ≡ YT_OK → ⊥) → held.new.variables.items ≡ held.old.variables.items }
+    ensures read { result ≡ YT_OK → IsOk variable }
+    ensures given { IfErr variable (λ code. result ≡ code) }
+    ensures no_memory { IfOk variable (λ v. (result ≡ YT_OK → ⊥) → result ≡ YT_NO_MEMORY) }
 {
     match variable {
         Ok(variable) => match held.variables.push(variable) {
@@ -326,6 +400,10 @@ pub extern "C" fn yt_adapter_variable(
     ensures held { IsSome adapter.old.inner.value → IsSome adapter.new.inner.value }
     ensures code { IsSome adapter.old.inner.value → (result ≡ YT_OK → ⊥) → IsCodeOfText result }
     ensures same { FromTo adapter.old.inner.value adapter.new.inner.value (λ a b. (b.adapter ≡ a.adapter) × (b.bytes ≡ a.bytes) × (b.frame ≡ a.frame) × (b.whole ≡ a.whole)) }
+    ensures acts { FromTo adapter.old.inner.value adapter.new.inner.value (λ a b. KeepsActs a b) }
+    ensures gathers { FromTo adapter.old.inner.value adapter.new.inner.value (λ a b. result ≡ YT_OK → b.variables.items ≡ a.variables.items ++ variable_told name.now value.now has_parts holder ∷ []) }
+    ensures refused { FromTo adapter.old.inner.value adapter.new.inner.value (λ a b. (result ≡ YT_OK → ⊥) → b.variables.items ≡ a.variables.items) }
+    ensures wanted { IsUtf8 name.now → IsUtf8 value.now → result ≡ YT_BAD_ARGUMENTS → ⊥ }
 {
     let Some(mut held) = taken(alloc, adapter) else {
         return YT_NONE;
@@ -338,8 +416,13 @@ pub extern "C" fn yt_adapter_variable(
 
 fn tell_variables(alloc: Global, held: &mut HeldAdapter, holder: u64, found: &mut YtFound) -> u32
     ensures tells { AdapterSaw held.old held.new result found.new ⊎ RefusesPoll held.old held.new result found.new }
+    ensures latched { IfSome held.old.adapter.fault (λ fault. (result ≡ adapter_number fault) × IsAdapterFaultFound fault found.new × (held.new.adapter ≡ held.old.adapter)) }
+    ensures apart { held.old.adapter.fault ≡ None → has_debuggee held.old.adapter.session.phase ≡ false → held.new.adapter.fault ≡ None }
+    ensures length { found.new.bytes ≡ length held.new.bytes.items }
     ensures limits { held.new.adapter.session.limits ≡ held.old.adapter.session.limits }
     ensures frame { (held.new.frame ≡ held.old.frame) × (held.new.whole ≡ held.old.whole) }
+    ensures acts { KeepsActs held.old held.new }
+    ensures none_gathered { held.new.variables.items ≡ [] }
 {
     let variables = std::mem::replace(&mut held.variables, Vec::new(alloc));
     let coming = Coming::Variables {
@@ -360,8 +443,13 @@ pub extern "C" fn yt_adapter_variables(
     ensures none { adapter.old.inner.value ≡ None → (result ≡ YT_NONE) × (adapter.new.inner.value ≡ None) × (found.new ≡ found.old) }
     ensures held { IsSome adapter.old.inner.value → IsSome adapter.new.inner.value }
     ensures tells { FromTo adapter.old.inner.value adapter.new.inner.value (λ a b. AdapterSaw a b result found.new ⊎ RefusesPoll a b result found.new) }
+    ensures latched { (fault : TheFault) → FromTo adapter.old.inner.value adapter.new.inner.value (λ a b. a.adapter.fault ≡ Some fault → (result ≡ adapter_number fault) × IsAdapterFaultFound fault found.new × (b.adapter ≡ a.adapter)) }
+    ensures apart { FromTo adapter.old.inner.value adapter.new.inner.value (λ a b. a.adapter.fault ≡ None → has_debuggee a.adapter.session.phase ≡ false → b.adapter.fault ≡ None) }
+    ensures length { FromTo adapter.old.inner.value adapter.new.inner.value (λ a b. found.new.bytes ≡ length b.bytes.items) }
     ensures limits { FromTo adapter.old.inner.value adapter.new.inner.value (λ a b. b.adapter.session.limits ≡ a.adapter.session.limits) }
     ensures frame { FromTo adapter.old.inner.value adapter.new.inner.value (λ a b. (b.frame ≡ a.frame) × (b.whole ≡ a.whole)) }
+    ensures acts { FromTo adapter.old.inner.value adapter.new.inner.value (λ a b. KeepsActs a b) }
+    ensures none_gathered { FromTo adapter.old.inner.value adapter.new.inner.value (λ a b. b.variables.items ≡ []) }
 {
     let Some(mut held) = taken(alloc, adapter) else {
         return YT_NONE;
@@ -372,7 +460,8 @@ pub extern "C" fn yt_adapter_variables(
 }
 
 fn sources_given(alloc: Global, sources: &[u8]) -> Result<Coming, u32>
-    ensures { IfErr result IsCodeOfText }
+    ensures no_recording { IfErr result (λ code. code ≡ YT_BAD_RECORDING → IsNoRecording (json_of sources.now)) }
+    ensures code { IfErr result IsCodeOfRecording }
 {
     let sources = recording_given(alloc, sources)?;
     Ok(Coming::Sources(sources))
@@ -389,8 +478,15 @@ pub extern "C" fn yt_adapter_sources(
     ensures none { adapter.old.inner.value ≡ None → (result ≡ YT_NONE) × (adapter.new.inner.value ≡ None) × (found.new ≡ found.old) }
     ensures held { IsSome adapter.old.inner.value → IsSome adapter.new.inner.value }
     ensures tells { FromTo adapter.old.inner.value adapter.new.inner.value (λ a b. AdapterSaw a b result found.new ⊎ RefusesPoll a b result found.new ⊎ IsUntold a b result) }
+    ensures latched { (fault : TheFault) → FromTo adapter.old.inner.value adapter.new.inner.value (λ a b. a.adapter.fault ≡ Some fault → ((result ≡ adapter_number fault) ⊎ IsCodeOfText result) × (b.adapter ≡ a.adapter)) }
+    ensures apart { FromTo adapter.old.inner.value adapter.new.inner.value (λ a b. a.adapter.fault ≡ None → has_debuggee a.adapter.session.phase ≡ false → b.adapter.fault ≡ None) }
+    ensures length { FromTo adapter.old.inner.value adapter.new.inner.value (λ a b. found.new.bytes ≡ length b.bytes.items) }
+    ensures wanted { result ≡ YT_BAD_ARGUMENTS → ⊥ }
+    ensures no_recording { result ≡ YT_BAD_RECORDING → IsNoRecording (json_of sources.now) }
     ensures limits { FromTo adapter.old.inner.value adapter.new.inner.value (λ a b. b.adapter.session.limits ≡ a.adapter.session.limits) }
     ensures frame { FromTo adapter.old.inner.value adapter.new.inner.value (λ a b. (b.frame ≡ a.frame) × (b.whole ≡ a.whole)) }
+    ensures acts { FromTo adapter.old.inner.value adapter.new.inner.value (λ a b. KeepsActs a b) }
+    ensures gathered { FromTo adapter.old.inner.value adapter.new.inner.value (λ a b. b.variables ≡ a.variables) }
 {
     tell_handle(alloc, adapter, sources_given(alloc, sources), found)
 }

@@ -1,4 +1,5 @@
 pub mod Behind
 pub mod Causes
+pub mod Finds
 pub mod Heap
 pub mod Limited

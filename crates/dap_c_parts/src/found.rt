@@ -1,5 +1,6 @@
 //! What a piece of a stream did, as both ends report it.
 ghost use Rattle.std.specs.Prelude.{◌≡◌};
+ghost use Rattle.dap_c_parts.specs.Finds.{FindsNothing};
 
 /// What a piece of a stream did.
 #[repr(C)]
@@ -19,9 +20,7 @@ pub struct YtFound {
 
 /// Nothing is found.
 pub fn nothing_found() -> YtFound
-    ensures used { result.used ≡ 0 }
-    ensures bytes { result.bytes ≡ 0 }
-    ensures frame { result.frame ≡ 0 }
+    ensures nothing { FindsNothing result }
 {
     YtFound {
         used: 0,
@@ -36,9 +35,7 @@ pub fn nothing_found() -> YtFound
 pub fn fault_at(at: u64, cause: u32) -> YtFound
     ensures at { result.at ≡ at }
     ensures cause { result.cause ≡ cause }
-    ensures used { result.used ≡ 0 }
-    ensures bytes { result.bytes ≡ 0 }
-    ensures frame { result.frame ≡ 0 }
+    ensures nothing { FindsNothing result }
 {
     YtFound {
         used: 0,
