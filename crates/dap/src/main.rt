@@ -14,12 +14,13 @@ use dap_adapter::ServeFault;
 use dap_channel::{Input, Pipe};
 use dap_frame::{End, Limits};
 use dap_host::{Host, host_channel};
+use dap_recording::RecordingFault;
 use dap_replay::Recorded;
 use dap_tool::{
     DriveFault, FileFault, FollowFault, Form, MAX_FILE, OpenFault, Shown, Style, ToolFault,
     check_text, explanation, fault_line, follow, most_reads, read_whole, status,
 };
-use std::alloc::{AllocError, AllocFailed};
+use std::alloc::{AllocError, AllocFailed, Global};
 use std::fs::File;
 use std::io;
 use std::io::Write;
@@ -395,9 +396,41 @@ fn read_host(rt: &HostRuntime, matches: &ArgMatches<'_>, limits: Limits) -> Resu
                 name: name_of(matches, SOURCES),
                 bytes: &bytes,
             };
-            Err(tell(rt, matches, file, &ToolFault::Recording(fault)))
+            Err(tell_sources(rt, matches, file, fault))
         }
     }
+}
+
+/// The line that explains why a file has no sources for a host.
+fn sources_line(alloc: Global, name: &str, key: &str) -> Result<Vec<u8>, AllocError> {
+    let mut line = Vec::new(alloc);
+    line.extend_from_slice(name.as_bytes())?;
+    line.extend_from_slice(b": the key ")?;
+    line.extend_from_slice(key.as_bytes())?;
+    line.extend_from_slice(
+        b" is refused: there are sources, each with a name and a text, and the first has a line\n",
+    )?;
+    Ok(line)
+}
+
+/// Tells why a file has no sources for a host, as [`tell`] does: what else is in it is not looked at.
+fn tell_sources(
+    rt: &HostRuntime,
+    matches: &ArgMatches<'_>,
+    file: Subject<'_>,
+    fault: RecordingFault,
+) -> u8 {
+    let RecordingFault::BadKey { key } = fault else {
+        return tell(rt, matches, file, &ToolFault::Recording(fault));
+    };
+    let code = tell_line(rt, &ToolFault::Recording(fault));
+    if command_line::explains(matches) {
+        // Where it finds no memory there is none.
+        if let Ok(line) = sources_line(rt.alloc(), file.name, key.name()) {
+            let _ = rt.stderr().write_all(&line);
+        }
+    }
+    code
 }
 
 /// The recording that the command line names, not started; or the exit status where the file is none, which is told.
@@ -513,6 +546,18 @@ fn print(rt: &HostRuntime, bytes: &[u8]) -> io::Result<()> {
 /// Writes a fault's line on standard error, and behind it, where it is asked for, the line that explains it. It answers the
 /// fault's status, whether or not the lines went out.
 fn tell(rt: &HostRuntime, matches: &ArgMatches<'_>, subject: Subject<'_>, fault: &ToolFault) -> u8 {
+    let code = tell_line(rt, fault);
+    if command_line::explains(matches) {
+        // Where it finds no memory there is none.
+        if let Ok(line) = explanation(rt.alloc(), subject.name, subject.bytes, fault) {
+            let _ = rt.stderr().write_all(&line);
+        }
+    }
+    code
+}
+
+/// Writes a fault's line on standard error, and answers the fault's status.
+fn tell_line(rt: &HostRuntime, fault: &ToolFault) -> u8 {
     match fault_line(rt.alloc(), fault) {
         Ok(line) => {
             let _ = rt.stderr().write_all(&line);
@@ -522,16 +567,10 @@ fn tell(rt: &HostRuntime, matches: &ArgMatches<'_>, subject: Subject<'_>, fault:
             let _ = rt.stderr().write_all(b"dap: OutOfMemory\n");
         }
     }
-    if command_line::explains(matches) {
-        // Where it finds no memory there is none.
-        if let Ok(line) = explanation(rt.alloc(), subject.name, subject.bytes, fault) {
-            let _ = rt.stderr().write_all(&line);
-        }
-    }
     status(fault)
 }
 
-/// The same of standard output.
+/// Tells a fault of standard output.
 fn tell_unwritten(rt: &HostRuntime, matches: &ArgMatches<'_>, fault: &ToolFault) -> u8 {
     let output = Subject {
         name: OUTPUT,

@@ -1,5 +1,5 @@
 -- What a moment shows, read over the sources that there are. The format of recordings is this profile's own.
-use Rattle.std.specs.Prelude.{◌≡◌, ◌⊎◌, ℕ, ◌≤◌, ◌+◌, List, ◌++◌, length, false, codes, Some, None, Result, Ok, Err}
+use Rattle.std.specs.Prelude.{◌≡◌, ◌⊎◌, ℕ, ◌≤◌, ◌+◌, List, ◌++◌, length, true, false, codes, Some, None, Result, Ok, Err}
 use Rattle.serde_json.specs.Data.{Data}
 use Rattle.dap_json.specs.Field.{is_object, tree_at}
 use Rattle.dap_json.specs.Read.{json_of}
@@ -95,7 +95,7 @@ pub record HasSources (bytes : List ℕ) (sources : Data) : Type 0 where
 abbrev pub LacksSources : List ℕ → RecordingFault → Type 0
 LacksSources bytes fault.NotJson = json_of bytes ≡ None
 LacksSources bytes fault.NotObject = (file : Data) × (json_of bytes ≡ Some file) × (is_object file ≡ false)
-LacksSources bytes (fault.BadKey k) = (file : Data) × (json_of bytes ≡ Some file) × (tree_at (codes "sources") file ≡ None) × (k ≡ Sources)
+LacksSources bytes (fault.BadKey k) = (file : Data) × (json_of bytes ≡ Some file) × (is_object file ≡ true) × (tree_at (codes "sources") file ≡ None) × (k ≡ Sources)
 LacksSources bytes fault.OutOfMemory = Unit {0}
 
 -- a file is refused: it has no sources, or they are refused

@@ -135,8 +135,9 @@ impl Host {
     /// which has a line; a recording is one, and what else it has is not looked at.
     ///
     /// # Errors
-    /// Those of `Recorded::read`. `BadKey` with `line` or `source` comes also where the first source has no line, or there is
-    /// none.
+    /// `NotJson` and `NotObject` as of `Recorded::read`. `BadKey` with `sources` where these are absent, `null`, no array or more
+    /// than 65536, with the first bad key of a source, with `source` where there is none, and with `line` where the first has no
+    /// line. `OutOfMemory` where memory is refused.
     pub fn open(alloc: Global, limits: Limits, bytes: &[u8]) -> Result<Host, RecordingFault>
         ensures fresh { IfOk result (IsFresh limits bytes.now) }
         ensures going { IfOk result IsGoing }

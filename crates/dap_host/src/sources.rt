@@ -7,13 +7,11 @@ ghost use Rattle.dap_recording.specs.declared.reading.RecordingFault.{RecordingF
 ghost use Rattle.dap_host.specs.Moments.{nowhere as nowhere_text};
 
 use dap_json::{Tree, parse};
+use dap_recording::numbers::MAX_SOURCES;
 use dap_recording::{RecordingFault, Texts};
 use dap_replay::Recorded;
 use std::alloc::{AllocError, Global};
 use std::marker::Model;
-
-/// How many sources there are at most.
-const MAX_SOURCES: usize = 65536;
 
 /// For so many bytes of moments texts are kept that later ones share.
 const TEXT_BYTES: usize = 1048576;
