@@ -55,7 +55,8 @@ def tasks():
     yield "check_bodies", Task("dap", "check", "--all", "--bodies", ("transcript", TAKEN_BYTES))
     yield "serve_stops", Task("dap", "serve", ("stops_recording", STOPS), given=("stops", STOPS))
     for kind in ("host_stops", "host_stops_later"):
-        yield kind, Task("dap", "host", ("stops_sources", STOPS), given=(kind, STOPS))
+        yield kind, Task("dap", "host", ("stops_sources", 1), given=(kind, STOPS))
+    yield "host_stops_beside", Task("dap", "host", ("stops_sources", 1000), given=("host_stops", STOPS))
 
 
 class Report:

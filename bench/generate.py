@@ -24,7 +24,7 @@ which have the same messages as frames. All rules of a transcript are kept.
 
 KIND `stops` is the requests of a client that steps on SIZE times less one, and at each stop asks for the stack, the scope of its
 newest frame and the variables of that; `stops_recording` is what a server plays then. `host_stops` is the same for a host of
-`stops_sources`: each request as a line, and what the debugger did; in `host_stops_later` the variables are told once they are
+`stops_sources`, of which SIZE is how many there are: each request as a line, and what the debugger did; in `host_stops_later` the variables are told once they are
 asked for. The SEED does not matter to these.
 
 The same KIND, SIZE and SEED give the same bytes on every machine: of Python's generator only `random()` is used, whose
@@ -1014,8 +1014,10 @@ def stopped(count, seed, write):
 STOP_LINES, STOP_FRAMES, STOP_VARIABLES = 200, 20, 100
 
 
-def stop_sources():
-    return [{"name": "a.c", "path": "/w/a.c", "text": "".join("line %d\n" % line for line in range(STOP_LINES))}]
+def stop_sources(count=1):
+    text = "".join("line %d\n" % line for line in range(STOP_LINES))
+    more = [{"name": "a%d.c" % i, "path": "/w/a%d.c" % i, "text": "line\n"} for i in range(1, count)]
+    return [{"name": "a.c", "path": "/w/a.c", "text": text}] + more
 
 
 def stop_variables(stop):
@@ -1033,8 +1035,8 @@ def stops_recording(count, _, write):
     write(PLAIN.encode(made).encode("utf-8"))
 
 
-def stops_sources(_, __, write):
-    write(PLAIN.encode({"sources": stop_sources()}).encode("utf-8"))
+def stops_sources(count, _, write):
+    write(PLAIN.encode({"sources": stop_sources(count)}).encode("utf-8"))
 
 
 def looks_at_stops(count):
