@@ -43,6 +43,7 @@ class Crate:
         self.name = name
         self.calls = []
         self.types = {}  # name: is it public
+        self.traits = set()
         self.modules = {}  # name: is it public
         self.handed_on = {}  # name: (crate, modules, name), by a `pub use`
         self.modules_hand_on = {}  # module: the same
@@ -128,6 +129,7 @@ def read_module(crate, path, exported):
             words = words.split(" where ")[0].rstrip("{ ")
             if head.group(1) == "trait":
                 owner = trait = re.search(r"trait (\w+)", words).group(1)
+                crate.traits.add(owner)
                 crate.types[owner] = is_public("pub " if line.startswith("pub ") else None, owner)
             else:
                 match = re.search(r"impl (?:([\w:]+) for )?&?([\w:]+)", words)
@@ -168,6 +170,7 @@ def read_module(crate, path, exported):
 
 def settle(crates):
     """Says of each call whether users reach it, and gives what implements a trait of the repository the trait's clauses."""
+    own_traits = {name: crate.types[name] for crate in crates.values() for name in crate.types if name in crate.traits}
     traits = {}
     for call in [call for crate in crates.values() for call in crate.calls]:
         if call.trait and call.trait == call.owner:
@@ -179,6 +182,8 @@ def settle(crates):
                 call.public = call.in_open
                 continue
             is_open = crate.types.get(call.owner, False)
+            if call.trait in own_traits and call.trait != call.owner:
+                is_open = is_open and own_traits[call.trait]
             call.public = is_open and call.public in ("pub ", "of the trait")
             for other in traits.get(call.trait, []):
                 if other is not call and other.name == call.name and call.owner != call.trait:
