@@ -188,6 +188,7 @@ def settle(crates):
             for other in traits.get(call.trait, []):
                 if other is not call and other.name == call.name and call.owner != call.trait:
                     call.clauses = other.clauses + call.clauses
+                    call.of_trait = other.path
         for owner, trait, beside, path in sorted({(c.owner, c.trait, c.beside, c.path) for c in crate.calls if c.trait}):
             if trait == owner or trait not in traits:
                 continue
