@@ -305,6 +305,12 @@ class Specs:
         key = (definition.crate, definition.file)
         return self.named(definition.text, self.scopes[key], self.files[key])
 
+    def below_and(self, definition):
+        """A definition and all those that it is made of, each with its distance."""
+        key = (definition.crate, definition.file)
+        own = {name: (*key, name) for name in self.files[key]}
+        return {**self.reach([definition.text], {**self.scopes[key], **own}), definition: 0}
+
     def reach(self, texts, scope):
         """How many steps below a text each definition is that it is made of."""
         steps = {}
