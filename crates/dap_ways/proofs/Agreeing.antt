@@ -127,7 +127,7 @@ only-memory f (inl h) = absurd h
 only-memory f (inr e) = e
 
 -- of one schedule of messages
-agrees-so : {D : Type 0} (moves : MovesInOrder) (shown : D → Shown) (follows : Goes D) (limits : Settings) (debuggee : D) (w : ByteWorld D) → AreInRange limits → EachScheduleAgrees shown follows → EachTranscriptKeepsRules shown follows → IsOneOfMessages shown follows limits debuggee w → AgreesInBytes shown follows limits debuggee w
+abbrev agrees-so : {D : Type 0} (moves : MovesInOrder) (shown : D → Shown) (follows : Goes D) (limits : Settings) (debuggee : D) (w : ByteWorld D) → AreInRange limits → EachScheduleAgrees shown follows → EachTranscriptKeepsRules shown follows → IsOneOfMessages shown follows limits debuggee w → AgreesInBytes shown follows limits debuggee w
 agrees-so moves shown follows limits debuggee w r agree keep g =
     let a = agree limits debuggee (world_of g) r g.schedule in
     record {

@@ -1,8 +1,9 @@
 -- What the contract of a call gives is a step.
 use Rattle.std.proofs.Common.{◌≡◌, ℕ, List, [], ◌∷◌, ◌++◌, drop, Option, None, refl, sym, ap, ◌∙◌, subst}
-use Rattle.std.specs.Prelude.{IsTrue}
+use Rattle.std.specs.Prelude.{IsTrue, Result, Ok, Err, IfOk, OnOk}
 use Rattle.dap_adapter.specs.AdapterState.{AdapterState}
 use Rattle.dap_adapter.specs.Calls.{Takes, Handled, Saw, TurnGives}
+use Rattle.dap_adapter.specs.declared.taken.Taken.{Taken}
 use Rattle.dap_adapter.specs.declared.taken.Turned.{Turned}
 use Rattle.dap_adapter.specs.declared.taken.Turned.TheVariants.{Idle, Done}
 use Rattle.dap_client.specs.Calls.{refusal_of, answer_refusal_of, Takes as ClientTakes}
@@ -11,6 +12,7 @@ use Rattle.dap_client.specs.Sending.{next_message, sent_bytes, after_send}
 use Rattle.dap_client.specs.StandsFor.{GoesOn as ClientGoesOn}
 use Rattle.dap_client.specs.TerminalResponse.{is_plain_terminal, next_terminal_response, terminal_response_bytes, after_terminal_response}
 use Rattle.dap_client.specs.declared.got.Got.{Got}
+use Rattle.dap_client.specs.declared.got.Sent.{Sent}
 use Rattle.dap_client.specs.declared.terminal.Terminal.{Terminal}
 use Rattle.dap_debuggee.specs.Shown.{Shown}
 use Rattle.dap_history.specs.History.{Out}
@@ -83,3 +85,32 @@ module _ {D : Type 0} (shown : D → Shown) (follows : Goes D) where
       let v : ByteWorld D = record w { adapter = old } in
       let step : ByteStep shown follows v (adapter_wrote new bytes v) = by_polling (record { bytes = bytes; after = new; saw = saw; limits = limits; is = refl }) in
       subst (λ (z : ByteWorld D). ByteStep shown follows z (adapter_wrote new bytes z)) (with-adapter w old e) step
+
+  -- ---- of what a call answered
+
+  pub sent-steps : {F : Type 0} (r : Result Sent F) (call : Call) (old new : ClientState) → IsTrue (is_plain_call call) → OnOk r (refusal_of call old ≡ None) → IfOk r (λ sent. sent.bytes.items ≡ sent_bytes old.session call) → OnOk r (new ≡ record old { session = after_send call old.session })
+      → OnOk r (ReadsBack old.session.limits.body (next_message old.session call)) → OnOk r (ClientGoesOn old new [] (Out (next_message old.session call) [] ∷ [])) → IfOk r (λ sent. ClientSteps shown follows old sent.bytes.items new)
+  sent-steps (Ok sent) call old new plain free b n back on = send-steps call old new sent.bytes.items plain free b n back on
+  sent-steps (Err fault) call old new plain free b n back on = tt
+
+  pub got-steps : {F : Type 0} (r : Result Got F) (old new : ClientState) (piece : List ℕ) → IfOk r (λ got. ClientTakes old piece got got.delivered new) → new.session.limits ≡ old.session.limits → IfOk r (λ got. ClientStepsOver shown follows old piece got.used got.bytes.items new)
+  got-steps (Ok got) old new piece takes limits = down-steps old new piece got takes limits
+  got-steps (Err fault) old new piece takes limits = tt
+
+  pub taken-steps : {F : Type 0} (r : Result Taken F) (old new : AdapterState D) (piece : List ℕ) → IfOk r (λ taken. Takes follows old piece taken.used taken.bytes.items taken.delivered new) → new.session.limits ≡ old.session.limits → IfOk r (λ taken. AdapterStepsOver shown follows old piece taken.used taken.bytes.items new)
+  taken-steps (Ok taken) old new piece takes limits = up-steps old new piece taken.used taken.bytes.items taken.delivered takes limits
+  taken-steps (Err fault) old new piece takes limits = tt
+
+  pub turned-steps : {F : Type 0} (r : Result Turned F) (old new : AdapterState D) → IfOk r (λ turned. TurnGives shown follows old turned new) → new.session.limits ≡ old.session.limits → IfOk r (λ turned. TurnSteps shown follows old turned new)
+  turned-steps (Ok turned) old new gives limits = turn-steps old new turned gives limits
+  turned-steps (Err fault) old new gives limits = tt
+
+  -- of bytes alone
+  pub answered-steps : {V F : Type 0} (items : V → List ℕ) (r : Result V F) (q : ℕ) (terminal : Terminal) (old new : ClientState) → IsTrue (is_plain_terminal terminal) → OnOk r (answer_refusal_of q old ≡ None) → IfOk r (λ b. items b ≡ terminal_response_bytes old.session q terminal)
+      → OnOk r (new ≡ record old { session = after_terminal_response q old.session }) → OnOk r (ReadsBack old.session.limits.body (next_terminal_response old.session q terminal)) → OnOk r (ClientGoesOn old new [] (Out (next_terminal_response old.session q terminal) [] ∷ [])) → IfOk r (λ b. ClientSteps shown follows old (items b) new)
+  answered-steps items (Ok v) q terminal old new plain free b n back on = answer-steps q terminal old new (items v) plain free b n back on
+  answered-steps items (Err fault) q terminal old new plain free b n back on = tt
+
+  pub polled-steps : {V F : Type 0} (items : V → List ℕ) (r : Result V F) (old new : AdapterState D) → IfOk r (λ b. Saw follows old (items b) new) → new.session.limits ≡ old.session.limits → IfOk r (λ b. AdapterSteps shown follows old (items b) new)
+  polled-steps items (Ok v) old new saw limits = poll-steps old new (items v) saw limits
+  polled-steps items (Err fault) old new saw limits = tt

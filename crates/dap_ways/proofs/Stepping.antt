@@ -1,8 +1,9 @@
 -- Each step of bytes is a step of messages, or none.
-use Rattle.std.proofs.Common.{◌≡◌, ℕ, List, [], ◌∷◌, ◌++◌, take, drop, map, Bool, true, false, Option, Some, None, refl, sym, ap, ◌∙◌, subst, append_assoc, append-nil}
+use Rattle.std.proofs.Common.{◌≡◌, ℕ, ◌+◌, List, [], ◌∷◌, ◌++◌, take, drop, map, Bool, true, false, Option, Some, None, refl, sym, ap, ◌∙◌, subst, append_assoc, append-nil}
 use Rattle.std.specs.Prelude.{is_some}
 use Rattle.dap_adapter.specs.AdapterState.{AdapterState, state_of}
 use Rattle.dap_adapter.specs.Calls.{Takes, Delivers, Waits, Step as CallStep}
+use Rattle.dap_adapter.specs.StandsFor.{StandsFor}
 use Rattle.dap_check.specs.declared.line.Side.TheVariants.{Client, Adapter}
 use Rattle.dap_client.specs.Calls.{Takes as ClientTakes, Delivers as ClientDelivers, Waits as ClientWaits}
 use Rattle.dap_client.specs.ClientState.{ClientState}
@@ -31,7 +32,7 @@ use Rattle.dap_session.specs.Polling.{polls}
 use Rattle.dap_session.specs.Session.{Session as AdapterSession, fresh_session as fresh_adapter}
 use Rattle.dap_session.specs.SessionState.{SessionState}
 use Rattle.dap_world.specs.Moves.{MovesInOrder}
-use Rattle.dap_world.specs.World.{World, said_by, client_said, adapter_said, Step, Schedule, starts, goes, by_sending, by_answering, by_coming_up, by_coming_down, by_turning, by_polling}
+use Rattle.dap_world.specs.World.{World, Said, said_by, client_said, adapter_said, Step, Schedule, starts, goes, by_sending, by_answering, by_coming_up, by_coming_down, by_turning, by_polling}
 use Rattle.dap_ways.specs.Agreement.{IsOneOfMessages}
 use Rattle.dap_ways.specs.ByteWorld as bytes
 use Rattle.dap_ways.specs.ByteWorld.{ByteWorld, client_wrote, adapter_wrote, IsFreshClient, IsFreshAdapter, ByteStep, ByteSchedule}
