@@ -1,10 +1,9 @@
 -- What closes an end in a world of bytes, and the law.
-use Rattle.std.proofs.Common.{◌≡◌, ℕ, List, [], ◌∷◌, ◌++◌, take, drop, length, map, Option, Some, None, Ok, Err, refl, sym, ap, ◌∙◌, subst, inl, inr}
+use Rattle.std.proofs.Common.{◌≡◌, ℕ, List, ◌∷◌, ◌++◌, length, Err, refl, sym, ap, ◌∙◌, inl, inr}
 use Rattle.std.specs.Prelude.{◌⊎◌}
 use Rattle.std.proofs.lemmas.List.{length-map}
 use Rattle.dap_adapter.specs.AdapterState.{AdapterState, state_of}
 use Rattle.dap_adapter.specs.Calls.{ClosedBy, TakeRefused, TurnRefused, PollRefused}
-use Rattle.dap_check.specs.declared.line.Line.{Line}
 use Rattle.dap_client.specs.Calls.{ClosedBy as ClientClosedBy, TakeRefused as ClientTakeRefused}
 use Rattle.dap_client.specs.Taking.{takes as client_takes}
 use Rattle.dap_client.specs.declared.fault.ClientFault.{ClientFault}
@@ -19,7 +18,6 @@ use Rattle.dap_message.specs.Canon.{canon}
 use Rattle.dap_message.specs.Meaning.{Msg}
 use Rattle.dap_message.specs.declared.message.Message.{Message}
 use Rattle.dap_session.specs.Carried.{Goes}
-use Rattle.dap_session.specs.Taking.{takes}
 use Rattle.dap_session.specs.declared.fault.AdapterFault.{AdapterFault}
 use Rattle.dap_session.specs.declared.fault.AdapterFault.TheVariants as adapter
 use Rattle.dap_world.specs.Agreement.{MeetsNoFault, EachScheduleAgrees}

@@ -77,7 +77,7 @@ module _ {D : Type 0} (shown : D → Shown) (follows : Goes D) where
       subst (λ (z : ByteWorld D). ByteStep shown follows z (adapter_wrote new bytes z)) (with-adapter w old e) step
 
   pub turn-steps : (old new : AdapterState D) (turned : Turned) → TurnGives shown follows old turned new → new.session.limits ≡ old.session.limits → TurnSteps shown follows old turned new
-  turn-steps old new Idle gives limits = gives.1
+  turn-steps old new Idle gives limits = gives
   turn-steps old new (Done bytes) gives limits = handled-steps old new bytes.items gives limits
 
   pub poll-steps : (old new : AdapterState D) (bytes : List ℕ) → Saw follows old bytes new → new.session.limits ≡ old.session.limits → AdapterSteps shown follows old bytes new

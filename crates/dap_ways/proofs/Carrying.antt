@@ -1,7 +1,7 @@
 -- The way to an end: what is written behind it, a piece that makes no frame whole, and one that does.
-use Rattle.std.proofs.Common.{zero, suc, ◌≡◌, ℕ, ◌+◌, List, [], ◌∷◌, ◌++◌, length, map, take, drop, refl, sym, ap, ◌∙◌, subst, append_assoc, append-nil, arith, length-append, filter, Bool, true, false}
+use Rattle.std.proofs.Common.{◌≡◌, ℕ, ◌+◌, List, [], ◌∷◌, ◌++◌, length, map, take, drop, refl, sym, ap, ◌∙◌, subst, append_assoc, append-nil, arith, length-append, filter, Bool, true, false}
 use Rattle.std.specs.Prelude.{if◌then◌else◌}
-use Rattle.std.specs.List.{AllByRecursion, flat_map}
+use Rattle.std.specs.List.{AllByRecursion}
 use Rattle.std.proofs.lemmas.List.{map-append, length-map, take-append-drop}
 use Rattle.dap_check.specs.Lines.{same_side}
 use Rattle.dap_check.specs.declared.line.Side.{Side}
@@ -95,14 +95,16 @@ other-said (m ∷ ms) = other-said ms
 
 -- more that one side said, of each side
 pub by-client : (said : List Said) (ms : List Message) → (messages_by Client (said ++ said_by Client ms) ≡ messages_by Client said ++ ms) × (messages_by Adapter (said ++ said_by Client ms) ≡ messages_by Adapter said)
-by-client said ms =
-    (by-more Client said (said_by Client ms) ∙ ap (λ (z : List Message). messages_by Client said ++ z) (own-said ms).0,
-    by-more Adapter said (said_by Client ms) ∙ (ap (λ (z : List Message). messages_by Adapter said ++ z) (other-said ms).1 ∙ append-nil (messages_by Adapter said)))
+by-client said ms = (
+  by-more Client said (said_by Client ms) ∙ ap (λ (z : List Message). messages_by Client said ++ z) (own-said ms).0,
+  by-more Adapter said (said_by Client ms) ∙ (ap (λ (z : List Message). messages_by Adapter said ++ z) (other-said ms).1 ∙ append-nil (messages_by Adapter said)),
+)
 
 pub by-adapter : (said : List Said) (ms : List Message) → (messages_by Adapter (said ++ said_by Adapter ms) ≡ messages_by Adapter said ++ ms) × (messages_by Client (said ++ said_by Adapter ms) ≡ messages_by Client said)
-by-adapter said ms =
-    (by-more Adapter said (said_by Adapter ms) ∙ ap (λ (z : List Message). messages_by Adapter said ++ z) (own-said ms).1,
-    by-more Client said (said_by Adapter ms) ∙ (ap (λ (z : List Message). messages_by Client said ++ z) (other-said ms).0 ∙ append-nil (messages_by Client said)))
+by-adapter said ms = (
+  by-more Adapter said (said_by Adapter ms) ∙ ap (λ (z : List Message). messages_by Adapter said ++ z) (own-said ms).1,
+  by-more Client said (said_by Adapter ms) ∙ (ap (λ (z : List Message). messages_by Client said ++ z) (other-said ms).0 ∙ append-nil (messages_by Client said)),
+)
 
 -- ---- a way
 
@@ -121,9 +123,9 @@ pub carries-more : (limits : Settings) (i : Intake) (s later : List ℕ) (came m
 carries-more limits i s later came ms more bytes e h c =
     let w = c.way in
     let joined : s ++ (later ++ bytes) ≡ bytes_of ((came ++ ms) ++ more) =
-        sym (append_assoc s later bytes) ∙ (ap (λ (z : List ℕ). z ++ bytes) w.bytes ∙ (ap (λ (z : List ℕ). bytes_of (came ++ ms) ++ z) e ∙ sym (bytes-append (came ++ ms) more))) in
+    sym (append_assoc s later bytes) ∙ (ap (λ (z : List ℕ). z ++ bytes) w.bytes ∙ (ap (λ (z : List ℕ). bytes_of (came ++ ms) ++ z) e ∙ sym (bytes-append (came ++ ms) more))) in
     let way : IsWay limits i s c.bodies c.rest (later ++ bytes) ((came ++ ms) ++ more) =
-        record { bounds = w.bounds; stands = w.stands; reads_back = all-append (ReadsBack limits.body) (came ++ ms) more w.reads_back h; bytes = joined } in
+    record { bounds = w.bounds; stands = w.stands; reads_back = all-append (ReadsBack limits.body) (came ++ ms) more w.reads_back h; bytes = joined } in
     record {
       bodies = c.bodies;
       rest = c.rest;
@@ -183,7 +185,7 @@ module _ (split : EachStreamHasOneSplit) (moves : MovesInOrder) where
       let ready = w.completes.stands s c.bodies c.rest c.way.stands in
       let bodies_are : bodies ≡ c.bodies ++ w.ready.held ∷ [] = same-bodies j.bounds w.ready.bounds (s ++ take n piece) bodies (c.bodies ++ w.ready.held ∷ []) rest [] (b ∙ sym (w.completes.bounds ∙ c.way.bounds)) st.split ready.split in
       let counted : length ordered.first ≡ length (came ++ m ∷ []) =
-          sym (length-map ordered.first canon) ∙ (ap length (sym ordered.came ∙ bodies_are) ∙ (length-append c.bodies (w.ready.held ∷ []) ∙ (ap (λ (k : ℕ). k + 1) (ap length c.whole ∙ length-map came canon) ∙ sym (length-append came (m ∷ []))))) in
+      sym (length-map ordered.first canon) ∙ (ap length (sym ordered.came ∙ bodies_are) ∙ (length-append c.bodies (w.ready.held ∷ []) ∙ (ap (λ (k : ℕ). k + 1) (ap length c.whole ∙ length-map came canon) ∙ sym (length-append came (m ∷ []))))) in
       let fronts = same-cut ordered.first ordered.others (came ++ m ∷ []) next.others (sym ordered.all ∙ all) counted in
       record {
         others = next.others;

@@ -123,11 +123,11 @@ module _ {D : Type 0} (split : EachStreamHasOneSplit) (moves : MovesInOrder) (sh
       let adapter_limits : a.session.limits ≡ limits = ap (λ (z : AdapterSession). z.limits) fa.session in
       let w : ByteWorld D = record { client = c; adapter = a; up = []; down = []; written = [] } in
       let at_client : Reaches (record { client = c.session; adapter = record { session = fresh_adapter limits; debuggee = debuggee }; up = []; down = []; said = [] }) =
-          subst (λ (z : ClientSession). Reaches (record { client = z; adapter = record { session = fresh_adapter limits; debuggee = debuggee }; up = []; down = []; said = [] })) (sym fc.session) starts in
+      subst (λ (z : ClientSession). Reaches (record { client = z; adapter = record { session = fresh_adapter limits; debuggee = debuggee }; up = []; down = []; said = [] })) (sym fc.session) starts in
       let at_session : Reaches (record { client = c.session; adapter = record { session = a.session; debuggee = debuggee }; up = []; down = []; said = [] }) =
-          subst (λ (z : AdapterSession). Reaches (record { client = c.session; adapter = record { session = z; debuggee = debuggee }; up = []; down = []; said = [] })) (sym fa.session) at_client in
+      subst (λ (z : AdapterSession). Reaches (record { client = c.session; adapter = record { session = z; debuggee = debuggee }; up = []; down = []; said = [] })) (sym fa.session) at_client in
       let at_adapter : Reaches (with_messages w [] [] []) =
-          subst (λ (z : D). Reaches (record { client = c.session; adapter = record { session = a.session; debuggee = z }; up = []; down = []; said = [] })) (sym fa.debuggee_is) at_session in
+      subst (λ (z : D). Reaches (record { client = c.session; adapter = record { session = a.session; debuggee = z }; up = []; down = []; said = [] })) (sym fa.debuggee_is) at_session in
       is-one w [] [] [] at_adapter (record {
         adapter_used = [];
         adapter_history = [];

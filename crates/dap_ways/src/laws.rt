@@ -3,7 +3,9 @@ ghost use Rattle.dap_ways.specs.Agreement.{EachByteScheduleAgrees, ReferencesAgr
 
 use dap_debuggee::Debuggee;
 use dap_frame::each_stream_has_one_split;
-use dap_world::laws::{each_schedule_agrees, moves_are_in_order, references_agree_while_stops_last};
+use dap_world::laws::{
+    each_schedule_agrees, moves_are_in_order, references_agree_while_stops_last,
+};
 
 /// In every schedule of the calls of a client and an adapter with equal limits, over any debuggee, where each takes what the other
 /// wrote in any pieces: it is one of the schedules of messages, with the same sessions; what came to an end and what is under way

@@ -1,6 +1,9 @@
 //! The steps of a world of bytes, each as the call that it is: a function makes it, and its contract says that it is a step,
-//! whatever is on the ways. What else is to be known of a call stands with the call.
-ghost use Rattle.std.specs.Prelude.{◌≡◌, IfOk, OnErr, IsTrue};
+//! whatever is on the ways, or why it is refused. What else is to be known of a call stands with the call.
+ghost use Rattle.std.specs.Prelude.{◌≡◌, IfErr, IfOk, OnErr, IsTrue, None};
+ghost use Rattle.dap_adapter.specs.AdapterState.{state_of};
+ghost use Rattle.dap_adapter.specs.Calls.{PollRefused, TakeRefused, TurnRefused};
+ghost use Rattle.dap_client.specs.Calls.{NotAnswered, NotSent, TakeRefused as ClientTakeRefused};
 ghost use Rattle.dap_client.specs.TerminalResponse.{is_plain_terminal};
 ghost use Rattle.dap_debuggee.specs.declared.answers.State.{State};
 ghost use Rattle.dap_message.specs.PlainCall.{is_plain_call};
@@ -34,13 +37,10 @@ pub fn open_adapter<D: Debuggee + Drop>(
 }
 
 /// [`Client::send`]. Where it is refused nothing has changed.
-pub fn send<D: Debuggee>(
-    client: &mut Client,
-    alloc: Global,
-    call: &Call,
-) -> Result<Sent, SendFault>
+pub fn send<D: Debuggee>(client: &mut Client, alloc: Global, call: &Call) -> Result<Sent, SendFault>
     requires plain { IsTrue (is_plain_call call.now) }
     ensures step { IfOk result (λ sent. ClientSteps D.shown D.follows client.old sent.bytes.items client.new) }
+    ensures refused { IfErr result (λ fault. NotSent fault call.now client.old) }
     ensures unchanged { OnErr result (client.new ≡ client.old) }
 {
     client.send(alloc, call)
@@ -55,6 +55,7 @@ pub fn answer<D: Debuggee>(
 ) -> Result<Vec<u8>, AnswerFault>
     requires plain { IsTrue (is_plain_terminal terminal) }
     ensures step { IfOk result (λ bytes. ClientSteps D.shown D.follows client.old bytes.items client.new) }
+    ensures refused { IfErr result (λ fault. NotAnswered fault request_seq client.old) }
     ensures unchanged { OnErr result (client.new ≡ client.old) }
 {
     client.answer(alloc, request_seq, terminal)
@@ -67,6 +68,7 @@ pub fn take_down<D: Debuggee>(
     piece: &[u8],
 ) -> Result<Got, ClientFault>
     ensures step { IfOk result (λ got. ClientStepsOver D.shown D.follows client.old piece.now got.used got.bytes.items client.new) }
+    ensures refused { IfErr result (λ fault. client.old.fault ≡ None → ClientTakeRefused client.old.intake client.old.session piece.now fault) }
 {
     client.take(alloc, piece)
 }
@@ -78,6 +80,7 @@ pub fn take_up<D: Debuggee + Drop>(
     piece: &[u8],
 ) -> Result<Taken, AdapterFault>
     ensures step { IfOk result (λ taken. AdapterStepsOver D.shown D.follows adapter.old piece.now taken.used taken.bytes.items adapter.new) }
+    ensures refused { IfErr result (λ fault. adapter.old.fault ≡ None → TakeRefused adapter.old.intake (state_of adapter.old) piece.now fault adapter.new.debuggee) }
 {
     adapter.take(alloc, piece)
 }
@@ -88,6 +91,7 @@ pub fn turn<D: Debuggee + Drop>(
     alloc: Global,
 ) -> Result<Turned, AdapterFault>
     ensures step { IfOk result (λ turned. TurnSteps D.shown D.follows adapter.old turned adapter.new) }
+    ensures refused { IfErr result (λ fault. adapter.old.fault ≡ None → TurnRefused D.shown adapter.old fault adapter.new) }
 {
     adapter.turn(alloc)
 }
@@ -98,6 +102,7 @@ pub fn poll<D: Debuggee + Drop>(
     alloc: Global,
 ) -> Result<Vec<u8>, AdapterFault>
     ensures step { IfOk result (λ bytes. AdapterSteps D.shown D.follows adapter.old bytes.items adapter.new) }
+    ensures refused { IfErr result (λ fault. adapter.old.fault ≡ None → PollRefused D.follows adapter.old fault adapter.new) }
 {
     adapter.poll(alloc)
 }

@@ -1,6 +1,6 @@
 -- Each request in one place with its arguments: what a number was sent as stays the same wherever it is, so what is known by number and command is known of all of it.
 use Rattle.std.proofs.Common.{◌≡◌, ℕ, ◌+◌, ◌≤◌, List, [], ◌∷◌, ◌++◌, length, map, filter, Bool, true, false, Option, Some, None, Result, Ok, Err, refl, sym, ap, ◌∙◌, subst, arith, append-nil}
-use Rattle.std.specs.Prelude.{◌==◌, not, nat_le, bytes_eq, option_to_list, if◌then◌else◌}
+use Rattle.std.specs.Prelude.{◌==◌, not, bytes_eq, option_to_list, if◌then◌else◌}
 use Rattle.std.specs.List.{AllByRecursion}
 use Rattle.std.proofs.lemmas.Bool.Decides.{nat_tests}
 use Rattle.dap_client.specs.Sending.{request_of, next_message, after_send}
@@ -11,26 +11,24 @@ use Rattle.dap_client.specs.declared.fault.ClientFault.{ClientFault}
 use Rattle.dap_client.specs.declared.fault.ClientFault.TheVariants.{CommandMismatch, ReferenceLimit}
 use Rattle.dap_client.specs.declared.terminal.Terminal.{Terminal}
 use Rattle.dap_client.specs.declared.terminal.Terminal.TheVariants.{Started, Refused}
-use Rattle.dap_client.specs.Seen.{Seen, after_event}
+use Rattle.dap_client.specs.Seen.{after_event}
 use Rattle.dap_client.specs.Changes.{signal_named}
 use Rattle.dap_debuggee.specs.Shown.{Shown}
 use Rattle.dap_frame.specs.Settings.{Settings, AreInRange}
 use Rattle.dap_history.specs.History.{Asked, Answered, request_as, response_as, without_answered, has_request_seq}
 use Rattle.dap_history.specs.Requests.{asked_of, asks}
-use Rattle.dap_message.specs.Terminal.{run_in_terminal}
 use Rattle.dap_message.specs.Types.Call.{Call}
 use Rattle.dap_message.specs.declared.message.Kind.{Kind}
 use Rattle.dap_message.specs.declared.message.Kind.TheVariants.{Request, Response, Event, Other}
 use Rattle.dap_message.specs.declared.message.Message.{Message}
-use Rattle.dap_outbox.specs.Draft.{Draft, reply, emit, ask, success, failure, message_of, numbered_messages, own_request}
+use Rattle.dap_outbox.specs.Draft.{Draft, reply, emit, ask, success, failure, numbered_messages, own_request}
 use Rattle.dap_session.specs.Answering.{AnswersEach, GoesWell, answered_by, open_after, with_seq}
 use Rattle.dap_session.specs.Carried.{Goes}
 use Rattle.dap_session.specs.Laws.{CanMake, can_make}
-use Rattle.dap_session.specs.Plan.{Made, Plan}
+use Rattle.dap_session.specs.Plan.{Made}
 use Rattle.dap_session.specs.Polling.{polls}
 use Rattle.dap_session.specs.Session.{Session, own_requests}
-use Rattle.dap_session.specs.SessionState.{SessionStep}
-use Rattle.dap_tables.specs.Outstanding.{Kept, kept_unparked, without, entry_with}
+use Rattle.dap_tables.specs.Outstanding.{Kept, kept_unparked, entry_with}
 use Rattle.dap_tables.specs.declared.entry.Entry.{Entry}
 use Rattle.dap_world.specs.Agreement.{requests_among, responses_among, answer_to, count, AreInOnePlace}
 use Rattle.dap_world.specs.World.{World, client_said, fresh_world, Step, by_sending, by_answering, by_coming_up, by_coming_down, by_turning, by_polling, Sends, Answers, ComesUp, ComesDown, Turns, Polls, Schedule, starts, goes}

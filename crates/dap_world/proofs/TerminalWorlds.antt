@@ -1,5 +1,5 @@
 -- Worked schedules in which the adapter asks for a terminal, each shown by computation: what is written, in which place its request is, and what a late answer does.
-use Rattle.std.proofs.Common.{◌≡◌, List, [], ◌∷◌, length, true, false, None, Err, codes, refl}
+use Rattle.std.proofs.Common.{◌≡◌, [], ◌∷◌, length, true, false, None, Err, codes, refl}
 use Rattle.std.specs.Fmt.{digits}
 use Rattle.std.specs.Str.{is_utf8, chars}
 use Rattle.json.specs.Print.{escape_byte}

@@ -1,5 +1,5 @@
 -- Worked schedules, each shown by computation: what is written, in which place each request is, and where a step is none.
-use Rattle.std.proofs.Common.{◌≡◌, ℕ, List, [], ◌∷◌, length, Bool, true, None, Some, Err, codes, refl}
+use Rattle.std.proofs.Common.{◌≡◌, ℕ, [], length, true, None, Some, Err, refl}
 use Rattle.std.specs.Fmt.{digits}
 use Rattle.std.specs.Str.{is_utf8, chars}
 use Rattle.json.specs.Print.{escape_byte}
