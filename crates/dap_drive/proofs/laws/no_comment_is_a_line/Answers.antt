@@ -1,5 +1,5 @@
-use Rattle.dap_drive.proofs.Skipped.{no_order_is_skipped}
-use Rattle.dap_drive.proofs.laws.no_order_is_skipped.Goals as goal
+use Rattle.dap_drive.proofs.NoComments.{no_comments}
+use Rattle.dap_drive.proofs.laws.no_comment_is_a_line.Goals as goal
 
 pub returns : goal.returns
-returns c = no_order_is_skipped
+returns c = no_comments
