@@ -1,9 +1,17 @@
--- What shows the same frames or sources keeps those that were given: for the laws of a debuggee of which nothing comes later.
-use Rattle.std.specs.Prelude.{◌≡◌, List, Option, Some}
+-- Of a debuggee of which nothing comes later: what changes its frames and its sources. What shows the same ones keeps those that were given, as the laws of every debuggee ask.
+use Rattle.std.specs.Prelude.{◌≡◌, List, Option, Some, IsTrue}
 use Rattle.std.specs.List.{slice_get}
 use Rattle.std.proofs.Common.{ap, ◌∙◌}
-use Rattle.dap_debuggee.specs.Shown.{Shown}
-use Rattle.dap_debuggee.specs.Laws.{Stays, FramesStay, SourcesStay, SameFrames, SameSources}
+use Rattle.dap_debuggee.specs.Shown.{Shown, Act, Reply}
+use Rattle.dap_debuggee.specs.Laws.{Follows, Stays, FramesStay, SourcesStay, SameFrames, SameSources, keeps_frames}
+
+-- frames, scopes and variables change only by a start, a resume, a poll that gives a stop, a going on or an exit, the end, and a value that is set
+abbrev pub FramesAreConstant : {View : Type 0} → (View → Shown) → Follows View → Type 0
+FramesAreConstant {View} shown follows = (v w : View) (a : Act) (r : Reply) → follows v a r w → IsTrue (keeps_frames a r) → SameFrames (shown v) (shown w)
+
+-- sources never change
+abbrev pub SourcesAreConstant : {View : Type 0} → (View → Shown) → Follows View → Type 0
+SourcesAreConstant {View} shown follows = (v w : View) (a : Act) (r : Reply) → follows v a r w → SameSources (shown v) (shown w)
 
 stays : {A : Type 0} (before after : Option A) → after ≡ before → Stays before after
 stays before after same x given = same ∙ given

@@ -364,7 +364,7 @@ moves-played v w a r f = ap (λ (p : Played). p.state) f.view ∙ state_row v _ 
 asked_same : (v u : Played) (a : Act) (r : Reply) → SameFrames (shown_of v) (shown_of u) → SameFrames (shown_of v) (shown_of (with_ask a r u))
 asked_same v u a r same = record { frames = same.frames; scopes = same.scopes; children = same.children }
 
-same_frames-played : (v w : Played) (a : Act) (r : Reply) → FollowsPlayed v a r w → IsTrue (keeps_frames a r) → SameFrames (shown_of v) (shown_of w)
+pub same_frames-played : (v w : Played) (a : Act) (r : Reply) → FollowsPlayed v a r w → IsTrue (keeps_frames a r) → SameFrames (shown_of v) (shown_of w)
 same_frames-played v w a r f keeps = subst (λ p. SameFrames (shown_of v) (shown_of p)) (sym f.view) (asked_same v (act_on a v).1 a r (frames_row v (act_on a v).1 a r (row v w a r f) keeps))
 
 pub keeps_frames-played : KeepsFrames shown_of FollowsPlayed

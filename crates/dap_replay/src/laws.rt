@@ -1,5 +1,6 @@
 //! Laws of the definitions, each on a function with nothing to run.
 ghost use Rattle.dap_debuggee.specs.Laws.{StopsLast};
+ghost use Rattle.dap_debuggee.specs.StayLaws.{FramesAreConstant, SourcesAreConstant};
 ghost use Rattle.dap_replay.specs.Played.{shown_of, FollowsPlayed};
 ghost use Rattle.dap_replay.specs.Polls.{PiecesAreTheOutput, PollsGiveThePieces, HeldGivesNothing};
 
@@ -21,4 +22,15 @@ pub fn held_gives_nothing()
 /// A stop of a recorded debuggee lasts until it is asked to go on or to end.
 pub fn recorded_stops_last()
     ensures { StopsLast shown_of FollowsPlayed }
+{}
+
+/// Frames, scopes and variables of a recorded debuggee change only by a start, a resume, a poll that gives a stop, a going on or an
+/// exit, the end, and a value that is set: not even what was refused is given later.
+pub fn recorded_frames_are_constant()
+    ensures { FramesAreConstant shown_of FollowsPlayed }
+{}
+
+/// The sources of a recorded debuggee never change, and neither do their texts.
+pub fn recorded_sources_are_constant()
+    ensures { SourcesAreConstant shown_of FollowsPlayed }
 {}

@@ -9,7 +9,7 @@ use Rattle.dap_message.specs.Types.Call.{Call}
 use Rattle.dap_message.specs.Types.Call.TheVariants as call
 use Rattle.dap_message.specs.declared.message.Kind.TheVariants.{Other}
 use Rattle.dap_message.specs.declared.message.Message.{Message}
-use Rattle.dap_debuggee.specs.Shown.{Shown, Act, Reply}
+use Rattle.dap_debuggee.specs.Shown.{Shown, Act, Reply, refused}
 use Rattle.dap_check.specs.declared.line.Side.{Side}
 use Rattle.dap_check.specs.declared.line.Side.TheVariants.{Client, Adapter}
 use Rattle.dap_session.specs.declared.fault.AdapterFault.{AdapterFault}
@@ -42,9 +42,6 @@ first_message (m ∷ later) = m
 abbrev pub Replies : Type 0 → Type 0
 Replies D = Act → D → Reply × D
 
-abbrev pub FollowsBy : {D : Type 0} → Replies D → Goes D
-FollowsBy replies v act r w = (r ≡ (replies act v).0) × (w ≡ (replies act v).1)
-
 abbrev pub made_by : {D : Type 0} → Replies D → Plan → D → Made
 made_by replies (at_once made) v = made
 made_by replies (asking act makes) v = makes (replies act v).0
@@ -52,10 +49,6 @@ made_by replies (asking act makes) v = makes (replies act v).0
 abbrev pub left_by : {D : Type 0} → Replies D → Plan → D → D
 left_by replies (at_once made) v = v
 left_by replies (asking act makes) v = (replies act v).1
-
-carried : {D : Type 0} (replies : Replies D) (plan : Plan) (v : D) → CarriedOut (FollowsBy replies) plan v (made_by replies plan v) (left_by replies plan v)
-carried replies (at_once made) v = (refl, refl)
-carried replies (asking act makes) v = ((replies act v).0, (refl, refl), refl)
 
 -- ---- one step each; where none can be made, the world stays
 
@@ -190,6 +183,7 @@ module _ {D : Type 0} (shown : D → Shown) (follows : Goes D) (replies : Replie
   -- of a debuggee that goes on where this test of the plan holds
   pub record Steps (may : Plan → D → Bool) : Type 0 where
     pub sends : (c : Call) (w : World D) → IsTrue (is_plain_call c) → first_of refusals_in_order c false w.client ≡ None → w.client.limits ≡ limits → LeadsBy w → LeadsBy (sent c w)
+    pub answers : (q : ℕ) (terminal : Terminal) (w : World D) → IsTrue (is_plain_terminal terminal) → first_terminal_refusal q false w.client ≡ None → w.client.limits ≡ limits → LeadsBy w → LeadsBy (answered q terminal w)
     pub comes-up : (w : World D) (m : Message) (later : List Message) (plan : Plan) → w.up ≡ m ∷ later → takes m w.adapter.session ≡ Ok plan → may plan w.adapter.debuggee ≡ true → w.adapter.session.limits ≡ limits → LeadsBy w → LeadsBy (up replies w)
     pub comes-down : (w : World D) (m : Message) (later : List Message) (made : ClientMade) → w.down ≡ m ∷ later → client_takes m w.client ≡ Ok made → w.client.limits ≡ limits → LeadsBy w → LeadsBy (down w)
     pub turns-once : (w : World D) (plan : Plan) → turns (shown w.adapter.debuggee) w.adapter.session ≡ Ok (Some plan) → may plan w.adapter.debuggee ≡ true → w.adapter.session.limits ≡ limits → LeadsBy w → LeadsBy (turned shown replies w)
@@ -198,31 +192,26 @@ module _ {D : Type 0} (shown : D → Shown) (follows : Goes D) (replies : Replie
   pub steps_where : (may : Plan → D → Bool) → ((plan : Plan) (v : D) → may plan v ≡ true → GoesOn plan v) → Steps may
   steps_where may on = record {
     sends = sends_by;
+    answers = answers_by;
     comes-up = λ w m later plan first taken h. comes_up_by w m later plan first taken (on plan w.adapter.debuggee h);
     comes-down = comes_down_by;
     turns-once = λ w plan is h. turns_once_by w plan is (on plan w.adapter.debuggee h);
     polls-once = λ w h. polls_once_by w (on (polls w.adapter.session) w.adapter.debuggee h);
   }
 
--- of a debuggee that goes on just by what it replies
-module _ {D : Type 0} (shown : D → Shown) (replies : Replies D) (limits : Settings) (d : D) where
-  abbrev pub Leads : World D → Type 0
-  Leads w = LeadsBy shown (FollowsBy replies) replies limits d w
+-- ---- schedules in which the debuggee is asked nothing, whatever it would answer
 
-  pub sends : (c : Call) (w : World D) → IsTrue (is_plain_call c) → first_of refusals_in_order c false w.client ≡ None → w.client.limits ≡ limits → Leads w → Leads (sent c w)
-  sends = sends_by shown (FollowsBy replies) replies limits d
+abbrev pub asks_nothing : Plan → Bool
+asks_nothing (at_once made) = true
+asks_nothing (asking act makes) = false
 
-  pub answers : (q : ℕ) (terminal : Terminal) (w : World D) → IsTrue (is_plain_terminal terminal) → first_terminal_refusal q false w.client ≡ None → w.client.limits ≡ limits → Leads w → Leads (answered q terminal w)
-  answers = answers_by shown (FollowsBy replies) replies limits d
+abbrev pub unasked : {D : Type 0} → Replies D
+unasked act v = (refused, v)
 
-  pub comes_up : (w : World D) (m : Message) (later : List Message) (plan : Plan) → w.up ≡ m ∷ later → takes m w.adapter.session ≡ Ok plan → w.adapter.session.limits ≡ limits → Leads w → Leads (up replies w)
-  comes_up w m later plan first taken = comes_up_by shown (FollowsBy replies) replies limits d w m later plan first taken (carried replies plan w.adapter.debuggee)
+module _ {D : Type 0} (shown : D → Shown) (follows : Goes D) (limits : Settings) (d : D) where
+  goes-on : (plan : Plan) (v : D) → asks_nothing plan ≡ true → CarriedOut follows plan v (made_by unasked plan v) (left_by unasked plan v)
+  goes-on (at_once made) v h = (refl, refl)
+  goes-on (asking act makes) v h = cc
 
-  pub comes_down : (w : World D) (m : Message) (later : List Message) (made : ClientMade) → w.down ≡ m ∷ later → client_takes m w.client ≡ Ok made → w.client.limits ≡ limits → Leads w → Leads (down w)
-  comes_down = comes_down_by shown (FollowsBy replies) replies limits d
-
-  pub turns_once : (w : World D) (plan : Plan) → turns (shown w.adapter.debuggee) w.adapter.session ≡ Ok (Some plan) → w.adapter.session.limits ≡ limits → Leads w → Leads (turned shown replies w)
-  turns_once w plan is = turns_once_by shown (FollowsBy replies) replies limits d w plan is (carried replies plan w.adapter.debuggee)
-
-  pub polls_once : (w : World D) → (seat_after replies (polls w.adapter.session) w).session.used ≤ w.adapter.session.limits.seq → w.adapter.session.limits ≡ limits → Leads w → Leads (polled replies w)
-  polls_once w = polls_once_by shown (FollowsBy replies) replies limits d w (carried replies (polls w.adapter.session) w.adapter.debuggee)
+  pub steps_unasked : Steps shown follows unasked limits d (λ plan v. asks_nothing plan)
+  steps_unasked = steps_where shown follows unasked limits d (λ plan v. asks_nothing plan) goes-on

@@ -1,5 +1,5 @@
 -- Worked schedules in which the adapter asks for a terminal, each shown by computation: what is written, in which place its request is, and what a late answer does.
-use Rattle.std.proofs.Common.{◌≡◌, ℕ, List, [], ◌∷◌, length, map, true, false, None, Err, codes, refl}
+use Rattle.std.proofs.Common.{◌≡◌, List, [], ◌∷◌, length, true, false, None, Err, codes, refl}
 use Rattle.std.specs.Fmt.{digits}
 use Rattle.std.specs.Str.{is_utf8, chars}
 use Rattle.json.specs.Print.{escape_byte}
@@ -9,22 +9,27 @@ use Rattle.dap_frame.specs.Settings.{usual_settings}
 use Rattle.dap_message.specs.Call.{initialize_of, cancel_of}
 use Rattle.dap_message.specs.CallTree.{initialize_members}
 use Rattle.dap_message.specs.Canon.{canon, tree_of, request_members, response_members, event_members}
+use Rattle.dap_message.specs.Laws.{WrittenIsReadAgain}
 use Rattle.dap_message.specs.Terminal.{terminal_of, terminal_members}
 use Rattle.dap_message.specs.Types.Call.{Call}
 use Rattle.dap_message.specs.Types.Call.TheVariants as call
 use Rattle.dap_debuggee.specs.Shown.{Shown}
+use Rattle.dap_history.specs.History.{Asked as Request}
+use Rattle.dap_history.specs.Requests.{asks}
+use Rattle.dap_outbox.specs.Draft.{own_request}
 use Rattle.dap_session.specs.declared.fault.AdapterFault.TheVariants.{Unmatched}
 use Rattle.dap_decision.specs.declared.phase.Phase.TheVariants.{Asked, Configured, Ended}
 use Rattle.dap_query.specs.Bodies.{query_result}
+use Rattle.dap_session.specs.Carried.{Goes}
 use Rattle.dap_session.specs.Handling.{plan_for}
+use Rattle.dap_session.specs.Session.{own_requests}
 use Rattle.dap_session.specs.Taking.{takes}
 use Rattle.dap_client.specs.declared.terminal.Terminal.TheVariants.{Refused}
-use Rattle.dap_world.specs.Agreement.{Name, names_of, own_names, asked_in, answered_in}
+use Rattle.dap_world.specs.Agreement.{requests_among, responses_among, answer_to}
+use Rattle.dap_world.specs.Worked.{refused_texts, texts_said, IsWritten}
 use Rattle.dap_world.specs.World.{World, messages_of, fresh_world, starts}
-use Rattle.dap_world.proofs.PlayedWorlds.{first_message, Replies, sent, answered, up, down, turned, Leads, sends, answers, comes_up, comes_down, turns_once}
-
-abbrev texts : {D : Type 0} → World D → List (List ℕ)
-texts w = map (λ m. canon m) (messages_of w.said)
+use Rattle.dap_world.proofs.PlayedWorlds.{first_message, sent, answered, up, down, turned, unasked, asks_nothing, LeadsBy, Steps, steps_unasked}
+use Rattle.dap_world.proofs.ReadAgain.{all_read_again, all-read-again}
 
 abbrev announcing : Call
 announcing = call.Initialize (record { adapter_id = codes "rec"; lines_start_at_1 = true; columns_start_at_1 = true; supports_variable_paging = false; supports_run_in_terminal_request = true })
@@ -32,87 +37,136 @@ announcing = call.Initialize (record { adapter_id = codes "rec"; lines_start_at_
 abbrev launch : Call
 launch = call.Launch (json_of (codes "{\"console\":\"terminal\"}"))
 
--- ---- the terminal is asked for, and refused, whatever the debuggee shows
+-- ---- the terminal is asked for, and refused, whatever is debugged
 
-module _ {D : Type 0} (shown : D → Shown) (replies : Replies D) (d : D) where
+module _ {D : Type 0} (shown : D → Shown) (follows : Goes D) (d : D) where
+  steps : Steps shown follows unasked usual_settings d (λ plan v. asks_nothing plan)
+  steps = steps_unasked shown follows usual_settings d
+
+  open steps use {sends, answers, comes-up, comes-down, turns-once}
+
+  abbrev Leads : World D → Type 0
+  Leads w = LeadsBy shown follows unasked usual_settings d w
+
+  abbrev w0 : World D
+  w0 = fresh_world usual_settings d
+
+  abbrev w1 : World D
+  w1 = sent announcing w0
+
+  abbrev w2 : World D
+  w2 = up unasked w1
+
+  abbrev w3 : World D
+  w3 = turned shown unasked w2
+
+  abbrev w4 : World D
+  w4 = down w3
+
   abbrev w5 : World D
-  w5 = down (down (turned shown replies (up replies (sent announcing (fresh_world usual_settings d)))))
+  w5 = down w4
+
+  abbrev w6 : World D
+  w6 = sent launch w5
 
   abbrev w7 : World D
-  w7 = up replies (sent launch w5)
+  w7 = up unasked w6
+
+  abbrev w8 : World D
+  w8 = sent call.ConfigurationDone w7
 
   abbrev w9 : World D
-  w9 = up replies (sent call.ConfigurationDone w7)
+  w9 = up unasked w8
 
   -- the launch is parked, then the terminal is asked for
+  abbrev w10 : World D
+  w10 = turned shown unasked w9
+
   abbrev w11 : World D
-  w11 = turned shown replies (turned shown replies w9)
+  w11 = turned shown unasked w10
+
+  abbrev w12 : World D
+  w12 = down w11
 
   abbrev w13 : World D
-  w13 = down (down w11)
+  w13 = down w12
 
   abbrev w14 : World D
   w14 = answered 4 Refused w13
 
-  abbrev w16 : World D
-  w16 = down (up replies w14)
+  abbrev w15 : World D
+  w15 = up unasked w14
 
-  nine_lines : texts w16 ≡
-      codes "{\"arguments\":{\"adapterID\":\"rec\",\"supportsRunInTerminalRequest\":true},\"command\":\"initialize\",\"seq\":1,\"type\":\"request\"}"
-      ∷ codes "{\"body\":{\"supportsCancelRequest\":true,\"supportsConfigurationDoneRequest\":true,\"supportsLoadedSourcesRequest\":true,\"supportsSetVariable\":true,\"supportsStepBack\":true,\"supportsTerminateRequest\":true},\"command\":\"initialize\",\"request_seq\":1,\"seq\":1,\"success\":true,\"type\":\"response\"}"
-      ∷ codes "{\"event\":\"initialized\",\"seq\":2,\"type\":\"event\"}"
-      ∷ codes "{\"arguments\":{\"console\":\"terminal\"},\"command\":\"launch\",\"seq\":2,\"type\":\"request\"}"
-      ∷ codes "{\"command\":\"configurationDone\",\"seq\":3,\"type\":\"request\"}"
-      ∷ codes "{\"command\":\"configurationDone\",\"request_seq\":3,\"seq\":3,\"success\":true,\"type\":\"response\"}"
-      ∷ codes "{\"arguments\":{\"args\":[\"recorded\"],\"cwd\":\"/\",\"kind\":\"integrated\",\"title\":\"recorded\"},\"command\":\"runInTerminal\",\"seq\":4,\"type\":\"request\"}"
-      ∷ codes "{\"body\":{\"error\":{\"format\":\"The terminal refused.\",\"id\":1018}},\"command\":\"runInTerminal\",\"message\":\"terminalRefused\",\"request_seq\":4,\"seq\":4,\"success\":false,\"type\":\"response\"}"
-      ∷ codes "{\"body\":{\"error\":{\"format\":\"The debuggee refused.\",\"id\":1013}},\"command\":\"launch\",\"message\":\"debuggee\",\"request_seq\":2,\"seq\":5,\"success\":false,\"type\":\"response\"}"
-      ∷ []
-  unfolding canon tree_of request_members response_members event_members initialize_members escape_byte digits plan_for initialize_of cancel_of query_result json_of is_utf8 chars serde_json_on_literals terminal_of terminal_members
-  nine_lines = refl
+  abbrev w16 : World D
+  w16 = down w15
 
   -- the request is in one place: under way down, kept by the client, and answered under way up
-  abbrev request : Name
-  request = record { seq = 4; command = codes "runInTerminal" }
+  abbrev request : Request
+  request = own_request 4
 
   each_place :
-      (w11.adapter.session.phase ≡ Asked) × (own_names w11.adapter.session.asked ≡ request ∷ []) × (asked_in w11.down ≡ request ∷ []) × (names_of w13.client.incoming ≡ request ∷ []) × (asked_in w13.down ≡ [])
-      × (w14.client.incoming ≡ []) × (answered_in w14.up ≡ request ∷ []) × (w16.adapter.session.asked ≡ None) × (w16.adapter.session.phase ≡ Configured) × (w16.client.outstanding ≡ [])
+      (w11.adapter.session.phase ≡ Asked) × (own_requests w11.adapter.session.asked ≡ request ∷ []) × (requests_among w11.down ≡ request ∷ []) × (asks w13.client.incoming ≡ request ∷ []) × (requests_among w13.down ≡ [])
+      × (w14.client.incoming ≡ []) × (responses_among w14.up ≡ answer_to request ∷ []) × (w16.adapter.session.asked ≡ None) × (w16.adapter.session.phase ≡ Configured) × (w16.client.outstanding ≡ [])
   unfolding canon tree_of request_members response_members event_members initialize_members escape_byte digits plan_for initialize_of cancel_of query_result json_of is_utf8 chars serde_json_on_literals terminal_of terminal_members
   each_place = (refl, refl, refl, refl, refl, refl, refl, refl, refl, refl)
 
-  whole_schedule : Leads shown replies usual_settings d w16
+  refused_so : Leads w16
   unfolding canon tree_of request_members response_members event_members initialize_members escape_byte digits plan_for initialize_of cancel_of query_result json_of is_utf8 chars serde_json_on_literals terminal_of terminal_members
-  whole_schedule =
-      comes_down shown replies usual_settings d (up replies w14) _ _ _ refl refl refl
-      (comes_up shown replies usual_settings d w14 _ _ _ refl refl refl
-      (answers shown replies usual_settings d 4 Refused w13 refl refl refl
-      (comes_down shown replies usual_settings d (down w11) _ _ _ refl refl refl
-      (comes_down shown replies usual_settings d w11 _ _ _ refl refl refl
-      (turns_once shown replies usual_settings d (turned shown replies w9) _ refl refl
-      (turns_once shown replies usual_settings d w9 _ refl refl
-      (comes_up shown replies usual_settings d (sent call.ConfigurationDone w7) _ _ _ refl refl refl
-      (sends shown replies usual_settings d call.ConfigurationDone w7 refl refl refl
-      (comes_up shown replies usual_settings d (sent launch w5) _ _ _ refl refl refl
-      (sends shown replies usual_settings d launch w5 refl refl refl
-      (comes_down shown replies usual_settings d (down (turned shown replies (up replies (sent announcing (fresh_world usual_settings d))))) _ _ _ refl refl refl
-      (comes_down shown replies usual_settings d (turned shown replies (up replies (sent announcing (fresh_world usual_settings d)))) _ _ _ refl refl refl
-      (turns_once shown replies usual_settings d (up replies (sent announcing (fresh_world usual_settings d))) _ refl refl
-      (comes_up shown replies usual_settings d (sent announcing (fresh_world usual_settings d)) _ _ _ refl refl refl
-      (sends shown replies usual_settings d announcing (fresh_world usual_settings d) refl refl refl (λ h. starts))))))))))))))))
+  refused_so =
+      comes-down w15 _ _ _ refl refl refl
+      (comes-up w14 _ _ _ refl refl refl refl
+      (answers 4 Refused w13 refl refl refl
+      (comes-down w12 _ _ _ refl refl refl
+      (comes-down w11 _ _ _ refl refl refl
+      (turns-once w10 _ refl refl refl
+      (turns-once w9 _ refl refl refl
+      (comes-up w8 _ _ _ refl refl refl refl
+      (sends call.ConfigurationDone w7 refl refl refl
+      (comes-up w6 _ _ _ refl refl refl refl
+      (sends launch w5 refl refl refl
+      (comes-down w4 _ _ _ refl refl refl
+      (comes-down w3 _ _ _ refl refl refl
+      (turns-once w2 _ refl refl refl
+      (comes-up w1 _ _ _ refl refl refl refl
+      (sends announcing w0 refl refl refl (λ h. starts))))))))))))))))
+
+  refused_read : all_read_again usual_settings.body (messages_of w16.said) ≡ true
+  unfolding canon tree_of request_members response_members event_members initialize_members escape_byte digits plan_for initialize_of cancel_of query_result json_of is_utf8 chars serde_json_on_literals terminal_of terminal_members
+  refused_read = refl
+
+  refused_lines : texts_said w16 ≡ refused_texts
+  unfolding canon tree_of request_members response_members event_members initialize_members escape_byte digits plan_for initialize_of cancel_of query_result json_of is_utf8 chars serde_json_on_literals terminal_of terminal_members
+  refused_lines = refl
+
+  refused_up : w16.up ≡ []
+  unfolding canon tree_of request_members response_members event_members initialize_members escape_byte digits plan_for initialize_of cancel_of query_result json_of is_utf8 chars serde_json_on_literals terminal_of terminal_members
+  refused_up = refl
+
+  refused_down : w16.down ≡ []
+  unfolding canon tree_of request_members response_members event_members initialize_members escape_byte digits plan_for initialize_of cancel_of query_result json_of is_utf8 chars serde_json_on_literals terminal_of terminal_members
+  refused_down = refl
+
+  pub terminal-refused : WrittenIsReadAgain → IsWritten shown follows usual_settings d refused_texts
+  terminal-refused law = record {
+    world = w16;
+    schedule = refused_so (all-read-again law usual_settings.body (messages_of w16.said) refused_read);
+    written = refused_lines;
+    none_up = refused_up;
+    none_down = refused_down;
+  }
 
   -- a disconnect while the terminal is waited for: the response comes late, has no effect, and a second one would answer nothing
   abbrev x17 : World D
-  x17 = turned shown replies (up replies (sent call.Disconnect w13))
+  x17 = turned shown unasked (up unasked (sent call.Disconnect w13))
 
   abbrev x18 : World D
   x18 = answered 4 Refused x17
 
   abbrev x19 : World D
-  x19 = up replies x18
+  x19 = up unasked x18
 
   comes_late :
-      (x17.adapter.session.phase ≡ Ended) × (length (own_names x17.adapter.session.asked) ≡ 1) × (length (answered_in x17.down) ≡ 2)
+      (x17.adapter.session.phase ≡ Ended) × (length (own_requests x17.adapter.session.asked) ≡ 1) × (length (responses_among x17.down) ≡ 2)
       × (x19.adapter.session.asked ≡ None) × (x19.adapter.session.used ≡ 6) × (length x19.down ≡ 2) × (takes (first_message x18.up) x19.adapter.session ≡ Err (Unmatched 4))
   unfolding canon tree_of request_members response_members event_members initialize_members escape_byte digits plan_for initialize_of cancel_of query_result json_of is_utf8 chars serde_json_on_literals terminal_of terminal_members
   comes_late = (refl, refl, refl, refl, refl, refl, refl)

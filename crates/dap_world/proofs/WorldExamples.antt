@@ -1,5 +1,5 @@
 -- Worked schedules, each shown by computation: what is written, in which place each request is, and where a step is none.
-use Rattle.std.proofs.Common.{◌≡◌, ℕ, List, [], ◌∷◌, length, map, Some, None, Err, codes, pos, refl}
+use Rattle.std.proofs.Common.{◌≡◌, ℕ, List, [], ◌∷◌, length, Bool, true, None, Some, Err, codes, refl}
 use Rattle.std.specs.Fmt.{digits}
 use Rattle.std.specs.Str.{is_utf8, chars}
 use Rattle.json.specs.Print.{escape_byte}
@@ -9,27 +9,34 @@ use Rattle.dap_frame.specs.Settings.{Settings, settings, usual_settings}
 use Rattle.dap_message.specs.Call.{initialize_of, cancel_of}
 use Rattle.dap_message.specs.CallTree.{initialize_members}
 use Rattle.dap_message.specs.Canon.{canon, tree_of, request_members, response_members, event_members}
+use Rattle.dap_message.specs.Laws.{WrittenIsReadAgain}
 use Rattle.dap_message.specs.Types.Call.TheVariants as call
-use Rattle.dap_replay.specs.Played.{Played, fresh_played, shown_of}
+use Rattle.dap_replay.specs.Played.{Played, fresh_played, shown_of, FollowsPlayed}
 use Rattle.dap_debuggee.specs.Shown.{Shown}
-use Rattle.dap_recording.specs.declared.recording.Recording.{Recording}
+use Rattle.dap_history.specs.Requests.{asks}
 use Rattle.dap_session.specs.declared.fault.AdapterFault.TheVariants.{SeqExhausted}
 use Rattle.dap_query.specs.Bodies.{query_result}
+use Rattle.dap_session.specs.Carried.{Goes}
 use Rattle.dap_session.specs.Handling.{plan_for, turns}
 use Rattle.dap_session.specs.Taking.{takes}
 use Rattle.dap_tables.specs.Outstanding.{parked_ones}
-use Rattle.dap_world.specs.Agreement.{names_of, asked_in, answered_in}
+use Rattle.dap_world.specs.Agreement.{requests_among, responses_among}
+use Rattle.dap_world.specs.Worked.{nothing_recorded, cancelled_texts, disconnected_texts, texts_said, IsWritten}
 use Rattle.dap_world.specs.World.{World, messages_of, fresh_world, starts}
-use Rattle.dap_world.proofs.PlayedWorlds.{initialize, first_message, Replies, sent, up, down, turned, Leads, sends, comes_up, comes_down, turns_once}
+use Rattle.dap_world.proofs.PlayedWorlds.{initialize, first_message, sent, up, down, turned, unasked, asks_nothing, LeadsBy, Steps, steps_unasked}
+use Rattle.dap_world.proofs.ReadAgain.{all_read_again, all-read-again}
 
--- ---- words
+-- ---- a launch is parked, and a disconnect cancels it, whatever is debugged
 
-abbrev texts : {D : Type 0} → World D → List (List ℕ)
-texts w = map (λ m. canon m) (messages_of w.said)
+module _ {D : Type 0} (shown : D → Shown) (follows : Goes D) (d : D) where
+  steps : Steps shown follows unasked usual_settings d (λ plan v. asks_nothing plan)
+  steps = steps_unasked shown follows usual_settings d
 
--- ---- a launch is parked, and a disconnect cancels it, whatever the debuggee shows
+  open steps use {sends, comes-up, comes-down, turns-once}
 
-module _ {D : Type 0} (shown : D → Shown) (replies : Replies D) (d : D) where
+  abbrev Leads : World D → Type 0
+  Leads w = LeadsBy shown follows unasked usual_settings d w
+
   abbrev w0 : World D
   w0 = fresh_world usual_settings d
 
@@ -37,10 +44,10 @@ module _ {D : Type 0} (shown : D → Shown) (replies : Replies D) (d : D) where
   w1 = sent initialize w0
 
   abbrev w2 : World D
-  w2 = up replies w1
+  w2 = up unasked w1
 
   abbrev w3 : World D
-  w3 = turned shown replies w2
+  w3 = turned shown unasked w2
 
   abbrev w4 : World D
   w4 = down w3
@@ -52,19 +59,19 @@ module _ {D : Type 0} (shown : D → Shown) (replies : Replies D) (d : D) where
   w6 = sent (call.Launch None) w5
 
   abbrev w7 : World D
-  w7 = up replies w6
+  w7 = up unasked w6
 
   abbrev w8 : World D
-  w8 = turned shown replies w7
+  w8 = turned shown unasked w7
 
   abbrev w9 : World D
   w9 = sent call.Disconnect w8
 
   abbrev w10 : World D
-  w10 = up replies w9
+  w10 = up unasked w9
 
   abbrev w11 : World D
-  w11 = turned shown replies w10
+  w11 = turned shown unasked w10
 
   abbrev w12 : World D
   w12 = down w11
@@ -72,163 +79,192 @@ module _ {D : Type 0} (shown : D → Shown) (replies : Replies D) (d : D) where
   abbrev w13 : World D
   w13 = down w12
 
-  -- what was written by then, in order
-  lines : texts w13 ≡
-      codes "{\"arguments\":{\"adapterID\":\"rec\"},\"command\":\"initialize\",\"seq\":1,\"type\":\"request\"}"
-      ∷ codes "{\"body\":{\"supportsCancelRequest\":true,\"supportsConfigurationDoneRequest\":true,\"supportsLoadedSourcesRequest\":true,\"supportsSetVariable\":true,\"supportsStepBack\":true,\"supportsTerminateRequest\":true},\"command\":\"initialize\",\"request_seq\":1,\"seq\":1,\"success\":true,\"type\":\"response\"}"
-      ∷ codes "{\"event\":\"initialized\",\"seq\":2,\"type\":\"event\"}"
-      ∷ codes "{\"command\":\"launch\",\"seq\":2,\"type\":\"request\"}"
-      ∷ codes "{\"command\":\"disconnect\",\"seq\":3,\"type\":\"request\"}"
-      ∷ codes "{\"body\":{\"error\":{\"format\":\"The request was cancelled.\",\"id\":1012}},\"command\":\"launch\",\"message\":\"cancelled\",\"request_seq\":2,\"seq\":3,\"success\":false,\"type\":\"response\"}"
-      ∷ codes "{\"command\":\"disconnect\",\"request_seq\":3,\"seq\":4,\"success\":true,\"type\":\"response\"}"
-      ∷ []
-  unfolding canon tree_of request_members response_members event_members initialize_members escape_byte digits plan_for initialize_of cancel_of query_result json_of is_utf8 chars serde_json_on_literals
-  lines = refl
-
   -- after the turn that parks it, the launch alone is outstanding, and nothing is under way
-  parked_alone : (names_of w8.client.outstanding ≡ names_of w8.adapter.session.kept) × (length (parked_ones w8.adapter.session.kept) ≡ 1) × (length w8.client.outstanding ≡ 1) × (w8.up ≡ []) × (w8.down ≡ [])
+  parked_alone : (asks w8.client.outstanding ≡ asks w8.adapter.session.kept) × (length (parked_ones w8.adapter.session.kept) ≡ 1) × (length w8.client.outstanding ≡ 1) × (w8.up ≡ []) × (w8.down ≡ [])
   unfolding canon tree_of request_members response_members event_members initialize_members escape_byte digits plan_for initialize_of cancel_of query_result json_of is_utf8 chars serde_json_on_literals
   parked_alone = (refl, refl, refl, refl, refl)
 
   -- two are outstanding: one is kept, and the other is under way up
-  one_each : (length w9.client.outstanding ≡ 2) × (length w9.adapter.session.kept ≡ 1) × (length (asked_in w9.up) ≡ 1)
+  one_each : (length w9.client.outstanding ≡ 2) × (length w9.adapter.session.kept ≡ 1) × (length (requests_among w9.up) ≡ 1)
   unfolding canon tree_of request_members response_members event_members initialize_members escape_byte digits plan_for initialize_of cancel_of query_result json_of is_utf8 chars serde_json_on_literals
   one_each = (refl, refl, refl)
 
   -- then both responses are under way down, and in the end none is outstanding
-  both_answered : (length (answered_in w11.down) ≡ 2) × (w11.adapter.session.kept ≡ []) × (length w11.client.outstanding ≡ 2) × (w13.client.outstanding ≡ [])
+  both_answered : (length (responses_among w11.down) ≡ 2) × (w11.adapter.session.kept ≡ []) × (length w11.client.outstanding ≡ 2) × (w13.client.outstanding ≡ [])
   unfolding canon tree_of request_members response_members event_members initialize_members escape_byte digits plan_for initialize_of cancel_of query_result json_of is_utf8 chars serde_json_on_literals
   both_answered = (refl, refl, refl, refl)
 
-  -- it is a schedule, where what is written is read back
-  begun : Leads shown replies usual_settings d w5
+  -- it is a schedule
+  begun : Leads w5
   unfolding canon tree_of request_members response_members event_members initialize_members escape_byte digits plan_for initialize_of cancel_of query_result json_of is_utf8 chars serde_json_on_literals
   begun =
-      comes_down shown replies usual_settings d w4 _ _ _ refl refl refl
-      (comes_down shown replies usual_settings d w3 _ _ _ refl refl refl
-      (turns_once shown replies usual_settings d w2 _ refl refl
-      (comes_up shown replies usual_settings d w1 _ _ _ refl refl refl
-      (sends shown replies usual_settings d initialize w0 refl refl refl (λ h. starts)))))
+      comes-down w4 _ _ _ refl refl refl
+      (comes-down w3 _ _ _ refl refl refl
+      (turns-once w2 _ refl refl refl
+      (comes-up w1 _ _ _ refl refl refl refl
+      (sends initialize w0 refl refl refl (λ h. starts)))))
 
-  whole_schedule : Leads shown replies usual_settings d w13
+  disconnected_so : Leads w13
   unfolding canon tree_of request_members response_members event_members initialize_members escape_byte digits plan_for initialize_of cancel_of query_result json_of is_utf8 chars serde_json_on_literals
-  whole_schedule =
-      comes_down shown replies usual_settings d w12 _ _ _ refl refl refl
-      (comes_down shown replies usual_settings d w11 _ _ _ refl refl refl
-      (turns_once shown replies usual_settings d w10 _ refl refl
-      (comes_up shown replies usual_settings d w9 _ _ _ refl refl refl
-      (sends shown replies usual_settings d call.Disconnect w8 refl refl refl
-      (turns_once shown replies usual_settings d w7 _ refl refl
-      (comes_up shown replies usual_settings d w6 _ _ _ refl refl refl
-      (sends shown replies usual_settings d (call.Launch None) w5 refl refl refl begun)))))))
+  disconnected_so =
+      comes-down w12 _ _ _ refl refl refl
+      (comes-down w11 _ _ _ refl refl refl
+      (turns-once w10 _ refl refl refl
+      (comes-up w9 _ _ _ refl refl refl refl
+      (sends call.Disconnect w8 refl refl refl
+      (turns-once w7 _ refl refl refl
+      (comes-up w6 _ _ _ refl refl refl refl
+      (sends (call.Launch None) w5 refl refl refl begun)))))))
+
+  disconnected_read : all_read_again usual_settings.body (messages_of w13.said) ≡ true
+  unfolding canon tree_of request_members response_members event_members initialize_members escape_byte digits plan_for initialize_of cancel_of query_result json_of is_utf8 chars serde_json_on_literals
+  disconnected_read = refl
+
+  disconnected_lines : texts_said w13 ≡ disconnected_texts
+  unfolding canon tree_of request_members response_members event_members initialize_members escape_byte digits plan_for initialize_of cancel_of query_result json_of is_utf8 chars serde_json_on_literals
+  disconnected_lines = refl
+
+  disconnected_up : w13.up ≡ []
+  unfolding canon tree_of request_members response_members event_members initialize_members escape_byte digits plan_for initialize_of cancel_of query_result json_of is_utf8 chars serde_json_on_literals
+  disconnected_up = refl
+
+  disconnected_down : w13.down ≡ []
+  unfolding canon tree_of request_members response_members event_members initialize_members escape_byte digits plan_for initialize_of cancel_of query_result json_of is_utf8 chars serde_json_on_literals
+  disconnected_down = refl
+
+  pub disconnected : WrittenIsReadAgain → IsWritten shown follows usual_settings d disconnected_texts
+  disconnected law = record {
+    world = w13;
+    schedule = disconnected_so (all-read-again law usual_settings.body (messages_of w13.said) disconnected_read);
+    written = disconnected_lines;
+    none_up = disconnected_up;
+    none_down = disconnected_down;
+  }
 
 -- ---- two requests wait, and the first of them is cancelled: nine lines
 
-abbrev nothing_recorded : Recording
-nothing_recorded = record { exit = pos 0; sources = []; moments = []; scopes = []; variables = [] }
+abbrev nothing : Played
+nothing = fresh_played nothing_recorded
 
-module _ (replies : Replies Played) where
-  abbrev v0 : World Played
-  v0 = fresh_world usual_settings (fresh_played nothing_recorded)
+steps_played : Steps shown_of FollowsPlayed unasked usual_settings nothing (λ plan v. asks_nothing plan)
+steps_played = steps_unasked shown_of FollowsPlayed usual_settings nothing
 
-  abbrev v1 : World Played
-  v1 = sent initialize v0
+open steps_played use {sends, comes-up, comes-down, turns-once}
 
-  abbrev v2 : World Played
-  v2 = up replies v1
+abbrev LeadsPlayed : World Played → Type 0
+LeadsPlayed w = LeadsBy shown_of FollowsPlayed unasked usual_settings nothing w
 
-  abbrev v3 : World Played
-  v3 = turned shown_of replies v2
+abbrev v0 : World Played
+v0 = fresh_world usual_settings nothing
 
-  abbrev v4 : World Played
-  v4 = down v3
+abbrev v1 : World Played
+v1 = sent initialize v0
 
-  abbrev v5 : World Played
-  v5 = down v4
+abbrev v2 : World Played
+v2 = up unasked v1
 
-  abbrev v6 : World Played
-  v6 = sent call.Threads v5
+abbrev v3 : World Played
+v3 = turned shown_of unasked v2
 
-  abbrev v7 : World Played
-  v7 = up replies v6
+abbrev v4 : World Played
+v4 = down v3
 
-  abbrev v8 : World Played
-  v8 = sent call.Threads v7
+abbrev v5 : World Played
+v5 = down v4
 
-  abbrev v9 : World Played
-  v9 = up replies v8
+abbrev v6 : World Played
+v6 = sent call.Threads v5
 
-  abbrev v10 : World Played
-  v10 = sent (call.Cancel (Some 2)) v9
+abbrev v7 : World Played
+v7 = up unasked v6
 
-  abbrev v11 : World Played
-  v11 = up replies v10
+abbrev v8 : World Played
+v8 = sent call.Threads v7
 
-  abbrev v12 : World Played
-  v12 = down v11
+abbrev v9 : World Played
+v9 = up unasked v8
 
-  abbrev v13 : World Played
-  v13 = down v12
+abbrev v10 : World Played
+v10 = sent (call.Cancel (Some 2)) v9
 
-  abbrev v14 : World Played
-  v14 = turned shown_of replies v13
+abbrev v11 : World Played
+v11 = up unasked v10
 
-  abbrev v15 : World Played
-  v15 = down v14
+abbrev v12 : World Played
+v12 = down v11
 
-  nine_lines : texts v15 ≡
-      codes "{\"arguments\":{\"adapterID\":\"rec\"},\"command\":\"initialize\",\"seq\":1,\"type\":\"request\"}"
-      ∷ codes "{\"body\":{\"supportsCancelRequest\":true,\"supportsConfigurationDoneRequest\":true,\"supportsLoadedSourcesRequest\":true,\"supportsSetVariable\":true,\"supportsStepBack\":true,\"supportsTerminateRequest\":true},\"command\":\"initialize\",\"request_seq\":1,\"seq\":1,\"success\":true,\"type\":\"response\"}"
-      ∷ codes "{\"event\":\"initialized\",\"seq\":2,\"type\":\"event\"}"
-      ∷ codes "{\"command\":\"threads\",\"seq\":2,\"type\":\"request\"}"
-      ∷ codes "{\"command\":\"threads\",\"seq\":3,\"type\":\"request\"}"
-      ∷ codes "{\"arguments\":{\"requestId\":2},\"command\":\"cancel\",\"seq\":4,\"type\":\"request\"}"
-      ∷ codes "{\"body\":{\"error\":{\"format\":\"The request was cancelled.\",\"id\":1012}},\"command\":\"threads\",\"message\":\"cancelled\",\"request_seq\":2,\"seq\":3,\"success\":false,\"type\":\"response\"}"
-      ∷ codes "{\"command\":\"cancel\",\"request_seq\":4,\"seq\":4,\"success\":true,\"type\":\"response\"}"
-      ∷ codes "{\"body\":{\"threads\":[]},\"command\":\"threads\",\"request_seq\":3,\"seq\":5,\"success\":true,\"type\":\"response\"}"
-      ∷ []
-  unfolding canon tree_of request_members response_members event_members initialize_members escape_byte digits plan_for initialize_of cancel_of query_result json_of is_utf8 chars serde_json_on_literals
-  nine_lines = refl
+abbrev v13 : World Played
+v13 = down v12
 
-  -- of three outstanding requests one is kept, and two are answered under way down
-  three_places : (length v11.client.outstanding ≡ 3) × (v11.up ≡ []) × (length v11.adapter.session.kept ≡ 1) × (length (answered_in v11.down) ≡ 2) × (v15.client.outstanding ≡ [])
-  unfolding canon tree_of request_members response_members event_members initialize_members escape_byte digits plan_for initialize_of cancel_of query_result json_of is_utf8 chars serde_json_on_literals
-  three_places = (refl, refl, refl, refl, refl)
+abbrev v14 : World Played
+v14 = turned shown_of unasked v13
 
-  nine_lines_lead : Leads shown_of replies usual_settings (fresh_played nothing_recorded) v15
-  unfolding canon tree_of request_members response_members event_members initialize_members escape_byte digits plan_for initialize_of cancel_of query_result json_of is_utf8 chars serde_json_on_literals
-  nine_lines_lead =
-      let d = fresh_played nothing_recorded in
-      comes_down shown_of replies usual_settings d v14 _ _ _ refl refl refl
-      (turns_once shown_of replies usual_settings d v13 _ refl refl
-      (comes_down shown_of replies usual_settings d v12 _ _ _ refl refl refl
-      (comes_down shown_of replies usual_settings d v11 _ _ _ refl refl refl
-      (comes_up shown_of replies usual_settings d v10 _ _ _ refl refl refl
-      (sends shown_of replies usual_settings d (call.Cancel (Some 2)) v9 refl refl refl
-      (comes_up shown_of replies usual_settings d v8 _ _ _ refl refl refl
-      (sends shown_of replies usual_settings d call.Threads v7 refl refl refl
-      (comes_up shown_of replies usual_settings d v6 _ _ _ refl refl refl
-      (sends shown_of replies usual_settings d call.Threads v5 refl refl refl
-      (begun shown_of replies d))))))))))
+abbrev v15 : World Played
+v15 = down v14
+
+-- of three outstanding requests one is kept, and two are answered under way down
+three_places : (length v11.client.outstanding ≡ 3) × (v11.up ≡ []) × (length v11.adapter.session.kept ≡ 1) × (length (responses_among v11.down) ≡ 2) × (v15.client.outstanding ≡ [])
+unfolding canon tree_of request_members response_members event_members initialize_members escape_byte digits plan_for initialize_of cancel_of query_result json_of is_utf8 chars serde_json_on_literals
+three_places = (refl, refl, refl, refl, refl)
+
+cancelled_so : LeadsPlayed v15
+unfolding canon tree_of request_members response_members event_members initialize_members escape_byte digits plan_for initialize_of cancel_of query_result json_of is_utf8 chars serde_json_on_literals
+cancelled_so =
+    comes-down v14 _ _ _ refl refl refl
+    (turns-once v13 _ refl refl refl
+    (comes-down v12 _ _ _ refl refl refl
+    (comes-down v11 _ _ _ refl refl refl
+    (comes-up v10 _ _ _ refl refl refl refl
+    (sends (call.Cancel (Some 2)) v9 refl refl refl
+    (comes-up v8 _ _ _ refl refl refl refl
+    (sends call.Threads v7 refl refl refl
+    (comes-up v6 _ _ _ refl refl refl refl
+    (sends call.Threads v5 refl refl refl
+    (begun shown_of FollowsPlayed nothing))))))))))
+
+cancelled_read : all_read_again usual_settings.body (messages_of v15.said) ≡ true
+unfolding canon tree_of request_members response_members event_members initialize_members escape_byte digits plan_for initialize_of cancel_of query_result json_of is_utf8 chars serde_json_on_literals
+cancelled_read = refl
+
+cancelled_lines : texts_said v15 ≡ cancelled_texts
+unfolding canon tree_of request_members response_members event_members initialize_members escape_byte digits plan_for initialize_of cancel_of query_result json_of is_utf8 chars serde_json_on_literals
+cancelled_lines = refl
+
+cancelled_up : v15.up ≡ []
+unfolding canon tree_of request_members response_members event_members initialize_members escape_byte digits plan_for initialize_of cancel_of query_result json_of is_utf8 chars serde_json_on_literals
+cancelled_up = refl
+
+cancelled_down : v15.down ≡ []
+unfolding canon tree_of request_members response_members event_members initialize_members escape_byte digits plan_for initialize_of cancel_of query_result json_of is_utf8 chars serde_json_on_literals
+cancelled_down = refl
+
+pub cancelled : WrittenIsReadAgain → IsWritten shown_of FollowsPlayed usual_settings nothing cancelled_texts
+cancelled law = record {
+  world = v15;
+  schedule = cancelled_so (all-read-again law usual_settings.body (messages_of v15.said) cancelled_read);
+  written = cancelled_lines;
+  none_up = cancelled_up;
+  none_down = cancelled_down;
+}
 
 -- ---- too few own numbers: one closes a turn, three close the cancel that comes up
 
 abbrev with_numbers : ℕ → Settings
 with_numbers n = settings 8192 4194304 64 65536 4096 n 2147483647
 
-module _ {D : Type 0} (shown : D → Shown) (replies : Replies D) (d : D) where
+module _ {D : Type 0} (shown : D → Shown) (d : D) where
   abbrev u2 : World D
-  u2 = up replies (sent initialize (fresh_world (with_numbers 1) d))
+  u2 = up unasked (sent initialize (fresh_world (with_numbers 1) d))
 
   no_turn : turns (shown u2.adapter.debuggee) u2.adapter.session ≡ Err SeqExhausted
   unfolding canon tree_of request_members response_members event_members initialize_members escape_byte digits plan_for initialize_of cancel_of query_result json_of is_utf8 chars serde_json_on_literals
   no_turn = refl
 
   abbrev t5 : World D
-  t5 = down (down (turned shown replies (up replies (sent initialize (fresh_world (with_numbers 3) d)))))
+  t5 = down (down (turned shown unasked (up unasked (sent initialize (fresh_world (with_numbers 3) d)))))
 
   abbrev t8 : World D
-  t8 = sent (call.Cancel (Some 2)) (up replies (sent call.Threads t5))
+  t8 = sent (call.Cancel (Some 2)) (up unasked (sent call.Threads t5))
 
   no_cancel : (length t8.up ≡ 1) × (takes (first_message t8.up) t8.adapter.session ≡ Err SeqExhausted)
   unfolding canon tree_of request_members response_members event_members initialize_members escape_byte digits plan_for initialize_of cancel_of query_result json_of is_utf8 chars serde_json_on_literals

@@ -4,7 +4,7 @@ use Rattle.std.specs.Prelude.{unwrap_or}
 use Rattle.std.proofs.lemmas.List.{length-map}
 use Rattle.dap_call.specs.declared.call.SourceKey.{SourceKey}
 use Rattle.dap_debuggee.specs.Shown.{Act, to_start, to_resume, to_pause, to_poll, to_set_breakpoints, to_assign, to_end, Reply}
-use Rattle.dap_debuggee.specs.Laws.{lines_after, keeps_answers, keeps_frames, Counts, Remembers, Answers, Moves, SetsLines, SetsValues, KeepsAnswers, KeepsFrames, KeepsSources, SameFrames, NoThreads, VerifiesEach, AssignsVariables}
+use Rattle.dap_debuggee.specs.Laws.{lines_after, keeps_answers, keeps_frames, Counts, Remembers, Answers, Moves, SetsLines, SetsValues, KeepsAnswers, KeepsFrames, KeepsSources, SameFrames, SameSources, NoThreads, VerifiesEach, AssignsVariables}
 use Rattle.dap_debuggee.specs.StayLaws.{frames-stay}
 use Rattle.dap_tables.specs.SourceMap.{OfSource, set_of}
 use Rattle.dap_tables.specs.SourceMapLaws.{set-of-put}
@@ -51,7 +51,7 @@ keeps_too (to_set_breakpoints source lines) r keeps = refl
 keeps_too (to_assign holder name text) r keeps = absurd (true≢false (sym keeps))
 keeps_too to_end r keeps = absurd (true≢false (sym keeps))
 
-same_frames : (v w : ToyState) (a : Act) (r : Reply) → FollowsToy v a r w → IsTrue (keeps_frames a r) → SameFrames (shown_toy v) (shown_toy w)
+pub same_frames : (v w : ToyState) (a : Act) (r : Reply) → FollowsToy v a r w → IsTrue (keeps_frames a r) → SameFrames (shown_toy v) (shown_toy w)
 same_frames v w a r f keeps = record {
   frames = λ thread. ap (λ calls. frames_in calls thread) (f.stays keeps).calls;
   scopes = λ frame. ap (λ calls. scopes_in calls frame) (f.stays keeps).calls;
@@ -60,6 +60,9 @@ same_frames v w a r f keeps = record {
 
 pub keeps_frames-toy : KeepsFrames shown_toy FollowsToy
 keeps_frames-toy v w a r f keeps = frames-stay (shown_toy v) (shown_toy w) (same_frames v w a r f keeps)
+
+pub same_sources : (v w : ToyState) (a : Act) (r : Reply) → FollowsToy v a r w → SameSources (shown_toy v) (shown_toy w)
+same_sources v w a r f = record { sources = refl; content = λ index. refl }
 
 pub keeps_sources-toy : KeepsSources shown_toy FollowsToy
 keeps_sources-toy v w a r f = record {

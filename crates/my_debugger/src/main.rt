@@ -4,6 +4,7 @@
 #![tactic(auto)]
 
 mod call;
+pub mod laws;
 mod news;
 mod program;
 mod queries;

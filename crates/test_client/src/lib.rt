@@ -8,6 +8,8 @@ mod calls;
 #[cfg(test)]
 mod greatest;
 #[cfg(test)]
+mod joined;
+#[cfg(test)]
 mod library;
 #[cfg(test)]
 mod terminals;

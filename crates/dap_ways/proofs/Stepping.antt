@@ -1,0 +1,342 @@
+-- Each step of bytes is a step of messages, or none.
+use Rattle.std.proofs.Common.{◌≡◌, ℕ, List, [], ◌∷◌, ◌++◌, take, drop, Option, Some, None, Ok, refl, sym, ap, ◌∙◌, subst, append-nil}
+use Rattle.std.specs.Prelude.{is_some}
+use Rattle.dap_adapter.specs.AdapterState.{AdapterState, state_of}
+use Rattle.dap_adapter.specs.Calls.{Takes, Delivers, Waits, Step as CallStep}
+use Rattle.dap_check.specs.declared.line.Side.TheVariants.{Client, Adapter}
+use Rattle.dap_client.specs.Calls.{Takes as ClientTakes, Delivers as ClientDelivers, Waits as ClientWaits}
+use Rattle.dap_client.specs.ClientState.{ClientState}
+use Rattle.dap_client.specs.Sending.{first_of, refusals_in_order, next_message, after_send}
+use Rattle.dap_client.specs.Session.{Session as ClientSession}
+use Rattle.dap_client.specs.StandsFor.{StandsFor as ClientStandsFor, GoesOn as ClientGoesOn}
+use Rattle.dap_client.specs.TerminalResponse.{first_terminal_refusal, next_terminal_response, after_terminal_response}
+use Rattle.dap_client.specs.declared.fault.ClientFault.{ClientFault}
+use Rattle.dap_client.specs.declared.got.Got.{Got}
+use Rattle.dap_client.specs.declared.terminal.Terminal.{Terminal}
+use Rattle.dap_debuggee.specs.Shown.{Shown}
+use Rattle.dap_frame.specs.Intake.{Intake}
+use Rattle.dap_frame.specs.Laws.{EachStreamHasOneSplit}
+use Rattle.dap_frame.specs.Settings.{Settings, AreInRange, bounds_of}
+use Rattle.dap_frame.specs.Written.{frame_of}
+use Rattle.dap_history.specs.History.{Entry, Out}
+use Rattle.dap_history.specs.Received.{AreRead}
+use Rattle.dap_message.specs.Canon.{canon}
+use Rattle.dap_message.specs.ReadBack.{ReadsBack, AllReadBack}
+use Rattle.dap_message.specs.Types.Call.{Call}
+use Rattle.dap_message.specs.declared.message.Message.{Message}
+use Rattle.dap_session.specs.Carried.{Goes}
+use Rattle.dap_session.specs.Plan.{Plan, written_by}
+use Rattle.dap_session.specs.Polling.{polls}
+use Rattle.dap_session.specs.Session.{Session as AdapterSession, fresh_session as fresh_adapter}
+use Rattle.dap_session.specs.SessionState.{SessionState}
+use Rattle.dap_world.specs.Moves.{MovesInOrder}
+use Rattle.dap_world.specs.World.{World, said_by, client_said, adapter_said, Step, Schedule, starts, goes, by_sending, by_answering, by_coming_up, by_coming_down, by_turning, by_polling}
+use Rattle.dap_ways.specs.Agreement.{IsOneOfMessages}
+use Rattle.dap_ways.specs.ByteWorld as bytes
+use Rattle.dap_ways.specs.ByteWorld.{ByteWorld, client_wrote, adapter_wrote, IsFreshClient, IsFreshAdapter, ByteStep, ByteSchedule}
+use Rattle.dap_ways.specs.Carried.{with_messages, Carries}
+use Rattle.dap_ways.proofs.Carrying.{bytes-one, wrote-more, carries-none, carries-more, carries-gathered, carries-delivered}
+
+-- no body came whole of no bytes
+none-came : (bodies : List (List ℕ)) → AreRead bodies [] → bodies ≡ []
+none-came [] h = refl
+none-came (x ∷ xs) h = absurd h
+
+state-same : {D : Type 0} (a b : AdapterState D) → b.session ≡ a.session → b.debuggee ≡ a.debuggee → state_of a ≡ state_of b
+state-same {D} a b e f =
+    ap (λ (z : AdapterSession). let p : SessionState D = record { session = z; debuggee = a.debuggee } in p) (sym e) ∙ ap (λ (z : D). let p : SessionState D = record { session = b.session; debuggee = z } in p) (sym f)
+
+nothing-behind : {A : Type 0} (xs ys : List A) → ys ≡ [] → xs ++ ys ≡ xs
+nothing-behind xs ys e = ap (λ z. xs ++ z) e ∙ append-nil xs
+
+module _ {D : Type 0} (split : EachStreamHasOneSplit) (moves : MovesInOrder) (shown : D → Shown) (follows : Goes D) (limits : Settings) (debuggee : D) (r : AreInRange limits) where
+  abbrev Is : ByteWorld D → Type 0
+  Is w = IsOneOfMessages shown follows limits debuggee w
+
+  abbrev Reaches : World D → Type 0
+  Reaches w = Schedule shown follows limits debuggee w
+
+  -- ---- the beginning
+
+  begins : (c : ClientState) (a : AdapterState D) → IsFreshClient limits c → IsFreshAdapter limits debuggee a → Is (record { client = c; adapter = a; up = []; down = []; wrote = [] })
+  begins c a fc fa =
+      let client_limits : c.session.limits ≡ limits = ap (λ (z : ClientSession). z.limits) fc.session in
+      let adapter_limits : a.session.limits ≡ limits = ap (λ (z : AdapterSession). z.limits) fa.session in
+      let w : ByteWorld D = record { client = c; adapter = a; up = []; down = []; wrote = [] } in
+      let at_client : Reaches (record { client = c.session; adapter = record { session = fresh_adapter limits; debuggee = debuggee }; up = []; down = []; said = [] }) =
+          subst (λ (z : ClientSession). Reaches (record { client = z; adapter = record { session = fresh_adapter limits; debuggee = debuggee }; up = []; down = []; said = [] })) (sym fc.session) starts in
+      let at_session : Reaches (record { client = c.session; adapter = record { session = a.session; debuggee = debuggee }; up = []; down = []; said = [] }) =
+          subst (λ (z : AdapterSession). Reaches (record { client = c.session; adapter = record { session = z; debuggee = debuggee }; up = []; down = []; said = [] })) (sym fa.session) at_client in
+      let at_adapter : Reaches (with_messages w [] [] []) =
+          subst (λ (z : D). Reaches (record { client = c.session; adapter = record { session = a.session; debuggee = z }; up = []; down = []; said = [] })) (sym fa.debuggee_is) at_session in
+      record {
+        up = [];
+        down = [];
+        said = [];
+        schedule = at_adapter;
+        carried = record {
+          adapter_used = [];
+          adapter_history = [];
+          adapter = fa.stands;
+          adapter_limits = adapter_limits;
+          client_used = [];
+          client_history = [];
+          client = fc.stands;
+          client_limits = client_limits;
+          up_is = carries-none limits a.intake fa.stands.received.bodies fa.stands.received.rest (fa.stands.bounds ∙ ap bounds_of adapter_limits) fa.stands.received.stream (none-came fa.stands.received.bodies fa.stands.received.read);
+          down_is = carries-none limits c.intake fc.stands.received.bodies fc.stands.received.rest (fc.stands.bounds ∙ ap bounds_of client_limits) fc.stands.received.stream (none-came fc.stands.received.bodies fc.stands.received.read);
+          wrote_is = refl;
+        };
+      }
+
+  -- ---- the client writes
+
+  -- a session that wrote one message, at a client that is otherwise the same
+  abbrev wrote_one : ClientSession → Message → ByteWorld D → ByteWorld D
+  wrote_one session m old = client_wrote (record old.client { session = session }) (frame_of (canon m)) old
+
+  writes-one : (session : ClientSession) (m : Message) (old : ByteWorld D) → session.limits ≡ old.client.session.limits → ReadsBack old.client.session.limits.body m → ClientGoesOn old.client (record old.client { session = session }) [] (Out m [] ∷ [])
+      → (g : Is old) → Step shown follows (with_messages old g.up g.down g.said) (client_said session (m ∷ []) (with_messages old g.up g.down g.said)) → Is (wrote_one session m old)
+  writes-one session m old l back on g step =
+      let k = g.carried in
+      let read : AllReadBack limits.body (m ∷ []) = (subst (λ (z : Settings). ReadsBack z.body m) k.client_limits back, tt) in
+      record {
+        up = g.up ++ m ∷ [];
+        down = g.down;
+        said = g.said ++ said_by Client (m ∷ []);
+        schedule = goes (with_messages old g.up g.down g.said) (client_said session (m ∷ []) (with_messages old g.up g.down g.said)) g.schedule step;
+        carried = record {
+          adapter_used = k.adapter_used;
+          adapter_history = k.adapter_history;
+          adapter = k.adapter;
+          adapter_limits = k.adapter_limits;
+          client_used = k.client_used;
+          client_history = k.client_history ++ Out m [] ∷ [];
+          client = subst (λ (z : List ℕ). ClientStandsFor (record old.client { session = session }) z (k.client_history ++ Out m [] ∷ [])) (append-nil k.client_used) (on k.client_used k.client_history k.client);
+          client_limits = l ∙ k.client_limits;
+          up_is = carries-more limits old.adapter.intake k.adapter_used old.up g.up (m ∷ []) (frame_of (canon m)) (bytes-one m) read k.up_is;
+          down_is = k.down_is;
+          wrote_is = wrote-more old.wrote g.said Client (m ∷ []) (frame_of (canon m)) k.wrote_is (bytes-one m);
+        };
+      }
+
+  sends : (call : Call) (old new : ByteWorld D) → bytes.Sends call old new → Is old → Is new
+  sends call old new t g =
+      subst Is (sym t.is) (writes-one (after_send call old.client.session) (next_message old.client.session call) old refl t.reads_back t.goes_on g (by_sending call (record {
+        plain = t.plain;
+        free = subst (λ (z : Option ClientFault). first_of refusals_in_order call (is_some z) old.client.session ≡ None) g.carried.client.no_fault t.sent;
+        reads_back = t.reads_back;
+        is = refl;
+      })))
+
+  answers : (request_seq : ℕ) (terminal : Terminal) (old new : ByteWorld D) → bytes.Answers request_seq terminal old new → Is old → Is new
+  answers request_seq terminal old new t g =
+      subst Is (sym t.is) (writes-one (after_terminal_response request_seq old.client.session) (next_terminal_response old.client.session request_seq terminal) old refl t.reads_back t.goes_on g (by_answering request_seq terminal (record {
+        plain = t.plain;
+        free = subst (λ (z : Option ClientFault). first_terminal_refusal request_seq (is_some z) old.client.session ≡ None) g.carried.client.no_fault t.answered;
+        reads_back = t.reads_back;
+        is = refl;
+      })))
+
+  -- ---- the adapter takes a piece
+
+  -- what the adapter wrote in a step of its session
+  abbrev made_by : {old after : AdapterState D} {plan : Plan} {used : List ℕ} {came : List Entry} {b : List ℕ} → CallStep follows plan old after used came b → List Message
+  made_by {old} t = written_by old.session t.session.made
+
+  adapter-waits : (old : ByteWorld D) (piece later : List ℕ) → old.up ≡ piece ++ later → (used : ℕ) (b : List ℕ) (after : AdapterState D) → Waits old.adapter piece used b after → after.session.limits ≡ old.adapter.session.limits → Is old
+      → Is (adapter_wrote after b (record old { up = drop used piece ++ later }))
+  adapter-waits old piece later front used b after h l g =
+      let k = g.carried in
+      record {
+        up = g.up;
+        down = g.down;
+        said = g.said;
+        schedule = subst (λ (z : SessionState D). Reaches (record { client = old.client.session; adapter = z; up = g.up; down = g.down; said = g.said })) (state-same old.adapter after h.session h.debuggee) g.schedule;
+        carried = record {
+          adapter_used = k.adapter_used ++ piece;
+          adapter_history = k.adapter_history ++ [];
+          adapter = h.goes_on k.adapter_used k.adapter_history k.adapter;
+          adapter_limits = l ∙ k.adapter_limits;
+          client_used = k.client_used;
+          client_history = k.client_history;
+          client = k.client;
+          client_limits = k.client_limits;
+          up_is = carries-gathered limits old.adapter.intake after.intake k.adapter_used old.up piece later g.up used front h.gathers k.up_is;
+          down_is = subst (λ (z : List ℕ). Carries limits old.client.intake k.client_used z g.down) (sym (nothing-behind old.down b h.none_written)) k.down_is;
+          wrote_is = nothing-behind old.wrote (bytes.wrote_by Adapter b) (ap (λ (z : List ℕ). bytes.wrote_by Adapter z) h.none_written) ∙ k.wrote_is;
+        };
+      }
+
+  adapter-delivers : (old : ByteWorld D) (piece later : List ℕ) → old.up ≡ piece ++ later → (used : ℕ) (b : List ℕ) (m : Message) (after : AdapterState D) → Delivers follows old.adapter piece used b m after → after.session.limits ≡ old.adapter.session.limits → Is old
+      → Is (adapter_wrote after b (record old { up = drop used piece ++ later }))
+  adapter-delivers old piece later front used b m after h l g =
+      let k = g.carried in
+      let written : List Message = written_by old.adapter.session h.step.session.made in
+      let stands = h.step.goes_on k.adapter_used k.adapter_history k.adapter in
+      let adapter_limits : after.session.limits ≡ limits = l ∙ k.adapter_limits in
+      let a = carries-delivered split moves limits old.adapter.intake after.intake k.adapter_used old.up piece later g.up used m stands.received.bodies stands.received.rest r front h.whole h.read (stands.bounds ∙ ap bounds_of adapter_limits) stands.received.stream k.up_is in
+      let back = h.step.reads_back k.adapter_used k.adapter_history k.adapter in
+      let read : AllReadBack limits.body written = subst (λ (z : Settings). AllReadBack z.body written) k.adapter_limits back in
+      let seat : SessionState D = state_of after in
+      record {
+        up = a.others;
+        down = g.down ++ written;
+        said = g.said ++ said_by Adapter written;
+        schedule = goes (with_messages old g.up g.down g.said) (adapter_said seat written (record (with_messages old g.up g.down g.said) { up = a.others })) g.schedule (by_coming_up (record {
+          message = m;
+          later = a.others;
+          first = a.first;
+          plan = h.plan;
+          taken = h.is;
+          step = record { seat = seat; session = h.step.session; reads_back = back; is = refl };
+        }));
+        carried = record {
+          adapter_used = k.adapter_used ++ take used piece;
+          adapter_history = _;
+          adapter = stands;
+          adapter_limits = adapter_limits;
+          client_used = k.client_used;
+          client_history = k.client_history;
+          client = k.client;
+          client_limits = k.client_limits;
+          up_is = a.carries;
+          down_is = carries-more limits old.client.intake k.client_used old.down g.down written b h.step.bytes_are read k.down_is;
+          wrote_is = wrote-more old.wrote g.said Adapter written b k.wrote_is h.step.bytes_are;
+        };
+      }
+
+  adapter-takes : (old : ByteWorld D) (piece later : List ℕ) → old.up ≡ piece ++ later → (used : ℕ) (b : List ℕ) (delivered : Option Message) (after : AdapterState D) → Takes follows old.adapter piece used b delivered after → after.session.limits ≡ old.adapter.session.limits → Is old
+      → Is (adapter_wrote after b (record old { up = drop used piece ++ later }))
+  adapter-takes old piece later front used b None after h l g = adapter-waits old piece later front used b after h l g
+  adapter-takes old piece later front used b (Some m) after h l g = adapter-delivers old piece later front used b m after h l g
+
+  -- ---- the client takes a piece
+
+  client-waits : (old : ByteWorld D) (piece later : List ℕ) → old.down ≡ piece ++ later → (got : Got) (after : ClientState) → ClientWaits old.client piece got after → after.session.limits ≡ old.client.session.limits → Is old
+      → Is (client_wrote after got.bytes.items (record old { down = drop got.used piece ++ later }))
+  client-waits old piece later front got after h l g =
+      let k = g.carried in
+      record {
+        up = g.up;
+        down = g.down;
+        said = g.said;
+        schedule = subst (λ (z : ClientSession). Reaches (record { client = z; adapter = state_of old.adapter; up = g.up; down = g.down; said = g.said })) (sym h.session) g.schedule;
+        carried = record {
+          adapter_used = k.adapter_used;
+          adapter_history = k.adapter_history;
+          adapter = k.adapter;
+          adapter_limits = k.adapter_limits;
+          client_used = k.client_used ++ piece;
+          client_history = k.client_history ++ [];
+          client = h.goes_on k.client_used k.client_history k.client;
+          client_limits = l ∙ k.client_limits;
+          up_is = subst (λ (z : List ℕ). Carries limits old.adapter.intake k.adapter_used z g.up) (sym (nothing-behind old.up got.bytes.items h.none_written)) k.up_is;
+          down_is = carries-gathered limits old.client.intake after.intake k.client_used old.down piece later g.down got.used front h.gathers k.down_is;
+          wrote_is = nothing-behind old.wrote (bytes.wrote_by Client got.bytes.items) (ap (λ (z : List ℕ). bytes.wrote_by Client z) h.none_written) ∙ k.wrote_is;
+        };
+      }
+
+  client-delivers : (old : ByteWorld D) (piece later : List ℕ) → old.down ≡ piece ++ later → (got : Got) (m : Message) (after : ClientState) → ClientDelivers old.client piece got m after → after.session.limits ≡ old.client.session.limits → Is old
+      → Is (client_wrote after got.bytes.items (record old { down = drop got.used piece ++ later }))
+  client-delivers old piece later front got m after h l g =
+      let k = g.carried in
+      let written : List Message = h.made.written in
+      let stands = h.goes_on k.client_used k.client_history k.client in
+      let client_limits : after.session.limits ≡ limits = l ∙ k.client_limits in
+      let a = carries-delivered split moves limits old.client.intake after.intake k.client_used old.down piece later g.down got.used m stands.received.bodies stands.received.rest r front h.whole h.read (stands.bounds ∙ ap bounds_of client_limits) stands.received.stream k.down_is in
+      let read : AllReadBack limits.body written = subst (λ (z : Settings). AllReadBack z.body written) k.client_limits h.reads_back in
+      record {
+        up = g.up ++ written;
+        down = a.others;
+        said = g.said ++ said_by Client written;
+        schedule = goes (with_messages old g.up g.down g.said) (client_said after.session written (record (with_messages old g.up g.down g.said) { down = a.others })) g.schedule (by_coming_down (record {
+          message = m;
+          later = a.others;
+          first = a.first;
+          made = h.made;
+          taken = h.is;
+          reads_back = h.reads_back;
+          is = ap (λ (z : ClientSession). client_said z written (record (with_messages old g.up g.down g.said) { down = a.others })) h.session;
+        }));
+        carried = record {
+          adapter_used = k.adapter_used;
+          adapter_history = k.adapter_history;
+          adapter = k.adapter;
+          adapter_limits = k.adapter_limits;
+          client_used = k.client_used ++ take got.used piece;
+          client_history = _;
+          client = stands;
+          client_limits = client_limits;
+          up_is = carries-more limits old.adapter.intake k.adapter_used old.up g.up written got.bytes.items h.bytes_are read k.up_is;
+          down_is = a.carries;
+          wrote_is = wrote-more old.wrote g.said Client written got.bytes.items k.wrote_is h.bytes_are;
+        };
+      }
+
+  client-takes : (old : ByteWorld D) (piece later : List ℕ) → old.down ≡ piece ++ later → (got : Got) (delivered : Option Message) (after : ClientState) → ClientTakes old.client piece got delivered after → after.session.limits ≡ old.client.session.limits → Is old
+      → Is (client_wrote after got.bytes.items (record old { down = drop got.used piece ++ later }))
+  client-takes old piece later front got None after h l g = client-waits old piece later front got after h l g
+  client-takes old piece later front got (Some m) after h l g = client-delivers old piece later front got m after h l g
+
+  -- ---- the adapter turns and polls
+
+  -- it made a step over no bytes of the client
+  adapter-steps : (old : ByteWorld D) (plan : Plan) (b : List ℕ) (after : AdapterState D) → after.intake ≡ old.adapter.intake → (t : CallStep follows plan old.adapter after [] [] b) → after.session.limits ≡ old.adapter.session.limits
+      → (g : Is old) → Step shown follows (with_messages old g.up g.down g.said) (adapter_said (state_of after) (written_by old.adapter.session t.session.made) (with_messages old g.up g.down g.said)) → Is (adapter_wrote after b old)
+  adapter-steps old plan b after same t l g step =
+      let k = g.carried in
+      let written : List Message = written_by old.adapter.session t.session.made in
+      let read : AllReadBack limits.body written = subst (λ (z : Settings). AllReadBack z.body written) k.adapter_limits (t.reads_back k.adapter_used k.adapter_history k.adapter) in
+      record {
+        up = g.up;
+        down = g.down ++ written;
+        said = g.said ++ said_by Adapter written;
+        schedule = goes (with_messages old g.up g.down g.said) (adapter_said (state_of after) written (with_messages old g.up g.down g.said)) g.schedule step;
+        carried = record {
+          adapter_used = k.adapter_used ++ [];
+          adapter_history = _;
+          adapter = t.goes_on k.adapter_used k.adapter_history k.adapter;
+          adapter_limits = l ∙ k.adapter_limits;
+          client_used = k.client_used;
+          client_history = k.client_history;
+          client = k.client;
+          client_limits = k.client_limits;
+          up_is = subst (λ (z : List ℕ). Carries limits after.intake z old.up g.up) (sym (append-nil k.adapter_used)) (subst (λ (z : Intake). Carries limits z k.adapter_used old.up g.up) (sym same) k.up_is);
+          down_is = carries-more limits old.client.intake k.client_used old.down g.down written b t.bytes_are read k.down_is;
+          wrote_is = wrote-more old.wrote g.said Adapter written b k.wrote_is t.bytes_are;
+        };
+      }
+
+  turns : (old new : ByteWorld D) → bytes.Turns shown follows old new → Is old → Is new
+  turns old new t g =
+      let k = g.carried in
+      let h = t.handled in
+      subst Is (sym t.is) (adapter-steps old h.plan t.bytes t.after h.intake h.step t.limits g (by_turning (record {
+        plan = h.plan;
+        turned = h.is;
+        step = record { seat = state_of t.after; session = h.step.session; reads_back = h.step.reads_back k.adapter_used k.adapter_history k.adapter; is = refl };
+      })))
+
+  polls_once : (old new : ByteWorld D) → bytes.Polls follows old new → Is old → Is new
+  polls_once old new t g =
+      let k = g.carried in
+      let h = t.saw in
+      subst Is (sym t.is) (adapter-steps old (polls old.adapter.session) t.bytes t.after h.intake h.step t.limits g (by_polling (record {
+        step = record { seat = state_of t.after; session = h.step.session; reads_back = h.step.reads_back k.adapter_used k.adapter_history k.adapter; is = refl };
+        within = h.within;
+      })))
+
+  -- ---- any step, and any schedule
+
+  steps : (old new : ByteWorld D) → ByteStep shown follows old new → Is old → Is new
+  steps old new (bytes.by_sending call t) g = sends call old new t g
+  steps old new (bytes.by_answering q terminal t) g = answers q terminal old new t g
+  steps old new (bytes.by_taking_up t) g = subst Is (sym t.is) (adapter-takes old t.piece t.later t.front t.used t.bytes t.delivered t.after t.takes t.limits g)
+  steps old new (bytes.by_taking_down t) g = subst Is (sym t.is) (client-takes old t.piece t.later t.front t.got t.got.delivered t.after t.takes t.limits g)
+  steps old new (bytes.by_turning t) g = turns old new t g
+  steps old new (bytes.by_polling t) g = polls_once old new t g
+
+  pub is-one-of-messages : (w : ByteWorld D) → ByteSchedule shown follows limits debuggee w → Is w
+  is-one-of-messages _ (bytes.starts c a fc fa) = begins c a fc fa
+  is-one-of-messages _ (bytes.goes v w s t) = steps v w t (is-one-of-messages v s)

@@ -1,0 +1,148 @@
+-- Both ends of a session joined by two ways of bytes, and its steps: each is one call of an end, as its contract says it.
+-- Overview, "Base Protocol". That each way keeps the order of its bytes, and loses none, is this profile's choice.
+use Rattle.std.specs.Prelude.{◌≡◌, ℕ, List, [], ◌∷◌, ◌++◌, drop, map, Option, None, IsTrue}
+use Rattle.std.specs.List.{flat_map}
+use Rattle.dap_adapter.specs.AdapterState.{AdapterState}
+use Rattle.dap_adapter.specs.Calls.{Takes, Handled, Saw}
+use Rattle.dap_adapter.specs.StandsFor.{StandsFor}
+use Rattle.dap_check.specs.declared.line.Side.{Side}
+use Rattle.dap_check.specs.declared.line.Side.TheVariants.{Client, Adapter}
+use Rattle.dap_client.specs.Calls.{refusal_of, answer_refusal_of, Takes as ClientTakes}
+use Rattle.dap_client.specs.ClientState.{ClientState}
+use Rattle.dap_client.specs.Sending.{next_message, sent_bytes, after_send}
+use Rattle.dap_client.specs.Session.{fresh_session as fresh_client}
+use Rattle.dap_client.specs.StandsFor.{StandsFor as ClientStandsFor, GoesOn as ClientGoesOn}
+use Rattle.dap_client.specs.TerminalResponse.{is_plain_terminal, next_terminal_response, terminal_response_bytes, after_terminal_response}
+use Rattle.dap_client.specs.declared.got.Got.{Got}
+use Rattle.dap_client.specs.declared.terminal.Terminal.{Terminal}
+use Rattle.dap_debuggee.specs.Shown.{Shown}
+use Rattle.dap_frame.specs.Settings.{Settings}
+use Rattle.dap_frame.specs.Written.{frame_of}
+use Rattle.dap_history.specs.History.{Out}
+use Rattle.dap_message.specs.Canon.{canon}
+use Rattle.dap_message.specs.PlainCall.{is_plain_call}
+use Rattle.dap_message.specs.ReadBack.{ReadsBack}
+use Rattle.dap_message.specs.Types.Call.{Call}
+use Rattle.dap_message.specs.declared.message.Message.{Message}
+use Rattle.dap_session.specs.Carried.{Goes}
+use Rattle.dap_session.specs.Session.{fresh_session as fresh_adapter}
+use Rattle.dap_world.specs.World.{Said}
+
+-- ---- a world
+
+-- a byte that was written, and by whom
+pub record Wrote : Type 0 where
+  pub side : Side
+  pub byte : ℕ
+
+abbrev pub wrote_by : Side → List ℕ → List Wrote
+wrote_by side bytes = map (λ b. record { side = side; byte = b }) bytes
+
+-- the bytes of messages, each in its frame
+abbrev pub bytes_said : List Said → List Wrote
+bytes_said said = flat_map (λ x. wrote_by x.side (frame_of (canon x.message))) said
+
+pub record ByteWorld (D : Type 0) : Type 0 where
+  pub client : ClientState
+  pub adapter : AdapterState D
+  -- the bytes on the way to the adapter, which has not used them, and those on the way to the client, the first one first
+  pub up : List ℕ
+  pub down : List ℕ
+  -- all bytes that were written, in order
+  pub wrote : List Wrote
+
+-- the client is this now, and wrote these bytes
+abbrev pub client_wrote : {D : Type 0} → ClientState → List ℕ → ByteWorld D → ByteWorld D
+client_wrote client bytes w = record w { client = client; up = w.up ++ bytes; wrote = w.wrote ++ wrote_by Client bytes }
+
+-- the adapter is this now, and wrote these bytes
+abbrev pub adapter_wrote : {D : Type 0} → AdapterState D → List ℕ → ByteWorld D → ByteWorld D
+adapter_wrote adapter bytes w = record w { adapter = adapter; down = w.down ++ bytes; wrote = w.wrote ++ wrote_by Adapter bytes }
+
+-- ---- its beginning
+
+-- what `Client::open` gives
+pub record IsFreshClient (limits : Settings) (c : ClientState) : Type 0 where
+  pub session : c.session ≡ fresh_client limits
+  pub stands : ClientStandsFor c [] []
+
+-- what `Adapter::open` gives, over this debuggee
+pub record IsFreshAdapter {D : Type 0} (limits : Settings) (debuggee : D) (a : AdapterState D) : Type 0 where
+  pub session : a.session ≡ fresh_adapter limits
+  pub debuggee_is : a.debuggee ≡ debuggee
+  pub stands : StandsFor a [] []
+
+-- ---- steps
+
+-- Each is a call that is not refused: its fields are clauses of the call's contract, and where it goes on is what these leave open.
+-- A `send` and an `answer` that are refused change nothing, and neither does an idle turn. What else may be refused, and why,
+-- is said of each world (`MeetsNoOtherFault`).
+
+-- `Client::send`, of a plain call
+pub record Sends {D : Type 0} (call : Call) (old new : ByteWorld D) : Type 0 where
+  pub plain : IsTrue (is_plain_call call)
+  pub sent : refusal_of call old.client ≡ None
+  pub reads_back : ReadsBack old.client.session.limits.body (next_message old.client.session call)
+  pub goes_on : ClientGoesOn old.client (record old.client { session = after_send call old.client.session }) [] (Out (next_message old.client.session call) [] ∷ [])
+  pub is : new ≡ client_wrote (record old.client { session = after_send call old.client.session }) (sent_bytes old.client.session call) old
+
+-- `Client::answer`, to a request of the adapter
+pub record Answers {D : Type 0} (request_seq : ℕ) (terminal : Terminal) (old new : ByteWorld D) : Type 0 where
+  pub plain : IsTrue (is_plain_terminal terminal)
+  pub answered : answer_refusal_of request_seq old.client ≡ None
+  pub reads_back : ReadsBack old.client.session.limits.body (next_terminal_response old.client.session request_seq terminal)
+  pub goes_on : ClientGoesOn old.client (record old.client { session = after_terminal_response request_seq old.client.session }) [] (Out (next_terminal_response old.client.session request_seq terminal) [] ∷ [])
+  pub is : new ≡ client_wrote (record old.client { session = after_terminal_response request_seq old.client.session }) (terminal_response_bytes old.client.session request_seq terminal) old
+
+-- `Adapter::take`, of any piece off the front of its way; what it does not use stays there
+pub record AdapterTakes {D : Type 0} (follows : Goes D) (old new : ByteWorld D) : Type 0 where
+  pub piece : List ℕ
+  pub later : List ℕ
+  pub front : old.up ≡ piece ++ later
+  pub used : ℕ
+  pub bytes : List ℕ
+  pub delivered : Option Message
+  pub after : AdapterState D
+  pub takes : Takes follows old.adapter piece used bytes delivered after
+  pub limits : after.session.limits ≡ old.adapter.session.limits
+  pub is : new ≡ adapter_wrote after bytes (record old { up = drop used piece ++ later })
+
+-- `Client::take`, likewise
+pub record ClientTakesPiece {D : Type 0} (old new : ByteWorld D) : Type 0 where
+  pub piece : List ℕ
+  pub later : List ℕ
+  pub front : old.down ≡ piece ++ later
+  pub got : Got
+  pub after : ClientState
+  pub takes : ClientTakes old.client piece got got.delivered after
+  pub limits : after.session.limits ≡ old.client.session.limits
+  pub is : new ≡ client_wrote after got.bytes.items (record old { down = drop got.used piece ++ later })
+
+-- `Adapter::turn`, where a request waits
+pub record Turns {D : Type 0} (shown : D → Shown) (follows : Goes D) (old new : ByteWorld D) : Type 0 where
+  pub bytes : List ℕ
+  pub after : AdapterState D
+  pub handled : Handled shown follows old.adapter bytes after
+  pub limits : after.session.limits ≡ old.adapter.session.limits
+  pub is : new ≡ adapter_wrote after bytes old
+
+-- `Adapter::poll`
+pub record Polls {D : Type 0} (follows : Goes D) (old new : ByteWorld D) : Type 0 where
+  pub bytes : List ℕ
+  pub after : AdapterState D
+  pub saw : Saw follows old.adapter bytes after
+  pub limits : after.session.limits ≡ old.adapter.session.limits
+  pub is : new ≡ adapter_wrote after bytes old
+
+pub data ByteStep {D : Type 0} (shown : D → Shown) (follows : Goes D) (old new : ByteWorld D) : Type 0 where
+  by_sending : (call : Call) → Sends call old new → ByteStep shown follows old new
+  by_answering : (request_seq : ℕ) (terminal : Terminal) → Answers request_seq terminal old new → ByteStep shown follows old new
+  by_taking_up : AdapterTakes follows old new → ByteStep shown follows old new
+  by_taking_down : ClientTakesPiece old new → ByteStep shown follows old new
+  by_turning : Turns shown follows old new → ByteStep shown follows old new
+  by_polling : Polls follows old new → ByteStep shown follows old new
+
+-- what a schedule from two fresh ends leads to
+pub data ByteSchedule {D : Type 0} (shown : D → Shown) (follows : Goes D) (limits : Settings) (debuggee : D) : ByteWorld D → Type 0 where
+  starts : (c : ClientState) (a : AdapterState D) → IsFreshClient limits c → IsFreshAdapter limits debuggee a → ByteSchedule shown follows limits debuggee (record { client = c; adapter = a; up = []; down = []; wrote = [] })
+  goes : (v w : ByteWorld D) → ByteSchedule shown follows limits debuggee v → ByteStep shown follows v w → ByteSchedule shown follows limits debuggee w

@@ -1,0 +1,3 @@
+pub mod ByteWorld
+pub mod Carried
+pub mod Agreement
