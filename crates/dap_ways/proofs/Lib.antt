@@ -1,3 +1,4 @@
 pub mod Carrying
 pub mod Stepping
 pub mod Agreeing
+pub mod Calling

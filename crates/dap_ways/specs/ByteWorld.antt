@@ -1,5 +1,5 @@
--- Both ends of a session joined by two ways of bytes, and its steps: each is one call of an end, as its contract says it.
--- Overview, "Base Protocol". That each way keeps the order of its bytes, and loses none, is this profile's choice.
+-- Both ends of a session joined by two ways of bytes, and its steps: each is one call of an end that succeeds.
+-- Overview, "Base Protocol". Assumed of the transport: each way keeps the order of its bytes, and loses none.
 use Rattle.std.specs.Prelude.{◌≡◌, ℕ, List, [], ◌∷◌, ◌++◌, drop, map, Option, None, IsTrue}
 use Rattle.std.specs.List.{flat_map}
 use Rattle.dap_adapter.specs.AdapterState.{AdapterState}
@@ -31,16 +31,16 @@ use Rattle.dap_world.specs.World.{Said}
 -- ---- a world
 
 -- a byte that was written, and by whom
-pub record Wrote : Type 0 where
+pub record WrittenByte : Type 0 where
   pub side : Side
   pub byte : ℕ
 
-abbrev pub wrote_by : Side → List ℕ → List Wrote
-wrote_by side bytes = map (λ b. record { side = side; byte = b }) bytes
+abbrev pub bytes_by : Side → List ℕ → List WrittenByte
+bytes_by side bytes = map (λ b. record { side = side; byte = b }) bytes
 
 -- the bytes of messages, each in its frame
-abbrev pub bytes_said : List Said → List Wrote
-bytes_said said = flat_map (λ x. wrote_by x.side (frame_of (canon x.message))) said
+abbrev pub written_bytes : List Said → List WrittenByte
+written_bytes said = flat_map (λ x. bytes_by x.side (frame_of (canon x.message))) said
 
 pub record ByteWorld (D : Type 0) : Type 0 where
   pub client : ClientState
@@ -49,15 +49,15 @@ pub record ByteWorld (D : Type 0) : Type 0 where
   pub up : List ℕ
   pub down : List ℕ
   -- all bytes that were written, in order
-  pub wrote : List Wrote
+  pub written : List WrittenByte
 
 -- the client is this now, and wrote these bytes
 abbrev pub client_wrote : {D : Type 0} → ClientState → List ℕ → ByteWorld D → ByteWorld D
-client_wrote client bytes w = record w { client = client; up = w.up ++ bytes; wrote = w.wrote ++ wrote_by Client bytes }
+client_wrote client bytes w = record w { client = client; up = w.up ++ bytes; written = w.written ++ bytes_by Client bytes }
 
 -- the adapter is this now, and wrote these bytes
 abbrev pub adapter_wrote : {D : Type 0} → AdapterState D → List ℕ → ByteWorld D → ByteWorld D
-adapter_wrote adapter bytes w = record w { adapter = adapter; down = w.down ++ bytes; wrote = w.wrote ++ wrote_by Adapter bytes }
+adapter_wrote adapter bytes w = record w { adapter = adapter; down = w.down ++ bytes; written = w.written ++ bytes_by Adapter bytes }
 
 -- ---- its beginning
 
@@ -74,9 +74,9 @@ pub record IsFreshAdapter {D : Type 0} (limits : Settings) (debuggee : D) (a : A
 
 -- ---- steps
 
--- Each is a call that is not refused: its fields are clauses of the call's contract, and where it goes on is what these leave open.
--- A `send` and an `answer` that are refused change nothing, and neither does an idle turn. What else may be refused, and why,
--- is said of each world (`MeetsNoOtherFault`).
+-- Each is a call that succeeds, and its fields are clauses of that call's contract (`dap_ways::steps` makes the calls). A `send` or an
+-- `answer` that is refused changes nothing, and neither does an idle turn. Which other refusals there can be is said of each world
+-- that a schedule leads to (`AdapterMeetsNoOtherFault`, `ClientMeetsNoOtherFault`). `Client::next` is `take`, with the bytes appended.
 
 -- `Client::send`, of a plain call
 pub record Sends {D : Type 0} (call : Call) (old new : ByteWorld D) : Type 0 where
@@ -144,5 +144,5 @@ pub data ByteStep {D : Type 0} (shown : D → Shown) (follows : Goes D) (old new
 
 -- what a schedule from two fresh ends leads to
 pub data ByteSchedule {D : Type 0} (shown : D → Shown) (follows : Goes D) (limits : Settings) (debuggee : D) : ByteWorld D → Type 0 where
-  starts : (c : ClientState) (a : AdapterState D) → IsFreshClient limits c → IsFreshAdapter limits debuggee a → ByteSchedule shown follows limits debuggee (record { client = c; adapter = a; up = []; down = []; wrote = [] })
+  starts : (c : ClientState) (a : AdapterState D) → IsFreshClient limits c → IsFreshAdapter limits debuggee a → ByteSchedule shown follows limits debuggee (record { client = c; adapter = a; up = []; down = []; written = [] })
   goes : (v w : ByteWorld D) → ByteSchedule shown follows limits debuggee v → ByteStep shown follows v w → ByteSchedule shown follows limits debuggee w

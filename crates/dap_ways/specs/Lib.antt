@@ -1,3 +1,4 @@
 pub mod ByteWorld
 pub mod Carried
 pub mod Agreement
+pub mod Steps

@@ -158,7 +158,7 @@ ok-if true x f y e = e
 ok-if false x f y e = cc
 
 -- of its tables after a message that made it write nothing
-pub record Took (kind : Kind) (seq : ℕ) (s : ClientSession) (made : ClientMade) : Type 0 where
+pub record Took (kind : Kind) (seq : ℕ) (s : ClientSession) (made : ClientMade) : Type 1 where
   pub outstanding : (P : Asked → Type 0) → All P (asks s.outstanding) → All P (asks made.after.outstanding)
   pub incoming : (P : Asked → Type 0) → All P (asks s.incoming) → All P (option_to_list (request_as seq kind)) → All P (asks made.after.incoming)
 
@@ -390,13 +390,13 @@ module _ (by : ByNumber) (test : Asked → Bool) where
   requests-counted [] h = refl
   requests-counted (q ∷ qs) h = long-if (test q) (test (by q.seq)) q (filter test qs) (name_of q) (filter by_number (map name_of qs)) (ap test (sym h.0)) (requests-counted qs h.1)
 
-  responses-counted : (as : List Answered) → count test (map (λ (a : Answered). by a.request_seq) as) ≡ count_names by_number (map name_in as)
+  responses-counted : (rs : List Answered) → count test (map (λ (a : Answered). by a.request_seq) rs) ≡ count_names by_number (map name_in rs)
   responses-counted [] = refl
-  responses-counted (a ∷ as) = long-if (test (by a.request_seq)) (test (by a.request_seq)) (by a.request_seq) (filter test (map (λ (x : Answered). by x.request_seq) as)) (name_in a) (filter by_number (map name_in as)) refl (responses-counted as)
+  responses-counted (a ∷ rs) = long-if (test (by a.request_seq)) (test (by a.request_seq)) (by a.request_seq) (filter test (map (λ (x : Answered). by x.request_seq) rs)) (name_in a) (filter by_number (map name_in rs)) refl (responses-counted rs)
 
-answers-are : (by : ByNumber) (as : List Answered) → All (λ a. answer_to (by a.request_seq) ≡ a) as → map answer_to (map (λ (a : Answered). by a.request_seq) as) ≡ as
+answers-are : (by : ByNumber) (rs : List Answered) → All (λ a. answer_to (by a.request_seq) ≡ a) rs → map answer_to (map (λ (a : Answered). by a.request_seq) rs) ≡ rs
 answers-are by [] h = refl
-answers-are by (a ∷ as) h = ap (λ (z : Answered). z ∷ map answer_to (map (λ (x : Answered). by x.request_seq) as)) h.0 ∙ ap (λ (z : List Answered). a ∷ z) (answers-are by as h.1)
+answers-are by (a ∷ rs) h = ap (λ (z : Answered). z ∷ map answer_to (map (λ (x : Answered). by x.request_seq) rs)) h.0 ∙ ap (λ (z : List Answered). a ∷ z) (answers-are by rs h.1)
 
 placed : (by : ByNumber) (unanswered under_way kept : List Asked) (responses : List Answered) → All (λ q. by q.seq ≡ q) unanswered → All (λ q. by q.seq ≡ q) under_way → All (λ q. by q.seq ≡ q) kept → All (λ a. answer_to (by a.request_seq) ≡ a) responses
     → ((test : Name → Bool) → count_names test (map name_of unanswered) ≡ count_names test (map name_of under_way) + (count_names test (map name_of kept) + count_names test (map name_in responses))) → AreInOnePlace unanswered under_way kept responses
@@ -439,7 +439,12 @@ names-responses (m ∷ ms) = names-in-one m.kind ms (names-responses ms)
 
 -- the same counts of the same names
 renamed : (test : Name → Bool) (a a2 b b2 c c2 d d2 : List Name) → a2 ≡ a → b2 ≡ b → c2 ≡ c → d2 ≡ d → count_names test a ≡ count_names test b + (count_names test c + count_names test d) → count_names test a2 ≡ count_names test b2 + (count_names test c2 + count_names test d2)
-renamed test a _ b _ c _ d _ refl refl refl refl h = h
+renamed test a a2 b b2 c c2 d d2 p q u v h =
+    let x = ap (count_names test) p in
+    let y = ap (count_names test) q in
+    let z = ap (count_names test) u in
+    let w = ap (count_names test) v in
+    omega (arith, h, x, y, z, w)
 
 pub places : {D : Type 0} (w : World D) → AreNamedInOnePlace w → Sent w → AreInOnePlace (asks w.client.outstanding) (requests_among w.up) (asks w.adapter.session.kept) (responses_among w.down)
 places w h g =

@@ -1,0 +1,85 @@
+-- What the contract of a call gives is a step.
+use Rattle.std.proofs.Common.{◌≡◌, ℕ, List, [], ◌∷◌, ◌++◌, drop, Option, None, refl, sym, ap, ◌∙◌, subst}
+use Rattle.std.specs.Prelude.{IsTrue}
+use Rattle.dap_adapter.specs.AdapterState.{AdapterState}
+use Rattle.dap_adapter.specs.Calls.{Takes, Handled, Saw, TurnGives}
+use Rattle.dap_adapter.specs.declared.taken.Turned.{Turned}
+use Rattle.dap_adapter.specs.declared.taken.Turned.TheVariants.{Idle, Done}
+use Rattle.dap_client.specs.Calls.{refusal_of, answer_refusal_of, Takes as ClientTakes}
+use Rattle.dap_client.specs.ClientState.{ClientState}
+use Rattle.dap_client.specs.Sending.{next_message, sent_bytes, after_send}
+use Rattle.dap_client.specs.StandsFor.{GoesOn as ClientGoesOn}
+use Rattle.dap_client.specs.TerminalResponse.{is_plain_terminal, next_terminal_response, terminal_response_bytes, after_terminal_response}
+use Rattle.dap_client.specs.declared.got.Got.{Got}
+use Rattle.dap_client.specs.declared.terminal.Terminal.{Terminal}
+use Rattle.dap_debuggee.specs.Shown.{Shown}
+use Rattle.dap_history.specs.History.{Out}
+use Rattle.dap_message.specs.PlainCall.{is_plain_call}
+use Rattle.dap_message.specs.ReadBack.{ReadsBack}
+use Rattle.dap_message.specs.Types.Call.{Call}
+use Rattle.dap_message.specs.declared.message.Message.{Message}
+use Rattle.dap_session.specs.Carried.{Goes}
+use Rattle.dap_ways.specs.ByteWorld.{ByteWorld, ByteStep, by_sending, by_answering, by_taking_up, by_taking_down, by_turning, by_polling, client_wrote, adapter_wrote}
+use Rattle.dap_ways.specs.Steps.{ClientSteps, ClientStepsOver, AdapterSteps, AdapterStepsOver, TurnSteps}
+
+module _ {D : Type 0} (shown : D → Shown) (follows : Goes D) where
+  -- a world with this client in place of its own, which is the same
+  with-client : (w : ByteWorld D) (c : ClientState) → w.client ≡ c → record w { client = c } ≡ w
+  with-client w c e = ap (λ (z : ClientState). record w { client = z }) (sym e)
+
+  with-adapter : (w : ByteWorld D) (a : AdapterState D) → w.adapter ≡ a → record w { adapter = a } ≡ w
+  with-adapter w a e = ap (λ (z : AdapterState D). record w { adapter = z }) (sym e)
+
+  pub send-steps : (call : Call) (old new : ClientState) (bytes : List ℕ) → IsTrue (is_plain_call call) → refusal_of call old ≡ None → bytes ≡ sent_bytes old.session call → new ≡ record old { session = after_send call old.session }
+      → ReadsBack old.session.limits.body (next_message old.session call) → ClientGoesOn old new [] (Out (next_message old.session call) [] ∷ []) → ClientSteps shown follows old bytes new
+  send-steps call old new bytes plain sent b n back on = λ w e.
+      let v : ByteWorld D = record w { client = old } in
+      let step : ByteStep shown follows v (client_wrote new bytes v) = by_sending call (record {
+        plain = plain;
+        sent = sent;
+        reads_back = back;
+        goes_on = subst (λ (z : ClientState). ClientGoesOn old z [] (Out (next_message old.session call) [] ∷ [])) n on;
+        is = ap (λ (z : ClientState). client_wrote z bytes v) n ∙ ap (λ (z : List ℕ). client_wrote (record old { session = after_send call old.session }) z v) b;
+      }) in
+      subst (λ (z : ByteWorld D). ByteStep shown follows z (client_wrote new bytes z)) (with-client w old e) step
+
+  pub answer-steps : (q : ℕ) (terminal : Terminal) (old new : ClientState) (bytes : List ℕ) → IsTrue (is_plain_terminal terminal) → answer_refusal_of q old ≡ None → bytes ≡ terminal_response_bytes old.session q terminal → new ≡ record old { session = after_terminal_response q old.session }
+      → ReadsBack old.session.limits.body (next_terminal_response old.session q terminal) → ClientGoesOn old new [] (Out (next_terminal_response old.session q terminal) [] ∷ []) → ClientSteps shown follows old bytes new
+  answer-steps q terminal old new bytes plain sent b n back on = λ w e.
+      let v : ByteWorld D = record w { client = old } in
+      let step : ByteStep shown follows v (client_wrote new bytes v) = by_answering q terminal (record {
+        plain = plain;
+        answered = sent;
+        reads_back = back;
+        goes_on = subst (λ (z : ClientState). ClientGoesOn old z [] (Out (next_terminal_response old.session q terminal) [] ∷ [])) n on;
+        is = ap (λ (z : ClientState). client_wrote z bytes v) n ∙ ap (λ (z : List ℕ). client_wrote (record old { session = after_terminal_response q old.session }) z v) b;
+      }) in
+      subst (λ (z : ByteWorld D). ByteStep shown follows z (client_wrote new bytes z)) (with-client w old e) step
+
+  pub down-steps : (old new : ClientState) (piece : List ℕ) (got : Got) → ClientTakes old piece got got.delivered new → new.session.limits ≡ old.session.limits → ClientStepsOver shown follows old piece got.used got.bytes.items new
+  down-steps old new piece got takes limits = λ w later e f.
+      let v : ByteWorld D = record w { client = old } in
+      let step : ByteStep shown follows v (client_wrote new got.bytes.items (record v { down = drop got.used piece ++ later })) = by_taking_down (record { piece = piece; later = later; front = f; got = got; after = new; takes = takes; limits = limits; is = refl }) in
+      subst (λ (z : ByteWorld D). ByteStep shown follows z (client_wrote new got.bytes.items (record z { down = drop got.used piece ++ later }))) (with-client w old e) step
+
+  pub up-steps : (old new : AdapterState D) (piece : List ℕ) (used : ℕ) (bytes : List ℕ) (delivered : Option Message) → Takes follows old piece used bytes delivered new → new.session.limits ≡ old.session.limits → AdapterStepsOver shown follows old piece used bytes new
+  up-steps old new piece used bytes delivered takes limits = λ w later e f.
+      let v : ByteWorld D = record w { adapter = old } in
+      let step : ByteStep shown follows v (adapter_wrote new bytes (record v { up = drop used piece ++ later })) = by_taking_up (record { piece = piece; later = later; front = f; used = used; bytes = bytes; delivered = delivered; after = new; takes = takes; limits = limits; is = refl }) in
+      subst (λ (z : ByteWorld D). ByteStep shown follows z (adapter_wrote new bytes (record z { up = drop used piece ++ later }))) (with-adapter w old e) step
+
+  handled-steps : (old new : AdapterState D) (bytes : List ℕ) → Handled shown follows old bytes new → new.session.limits ≡ old.session.limits → AdapterSteps shown follows old bytes new
+  handled-steps old new bytes handled limits = λ w e.
+      let v : ByteWorld D = record w { adapter = old } in
+      let step : ByteStep shown follows v (adapter_wrote new bytes v) = by_turning (record { bytes = bytes; after = new; handled = handled; limits = limits; is = refl }) in
+      subst (λ (z : ByteWorld D). ByteStep shown follows z (adapter_wrote new bytes z)) (with-adapter w old e) step
+
+  pub turn-steps : (old new : AdapterState D) (turned : Turned) → TurnGives shown follows old turned new → new.session.limits ≡ old.session.limits → TurnSteps shown follows old turned new
+  turn-steps old new Idle gives limits = gives.1
+  turn-steps old new (Done bytes) gives limits = handled-steps old new bytes.items gives limits
+
+  pub poll-steps : (old new : AdapterState D) (bytes : List ℕ) → Saw follows old bytes new → new.session.limits ≡ old.session.limits → AdapterSteps shown follows old bytes new
+  poll-steps old new bytes saw limits = λ w e.
+      let v : ByteWorld D = record w { adapter = old } in
+      let step : ByteStep shown follows v (adapter_wrote new bytes v) = by_polling (record { bytes = bytes; after = new; saw = saw; limits = limits; is = refl }) in
+      subst (λ (z : ByteWorld D). ByteStep shown follows z (adapter_wrote new bytes z)) (with-adapter w old e) step

@@ -1,0 +1,29 @@
+-- A call of an end as a step, in every world of bytes with that end.
+-- Overview, "Base Protocol".
+use Rattle.std.specs.Prelude.{◌≡◌, ℕ, List, ◌++◌, drop}
+use Rattle.dap_adapter.specs.AdapterState.{AdapterState}
+use Rattle.dap_adapter.specs.declared.taken.Turned.{Turned}
+use Rattle.dap_adapter.specs.declared.taken.Turned.TheVariants.{Idle, Done}
+use Rattle.dap_client.specs.ClientState.{ClientState}
+use Rattle.dap_debuggee.specs.Shown.{Shown}
+use Rattle.dap_session.specs.Carried.{Goes}
+use Rattle.dap_ways.specs.ByteWorld.{ByteWorld, ByteStep, client_wrote, adapter_wrote}
+
+-- whatever is on the ways: the client went from one to the other, and wrote these bytes
+abbrev pub ClientSteps : {D : Type 0} → (D → Shown) → Goes D → ClientState → List ℕ → ClientState → Type 0
+ClientSteps {D} shown follows old bytes new = (w : ByteWorld D) → w.client ≡ old → ByteStep shown follows w (client_wrote new bytes w)
+
+-- and used so many bytes of a piece that is at the front of its way
+abbrev pub ClientStepsOver : {D : Type 0} → (D → Shown) → Goes D → ClientState → List ℕ → ℕ → List ℕ → ClientState → Type 0
+ClientStepsOver {D} shown follows old piece used bytes new = (w : ByteWorld D) (later : List ℕ) → w.client ≡ old → w.down ≡ piece ++ later → ByteStep shown follows w (client_wrote new bytes (record w { down = drop used piece ++ later }))
+
+abbrev pub AdapterSteps : {D : Type 0} → (D → Shown) → Goes D → AdapterState D → List ℕ → AdapterState D → Type 0
+AdapterSteps {D} shown follows old bytes new = (w : ByteWorld D) → w.adapter ≡ old → ByteStep shown follows w (adapter_wrote new bytes w)
+
+abbrev pub AdapterStepsOver : {D : Type 0} → (D → Shown) → Goes D → AdapterState D → List ℕ → ℕ → List ℕ → AdapterState D → Type 0
+AdapterStepsOver {D} shown follows old piece used bytes new = (w : ByteWorld D) (later : List ℕ) → w.adapter ≡ old → w.up ≡ piece ++ later → ByteStep shown follows w (adapter_wrote new bytes (record w { up = drop used piece ++ later }))
+
+-- of a turn: idle, it changes nothing
+abbrev pub TurnSteps : {D : Type 0} → (D → Shown) → Goes D → AdapterState D → Turned → AdapterState D → Type 0
+TurnSteps shown follows old Idle new = new ≡ old
+TurnSteps shown follows old (Done bytes) new = AdapterSteps shown follows old bytes.items new

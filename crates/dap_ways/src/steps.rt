@@ -1,0 +1,103 @@
+//! The steps of a world of bytes, each as the call that it is: a function makes it, and its contract says that it is a step,
+//! whatever is on the ways. What else is to be known of a call stands with the call.
+ghost use Rattle.std.specs.Prelude.{◌≡◌, IfOk, OnErr, IsTrue};
+ghost use Rattle.dap_client.specs.TerminalResponse.{is_plain_terminal};
+ghost use Rattle.dap_debuggee.specs.declared.answers.State.{State};
+ghost use Rattle.dap_message.specs.PlainCall.{is_plain_call};
+ghost use Rattle.dap_ways.specs.ByteWorld.{IsFreshAdapter, IsFreshClient};
+ghost use Rattle.dap_ways.specs.Steps.{AdapterSteps, AdapterStepsOver, ClientSteps, ClientStepsOver, TurnSteps};
+
+use dap_adapter::{Adapter, AdapterFault, Taken, Turned};
+use dap_client::{AnswerFault, Client, ClientFault, Got, SendFault, Sent, Terminal};
+use dap_debuggee::Debuggee;
+use dap_frame::Limits;
+use dap_message::Call;
+use std::alloc::{AllocError, Global};
+
+/// A client with which a schedule starts: [`Client::open`].
+pub fn open_client(alloc: Global, limits: Limits) -> Result<Client, AllocError>
+    ensures { IfOk result (λ c. IsFreshClient limits c) }
+{
+    Client::open(alloc, limits)
+}
+
+/// An adapter with which a schedule starts: [`Adapter::open`].
+pub fn open_adapter<D: Debuggee + Drop>(
+    alloc: Global,
+    limits: Limits,
+    debuggee: D,
+) -> Result<Adapter<D>, AllocError>
+    requires { (D.shown debuggee).state ≡ State.NotStarted }
+    ensures { IfOk result (λ a. IsFreshAdapter limits debuggee a) }
+{
+    Adapter::open(alloc, limits, debuggee)
+}
+
+/// [`Client::send`]. Where it is refused nothing has changed.
+pub fn send<D: Debuggee>(
+    client: &mut Client,
+    alloc: Global,
+    call: &Call,
+) -> Result<Sent, SendFault>
+    requires plain { IsTrue (is_plain_call call.now) }
+    ensures step { IfOk result (λ sent. ClientSteps D.shown D.follows client.old sent.bytes.items client.new) }
+    ensures unchanged { OnErr result (client.new ≡ client.old) }
+{
+    client.send(alloc, call)
+}
+
+/// [`Client::answer`]. Where it is refused nothing has changed.
+pub fn answer<D: Debuggee>(
+    client: &mut Client,
+    alloc: Global,
+    request_seq: u64,
+    terminal: Terminal,
+) -> Result<Vec<u8>, AnswerFault>
+    requires plain { IsTrue (is_plain_terminal terminal) }
+    ensures step { IfOk result (λ bytes. ClientSteps D.shown D.follows client.old bytes.items client.new) }
+    ensures unchanged { OnErr result (client.new ≡ client.old) }
+{
+    client.answer(alloc, request_seq, terminal)
+}
+
+/// [`Client::take`], of any piece off the front of its way.
+pub fn take_down<D: Debuggee>(
+    client: &mut Client,
+    alloc: Global,
+    piece: &[u8],
+) -> Result<Got, ClientFault>
+    ensures step { IfOk result (λ got. ClientStepsOver D.shown D.follows client.old piece.now got.used got.bytes.items client.new) }
+{
+    client.take(alloc, piece)
+}
+
+/// [`Adapter::take`], of any piece off the front of its way.
+pub fn take_up<D: Debuggee + Drop>(
+    adapter: &mut Adapter<D>,
+    alloc: Global,
+    piece: &[u8],
+) -> Result<Taken, AdapterFault>
+    ensures step { IfOk result (λ taken. AdapterStepsOver D.shown D.follows adapter.old piece.now taken.used taken.bytes.items adapter.new) }
+{
+    adapter.take(alloc, piece)
+}
+
+/// [`Adapter::turn`]: a step, or where no request waits nothing has changed.
+pub fn turn<D: Debuggee + Drop>(
+    adapter: &mut Adapter<D>,
+    alloc: Global,
+) -> Result<Turned, AdapterFault>
+    ensures step { IfOk result (λ turned. TurnSteps D.shown D.follows adapter.old turned adapter.new) }
+{
+    adapter.turn(alloc)
+}
+
+/// [`Adapter::poll`].
+pub fn poll<D: Debuggee + Drop>(
+    adapter: &mut Adapter<D>,
+    alloc: Global,
+) -> Result<Vec<u8>, AdapterFault>
+    ensures step { IfOk result (λ bytes. AdapterSteps D.shown D.follows adapter.old bytes.items adapter.new) }
+{
+    adapter.poll(alloc)
+}
