@@ -1,5 +1,5 @@
 //! A script, and what the checker says of its transcript.
-ghost use Rattle.std.specs.Prelude.{◌≡◌, ◌×◌, IfOk, IfErr, Option};
+ghost use Rattle.std.specs.Prelude.{◌≡◌, IfOk, IfErr};
 ghost use Rattle.std.specs.Str.Lines.{lines};
 ghost use Rattle.dap_check.specs.declared.rule.Checked.{Checked};
 ghost use Rattle.dap_debuggee.specs.Laws.{StopsLast};

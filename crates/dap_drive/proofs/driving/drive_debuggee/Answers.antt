@@ -32,8 +32,8 @@ returns-in-Err-clause-stops g c =
 
 pub returns-clause-drives : goal.returns-clause-drives
 returns-clause-drives g c =
-    part_way_done (driven_by g.D.Debuggee.shown g.D.Debuggee.follows c.args.limits c.args.debuggee) c.each_schedule_agrees.ensures.agrees c.each_schedule_agrees.ensures.rules c.canonical_text_is_one_line.ensures c.args.script.now c.loop-rest.rest.now c.loop-rest.number (both_of c.loop-rest.drive) c.into_parts.result.0.items c.into_parts.result.1
-    (no_items c.loop-rest.rest.now _ refl (sym c.is_empty.ensures ∙ c.loop-rest-test.false)) (ap (λ (v : _). v.items) c.into_parts.ensures.transcript) c.into_parts.ensures.debuggee c.loop-rest.invariant.part
+    part_way_done (driven_by g.D.Debuggee.shown g.D.Debuggee.follows c.args.limits c.args.debuggee) c.each_schedule_agrees.ensures.agrees c.each_schedule_agrees.ensures.rules c.canonical_text_is_one_line.ensures c.args.script.now c.loop-rest.rest.now c.loop-rest.number (both_of c.loop-rest.drive) c.into_parts-transcript.result.0.items c.into_parts-transcript.result.1
+    (no_items c.loop-rest.rest.now _ refl (sym c.is_empty.ensures ∙ c.loop-rest-test.false)) (ap (λ (v : _). v.items) c.into_parts-transcript.ensures.transcript) c.into_parts-transcript.ensures.debuggee c.loop-rest.invariant.part
 
 pub returns-in-Err-clause-numbers : goal.returns-in-Err-clause-numbers
 returns-in-Err-clause-numbers g c = λ stops client.
@@ -45,4 +45,4 @@ returns-in-Err-clause-numbers g c = λ stops client.
 
 pub returns-clause-legal : goal.returns-clause-legal
 returns-clause-legal g c = λ stops.
-    legal-text g.D.Debuggee.shown g.D.Debuggee.follows c.args.limits c.args.debuggee c.loop-rest.invariant.part.run.quiet.at.in_range c.references_agree_while_stops_last.ensures.legal stops (lines c.args.script.now) c.into_parts.result.0.items c.into_parts.result.1 (returns-clause-drives g c)
+    legal-text g.D.Debuggee.shown g.D.Debuggee.follows c.args.limits c.args.debuggee c.loop-rest.invariant.part.run.quiet.at.in_range c.references_agree_while_stops_last.ensures.legal stops (lines c.args.script.now) c.into_parts-transcript.result.0.items c.into_parts-transcript.result.1 (returns-clause-drives g c)
