@@ -375,8 +375,6 @@ def drive_of(recording, script, **limits):
     """What `dap drive` prints: the status, the transcript, and the fault's line."""
     drive = Drive(recording, **limits)
     for number, line in lines_of(script):
-        if line.startswith(b"#"):
-            continue
         try:
             script_line(drive, line)
         except Fault as fault:

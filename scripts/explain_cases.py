@@ -250,7 +250,7 @@ def lines():
 # A script up to a stop, and what is refused behind it.
 TO_STOP = b"send initialize {}\nrun\nsend launch\nsend configurationDone\nrun\n"
 SCRIPTS = [
-    (b"\n# none\nnone\n", [], "Script at line 3", 3, b"none", ""),
+    (b"\nrun\nnone\n", [], "Script at line 3", 3, b"none", ""),
     (b"send none\n", [], "Script at line 1", 1, b"send none", ""),
     (b"send initialize {\n", [], "Script at line 1", 1, b"send initialize {", ""),
     (b'send initialize {"linesStartAt1":1}\n', [], "Call at line 1", 1, b'send initialize {"linesStartAt1":1}', ""),

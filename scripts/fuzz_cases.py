@@ -93,7 +93,7 @@ def header_limit(choice):
 def listing_case(choice):
     options = {**header_limit(choice), **({"max_body": 1024} if chance(choice, 6) else {})}
     tool = choice.choice(["show", "show", "unwrap"])
-    for option in ("json", "keep_going") if tool == "show" else ():
+    for option in ("json", "reasons", "keep_going") if tool == "show" else ():
         if chance(choice, 3):
             options[option] = True
     return Case(tool, [stream_of(choice, messages(choice), options)], options)
@@ -253,7 +253,7 @@ def script_over(choice, content):
     script, options = b"", {}
     if is_recording(content):
         script, options = random_script(choice, read_recording(content))
-    return Case("drive", [content, script], options)
+    return Case("drive", [content, script], with_check(choice, options))
 
 
 def is_recording(content):
@@ -276,13 +276,17 @@ def script_case(choice):
     for _ in range(choice.choice([0, 0, 0, 1, 1, 2])):
         place = choice.randrange(len(lines) + 1)
         lines[place : place + 1] = [odd_line(choice, b"".join(lines[place : place + 1]))]
-    return Case("drive", [bytes_of(path), bytes_with_damage(choice, b"".join(lines), 10)], options)
+    return Case("drive", [bytes_of(path), bytes_with_damage(choice, b"".join(lines), 10)], with_check(choice, options))
+
+
+def with_check(choice, options):
+    return {**options, "check": True} if chance(choice, 4) else options
 
 
 def odd_line(choice, line):
     """The line with damaged arguments, or another one."""
     if chance(choice, 8):
-        return choice.choice([b"run", b"poll", b"turn", b"", b"run ", b"Run", b"send", b"send next", b"turn\r"]) + b"\n"
+        return choice.choice([b"run", b"poll", b"turn", b"", b"run ", b"Run", b"send", b"send next", b"turn\r", b"#", b"# run"]) + b"\n"
     command, value = sent_by(line)
     command = command or choice.choice([*sorted(MAY_SEND), "goto"])
     if command in ("launch", "attach") and chance(choice, 3):

@@ -61,17 +61,18 @@ def line_for(offset, message):
     if message.type == "request":
         return f"{told}request {without_controls(message.command)}\n"
     if message.type == "response":
-        return f"{told}response {without_controls(message.command)} {message.request_seq} {outcome_of(message)}\n"
+        return f"{told}response {without_controls(message.command)} {message.request_seq} {'ok' if message.success else 'failed'}\n"
     if message.type == "event":
         return f"{told}event {without_controls(message.event)}\n"
     return f"{told}other {without_controls(message.type)}\n"
 
 
-def outcome_of(response):
-    """Whether it succeeded, and why not, where it says so."""
-    if response.success:
-        return "ok"
-    return "failed" if response.reason is None else f"failed {without_controls(response.reason)}"
+def line_with_reason(offset, message):
+    """The same, with why a request failed behind it, where the response says so."""
+    line = line_for(offset, message)
+    if message.type != "response" or message.success or message.reason is None:
+        return line
+    return f"{line[:-1]} {without_controls(message.reason)}\n"
 
 
 def without_controls(text):
@@ -85,11 +86,13 @@ def on_one_line(body):
 # The line of a body, by its form; then that of one which is no message.
 FORMS = {
     "line": lambda offset, body, message: line_for(offset, message).encode(),
+    "reasons": lambda offset, body, message: line_with_reason(offset, message).encode(),
     "object": lambda offset, body, message: b'{"offset":%d,"bytes":%d,"message":%b}\n' % (offset, len(body), on_one_line(body)),
     "body": lambda offset, body, message: on_one_line(body) + b"\n",
 }
 REFUSED_FORMS = {
     "line": lambda offset, body, name: f"{offset} refused {name}\n".encode(),
+    "reasons": lambda offset, body, name: f"{offset} refused {name}\n".encode(),
     "object": lambda offset, body, name: b'{"offset":%d,"bytes":%d,"refused":"%b"}\n' % (offset, len(body), name.encode()),
 }
 
@@ -112,8 +115,8 @@ def listing(stream, form, keep_going, max_header, max_body):
     return status, b"".join(lines), b""
 
 
-def show(stream, max_header=MAX_HEADER, max_body=MAX_BODY, json=False, keep_going=False):
-    return listing(stream, "object" if json else "line", keep_going, max_header, max_body)
+def show(stream, max_header=MAX_HEADER, max_body=MAX_BODY, json=False, reasons=False, keep_going=False):
+    return listing(stream, "object" if json else "reasons" if reasons else "line", keep_going, max_header, max_body)
 
 
 def unwrap(stream, max_header=MAX_HEADER, max_body=MAX_BODY):

@@ -180,13 +180,15 @@ def response_taken(adapter, message):
         raise Refused(str(closed)) from None
 
 
-def drive(recording, script, **limits):
+def drive(recording, script, check=False, **limits):
+    """What it prints is legal, so that nothing else is ever found in it."""
     limits.pop("max_header", None)
     try:
         told = read_recording(recording)
     except Refused:
         return 3, b"", b"dap: Recording\n"
-    return drive_of(told, script, **limits)
+    status, out, err = drive_of(told, script, **limits)
+    return status, out, b"legal\n" if check and status == 0 else err
 
 
 def check(content, **options):
@@ -212,7 +214,7 @@ def main():
     words.add_argument("files", nargs="+")
     for name in LIMITS:
         words.add_argument(f"--max-{name}", type=int, default=argparse.SUPPRESS)
-    for name in ("explain", "all", "open", "bodies", "json", "keep-going"):
+    for name in ("explain", "all", "open", "bodies", "json", "reasons", "keep-going", "check"):
         words.add_argument(f"--{name}", action="store_true", default=argparse.SUPPRESS)
     words.add_argument("--any-seq", choices=("client", "adapter", "both"), default=argparse.SUPPRESS)
     options = vars(words.parse_args(["--any-seq=both" if word == "--any-seq" else word for word in sys.argv[1:]]))

@@ -45,7 +45,7 @@ def failure(**keys):
 
 
 def reasons():
-    """Why a request failed is behind `failed`, with its control characters hidden, and nowhere else."""
+    """With `--reasons` why a request failed is behind `failed`, with its control characters hidden; else nothing is."""
     for name, body, told in [
         ("none", failure(), "failed"),
         ("null", failure(message=None), "failed"),
@@ -58,9 +58,20 @@ def reasons():
         ("behind a body", failure(body={"error": {"id": 1, "format": "why"}}, message="m"), "failed m"),
         ("of a success", failure(success=True, message="cancelled"), "ok"),
     ]:
-        expect(f"show: a reason, {name}", with_file("show", frame(body)), (0, f"0 1 response next 1 {told}\n".encode(), b""))
+        outcome, line = told.split(" ")[0], f"0 1 response next 1 {told}\n".encode()
+        plain = f"0 1 response next 1 {outcome}\n".encode()
+        expect(f"show: no reason, {name}", with_file("show", frame(body)), (0, plain, b""))
+        expect(f"show --reasons: {name}", with_file("show", frame(body), "--reasons"), (0, line, b""))
+        expect(f"show - --reasons: {name}", with_input("show", frame(body), "--reasons"), (0, line, b""))
     twice = b'{"seq":1,"type":"response","request_seq":1,"success":false,"command":"next","message":"a","message":"b"}'
-    expect("show: a reason, the last of two", with_file("show", frame(twice)), (0, b"0 1 response next 1 failed b\n", b""))
+    expect("show --reasons: the last of two", with_file("show", frame(twice), "--reasons"), (0, b"0 1 response next 1 failed b\n", b""))
+    both, failed = frame(b"{}") + frame(failure(message="m")), b"23 1 response next 1 failed m\n"
+    expect("show --reasons --keep-going", with_file("show", both, "--reasons", "--keep-going"), (3, b"0 refused BadSeq\n" + failed, b""))
+    objects = with_file("show", frame(failure(message="m")), "--json")
+    expect("show --reasons --json: as without", with_file("show", frame(failure(message="m")), "--json", "--reasons"), objects)
+    status, out, err = run(["unwrap", "/dev/null", "--reasons"])
+    expect("unwrap has no --reasons", (status, out), (2, b""))
+    expect_in("unwrap has no --reasons: message", err, b"unexpected argument '--reasons'")
 
 
 def unwrap():

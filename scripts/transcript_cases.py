@@ -848,6 +848,7 @@ def drives():
         ("arguments that count for nothing", 'send initialize {"adapterID":"rec","x":1.5,"linesStartAt1":null}\nrun', BEGUN),
     ]:
         expect(f"drive: {name}", drive(script), (0, wanted, b""))
+        expect(f"drive --check: {name}", drive(script, "--check"), (0, wanted, b"legal\n"))
         if checks:
             expect(f"drive: {name}: is legal", check(wanted), LEGAL)
     drive_terminals(checks)
@@ -898,6 +899,10 @@ def drive_faults():
         ("no JSON", "send threads {", (), "Script at line 1"),
         ("no UTF-8", b"send threads \"\xff\"", (), "Script at line 1"),
         ("a CR at the end", "run\r", (), "Script at line 1"),
+        ("a comment, which there is none", "\n# run\nrun", (), "Script at line 2"),
+        ("a comment without a word", "#", (), "Script at line 1"),
+        ("a comment behind a word", "run # to the end", (), "Script at line 1"),
+        ("a comment behind a blank", " # run", (), "Script at line 1"),
         ("a missing argument", "send next {}", (), "Call at line 1"),
         ("no arguments", "send next", (), "Call at line 1"),
         ("`null` as arguments", "send next null", (), "Call at line 1"),
@@ -927,6 +932,7 @@ def drive_faults():
         ("a frame in place of variables", STOP + 'send variables {"variablesReference":1}', (), "UnknownReference at line 8"),
     ]:
         expect(f"drive: {name}", drive(script, *words), refused(line))
+        expect(f"drive --check: {name}", drive(script, *words, "--check"), refused(line))
 
 
 def drive_stopped(checks):
@@ -936,6 +942,7 @@ def drive_stopped(checks):
     script = (STOP + "".join(f"{line}\nrun\n" for line in looks)).encode()
     wanted = drive_of(recording_of(RECORDING), script)
     expect("drive: a session with a stop", drive(script), wanted)
+    expect("drive --check: a session with a stop", drive(script, "--check"), (0, wanted[1], b"legal\n"))
     expect("drive: its first lines", wanted[1][: len(BEGUN)], BEGUN)
     if checks:
         expect("drive: a session with a stop: is legal", check(wanted[1]), LEGAL)
@@ -959,6 +966,7 @@ def drive_files():
         (["drive", RECORDING], b"<SCRIPT>"),
         (["drive", RECORDING, RECORDING, "--max-seq", "0"], b"1..=9007199254740991"),
         (["drive", RECORDING, RECORDING, "--any-seq"], b"--any-seq"),
+        (["drive", RECORDING, RECORDING, "--check=all"], b"--check"),
     ]:
         status, out, err = run(words)
         expect(f"usage of {' '.join(words[:1] + words[2:])}", (status, out), (2, b""))

@@ -66,8 +66,8 @@ class Scripted:
     def line(self, line):
         self.lines.append(line)
         try:
-            # An empty line is skipped, and so is a comment.
-            if line and not line.startswith(b"#"):
+            # An empty line is skipped.
+            if line:
                 script_line(self.drive, line)
         except Fault:
             self.is_over = True
@@ -131,12 +131,12 @@ class Scripted:
         elif self.choice.randrange(5) < 3:
             self.send()
         else:
-            self.line(self.choice.choice([b"run"] * 6 + [b"turn", b"turn", b"poll", b"", b"# run"]))
+            self.line(self.choice.choice([b"run"] * 6 + [b"turn", b"turn", b"poll", b""]))
 
     def refused(self):
         """A line that is refused where it stands, or mostly so."""
         lines = [b"jump", b"send", b"send jump", b"run ", b"send threads {", b"send  threads", b"\xff", b"send threads \xff"]
-        lines += [b"terminal", b"terminal ok ", b"terminal no"]
+        lines += [b"terminal", b"terminal ok ", b"terminal no", b"#", b"# run", b"#run", b"run # to the end"]
         lines += [b"send next {}", b"send launch []", b'send launch {"a":1.5}', b"send initialize", b"send restart"]
         lines += [b'send scopes {"frameId":99}', b'send stackTrace {"threadId":1}']
         lines += [b'send variables {"variablesReference":-1}', b'send variables {"variablesReference":1}']

@@ -158,7 +158,7 @@ fn show<'a>(alloc: Global, limit_texts: &'a [String]) -> Result<Command<'a>, All
     let show = Command::new(alloc, "show")
         .about("Lists the messages of a stream, one a line")
         .after_help(
-            "A line has the offset of the frame, the sequence number, then `request` COMMAND, `event` EVENT, `response` COMMAND REQUEST_SEQ `ok` or `failed`, behind which is why, or `other` TYPE. A refused body is OFFSET `refused` CAUSE.\n\nStatuses: 0 all is listed, 2 usage, 3 a frame, a body or the length of the file is refused, 4 the file ends within a frame, 5 read or write, 6 memory",
+            "A line has the offset of the frame, the sequence number, then `request` COMMAND, `event` EVENT, `response` COMMAND REQUEST_SEQ `ok` or `failed`, or `other` TYPE. A refused body is OFFSET `refused` CAUSE.\n\nStatuses: 0 all is listed, 2 usage, 3 a frame, a body or the length of the file is refused, 4 the file ends within a frame, 5 read or write, 6 memory",
         )
         .arg(file_of(
             alloc,
@@ -168,6 +168,11 @@ fn show<'a>(alloc: Global, limit_texts: &'a [String]) -> Result<Command<'a>, All
             alloc,
             "json",
             "Writes a JSON object a line, with `offset`, `bytes` and `message`",
+        ))?
+        .arg(flag(
+            alloc,
+            "reasons",
+            "Says behind `failed` why, where the response has a `message`",
         ))?
         .arg(flag(
             alloc,
@@ -275,7 +280,7 @@ fn drive<'a>(alloc: Global, limit_texts: &'a [String]) -> Result<Command<'a>, Al
             "Runs a client and an adapter against each other by a script, and prints the transcript",
         )
         .after_help(
-            "A line of the script is one of\n  send COMMAND [ARGUMENTS]  the client sends a request; ARGUMENTS is JSON\n  terminal ok               the client answers the oldest request for a terminal: the debuggee runs in it\n  terminal no               the client answers it: the terminal is refused\n  turn                      the adapter handles the oldest request that waits\n  poll                      the adapter tells what happened to the debuggee, once\n  run                       turns until none waits, then polls until nothing comes or the debuggee stops\nEmpty lines, and comments, which begin with `#`, are skipped, and counted. Each message is delivered once it is written. At a fault nothing is printed.\n\nStatuses: 0 the script was run, 2 usage, 3 the recording, a line, a request or a message is refused, or a file is too long, 5 read or write, 6 memory",
+            "A line of the script is one of\n  send COMMAND [ARGUMENTS]  the client sends a request; ARGUMENTS is JSON\n  terminal ok               the client answers the oldest request for a terminal: the debuggee runs in it\n  terminal no               the client answers it: the terminal is refused\n  turn                      the adapter handles the oldest request that waits\n  poll                      the adapter tells what happened to the debuggee, once\n  run                       turns until none waits, then polls until nothing comes or the debuggee stops\nEmpty lines are skipped, and counted. Each message is delivered once it is written. At a fault nothing is printed.\n\nStatuses: 0 the script was run, 2 usage, 3 the recording, a line, a request or a message is refused, a rule is broken, or a file is too long, 5 read or write, 6 memory",
         )
         .arg(recording(alloc))?
         .arg(file_word(
@@ -283,6 +288,11 @@ fn drive<'a>(alloc: Global, limit_texts: &'a [String]) -> Result<Command<'a>, Al
             "script",
             "SCRIPT",
             "What is done, one step a line, of at most 67108864 bytes",
+        ))?
+        .arg(flag(
+            alloc,
+            "check",
+            "Checks the transcript too, and prints `legal`, or `line L rule K`, on standard error",
         ))?
         .arg(explain_faults(alloc))?;
     with_limits(alloc, drive, limit_texts, LIMIT_OPTIONS.len())

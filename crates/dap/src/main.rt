@@ -17,8 +17,9 @@ use dap_host::{Host, host_channel};
 use dap_recording::RecordingFault;
 use dap_replay::Recorded;
 use dap_tool::{
-    DriveFault, FileFault, FollowFault, Form, MAX_FILE, OpenFault, Shown, Style, ToolFault,
-    check_text, explanation, fault_line, follow, most_reads, read_whole, status,
+    Checked, DriveFault, FileFault, FollowFault, Form, MAX_FILE, OpenFault, Shown, Style,
+    ToolFault, check_text, drive_and_check, explanation, fault_line, follow, most_reads,
+    read_whole, status, verdict_line,
 };
 use std::alloc::{AllocError, AllocFailed, Global};
 use std::fs::File;
@@ -191,6 +192,8 @@ fn serve(rt: &HostRuntime, matches: &ArgMatches<'_>) -> u8 {
 fn show(rt: &HostRuntime, matches: &ArgMatches<'_>) -> u8 {
     let form = if matches.get_flag("json") {
         Form::Object
+    } else if matches.get_flag("reasons") {
+        Form::Reasons
     } else {
         Form::Line
     };
@@ -308,7 +311,7 @@ fn check(rt: &HostRuntime, matches: &ArgMatches<'_>) -> u8 {
 }
 
 /// Runs both ends by the script that a file is, over the recording that another is, and writes the transcript on standard
-/// output. At a fault nothing is written.
+/// output, and where it is asked for what is found in it on standard error. At a fault nothing is written.
 fn drive(rt: &HostRuntime, matches: &ArgMatches<'_>) -> u8 {
     let Ok(limits) = command_line::limits(matches) else {
         return USAGE;
@@ -321,6 +324,9 @@ fn drive(rt: &HostRuntime, matches: &ArgMatches<'_>) -> u8 {
         Ok(bytes) => bytes,
         Err(code) => return code,
     };
+    if matches.get_flag("check") {
+        return drive_checked(rt, matches, &recording, &script, limits);
+    }
     let transcript = match dap_tool::drive(rt.alloc(), &recording, &script, limits) {
         Ok(transcript) => transcript,
         Err(fault) => return tell_driving(rt, matches, &recording, &script, fault),
@@ -328,6 +334,32 @@ fn drive(rt: &HostRuntime, matches: &ArgMatches<'_>) -> u8 {
     match print(rt, &transcript) {
         Ok(()) => 0,
         Err(_) => tell_unwritten(rt, matches, &ToolFault::Write),
+    }
+}
+
+/// The same, with what is found in the transcript.
+fn drive_checked(
+    rt: &HostRuntime,
+    matches: &ArgMatches<'_>,
+    recording: &[u8],
+    script: &[u8],
+    limits: Limits,
+) -> u8 {
+    let found = match drive_and_check(rt.alloc(), recording, script, limits) {
+        Ok(found) => found,
+        Err(fault) => return tell_driving(rt, matches, recording, script, fault),
+    };
+    let Ok(line) = verdict_line(rt.alloc(), found.checked) else {
+        return tell_line(rt, &ToolFault::OutOfMemory);
+    };
+    if print(rt, &found.transcript).is_err() {
+        return tell_unwritten(rt, matches, &ToolFault::Write);
+    }
+    // Where the line cannot be written, the status still tells.
+    let _ = rt.stderr().write_all(line.as_bytes());
+    match found.checked {
+        Checked::Legal => 0,
+        Checked::Finding { .. } => FINDING,
     }
 }
 

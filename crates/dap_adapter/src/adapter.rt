@@ -123,6 +123,14 @@ impl<D: Debuggee + Drop> Adapter<D> {
         self.session.asked()
     }
 
+    /// The debuggee, as the calls left it. Nothing is told to the client any more.
+    pub fn into_debuggee(self) -> D
+        ensures { result ≡ self.debuggee }
+    {
+        let Adapter { session, .. } = self;
+        session.into_debuggee()
+    }
+
     /// The bytes held of the frame under way. After a fault there are none.
     pub fn held(&self) -> usize
         ensures held { result ≡ length self.now.intake.held }

@@ -18,7 +18,7 @@ use dap_c_parts::codes::{
     YT_BAD_ARGUMENTS, YT_BAD_LINE, YT_FINDING, YT_NO_MEMORY, YT_NO_MESSAGE, YT_NOTHING, YT_OK,
 };
 use dap_c_parts::copying::put;
-use dap_check::{AnySeq, CheckFault, Checked, Rule, check};
+use dap_check::{AnySeq, CheckFault, Checked, Rule, check_by_side};
 use dap_explain::{explain, sentence};
 use std::alloc::Global;
 
@@ -105,7 +105,7 @@ fn judge(alloc: Global, text: &[u8], any_seq: AnySeq, verdict: &mut YtVerdict) -
     ensures checks { (transcript : List Line) (checked : Checked) → AreLines 1 (lines text.now) transcript → IsVerdict any_seq transcript checked → TellsChecked checked result verdict.new ⊎ (result ≡ YT_NO_MEMORY) }
     ensures refuses { (fault : CheckFault) → FirstRefused (lines text.now) fault → fault ≢ CheckFault.OutOfMemory → TellsRefused fault result verdict.new ⊎ (result ≡ YT_NO_MEMORY) }
 {
-    match check(alloc, text, any_seq) {
+    match check_by_side(alloc, text, any_seq) {
         Ok(checked) => tell(checked, verdict),
         Err(fault) => {
             *verdict = YtVerdict {

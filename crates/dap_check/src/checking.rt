@@ -7,6 +7,7 @@ ghost use Rattle.dap_check.specs.PrivateKept.{IsProgress};
 ghost use Rattle.dap_check.specs.PrivateOpen.{AreFrom};
 ghost use Rattle.dap_check.specs.Findings.{finding_at, first_of, IsReport};
 ghost use Rattle.dap_check.specs.Legal.{IsVerdict};
+ghost use Rattle.dap_check.specs.Rules.{of_both_if};
 ghost use Rattle.dap_check.specs.Transcript.{IsLine, AreLines, Refuses, FirstRefused};
 ghost use Rattle.dap_check.specs.declared.checking.CheckFault.{CheckFault};
 ghost use Rattle.dap_check.specs.declared.line.Line.{Line as TheLine};
@@ -188,9 +189,25 @@ fn first(findings: &[Finding]) -> Checked
 }
 
 /// Whether a transcript keeps the rules. Of one that does not, the least line that breaks a rule is told, and the least
-/// rule that it breaks. `any_seq` says whose numbers are not tested. A line that is none, or no message, is told before any
-/// finding.
-pub fn check(alloc: Global, bytes: &[u8], any_seq: AnySeq) -> Result<Checked, CheckFault>
+/// rule that it breaks. With `any_seq` messages may have any number: rule 1 is not tested. A line that is none, or no message,
+/// is told before any finding. [`check_by_side`] leaves rule 1 out for one side alone.
+pub fn check(alloc: Global, bytes: &[u8], any_seq: bool) -> Result<Checked, CheckFault>
+    ensures checked { IfOk result (λ told. (transcript : List TheLine) × AreLines 1 (lines bytes.now) transcript × IsVerdict (of_both_if any_seq) transcript told) }
+    ensures refused { IfErr result (FirstRefused (lines bytes.now)) }
+
+    // And the other way, unless memory runs out.
+    ensures checks { (transcript : List TheLine) (told : Checked) → AreLines 1 (lines bytes.now) transcript → IsVerdict (of_both_if any_seq) transcript told → (result ≡ Ok told) ⊎ (result ≡ Err CheckFault.OutOfMemory) }
+    ensures refuses { (fault : CheckFault) → FirstRefused (lines bytes.now) fault → fault ≢ CheckFault.OutOfMemory → (result ≡ Err fault) ⊎ (result ≡ Err CheckFault.OutOfMemory) }
+{
+    check_by_side(alloc, bytes, AnySeq::of_both_if(any_seq))
+}
+
+/// The same, where `any_seq` says whose numbers are not tested: those of neither side, of one, or of both.
+pub fn check_by_side(
+    alloc: Global,
+    bytes: &[u8],
+    any_seq: AnySeq,
+) -> Result<Checked, CheckFault>
     ensures checked { IfOk result (λ told. (transcript : List TheLine) × AreLines 1 (lines bytes.now) transcript × IsVerdict any_seq transcript told) }
     ensures refused { IfErr result (FirstRefused (lines bytes.now)) }
 
@@ -207,7 +224,7 @@ pub fn check(alloc: Global, bytes: &[u8], any_seq: AnySeq) -> Result<Checked, Ch
 }
 
 /// Each line that breaks a rule, with the least rule that it breaks, and each request that nothing has answered. A line is
-/// judged by all lines before it, also by those that break a rule. The first finding is that of [`check`]; a line that is
+/// judged by all lines before it, also by those that break a rule. The first finding is that of [`check_by_side`]; a line that is
 /// none, or no message, is reported before any. `bodies` asks to look out for faults of messages on the way
 /// ([`message_fault`](dap_shape::message_fault)), so that only few messages are to be looked at again.
 pub fn check_all(

@@ -22,7 +22,7 @@ mod unanswered;
 mod waiting;
 pub mod words;
 
-pub use checking::{CheckFault, check, check_all};
+pub use checking::{CheckFault, check, check_all, check_by_side};
 pub use cutting::split_line;
 pub use line::{Line, Side};
 pub use reading::read_line;

@@ -1,5 +1,5 @@
 -- A message that is under way is delivered, and what is written then is under way; or why it is not.
-use Rattle.std.proofs.Common.{◌≡◌, ℕ, ◌<◌, List, [], ◌∷◌, ◌++◌, length, map, take, drop, Option, Some, None, Ok, Err, refl, sym, ap, ◌∙◌, subst, arith, append-nil, inl, inr}
+use Rattle.std.proofs.Common.{◌≡◌, ◌≢◌, ℕ, ◌<◌, List, [], ◌∷◌, ◌++◌, length, map, take, drop, Option, Some, None, Ok, Err, refl, sym, ap, ◌∙◌, subst, arith, append-nil, inl, inr}
 use Rattle.std.specs.Prelude.{◌⊎◌}
 use Rattle.dap_frame.specs.Intake.{Intake, StandsFor as StandsForStream}
 use Rattle.dap_frame.specs.Settings.{Settings, AreInRange, bounds_of}
@@ -39,6 +39,7 @@ use Rattle.dap_world.specs.World.{World, Said, said_by, client_said, adapter_sai
 use Rattle.dap_drive.specs.PrivateFaults.{FrameLaws, fault_of_client, fault_of_adapter}
 use Rattle.dap_drive.specs.PrivateFrames.{AreFrames, AreFramesOf}
 use Rattle.dap_drive.specs.PrivateHeld.{Driving, BothEnds, IsClientAt, IsAdapterAt, HasDelivered, StopsDelivering}
+use Rattle.dap_drive.specs.Driven.{IsLeft}
 use Rattle.dap_drive.specs.PrivateLines.{IsBetween, WritesLines, IsUnwritten, lines_of}
 use Rattle.dap_drive.specs.Orders.{Delivers, one_up, one_down, LacksNumbers, HasTooManyReferences}
 use Rattle.dap_drive.specs.Transcript.{text_of}
@@ -239,15 +240,15 @@ module _ {D : Type 0} (laws : FrameLaws) (drive : Driving D) (agrees : EachSched
   -- ---- why the client does not
 
   client_closed : (ends : BothEnds D) (up rest : List ℕ) (h : At ends up rest) → 0 < length rest → (f : ClientFault) → ClientClosedBy ends.client.intake ends.client.session rest f
-      → (now : World D) × Delivers drive.follows start now × HasTooManyReferences now
+      → (now : World D) × Delivers drive.follows start now × HasTooManyReferences now × IsLeft now ends.adapter.debuggee
   client_closed ends up rest h some f t =
       let first = some_message drive.limits h.world.down rest h.down_is some in
       let is_first = first_down ends up rest h first.0 first.1 first.2 t.n t.whole in
       let closes : client_takes first.0 h.world.client ≡ Err f = subst (λ (z : Message). client_takes z h.world.client ≡ Err f) (is_first.only t.message t.read) (subst (λ (z : ClientSession). client_takes t.message z ≡ Err f) h.at.client_at.session_is t.closes) in
       let limit : f ≡ client_fault.ReferenceLimit = (agrees drive.limits drive.debuggee h.world h.at.in_range h.at.schedule).fault.down first.0 first.1 f first.2 closes in
-      (h.world, h.delivers, (first.0, first.1, first.2, subst (λ (z : ClientFault). client_takes first.0 h.world.client ≡ Err z) limit closes))
+      (h.world, h.delivers, (first.0, first.1, first.2, subst (λ (z : ClientFault). client_takes first.0 h.world.client ≡ Err z) limit closes), h.at.adapter_at.debuggee_is)
 
-  pub client_stops : (ends : BothEnds D) (up rest : List ℕ) (h : At ends up rest) → 0 < length rest → (f : ClientFault) → ClientTakeRefused ends.client.intake ends.client.session rest f → StopsDelivering drive (fault_of_client f) start
+  pub client_stops : (ends : BothEnds D) (up rest : List ℕ) (h : At ends up rest) → 0 < length rest → (f : ClientFault) → ClientTakeRefused ends.client.intake ends.client.session rest f → StopsDelivering drive (fault_of_client f) start ends.adapter.debuggee
   client_stops ends up rest h some (client_fault.Frame fault) t =
       let c = h.at.client_at in
       absurd (not_closed laws.one_split (bounds_of drive.limits) laws.moves ends.client.intake t.closed c.came c.stands.received.bodies rest fault (map canon h.world.down) (header drive.limits h.at.in_range) (client_bounds laws drive.limits ends.client h.world.client c) (client_stream laws drive.limits ends.client h.world.client c) t.closes h.down_is)
@@ -395,26 +396,27 @@ module _ {D : Type 0} (laws : FrameLaws) (drive : Driving D) (agrees : EachSched
 
   -- ---- why the adapter does not
 
-  adapter_closed : (ends : BothEnds D) (rest down : List ℕ) (h : At ends rest down) → 0 < length rest → (f : AdapterFault) → AdapterClosedBy ends.adapter.intake ends.adapter.session rest f
-      → (now : World D) × Delivers drive.follows start now × LacksNumbers drive.shown drive.follows to_take now
-  adapter_closed ends rest down h some f t =
+  adapter_closed : (ends : BothEnds D) (rest down : List ℕ) (h : At ends rest down) → 0 < length rest → (f : AdapterFault) (after : D) → after ≡ ends.adapter.debuggee → AdapterClosedBy ends.adapter.intake ends.adapter.session rest f
+      → (now : World D) × Delivers drive.follows start now × LacksNumbers drive.shown drive.follows to_take now after
+  adapter_closed ends rest down h some f after same t =
       let first = some_message drive.limits h.world.up rest h.up_is some in
       let is_first = first_up ends rest down h first.0 first.1 first.2 t.n t.whole in
       let closes : takes first.0 h.world.adapter.session ≡ Err f = subst (λ (z : Message). takes z h.world.adapter.session ≡ Err f) (is_first.only t.message t.read) (subst (λ (z : Session). takes t.message z ≡ Err f) h.at.adapter_at.session_is t.closes) in
       let lacks : f ≡ adapter_fault.SeqExhausted = (agrees drive.limits drive.debuggee h.world h.at.in_range h.at.schedule).fault.up first.0 first.1 f first.2 closes in
-      (h.world, h.delivers, (first.0, first.1, first.2, subst (λ (z : AdapterFault). takes first.0 h.world.adapter.session ≡ Err z) lacks closes))
+      (h.world, h.delivers, (first.0, first.1, first.2, subst (λ (z : AdapterFault). takes first.0 h.world.adapter.session ≡ Err z) lacks closes, same ∙ h.at.adapter_at.debuggee_is))
 
-  pub adapter_stops : (ends : BothEnds D) (rest down : List ℕ) (h : At ends rest down) → 0 < length rest → (f : AdapterFault) (after : D) → AdapterTakeRefused ends.adapter.intake (state_of ends.adapter) rest f after → StopsDelivering drive (fault_of_adapter f) start
-  adapter_stops ends rest down h some (adapter_fault.Frame fault) after t =
+  pub adapter_stops : (ends : BothEnds D) (rest down : List ℕ) (h : At ends rest down) → 0 < length rest → (f : AdapterFault) (after : D) → (f ≢ adapter_fault.OutOfMemory → after ≡ ends.adapter.debuggee) → AdapterTakeRefused ends.adapter.intake (state_of ends.adapter) rest f after
+      → StopsDelivering drive (fault_of_adapter f) start after
+  adapter_stops ends rest down h some (adapter_fault.Frame fault) after same t =
       let a = h.at.adapter_at in
       absurd (not_closed laws.one_split (bounds_of drive.limits) laws.moves ends.adapter.intake t.closed a.came a.stands.received.bodies rest fault (map canon h.world.up) (header drive.limits h.at.in_range) (adapter_bounds laws drive.limits ends.adapter h.world.adapter a) (adapter_stream laws drive.limits ends.adapter h.world.adapter a) t.closes h.up_is)
-  adapter_stops ends rest down h some (adapter_fault.Body cause offset) after t =
+  adapter_stops ends rest down h some (adapter_fault.Body cause offset) after same t =
       let first = some_message drive.limits h.world.up rest h.up_is some in
       let is_first = first_up ends rest down h first.0 first.1 first.2 t.n t.whole in
       absurd (is_first.good cause t.bad)
-  adapter_stops ends rest down h some (adapter_fault.RepeatedSeq q) after t = adapter_closed ends rest down h some (adapter_fault.RepeatedSeq q) t
-  adapter_stops ends rest down h some (adapter_fault.Unmatched q) after t = adapter_closed ends rest down h some (adapter_fault.Unmatched q) t
-  adapter_stops ends rest down h some (adapter_fault.CommandMismatch q) after t = adapter_closed ends rest down h some (adapter_fault.CommandMismatch q) t
-  adapter_stops ends rest down h some adapter_fault.Ended after t = adapter_closed ends rest down h some adapter_fault.Ended t
-  adapter_stops ends rest down h some adapter_fault.SeqExhausted after t = adapter_closed ends rest down h some adapter_fault.SeqExhausted t
-  adapter_stops ends rest down h some adapter_fault.OutOfMemory after t = tt
+  adapter_stops ends rest down h some (adapter_fault.RepeatedSeq q) after same t = adapter_closed ends rest down h some (adapter_fault.RepeatedSeq q) after (same (λ e. cc e)) t
+  adapter_stops ends rest down h some (adapter_fault.Unmatched q) after same t = adapter_closed ends rest down h some (adapter_fault.Unmatched q) after (same (λ e. cc e)) t
+  adapter_stops ends rest down h some (adapter_fault.CommandMismatch q) after same t = adapter_closed ends rest down h some (adapter_fault.CommandMismatch q) after (same (λ e. cc e)) t
+  adapter_stops ends rest down h some adapter_fault.Ended after same t = adapter_closed ends rest down h some adapter_fault.Ended after (same (λ e. cc e)) t
+  adapter_stops ends rest down h some adapter_fault.SeqExhausted after same t = adapter_closed ends rest down h some adapter_fault.SeqExhausted after (same (λ e. cc e)) t
+  adapter_stops ends rest down h some adapter_fault.OutOfMemory after same t = tt

@@ -314,18 +314,18 @@ module _ {D : Type 0} (laws : FrameLaws) (drive : Driving D) (agrees : EachSched
       }
 
   -- where what comes of it ends early
-  pub send_stops : (ends : BothEnds D) (start : World D) (call : Call) (f : DriveFault) (number : ℕ) (q : IsQuiet drive ends start)
+  pub send_stops : (ends : BothEnds D) (start : World D) (call : Call) (f : DriveFault) (left : D) (number : ℕ) (q : IsQuiet drive ends start)
       → IsTrue (is_plain_call call) → refusal_of call ends.client ≡ None → ReadsBack ends.client.session.limits.body (next_message ends.client.session call)
-      → StopsDelivering drive f (client_said (after_send call start.client) (next_message start.client call ∷ []) start) → StopsSend drive number call f start
-  send_stops ends start call fault.Recording number q plain free back h = absurd h
-  send_stops ends start call (fault.Script line) number q plain free back h = absurd h
-  send_stops ends start call (fault.Call line) number q plain free back h = absurd h
-  send_stops ends start call (fault.Send line cause) number q plain free back h = absurd h
-  send_stops ends start call fault.Adapter number q plain free back h =
+      → StopsDelivering drive f (client_said (after_send call start.client) (next_message start.client call ∷ []) start) left → StopsSend drive number call f start left
+  send_stops ends start call fault.Recording left number q plain free back h = absurd h
+  send_stops ends start call (fault.Script line) left number q plain free back h = absurd h
+  send_stops ends start call (fault.Call line) left number q plain free back h = absurd h
+  send_stops ends start call (fault.Send line cause) left number q plain free back h = absurd h
+  send_stops ends start call fault.Adapter left number q plain free back h =
       record { next = to_take; now = h.0; reaches = in_send call start (client_said (after_send call start.client) (next_message start.client call ∷ []) start) h.0 (sends_so ends start call q plain free back) h.1; lacks = h.2 }
-  send_stops ends start call fault.Client number q plain free back h =
-      record { now = h.0; reaches = in_send call start (client_said (after_send call start.client) (next_message start.client call ∷ []) start) h.0 (sends_so ends start call q plain free back) h.1; has = h.2 }
-  send_stops ends start call fault.OutOfMemory number q plain free back h = tt
+  send_stops ends start call fault.Client left number q plain free back h =
+      record { now = h.0; reaches = in_send call start (client_said (after_send call start.client) (next_message start.client call ∷ []) start) h.0 (sends_so ends start call q plain free back) h.1; has = h.2; left_is = h.3 }
+  send_stops ends start call fault.OutOfMemory left number q plain free back h = tt
 
   -- ---- the client answers
 
@@ -380,11 +380,11 @@ module _ {D : Type 0} (laws : FrameLaws) (drive : Driving D) (agrees : EachSched
       subst (λ (z : AnswerFault). first_terminal_refusal request_seq false start.client ≡ Some z) (only_numbers request_seq start.client f (oldest_at ends start (Some request_seq) q kept) there) there
 
   short : (ends : BothEnds D) (start : World D) (request_seq : ℕ) (terminal : Terminal) (f : AnswerFault) (number : ℕ) (q : IsQuiet drive ends start) → oldest_of ends.client.session.incoming ≡ Some request_seq → answer_refusal_of request_seq ends.client ≡ Some f
-      → StopsAnswer drive number terminal fault.Client start
-  short ends start request_seq terminal f number q kept refused = inr (request_seq, oldest_at ends start (Some request_seq) q kept, no_number ends start request_seq f q kept refused)
+      → StopsAnswer drive number terminal fault.Client start ends.adapter.debuggee
+  short ends start request_seq terminal f number q kept refused = inr ((request_seq, oldest_at ends start (Some request_seq) q kept, no_number ends start request_seq f q kept refused), q.at.adapter_at.debuggee_is)
 
   pub answer_refused : (ends : BothEnds D) (start : World D) (request_seq : ℕ) (terminal : Terminal) (f : AnswerFault) (number : ℕ) (q : IsQuiet drive ends start) → oldest_of ends.client.session.incoming ≡ Some request_seq → NotAnswered f request_seq ends.client
-      → StopsAnswer drive number terminal (fault_of_answer f) start
+      → StopsAnswer drive number terminal (fault_of_answer f) start ends.adapter.debuggee
   answer_refused ends start request_seq terminal answer_fault.Ended number q kept t = short ends start request_seq terminal answer_fault.Ended number q kept t
   answer_refused ends start request_seq terminal answer_fault.NotKept number q kept t = short ends start request_seq terminal answer_fault.NotKept number q kept t
   answer_refused ends start request_seq terminal answer_fault.SeqExhausted number q kept t = short ends start request_seq terminal answer_fault.SeqExhausted number q kept t
@@ -395,15 +395,15 @@ module _ {D : Type 0} (laws : FrameLaws) (drive : Driving D) (agrees : EachSched
       → Reaches drive.shown drive.follows (ToAnswer terminal) start to_take now
   reached ends start now request_seq terminal q may delivers = in_answer terminal request_seq start (wrote (answering request_seq terminal) start) now (oldest_at ends start (Some request_seq) q may.oldest) (answers_so ends start request_seq terminal q may) delivers
 
-  pub answer_stops : (ends : BothEnds D) (start : World D) (request_seq : ℕ) (terminal : Terminal) (f : DriveFault) (number : ℕ) (q : IsQuiet drive ends start) → MayAnswer ends.client request_seq terminal
-      → StopsDelivering drive f (client_said (after_terminal_response request_seq start.client) (next_terminal_response start.client request_seq terminal ∷ []) start) → StopsAnswer drive number terminal f start
-  answer_stops ends start request_seq terminal fault.Recording number q may h = absurd h
-  answer_stops ends start request_seq terminal (fault.Script line) number q may h = absurd h
-  answer_stops ends start request_seq terminal (fault.Call line) number q may h = absurd h
-  answer_stops ends start request_seq terminal (fault.Send line cause) number q may h = absurd h
-  answer_stops ends start request_seq terminal fault.Adapter number q may h = record { next = to_take; now = h.0; reaches = reached ends start h.0 request_seq terminal q may h.1; lacks = h.2 }
-  answer_stops ends start request_seq terminal fault.Client number q may h = inl (record { now = h.0; reaches = reached ends start h.0 request_seq terminal q may h.1; has = h.2 })
-  answer_stops ends start request_seq terminal fault.OutOfMemory number q may h = tt
+  pub answer_stops : (ends : BothEnds D) (start : World D) (request_seq : ℕ) (terminal : Terminal) (f : DriveFault) (left : D) (number : ℕ) (q : IsQuiet drive ends start) → MayAnswer ends.client request_seq terminal
+      → StopsDelivering drive f (client_said (after_terminal_response request_seq start.client) (next_terminal_response start.client request_seq terminal ∷ []) start) left → StopsAnswer drive number terminal f start left
+  answer_stops ends start request_seq terminal fault.Recording left number q may h = absurd h
+  answer_stops ends start request_seq terminal (fault.Script line) left number q may h = absurd h
+  answer_stops ends start request_seq terminal (fault.Call line) left number q may h = absurd h
+  answer_stops ends start request_seq terminal (fault.Send line cause) left number q may h = absurd h
+  answer_stops ends start request_seq terminal fault.Adapter left number q may h = record { next = to_take; now = h.0; reaches = reached ends start h.0 request_seq terminal q may h.1; lacks = h.2 }
+  answer_stops ends start request_seq terminal fault.Client left number q may h = inl (record { now = h.0; reaches = reached ends start h.0 request_seq terminal q may h.1; has = h.2; left_is = h.3 })
+  answer_stops ends start request_seq terminal fault.OutOfMemory left number q may h = tt
 
   -- ---- the adapter goes on by itself
 
@@ -530,36 +530,36 @@ module _ {D : Type 0} (laws : FrameLaws) (drive : Driving D) (agrees : EachSched
 
   -- ---- where a turn or a poll ends early
 
-  lacks_turn : (ends : BothEnds D) (new : AdapterState D) (start : World D) (q : IsQuiet drive ends start) (f : AdapterFault) → turns (drive.shown ends.adapter.debuggee) ends.adapter.session ≡ Err f → LacksNumbers drive.shown drive.follows to_turn start
-  lacks_turn ends new start q f e =
+  lacks_turn : (ends : BothEnds D) (new : AdapterState D) (start : World D) (q : IsQuiet drive ends start) (f : AdapterFault) → turns (drive.shown ends.adapter.debuggee) ends.adapter.session ≡ Err f → new.debuggee ≡ ends.adapter.debuggee → LacksNumbers drive.shown drive.follows to_turn start new.debuggee
+  lacks_turn ends new start q f e same =
       let a = q.at.adapter_at in
       let there : turns (drive.shown start.adapter.debuggee) start.adapter.session ≡ Err f = rw (a.session_is, a.debuggee_is) at e in
-      subst (λ (z : AdapterFault). turns (drive.shown start.adapter.debuggee) start.adapter.session ≡ Err z) ((agrees drive.limits drive.debuggee start q.at.in_range q.at.schedule).fault.turn f there) there
+      (subst (λ (z : AdapterFault). turns (drive.shown start.adapter.debuggee) start.adapter.session ≡ Err z) ((agrees drive.limits drive.debuggee start q.at.in_range q.at.schedule).fault.turn f there) there, same ∙ a.debuggee_is)
 
-  no_turn : (start : World D) → LacksNumbers drive.shown drive.follows to_turn start → AdapterStops drive.shown drive.follows ToTurn start
-  no_turn start lacks = record { next = to_turn; now = start; reaches = before_turn start; lacks = lacks }
+  no_turn : (start : World D) (left : D) → LacksNumbers drive.shown drive.follows to_turn start left → AdapterStops drive.shown drive.follows ToTurn start left
+  no_turn start left lacks = record { next = to_turn; now = start; reaches = before_turn start; lacks = lacks }
 
-  pub turn_refused : (ends : BothEnds D) (new : AdapterState D) (start : World D) (q : IsQuiet drive ends start) (f : AdapterFault) → TurnRefused drive.shown ends.adapter f new → StopsOrder drive ToTurn (fault_of_adapter f) start
-  turn_refused ends new start q (adapter_fault.Frame x) t = no_turn start (lacks_turn ends new start q (adapter_fault.Frame x) t.0)
-  turn_refused ends new start q (adapter_fault.Body cause offset) t = no_turn start (lacks_turn ends new start q (adapter_fault.Body cause offset) t.0)
-  turn_refused ends new start q (adapter_fault.RepeatedSeq x) t = no_turn start (lacks_turn ends new start q (adapter_fault.RepeatedSeq x) t.0)
-  turn_refused ends new start q (adapter_fault.Unmatched x) t = no_turn start (lacks_turn ends new start q (adapter_fault.Unmatched x) t.0)
-  turn_refused ends new start q (adapter_fault.CommandMismatch x) t = no_turn start (lacks_turn ends new start q (adapter_fault.CommandMismatch x) t.0)
-  turn_refused ends new start q adapter_fault.Ended t = no_turn start (lacks_turn ends new start q adapter_fault.Ended t.0)
-  turn_refused ends new start q adapter_fault.SeqExhausted t = no_turn start (lacks_turn ends new start q adapter_fault.SeqExhausted t.0)
+  pub turn_refused : (ends : BothEnds D) (new : AdapterState D) (start : World D) (q : IsQuiet drive ends start) (f : AdapterFault) → TurnRefused drive.shown ends.adapter f new → StopsOrder drive ToTurn (fault_of_adapter f) start new.debuggee
+  turn_refused ends new start q (adapter_fault.Frame x) t = no_turn start new.debuggee (lacks_turn ends new start q (adapter_fault.Frame x) t.0 t.1)
+  turn_refused ends new start q (adapter_fault.Body cause offset) t = no_turn start new.debuggee (lacks_turn ends new start q (adapter_fault.Body cause offset) t.0 t.1)
+  turn_refused ends new start q (adapter_fault.RepeatedSeq x) t = no_turn start new.debuggee (lacks_turn ends new start q (adapter_fault.RepeatedSeq x) t.0 t.1)
+  turn_refused ends new start q (adapter_fault.Unmatched x) t = no_turn start new.debuggee (lacks_turn ends new start q (adapter_fault.Unmatched x) t.0 t.1)
+  turn_refused ends new start q (adapter_fault.CommandMismatch x) t = no_turn start new.debuggee (lacks_turn ends new start q (adapter_fault.CommandMismatch x) t.0 t.1)
+  turn_refused ends new start q adapter_fault.Ended t = no_turn start new.debuggee (lacks_turn ends new start q adapter_fault.Ended t.0 t.1)
+  turn_refused ends new start q adapter_fault.SeqExhausted t = no_turn start new.debuggee (lacks_turn ends new start q adapter_fault.SeqExhausted t.0 t.1)
   turn_refused ends new start q adapter_fault.OutOfMemory t = tt
 
-  pub turn_stops : (ends : BothEnds D) (new : AdapterState D) (bytes : List ℕ) (start : World D) (q : IsQuiet drive ends start) (t : Handled drive.shown drive.follows ends.adapter bytes new) (f : DriveFault)
-      → StopsDelivering drive f (spoke new t.step.session.made start) → StopsOrder drive ToTurn f start
-  turn_stops ends new bytes start q t fault.Recording h = absurd h
-  turn_stops ends new bytes start q t (fault.Script line) h = absurd h
-  turn_stops ends new bytes start q t (fault.Call line) h = absurd h
-  turn_stops ends new bytes start q t (fault.Send line cause) h = absurd h
-  turn_stops ends new bytes start q t fault.Adapter h = record { next = to_take; now = h.0; reaches = in_turn start (spoke new t.step.session.made start) h.0 (turns_so ends new bytes start q t) h.1; lacks = h.2 }
-  turn_stops ends new bytes start q t fault.Client h = record { now = h.0; reaches = in_turn start (spoke new t.step.session.made start) h.0 (turns_so ends new bytes start q t) h.1; has = h.2 }
-  turn_stops ends new bytes start q t fault.OutOfMemory h = tt
+  pub turn_stops : (ends : BothEnds D) (new : AdapterState D) (bytes : List ℕ) (start : World D) (q : IsQuiet drive ends start) (t : Handled drive.shown drive.follows ends.adapter bytes new) (f : DriveFault) (left : D)
+      → StopsDelivering drive f (spoke new t.step.session.made start) left → StopsOrder drive ToTurn f start left
+  turn_stops ends new bytes start q t fault.Recording left h = absurd h
+  turn_stops ends new bytes start q t (fault.Script line) left h = absurd h
+  turn_stops ends new bytes start q t (fault.Call line) left h = absurd h
+  turn_stops ends new bytes start q t (fault.Send line cause) left h = absurd h
+  turn_stops ends new bytes start q t fault.Adapter left h = record { next = to_take; now = h.0; reaches = in_turn start (spoke new t.step.session.made start) h.0 (turns_so ends new bytes start q t) h.1; lacks = h.2 }
+  turn_stops ends new bytes start q t fault.Client left h = record { now = h.0; reaches = in_turn start (spoke new t.step.session.made start) h.0 (turns_so ends new bytes start q t) h.1; has = h.2; left_is = h.3 }
+  turn_stops ends new bytes start q t fault.OutOfMemory left h = tt
 
-  pub poll_refused : (ends : BothEnds D) (new : AdapterState D) (start : World D) (q : IsQuiet drive ends start) (f : AdapterFault) → PollRefused drive.follows ends.adapter f new → StopsOrder drive ToPoll (fault_of_adapter f) start
+  pub poll_refused : (ends : BothEnds D) (new : AdapterState D) (start : World D) (q : IsQuiet drive ends start) (f : AdapterFault) → PollRefused drive.follows ends.adapter f new → StopsOrder drive ToPoll (fault_of_adapter f) start new.debuggee
   poll_refused ends new start q (adapter_fault.Frame x) t = absurd t
   poll_refused ends new start q (adapter_fault.Body cause offset) t = absurd t
   poll_refused ends new start q (adapter_fault.RepeatedSeq x) t = absurd t
@@ -568,18 +568,18 @@ module _ {D : Type 0} (laws : FrameLaws) (drive : Driving D) (agrees : EachSched
   poll_refused ends new start q adapter_fault.Ended t = absurd t
   poll_refused ends new start q adapter_fault.SeqExhausted t =
       let a = q.at.adapter_at in
-      record { next = to_poll 0; now = start; reaches = before_poll start; lacks = (t.made, new.debuggee, rw (a.session_is, a.debuggee_is) at t.carried, rw a.session_is at t.short) }
+      record { next = to_poll 0; now = start; reaches = before_poll start; lacks = record { made = t.made; carried = rw (a.session_is, a.debuggee_is) at t.carried; short = rw a.session_is at t.short } }
   poll_refused ends new start q adapter_fault.OutOfMemory t = tt
 
-  pub poll_stops : (ends : BothEnds D) (new : AdapterState D) (bytes : List ℕ) (start : World D) (q : IsQuiet drive ends start) (t : Saw drive.follows ends.adapter bytes new) (f : DriveFault)
-      → StopsDelivering drive f (spoke new t.step.session.made start) → StopsOrder drive ToPoll f start
-  poll_stops ends new bytes start q t fault.Recording h = absurd h
-  poll_stops ends new bytes start q t (fault.Script line) h = absurd h
-  poll_stops ends new bytes start q t (fault.Call line) h = absurd h
-  poll_stops ends new bytes start q t (fault.Send line cause) h = absurd h
-  poll_stops ends new bytes start q t fault.Adapter h = record { next = to_take; now = h.0; reaches = in_poll start (spoke new t.step.session.made start) h.0 (polls_so ends new bytes start q t) h.1; lacks = h.2 }
-  poll_stops ends new bytes start q t fault.Client h = record { now = h.0; reaches = in_poll start (spoke new t.step.session.made start) h.0 (polls_so ends new bytes start q t) h.1; has = h.2 }
-  poll_stops ends new bytes start q t fault.OutOfMemory h = tt
+  pub poll_stops : (ends : BothEnds D) (new : AdapterState D) (bytes : List ℕ) (start : World D) (q : IsQuiet drive ends start) (t : Saw drive.follows ends.adapter bytes new) (f : DriveFault) (left : D)
+      → StopsDelivering drive f (spoke new t.step.session.made start) left → StopsOrder drive ToPoll f start left
+  poll_stops ends new bytes start q t fault.Recording left h = absurd h
+  poll_stops ends new bytes start q t (fault.Script line) left h = absurd h
+  poll_stops ends new bytes start q t (fault.Call line) left h = absurd h
+  poll_stops ends new bytes start q t (fault.Send line cause) left h = absurd h
+  poll_stops ends new bytes start q t fault.Adapter left h = record { next = to_take; now = h.0; reaches = in_poll start (spoke new t.step.session.made start) h.0 (polls_so ends new bytes start q t) h.1; lacks = h.2 }
+  poll_stops ends new bytes start q t fault.Client left h = record { now = h.0; reaches = in_poll start (spoke new t.step.session.made start) h.0 (polls_so ends new bytes start q t) h.1; has = h.2; left_is = h.3 }
+  poll_stops ends new bytes start q t fault.OutOfMemory left h = tt
 
   -- ---- two fresh ends
 
@@ -665,14 +665,14 @@ module _ {D : Type 0} (laws : FrameLaws) (drive : Driving D) (agrees : EachSched
   in_turns start v _ _ r (before_turn _) = in_run to_turn start v r
   in_turns start v _ now r (in_turn _ u _ turns delivers) = in_run_turn start v u now r turns delivers
 
-  pub run_turn_stops : (start v : World D) (f : DriveFault) → RunsTo drive.shown drive.follows start to_turn v → StopsOrder drive ToTurn f v → StopsOrder drive ToRun f start
-  run_turn_stops start v fault.Recording r h = absurd h
-  run_turn_stops start v (fault.Script line) r h = absurd h
-  run_turn_stops start v (fault.Call line) r h = absurd h
-  run_turn_stops start v (fault.Send line cause) r h = absurd h
-  run_turn_stops start v fault.Adapter r h = record { next = h.next; now = h.now; reaches = in_turns start v h.next h.now r h.reaches; lacks = h.lacks }
-  run_turn_stops start v fault.Client r h = record { now = h.now; reaches = in_turns start v to_take h.now r h.reaches; has = h.has }
-  run_turn_stops start v fault.OutOfMemory r h = tt
+  pub run_turn_stops : (start v : World D) (f : DriveFault) (left : D) → RunsTo drive.shown drive.follows start to_turn v → StopsOrder drive ToTurn f v left → StopsOrder drive ToRun f start left
+  run_turn_stops start v fault.Recording left r h = absurd h
+  run_turn_stops start v (fault.Script line) left r h = absurd h
+  run_turn_stops start v (fault.Call line) left r h = absurd h
+  run_turn_stops start v (fault.Send line cause) left r h = absurd h
+  run_turn_stops start v fault.Adapter left r h = record { next = h.next; now = h.now; reaches = in_turns start v h.next h.now r h.reaches; lacks = h.lacks }
+  run_turn_stops start v fault.Client left r h = record { now = h.now; reaches = in_turns start v to_take h.now r h.reaches; has = h.has; left_is = h.left_is }
+  run_turn_stops start v fault.OutOfMemory left r h = tt
 
   -- a poll of a run stands for any number of them
   abbrev after_polls : ℕ → Next → Next
@@ -684,19 +684,19 @@ module _ {D : Type 0} (laws : FrameLaws) (drive : Driving D) (agrees : EachSched
   in_polls start v made _ _ r (before_poll _) = in_run (to_poll made) start v r
   in_polls start v made _ now r (in_poll _ u _ polls delivers) = in_run_poll made start v u now r polls delivers
 
-  lacks_still : (made : ℕ) (next : Next) (now : World D) → LacksNumbers drive.shown drive.follows next now → LacksNumbers drive.shown drive.follows (after_polls made next) now
-  lacks_still made to_take now h = h
-  lacks_still made to_turn now h = h
-  lacks_still made (to_poll n) now h = h
+  lacks_still : (made : ℕ) (next : Next) (now : World D) (left : D) → LacksNumbers drive.shown drive.follows next now left → LacksNumbers drive.shown drive.follows (after_polls made next) now left
+  lacks_still made to_take now left h = h
+  lacks_still made to_turn now left h = h
+  lacks_still made (to_poll n) now left h = h
 
-  run_poll_so : (start v : World D) (made : ℕ) (f : DriveFault) → RunsTo drive.shown drive.follows start (to_poll made) v → StopsOrder drive ToPoll f v → StopsOrder drive ToRun f start
-  run_poll_so start v made fault.Recording r h = absurd h
-  run_poll_so start v made (fault.Script line) r h = absurd h
-  run_poll_so start v made (fault.Call line) r h = absurd h
-  run_poll_so start v made (fault.Send line cause) r h = absurd h
-  run_poll_so start v made fault.Adapter r h = record { next = after_polls made h.next; now = h.now; reaches = in_polls start v made h.next h.now r h.reaches; lacks = lacks_still made h.next h.now h.lacks }
-  run_poll_so start v made fault.Client r h = record { now = h.now; reaches = in_polls start v made to_take h.now r h.reaches; has = h.has }
-  run_poll_so start v made fault.OutOfMemory r h = tt
+  run_poll_so : (start v : World D) (made : ℕ) (f : DriveFault) (left : D) → RunsTo drive.shown drive.follows start (to_poll made) v → StopsOrder drive ToPoll f v left → StopsOrder drive ToRun f start left
+  run_poll_so start v made fault.Recording left r h = absurd h
+  run_poll_so start v made (fault.Script line) left r h = absurd h
+  run_poll_so start v made (fault.Call line) left r h = absurd h
+  run_poll_so start v made (fault.Send line cause) left r h = absurd h
+  run_poll_so start v made fault.Adapter left r h = record { next = after_polls made h.next; now = h.now; reaches = in_polls start v made h.next h.now r h.reaches; lacks = lacks_still made h.next h.now left h.lacks }
+  run_poll_so start v made fault.Client left r h = record { now = h.now; reaches = in_polls start v made to_take h.now r h.reaches; has = h.has; left_is = h.left_is }
+  run_poll_so start v made fault.OutOfMemory left r h = tt
 
-  pub run_poll_stops : (start v : World D) (made : ℕ) (f : DriveFault) → RunsTo drive.shown drive.follows start (next_after_polls made) v → made < 65536 → StopsOrder drive ToPoll f v → StopsOrder drive ToRun f start
-  run_poll_stops start v made f r below h = run_poll_so start v made f (subst (λ (z : Next). RunsTo drive.shown drive.follows start z v) (polling_below made below) r) h
+  pub run_poll_stops : (start v : World D) (made : ℕ) (f : DriveFault) (left : D) → RunsTo drive.shown drive.follows start (next_after_polls made) v → made < 65536 → StopsOrder drive ToPoll f v left → StopsOrder drive ToRun f start left
+  run_poll_stops start v made f left r below h = run_poll_so start v made f left (subst (λ (z : Next). RunsTo drive.shown drive.follows start z v) (polling_below made below) r) h

@@ -6,7 +6,7 @@ mod Spending
 mod Reading
 mod Doing
 mod Scripting
-mod Skipped
+mod NoComments
 mod Recordings
 mod ScriptExamples
 pub mod Schedules

@@ -9,7 +9,7 @@ use Rattle.dap_client.specs.declared.fault.ClientFault.TheVariants.{ReferenceLim
 use Rattle.dap_world.specs.References.{ReferencesAgreeWhileStopsLast, EachTranscriptIsLegalWhileStopsLast}
 use Rattle.dap_world.specs.World.{World, Schedule, starts as begins_so, goes, by_sending, by_answering, by_coming_up, by_coming_down, by_turning, by_polling}
 use Rattle.dap_world.proofs.LastingSchedules.{lasting}
-use Rattle.dap_drive.specs.Driven.{Drives, StopsAt, Stops, ClientStops, LacksNumberOnLine}
+use Rattle.dap_drive.specs.Driven.{Drives, StopsAt, StopsWith, ClientStops, LacksNumberOnLine}
 use Rattle.dap_drive.specs.Orders.{Delivers, none, one_up, one_down, DoesTurn, idle, handles, RunsTo, begins, handled, idles, polled, Does, Ran, starts, skips, does, Reaches, in_send, in_answer, before_turn, in_turn, before_poll, in_poll, in_run, in_run_turn, in_run_poll}
 use Rattle.dap_drive.specs.Transcript.{IsLegalText}
 use Rattle.dap_drive.specs.declared.fault.DriveFault.TheVariants as fault
@@ -63,13 +63,13 @@ module _ {D : Type 0} (shown : D → Shown) (follows : Goes D) (limits : Setting
 
   -- ---- where a stop lasts
 
-  pub no-limit : AreInRange limits → ReferencesAgreeWhileStopsLast shown follows → StopsLast shown follows → (o : Order) (w : World D) → Leads w → ClientStops shown follows o w → ⊥
-  no-limit r agree stops o w s c =
+  pub no-limit : AreInRange limits → ReferencesAgreeWhileStopsLast shown follows → StopsLast shown follows → (o : Order) (w : World D) (left : D) → Leads w → ClientStops shown follows o w left → ⊥
+  no-limit r agree stops o w left s c =
       let there = lasting shown follows limits debuggee c.now stops (reached o w c.now _ s c.reaches) in
       (agree limits debuggee c.now r there).client c.has.0 c.has.1 ReferenceLimit c.has.2 c.has.3
 
-  pub only-numbers : AreInRange limits → ReferencesAgreeWhileStopsLast shown follows → StopsLast shown follows → (texts : List (List ℕ)) → Stops shown follows limits debuggee texts fault.Client → StopsAt shown follows limits debuggee texts LacksNumberOnLine
-  only-numbers r agree stops texts s = record {
+  pub only-numbers : AreInRange limits → ReferencesAgreeWhileStopsLast shown follows → StopsLast shown follows → (texts : List (List ℕ)) (left : D) → StopsWith shown follows limits debuggee texts fault.Client left → StopsAt shown follows limits debuggee texts LacksNumberOnLine
+  only-numbers r agree stops texts left s = record {
     before = s.before;
     text = s.text;
     after = s.after;
@@ -77,9 +77,9 @@ module _ {D : Type 0} (shown : D → Shown) (follows : Goes D) (limits : Setting
     not_skipped = s.not_skipped;
     world = s.world;
     ran = s.ran;
-    stops = (s.stops.0, s.stops.1, elim s.stops.2 [ inl c ↦ absurd (no-limit r agree stops s.stops.0 s.world (ran s.before s.world s.ran) c) | inr n ↦ n ]);
+    stops = (s.stops.0, s.stops.1, elim s.stops.2 [ inl c ↦ absurd (no-limit r agree stops s.stops.0 s.world left (ran s.before s.world s.ran) c) | inr n ↦ n.0 ]);
   }
 
-  pub legal-text : AreInRange limits → EachTranscriptIsLegalWhileStopsLast shown follows → StopsLast shown follows → (texts : List (List ℕ)) (transcript : List ℕ) → Drives shown follows limits debuggee texts transcript → IsLegalText transcript
-  legal-text r legal stops texts transcript d =
+  pub legal-text : AreInRange limits → EachTranscriptIsLegalWhileStopsLast shown follows → StopsLast shown follows → (texts : List (List ℕ)) (transcript : List ℕ) (left : D) → Drives shown follows limits debuggee texts transcript left → IsLegalText transcript
+  legal-text r legal stops texts transcript left d =
       record { all = d.read.all; are = d.read.are; legal = legal limits debuggee d.world d.read.all r (lasting shown follows limits debuggee d.world stops d.schedule) d.read.said_is }

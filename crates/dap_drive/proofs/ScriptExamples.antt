@@ -19,9 +19,12 @@ use Rattle.dap_drive.specs.declared.script.Order.TheVariants.{Send, Answer, Turn
 single_words : (order_of (codes "turn") ≡ Ok Turn) × (order_of (codes "poll") ≡ Ok Poll) × (order_of (codes "run") ≡ Ok Run)
 single_words = (refl, refl, refl)
 
--- a space before it makes it no comment
-skipped : (is_skipped [] ≡ true) × (is_skipped (codes "# then it stops") ≡ true) × (is_skipped (codes "#") ≡ true) × (is_skipped (codes "run # to the end") ≡ false) × (is_skipped (codes " # run") ≡ false)
-skipped = (refl, refl, refl, refl, refl)
+skipped : (is_skipped [] ≡ true) × (is_skipped (codes " ") ≡ false) × (is_skipped (codes "# then it stops") ≡ false) × (is_skipped (codes "#") ≡ false)
+skipped = (refl, refl, refl, refl)
+
+-- there are no comments
+no_comments : (order_of (codes "#") ≡ Err Script) × (order_of (codes "# run") ≡ Err Script) × (order_of (codes "#run") ≡ Err Script) × (order_of (codes "run # to the end") ≡ Err Script)
+no_comments = (refl, refl, refl, refl)
 
 no_words : (order_of (codes "jump") ≡ Err Script) × (order_of (codes "Turn") ≡ Err Script) × (order_of (codes "turn ") ≡ Err Script) × (order_of (codes " run") ≡ Err Script) × (order_of (codes "send") ≡ Err Script)
 no_words = (refl, refl, refl, refl, refl)

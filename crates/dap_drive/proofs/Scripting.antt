@@ -5,7 +5,7 @@ use Rattle.std.specs.Str.Lines.{lines}
 use Rattle.dap_message.specs.OneLine.{CanonIsOneLine}
 use Rattle.dap_message.specs.Types.Call.{Call}
 use Rattle.dap_client.specs.declared.terminal.Terminal.{Terminal}
-use Rattle.dap_drive.specs.Driven.{Drives, Stops, StopsAt, SaysOf}
+use Rattle.dap_drive.specs.Driven.{Drives, StopsWith, StopsAt, SaysOf}
 use Rattle.dap_world.specs.Agreement.{EachScheduleAgrees}
 use Rattle.dap_world.specs.Transcripts.{EachTranscriptKeepsRules}
 use Rattle.dap_world.specs.World.{World, fresh_world}
@@ -37,32 +37,32 @@ module _ {D : Type 0} (drive : Driving D) where
       → HasDone drive (DoesLine drive.shown drive.follows text) start ends
   poll_line text last start ends is h = record { world = h.world; done = (Poll, is, h.done.does); quiet = h.quiet }
 
-  pub send_line_stops : (f : DriveFault) (number : ℕ) (text : List ℕ) (call : Call) (start : World D) → order_of text ≡ Ok (Send call) → StopsSend drive number call f start → SaysOf drive.shown drive.follows f number text start
-  send_line_stops fault.Recording number text call start is h = absurd h
-  send_line_stops (fault.Script line) number text call start is h = absurd h
-  send_line_stops (fault.Call line) number text call start is h = absurd h
-  send_line_stops (fault.Send line cause) number text call start is h = (h.0, (call, is, h.1))
-  send_line_stops fault.Adapter number text call start is h = (Send call, is, h)
-  send_line_stops fault.Client number text call start is h = (Send call, is, inl h)
-  send_line_stops fault.OutOfMemory number text call start is h = tt
+  pub send_line_stops : (f : DriveFault) (left : D) (number : ℕ) (text : List ℕ) (call : Call) (start : World D) → order_of text ≡ Ok (Send call) → StopsSend drive number call f start left → SaysOf drive.shown drive.follows f left number text start
+  send_line_stops fault.Recording left number text call start is h = absurd h
+  send_line_stops (fault.Script line) left number text call start is h = absurd h
+  send_line_stops (fault.Call line) left number text call start is h = absurd h
+  send_line_stops (fault.Send line cause) left number text call start is h = (h.0, (call, is, h.1), h.2)
+  send_line_stops fault.Adapter left number text call start is h = (Send call, is, h)
+  send_line_stops fault.Client left number text call start is h = (Send call, is, inl h)
+  send_line_stops fault.OutOfMemory left number text call start is h = tt
 
-  pub answer_line_stops : (f : DriveFault) (number : ℕ) (text : List ℕ) (terminal : Terminal) (start : World D) → order_of text ≡ Ok (Answer terminal) → StopsAnswer drive number terminal f start → SaysOf drive.shown drive.follows f number text start
-  answer_line_stops fault.Recording number text terminal start is h = absurd h
-  answer_line_stops (fault.Script line) number text terminal start is h = absurd h
-  answer_line_stops (fault.Call line) number text terminal start is h = (h.0, inr (terminal, is, h.1))
-  answer_line_stops (fault.Send line cause) number text terminal start is h = absurd h
-  answer_line_stops fault.Adapter number text terminal start is h = (Answer terminal, is, h)
-  answer_line_stops fault.Client number text terminal start is h = (Answer terminal, is, h)
-  answer_line_stops fault.OutOfMemory number text terminal start is h = tt
+  pub answer_line_stops : (f : DriveFault) (left : D) (number : ℕ) (text : List ℕ) (terminal : Terminal) (start : World D) → order_of text ≡ Ok (Answer terminal) → StopsAnswer drive number terminal f start left → SaysOf drive.shown drive.follows f left number text start
+  answer_line_stops fault.Recording left number text terminal start is h = absurd h
+  answer_line_stops (fault.Script line) left number text terminal start is h = absurd h
+  answer_line_stops (fault.Call line) left number text terminal start is h = (h.0, inr (terminal, is, h.1), h.2)
+  answer_line_stops (fault.Send line cause) left number text terminal start is h = absurd h
+  answer_line_stops fault.Adapter left number text terminal start is h = (Answer terminal, is, h)
+  answer_line_stops fault.Client left number text terminal start is h = (Answer terminal, is, h)
+  answer_line_stops fault.OutOfMemory left number text terminal start is h = tt
 
-  pub order_line_stops : (o : Order) (f : DriveFault) (number : ℕ) (text : List ℕ) (start : World D) → order_of text ≡ Ok o → StopsOrder drive o f start → SaysOf drive.shown drive.follows f number text start
-  order_line_stops o fault.Recording number text start is h = absurd h
-  order_line_stops o (fault.Script line) number text start is h = absurd h
-  order_line_stops o (fault.Call line) number text start is h = absurd h
-  order_line_stops o (fault.Send line cause) number text start is h = absurd h
-  order_line_stops o fault.Adapter number text start is h = (o, is, h)
-  order_line_stops o fault.Client number text start is h = (o, is, inl h)
-  order_line_stops o fault.OutOfMemory number text start is h = tt
+  pub order_line_stops : (o : Order) (f : DriveFault) (left : D) (number : ℕ) (text : List ℕ) (start : World D) → order_of text ≡ Ok o → StopsOrder drive o f start left → SaysOf drive.shown drive.follows f left number text start
+  order_line_stops o fault.Recording left number text start is h = absurd h
+  order_line_stops o (fault.Script line) left number text start is h = absurd h
+  order_line_stops o (fault.Call line) left number text start is h = absurd h
+  order_line_stops o (fault.Send line cause) left number text start is h = absurd h
+  order_line_stops o fault.Adapter left number text start is h = (o, is, h)
+  order_line_stops o fault.Client left number text start is h = (o, is, inl h)
+  order_line_stops o fault.OutOfMemory left number text start is h = tt
 
   -- ---- one line
 
@@ -84,7 +84,7 @@ module _ {D : Type 0} (drive : Driving D) where
 
   -- ---- the script
 
-  pub all_ran : EachScheduleAgrees drive.shown drive.follows → EachTranscriptKeepsRules drive.shown drive.follows → CanonIsOneLine → (texts : List (List ℕ)) (ends : BothEnds D) → HasRun drive texts ends → Drives drive.shown drive.follows drive.limits drive.debuggee texts ends.transcript
+  pub all_ran : EachScheduleAgrees drive.shown drive.follows → EachTranscriptKeepsRules drive.shown drive.follows → CanonIsOneLine → (texts : List (List ℕ)) (ends : BothEnds D) → HasRun drive texts ends → Drives drive.shown drive.follows drive.limits drive.debuggee texts ends.transcript ends.adapter.debuggee
   all_ran agrees keeps one_line texts ends h = record {
     world = h.world;
     ran = h.ran;
@@ -92,11 +92,12 @@ module _ {D : Type 0} (drive : Driving D) where
     transcript_is = h.quiet.at.transcript_is;
     read = is_read drive.limits.body h.world.said ends.transcript one_line (agrees drive.limits drive.debuggee h.world h.quiet.at.in_range h.quiet.at.schedule).arrives.said h.quiet.at.transcript_is
         (λ all is. keeps drive.limits drive.debuggee h.world all h.quiet.at.in_range h.quiet.at.schedule is);
+    left_is = h.quiet.at.adapter_at.debuggee_is;
   }
 
-  stops_at : (all before after : List (List ℕ)) (text : List ℕ) (number : ℕ) (f : DriveFault) (ends : BothEnds D) → all ≡ before ++ text ∷ after → number ≡ length before + 1 → is_skipped text ≡ false
-      → (h : HasRun drive before ends) → SaysOf drive.shown drive.follows f number text h.world → StopsAt drive.shown drive.follows drive.limits drive.debuggee all (SaysOf drive.shown drive.follows f)
-  stops_at all before after text number f ends split count some h s = record {
+  stops_at : (all before after : List (List ℕ)) (text : List ℕ) (number : ℕ) (f : DriveFault) (left : D) (ends : BothEnds D) → all ≡ before ++ text ∷ after → number ≡ length before + 1 → is_skipped text ≡ false
+      → (h : HasRun drive before ends) → SaysOf drive.shown drive.follows f left number text h.world → StopsAt drive.shown drive.follows drive.limits drive.debuggee all (SaysOf drive.shown drive.follows f left)
+  stops_at all before after text number f left ends split count some h s = record {
     before = before;
     text = text;
     after = after;
@@ -104,18 +105,18 @@ module _ {D : Type 0} (drive : Driving D) where
     not_skipped = some;
     world = h.world;
     ran = h.ran;
-    stops = subst (λ (z : ℕ). SaysOf drive.shown drive.follows f z text h.world) count s;
+    stops = subst (λ (z : ℕ). SaysOf drive.shown drive.follows f left z text h.world) count s;
   }
 
-  pub line_stops : (all before after : List (List ℕ)) (text : List ℕ) (number : ℕ) (f : DriveFault) (ends : BothEnds D) → all ≡ before ++ text ∷ after → number ≡ length before + 1 → is_skipped text ≡ false
-      → (h : HasRun drive before ends) → SaysOf drive.shown drive.follows f number text h.world → Stops drive.shown drive.follows drive.limits drive.debuggee all f
-  line_stops all before after text number fault.Recording ends split count some h s = absurd s
-  line_stops all before after text number (fault.Script line) ends split count some h s = stops_at all before after text number (fault.Script line) ends split count some h s
-  line_stops all before after text number (fault.Call line) ends split count some h s = stops_at all before after text number (fault.Call line) ends split count some h s
-  line_stops all before after text number (fault.Send line cause) ends split count some h s = stops_at all before after text number (fault.Send line cause) ends split count some h s
-  line_stops all before after text number fault.Adapter ends split count some h s = stops_at all before after text number fault.Adapter ends split count some h s
-  line_stops all before after text number fault.Client ends split count some h s = stops_at all before after text number fault.Client ends split count some h s
-  line_stops all before after text number fault.OutOfMemory ends split count some h s = tt
+  pub line_stops : (all before after : List (List ℕ)) (text : List ℕ) (number : ℕ) (f : DriveFault) (left : D) (ends : BothEnds D) → all ≡ before ++ text ∷ after → number ≡ length before + 1 → is_skipped text ≡ false
+      → (h : HasRun drive before ends) → SaysOf drive.shown drive.follows f left number text h.world → StopsWith drive.shown drive.follows drive.limits drive.debuggee all f left
+  line_stops all before after text number fault.Recording left ends split count some h s = absurd s
+  line_stops all before after text number (fault.Script line) left ends split count some h s = stops_at all before after text number (fault.Script line) left ends split count some h s
+  line_stops all before after text number (fault.Call line) left ends split count some h s = stops_at all before after text number (fault.Call line) left ends split count some h s
+  line_stops all before after text number (fault.Send line cause) left ends split count some h s = stops_at all before after text number (fault.Send line cause) left ends split count some h s
+  line_stops all before after text number fault.Adapter left ends split count some h s = stops_at all before after text number fault.Adapter left ends split count some h s
+  line_stops all before after text number fault.Client left ends split count some h s = stops_at all before after text number fault.Client left ends split count some h s
+  line_stops all before after text number fault.OutOfMemory left ends split count some h s = tt
 
   -- ---- the lines that are left
 
@@ -135,15 +136,19 @@ module _ {D : Type 0} (drive : Driving D) where
     run = go p.run;
   }
 
-  pub part_way_stops : (all rest later : List ℕ) (text : List ℕ) (number : ℕ) (f : DriveFault) (ends : BothEnds D) → lines rest ≡ text ∷ lines later → is_skipped text ≡ false → (p : IsPartWay all rest number ends)
-      → ((start : World D) → IsQuiet drive ends start → SaysOf drive.shown drive.follows f (number + 1) text start) → Stops drive.shown drive.follows drive.limits drive.debuggee (lines all) f
-  part_way_stops all rest later text number f ends cut some p says =
-      line_stops (lines all) p.before (lines later) text (number + 1) f ends (p.split ∙ ap (λ (z : List (List ℕ)). p.before ++ z) cut) (omega (arith, p.count)) some p.run (says p.run.world p.run.quiet)
+  pub part_way_stops : (all rest later : List ℕ) (text : List ℕ) (number : ℕ) (f : DriveFault) (left : D) (ends : BothEnds D) → lines rest ≡ text ∷ lines later → is_skipped text ≡ false → (p : IsPartWay all rest number ends)
+      → ((start : World D) → IsQuiet drive ends start → SaysOf drive.shown drive.follows f left (number + 1) text start) → StopsWith drive.shown drive.follows drive.limits drive.debuggee (lines all) f left
+  part_way_stops all rest later text number f left ends cut some p says =
+      line_stops (lines all) p.before (lines later) text (number + 1) f left ends (p.split ∙ ap (λ (z : List (List ℕ)). p.before ++ z) cut) (omega (arith, p.count)) some p.run (says p.run.world p.run.quiet)
 
   pub part_way_begins : (all : List ℕ) (ends : BothEnds D) → IsQuiet drive ends (fresh_world drive.limits drive.debuggee) → IsPartWay all all 0 ends
   part_way_begins all ends q = record { before = []; split = refl; count = refl; run = record { world = fresh_world drive.limits drive.debuggee; ran = starts; quiet = q } }
 
-  pub part_way_done : EachScheduleAgrees drive.shown drive.follows → EachTranscriptKeepsRules drive.shown drive.follows → CanonIsOneLine → (all rest : List ℕ) (number : ℕ) (ends : BothEnds D) (final : List ℕ) → rest ≡ [] → final ≡ ends.transcript → IsPartWay all rest number ends → Drives drive.shown drive.follows drive.limits drive.debuggee (lines all) final
-  part_way_done agrees keeps one_line all rest number ends final none same p =
+  pub part_way_done : EachScheduleAgrees drive.shown drive.follows → EachTranscriptKeepsRules drive.shown drive.follows → CanonIsOneLine → (all rest : List ℕ) (number : ℕ) (ends : BothEnds D) (final : List ℕ) (left : D) → rest ≡ [] → final ≡ ends.transcript → left ≡ ends.adapter.debuggee → IsPartWay all rest number ends
+      → Drives drive.shown drive.follows drive.limits drive.debuggee (lines all) final left
+  part_way_done agrees keeps one_line all rest number ends final left none same_text same_debuggee p =
       let split : lines all ≡ p.before = p.split ∙ (ap (λ (z : List ℕ). p.before ++ lines z) none ∙ append-nil p.before) in
-      subst (λ (z : List ℕ). Drives drive.shown drive.follows drive.limits drive.debuggee (lines all) z) (sym same) (subst (λ (z : List (List ℕ)). Drives drive.shown drive.follows drive.limits drive.debuggee z ends.transcript) (sym split) (all_ran agrees keeps one_line p.before ends p.run))
+      let ran = all_ran agrees keeps one_line p.before ends p.run in
+      let over_all = subst (λ (z : List (List ℕ)). Drives drive.shown drive.follows drive.limits drive.debuggee z ends.transcript ends.adapter.debuggee) (sym split) ran in
+      let with_text = subst (λ (z : List ℕ). Drives drive.shown drive.follows drive.limits drive.debuggee (lines all) z ends.adapter.debuggee) (sym same_text) over_all in
+      subst (λ (z : D). Drives drive.shown drive.follows drive.limits drive.debuggee (lines all) final z) (sym same_debuggee) with_text

@@ -1,5 +1,5 @@
 -- What comes of a script: the transcript, or why it is not run to its end. The formats are this profile's own.
-use Rattle.std.specs.Prelude.{◌≡◌, ◌⊎◌, ◌+◌, ℕ, List, ◌∷◌, ◌++◌, length, false, Some, None, Ok, Err}
+use Rattle.std.specs.Prelude.{◌≡◌, ◌⊎◌, ◌+◌, ℕ, List, ◌∷◌, ◌++◌, length, false, Option, Some, None, Ok, Err}
 use Rattle.dap_frame.specs.Settings.{Settings}
 use Rattle.dap_message.specs.Types.Call.{Call as TheCall}
 use Rattle.dap_json.specs.Read.{json_of}
@@ -25,14 +25,16 @@ use Rattle.dap_drive.specs.declared.script.LineFault.TheVariants as unread
 use Rattle.dap_drive.specs.declared.script.Order.{Order}
 use Rattle.dap_drive.specs.declared.script.Order.TheVariants as order
 
--- the lines of the script lead somewhere, by a schedule of both ends, and this tells what was said on the way
-pub record Drives {D : Type 0} (shown : D → Shown) (follows : Goes D) (limits : Settings) (debuggee : D) (texts : List (List ℕ)) (transcript : List ℕ) : Type 0 where
+-- the lines of the script lead somewhere, by a schedule of both ends, this tells what was said on the way, and the debuggee is
+-- left as it is there
+pub record Drives {D : Type 0} (shown : D → Shown) (follows : Goes D) (limits : Settings) (debuggee : D) (texts : List (List ℕ)) (transcript : List ℕ) (left : D) : Type 0 where
   pub world : World D
   pub ran : Ran shown follows limits debuggee texts world
   pub schedule : Schedule shown follows limits debuggee world
   pub transcript_is : transcript ≡ text_of world.said
   -- what the checker reads of it keeps the six other rules; whether that on references is kept is said by `legal`
   pub read : IsReadAs transcript world.said
+  pub left_is : left ≡ world.adapter.debuggee
 
 -- ---- faults
 
@@ -49,17 +51,18 @@ pub record StopsAt {D : Type 0} (shown : D → Shown) (follows : Goes D) (limits
 
 -- The order of the line leads to a world where the adapter lacks own numbers for what it does next. Else it takes what
 -- comes, handles it and tells what happened.
-pub record AdapterStops {D : Type 0} (shown : D → Shown) (follows : Goes D) (o : Order) (w : World D) : Type 0 where
+pub record AdapterStops {D : Type 0} (shown : D → Shown) (follows : Goes D) (o : Order) (w : World D) (left : D) : Type 0 where
   pub next : Next
   pub now : World D
   pub reaches : Reaches shown follows o w next now
-  pub lacks : LacksNumbers shown follows next now
+  pub lacks : LacksNumbers shown follows next now left
 
 -- it leads to a world where the next message gives the client too many references
-pub record ClientStops {D : Type 0} (shown : D → Shown) (follows : Goes D) (o : Order) (w : World D) : Type 0 where
+pub record ClientStops {D : Type 0} (shown : D → Shown) (follows : Goes D) (o : Order) (w : World D) (left : D) : Type 0 where
   pub now : World D
   pub reaches : Reaches shown follows o w to_take now
   pub has : HasTooManyReferences now
+  pub left_is : left ≡ now.adapter.debuggee
 
 -- the line asks for an answer, and no request of the adapter is kept
 abbrev pub HasNoneToAnswer : {D : Type 0} → List ℕ → World D → Type 0
@@ -70,35 +73,54 @@ abbrev pub LacksNumberToAnswer : {D : Type 0} → Order → World D → Type 0
 LacksNumberToAnswer (order.Answer terminal) w = (request_seq : ℕ) × (oldest_of w.client.incoming ≡ Some request_seq) × (first_terminal_refusal request_seq false w.client ≡ Some SeqExhausted)
 LacksNumberToAnswer o w = ⊥
 
--- what a fault says of a line, where the lines before it led to this world
-abbrev pub SaysOf : {D : Type 0} → (D → Shown) → Goes D → DriveFault → ℕ → List ℕ → World D → Type 0
-SaysOf shown follows Recording number text w = ⊥
-SaysOf shown follows (Script line) number text w = (line ≡ number) × (order_of text ≡ Err unread.Script)
-SaysOf shown follows (Call line) number text w = (line ≡ number) × ((order_of text ≡ Err unread.Call) ⊎ HasNoneToAnswer text w)
-SaysOf shown follows (Send line cause) number text w = (line ≡ number) × ((call : TheCall) × (order_of text ≡ Ok (order.Send call)) × (first_of refusals_in_order call false w.client ≡ Some cause))
-SaysOf shown follows Adapter number text w = (o : Order) × (order_of text ≡ Ok o) × AdapterStops shown follows o w
-SaysOf shown follows Client number text w = (o : Order) × (order_of text ≡ Ok o) × (ClientStops shown follows o w ⊎ LacksNumberToAnswer o w)
+-- the debuggee is left as it is in this world: nothing was asked of it since
+abbrev pub IsLeft : {D : Type 0} → World D → D → Type 0
+IsLeft w left = left ≡ w.adapter.debuggee
+
+-- what a fault says of a line and of the debuggee that is left, where the lines before it led to this world
+abbrev pub SaysOf : {D : Type 0} → (D → Shown) → Goes D → DriveFault → D → ℕ → List ℕ → World D → Type 0
+SaysOf shown follows Recording left number text w = ⊥
+SaysOf shown follows (Script line) left number text w = (line ≡ number) × (order_of text ≡ Err unread.Script) × IsLeft w left
+SaysOf shown follows (Call line) left number text w = (line ≡ number) × ((order_of text ≡ Err unread.Call) ⊎ HasNoneToAnswer text w) × IsLeft w left
+SaysOf shown follows (Send line cause) left number text w = (line ≡ number) × ((call : TheCall) × (order_of text ≡ Ok (order.Send call)) × (first_of refusals_in_order call false w.client ≡ Some cause)) × IsLeft w left
+SaysOf shown follows Adapter left number text w = (o : Order) × (order_of text ≡ Ok o) × AdapterStops shown follows o w left
+SaysOf shown follows Client left number text w = (o : Order) × (order_of text ≡ Ok o) × (ClientStops shown follows o w left ⊎ (LacksNumberToAnswer o w × IsLeft w left))
 -- memory may be refused anywhere
-SaysOf shown follows OutOfMemory number text w = Unit {0}
+SaysOf shown follows OutOfMemory left number text w = Unit {0}
 
 -- the client is asked for an answer and has no own number left for it
 abbrev pub LacksNumberOnLine : {D : Type 0} → ℕ → List ℕ → World D → Type 0
 LacksNumberOnLine number text w = (o : Order) × (order_of text ≡ Ok o) × LacksNumberToAnswer o w
 
--- also before the first line
-abbrev pub Stops : {D : Type 0} → (D → Shown) → Goes D → Settings → D → List (List ℕ) → DriveFault → Type 0
-Stops shown follows limits debuggee texts OutOfMemory = Unit {0}
-Stops shown follows limits debuggee texts fault = StopsAt shown follows limits debuggee texts (SaysOf shown follows fault)
+-- a line stops the script, and the debuggee is left so; memory may be refused also before the first line
+abbrev pub StopsWith : {D : Type 0} → (D → Shown) → Goes D → Settings → D → List (List ℕ) → DriveFault → D → Type 0
+StopsWith shown follows limits debuggee texts OutOfMemory left = Unit {0}
+StopsWith shown follows limits debuggee texts fault left = StopsAt shown follows limits debuggee texts (SaysOf shown follows fault left)
+
+-- the debuggee is given back, unless memory was refused
+abbrev pub Stops : {D : Type 0} → (D → Shown) → Goes D → Settings → D → List (List ℕ) → DriveFault → Option D → Type 0
+Stops shown follows limits debuggee texts fault (Some left) = StopsWith shown follows limits debuggee texts fault left
+Stops shown follows limits debuggee texts OutOfMemory None = Unit {0}
+Stops shown follows limits debuggee texts fault None = ⊥
+
+-- ---- where the debuggee is not given back
+
+abbrev pub DrivesSomehow : {D : Type 0} → (D → Shown) → Goes D → Settings → D → List (List ℕ) → List ℕ → Type 0
+DrivesSomehow {D} shown follows limits debuggee texts transcript = (left : D) × Drives shown follows limits debuggee texts transcript left
+
+abbrev pub StopsSomehow : {D : Type 0} → (D → Shown) → Goes D → Settings → D → List (List ℕ) → DriveFault → Type 0
+StopsSomehow {D} shown follows limits debuggee texts fault = (left : Option D) × Stops shown follows limits debuggee texts fault left
 
 -- ---- over a recording
 
 abbrev pub DrivesRecording : Settings → List ℕ → List (List ℕ) → List ℕ → Type 0
-DrivesRecording limits bytes texts transcript = (r : TheRecording) × (verdict_of (json_of bytes) ≡ Ok r) × Drives shown_of FollowsPlayed limits (fresh_played r) texts transcript
+DrivesRecording limits bytes texts transcript = (r : TheRecording) × (verdict_of (json_of bytes) ≡ Ok r) × DrivesSomehow shown_of FollowsPlayed limits (fresh_played r) texts transcript
 
--- The bytes are no recording, or they are one over which the script stops. A stop of a recording lasts, so that the client
--- never has too many references.
+-- The bytes are no recording, or they are one over which the script stops. A recording has one reply to each act, and goes on in
+-- one way (`FollowsPlayed`), so what is said to have come is what comes. A stop of it lasts, so that the client never has too
+-- many references.
 abbrev pub StopsOver : Settings → List ℕ → List (List ℕ) → DriveFault → Type 0
 StopsOver limits bytes texts Recording = (f : RecordingFault) × (verdict_of (json_of bytes) ≡ Err f)
 StopsOver limits bytes texts OutOfMemory = Unit {0}
 StopsOver limits bytes texts Client = (r : TheRecording) × (verdict_of (json_of bytes) ≡ Ok r) × StopsAt shown_of FollowsPlayed limits (fresh_played r) texts LacksNumberOnLine
-StopsOver limits bytes texts fault = (r : TheRecording) × (verdict_of (json_of bytes) ≡ Ok r) × Stops shown_of FollowsPlayed limits (fresh_played r) texts fault
+StopsOver limits bytes texts fault = (r : TheRecording) × (verdict_of (json_of bytes) ≡ Ok r) × StopsSomehow shown_of FollowsPlayed limits (fresh_played r) texts fault

@@ -1,14 +1,15 @@
 -- What each order of a script does, and a script line by line: each is steps of a schedule. The format is this profile's own.
-use Rattle.std.specs.Prelude.{◌≡◌, ◌+◌, ◌<◌, ℕ, List, [], ◌∷◌, ◌++◌, length, true, false, Some, Ok, Err}
+use Rattle.std.specs.Prelude.{◌≡◌, ◌+◌, ℕ, List, [], ◌∷◌, ◌++◌, true, false, Some, Ok, Err}
 use Rattle.dap_frame.specs.Settings.{Settings}
 use Rattle.dap_message.specs.Types.Call.{Call}
 use Rattle.dap_message.specs.declared.message.Message.{Message}
 use Rattle.dap_debuggee.specs.Shown.{Shown}
-use Rattle.dap_session.specs.Carried.{Goes, CarriedOut}
+use Rattle.dap_session.specs.Carried.{Goes}
 use Rattle.dap_session.specs.Handling.{turns}
-use Rattle.dap_session.specs.Plan.{Made, written_by}
+use Rattle.dap_session.specs.Plan.{written_by}
 use Rattle.dap_outbox.specs.Draft.{bytes_of}
 use Rattle.dap_session.specs.Polling.{polls}
+use Rattle.dap_session.specs.SessionState.{HasTooMany}
 use Rattle.dap_session.specs.Taking.{takes}
 use Rattle.dap_session.specs.declared.fault.AdapterFault.TheVariants.{SeqExhausted}
 use Rattle.dap_adapter.specs.Run.{Next, to_take, to_turn, to_poll, after_poll}
@@ -106,11 +107,12 @@ pub data Reaches {D : Type 0} (shown : D → Shown) (follows : Goes D) : Order �
   in_run_turn : (old u v now : World D) → RunsTo shown follows old to_turn u → Turns shown follows u v → Delivers follows v now → Reaches shown follows Run old to_take now
   in_run_poll : (made : ℕ) (old u v now : World D) → RunsTo shown follows old (to_poll made) u → Polls follows u v → Delivers follows v now → Reaches shown follows Run old to_take now
 
--- the adapter has too few own numbers left for what it does next
-abbrev pub LacksNumbers : {D : Type 0} → (D → Shown) → Goes D → Next → World D → Type 0
-LacksNumbers shown follows to_take w = (m : Message) × (later : List Message) × (w.up ≡ m ∷ later) × (takes m w.adapter.session ≡ Err SeqExhausted)
-LacksNumbers shown follows to_turn w = turns (shown w.adapter.debuggee) w.adapter.session ≡ Err SeqExhausted
-LacksNumbers {D} shown follows (to_poll n) w = (made : Made) × (after : D) × CarriedOut follows (polls w.adapter.session) w.adapter.debuggee made after × (w.adapter.session.limits.seq < w.adapter.session.used + length made.drafts)
+-- The adapter has too few own numbers left for what it does next, and the debuggee is left so: as it was where a message is
+-- taken or a request is handled; as it came out of being asked, where it was asked what happened, and this is what it replied.
+abbrev pub LacksNumbers : {D : Type 0} → (D → Shown) → Goes D → Next → World D → D → Type 0
+LacksNumbers shown follows to_take w left = (m : Message) × (later : List Message) × (w.up ≡ m ∷ later) × (takes m w.adapter.session ≡ Err SeqExhausted) × (left ≡ w.adapter.debuggee)
+LacksNumbers shown follows to_turn w left = (turns (shown w.adapter.debuggee) w.adapter.session ≡ Err SeqExhausted) × (left ≡ w.adapter.debuggee)
+LacksNumbers shown follows (to_poll n) w left = HasTooMany follows (polls w.adapter.session) w.adapter (record { session = w.adapter.session; debuggee = left })
 
 -- the next message gives the client more references than it may know
 abbrev pub HasTooManyReferences : {D : Type 0} → World D → Type 0

@@ -21,7 +21,7 @@ use Rattle.dap_client.specs.Session.{Session as ClientSession, oldest_of}
 use Rattle.dap_client.specs.StandsFor.{StandsFor as ClientStandsFor}
 use Rattle.dap_client.specs.declared.terminal.Terminal.{Terminal}
 use Rattle.dap_world.specs.World.{World, IsIdle, Schedule}
-use Rattle.dap_drive.specs.Driven.{AdapterStops, ClientStops, LacksNumberToAnswer}
+use Rattle.dap_drive.specs.Driven.{AdapterStops, ClientStops, LacksNumberToAnswer, IsLeft}
 use Rattle.dap_drive.specs.PrivateFrames.{AreFramesOf}
 use Rattle.dap_drive.specs.PrivateLines.{IsBetween}
 use Rattle.dap_drive.specs.Orders.{Delivers, Settles, Handles, DoesPoll, Does, Ran, LacksNumbers, HasTooManyReferences}
@@ -141,29 +141,29 @@ left_to_do client adapter = (adapter.session.limits.requests + 1) * (client.sess
 -- ---- faults of an order
 
 -- why delivering ends early: some of it led to a world where the end that takes the next message is closed, or memory was refused
-abbrev pub StopsDelivering : {D : Type 0} → Driving D → DriveFault → World D → Type 0
-StopsDelivering {D} drive Adapter start = (now : World D) × Delivers drive.follows start now × LacksNumbers drive.shown drive.follows to_take now
-StopsDelivering {D} drive Client start = (now : World D) × Delivers drive.follows start now × HasTooManyReferences now
-StopsDelivering drive OutOfMemory start = Unit {0}
-StopsDelivering drive fault start = ⊥
+abbrev pub StopsDelivering : {D : Type 0} → Driving D → DriveFault → World D → D → Type 0
+StopsDelivering {D} drive Adapter start left = (now : World D) × Delivers drive.follows start now × LacksNumbers drive.shown drive.follows to_take now left
+StopsDelivering {D} drive Client start left = (now : World D) × Delivers drive.follows start now × HasTooManyReferences now × IsLeft now left
+StopsDelivering drive OutOfMemory start left = Unit {0}
+StopsDelivering drive fault start left = ⊥
 
 -- why an order is not done, other than that it is not sent
-abbrev pub StopsOrder : {D : Type 0} → Driving D → Order → DriveFault → World D → Type 0
-StopsOrder drive o Adapter start = AdapterStops drive.shown drive.follows o start
-StopsOrder drive o Client start = ClientStops drive.shown drive.follows o start
-StopsOrder drive o OutOfMemory start = Unit {0}
-StopsOrder drive o fault start = ⊥
+abbrev pub StopsOrder : {D : Type 0} → Driving D → Order → DriveFault → World D → D → Type 0
+StopsOrder drive o Adapter start left = AdapterStops drive.shown drive.follows o start left
+StopsOrder drive o Client start left = ClientStops drive.shown drive.follows o start left
+StopsOrder drive o OutOfMemory start left = Unit {0}
+StopsOrder drive o fault start left = ⊥
 
 -- or the request on the line of this number is not sent
-abbrev pub StopsSend : {D : Type 0} → Driving D → ℕ → TheCall → DriveFault → World D → Type 0
-StopsSend drive number call (Send line cause) start = (line ≡ number) × (first_of refusals_in_order call false start.client ≡ Some cause)
-StopsSend drive number call fault start = StopsOrder drive (ToSend call) fault start
+abbrev pub StopsSend : {D : Type 0} → Driving D → ℕ → TheCall → DriveFault → World D → D → Type 0
+StopsSend drive number call (Send line cause) start left = (line ≡ number) × (first_of refusals_in_order call false start.client ≡ Some cause) × IsLeft start left
+StopsSend drive number call fault start left = StopsOrder drive (ToSend call) fault start left
 
 -- or the request that is kept is not answered on that line: there is none, or no own number for it
-abbrev pub StopsAnswer : {D : Type 0} → Driving D → ℕ → Terminal → DriveFault → World D → Type 0
-StopsAnswer drive number terminal (Call line) start = (line ≡ number) × (oldest_of start.client.incoming ≡ None)
-StopsAnswer drive number terminal Client start = ClientStops drive.shown drive.follows (ToAnswer terminal) start ⊎ LacksNumberToAnswer (ToAnswer terminal) start
-StopsAnswer drive number terminal fault start = StopsOrder drive (ToAnswer terminal) fault start
+abbrev pub StopsAnswer : {D : Type 0} → Driving D → ℕ → Terminal → DriveFault → World D → D → Type 0
+StopsAnswer drive number terminal (Call line) start left = (line ≡ number) × (oldest_of start.client.incoming ≡ None) × IsLeft start left
+StopsAnswer drive number terminal Client start left = ClientStops drive.shown drive.follows (ToAnswer terminal) start left ⊎ (LacksNumberToAnswer (ToAnswer terminal) start × IsLeft start left)
+StopsAnswer drive number terminal fault start left = StopsOrder drive (ToAnswer terminal) fault start left
 
 -- ---- a script
 

@@ -1,5 +1,5 @@
 -- What a line of a script asks for. The format is this profile's own; what arguments are is Specification, the types whose names end in "Arguments".
-use Rattle.std.specs.Prelude.{◌≡◌, ℕ, ◌+◌, ◌==◌, ⊤, IsTrue, Bool, true, List, [], ◌∷◌, take, drop, codes, bytes_eq, position, Option, Some, None, option_map, Result, Ok, Err, if◌then◌else◌}
+use Rattle.std.specs.Prelude.{◌≡◌, ℕ, ◌+◌, ◌==◌, ⊤, IsTrue, Bool, true, false, List, [], ◌∷◌, take, drop, codes, bytes_eq, position, Option, Some, None, option_map, Result, Ok, Err, if◌then◌else◌}
 use Rattle.std.specs.Str.{is_utf8}
 use Rattle.serde_json.specs.Data.{Data}
 use Rattle.serde_json.specs.View.{view}
@@ -73,10 +73,10 @@ send_in text = command_in (text_before text) >>= (λ command. arguments_in (text
 
 -- ---- a line
 
--- one without bytes, and a comment, which begins with `#`
+-- one without bytes
 abbrev pub is_skipped : List ℕ → Bool
 is_skipped [] = true
-is_skipped (byte ∷ bytes) = byte == 35
+is_skipped (byte ∷ bytes) = false
 
 abbrev pub order_of : List ℕ → Read Order
 order_of text =

@@ -9,6 +9,7 @@ use Rattle.dap_check.specs.declared.line.Line.{Line}
 use Rattle.dap_check.specs.declared.line.Side.{Side}
 use Rattle.dap_check.specs.declared.line.Side.TheVariants.{Client, Adapter}
 use Rattle.dap_check.specs.declared.rule.AnySeq.TheVariants.{OfNone}
+use Rattle.dap_check.specs.declared.rule.Checked.{Checked}
 use Rattle.dap_check.specs.declared.rule.Checked.TheVariants.{Legal}
 use Rattle.dap_world.specs.Transcripts.{said_of, KeepsRules}
 use Rattle.dap_world.specs.World.{Said}
@@ -37,3 +38,9 @@ pub record IsLegalText (transcript : List ℕ) : Type 0 where
   pub all : List Line
   pub are : AreLines 1 (lines transcript) all
   pub legal : IsVerdict OfNone all Legal
+
+-- what `check` says of it, where all numbers are tested
+pub record IsVerdictOn (transcript : List ℕ) (checked : Checked) : Type 0 where
+  pub all : List Line
+  pub are : AreLines 1 (lines transcript) all
+  pub verdict : IsVerdict OfNone all checked

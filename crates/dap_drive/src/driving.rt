@@ -1,5 +1,5 @@
 //! A script, line by line, and the transcript of what both ends wrote.
-ghost use Rattle.std.specs.Prelude.{◌≡◌, ◌∷◌, ◌++◌, ℕ, List, [], false, IfOk, IfErr, OnOk};
+ghost use Rattle.std.specs.Prelude.{◌≡◌, ◌∷◌, ◌++◌, ℕ, List, [], false, IfOk, IfErr, OnOk, IsSomeAnd};
 ghost use Rattle.std.specs.Str.Lines.{lines};
 ghost use Rattle.dap_debuggee.specs.Laws.{StopsLast};
 ghost use Rattle.dap_debuggee.specs.declared.answers.State.{State};
@@ -37,7 +37,7 @@ fn do_order<D: Debuggee + Drop>(
         → HasDone (driven_by D.shown D.follows limits debuggee) (DoesLine D.shown D.follows text.now) start (both_of drive.new)) }
     ensures stops { IfErr result (λ fault. (limits : Settings) (debuggee : D) (start : World D)
         → IsQuiet (driven_by D.shown D.follows limits debuggee) (both_of drive.old) start
-        → SaysOf D.shown D.follows fault number text.now start) }
+        → SaysOf D.shown D.follows fault drive.new.adapter.debuggee number text.now start) }
 {
     match read_order(alloc, text) {
         Ok(Order::Send(call)) => match drive.send(alloc, &call, number) {
@@ -66,14 +66,11 @@ fn do_order<D: Debuggee + Drop>(
     }
 }
 
-/// Whether a line is skipped: it has no bytes, or is a comment.
+/// Whether a line is skipped: it has no bytes.
 fn is_skipped(text: &[u8]) -> bool
     ensures { result ≡ is_skipped text.now }
 {
-    match text.first() {
-        None => true,
-        Some(byte) => *byte == b'#',
-    }
+    text.is_empty()
 }
 
 /// Does what the line of this number asks for, unless it is skipped.
@@ -91,7 +88,7 @@ fn do_line<D: Debuggee + Drop>(
     ensures not_skipped { IfErr result (λ fault. is_skipped text.now ≡ false) }
     ensures stops { IfErr result (λ fault. (limits : Settings) (debuggee : D) (start : World D)
         → IsQuiet (driven_by D.shown D.follows limits debuggee) (both_of drive.old) start
-        → SaysOf D.shown D.follows fault number text.now start) }
+        → SaysOf D.shown D.follows fault drive.new.adapter.debuggee number text.now start) }
 {
     if is_skipped(text) {
         return Ok(());
@@ -102,14 +99,23 @@ fn do_line<D: Debuggee + Drop>(
     }
 }
 
+/// What came of a script over a debuggee.
+#[derive(Drop)]
+pub struct Driven<D> {
+    /// The transcript, or why the script was not run to its end: then there is none.
+    pub transcript: Result<Vec<u8>, DriveFault>,
+    /// The debuggee, as the last act left it; none only where memory was refused before the first line.
+    pub debuggee: Option<D>,
+}
+
 /// Runs a script over a debuggee that is not started, and gives the transcript: a line for each message that either end
-/// wrote, in order, with the mark of its side.
+/// wrote, in order, with the mark of its side; and the debuggee, as it is then.
 ///
 /// A line of the script is `send COMMAND`, `send COMMAND JSON`, `terminal ok`, `terminal no`, `turn`, `poll` or `run`; a line
-/// without bytes, and one that begins with `#`, is skipped, and counted. Each message is delivered once it is written. `terminal` answers the oldest request
-/// of the adapter that the client keeps, which wants a terminal: it runs, without numbers of processes, or is refused. `run`
-/// lets the adapter handle all requests, then tells what happens until nothing does, the debuggee stops, or it was asked 65536
-/// times.
+/// without bytes is skipped, and counted. There are no comments. Each message is delivered once it is written. `terminal`
+/// answers the oldest request of the adapter that the client keeps, which wants a terminal: it runs, without numbers of
+/// processes, or is refused. `run` lets the adapter handle all requests, then tells what happens until nothing does, the debuggee
+/// stops, or it was asked 65536 times.
 ///
 /// # Errors
 /// Those of [`drive`] but `Recording`; and `Client` where the next message would give the client more references than it may
@@ -119,20 +125,25 @@ pub fn drive_debuggee<D: Debuggee + Drop>(
     debuggee: D,
     script: &[u8],
     limits: Limits,
-) -> Result<Vec<u8>, DriveFault>
+) -> Driven<D>
     requires { (D.shown debuggee).state ≡ State.NotStarted }
-    ensures drives { IfOk result (λ transcript. Drives D.shown D.follows limits debuggee (lines script.now) transcript.items) }
-    ensures stops { IfErr result (Stops D.shown D.follows limits debuggee (lines script.now)) }
+    ensures drives { IfOk result.transcript (λ transcript. IsSomeAnd result.debuggee (Drives D.shown D.follows limits debuggee (lines script.now) transcript.items)) }
+    ensures stops { IfErr result.transcript (λ fault. Stops D.shown D.follows limits debuggee (lines script.now) fault result.debuggee) }
 
     // Of a debuggee whose stops last the transcript is legal, and the client never has too many references.
-    ensures legal { StopsLast D.shown D.follows → IfOk result (λ transcript. IsLegalText transcript.items) }
-    ensures numbers { StopsLast D.shown D.follows → IfErr result (λ fault. fault ≡ DriveFault.Client → StopsAt D.shown D.follows limits debuggee (lines script.now) LacksNumberOnLine) }
+    ensures legal { StopsLast D.shown D.follows → IfOk result.transcript (λ transcript. IsLegalText transcript.items) }
+    ensures numbers { StopsLast D.shown D.follows → IfErr result.transcript (λ fault. fault ≡ DriveFault.Client → StopsAt D.shown D.follows limits debuggee (lines script.now) LacksNumberOnLine) }
 {
     // Laws for the proof: both ends agree, and a message is one line of the transcript.
     each_schedule_agrees::<D>();
     references_agree_while_stops_last::<D>();
     canonical_text_is_one_line();
-    let mut drive = Drive::open(alloc, limits, debuggee)?;
+    let Ok(mut drive) = Drive::open(alloc, limits, debuggee) else {
+        return Driven {
+            transcript: Err(DriveFault::OutOfMemory),
+            debuggee: None,
+        };
+    };
     let mut rest = script;
     let mut number = 0;
     while !rest.is_empty() {
@@ -140,11 +151,21 @@ pub fn drive_debuggee<D: Debuggee + Drop>(
         number += 1;
         match do_line(alloc, &mut drive, text, number) {
             Ok(()) => {}
-            Err(fault) => return Err(fault),
+            Err(fault) => {
+                let debuggee = drive.into_debuggee();
+                return Driven {
+                    transcript: Err(fault),
+                    debuggee: Some(debuggee),
+                };
+            }
         }
         rest = later;
     }
-    Ok(drive.into_transcript())
+    let (transcript, debuggee) = drive.into_parts();
+    Driven {
+        transcript: Ok(transcript),
+        debuggee: Some(debuggee),
+    }
 }
 
 /// Runs a script over a recording, as [`drive_debuggee`] does. What it gives is legal: [`dap_check::check`] finds no broken rule
@@ -172,7 +193,8 @@ pub fn drive(
         Err(RecordingFault::OutOfMemory) => return Err(DriveFault::OutOfMemory),
         Err(_) => return Err(DriveFault::Recording),
     };
-    match drive_debuggee(alloc, recorded, script, limits) {
+    let Driven { transcript, .. } = drive_debuggee(alloc, recorded, script, limits);
+    match transcript {
         Ok(transcript) => Ok(transcript),
         Err(fault) => Err(fault),
     }

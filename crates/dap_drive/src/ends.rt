@@ -158,11 +158,25 @@ impl<D: Debuggee + Drop> Drive<D> {
         })
     }
 
-    pub(crate) fn into_transcript(self) -> Vec<u8>
-        ensures { result ≡ self.transcript }
+    /// The debuggee, as the adapter left it.
+    pub(crate) fn into_debuggee(self) -> D
+        ensures { result ≡ self.adapter.debuggee }
     {
-        let Drive { transcript, .. } = self;
-        transcript
+        let Drive { adapter, .. } = self;
+        adapter.into_debuggee()
+    }
+
+    /// The transcript, and the debuggee.
+    pub(crate) fn into_parts(self) -> (Vec<u8>, D)
+        ensures transcript { result.0 ≡ self.transcript }
+        ensures debuggee { result.1 ≡ self.adapter.debuggee }
+    {
+        let Drive {
+            adapter,
+            transcript,
+            ..
+        } = self;
+        (transcript, adapter.into_debuggee())
     }
 
     /// Delivers the first message on the way down, and answers how many bytes its frame has. What the client writes is
@@ -184,7 +198,7 @@ impl<D: Debuggee + Drop> Drive<D> {
         ensures adapter { self.new.adapter ≡ self.old.adapter }
         ensures stops { IfErr result (λ fault. (limits : Settings) (debuggee : D) (start : World D)
             → HasDelivered (driven_by D.shown D.follows limits debuggee) start (both_of self.old) up.old.items rest.now
-            → 0 < length rest.now → StopsDelivering (driven_by D.shown D.follows limits debuggee) fault start) }
+            → 0 < length rest.now → StopsDelivering (driven_by D.shown D.follows limits debuggee) fault start self.new.adapter.debuggee) }
     {
         // Laws for the proof: both ends agree, and bytes are frames in one way only.
         each_schedule_agrees::<D>();
@@ -213,7 +227,7 @@ impl<D: Debuggee + Drop> Drive<D> {
         ensures adapter { OnOk result (self.new.adapter ≡ self.old.adapter) }
         ensures stops { IfErr result (λ fault. (limits : Settings) (debuggee : D) (start : World D)
             → HasDelivered (driven_by D.shown D.follows limits debuggee) start (both_of self.old) [] down.now
-            → StopsDelivering (driven_by D.shown D.follows limits debuggee) fault start) }
+            → StopsDelivering (driven_by D.shown D.follows limits debuggee) fault start self.new.adapter.debuggee) }
     {
         let mut up = Vec::new(alloc);
         let mut at = 0;
@@ -243,7 +257,7 @@ impl<D: Debuggee + Drop> Drive<D> {
         ensures limits { OnOk result (self.new.adapter.session.limits ≡ self.old.adapter.session.limits) }
         ensures stops { IfErr result (λ fault. (limits : Settings) (debuggee : D) (start : World D)
             → HasDelivered (driven_by D.shown D.follows limits debuggee) start (both_of self.old) rest.now down.old.items
-            → 0 < length rest.now → StopsDelivering (driven_by D.shown D.follows limits debuggee) fault start) }
+            → 0 < length rest.now → StopsDelivering (driven_by D.shown D.follows limits debuggee) fault start self.new.adapter.debuggee) }
     {
         // Laws for the proof: both ends agree, and bytes are frames in one way only.
         each_schedule_agrees::<D>();
@@ -277,7 +291,7 @@ impl<D: Debuggee + Drop> Drive<D> {
         ensures limits { OnOk result (self.new.adapter.session.limits ≡ self.old.adapter.session.limits) }
         ensures stops { IfErr result (λ fault. (limits : Settings) (debuggee : D) (start : World D)
             → HasDelivered (driven_by D.shown D.follows limits debuggee) start (both_of self.old) up.now []
-            → StopsDelivering (driven_by D.shown D.follows limits debuggee) fault start) }
+            → StopsDelivering (driven_by D.shown D.follows limits debuggee) fault start self.new.adapter.debuggee) }
     {
         let mut down = Vec::new(alloc);
         let mut at = 0;
@@ -298,7 +312,7 @@ impl<D: Debuggee + Drop> Drive<D> {
         ensures less { OnOk result (left_to_do self.new.client self.new.adapter ≤ left_to_do self.old.client self.old.adapter) }
         ensures stops { IfErr result (λ fault. (limits : Settings) (debuggee : D) (start : World D)
             → HasDelivered (driven_by D.shown D.follows limits debuggee) start (both_of self.old) [] first.items
-            → StopsDelivering (driven_by D.shown D.follows limits debuggee) fault start) }
+            → StopsDelivering (driven_by D.shown D.follows limits debuggee) fault start self.new.adapter.debuggee) }
     {
         // Laws for the proof: both ends agree, and bytes are frames in one way only.
         each_schedule_agrees::<D>();
@@ -325,7 +339,7 @@ impl<D: Debuggee + Drop> Drive<D> {
             → HasDone (driven_by D.shown D.follows limits debuggee) (DoesSend D.follows call.now) start (both_of self.new)) }
         ensures stops { IfErr result (λ fault. (limits : Settings) (debuggee : D) (start : World D)
             → IsQuiet (driven_by D.shown D.follows limits debuggee) (both_of self.old) start
-            → StopsSend (driven_by D.shown D.follows limits debuggee) line call.now fault start) }
+            → StopsSend (driven_by D.shown D.follows limits debuggee) line call.now fault start self.new.adapter.debuggee) }
     {
         // Laws for the proof: both ends agree, and bytes are frames in one way only.
         each_schedule_agrees::<D>();
@@ -364,7 +378,7 @@ impl<D: Debuggee + Drop> Drive<D> {
             → HasDone (driven_by D.shown D.follows limits debuggee) (DoesAnswer D.follows terminal) start (both_of self.new)) }
         ensures stops { IfErr result (λ fault. (limits : Settings) (debuggee : D) (start : World D)
             → IsQuiet (driven_by D.shown D.follows limits debuggee) (both_of self.old) start
-            → StopsAnswer (driven_by D.shown D.follows limits debuggee) line terminal fault start) }
+            → StopsAnswer (driven_by D.shown D.follows limits debuggee) line terminal fault start self.new.adapter.debuggee) }
     {
         // Laws for the proof: both ends agree, and bytes are frames in one way only.
         each_schedule_agrees::<D>();
@@ -400,7 +414,7 @@ impl<D: Debuggee + Drop> Drive<D> {
         ensures less { IfOk result (λ more. more ≡ true → left_to_do self.new.client self.new.adapter < left_to_do self.old.client self.old.adapter) }
         ensures stops { IfErr result (λ fault. (limits : Settings) (debuggee : D) (start : World D)
             → IsQuiet (driven_by D.shown D.follows limits debuggee) (both_of self.old) start
-            → StopsOrder (driven_by D.shown D.follows limits debuggee) Order.Turn fault start) }
+            → StopsOrder (driven_by D.shown D.follows limits debuggee) Order.Turn fault start self.new.adapter.debuggee) }
     {
         // Laws for the proof: both ends agree, and bytes are frames in one way only.
         each_schedule_agrees::<D>();
@@ -432,7 +446,7 @@ impl<D: Debuggee + Drop> Drive<D> {
             → HasDone (driven_by D.shown D.follows limits debuggee) (HasPolled D.follows last) start (both_of self.new)) }
         ensures stops { IfErr result (λ fault. (limits : Settings) (debuggee : D) (start : World D)
             → IsQuiet (driven_by D.shown D.follows limits debuggee) (both_of self.old) start
-            → StopsOrder (driven_by D.shown D.follows limits debuggee) Order.Poll fault start) }
+            → StopsOrder (driven_by D.shown D.follows limits debuggee) Order.Poll fault start self.new.adapter.debuggee) }
     {
         // Laws for the proof: both ends agree, and bytes are frames in one way only.
         each_schedule_agrees::<D>();
@@ -464,7 +478,7 @@ impl<D: Debuggee + Drop> Drive<D> {
             → HasDone (driven_by D.shown D.follows limits debuggee) (λ old new. RunsTo D.shown D.follows old to_take new) start (both_of self.new)) }
         ensures stops { IfErr result (λ fault. (limits : Settings) (debuggee : D) (start : World D)
             → IsQuiet (driven_by D.shown D.follows limits debuggee) (both_of self.old) start
-            → StopsOrder (driven_by D.shown D.follows limits debuggee) Order.Run fault start) }
+            → StopsOrder (driven_by D.shown D.follows limits debuggee) Order.Run fault start self.new.adapter.debuggee) }
     {
         self.turns(alloc)?;
         self.polls(alloc)?;
@@ -479,7 +493,7 @@ impl<D: Debuggee + Drop> Drive<D> {
             → HasDone (driven_by D.shown D.follows limits debuggee) (λ old new. RunsTo D.shown D.follows old (to_poll 0) new) start (both_of self.new)) }
         ensures stops { IfErr result (λ fault. (limits : Settings) (debuggee : D) (start : World D)
             → IsQuiet (driven_by D.shown D.follows limits debuggee) (both_of self.old) start
-            → StopsOrder (driven_by D.shown D.follows limits debuggee) Order.Run fault start) }
+            → StopsOrder (driven_by D.shown D.follows limits debuggee) Order.Run fault start self.new.adapter.debuggee) }
     {
         // Laws for the proof: both ends agree, and bytes are frames in one way only.
         each_schedule_agrees::<D>();
@@ -500,7 +514,7 @@ impl<D: Debuggee + Drop> Drive<D> {
             → HasDone (driven_by D.shown D.follows limits debuggee) (λ old new. RunsTo D.shown D.follows old to_take new) start (both_of self.new)) }
         ensures stops { IfErr result (λ fault. (limits : Settings) (debuggee : D) (start : World D)
             → HasDone (driven_by D.shown D.follows limits debuggee) (λ old new. RunsTo D.shown D.follows old (to_poll 0) new) start (both_of self.old)
-            → StopsOrder (driven_by D.shown D.follows limits debuggee) Order.Run fault start) }
+            → StopsOrder (driven_by D.shown D.follows limits debuggee) Order.Run fault start self.new.adapter.debuggee) }
     {
         // Laws for the proof: both ends agree, and bytes are frames in one way only.
         each_schedule_agrees::<D>();

@@ -1,7 +1,7 @@
 //! A law of the definitions, on a function with nothing to run.
-ghost use Rattle.dap_drive.specs.Laws.{NoOrderIsSkipped};
+ghost use Rattle.dap_drive.specs.Laws.{NoCommentIsALine};
 
-/// No line that asks for something is taken for a comment, nor for an empty one.
-pub fn no_order_is_skipped()
-    ensures { NoOrderIsSkipped }
+/// A line that begins with `#` is no order, and is not skipped: a script has no comments.
+pub fn no_comment_is_a_line()
+    ensures { NoCommentIsALine }
 {}

@@ -7,6 +7,7 @@
 //! message ends.
 #![tactic(auto)]
 
+mod checked;
 mod driving;
 mod ends;
 mod fault;
@@ -14,5 +15,6 @@ pub mod laws;
 mod script;
 mod writing;
 
-pub use driving::{drive, drive_debuggee};
+pub use checked::{CheckedTranscript, drive_and_check, drive_debuggee_and_check};
+pub use driving::{Driven, drive, drive_debuggee};
 pub use fault::DriveFault;

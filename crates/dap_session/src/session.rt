@@ -130,6 +130,14 @@ impl<D: Debuggee + Drop> Session<D> {
         self.queries.target(number)
     }
 
+    /// The debuggee, as it is now.
+    pub fn into_debuggee(self) -> D
+        ensures { result ≡ self.debuggee }
+    {
+        let Session { debuggee, .. } = self;
+        debuggee
+    }
+
     pub(crate) fn limits(&self) -> Limits
         ensures { result ≡ self.now.session.limits }
     {

@@ -4,7 +4,7 @@ use Rattle.std.specs.Fmt.{digits}
 use Rattle.serde_json.specs.Data.{null, object, no_members}
 use Rattle.dap_message.specs.declared.fault.BodyRefusal.TheVariants.{BadSeq}
 use Rattle.dap_message.specs.declared.message.Kind.TheVariants.{Request, Response, Event, Other}
-use Rattle.dap_stream.specs.Lines.{shown_text, line_of_message, line_of_object, line_of_refused, object_of_refused}
+use Rattle.dap_stream.specs.Lines.{shown_text, line_of_message, line_with_reason, line_of_object, line_of_refused, object_of_refused}
 
 -- ---- names
 
@@ -37,20 +37,11 @@ failed_response_line : line_of_message 68 (record { seq = 1; kind = Response 1 f
 unfolding digits
 failed_response_line = refl
 
-reason_is_listed : line_of_message 68 (record { seq = 1; kind = Response 1 false (codes "threads") (Some (codes "not stopped")) None }) ≡ codes "68 1 response threads 1 failed not stopped\n"
+-- its reason is not listed
+reason_is_not_listed : line_of_message 68 (record { seq = 1; kind = Response 1 false (codes "threads") (Some (codes "not stopped")) None }) ≡ codes "68 1 response threads 1 failed\n"
 unfolding digits
-reason_is_listed = refl
+reason_is_not_listed = refl
 
-controls_of_a_reason_are_hidden : line_of_message 68 (record { seq = 1; kind = Response 1 false (codes "next") (Some (codes "a\nb")) None }) ≡ codes "68 1 response next 1 failed a?b\n"
-unfolding digits
-controls_of_a_reason_are_hidden = refl
-
--- with a space, as before any other
-empty_reason : line_of_message 68 (record { seq = 1; kind = Response 1 false (codes "next") (Some []) None }) ≡ codes "68 1 response next 1 failed \n"
-unfolding digits
-empty_reason = refl
-
--- what succeeded has no reason, whatever it says
 response_line : line_of_message 1000 (record { seq = 9007199254740991; kind = Response 12 true (codes "threads") (Some (codes "why")) (Some null) }) ≡ codes "1000 9007199254740991 response threads 12 ok\n"
 unfolding digits
 response_line = refl
@@ -62,6 +53,34 @@ event_line = refl
 other_line : line_of_message 233 (record { seq = 3; kind = Other (codes "x") }) ≡ codes "233 3 other x\n"
 unfolding digits
 other_line = refl
+
+-- ---- lines with reasons
+
+reason_is_listed : line_with_reason 68 (record { seq = 1; kind = Response 1 false (codes "threads") (Some (codes "not stopped")) None }) ≡ codes "68 1 response threads 1 failed not stopped\n"
+unfolding digits
+reason_is_listed = refl
+
+controls_of_a_reason_are_hidden : line_with_reason 68 (record { seq = 1; kind = Response 1 false (codes "next") (Some (codes "a\nb")) None }) ≡ codes "68 1 response next 1 failed a?b\n"
+unfolding digits
+controls_of_a_reason_are_hidden = refl
+
+-- with a space, as before any other
+empty_reason : line_with_reason 68 (record { seq = 1; kind = Response 1 false (codes "next") (Some []) None }) ≡ codes "68 1 response next 1 failed \n"
+unfolding digits
+empty_reason = refl
+
+without_reason : line_with_reason 68 (record { seq = 1; kind = Response 1 false (codes "next") None None }) ≡ codes "68 1 response next 1 failed\n"
+unfolding digits
+without_reason = refl
+
+-- what succeeded has no reason, whatever it says
+success_has_no_reason : line_with_reason 1000 (record { seq = 9; kind = Response 12 true (codes "threads") (Some (codes "why")) None }) ≡ codes "1000 9 response threads 12 ok\n"
+unfolding digits
+success_has_no_reason = refl
+
+request_has_no_reason : line_with_reason 0 (record { seq = 1; kind = Request (codes "threads") None }) ≡ codes "0 1 request threads\n"
+unfolding digits
+request_has_no_reason = refl
 
 -- ---- objects
 

@@ -6,7 +6,7 @@ use Rattle.dap_message.specs.declared.message.Message.{Message}
 use Rattle.dap_message.specs.declared.message.Kind.{Kind}
 use Rattle.dap_message.specs.declared.message.Kind.TheVariants.{Request, Response, Event, Other}
 use Rattle.dap_stream.specs.declared.lines.Form.{Form}
-use Rattle.dap_stream.specs.declared.lines.Form.TheVariants.{Line, Object, Body}
+use Rattle.dap_stream.specs.declared.lines.Form.TheVariants.{Line, Reasons, Object, Body}
 
 -- ---- by eye
 
@@ -17,23 +17,39 @@ shown_byte b = if nat_lt b 32 || b == 127 then 63 else b
 abbrev pub shown_text : List ℕ → List ℕ
 shown_text text = map shown_byte text
 
--- why a request failed, where the response says so
+abbrev pub outcome_text : Bool → List ℕ
+outcome_text true = codes " ok"
+outcome_text false = codes " failed"
+
+abbrev pub kind_text : Kind → List ℕ
+kind_text (Request command arguments) = codes " request " ++ shown_text command
+kind_text (Response request_seq success command message body) = codes " response " ++ shown_text command ++ codes " " ++ decimal request_seq ++ outcome_text success
+kind_text (Event event body) = codes " event " ++ shown_text event
+kind_text (Other tag) = codes " other " ++ shown_text tag
+
+-- the front of a line, which says all but why a request failed
+abbrev pub words_of_message : ℕ → Message → List ℕ
+words_of_message offset m = decimal offset ++ codes " " ++ decimal m.seq ++ kind_text m.kind
+
+abbrev pub line_of_message : ℕ → Message → List ℕ
+line_of_message offset m = words_of_message offset m ++ codes "\n"
+
+-- ---- the same, with why a request failed
+
+-- where the message is a response that says so
+abbrev pub reason_of : Kind → Option (List ℕ)
+reason_of (Request command arguments) = None
+reason_of (Response request_seq true command message body) = None
+reason_of (Response request_seq false command message body) = message
+reason_of (Event event body) = None
+reason_of (Other tag) = None
+
 abbrev pub reason_text : Option (List ℕ) → List ℕ
 reason_text None = []
 reason_text (Some reason) = codes " " ++ shown_text reason
 
-abbrev pub outcome_text : Bool → Option (List ℕ) → List ℕ
-outcome_text true reason = codes " ok"
-outcome_text false reason = codes " failed" ++ reason_text reason
-
-abbrev pub kind_text : Kind → List ℕ
-kind_text (Request command arguments) = codes " request " ++ shown_text command
-kind_text (Response request_seq success command message body) = codes " response " ++ shown_text command ++ codes " " ++ decimal request_seq ++ outcome_text success message
-kind_text (Event event body) = codes " event " ++ shown_text event
-kind_text (Other tag) = codes " other " ++ shown_text tag
-
-abbrev pub line_of_message : ℕ → Message → List ℕ
-line_of_message offset m = decimal offset ++ codes " " ++ decimal m.seq ++ kind_text m.kind ++ codes "\n"
+abbrev pub line_with_reason : ℕ → Message → List ℕ
+line_with_reason offset m = words_of_message offset m ++ reason_text (reason_of m.kind) ++ codes "\n"
 
 -- ---- the body
 
@@ -77,11 +93,13 @@ object_of_refused offset body cause = codes "{\"offset\":" ++ decimal offset ++ 
 
 abbrev pub line_in : Form → ℕ → List ℕ → Message → List ℕ
 line_in Line offset body m = line_of_message offset m
+line_in Reasons offset body m = line_with_reason offset m
 line_in Object offset body m = line_of_object offset body
 line_in Body offset body m = line_of_body body
 
 -- as a body alone it has no line
 abbrev pub refused_in : Form → ℕ → List ℕ → BodyRefusal → List ℕ
 refused_in Line offset body cause = line_of_refused offset cause
+refused_in Reasons offset body cause = line_of_refused offset cause
 refused_in Object offset body cause = object_of_refused offset body cause
 refused_in Body offset body cause = []

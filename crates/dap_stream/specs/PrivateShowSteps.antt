@@ -13,14 +13,6 @@ use Rattle.dap_stream.specs.Lines.{kind_text}
 use Rattle.dap_stream.specs.Listing.{Listed}
 use Rattle.dap_stream.specs.declared.lines.Style.{Style}
 
--- why the request failed, where the message is a response that says so
-abbrev pub reason_of : Kind → Option (List ℕ)
-reason_of (kind.Request command arguments) = None
-reason_of (kind.Response request_seq true command message body) = None
-reason_of (kind.Response request_seq false command message body) = message
-reason_of (kind.Event event body) = None
-reason_of (kind.Other tag) = None
-
 -- the heading is that of a request that failed
 abbrev pub is_failure : HeadingKind → Bool
 is_failure (Request name) = false
@@ -28,12 +20,12 @@ is_failure (Response request_seq success name) = not success
 is_failure (Event name) = false
 is_failure (Other name) = false
 
--- the words of a heading, with a reason: those of such a message, whatever else it has
-abbrev pub kind_words : HeadingKind → Option (List ℕ) → List ℕ
-kind_words (Request name) reason = kind_text (kind.Request name.now None)
-kind_words (Response request_seq success name) reason = kind_text (kind.Response request_seq success name.now reason None)
-kind_words (Event name) reason = kind_text (kind.Event name.now None)
-kind_words (Other name) reason = kind_text (kind.Other name.now)
+-- the words of a heading: those of such a message, whatever else it has
+abbrev pub kind_words : HeadingKind → List ℕ
+kind_words (Request name) = kind_text (kind.Request name.now None)
+kind_words (Response request_seq success name) = kind_text (kind.Response request_seq success name.now None None)
+kind_words (Event name) = kind_text (kind.Event name.now None)
+kind_words (Other name) = kind_text (kind.Other name.now)
 
 -- why a ready body is not read
 abbrev pub IsUnread : List ℕ → BodyFault → Type 0

@@ -4,9 +4,9 @@ ghost use Rattle.std.specs.Prelude.{◌≡◌, ◌++◌, OnOk, IfOk, IfErr, deci
 ghost use Rattle.dap_message.specs.Heading.{IsHeadingOf};
 ghost use Rattle.dap_message.specs.Meaning.{Msg};
 ghost use Rattle.dap_message.specs.declared.message.Message.{Message};
-ghost use Rattle.dap_stream.specs.Lines.{shown_text, shown_byte, reason_text, outcome_text, line_of_message, line_of_object, line_of_body, line_in, name_of_body_refusal, line_of_refused, object_of_refused, refused_in};
+ghost use Rattle.dap_stream.specs.Lines.{shown_text, shown_byte, outcome_text, words_of_message, line_of_message, reason_of, reason_text, line_with_reason, line_of_object, line_of_body, line_in, name_of_body_refusal, line_of_refused, object_of_refused, refused_in};
 ghost use Rattle.dap_stream.specs.Listing.{IsLineOf};
-ghost use Rattle.dap_stream.specs.PrivateShowSteps.{kind_words, is_failure, reason_of, IsUnread, IsStopped};
+ghost use Rattle.dap_stream.specs.PrivateShowSteps.{kind_words, is_failure, IsUnread, IsStopped};
 
 use crate::bodies::{push_unbroken, test_message};
 use dap_message::{
@@ -21,6 +21,8 @@ use std::alloc::{AllocError, Global};
 pub enum Form {
     /// For the eye: the offset of the frame, the message's number, its kind and its names.
     Line,
+    /// The same, with why a request failed: behind `failed` is the `message` of the response, where it has one.
+    Reasons,
     /// For programs: a JSON object with the frame's `offset`, the length of the body in `bytes`, and the `message`, which is the
     /// body without its line feeds and carriage returns.
     Object,
@@ -60,34 +62,18 @@ pub fn push_number(line: &mut Vec<u8>, number: u64) -> Result<(), AllocError>
     line.extend_from_slice(buffer.format(number).as_bytes())
 }
 
-fn push_reason(line: &mut Vec<u8>, reason: Option<&str>) -> Result<(), AllocError>
-    ensures { OnOk result (line.new.items ≡ line.old.items ++ reason_text (option_map (λ text. text.now) reason.entry)) }
-{
-    match reason {
-        None => Ok(()),
-        Some(text) => {
-            line.extend_from_slice(b" ")?;
-            push_shown(line, text.as_bytes())
-        }
-    }
-}
-
-fn push_outcome(line: &mut Vec<u8>, success: bool, reason: Option<&str>) -> Result<(), AllocError>
-    ensures { OnOk result (line.new.items ≡ line.old.items ++ outcome_text success (option_map (λ text. text.now) reason.entry)) }
+fn push_outcome(line: &mut Vec<u8>, success: bool) -> Result<(), AllocError>
+    ensures { OnOk result (line.new.items ≡ line.old.items ++ outcome_text success) }
 {
     if success {
-        return line.extend_from_slice(b" ok");
+        line.extend_from_slice(b" ok")
+    } else {
+        line.extend_from_slice(b" failed")
     }
-    line.extend_from_slice(b" failed")?;
-    push_reason(line, reason)
 }
 
-fn push_kind(
-    line: &mut Vec<u8>,
-    kind: &HeadingKind<'_>,
-    reason: Option<&str>,
-) -> Result<(), AllocError>
-    ensures { OnOk result (line.new.items ≡ line.old.items ++ kind_words kind.now (option_map (λ text. text.now) reason.entry)) }
+fn push_kind(line: &mut Vec<u8>, kind: &HeadingKind<'_>) -> Result<(), AllocError>
+    ensures { OnOk result (line.new.items ≡ line.old.items ++ kind_words kind.now) }
 {
     match kind {
         HeadingKind::Request { command } => {
@@ -103,7 +89,7 @@ fn push_kind(
             push_shown(line, command.as_bytes())?;
             line.extend_from_slice(b" ")?;
             push_number(line, *request_seq)?;
-            push_outcome(line, *success, reason)
+            push_outcome(line, *success)
         }
         HeadingKind::Event { event } => {
             line.extend_from_slice(b" event ")?;
@@ -116,20 +102,69 @@ fn push_kind(
     }
 }
 
-/// Makes the line of the message with this heading and this reason, whose frame starts at an offset.
-fn make_line(
-    line: &mut Vec<u8>,
-    offset: u64,
-    heading: &Heading<'_>,
-    reason: Option<&str>,
-) -> Result<(), AllocError>
-    ensures { OnOk result ((m : Message) → IsHeadingOf heading.now m → option_map (λ text. text.now) reason.entry ≡ reason_of m.kind → line.new.items ≡ line_of_message offset m) }
+/// Makes the front of the line of the message with this heading, whose frame starts at an offset.
+fn make_words(line: &mut Vec<u8>, offset: u64, heading: &Heading<'_>) -> Result<(), AllocError>
+    ensures { OnOk result ((m : Message) → IsHeadingOf heading.now m → line.new.items ≡ words_of_message offset m) }
 {
     line.clear();
     push_number(line, offset)?;
     line.extend_from_slice(b" ")?;
     push_number(line, heading.seq)?;
-    push_kind(line, &heading.kind, reason)?;
+    push_kind(line, &heading.kind)
+}
+
+/// Makes the line of the message with this heading, whose frame starts at an offset.
+fn make_line(line: &mut Vec<u8>, offset: u64, heading: &Heading<'_>) -> Result<(), AllocError>
+    ensures { OnOk result ((m : Message) → IsHeadingOf heading.now m → line.new.items ≡ line_of_message offset m) }
+{
+    make_words(line, offset, heading)?;
+    line.extend_from_slice(b"\n")
+}
+
+/// Makes the line of the message that a body is. A body is read whole only where its heading cannot be read, so that the fault
+/// is.
+fn make_line_of(
+    alloc: Global,
+    scratch: &mut Scratch,
+    line: &mut Vec<u8>,
+    offset: u64,
+    body: &[u8],
+) -> Result<(), BodyFault>
+    ensures made { OnOk result ((m : Message) × Msg body.now m × (line.new.items ≡ line_of_message offset m)) }
+    ensures fault { IfErr result (IsUnread body.now) }
+{
+    if let Some(heading) = read_heading(scratch, body) {
+        make_line(line, offset, &heading)?;
+        return Ok(());
+    }
+    let message = read_message(alloc, body)?;
+    make_line(line, offset, &message.heading())?;
+    Ok(())
+}
+
+fn push_reason(line: &mut Vec<u8>, reason: Option<&str>) -> Result<(), AllocError>
+    ensures { OnOk result (line.new.items ≡ line.old.items ++ reason_text (option_map (λ text. text.now) reason.entry)) }
+{
+    match reason {
+        None => Ok(()),
+        Some(text) => {
+            line.extend_from_slice(b" ")?;
+            push_shown(line, text.as_bytes())
+        }
+    }
+}
+
+/// The same, with why the request failed.
+fn make_line_with_reason(
+    line: &mut Vec<u8>,
+    offset: u64,
+    heading: &Heading<'_>,
+    reason: Option<&str>,
+) -> Result<(), AllocError>
+    ensures { OnOk result ((m : Message) → IsHeadingOf heading.now m → option_map (λ text. text.now) reason.entry ≡ reason_of m.kind → line.new.items ≡ line_with_reason offset m) }
+{
+    make_words(line, offset, heading)?;
+    push_reason(line, reason)?;
     line.extend_from_slice(b"\n")
 }
 
@@ -157,36 +192,36 @@ fn reason_in(message: &Message) -> Option<&str>
     }
 }
 
-/// Makes the line of the message that a body is, read whole.
+/// Makes the line, with why a request failed, of the message that a body is, read whole.
 fn make_line_of_whole(
     alloc: Global,
     line: &mut Vec<u8>,
     offset: u64,
     body: &[u8],
 ) -> Result<(), BodyFault>
-    ensures made { OnOk result ((m : Message) × Msg body.now m × (line.new.items ≡ line_of_message offset m)) }
+    ensures made { OnOk result ((m : Message) × Msg body.now m × (line.new.items ≡ line_with_reason offset m)) }
     ensures fault { IfErr result (IsUnread body.now) }
 {
     let message = read_message(alloc, body)?;
-    make_line(line, offset, &message.heading(), reason_in(&message))?;
+    make_line_with_reason(line, offset, &message.heading(), reason_in(&message))?;
     Ok(())
 }
 
-/// Makes the line of the message that a body is. A body is read whole only where a request failed, so that its reason is
-/// there, and where its heading cannot be read, so that the fault is.
-fn make_line_of(
+/// Makes the line, with why a request failed, of the message that a body is. A body is read whole only where a request failed,
+/// so that its reason is there, and where its heading cannot be read, so that the fault is.
+fn make_line_with_reason_of(
     alloc: Global,
     scratch: &mut Scratch,
     line: &mut Vec<u8>,
     offset: u64,
     body: &[u8],
 ) -> Result<(), BodyFault>
-    ensures made { OnOk result ((m : Message) × Msg body.now m × (line.new.items ≡ line_of_message offset m)) }
+    ensures made { OnOk result ((m : Message) × Msg body.now m × (line.new.items ≡ line_with_reason offset m)) }
     ensures fault { IfErr result (IsUnread body.now) }
 {
     if let Some(heading) = read_heading(scratch, body) {
         if !failed(&heading.kind) {
-            make_line(line, offset, &heading, None)?;
+            make_line_with_reason(line, offset, &heading, None)?;
             return Ok(());
         }
     }
@@ -247,6 +282,7 @@ fn make_message_line(
 {
     match form {
         Form::Line => make_line_of(alloc, scratch, line, offset, body),
+        Form::Reasons => make_line_with_reason_of(alloc, scratch, line, offset, body),
         Form::Object => make_object(alloc, scratch, line, offset, body),
         Form::Body => make_body_line(alloc, scratch, line, body),
     }
@@ -308,7 +344,7 @@ fn make_refused(
     ensures { OnOk result (line.new.items ≡ refused_in form offset body.now cause) }
 {
     match form {
-        Form::Line => make_refused_line(line, offset, cause),
+        Form::Line | Form::Reasons => make_refused_line(line, offset, cause),
         Form::Object => make_refused_object(line, offset, body, cause),
         Form::Body => {
             line.clear();

@@ -218,9 +218,9 @@ fn list_all(
 }
 
 /// Appends a line for each message of a stream, up to the first refusal: `OFFSET SEQ request COMMAND`,
-/// `OFFSET SEQ response COMMAND REQUEST_SEQ ok` or `failed`, `OFFSET SEQ event EVENT`, `OFFSET SEQ other TAG`. Behind
-/// `failed` is the `message` of the response, where it has one. Offsets count bytes from the stream's start; control
-/// characters are shown as `?`. This is [`list`] in the form `Line`.
+/// `OFFSET SEQ response COMMAND REQUEST_SEQ ok` or `failed`, `OFFSET SEQ event EVENT`, `OFFSET SEQ other TAG`. Offsets count
+/// bytes from the stream's start; control characters are shown as `?`. This is [`list`] in the form `Line`; in the form
+/// `Reasons` the `message` of a response is behind `failed`.
 pub fn show(
     alloc: Global,
     bytes: &[u8],

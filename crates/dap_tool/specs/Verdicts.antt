@@ -5,6 +5,8 @@ use Rattle.dap_check.specs.Findings.{open_requests}
 use Rattle.dap_check.specs.Legal.{number_of, least_broken, IsLegal}
 use Rattle.dap_check.specs.declared.line.Line.{Line}
 use Rattle.dap_check.specs.declared.rule.AnySeq.{AnySeq}
+use Rattle.dap_check.specs.declared.rule.Checked.{Checked}
+use Rattle.dap_check.specs.declared.rule.Checked.TheVariants.{Legal, Finding}
 use Rattle.dap_check.specs.declared.rule.OpenRequest.{OpenRequest}
 use Rattle.dap_check.specs.declared.rule.Rule.{Rule}
 use Rattle.dap_message.specs.declared.message.Kind.{Kind}
@@ -22,6 +24,11 @@ use Rattle.dap_tool.specs.declared.verdict.VerdictText.{VerdictText}
 
 abbrev pub text_of_finding : ℕ → Rule → List ℕ
 text_of_finding line rule = codes "line " ++ decimal line ++ codes " rule " ++ decimal (number_of rule) ++ codes "\n"
+
+-- what `check` says, alone
+abbrev pub text_of_checked : Checked → List ℕ
+text_of_checked Legal = codes "legal\n"
+text_of_checked (Finding line rule) = text_of_finding line rule
 
 -- why one breaks it
 abbrev pub text_of_reason : Reason → List ℕ

@@ -10,11 +10,11 @@ ghost use Rattle.dap_check.specs.declared.rule.AnySeq.{AnySeq};
 ghost use Rattle.dap_check.specs.declared.rule.Finding.{Finding as TheFinding};
 ghost use Rattle.dap_explain.specs.Reasons.{reason_of};
 ghost use Rattle.dap_explain.specs.Sentences.{joined_text};
-ghost use Rattle.dap_tool.specs.Verdicts.{text_of_finding, text_of_reason, text_of_why, text_at, texts_of, count_text, closing_text, text_of_open, open_text, printed_text, text_of_verdict, IsVerdictText};
+ghost use Rattle.dap_tool.specs.Verdicts.{text_of_finding, text_of_checked, text_of_reason, text_of_why, text_at, texts_of, count_text, closing_text, text_of_open, open_text, printed_text, text_of_verdict, IsVerdictText};
 
 use crate::bodies::list_lines;
 use dap_check::laws::findings_are_broken_rules;
-use dap_check::{AnySeq, CheckFault, Finding, OpenRequest, Report, Rule, check_all};
+use dap_check::{AnySeq, CheckFault, Checked, Finding, OpenRequest, Report, Rule, check_all};
 use dap_explain::{Reason, explain, sentence};
 use dap_stream::{push_number, push_shown};
 use std::alloc::{AllocError, Global};
@@ -49,6 +49,16 @@ fn finding_text(alloc: Global, line: u64, rule: Rule) -> Result<String, AllocErr
 {
     let number = u64::from(rule.number());
     Ok(format!(in alloc; "line {line} rule {number}\n")?)
+}
+
+/// A verdict alone, as a line: `legal`, or the first line that breaks a rule, with that rule.
+pub fn verdict_line(alloc: Global, checked: Checked) -> Result<String, AllocError>
+    ensures { IfOk result (λ text. string_bytes text ≡ text_of_checked checked) }
+{
+    match checked {
+        Checked::Legal => format!(in alloc; "legal\n"),
+        Checked::Finding { line, rule } => finding_text(alloc, line, rule),
+    }
 }
 
 fn push_line(alloc: Global, text: &mut Vec<u8>, finding: Finding) -> Result<(), AllocError>

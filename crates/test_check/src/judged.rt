@@ -16,6 +16,7 @@
 
 use dap_check::{
     AnySeq, CheckFault, Checked, Finding, OpenRequest, Report, Side, check, check_all,
+    check_by_side,
 };
 use dap_explain::{explain, sentence};
 use std::alloc::{AllocError, Global};
@@ -252,8 +253,17 @@ fn is_first(checked: Checked, report: &Report) -> bool {
     }
 }
 
+/// The verdict, by the call that is there for these sides.
+fn verdict(alloc: Global, text: &[u8], any_seq: AnySeq) -> Result<Checked, CheckFault> {
+    match any_seq {
+        AnySeq::OfNone => check(alloc, text, false),
+        AnySeq::OfBoth => check(alloc, text, true),
+        AnySeq::OfClient | AnySeq::OfAdapter => check_by_side(alloc, text, any_seq),
+    }
+}
+
 fn judge(alloc: Global, text: &str, any_seq: AnySeq, names_all: bool) -> Result<Judged, Outcome> {
-    let checked = match check(alloc, text.as_bytes(), any_seq) {
+    let checked = match verdict(alloc, text.as_bytes(), any_seq) {
         Ok(checked) => checked,
         Err(fault) => return refused(alloc, fault),
     };

@@ -3,15 +3,16 @@
 //! | a line | says |
 //! |---|---|
 //! | `send ..`, `terminal ..`, `turn`, `poll`, `run`, or anything else | a line of the script |
-//! | `.` and what follows it | a line of the script that is skipped: without bytes, or a comment |
+//! | `.` and what follows it | a line of the script, which is what follows: without bytes, or one that begins as no row may |
 //! | `> BODY`, `< BODY` | the next line of the transcript |
 //! | `= legal` | the transcript keeps every rule |
 //! | `! FAULT` | the script stops with this fault |
 //!
-//! A script ends in a line feed where pieces have a size, and does not where they have none.
+//! A script ends in a line feed where pieces have a size, and its transcript is checked by the same call; it does not where they
+//! have none.
 
-use dap_check::{AnySeq, CheckFault, Checked, check};
-use dap_drive::{DriveFault, drive};
+use dap_check::{CheckFault, Checked, check};
+use dap_drive::{DriveFault, drive, drive_and_check};
 use dap_frame::Limits;
 use std::alloc::{AllocError, Global};
 use std::marker::Model;
@@ -52,7 +53,7 @@ fn order_of(line: &str) -> Option<&str> {
         return None;
     }
     match line.strip_prefix('.') {
-        Some(skipped) => Some(skipped),
+        Some(order) => Some(order),
         None => Some(line),
     }
 }
@@ -77,19 +78,41 @@ fn script_of(alloc: Global, row: &str) -> Result<String, AllocError> {
     }
 }
 
-fn run(alloc: Global, script: &[u8], limits: Limits) -> Result<Driven, Outcome> {
-    match drive(alloc, RECORDING, script, limits) {
-        Ok(transcript) => Ok(Driven {
-            transcript,
-            named: 0,
-            fault: None,
-        }),
-        Err(DriveFault::OutOfMemory) => Err(Outcome::Refused),
-        Err(fault) => Ok(Driven {
+fn with_transcript(transcript: Vec<u8>) -> Driven {
+    Driven {
+        transcript,
+        named: 0,
+        fault: None,
+    }
+}
+
+/// What a script comes to that is not run to its end.
+fn with_fault(alloc: Global, fault: DriveFault) -> Result<Driven, Outcome> {
+    match fault {
+        DriveFault::OutOfMemory => Err(Outcome::Refused),
+        _ => Ok(Driven {
             transcript: Vec::new(alloc),
             named: 0,
             fault: Some(fault),
         }),
+    }
+}
+
+fn run(alloc: Global, script: &[u8], limits: Limits) -> Result<Driven, Outcome> {
+    match drive(alloc, RECORDING, script, limits) {
+        Ok(transcript) => Ok(with_transcript(transcript)),
+        Err(fault) => with_fault(alloc, fault),
+    }
+}
+
+/// The same with the verdict, which is always legal.
+fn run_checked(alloc: Global, script: &[u8], limits: Limits) -> Result<Driven, Outcome> {
+    match drive_and_check(alloc, RECORDING, script, limits) {
+        Ok(found) => match found.checked {
+            Checked::Legal => Ok(with_transcript(found.transcript)),
+            Checked::Finding { .. } => Err(Outcome::Wrong),
+        },
+        Err(fault) => with_fault(alloc, fault),
     }
 }
 
@@ -100,7 +123,7 @@ fn without_line_feed(script: &[u8]) -> &[u8] {
 
 /// Right where a transcript keeps every rule; where it does not, that is appended.
 fn judge(alloc: Global, transcript: &[u8], came: &mut String) -> Outcome {
-    match check(alloc, transcript, AnySeq::OfNone) {
+    match check(alloc, transcript, false) {
         Ok(Checked::Legal) => Outcome::Right,
         Ok(found) => {
             tell(came, &found);
@@ -189,7 +212,7 @@ impl Player for Driven {
                 let driven = if setting.size == 0 {
                     run(alloc, without_line_feed(bytes), setting.limits)
                 } else {
-                    run(alloc, bytes, setting.limits)
+                    run_checked(alloc, bytes, setting.limits)
                 };
                 drop(script);
                 driven

@@ -2,13 +2,15 @@
 //! `driven.rt`.
 
 use crate::driven::Driven;
-use dap_drive::{DriveFault, drive};
+use dap_check::Checked;
+use dap_drive::{DriveFault, Driven as Came, drive, drive_debuggee, drive_debuggee_and_check};
 use dap_frame::Limits;
 use std::alloc::Global;
 use std::test::Fail;
 use test_kit::rows::play_rows;
+use test_kit::samples::{RECORDING, debuggee_of};
 
-pub(crate) static ROWS: [&str; 31] = [
+pub(crate) static ROWS: [&str; 33] = [
     r#"
 row no line
 "#,
@@ -382,13 +384,23 @@ Terminal ok
 ! Script { line: 1 }
 "#,
     r#"
-row comments are skipped and counted
-.# the client is not heard yet
+row lines without bytes are counted
 .
-.#turn
-.#
+run
+.
 jump
-! Script { line: 5 }
+! Script { line: 4 }
+"#,
+    r#"
+row there are no comments
+run
+.# run
+! Script { line: 2 }
+"#,
+    r#"
+row a comment without a word
+.#
+! Script { line: 1 }
 "#,
     r#"
 row a comment behind an order
@@ -411,6 +423,42 @@ fn rows() -> &'static [&'static str] {
 fn scripts(rt: HostRuntime) -> Result<(), Fail> {
     play_rows::<Driven>(&rt, rows(), usize::MAX)?;
     play_rows::<Driven>(&rt, rows(), 0)
+}
+
+/// A session that begins and ends, and what both ends write by it.
+const LEFT_AT_ONCE: &[u8] = b"send initialize {\"adapterID\":\"rec\"}\nrun\nsend disconnect\nrun\n";
+
+/// Whether a debuggee of one's own comes back, with the transcript that its recording has.
+fn comes_back(alloc: Global, wanted: &[u8]) -> Option<bool> {
+    let debuggee = debuggee_of(alloc, RECORDING).ok()?;
+    let Came {
+        transcript,
+        debuggee,
+    } = drive_debuggee(alloc, debuggee, LEFT_AT_ONCE, Limits::usual());
+    let is_there = debuggee.is_some();
+    drop(debuggee);
+    let transcript = transcript.ok()?;
+    Some(is_there && transcript.as_slice() == wanted)
+}
+
+/// Whether its transcript is found to be legal.
+fn is_found_legal(alloc: Global, wanted: &[u8]) -> Option<bool> {
+    let debuggee = debuggee_of(alloc, RECORDING).ok()?;
+    let found = drive_debuggee_and_check(alloc, debuggee, LEFT_AT_ONCE, Limits::usual()).ok()?;
+    Some(found.checked == Checked::Legal && found.transcript.as_slice() == wanted)
+}
+
+/// The same of both, and of the calls over the recording.
+fn are_the_same(alloc: Global) -> Option<bool> {
+    let wanted = drive(alloc, RECORDING, LEFT_AT_ONCE, Limits::usual()).ok()?;
+    let comes_back = comes_back(alloc, &wanted)?;
+    let is_found_legal = is_found_legal(alloc, &wanted)?;
+    Some(!wanted.is_empty() && comes_back && is_found_legal)
+}
+
+#[test]
+fn debuggees(rt: HostRuntime) {
+    assert!(rt; are_the_same(rt.alloc()) == Some(true));
 }
 
 pub(crate) static NO_RECORDINGS: [(&str, &str); 2] = [("[]", "jump"), ("{", "")];

@@ -8,12 +8,13 @@ use dap_tool::{Form, ShowFault, Shown, Style, list, unwrap, wrap};
 use std::alloc::Global;
 use std::test::Fail;
 
-/// A request, a body that is no message, and a message with line feeds between its tokens: their frames begin at 0, 68
-/// and 91.
-static THREE: [&[u8]; 3] = [
+/// A request, a body that is no message, a message with line feeds between its tokens, and a response that says why a request
+/// failed: their frames begin at 0, 68, 91 and 135.
+static FOUR: [&[u8]; 4] = [
     b"{\"seq\":1,\"type\":\"request\",\"command\":\"threads\"}",
     b"{}",
     b"{\"seq\":3,\r\n\"type\":\"x\"}",
+    b"{\"seq\":4,\"type\":\"response\",\"request_seq\":1,\"success\":false,\"command\":\"next\",\"message\":\"m\"}",
 ];
 
 /// A form, whether the listing keeps going, how it ends, and its lines.
@@ -33,13 +34,20 @@ const STOPPED: Result<Shown, ShowFault> = Err(ShowFault::Body {
     body_length: 2,
 });
 
-static LISTED: [Listed<'static>; 6] = [
+static LISTED: [Listed<'static>; 8] = [
     (Form::Line, false, STOPPED, b"0 1 request threads\n"),
     (
         Form::Line,
         true,
         WENT_ON,
-        b"0 1 request threads\n68 refused BadSeq\n91 3 other x\n",
+        b"0 1 request threads\n68 refused BadSeq\n91 3 other x\n135 4 response next 1 failed\n",
+    ),
+    (Form::Reasons, false, STOPPED, b"0 1 request threads\n"),
+    (
+        Form::Reasons,
+        true,
+        WENT_ON,
+        b"0 1 request threads\n68 refused BadSeq\n91 3 other x\n135 4 response next 1 failed m\n",
     ),
     (
         Form::Object,
@@ -51,7 +59,7 @@ static LISTED: [Listed<'static>; 6] = [
         Form::Object,
         true,
         WENT_ON,
-        b"{\"offset\":0,\"bytes\":46,\"message\":{\"seq\":1,\"type\":\"request\",\"command\":\"threads\"}}\n{\"offset\":68,\"bytes\":2,\"refused\":\"BadSeq\"}\n{\"offset\":91,\"bytes\":22,\"message\":{\"seq\":3,\"type\":\"x\"}}\n",
+        b"{\"offset\":0,\"bytes\":46,\"message\":{\"seq\":1,\"type\":\"request\",\"command\":\"threads\"}}\n{\"offset\":68,\"bytes\":2,\"refused\":\"BadSeq\"}\n{\"offset\":91,\"bytes\":22,\"message\":{\"seq\":3,\"type\":\"x\"}}\n{\"offset\":135,\"bytes\":90,\"message\":{\"seq\":4,\"type\":\"response\",\"request_seq\":1,\"success\":false,\"command\":\"next\",\"message\":\"m\"}}\n",
     ),
     (
         Form::Body,
@@ -63,7 +71,7 @@ static LISTED: [Listed<'static>; 6] = [
         Form::Body,
         true,
         WENT_ON,
-        b"{\"seq\":1,\"type\":\"request\",\"command\":\"threads\"}\n{\"seq\":3,\"type\":\"x\"}\n",
+        b"{\"seq\":1,\"type\":\"request\",\"command\":\"threads\"}\n{\"seq\":3,\"type\":\"x\"}\n{\"seq\":4,\"type\":\"response\",\"request_seq\":1,\"success\":false,\"command\":\"next\",\"message\":\"m\"}\n",
     ),
 ];
 
@@ -77,7 +85,7 @@ fn is_listed(alloc: Global, input: &[u8], row: &Listed<'_>) -> bool {
 }
 
 fn other_form(alloc: Global) -> Option<usize> {
-    let Some(input) = frames_of(alloc, &THREE) else {
+    let Some(input) = frames_of(alloc, &FOUR) else {
         return Some(LISTED.len());
     };
     for (place, row) in LISTED.iter().enumerate() {

@@ -127,7 +127,7 @@ static CATCHES: [(&[u8], &[u8]); 12] = [
         b" { \"a\" : [ -1 , 1.5e3, -0.0, 18446744073709551616, [], {} , null ] ,\n\"seq\" : 7 , \"type\" : \"y\" } ",
         b"0 7 other y\n",
     ),
-    // a reason that is null or a text
+    // a reason that is null or a text, which is not listed
     (
         b"{\"seq\":1,\"type\":\"response\",\"request_seq\":5,\"success\":true,\"command\":\"\",\"message\":null}",
         b"0 1 response  5 ok\n",
@@ -138,7 +138,7 @@ static CATCHES: [(&[u8], &[u8]); 12] = [
     ),
     (
         b"{\"message\":\"m\\nn\",\"seq\":1,\"type\":\"response\",\"request_seq\":5,\"success\":false,\"command\":\"c\"}",
-        b"0 1 response c 5 failed m?n\n",
+        b"0 1 response c 5 failed\n",
     ),
     (
         b"{\"seq\":1,\"type\":\"response\",\"request_seq\":5,\"success\":false,\"command\":\"c\",\"message\":null}",

@@ -18,8 +18,8 @@ told_of given fault code v o is code_is line (inl e) = let same : given ≡ faul
 told_of given fault code v o is code_is line (inr e) = let same : given ≡ OutOfMemory = cc (is, e) in inr (cc (same, code_is))
 
 pub returns-in-Ok-clause-refuses : goal.returns-in-Ok-clause-refuses
-returns-in-Ok-clause-refuses c fault first other = no_fault c.in-Ok.checked fault c.check.result c.in-Ok.is (c.check.ensures.refuses fault first other)
+returns-in-Ok-clause-refuses c fault first other = no_fault c.in-Ok.checked fault c.check_by_side.result c.in-Ok.is (c.check_by_side.ensures.refuses fault first other)
 
 pub returns-in-Err-clause-refuses : goal.returns-in-Err-clause-refuses
 returns-in-Err-clause-refuses c fault first other =
-    told_of c.in-Err.fault fault c.code_of.result (record { line = c.line_of.result; rule = 0 }) c.check.result c.in-Err.is c.code_of.ensures c.line_of.ensures (c.check.ensures.refuses fault first other)
+    told_of c.in-Err.fault fault c.code_of.result (record { line = c.line_of.result; rule = 0 }) c.check_by_side.result c.in-Err.is c.code_of.ensures c.line_of.ensures (c.check_by_side.ensures.refuses fault first other)

@@ -21,7 +21,7 @@ returns-clause-answered g c = λ limits debuggee start q.
 
 pub returns-in_default-clause-stops : goal.returns-in_default-clause-stops
 returns-in_default-clause-stops g c = λ limits debuggee start q.
-    (refl, none_to_answer c.frames_keep_their_laws.ensures (driven_by g.D.Debuggee.shown g.D.Debuggee.follows limits debuggee) c.each_schedule_agrees.ensures.agrees (both_of c.args.self.now) start q (sym c.in_default.ensures.oldest))
+    (refl, none_to_answer c.frames_keep_their_laws.ensures (driven_by g.D.Debuggee.shown g.D.Debuggee.follows limits debuggee) c.each_schedule_agrees.ensures.agrees (both_of c.args.self.now) start q (sym c.in_default.ensures.oldest), q.at.adapter_at.debuggee_is)
 
 pub returns-in-Err-clause-stops : goal.returns-in-Err-clause-stops
 returns-in-Err-clause-stops g c = λ limits debuggee start q.
@@ -41,7 +41,7 @@ returns-in_err-down-clause-stops g c =
     let w = subst (λ (z : List ℕ). WritesLines limits c.write_lines.new.reader Client z c.args.self.now.transcript.items c.write_lines.new.transcript.items) c.deref.ensures.value (c.in-Ok-write_lines.ensures.lines limits q.at.reader_at) in
     let said = client_said (after_terminal_response c.in-Some.request_seq start.client) (next_terminal_response start.client c.in-Some.request_seq c.args.terminal ∷ []) start in
     let h = answer_sent c.frames_keep_their_laws.ensures drive c.each_schedule_agrees.ensures.agrees (both_of c.args.self.now) c.answer.new.self c.write_lines.new.reader c.write_lines.new.transcript.items c.in-Ok.response.items start c.in-Some.request_seq c.args.terminal q may c.in-Ok.ensures.bytes c.in-Ok.ensures.session c.in-Ok.ensures.goes_on w in
-    answer_stops c.frames_keep_their_laws.ensures drive c.each_schedule_agrees.ensures.agrees (both_of c.args.self.now) start c.in-Some.request_seq c.args.terminal c.in_err-down.field-0.0 c.args.line q may
+    answer_stops c.frames_keep_their_laws.ensures drive c.each_schedule_agrees.ensures.agrees (both_of c.args.self.now) start c.in-Some.request_seq c.args.terminal c.in_err-down.field-0.0 c.deliver_up.new.self.adapter.debuggee c.args.line q may
     (c.in_err-down.ensures.stops limits debuggee said (subst (λ (z : List ℕ). HasDelivered drive said (both c.answer.new.self c.args.self.now.adapter c.write_lines.new.reader c.write_lines.new.transcript.items) z []) (sym c.deref-2.ensures.value) h)))
 
 pub returns-in_err-settle-clause-stops : goal.returns-in_err-settle-clause-stops
@@ -53,5 +53,5 @@ returns-in_err-settle-clause-stops g c =
     let w = subst (λ (z : List ℕ). WritesLines limits c.write_lines.new.reader Client z c.args.self.now.transcript.items c.write_lines.new.transcript.items) c.deref.ensures.value (c.in-Ok-write_lines.ensures.lines limits q.at.reader_at) in
     let said = client_said (after_terminal_response c.in-Some.request_seq start.client) (next_terminal_response start.client c.in-Some.request_seq c.args.terminal ∷ []) start in
     let h = answer_sent c.frames_keep_their_laws.ensures drive c.each_schedule_agrees.ensures.agrees (both_of c.args.self.now) c.answer.new.self c.write_lines.new.reader c.write_lines.new.transcript.items c.in-Ok.response.items start c.in-Some.request_seq c.args.terminal q may c.in-Ok.ensures.bytes c.in-Ok.ensures.session c.in-Ok.ensures.goes_on w in
-    answer_stops c.frames_keep_their_laws.ensures drive c.each_schedule_agrees.ensures.agrees (both_of c.args.self.now) start c.in-Some.request_seq c.args.terminal c.in_err-settle.field-0.0 c.args.line q may
+    answer_stops c.frames_keep_their_laws.ensures drive c.each_schedule_agrees.ensures.agrees (both_of c.args.self.now) start c.in-Some.request_seq c.args.terminal c.in_err-settle.field-0.0 c.settle.new.self.adapter.debuggee c.args.line q may
     (c.in_err-settle.ensures.stops limits debuggee said (c.in_ok-down.ensures.delivered limits debuggee said (subst (λ (z : List ℕ). HasDelivered drive said (both c.answer.new.self c.args.self.now.adapter c.write_lines.new.reader c.write_lines.new.transcript.items) z []) (sym c.deref-2.ensures.value) h))))

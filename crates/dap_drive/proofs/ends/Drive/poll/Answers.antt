@@ -36,4 +36,4 @@ returns-in_err-settle-clause-stops g c =
     rw (p.1, p.2) (λ limits debuggee start q.
     let w = subst (λ (z : List ℕ). WritesLines limits c.write_lines.new.reader Adapter z c.args.self.now.transcript.items c.write_lines.new.transcript.items) c.deref-2.ensures.value (c.in-Ok-write_lines.ensures.lines limits q.at.reader_at) in
     let h = poll_spoken c.frames_keep_their_laws.ensures (driven_by g.D.Debuggee.shown g.D.Debuggee.follows limits debuggee) c.each_schedule_agrees.ensures.agrees (both_of c.args.self.now) c.poll.new.self c.write_lines.new.reader c.write_lines.new.transcript.items c.in-Ok.bytes.items start q c.in-Ok.ensures.saw c.in-Ok.ensures.limits w in
-    poll_stops c.frames_keep_their_laws.ensures (driven_by g.D.Debuggee.shown g.D.Debuggee.follows limits debuggee) c.each_schedule_agrees.ensures.agrees (both_of c.args.self.now) c.poll.new.self c.in-Ok.bytes.items start q c.in-Ok.ensures.saw c.in_err-settle.field-0.0 (c.in_err-settle.ensures.stops limits debuggee _ h))
+    poll_stops c.frames_keep_their_laws.ensures (driven_by g.D.Debuggee.shown g.D.Debuggee.follows limits debuggee) c.each_schedule_agrees.ensures.agrees (both_of c.args.self.now) c.poll.new.self c.in-Ok.bytes.items start q c.in-Ok.ensures.saw c.in_err-settle.field-0.0 c.settle.new.self.adapter.debuggee (c.in_err-settle.ensures.stops limits debuggee _ h))

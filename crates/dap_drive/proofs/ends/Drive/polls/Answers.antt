@@ -25,4 +25,4 @@ returns-in_err-last-clause-stops g c =
     let p = err_from_is_err_and c.from_residual.result c.from_residual.ensures.1 in
     rw (p.1, p.2) (λ limits debuggee start q.
     let h = c.loop-poll.invariant.ran limits debuggee start q in
-    run_poll_stops c.frames_keep_their_laws.ensures (driven_by g.D.Debuggee.shown g.D.Debuggee.follows limits debuggee) c.each_schedule_agrees.ensures.agrees start h.world c.loop-poll._poll c.in_err-last.field-0.0 h.done (omega arith) (c.in_err-last.ensures.stops limits debuggee h.world h.quiet))
+    run_poll_stops c.frames_keep_their_laws.ensures (driven_by g.D.Debuggee.shown g.D.Debuggee.follows limits debuggee) c.each_schedule_agrees.ensures.agrees start h.world c.loop-poll._poll c.in_err-last.field-0.0 c.poll.new.self.adapter.debuggee h.done (omega arith) (c.in_err-last.ensures.stops limits debuggee h.world h.quiet))

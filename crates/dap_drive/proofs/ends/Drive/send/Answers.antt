@@ -30,7 +30,7 @@ returns-in_err-down-clause-stops g c =
     let w = subst (λ (z : List ℕ). WritesLines limits c.write_lines.new.reader Client z c.args.self.now.transcript.items c.write_lines.new.transcript.items) c.deref.ensures.value (c.in-Ok-write_lines.ensures.lines limits q.at.reader_at) in
     let sent = client_said (after_send c.args.call.now start.client) (next_message start.client c.args.call.now ∷ []) start in
     let h = call_sent c.frames_keep_their_laws.ensures (driven_by g.D.Debuggee.shown g.D.Debuggee.follows limits debuggee) c.each_schedule_agrees.ensures.agrees (both_of c.args.self.now) c.send.new.self c.write_lines.new.reader c.write_lines.new.transcript.items c.in-Ok.sent.bytes.items start c.args.call.now q c.requires.plain c.in-Ok.ensures.sent c.in-Ok.ensures.reads_back c.in-Ok.ensures.bytes c.in-Ok.ensures.session c.in-Ok.ensures.goes_on w in
-    send_stops c.frames_keep_their_laws.ensures (driven_by g.D.Debuggee.shown g.D.Debuggee.follows limits debuggee) c.each_schedule_agrees.ensures.agrees (both_of c.args.self.now) start c.args.call.now c.in_err-down.field-0.0 c.args.line q c.requires.plain c.in-Ok.ensures.sent c.in-Ok.ensures.reads_back (c.in_err-down.ensures.stops limits debuggee sent (subst (λ (z : List ℕ). HasDelivered (driven_by g.D.Debuggee.shown g.D.Debuggee.follows limits debuggee) sent (both c.send.new.self c.args.self.now.adapter c.write_lines.new.reader c.write_lines.new.transcript.items) z []) (sym c.deref-2.ensures.value) h)))
+    send_stops c.frames_keep_their_laws.ensures (driven_by g.D.Debuggee.shown g.D.Debuggee.follows limits debuggee) c.each_schedule_agrees.ensures.agrees (both_of c.args.self.now) start c.args.call.now c.in_err-down.field-0.0 c.deliver_up.new.self.adapter.debuggee c.args.line q c.requires.plain c.in-Ok.ensures.sent c.in-Ok.ensures.reads_back (c.in_err-down.ensures.stops limits debuggee sent (subst (λ (z : List ℕ). HasDelivered (driven_by g.D.Debuggee.shown g.D.Debuggee.follows limits debuggee) sent (both c.send.new.self c.args.self.now.adapter c.write_lines.new.reader c.write_lines.new.transcript.items) z []) (sym c.deref-2.ensures.value) h)))
 
 pub returns-in_err-settle-clause-stops : goal.returns-in_err-settle-clause-stops
 returns-in_err-settle-clause-stops g c =
@@ -39,4 +39,4 @@ returns-in_err-settle-clause-stops g c =
     let w = subst (λ (z : List ℕ). WritesLines limits c.write_lines.new.reader Client z c.args.self.now.transcript.items c.write_lines.new.transcript.items) c.deref.ensures.value (c.in-Ok-write_lines.ensures.lines limits q.at.reader_at) in
     let sent = client_said (after_send c.args.call.now start.client) (next_message start.client c.args.call.now ∷ []) start in
     let h = call_sent c.frames_keep_their_laws.ensures (driven_by g.D.Debuggee.shown g.D.Debuggee.follows limits debuggee) c.each_schedule_agrees.ensures.agrees (both_of c.args.self.now) c.send.new.self c.write_lines.new.reader c.write_lines.new.transcript.items c.in-Ok.sent.bytes.items start c.args.call.now q c.requires.plain c.in-Ok.ensures.sent c.in-Ok.ensures.reads_back c.in-Ok.ensures.bytes c.in-Ok.ensures.session c.in-Ok.ensures.goes_on w in
-    send_stops c.frames_keep_their_laws.ensures (driven_by g.D.Debuggee.shown g.D.Debuggee.follows limits debuggee) c.each_schedule_agrees.ensures.agrees (both_of c.args.self.now) start c.args.call.now c.in_err-settle.field-0.0 c.args.line q c.requires.plain c.in-Ok.ensures.sent c.in-Ok.ensures.reads_back (c.in_err-settle.ensures.stops limits debuggee sent (c.in_ok-down.ensures.delivered limits debuggee sent (subst (λ (z : List ℕ). HasDelivered (driven_by g.D.Debuggee.shown g.D.Debuggee.follows limits debuggee) sent (both c.send.new.self c.args.self.now.adapter c.write_lines.new.reader c.write_lines.new.transcript.items) z []) (sym c.deref-2.ensures.value) h))))
+    send_stops c.frames_keep_their_laws.ensures (driven_by g.D.Debuggee.shown g.D.Debuggee.follows limits debuggee) c.each_schedule_agrees.ensures.agrees (both_of c.args.self.now) start c.args.call.now c.in_err-settle.field-0.0 c.settle.new.self.adapter.debuggee c.args.line q c.requires.plain c.in-Ok.ensures.sent c.in-Ok.ensures.reads_back (c.in_err-settle.ensures.stops limits debuggee sent (c.in_ok-down.ensures.delivered limits debuggee sent (subst (λ (z : List ℕ). HasDelivered (driven_by g.D.Debuggee.shown g.D.Debuggee.follows limits debuggee) sent (both c.send.new.self c.args.self.now.adapter c.write_lines.new.reader c.write_lines.new.transcript.items) z []) (sym c.deref-2.ensures.value) h))))

@@ -11,7 +11,7 @@ returns-clause-delivered g c = λ some limits debuggee start h.
 
 pub returns-in-Err-clause-stops : goal.returns-in-Err-clause-stops
 returns-in-Err-clause-stops g c = λ limits debuggee start h some.
-    rw c.adapter_fault.ensures (adapter_stops c.frames_keep_their_laws.ensures (driven_by g.D.Debuggee.shown g.D.Debuggee.follows limits debuggee) c.each_schedule_agrees.ensures.agrees start (both_of c.args.self.now) c.args.rest.now c.args.down.now.items h some c.in-Err.fault c.take.new.self.debuggee (c.in-Err.ensures.refused h.at.adapter_at.stands.no_fault))
+    rw c.adapter_fault.ensures (adapter_stops c.frames_keep_their_laws.ensures (driven_by g.D.Debuggee.shown g.D.Debuggee.follows limits debuggee) c.each_schedule_agrees.ensures.agrees start (both_of c.args.self.now) c.args.rest.now c.args.down.now.items h some c.in-Err.fault c.take.new.self.debuggee c.in-Err.ensures.debuggee (c.in-Err.ensures.refused h.at.adapter_at.stands.no_fault))
 
 pub returns-in-Err-write_lines-clause-stops : goal.returns-in-Err-write_lines-clause-stops
 returns-in-Err-write_lines-clause-stops g c = λ limits debuggee start h some.

@@ -42,4 +42,4 @@ returns-in_err-settle-clause-stops g c =
     let gives = rw c.in-Ok-Done.field-0-is at c.in-Ok-Done.ensures.gives in
     let w = subst (λ (z : List ℕ). WritesLines limits c.write_lines.new.reader Adapter z c.args.self.now.transcript.items c.write_lines.new.transcript.items) c.deref.ensures.value (c.in-Ok.ensures.lines limits q.at.reader_at) in
     let h = turn_spoken c.frames_keep_their_laws.ensures (driven_by g.D.Debuggee.shown g.D.Debuggee.follows limits debuggee) c.each_schedule_agrees.ensures.agrees (both_of c.args.self.now) c.turn.new.self c.write_lines.new.reader c.write_lines.new.transcript.items c.in-Ok-Done.bytes.items start q gives c.in-Ok-Done.ensures.limits w in
-    turn_stops c.frames_keep_their_laws.ensures (driven_by g.D.Debuggee.shown g.D.Debuggee.follows limits debuggee) c.each_schedule_agrees.ensures.agrees (both_of c.args.self.now) c.turn.new.self c.in-Ok-Done.bytes.items start q gives c.in_err-settle.field-0.0 (c.in_err-settle.ensures.stops limits debuggee _ h))
+    turn_stops c.frames_keep_their_laws.ensures (driven_by g.D.Debuggee.shown g.D.Debuggee.follows limits debuggee) c.each_schedule_agrees.ensures.agrees (both_of c.args.self.now) c.turn.new.self c.in-Ok-Done.bytes.items start q gives c.in_err-settle.field-0.0 c.settle.new.self.adapter.debuggee (c.in_err-settle.ensures.stops limits debuggee _ h))

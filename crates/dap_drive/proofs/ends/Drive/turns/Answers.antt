@@ -27,4 +27,4 @@ returns-in_err-more-clause-stops g c =
     let p = err_from_is_err_and c.from_residual.result c.from_residual.ensures.1 in
     rw (p.1, p.2) (λ limits debuggee start q.
     let h = c.turns.invariant.ran limits debuggee start q in
-    run_turn_stops c.frames_keep_their_laws.ensures (driven_by g.D.Debuggee.shown g.D.Debuggee.follows limits debuggee) c.each_schedule_agrees.ensures.agrees start h.world c.in_err-more.field-0.0 h.done (c.in_err-more.ensures.stops limits debuggee h.world h.quiet))
+    run_turn_stops c.frames_keep_their_laws.ensures (driven_by g.D.Debuggee.shown g.D.Debuggee.follows limits debuggee) c.each_schedule_agrees.ensures.agrees start h.world c.in_err-more.field-0.0 c.turn.new.self.adapter.debuggee h.done (c.in_err-more.ensures.stops limits debuggee h.world h.quiet))
