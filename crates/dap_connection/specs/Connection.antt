@@ -97,6 +97,7 @@ pub record LosesBytes {C : Type 0} (goes : C → IoEvent → C → Type 0) (old 
   pub room : ℕ
   pub some_room : 0 < room
   pub bytes : List ℕ
+  pub some_bytes : bytes ≢ []
   pub gave : goes old.channel (Gave room bytes) new.channel
   pub same : SameButChannel old new
 
