@@ -1,4 +1,4 @@
-use Rattle.std.proofs.Common.{◌≡◌, ◌<◌, ◌+◌, ◌-◌, ℕ, List, drop, length, sym, ap, subst, ◌∙◌, arith}
+use Rattle.std.proofs.Common.{◌≡◌, ◌<◌, ◌+◌, ℕ, List, drop, length, sym, ap, subst, ◌∙◌, arith}
 use Rattle.dap_channel.specs.Sent.{Sends, saturating_count}
 use Rattle.dap_connection.specs.Connection.{StepFails}
 use Rattle.dap_connection.specs.ConnectionState.{ConnectionState}
