@@ -1,12 +1,13 @@
 //! A connection, call by call.
 ghost use Rattle.std.specs.Prelude.{◌≡◌, ◌≢◌, ℕ, ◌+◌, ◌<◌, ◌≤◌, List, [], ◌∷◌, ◌++◌, length, IfOk, IfErr, OnOk, OnErr, IfSome, IfNone, IsTrue, Some, None, Ok, Err, true, false};
-ghost use Rattle.dap_channel.specs.Sent.{Sends};
+ghost use Rattle.dap_channel.specs.Sent.{Sends, saturating_count};
 ghost use Rattle.dap_client.specs.Session.{fresh_session};
 ghost use Rattle.dap_message.specs.PlainCall.{is_plain_call};
 ghost use Rattle.dap_client.specs.TerminalResponse.{is_plain_terminal};
-ghost use Rattle.dap_connection.specs.PrivateSteps.{Steps};
+ghost use Rattle.dap_connection.specs.PrivateSteps.{Steps, FailsToWrite};
 ghost use Rattle.dap_connection.specs.declared.fault.ConnectionFault.{ConnectionFault};
-ghost use Rattle.dap_connection.specs.Connection.{DoesSend, DoesAnswer, TakesOne, ReadsMore, Hears, HearsEnd, GivesNext, AwaitsResponse, Asks, SendRefused, AnswerRefused};
+ghost use Rattle.dap_connection.specs.Connection.{DoesSend, DoesAnswer, TakesOne, ReadsMore, Hears, HearsEnd, GivesNext, AwaitsResponse, Asks};
+ghost use Rattle.dap_connection.specs.Connection.{FallsShort, StepFails, HearFails, NextFails, SendFails, AnswerFails, AwaitsInVain, AskFails, StaysOrCloses};
 
 use crate::fault::ConnectionFault;
 use dap_channel::{Channel, send};
@@ -48,18 +49,18 @@ enum Step {
 }
 
 impl<C: Channel + Drop> Model for Connection<C> {
-    ghost use Rattle.std.specs.Prelude.{◌≤◌, drop, length};
+    ghost use Rattle.std.specs.Prelude.{drop};
     ghost use Rattle.std.specs.Coded.{codes};
     ghost use Rattle.dap_json.specs.Stored.{coded_data};
-    ghost use Rattle.dap_connection.specs.ConnectionState.{Wire, ConnectionState};
+    ghost use Rattle.dap_connection.specs.ConnectionState.{Wire, ConnectionState, IsConnection};
 
     ghost Value = { ConnectionState C };
 
     ghost coded = { Prim.hlevel (codes, coded_data, C.code) };
 
-    ghost view = { λ c. record { wire = record { client = c.client; channel = c.channel; unread = drop c.at c.read.items }; passed = c.passed.items; fault = c.fault } };
+    ghost view = { λ c. record { wire = record { client = c.client; channel = c.channel; unread = drop c.at c.read.items; written = c.written }; passed = c.passed.items; fault = c.fault } };
 
-    ghost invariant = { λ c. c.at ≤ length c.read.items };
+    ghost invariant = { λ c. IsConnection c.read.items c.at c.client c.fault };
 }
 
 impl<C: Channel + Drop> Connection<C> {
@@ -67,7 +68,7 @@ impl<C: Channel + Drop> Connection<C> {
     pub fn open(alloc: Global, channel: C, limits: Limits) -> Result<Connection<C>, AllocError>
         ensures session { IfOk result (λ c. c.wire.client.session ≡ fresh_session limits) }
         ensures channel { IfOk result (λ c. c.wire.channel ≡ channel) }
-        ensures none { IfOk result (λ c. (c.wire.unread ≡ []) × (c.passed ≡ []) × (c.fault ≡ None)) }
+        ensures none { IfOk result (λ c. (c.wire.unread ≡ []) × (c.wire.written ≡ 0) × (c.passed ≡ []) × (c.fault ≡ None)) }
     {
         let client = Client::open(alloc, limits)?;
         Ok(Connection {
@@ -84,8 +85,10 @@ impl<C: Channel + Drop> Connection<C> {
 
     /// The client: its phase, what it knows, and what the adapter offers.
     pub fn client(&self) -> &Client
-        ensures { result.now ≡ self.now.wire.client }
+        ensures is { result.now ≡ self.now.wire.client }
+        ensures open { self.now.fault ≡ None → result.now.fault ≡ None }
     {
+        let _ = &self.fault;
         &self.client
     }
 
@@ -99,7 +102,7 @@ impl<C: Channel + Drop> Connection<C> {
     /// Closes it.
     fn fail(&mut self, fault: ConnectionFault) -> ConnectionFault
         ensures fault { result ≡ fault }
-        ensures latches { self.new.fault ≡ Some fault }
+        ensures latches { self.new ≡ record self.old { fault = Some fault } }
     {
         self.fault = Some(fault);
         fault
@@ -107,9 +110,11 @@ impl<C: Channel + Drop> Connection<C> {
 
     /// Sends bytes.
     fn write(&mut self, bytes: &[u8]) -> Result<(), ConnectionFault>
+        ensures same { (self.new.wire.client ≡ self.old.wire.client) × (self.new.wire.unread ≡ self.old.wire.unread) × (self.new.passed ≡ self.old.passed) }
         ensures sent { OnOk result (Sends C.goes self.old.wire.channel self.new.wire.channel bytes.now) }
-        ensures same { OnOk result ((self.new.wire.client ≡ self.old.wire.client) × (self.new.wire.unread ≡ self.old.wire.unread) × (self.new.passed ≡ self.old.passed) × (self.new.fault ≡ self.old.fault)) }
-        ensures written { IfErr result (λ fault. (n : ℕ) × (fault ≡ ConnectionFault.Write n)) }
+        ensures written { OnOk result (self.new.wire.written ≡ saturating_count (self.old.wire.written + length bytes.now)) }
+        ensures open { OnOk result (self.new.fault ≡ self.old.fault) }
+        ensures short { IfErr result (λ fault. FailsToWrite C.goes self.old.wire bytes.now fault self.new.wire) }
         ensures latches { IfErr result (λ fault. self.new.fault ≡ Some fault) }
     {
         match send(&mut self.channel, bytes, self.written) {
@@ -125,9 +130,11 @@ impl<C: Channel + Drop> Connection<C> {
     fn read_more(&mut self) -> Result<bool, ConnectionFault>
         requires none { self.old.wire.unread ≡ [] }
         ensures read { OnOk result (ReadsMore C.goes self.old.wire self.new.wire) }
-        ensures kept { OnOk result ((self.new.passed ≡ self.old.passed) × (self.new.fault ≡ self.old.fault)) }
+        ensures open { OnOk result (self.new.fault ≡ self.old.fault) }
         ensures none { IfOk result (λ more. more ≡ false → self.new.wire.unread ≡ []) }
         ensures some { IfOk result (λ more. more ≡ true → self.new.wire.unread ≢ []) }
+        ensures fails { IfErr result (λ fault. StepFails C.goes self.old.wire fault self.new.wire) }
+        ensures passed { self.new.passed ≡ self.old.passed }
         ensures latches { IfErr result (λ fault. self.new.fault ≡ Some fault) }
     {
         let mut buffer = [0; ROOM];
@@ -147,7 +154,9 @@ impl<C: Channel + Drop> Connection<C> {
     fn take_one(&mut self) -> Result<Option<Message>, ConnectionFault>
         requires some { 0 < length self.old.wire.unread }
         ensures took { IfOk result (λ message. TakesOne C.goes self.old.wire message self.new.wire) }
-        ensures kept { OnOk result ((self.new.passed ≡ self.old.passed) × (self.new.fault ≡ self.old.fault)) }
+        ensures open { OnOk result (self.new.fault ≡ self.old.fault) }
+        ensures fails { self.old.fault ≡ None → IfErr result (λ fault. StepFails C.goes self.old.wire fault self.new.wire) }
+        ensures passed { self.new.passed ≡ self.old.passed }
         ensures latches { IfErr result (λ fault. self.new.fault ≡ Some fault) }
     {
         let mut out = Vec::new(self.alloc);
@@ -155,7 +164,11 @@ impl<C: Channel + Drop> Connection<C> {
         let mut piece = unread;
         let message = match self.client.next(self.alloc, &mut piece, &mut out) {
             Ok(message) => message,
-            Err(fault) => return Err(self.fail(ConnectionFault::Client(fault))),
+            Err(fault) => {
+                let fault = ConnectionFault::Client(fault);
+                self.fault = Some(fault);
+                return Err(fault);
+            }
         };
         self.at = self.read.len() - piece.len();
         match self.write(&out) {
@@ -167,7 +180,9 @@ impl<C: Channel + Drop> Connection<C> {
     /// Takes bytes that were read, or reads where none is left.
     fn step(&mut self) -> Result<Step, ConnectionFault>
         ensures steps { IfOk result (λ step. Steps C.goes self.old.wire step self.new.wire) }
-        ensures kept { OnOk result ((self.new.passed ≡ self.old.passed) × (self.new.fault ≡ self.old.fault)) }
+        ensures open { OnOk result (self.new.fault ≡ self.old.fault) }
+        ensures fails { self.old.fault ≡ None → IfErr result (λ fault. StepFails C.goes self.old.wire fault self.new.wire) }
+        ensures passed { self.new.passed ≡ self.old.passed }
         ensures latches { IfErr result (λ fault. self.new.fault ≡ Some fault) }
     {
         if self.at < self.read.len() {
@@ -188,7 +203,9 @@ impl<C: Channel + Drop> Connection<C> {
     fn hear(&mut self) -> Result<Option<Message>, ConnectionFault>
         ensures some { IfOk result (λ message. IfSome message (λ m. Hears C.goes self.old.wire (m ∷ []) self.new.wire)) }
         ensures none { IfOk result (λ message. IfNone message (HearsEnd C.goes self.old.wire self.new.wire)) }
-        ensures kept { OnOk result ((self.new.passed ≡ self.old.passed) × (self.new.fault ≡ self.old.fault)) }
+        ensures open { OnOk result (self.new.fault ≡ self.old.fault) }
+        ensures fails { self.old.fault ≡ None → IfErr result (λ fault. HearFails C.goes self.old.wire fault self.new.wire) }
+        ensures passed { self.new.passed ≡ self.old.passed }
         ensures latches { IfErr result (λ fault. self.new.fault ≡ Some fault) }
     {
         for _step in 0..u64::MAX {
@@ -211,6 +228,9 @@ impl<C: Channel + Drop> Connection<C> {
     pub fn next(&mut self) -> Result<Option<Message>, ConnectionFault>
         ensures gives { IfOk result (λ message. GivesNext C.goes self.old self.old.passed message self.new) }
         ensures open { OnOk result (self.new.fault ≡ None) }
+
+        // Why none comes: what was read and written, and which client met it. Then it is closed.
+        ensures fails { self.old.fault ≡ None → IfErr result (λ fault. NextFails C.goes self.old fault self.new) }
         ensures latches { IfErr result (λ fault. self.new.fault ≡ Some fault) }
         ensures latched { IfSome self.old.fault (λ fault. (result ≡ Err fault) × (self.new ≡ self.old)) }
     {
@@ -233,7 +253,10 @@ impl<C: Channel + Drop> Connection<C> {
         ensures sent { IfOk result (λ seq. DoesSend C.goes self.old.wire call.now seq self.new.wire) }
         ensures kept { OnOk result (self.new.passed ≡ self.old.passed) }
         ensures open { OnOk result (self.new.fault ≡ None) }
-        ensures refused { IfErr result (λ fault. SendRefused call.now fault self.old self.new) }
+
+        // Why it is not sent, and what of it was written.
+        ensures fails { self.old.fault ≡ None → IfErr result (λ fault. SendFails C.goes self.old call.now fault self.new) }
+        ensures closes { IfErr result (λ fault. StaysOrCloses self.old fault self.new) }
         ensures latched { IfSome self.old.fault (λ fault. (result ≡ Err fault) × (self.new ≡ self.old)) }
     {
         if let Some(fault) = self.fault {
@@ -259,7 +282,10 @@ impl<C: Channel + Drop> Connection<C> {
         ensures answered { OnOk result (DoesAnswer C.goes self.old.wire request_seq terminal self.new.wire) }
         ensures kept { OnOk result (self.new.passed ≡ self.old.passed) }
         ensures open { OnOk result (self.new.fault ≡ None) }
-        ensures refused { IfErr result (λ fault. AnswerRefused request_seq fault self.old self.new) }
+
+        // Why it is not answered, and what of the response was written.
+        ensures fails { self.old.fault ≡ None → IfErr result (λ fault. AnswerFails C.goes self.old request_seq terminal fault self.new) }
+        ensures closes { IfErr result (λ fault. StaysOrCloses self.old fault self.new) }
         ensures latched { IfSome self.old.fault (λ fault. (result ≡ Err fault) × (self.new ≡ self.old)) }
     {
         if let Some(fault) = self.fault {
@@ -279,6 +305,7 @@ impl<C: Channel + Drop> Connection<C> {
     fn response(&mut self, seq: u64) -> Result<Message, ConnectionFault>
         ensures response { IfOk result (λ m. AwaitsResponse C.goes self.old seq m self.new) }
         ensures open { OnOk result (self.new.fault ≡ self.old.fault) }
+        ensures fails { self.old.fault ≡ None → IfErr result (λ fault. AwaitsInVain C.goes self.old seq fault self.new) }
         ensures latches { IfErr result (λ fault. self.new.fault ≡ Some fault) }
     {
         for _message in 0..MAX_MESSAGES {
@@ -301,12 +328,16 @@ impl<C: Channel + Drop> Connection<C> {
     /// before it, at most 65536, are kept for `next`.
     ///
     /// # Errors
-    /// Those of `send` and `next`; `Ended` where the input ended before the response came; `TooManyMessages` where too many
-    /// come before it. The last two stay.
+    /// Those of `send` and `next`; `Ended` where the input ended before the response came; `TooManyMessages` where 65536 came
+    /// and it is none of them. The last two stay.
     pub fn ask(&mut self, call: &Call) -> Result<Message, ConnectionFault>
         requires plain { IsTrue (is_plain_call call.now) }
         ensures asks { IfOk result (λ m. Asks C.goes self.old call.now m self.new) }
         ensures open { OnOk result (self.new.fault ≡ None) }
+
+        // Why the response does not come, what was read and written, and which messages are kept.
+        ensures fails { self.old.fault ≡ None → IfErr result (λ fault. AskFails C.goes self.old call.now fault self.new) }
+        ensures closes { IfErr result (λ fault. StaysOrCloses self.old fault self.new) }
         ensures latched { IfSome self.old.fault (λ fault. (result ≡ Err fault) × (self.new ≡ self.old)) }
     {
         let seq = match self.send(call) {

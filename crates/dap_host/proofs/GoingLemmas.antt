@@ -1,6 +1,8 @@
 -- What holds of an open host after a step of its adapter.
-use Rattle.std.proofs.Common.{◌≡◌, ℕ, List, [], ◌∷◌, ◌++◌, Bool, true, false, append-nil, refl, sym, ap, ◌∙◌, subst, Option, Some, None, Result, Ok, Err}
-use Rattle.std.specs.Prelude.{IfErr}
+use Rattle.std.proofs.Common.{◌≡◌, ◌≢◌, ℕ, List, [], ◌∷◌, ◌++◌, length, Bool, true, false, true≢false, arith, append-nil, refl, sym, ap, ◌∙◌, subst, Option, Some, None, Result, Ok, Err}
+use Rattle.std.specs.Prelude.{◌==◌, IfOk, IfErr}
+use Rattle.std.proofs.Math.Bool.{not}
+use Rattle.std.proofs.lemmas.Bool.{eqb-true}
 use Rattle.dap_adapter.specs.AdapterState.{AdapterState, state_of}
 use Rattle.dap_adapter.specs.Parts.{StandsThere, RunsOn, AnswersPiece, PollsOn, StopsAfter}
 use Rattle.dap_adapter.specs.Run.{Next, to_take, to_poll, has_ended}
@@ -150,11 +152,11 @@ stopped h k body piece none bytes before after fault going laws is empty stops h
 
 -- ---- what happened is told, or the adapter is closed by it
 
-pub told : (h k : HostState) (none bytes before after : List ℕ) → IsGoing h → StreamLaws (bounds_of h.limits) → none ≡ [] → PollsOn shown_live FollowsLive h.adapter none k.adapter bytes
-    → ((outs : List Message) → bytes ≡ bytes_of outs → AllReadBack h.limits.body outs → HandsOut outs before after) → SameButAdapter h k → TellsIt h before after k
-told h k none bytes before after going laws empty polls hands same =
+pub told : (h k : HostState) (is_told : Bool) (none bytes before after : List ℕ) → IsGoing h → StreamLaws (bounds_of h.limits) → none ≡ [] → PollsOn shown_live FollowsLive h.adapter none k.adapter bytes
+    → ((outs : List Message) → bytes ≡ bytes_of outs → AllReadBack h.limits.body outs → HandsOut outs before after) → SameButAdapter h k → (is_told ≡ true → bytes ≢ []) → (is_told ≡ false → bytes ≡ []) → TellsIt h is_told before after k
+told h k is_told none bytes before after going laws empty polls hands same some empty_bytes =
     let given : PollsOn shown_live FollowsLive h.adapter [] k.adapter bytes = subst (λ (z : List ℕ). PollsOn shown_live FollowsLive h.adapter z k.adapter bytes) empty polls in
-    record { bytes = bytes; polls = given; out = hands given.outs given.appended (reads_back h going laws k.adapter (to_poll 0) to_take [] given.outs given.runs_on); same = same }
+    record { bytes = bytes; polls = given; some = some; none = empty_bytes; out = hands given.outs given.appended (reads_back h going laws k.adapter (to_poll 0) to_take [] given.outs given.runs_on); same = same }
 
 pub polls_on : (h k : HostState) (none bytes : List ℕ) → IsGoing h → StreamLaws (bounds_of h.limits) → PollsOn shown_live FollowsLive h.adapter none k.adapter bytes → k.limits ≡ h.limits → IsGoing k
 polls_on h k none bytes going laws polls limits = runs_on h k going laws (to_poll 0) to_take [] polls.outs polls.runs_on limits (none_used h going laws k.adapter (to_poll 0) to_take [] polls.outs polls.runs_on refl)
@@ -193,9 +195,9 @@ stopped_at o h k body piece none bytes before after fault closed e going laws is
     let at : IsGoing o = subst IsGoing (sym e) going in
     subst (λ (z : AdapterFault). StopsMessage h body before after k z) (sym f) (subst (λ (z : HostState). StopsMessage z body before after k fault) e (stopped o k body piece none bytes before after fault at laws is empty (stops at.stands.no_fault) hands))
 
-pub told_at : (o h k : HostState) (none bytes before after : List ℕ) → o ≡ h → IsGoing h → StreamLaws (bounds_of o.limits) → none ≡ [] → PollsOn shown_live FollowsLive o.adapter none k.adapter bytes
-    → ((outs : List Message) → bytes ≡ bytes_of outs → AllReadBack o.limits.body outs → HandsOut outs before after) → SameButAdapter o k → TellsIt h before after k
-told_at o h k none bytes before after e going laws empty polls hands same = subst (λ (z : HostState). TellsIt z before after k) e (told o k none bytes before after (subst IsGoing (sym e) going) laws empty polls hands same)
+pub told_at : (o h k : HostState) (is_told : Bool) (none bytes before after : List ℕ) → o ≡ h → IsGoing h → StreamLaws (bounds_of o.limits) → none ≡ [] → PollsOn shown_live FollowsLive o.adapter none k.adapter bytes
+    → ((outs : List Message) → bytes ≡ bytes_of outs → AllReadBack o.limits.body outs → HandsOut outs before after) → SameButAdapter o k → (is_told ≡ true → bytes ≢ []) → (is_told ≡ false → bytes ≡ []) → TellsIt h is_told before after k
+told_at o h k is_told none bytes before after e going laws empty polls hands same some empty_bytes = subst (λ (z : HostState). TellsIt z is_told before after k) e (told o k is_told none bytes before after (subst IsGoing (sym e) going) laws empty polls hands same some empty_bytes)
 
 pub polls_on_at : (o h k : HostState) (none bytes : List ℕ) → o ≡ h → IsGoing h → StreamLaws (bounds_of o.limits) → PollsOn shown_live FollowsLive o.adapter none k.adapter bytes → k.limits ≡ o.limits → IsGoing k
 polls_on_at o h k none bytes e going laws polls limits = polls_on o k none bytes (subst IsGoing (sym e) going) laws polls limits
@@ -205,6 +207,24 @@ pub stopped_telling_at : (o h k : HostState) (none bytes before after : List ℕ
 stopped_telling_at o h k none bytes before after fault closed e going laws empty f stops hands =
     let at : IsGoing o = subst IsGoing (sym e) going in
     subst (λ (z : AdapterFault). StopsTelling h before after k z) (sym f) (subst (λ (z : HostState). StopsTelling z before after k fault) e (stopped_telling o k none bytes before after fault at laws empty (stops at.stands.no_fault) hands))
+
+-- ---- whether bytes were written, by their count
+
+pub some_by : (empty : Bool) (n : ℕ) → empty ≡ (n == 0) → n ≡ 0 → not empty ≡ true → ⊥
+some_by true n is none told = true≢false (sym told)
+some_by false n is none told = true≢false (sym (is ∙ ap (λ (m : ℕ). m == 0) none))
+
+no_bytes : (bytes : List ℕ) → length bytes ≡ 0 → bytes ≡ []
+no_bytes [] none = refl
+no_bytes (x ∷ bytes) none = absurd (omega arith)
+
+pub none_by : (bytes : List ℕ) (empty : Bool) (n : ℕ) → empty ≡ (n == 0) → n ≡ length bytes → not empty ≡ false → bytes ≡ []
+none_by bytes true n is all told = no_bytes bytes (sym all ∙ eqb-true n 0 (sym is))
+none_by bytes false n is all told = absurd (true≢false told)
+
+pub ok_by_three : {A E : Type 0} {P Q R S : A → Type 0} (r : Result A E) → ((x : A) → P x → Q x → R x → S x) → IfOk r P → IfOk r Q → IfOk r R → IfOk r S
+ok_by_three (Ok x) f p q s = f x p q s
+ok_by_three (Err e) f p q s = tt
 
 -- ---- what a host tells is not heard
 

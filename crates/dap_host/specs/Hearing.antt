@@ -1,6 +1,6 @@
 -- What a host's line leads to: it is skipped, or refused, or an adapter over a fed debuggee takes what it says. The format is this
 -- profile's choice.
-use Rattle.std.specs.Prelude.{◌≡◌, ℕ, ◌+◌, ◌<◌, ◌≤◌, Bool, true, false, List, [], ◌∷◌, ◌++◌, length, take, drop, codes, bytes_eq, Option, Some, None, Ok, Err, if◌then◌else◌}
+use Rattle.std.specs.Prelude.{◌≡◌, ◌≢◌, ℕ, ◌+◌, ◌<◌, ◌≤◌, Bool, true, false, List, [], ◌∷◌, ◌++◌, length, take, drop, codes, bytes_eq, Option, Some, None, Ok, Err, if◌then◌else◌}
 use Rattle.serde_json.specs.Data.{Data}
 use Rattle.dap_adapter.specs.AdapterState.{AdapterState}
 use Rattle.dap_adapter.specs.Parts.{AnswersPiece, PollsOn, StopsAfter}
@@ -18,6 +18,7 @@ use Rattle.dap_live.specs.Dropping.{why_dropped}
 use Rattle.dap_live.specs.LiveLaws.{FollowsLive}
 use Rattle.dap_live.specs.LiveShown.{LiveState, shown_live, fresh_live}
 use Rattle.dap_live.specs.declared.mail.Coming.{Coming}
+use Rattle.dap_live.specs.declared.mail.Coming.TheVariants as kind
 use Rattle.dap_live.specs.declared.mail.Dropped.{Dropped as Drop}
 use Rattle.dap_live.specs.declared.mail.Dropped.TheVariants.{OutOfTurn, TooManySources}
 use Rattle.dap_live.specs.declared.mail.HostAct.{HostAct}
@@ -164,10 +165,12 @@ pub record AnswersMessage (old : HostState) (body before after : List ℕ) (new 
   pub out : HandsOut answers.outs before after
   pub same : SameButAdapter old new
 
--- the adapter asks the debuggee what happened, and tells it: these lines are all that it writes then
-pub record TellsIt (old : HostState) (before after : List ℕ) (new : HostState) : Type 0 where
+-- the adapter asks the debuggee what happened, and tells it: these lines are all that it writes then, and whether there are messages among them
+pub record TellsIt (old : HostState) (is_told : Bool) (before after : List ℕ) (new : HostState) : Type 0 where
   pub bytes : List ℕ
   pub polls : PollsOn shown_live FollowsLive old.adapter [] new.adapter bytes
+  pub some : is_told ≡ true → bytes ≢ []
+  pub none : is_told ≡ false → bytes ≡ []
   pub out : HandsOut polls.outs before after
   pub same : SameButAdapter old new
 
@@ -176,11 +179,24 @@ pub record AnswersTarget (old : HostState) (number : ℕ) (before after : List �
   pub line : after ≡ before ++ target_line number (target_of old.adapter.session.references number)
   pub same : new ≡ old
 
--- where the debuggee drops after all what was told, the line is refused behind them
-pub record TellsOrDrops (old : HostState) (is_heard : Bool) (before after : List ℕ) (new : HostState) : Type 0 where
+-- the client is told what happened; of variables, of sources and of what a text comes to it is told nothing
+abbrev pub is_for_client : Coming → Bool
+is_for_client (kind.Output category text) = true
+is_for_client (kind.Stopped reason thread shows later) = true
+is_for_client (kind.Continued thread) = true
+is_for_client (kind.Exited code) = true
+is_for_client (kind.Learned text value holder) = false
+is_for_client (kind.Variables holder variables) = false
+is_for_client (kind.Sources more) = false
+
+-- where the debuggee drops after all what was told, the line is refused behind them: not where the client was told it, but where the client is to be told it and was not
+pub record TellsOrDrops (old : HostState) (c : Coming) (is_heard : Bool) (before after : List ℕ) (new : HostState) : Type 0 where
   pub lines : List ℕ
-  pub tells : TellsIt old before lines new
+  pub is_told : Bool
+  pub tells : TellsIt old is_told before lines new
   pub says : SaysDropped is_heard old.number lines after
+  pub told : is_told ≡ true → is_heard ≡ true
+  pub untold : is_for_client c ≡ true → is_told ≡ false → is_heard ≡ false
 
 -- sources that come are then behind those that there were; where they are dropped, all is as it was
 abbrev pub kept : Bool → Coming → HostState → HostState
@@ -190,7 +206,7 @@ kept false c h = h
 pub record TellsAndKeeps (old : HostState) (c : Coming) (before after : List ℕ) (new : HostState) : Type 0 where
   pub is_heard : Bool
   pub told : HostState
-  pub tells : TellsOrDrops old is_heard before after told
+  pub tells : TellsOrDrops old c is_heard before after told
   pub keeps : new ≡ kept is_heard c told
 
 pub data HearsMessage (old : HostState) (body before after : List ℕ) (new : HostState) : Type 0 where

@@ -4,7 +4,7 @@ ghost use Rattle.dap_session.specs.declared.fault.AdapterFault.{AdapterFault};
 ghost use Rattle.dap_decision.specs.Table.{is_phase};
 ghost use Rattle.dap_decision.specs.declared.phase.Phase.{Phase};
 ghost use Rattle.dap_frame.specs.Written.{frame_of};
-ghost use Rattle.dap_host.specs.Hearing.{mark_of, state_of, drop_of};
+ghost use Rattle.dap_host.specs.Hearing.{mark_of, state_of, drop_of, is_for_client};
 
 use crate::acts::push_acts;
 use crate::messages::push_messages;
@@ -83,6 +83,19 @@ fn dropped_in(phase: Phase, told: &Told) -> Result<Option<Dropped>, AllocError>
     }
 }
 
+/// Whether the client is told of it.
+fn is_for_client(coming: &Coming) -> bool
+    ensures { result ≡ is_for_client coming.now }
+{
+    match coming {
+        Coming::Output { .. }
+        | Coming::Stopped { .. }
+        | Coming::Continued { .. }
+        | Coming::Exited { .. } => true,
+        Coming::Learned { .. } | Coming::Variables { .. } | Coming::Sources(_) => false,
+    }
+}
+
 /// The frame of a body.
 fn frame_with(alloc: Global, body: &[u8]) -> Result<Vec<u8>, AllocError>
     ensures { IfOk result (λ frame. frame.items ≡ frame_of body.now) }
@@ -118,7 +131,7 @@ impl Model for Host {
 }
 
 impl Host {
-    ghost use Rattle.std.specs.Prelude.{◌≡◌, ◌≢◌, ◌↔◌, ◌++◌, List, IfOk, IfErr, OnOk, OnErr, IfSome, IsTrue, None, Ok, Err, true};
+    ghost use Rattle.std.specs.Prelude.{◌≡◌, ◌≢◌, ◌↔◌, ◌++◌, List, IfOk, IfErr, OnOk, OnErr, IfSome, IsTrue, None, Ok, Err, true, false};
     ghost use Rattle.dap_host.specs.Hearing.{IsFresh, IsGoing, HandsOut, RefusesMessage, TakesMessage, Comes, HearsTold, IsUnheard, AnswersMessage, SaysDropped, TellsIt, TellsOrDrops, TellsAndKeeps, StopsMessage, StopsTelling, HearsMessage, HearsHappening, HearsMarked, StopsMarked, Hears, Stops};
     ghost use Rattle.dap_host.specs.Moments.{FileRefused, HasRoom};
     ghost use Rattle.dap_host.specs.PrivateKeeping.{AreAll, keeps_all};
@@ -374,18 +387,30 @@ impl Host {
         }
     }
 
-    /// Refuses the line, where the debuggee dropped what it told. Whether it did not.
-    fn refuse_dropped(&self, out: &mut Vec<u8>) -> Result<bool, AdapterFault>
+    /// Refuses the line, where the debuggee dropped what it told. Whether it did not. What the client was told is not refused,
+    /// and what it is to be told and was not is.
+    fn refuse_dropped(
+        &self,
+        is_told: bool,
+        is_for_client: bool,
+        out: &mut Vec<u8>,
+    ) -> Result<bool, AdapterFault>
         ensures says { IfOk result (λ is_heard. SaysDropped is_heard self.now.number out.old.items out.new.items) }
+        ensures told { IfOk result (λ is_heard. is_told ≡ true → is_heard ≡ true) }
+        ensures untold { IfOk result (λ is_heard. is_for_client ≡ true → is_told ≡ false → is_heard ≡ false) }
         ensures memory { IfErr result (λ fault. fault ≡ AdapterFault.OutOfMemory) }
     {
-        match self.mail.take_dropped() {
-            None => Ok(true),
-            Some(why) => {
-                self.refuse(Refusal::Dropped(why), out)?;
-                Ok(false)
-            }
+        let why = self.mail.take_dropped();
+        if is_told {
+            return Ok(true);
         }
+        let why = match why {
+            Some(why) => why,
+            None if is_for_client => Dropped::OutOfTurn,
+            None => return Ok(true),
+        };
+        self.refuse(Refusal::Dropped(why), out)?;
+        Ok(false)
     }
 
     /// All sources, once those come that are told.
@@ -446,19 +471,25 @@ impl Host {
     ) -> Result<bool, AdapterFault>
         requires going { IsGoing self.old }
         requires in_a_run { has_debuggee self.old.adapter.session.phase ≡ true }
-        ensures tells { IfOk result (λ is_heard. TellsOrDrops self.old is_heard out.old.items out.new.items self.new) }
+        ensures tells { IfOk result (λ is_heard. TellsOrDrops self.old coming is_heard out.old.items out.new.items self.new) }
         ensures going { OnOk result (IsGoing self.new) }
         ensures stops { IfErr result (λ fault. fault ≢ AdapterFault.OutOfMemory → StopsTelling self.old out.old.items out.new.items self.new fault) }
     {
-        self.tell(alloc, coming, out)?;
-        self.refuse_dropped(out)
+        let is_for_client = is_for_client(&coming);
+        let is_told = self.tell(alloc, coming, out)?;
+        self.refuse_dropped(is_told, is_for_client, out)
     }
 
-    /// Lets the adapter tell what happened.
-    fn tell(&mut self, alloc: Global, coming: Coming, out: &mut Vec<u8>) -> Result<(), AdapterFault>
+    /// Lets the adapter tell what happened. Whether it told the client anything.
+    fn tell(
+        &mut self,
+        alloc: Global,
+        coming: Coming,
+        out: &mut Vec<u8>,
+    ) -> Result<bool, AdapterFault>
         requires going { IsGoing self.old }
         requires in_a_run { has_debuggee self.old.adapter.session.phase ≡ true }
-        ensures tells { OnOk result (TellsIt self.old out.old.items out.new.items self.new) }
+        ensures tells { IfOk result (λ is_told. TellsIt self.old is_told out.old.items out.new.items self.new) }
         ensures going { OnOk result (IsGoing self.new) }
         ensures stops { IfErr result (λ fault. fault ≢ AdapterFault.OutOfMemory → StopsTelling self.old out.old.items out.new.items self.new fault) }
     {
@@ -467,7 +498,10 @@ impl Host {
         self.mail.post(coming);
         let mut bytes = Vec::new(alloc);
         match self.adapter.tell(alloc, &mut bytes) {
-            Ok(()) => self.hand_out(alloc, &bytes, out),
+            Ok(()) => match self.hand_out(alloc, &bytes, out) {
+                Ok(()) => Ok(!bytes.is_empty()),
+                Err(fault) => Err(fault),
+            },
             Err(fault) => Err(self.break_off(&bytes, fault, out)),
         }
     }

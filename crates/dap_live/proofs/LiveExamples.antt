@@ -15,7 +15,7 @@ use Rattle.dap_live.specs.declared.here.Here.{Here}
 use Rattle.dap_live.specs.declared.mail.Dropped.TheVariants.{OutOfTurn, OutOfRange, Told, TooManyHolders}
 use Rattle.dap_live.specs.Dropping.{why_dropped, why_not_more, why_untold, heard}
 use Rattle.dap_live.specs.LiveShown.{LiveState, fresh_live, told_of, value_told, evaluated, evaluation_in, threads_in, now_shown, children_in, assigned_by}
-use Rattle.dap_live.specs.LiveLaws.{reply_in, with_told, ShowsAfter, SourcesAfter, keeps_learned}
+use Rattle.dap_live.specs.LiveLaws.{reply_in, with_told, ShowsAfter, SourcesAfter, LearnedAfter}
 
 abbrev wrote : List ℕ → Happening
 wrote text = happening.Output Stdout text
@@ -42,9 +42,6 @@ starts = (refl, refl, refl)
 resumes : (reply_in (to_resume Next (pos 1)) Stopped done ≡ done) × (reply_in (to_resume Next (pos 1)) Running done ≡ refused) × (reply_in to_pause Running done ≡ done) × (reply_in to_pause Stopped done ≡ refused)
 resumes = (refl, refl, refl, refl)
 
-learns : (keeps_learned to_poll ≡ false) × (keeps_learned to_pause ≡ true)
-learns = (refl, refl)
-
 -- ---- what is shown
 
 abbrev sum : Option Learned
@@ -56,6 +53,10 @@ pair = Some (record { text = codes "p"; value = Some (codes "{..}"); holder = So
 
 abbrev none : Option Learned
 none = Some (record { text = codes "y"; value = None; holder = Some 7 })
+
+-- a poll that gives something forgets it; a pause does not
+forgets : LearnedAfter sum to_poll (happened stopped) None × LearnedAfter sum to_pause done sum
+forgets = (refl, refl)
 
 texts : (value_told sum (codes "x + 1") ≡ Some (codes "2")) × (value_told sum (codes "x") ≡ None) × (value_told None (codes "x") ≡ None) × (value_told none (codes "y") ≡ None) × (told_of none (codes "x") ≡ None)
 texts = (refl, refl, refl, refl, refl)

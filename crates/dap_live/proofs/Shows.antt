@@ -9,8 +9,9 @@ use Rattle.dap_replay.proofs.Wider.{frames_wider}
 use Rattle.dap_debuggee.specs.Shown.{to_poll, happened}
 use Rattle.dap_debuggee.specs.declared.answers.Happening.{Happening}
 use Rattle.dap_debuggee.specs.declared.answers.Happening.TheVariants as happening
+use Rattle.dap_live.specs.declared.held.Learned.{Learned}
 use Rattle.dap_live.specs.declared.here.Here.{Here}
-use Rattle.dap_live.specs.LiveLaws.{ShowsAfter, SourcesAfter}
+use Rattle.dap_live.specs.LiveLaws.{ShowsAfter, SourcesAfter, LearnedAfter}
 use Rattle.dap_live.specs.PrivateHeld.{IsNoStop}
 use Rattle.dap_live.specs.LiveShown.{LiveState, IsFew, shown_live, now_shown, frames_in}
 
@@ -47,3 +48,11 @@ same_sources base (happening.Output category text) = refl
 same_sources base (happening.Stopped reason thread) = refl
 same_sources base (happening.Continued thread) = refl
 same_sources base (happening.Exited code) = refl
+
+-- what happens leaves nothing known of a text
+pub none_learned : (known : Option Learned) (h : Happening) → LearnedAfter known to_poll (happened h) None
+none_learned known happening.Nothing = tt
+none_learned known (happening.Output category text) = refl
+none_learned known (happening.Stopped reason thread) = refl
+none_learned known (happening.Continued thread) = refl
+none_learned known (happening.Exited code) = refl

@@ -1,6 +1,6 @@
 -- What is dropped of what a host says of its debuggee, and why.
 -- This profile's choice: the trait's laws say what may happen in a state, and in which range.
-use Rattle.std.specs.Prelude.{◌≡◌, ◌⊎◌, ℕ, nat_lt, List, length, Option, Some, None, IsTrue, if◌then◌else◌}
+use Rattle.std.specs.Prelude.{◌≡◌, ℕ, nat_lt, List, length, Option, Some, None, IsTrue, if◌then◌else◌}
 use Rattle.dap_debuggee.specs.Laws.{may_happen, is_short}
 use Rattle.dap_debuggee.specs.declared.answers.State.{State}
 use Rattle.dap_debuggee.specs.declared.answers.Happening.{Happening}
@@ -21,10 +21,6 @@ unless_dropped (Some why) h = happening.Nothing
 -- what is told of it
 abbrev pub heard : State → Happening → Happening
 heard state h = unless_dropped (why_dropped state h) h
-
--- that, or nothing
-abbrev pub IsHeardOr : State → Happening → Happening → Type 0
-IsHeardOr state h told = (told ≡ happening.Nothing) ⊎ (told ≡ heard state h)
 
 -- ---- variables of a holder
 

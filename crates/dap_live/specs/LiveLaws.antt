@@ -21,6 +21,7 @@ use Rattle.dap_replay.specs.SourceLaws.{sources_of-stay}
 use Rattle.dap_replay.specs.VariableLaws.{variables-put, variables-of_others, assigned-by, assigned-there}
 use Rattle.dap_tables.specs.SourceMap.{OfSource}
 use Rattle.dap_tables.specs.SourceMapLaws.{set-of-put}
+use Rattle.dap_live.specs.declared.held.Learned.{Learned}
 use Rattle.dap_live.specs.declared.here.Here.{Here}
 use Rattle.dap_live.specs.Dropping.{why_not_more, why_untold}
 use Rattle.dap_live.specs.LiveShown.{LiveState, shown_live, now_shown, threads_in, frames_in, scopes_in, children_in, evaluation_in, told_of, value_told, evaluated, assigned_by}
@@ -64,10 +65,11 @@ abbrev pub set_after : Act → List (OfSource ℕ) → List (OfSource ℕ)
 set_after (to_set_breakpoints source lines) set = with_source_lines source lines set
 set_after _ set = set
 
--- what is known of a text changes at a poll alone
-abbrev pub keeps_learned : Act → Bool
-keeps_learned to_poll = false
-keeps_learned _ = true
+-- Where a poll gives nothing, the host may have told of a text. A poll that gives something leaves nothing known. Else that stays.
+abbrev pub LearnedAfter : Option Learned → Act → Reply → Option Learned → Type 0
+LearnedAfter known to_poll (happened happening.Nothing) after = Unit {0}
+LearnedAfter known to_poll reply after = after ≡ None
+LearnedAfter known _ _ after = after ≡ known
 
 -- variables of a holder, before what the moment has
 abbrev pub with_told : ℕ → List Variable → Option Here → Option Here
@@ -122,7 +124,7 @@ pub record FollowsLive (v : LiveState) (a : Act) (r : Reply) (w : LiveState) : T
   pub set : w.set ≡ set_after a v.set
   pub base : SourcesAfter v.base a r w.base
   pub here : ShowsAfter v a r w.here
-  pub learned : IsTrue (keeps_learned a) → w.learned ≡ v.learned
+  pub learned : LearnedAfter v.learned a r w.learned
 
 -- ---- states
 
@@ -207,7 +209,7 @@ same_base base (to_set_breakpoints source lines) r after k sources = sources
 same_base base (to_assign holder name text) r after k sources = absurd (true≢false (sym k))
 same_base base to_end r after k sources = sources
 
--- what keeps all answers keeps the frames, and is no poll
+-- what keeps all answers keeps the frames, and what is known of a text
 keeps_too : (a : Act) (r : Reply) → IsTrue (keeps_answers a r) → IsTrue (keeps_frames a r)
 keeps_too to_start r keeps = keeps
 keeps_too (to_resume how thread) r keeps = keeps
@@ -217,14 +219,14 @@ keeps_too (to_set_breakpoints source lines) r keeps = refl
 keeps_too (to_assign holder name text) r keeps = absurd (true≢false (sym keeps))
 keeps_too to_end r keeps = absurd (true≢false (sym keeps))
 
-is_no_poll : (a : Act) (r : Reply) → IsTrue (keeps_answers a r) → IsTrue (keeps_learned a)
-is_no_poll to_start r keeps = refl
-is_no_poll (to_resume how thread) r keeps = refl
-is_no_poll to_pause r keeps = refl
-is_no_poll to_poll r keeps = keeps
-is_no_poll (to_set_breakpoints source lines) r keeps = refl
-is_no_poll (to_assign holder name text) r keeps = refl
-is_no_poll to_end r keeps = refl
+same_learned : (known : Option Learned) (a : Act) (r : Reply) (after : Option Learned) → IsTrue (keeps_answers a r) → LearnedAfter known a r after → after ≡ known
+same_learned known to_start r after k stays = stays
+same_learned known (to_resume how thread) r after k stays = stays
+same_learned known to_pause r after k stays = stays
+same_learned known to_poll r after k stays = absurd (true≢false (sym k))
+same_learned known (to_set_breakpoints source lines) r after k stays = stays
+same_learned known (to_assign holder name text) r after k stays = stays
+same_learned known to_end r after k stays = stays
 
 -- ---- variables that are told
 
@@ -385,7 +387,7 @@ keeps_sources-live v w a r f = sources_by v w a r f.base
 pub keeps_answers-live : KeepsAnswers shown_live FollowsLive
 keeps_answers-live v w a r f k =
     let same : now_shown w.state w.here ≡ now_shown v.state v.here = same_shown v w a r f k in
-    let known : w.learned ≡ v.learned = f.learned (is_no_poll a r k) in
+    let known : w.learned ≡ v.learned = same_learned v.learned a r w.learned k f.learned in
     let base : w.base ≡ v.base = same_base v.base a r w.base k f.base in
     record {
       threads = ap threads_in same;
@@ -443,7 +445,7 @@ sets_values-live v w holder name text r f =
     let changed : List Variable = with_value name sets.value sets.variables in
     let shown : now_shown w.state w.here ≡ with_told holder changed before =
     ap (λ s. now_shown s w.here) (f.state ∙ same_assigns v.state holder name text r) ∙ ap (λ o. now_shown v.state o) sets.here ∙ told_now v.state v.here holder changed in
-    let known : w.learned ≡ v.learned = f.learned refl in
+    let known : w.learned ≡ v.learned = f.learned in
     let children : (h : ℕ) → children_in (now_shown w.state w.here) h ≡ children_after holder name sets.value (children_in before) h =
     λ h. ap (λ o. children_in o h) shown ∙ children_set before holder h name sets.value sets.variables sets.shown in
     record {

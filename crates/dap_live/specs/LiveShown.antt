@@ -31,10 +31,14 @@ pub record LiveState : Type 0 where
   pub acts : ℕ
   pub last : Option Last
 
+-- a moment has no more sources than the debuggee
+abbrev pub HasFewSources : Played → Played → Type 0
+HasFewSources moment base = length (shown_of moment).sources ≤ length (shown_of base).sources
+
 -- what is shown has no more sources than there are
 abbrev pub IsFew : Played → Option Here → Type 0
 IsFew base None = Unit {0}
-IsFew base (Some here) = length (shown_of here.moment).sources ≤ length (shown_of base).sources
+IsFew base (Some here) = HasFewSources here.moment base
 
 abbrev pub fresh_live : Played → LiveState
 fresh_live base = record {

@@ -3,6 +3,7 @@ ghost use Rattle.std.specs.Prelude.{◌≡◌, ◌≤◌, ◌+◌, ◌↔◌, If
 ghost use Rattle.dap_debuggee.specs.Laws.{state_after};
 ghost use Rattle.dap_debuggee.specs.Shown.{to_poll, happened};
 ghost use Rattle.dap_replay.specs.Played.{Played, shown_of};
+ghost use Rattle.dap_live.specs.LiveShown.{HasFewSources};
 
 use crate::dropping::why_dropped;
 use crate::held::{Learned, Live, LiveLast};
@@ -53,7 +54,7 @@ fn next(state: State, happening: &Happening) -> State
 
 /// Whether a recording has no more sources than another.
 fn has_few_sources(base: &Recorded, shows: &Recorded) -> bool
-    ensures { IsTrue result → length (shown_of shows.now).sources ≤ length (shown_of base.now).sources }
+    ensures { IsTrue result ↔ HasFewSources shows.now base.now }
 {
     shows.source_count() <= base.source_count()
 }
@@ -72,9 +73,9 @@ impl Live {
     ghost use Rattle.dap_debuggee.specs.Shown.{to_poll, to_set_breakpoints, to_assign, done, happened};
     ghost use Rattle.dap_debuggee.specs.declared.answers.Happening.{Happening};
     ghost use Rattle.dap_replay.specs.Played.{shown_of, with_sources_of};
-    ghost use Rattle.dap_live.specs.LiveShown.{shown_live, IsFew, now_shown, children_in, told_of, value_told};
+    ghost use Rattle.dap_live.specs.LiveShown.{shown_live, HasFewSources, IsFew, now_shown, children_in, told_of, value_told};
     ghost use Rattle.dap_live.specs.LiveLaws.{FollowsLive, with_told, noted};
-    ghost use Rattle.dap_live.specs.Dropping.{heard, IsHeardOr, why_untold};
+    ghost use Rattle.dap_live.specs.Dropping.{heard, why_untold};
     ghost use Rattle.dap_live.specs.PrivateHeld.{last_of, with_here, with_base, IsNoStop, ShowsFirst};
 
     /// Counts and remembers an act.
@@ -160,6 +161,7 @@ impl Live {
     /// Nothing happened, since what the host says is dropped.
     fn drop_it(&mut self, why: Dropped) -> Happening
         ensures nothing { result ≡ Happening.Nothing }
+        ensures forgotten { self.new.learned ≡ None }
         ensures follows { FollowsLive self.old to_poll (happened result) self.new }
     {
         self.mail.drop_coming(why);
@@ -167,10 +169,11 @@ impl Live {
     }
 
     /// Tells what the host says, or nothing where that is dropped. It is no stop.
-    #[tactic(auto, using(crate::proofs::Shows::same_shown, crate::proofs::Shows::same_sources))]
+    #[tactic(auto, using(crate::proofs::Shows::same_shown, crate::proofs::Shows::same_sources, crate::proofs::Shows::none_learned))]
     fn see(&mut self, happening: Happening) -> Result<Happening, AllocError>
         requires { IsNoStop happening }
         ensures heard { IfOk result (λ h. h ≡ heard self.old.state happening) }
+        ensures forgotten { OnOk result (self.new.learned ≡ None) }
         ensures follows { IfOk result (λ h. FollowsLive self.old to_poll (happened h) self.new) }
         ensures in_range { IfOk result (λ h. IsTrue (is_short h)) }
     {
@@ -193,7 +196,9 @@ impl Live {
         mut shows: Recorded,
         more: bool,
     ) -> Result<Happening, AllocError>
-        ensures heard { IfOk result (λ h. IsHeardOr self.old.state (Happening.Stopped reason thread) h) }
+        ensures heard { IfOk result (λ h. HasFewSources shows self.old.base → h ≡ heard self.old.state (Happening.Stopped reason thread)) }
+        ensures dropped { IfOk result (λ h. ¬ HasFewSources shows self.old.base → h ≡ Happening.Nothing) }
+        ensures forgotten { OnOk result (self.new.learned ≡ None) }
         ensures follows { IfOk result (λ h. FollowsLive self.old to_poll (happened h) self.new) }
         ensures shows { IfOk result (λ h. h ≡ Happening.Stopped reason thread → ShowsFirst shows more self.new.here) }
         ensures in_range { IfOk result (λ h. IsTrue (is_short h)) }
@@ -233,6 +238,7 @@ impl Live {
     /// Tells nothing, and has more sources, unless they are dropped.
     fn see_sources(&mut self, alloc: Global, more: Recorded) -> Result<Happening, AllocError>
         ensures nothing { IfOk result (λ h. h ≡ Happening.Nothing) }
+        ensures forgotten { OnOk result (self.new.learned ≡ None) }
         ensures heard { OnOk result (length (shown_of self.old.base).sources + length (shown_of more).sources ≤ 65536 → self.new.base ≡ with_sources_of more self.old.base) }
         ensures follows { IfOk result (λ h. FollowsLive self.old to_poll (happened h) self.new) }
     {
@@ -282,6 +288,7 @@ impl Live {
         variables: List<Variable>,
     ) -> Result<Happening, AllocError>
         ensures nothing { IfOk result (λ h. h ≡ Happening.Nothing) }
+        ensures forgotten { OnOk result (self.new.learned ≡ None) }
         ensures heard { OnOk result (why_untold (now_shown self.old.state self.old.here) holder ≡ None → self.new.here ≡ with_told holder variables self.old.here) }
         ensures follows { IfOk result (λ h. FollowsLive self.old to_poll (happened h) self.new) }
     {

@@ -7,6 +7,7 @@
 //! | `!learn:TEXT:VALUE` | the same with the value of a text, whose parts are those of holder 70 |
 //! | `!sources` | the same with the sources of the recording, once more |
 //! | `!dropped` | why what was told last is dropped |
+//! | `!acts` | what the host has to do since it was asked last |
 //! | `!all-sources`, `!second-text` | the sources; the text of the second |
 //! | any other | as in `playing` |
 
@@ -14,7 +15,7 @@ use crate::playing::{add_answer, add_poll};
 use crate::telling::{Query, add_told};
 use dap_debuggee::Variable;
 use dap_json::{List, Text};
-use dap_live::{Coming, Dropped, Live, Mail};
+use dap_live::{Coming, Dropped, HostAct, Live, Mail};
 use dap_replay::Recorded;
 use std::alloc::Global;
 use std::rc::Rc;
@@ -103,6 +104,29 @@ fn reason(dropped: Option<Dropped>) -> &'static str {
     }
 }
 
+fn act_name(act: &HostAct) -> &'static str {
+    match act {
+        HostAct::Start => "start ",
+        HostAct::Resume { .. } => "resume ",
+        HostAct::Pause => "pause ",
+        HostAct::SetBreakpoints { .. } => "lines ",
+        HostAct::Assign { .. } => "assign ",
+        HostAct::End => "end ",
+    }
+}
+
+fn add_acts(alloc: Global, mail: &Mail, answers: &mut String) -> bool {
+    let Ok(acts) = mail.take_acts(alloc) else {
+        return false;
+    };
+    for act in &acts {
+        if answers.push_str(act_name(act)).is_err() {
+            return false;
+        }
+    }
+    true
+}
+
 fn add_heard(
     alloc: Global,
     live: &mut Live,
@@ -122,6 +146,7 @@ fn add_heard(
 fn add_word(alloc: Global, live: &mut Live, mail: &Mail, word: &str, answers: &mut String) -> bool {
     match word {
         "!dropped" => answers.push_str(reason(mail.take_dropped())).is_ok(),
+        "!acts" => add_acts(alloc, mail, answers),
         "!all-sources" => add_told(alloc, live, Query::Sources, answers),
         "!second-text" => add_told(alloc, live, Query::Content(1), answers),
         _ => {
@@ -171,7 +196,7 @@ fn is_fed(alloc: Global, words: &str, wanted: &str) -> bool {
     is_so
 }
 
-static FEEDS: [(&str, &str); 9] = [
+static FEEDS: [(&str, &str); 10] = [
     // A moment that is whole.
     (
         "start !stop children:0 children:1 value:0:x",
@@ -211,6 +236,11 @@ static FEEDS: [(&str, &str); 9] = [
     (
         "start !stop !stop !dropped !dropped",
         "done; step 1 line 1; nothing; out of turn; heard; ",
+    ),
+    // Several acts at once come in the order in which they were asked, each once; what is refused is none.
+    (
+        "line start start pause next !acts !stop pause !learn:9:9 assign:1:x:9 assign:1:y:9 clear next end !acts !acts",
+        "set; done; refused; done; refused; lines start pause ; step 1 line 1; refused; nothing; set; refused; set; done; ended; assign lines resume end ; ; ",
     ),
     // What a text comes to is forgotten by the next poll.
     (

@@ -1,4 +1,4 @@
-use Rattle.std.proofs.Common.{List, Some, sym, ap, ◌∙◌, Result, Ok, Err, refl, to_z, of_z, w64}
+use Rattle.std.proofs.Common.{List, Some, length, arith, rules, sym, ap, ◌∙◌, Result, Ok, Err, refl, to_z, of_z, w64}
 use Rattle.std.specs.Result.{IsErrOf}
 use Rattle.dap_debuggee.specs.Shown.{Reply, to_start, done, refused}
 use Rattle.dap_debuggee.specs.Laws.{Replies}
@@ -6,8 +6,9 @@ use Rattle.dap_debuggee.specs.declared.answers.DebuggeeFault.{DebuggeeFault}
 use Rattle.dap_debuggee.specs.declared.answers.DebuggeeFault.TheVariants.{Refused, OutOfMemory}
 use Rattle.dap_debuggee.specs.declared.answers.Happening.{Happening}
 use Rattle.dap_replay.specs.Played.{FollowsPlayed, OfHolder}
+use Rattle.dap_replay.specs.PlayedLaws.{same_sources-played}
 use Rattle.dap_live.specs.declared.here.Here.{Here}
-use Rattle.dap_live.specs.LiveShown.{LiveState}
+use Rattle.dap_live.specs.LiveShown.{LiveState, HasFewSources}
 use Rattle.dap_live.proofs.Drops.{each_drop}
 use Rattle.dap_live.proofs.held.Live.stop.Goals as goal
 
@@ -19,6 +20,14 @@ started : (r : Result (Unit {0}) DebuggeeFault) (After : Reply → Type 0) → R
 started (Ok x) After is full = (done, is)
 started (Err Refused) After is full = (refused, is)
 started (Err OutOfMemory) After is full = absurd (full refl)
+
+-- it has the sources that it had
+pub returns-clause-dropped : goal.returns-clause-dropped
+returns-clause-dropped c = λ many.
+    let begun = started c.start.result (λ reply. FollowsPlayed c.args.shows to_start reply c.start.new.self) c.start.ensures.follows c.start.ensures.memory in
+    let same = same_sources-played c.args.shows c.start.new.self to_start begun.0 begun.1 in
+    let few : HasFewSources c.start.new.self c.args.self.now.base = search rules in
+    absurd (many (omega (arith, ap length same.sources, few)))
 
 pub returns-clause-shows : goal.returns-clause-shows
 returns-clause-shows c = λ is.
