@@ -10,11 +10,11 @@ _dap() {
     case $before in --max-body | --max-breakpoints | --max-header | --max-reference | --max-references | --max-requests | --max-seq | =) return ;; esac
     case $command in
         serve) options='--explain --max-header --max-body --max-requests --max-references --max-breakpoints --max-seq --max-reference -h --help' ;;
-        show) options='--json --keep-going --explain --max-header --max-body -h --help' ;;
+        show) options='--json --reasons --keep-going --explain --max-header --max-body -h --help' ;;
         wrap) options='--explain --max-body -h --help' ;;
         unwrap) options='--explain --max-header --max-body -h --help' ;;
         check) options='--all --any-seq --bodies --explain --open -h --help' ;;
-        drive) options='--explain --max-header --max-body --max-requests --max-references --max-breakpoints --max-seq --max-reference -h --help' ;;
+        drive) options='--check --explain --max-header --max-body --max-requests --max-references --max-breakpoints --max-seq --max-reference -h --help' ;;
         host) options='--explain --max-header --max-body --max-requests --max-references --max-breakpoints --max-seq --max-reference -h --help' ;;
         help)
             if ((COMP_CWORD == 2)); then COMPREPLY=($(compgen -W 'serve show wrap unwrap check drive host' -- "$word")); fi

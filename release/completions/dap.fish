@@ -22,6 +22,7 @@ complete -c dap -n '__fish_seen_subcommand_from serve; and not __fish_seen_subco
 complete -c dap -n '__fish_seen_subcommand_from serve; and not __fish_seen_subcommand_from help' -s h -l help -d 'Print help'
 complete -c dap -n '__fish_seen_subcommand_from show; and not __fish_seen_subcommand_from help' -F
 complete -c dap -n '__fish_seen_subcommand_from show; and not __fish_seen_subcommand_from help' -l json -d 'Writes a JSON object a line, with `offset`, `bytes` and `message`'
+complete -c dap -n '__fish_seen_subcommand_from show; and not __fish_seen_subcommand_from help' -l reasons -d 'Says behind `failed` why, where the response has a `message`'
 complete -c dap -n '__fish_seen_subcommand_from show; and not __fish_seen_subcommand_from help' -l keep-going -d 'Lists a body that is no message as refused, and goes on; the status is then 3'
 complete -c dap -n '__fish_seen_subcommand_from show; and not __fish_seen_subcommand_from help' -l explain -d 'Says in a further line where a fault is, and what is refused there'
 complete -c dap -n '__fish_seen_subcommand_from show; and not __fish_seen_subcommand_from help' -l max-header -x -d 'Greatest length of a header block, 32 to 65536 [default: 8192]'
@@ -44,6 +45,7 @@ complete -c dap -n '__fish_seen_subcommand_from check; and not __fish_seen_subco
 complete -c dap -n '__fish_seen_subcommand_from check; and not __fish_seen_subcommand_from help' -l open -d 'Prints after that each request that nothing has answered'
 complete -c dap -n '__fish_seen_subcommand_from check; and not __fish_seen_subcommand_from help' -s h -l help -d 'Print help'
 complete -c dap -n '__fish_seen_subcommand_from drive; and not __fish_seen_subcommand_from help' -F
+complete -c dap -n '__fish_seen_subcommand_from drive; and not __fish_seen_subcommand_from help' -l check -d 'Checks the transcript too, and prints `legal`, or `line L rule K`, on standard error'
 complete -c dap -n '__fish_seen_subcommand_from drive; and not __fish_seen_subcommand_from help' -l explain -d 'Says in a further line where a fault is, and what is refused there'
 complete -c dap -n '__fish_seen_subcommand_from drive; and not __fish_seen_subcommand_from help' -l max-header -x -d 'Greatest length of a header block, 32 to 65536 [default: 8192]'
 complete -c dap -n '__fish_seen_subcommand_from drive; and not __fish_seen_subcommand_from help' -l max-body -x -d 'Greatest length of a body, 1024 to 16777216 [default: 4194304]'
