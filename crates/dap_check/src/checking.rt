@@ -203,11 +203,7 @@ pub fn check(alloc: Global, bytes: &[u8], any_seq: bool) -> Result<Checked, Chec
 }
 
 /// The same, where `any_seq` says whose numbers are not tested: those of neither side, of one, or of both.
-pub fn check_by_side(
-    alloc: Global,
-    bytes: &[u8],
-    any_seq: AnySeq,
-) -> Result<Checked, CheckFault>
+pub fn check_by_side(alloc: Global, bytes: &[u8], any_seq: AnySeq) -> Result<Checked, CheckFault>
     ensures checked { IfOk result (λ told. (transcript : List TheLine) × AreLines 1 (lines bytes.now) transcript × IsVerdict any_seq transcript told) }
     ensures refused { IfErr result (FirstRefused (lines bytes.now)) }
 
