@@ -62,7 +62,7 @@ fn add_requests(row: &mut String, count: u32) -> Result<(), AllocError> {
     for seq in 1..=count {
         writeln!(
             row,
-            "> {{\"seq\":{seq},\"type\":\"request\",\"command\":\"threads\"}}"
+            r#"> {{"seq":{seq},"type":"request","command":"threads"}}"#
         )?;
     }
     Ok(())
@@ -100,7 +100,7 @@ fn add_busy(row: &mut String, last: u32) -> Result<(), AllocError> {
     for seq in 4..=last {
         writeln!(
             row,
-            "> {{\"seq\":{seq},\"type\":\"request\",\"command\":\"threads\"}}"
+            r#"> {{"seq":{seq},"type":"request","command":"threads"}}"#
         )?;
         writeln!(row, "< busy seq {} to {seq} threads", seq.saturating_sub(1))?;
     }
@@ -148,11 +148,7 @@ fn add_numbers(row: &mut String, last: u32) -> Result<(), AllocError> {
 fn add_breakpoints(row: &mut String, last: u32) -> Result<(), AllocError> {
     row.push_str(r#"{"id":1,"line":1,"verified":true}"#)?;
     for id in 2..=last {
-        write!(
-            row,
-            ",{{\"id\":{id},\"line\":{id},\"verified\":{}}}",
-            id <= 3
-        )?;
+        write!(row, r#",{{"id":{id},"line":{id},"verified":{}}}"#, id <= 3)?;
     }
     Ok(())
 }
@@ -222,7 +218,7 @@ fn add_outputs(alloc: Global, row: &mut String, count: u32) -> Result<(), AllocE
         add_many(alloc, row, b'a', 128)?;
         writeln!(
             row,
-            "\"}},\"event\":\"output\",\"seq\":{},\"type\":\"event\"}}",
+            r#""}},"event":"output","seq":{},"type":"event"}}"#,
             place.saturating_add(5)
         )?;
     }
@@ -254,7 +250,7 @@ fn add_recorded_variables(row: &mut String, count: u32) -> Result<(), AllocError
     for place in 0..count {
         write!(
             row,
-            "{comma}{{\"name\":\"v\",\"value\":\"{place}\",\"variables\":[{{\"name\":\"w\",\"value\":\"0\"}}]}}"
+            r#"{comma}{{"name":"v","value":"{place}","variables":[{{"name":"w","value":"0"}}]}}"#
         )?;
         comma = ",";
     }
@@ -267,7 +263,7 @@ fn add_told_variables(row: &mut String, count: u32) -> Result<(), AllocError> {
     for place in 0..count {
         write!(
             row,
-            "{comma}{{\"name\":\"v\",\"value\":\"{place}\",\"variablesReference\":{}}}",
+            r#"{comma}{{"name":"v","value":"{place}","variablesReference":{}}}"#,
             place.saturating_add(3)
         )?;
         comma = ",";
@@ -325,7 +321,7 @@ fn add_told_scopes(row: &mut String, count: u32) -> Result<(), AllocError> {
     for place in 0..count {
         write!(
             row,
-            "{comma}{{\"expensive\":false,\"name\":\"\",\"variablesReference\":{}}}",
+            r#"{comma}{{"expensive":false,"name":"","variablesReference":{}}}"#,
             place.saturating_add(2)
         )?;
         comma = ",";

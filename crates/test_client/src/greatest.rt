@@ -33,7 +33,7 @@ fn add_requests(row: &mut String, last: u32) -> Result<(), AllocError> {
         row.push_str("send threads\n")?;
         writeln!(
             row,
-            "> {{\"command\":\"threads\",\"seq\":{seq},\"type\":\"request\"}}"
+            r#"> {{"command":"threads","seq":{seq},"type":"request"}}"#
         )?;
     }
     Ok(())
@@ -44,7 +44,7 @@ fn add_answers(row: &mut String, last: u32) -> Result<(), AllocError> {
     for answered in 0..last.saturating_sub(1) {
         writeln!(
             row,
-            "< {{\"seq\":0,\"type\":\"response\",\"request_seq\":{},\"success\":true,\"command\":\"threads\"}}",
+            r#"< {{"seq":0,"type":"response","request_seq":{},"success":true,"command":"threads"}}"#,
             last - answered
         )?;
     }
@@ -73,7 +73,7 @@ fn many_requests_are_answered_in_reverse(rt: HostRuntime) -> Result<(), Fail> {
 fn add_frames(row: &mut String, count: u32) -> Result<(), AllocError> {
     row.push_str(r#"{"id":0}"#)?;
     for id in 1..count {
-        write!(row, ",{{\"id\":{id}}}")?;
+        write!(row, r#",{{"id":{id}}}"#)?;
     }
     Ok(())
 }

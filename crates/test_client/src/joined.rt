@@ -1,10 +1,11 @@
 //! Both ends joined by two ways of bytes, of which any pieces are moved: the nine messages of a request that is cancelled while
 //! another one waits.
 
+use crate::library::initialize;
 use dap_adapter::{Adapter, Turned};
 use dap_client::Client;
 use dap_frame::Limits;
-use dap_message::{Call, Initialize, Text};
+use dap_message::Call;
 use dap_replay::Recorded;
 use std::alloc::Global;
 use std::marker::Model;
@@ -178,17 +179,6 @@ impl Joined {
             && self.turn()
             && self.move_down(size)
     }
-}
-
-fn initialize(alloc: Global) -> Option<Call> {
-    let adapter_id = Text::copied(alloc, "rec").ok()?;
-    Some(Call::Initialize(Initialize {
-        adapter_id,
-        lines_start_at_1: true,
-        columns_start_at_1: true,
-        supports_variable_paging: false,
-        supports_run_in_terminal_request: false,
-    }))
 }
 
 /// These bodies, each in its frame.

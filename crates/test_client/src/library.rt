@@ -96,7 +96,7 @@ impl Channel for Nearby {
     }
 }
 
-fn initialize(alloc: Global) -> Option<Call> {
+pub(crate) fn initialize(alloc: Global) -> Option<Call> {
     match Text::copied(alloc, "rec") {
         Ok(adapter_id) => Some(Call::Initialize(Initialize {
             adapter_id,

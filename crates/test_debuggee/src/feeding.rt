@@ -23,7 +23,7 @@ use std::test::Fail;
 
 /// A moment of one frame with two scopes, the first of which has no variables.
 const TWO_SCOPES: &str =
-    "{\"exit\":0,\"sources\":[{\"name\":\"a.c\",\"path\":\"/a.c\",\"text\":\"one\\n\"}],\"moments\":[{\"thread\":1,\"threads\":[{\"id\":1,\"name\":\"main\",\"frames\":[{\"name\":\"main\",\"source\":0,\"line\":1,\"scopes\":[{\"name\":\"Locals\"},{\"name\":\"Globals\",\"variables\":[{\"name\":\"x\",\"value\":\"1\"}]}]}]}]}]}";
+    r#"{"exit":0,"sources":[{"name":"a.c","path":"/a.c","text":"one\n"}],"moments":[{"thread":1,"threads":[{"id":1,"name":"main","frames":[{"name":"main","source":0,"line":1,"scopes":[{"name":"Locals"},{"name":"Globals","variables":[{"name":"x","value":"1"}]}]}]}]}]}"#;
 
 fn two_scopes(alloc: Global) -> Option<Recorded> {
     Recorded::read(alloc, TWO_SCOPES.as_bytes()).ok()

@@ -6,7 +6,7 @@ use std::alloc::Global;
 
 /// Every key of the format, with no two names alike.
 const WHOLE: &str =
-    "{\"exit\":3,\"sources\":[{\"name\":\"a\",\"path\":\"/a\",\"text\":\"x\\ny\"}],\"moments\":[{\"threads\":[{\"id\":1,\"name\":\"m\",\"frames\":[{\"name\":\"f\",\"source\":0,\"line\":2,\"scopes\":[{\"name\":\"s\",\"variables\":[{\"name\":\"v\",\"value\":\"1\",\"variables\":[{\"name\":\"w\",\"value\":\"2\"}]}]}]}]}],\"thread\":1,\"output\":\"o\",\"waits\":true}]}";
+    r#"{"exit":3,"sources":[{"name":"a","path":"/a","text":"x\ny"}],"moments":[{"threads":[{"id":1,"name":"m","frames":[{"name":"f","source":0,"line":2,"scopes":[{"name":"s","variables":[{"name":"v","value":"1","variables":[{"name":"w","value":"2"}]}]}]}]}],"thread":1,"output":"o","waits":true}]}"#;
 
 /// Whether a refusal is that of this key, or none.
 fn is_of(alloc: Global, fault: Option<RecordingFault>, wanted: &str) -> bool {

@@ -21,7 +21,7 @@ use std::fmt::Write;
 
 /// Three moments of one thread: in `main`, in `f` below it, and in `main` again, where it waits.
 pub(crate) const THREE_MOMENTS: &str =
-    "{\"exit\":0,\"sources\":[{\"name\":\"a.c\",\"path\":\"/a.c\",\"text\":\"one\\ntwo\\nthree\\n\"}],\"moments\":[{\"thread\":1,\"output\":\"go\\n\",\"threads\":[{\"id\":1,\"name\":\"main\",\"frames\":[{\"name\":\"main\",\"source\":0,\"line\":1,\"scopes\":[{\"name\":\"Locals\",\"variables\":[{\"name\":\"x\",\"value\":\"1\"},{\"name\":\"p\",\"value\":\"P\",\"variables\":[{\"name\":\"a\",\"value\":\"7\"}]}]}]}]}]},{\"thread\":1,\"threads\":[{\"id\":1,\"name\":\"main\",\"frames\":[{\"name\":\"f\",\"source\":0,\"line\":3},{\"name\":\"main\",\"source\":0,\"line\":1}]}]},{\"thread\":1,\"waits\":true,\"threads\":[{\"id\":1,\"name\":\"main\",\"frames\":[{\"name\":\"main\",\"source\":0,\"line\":2}]}]}]}";
+    r#"{"exit":0,"sources":[{"name":"a.c","path":"/a.c","text":"one\ntwo\nthree\n"}],"moments":[{"thread":1,"output":"go\n","threads":[{"id":1,"name":"main","frames":[{"name":"main","source":0,"line":1,"scopes":[{"name":"Locals","variables":[{"name":"x","value":"1"},{"name":"p","value":"P","variables":[{"name":"a","value":"7"}]}]}]}]}]},{"thread":1,"threads":[{"id":1,"name":"main","frames":[{"name":"f","source":0,"line":3},{"name":"main","source":0,"line":1}]}]},{"thread":1,"waits":true,"threads":[{"id":1,"name":"main","frames":[{"name":"main","source":0,"line":2}]}]}]}"#;
 
 /// The debuggee of it.
 pub(crate) fn three_moments(alloc: Global) -> Option<Recorded> {

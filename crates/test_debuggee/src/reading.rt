@@ -165,11 +165,11 @@ fn numbers_frames(rt: HostRuntime) {
 /// A run of one moment. Its keys come in the usual order, in another one, again, with other keys between them, and escaped; of
 /// equal keys the last counts.
 static ORDERS: [&str; 5] = [
-    "{\"exit\":3,\"sources\":[{\"name\":\"a.c\",\"text\":\"one\\ntwo\\n\"}],\"moments\":[{\"thread\":1,\"output\":\"go\\n\",\"threads\":[{\"id\":1,\"name\":\"main\",\"frames\":[{\"name\":\"main\",\"source\":0,\"line\":2}]}]}]}",
-    "{\"moments\":[{\"thread\":1,\"output\":\"go\\n\",\"threads\":[{\"id\":1,\"name\":\"main\",\"frames\":[{\"name\":\"main\",\"source\":0,\"line\":2}]}]}],\"sources\":[{\"name\":\"a.c\",\"text\":\"one\\ntwo\\n\"}],\"exit\":3}",
-    "{\"exit\":9,\"sources\":[],\"x\":[{}],\"exit\":3,\"sources\":[{\"name\":\"a.c\",\"text\":\"one\\ntwo\\n\"}],\"moments\":[{}],\"moments\":[{\"thread\":1,\"output\":\"go\\n\",\"threads\":[{\"id\":1,\"name\":\"main\",\"frames\":[{\"name\":\"main\",\"source\":0,\"line\":2}]}]}]}",
-    "{\"sources\":[{\"name\":\"b.c\",\"text\":\"one\\ntwo\\n\"}],\"moments\":[{\"thread\":1,\"output\":\"go\\n\",\"threads\":[{\"id\":1,\"name\":\"main\",\"frames\":[{\"name\":\"main\",\"source\":0,\"line\":2}]}]}],\"sources\":[{\"name\":\"a.c\",\"text\":\"one\\ntwo\\n\"}],\"exit\":3}",
-    "{\"ex\\u0069t\":3,\"source\\u0073\":[{\"name\":\"a.c\",\"text\":\"one\\ntwo\\n\"}],\"mom\\u0065nts\":[{\"thread\":1,\"output\":\"go\\n\",\"threads\":[{\"id\":1,\"name\":\"main\",\"frames\":[{\"name\":\"ma\\u0069n\",\"source\":0,\"line\":2}]}]}]}",
+    r#"{"exit":3,"sources":[{"name":"a.c","text":"one\ntwo\n"}],"moments":[{"thread":1,"output":"go\n","threads":[{"id":1,"name":"main","frames":[{"name":"main","source":0,"line":2}]}]}]}"#,
+    r#"{"moments":[{"thread":1,"output":"go\n","threads":[{"id":1,"name":"main","frames":[{"name":"main","source":0,"line":2}]}]}],"sources":[{"name":"a.c","text":"one\ntwo\n"}],"exit":3}"#,
+    r#"{"exit":9,"sources":[],"x":[{}],"exit":3,"sources":[{"name":"a.c","text":"one\ntwo\n"}],"moments":[{}],"moments":[{"thread":1,"output":"go\n","threads":[{"id":1,"name":"main","frames":[{"name":"main","source":0,"line":2}]}]}]}"#,
+    r#"{"sources":[{"name":"b.c","text":"one\ntwo\n"}],"moments":[{"thread":1,"output":"go\n","threads":[{"id":1,"name":"main","frames":[{"name":"main","source":0,"line":2}]}]}],"sources":[{"name":"a.c","text":"one\ntwo\n"}],"exit":3}"#,
+    r#"{"ex\u0069t":3,"source\u0073":[{"name":"a.c","text":"one\ntwo\n"}],"mom\u0065nts":[{"thread":1,"output":"go\n","threads":[{"id":1,"name":"main","frames":[{"name":"ma\u0069n","source":0,"line":2}]}]}]}"#,
 ];
 
 /// In whatever order its keys come, it is the same run.
@@ -190,29 +190,29 @@ fn reads_keys_in_any_order(rt: HostRuntime) {
 
 static REFUSED: [(&[u8], RecordingFault); 11] = [
     (
-        b"{\"moments\":[],\"sources\":[],\"exit\":0}",
+        br#"{"moments":[],"sources":[],"exit":0}"#,
         RecordingFault::BadKey {
             key: RecordingKey::Moments,
         },
     ),
     (
-        b"{\"moments\":[],\"sources\":1}",
+        br#"{"moments":[],"sources":1}"#,
         RecordingFault::BadKey {
             key: RecordingKey::Exit,
         },
     ),
     (
-        b"{\"exit\":0,\"sources\":[],\"moments\":[]}]",
+        br#"{"exit":0,"sources":[],"moments":[]}]"#,
         RecordingFault::NotJson,
     ),
     (b"\"\xff\"", RecordingFault::NotJson),
     (b"{", RecordingFault::NotJson),
     (b"", RecordingFault::NotJson),
-    (b"{\"exit\":1e999}", RecordingFault::NotJson),
+    (br#"{"exit":1e999}"#, RecordingFault::NotJson),
     (b"[]", RecordingFault::NotObject),
     (b"null", RecordingFault::NotObject),
     (
-        b"{\"exit\":0,\"sources\":[],\"moments\":[]}",
+        br#"{"exit":0,"sources":[],"moments":[]}"#,
         RecordingFault::BadKey {
             key: RecordingKey::Moments,
         },
@@ -235,13 +235,13 @@ fn refuses_what_is_no_recording(rt: HostRuntime) {
 /// Appends a recording with so many sources and no moments.
 fn add_recording(text: &mut String, count: usize) -> bool {
     if text
-        .push_str("{\"exit\":0,\"sources\":[{\"name\":\"\",\"text\":\"\"}")
+        .push_str(r#"{"exit":0,"sources":[{"name":"","text":""}"#)
         .is_err()
     {
         return false;
     }
     for _ in 1..count {
-        if text.push_str(",{\"name\":\"\",\"text\":\"\"}").is_err() {
+        if text.push_str(r#",{"name":"","text":""}"#).is_err() {
             return false;
         }
     }

@@ -182,7 +182,7 @@ fn lines(rt: HostRuntime) -> Result<(), Fail> {
 /// Appends a recording of one moment that writes a byte and then a hundred characters of two bytes each.
 fn add_recording(text: &mut String) -> bool {
     let front =
-        "{\"exit\":-1,\"sources\":[{\"name\":\"a\",\"text\":\"x\"}],\"moments\":[{\"thread\":1,\"threads\":[{\"id\":1,\"name\":\"m\",\"frames\":[{\"name\":\"f\",\"source\":0,\"line\":1}]}],\"output\":\"a";
+        r#"{"exit":-1,"sources":[{"name":"a","text":"x"}],"moments":[{"thread":1,"threads":[{"id":1,"name":"m","frames":[{"name":"f","source":0,"line":1}]}],"output":"a"#;
     if text.push_str(front).is_err() {
         return false;
     }
@@ -191,7 +191,7 @@ fn add_recording(text: &mut String) -> bool {
             return false;
         }
     }
-    text.push_str("\"}]}").is_ok()
+    text.push_str(r#""}]}"#).is_ok()
 }
 
 fn is_cut(alloc: Global) -> bool {

@@ -3,7 +3,7 @@
 
 use crate::bodies::body_of;
 use crate::words::{Word, parts, word_named};
-use dap_adapter::Phase;
+use dap_decision::Phase;
 use dap_frame::write_frame;
 use std::alloc::{AllocError, Global};
 

@@ -15,9 +15,9 @@ use std::alloc::{AllocError, Global};
 use std::test::Fail;
 
 static MESSAGES: [&[u8]; 3] = [
-    b"{\"arguments\":{\"a\":[1,\"b\"]},\"command\":\"threads\",\"seq\":1,\"type\":\"request\"}",
-    b"{\"body\":{},\"command\":\"x\",\"message\":\"m\",\"request_seq\":1,\"seq\":2,\"success\":false,\"type\":\"response\"}",
-    b"{\"body\":[true],\"event\":\"e\",\"seq\":3,\"type\":\"event\"}",
+    br#"{"arguments":{"a":[1,"b"]},"command":"threads","seq":1,"type":"request"}"#,
+    br#"{"body":{},"command":"x","message":"m","request_seq":1,"seq":2,"success":false,"type":"response"}"#,
+    br#"{"body":[true],"event":"e","seq":3,"type":"event"}"#,
 ];
 
 /// Whether a message is plain, and written as this body.
@@ -183,21 +183,21 @@ fn body(alloc: Global, place: usize) -> Result<Value, AllocError> {
 }
 
 static BODIES: [&[u8]; 15] = [
-    b"{\"breakpoints\":[{\"id\":1,\"line\":2,\"verified\":true}]}",
-    b"{\"threads\":[{\"id\":1,\"name\":\"main\"}]}",
-    b"{\"stackFrames\":[{\"column\":1,\"id\":1,\"line\":3,\"name\":\"f\",\"source\":{\"name\":\"a.c\",\"path\":\"/a.c\",\"sourceReference\":1}}],\"totalFrames\":5}",
-    b"{\"scopes\":[{\"expensive\":false,\"name\":\"Locals\",\"variablesReference\":2}]}",
-    b"{\"variables\":[{\"name\":\"x\",\"value\":\"1\",\"variablesReference\":0}]}",
-    b"{\"result\":\"P\",\"variablesReference\":3}",
-    b"{\"content\":\"one\\n\"}",
-    b"{\"sources\":[{\"name\":\"a.c\",\"path\":\"/a.c\",\"sourceReference\":1}]}",
-    b"{\"category\":\"stdout\",\"output\":\"go\\n\"}",
-    b"{\"allThreadsStopped\":true,\"reason\":\"step\",\"threadId\":1}",
-    b"{\"value\":\"9\"}",
-    b"{\"allThreadsContinued\":true}",
-    b"{\"supportsBreakpointLocationsRequest\":true,\"supportsCancelRequest\":true,\"supportsCompletionsRequest\":true,\"supportsConfigurationDoneRequest\":true,\"supportsExceptionInfoRequest\":true,\"supportsFunctionBreakpoints\":true,\"supportsLoadedSourcesRequest\":true,\"supportsModulesRequest\":true,\"supportsRestartRequest\":true,\"supportsSetVariable\":true,\"supportsStepBack\":true,\"supportsTerminateRequest\":true}",
-    b"{\"processId\":7,\"shellProcessId\":8}",
-    b"{\"error\":{\"format\":\"The argument threadId is missing or malformed.\",\"id\":1005}}",
+    br#"{"breakpoints":[{"id":1,"line":2,"verified":true}]}"#,
+    br#"{"threads":[{"id":1,"name":"main"}]}"#,
+    br#"{"stackFrames":[{"column":1,"id":1,"line":3,"name":"f","source":{"name":"a.c","path":"/a.c","sourceReference":1}}],"totalFrames":5}"#,
+    br#"{"scopes":[{"expensive":false,"name":"Locals","variablesReference":2}]}"#,
+    br#"{"variables":[{"name":"x","value":"1","variablesReference":0}]}"#,
+    br#"{"result":"P","variablesReference":3}"#,
+    br#"{"content":"one\n"}"#,
+    br#"{"sources":[{"name":"a.c","path":"/a.c","sourceReference":1}]}"#,
+    br#"{"category":"stdout","output":"go\n"}"#,
+    br#"{"allThreadsStopped":true,"reason":"step","threadId":1}"#,
+    br#"{"value":"9"}"#,
+    br#"{"allThreadsContinued":true}"#,
+    br#"{"supportsBreakpointLocationsRequest":true,"supportsCancelRequest":true,"supportsCompletionsRequest":true,"supportsConfigurationDoneRequest":true,"supportsExceptionInfoRequest":true,"supportsFunctionBreakpoints":true,"supportsLoadedSourcesRequest":true,"supportsModulesRequest":true,"supportsRestartRequest":true,"supportsSetVariable":true,"supportsStepBack":true,"supportsTerminateRequest":true}"#,
+    br#"{"processId":7,"shellProcessId":8}"#,
+    br#"{"error":{"format":"The argument threadId is missing or malformed.","id":1005}}"#,
 ];
 
 fn builds(alloc: Global, place: usize, text: &[u8]) -> Option<bool> {
@@ -237,11 +237,11 @@ fn answer(alloc: Global, place: usize) -> Result<Option<Body>, AllocError> {
 }
 
 static ANSWERS: [&[u8]; 5] = [
-    b"{\"body\":{\"value\":\"9\"},\"command\":\"c\",\"request_seq\":4,\"seq\":7,\"success\":true,\"type\":\"response\"}",
-    b"{\"body\":{\"allThreadsContinued\":true},\"command\":\"c\",\"request_seq\":4,\"seq\":7,\"success\":true,\"type\":\"response\"}",
-    b"{\"body\":{\"supportsBreakpointLocationsRequest\":true,\"supportsCancelRequest\":true,\"supportsCompletionsRequest\":true,\"supportsConfigurationDoneRequest\":true,\"supportsExceptionInfoRequest\":true,\"supportsFunctionBreakpoints\":true,\"supportsLoadedSourcesRequest\":true,\"supportsModulesRequest\":true,\"supportsRestartRequest\":true,\"supportsSetVariable\":true,\"supportsStepBack\":true,\"supportsTerminateRequest\":true},\"command\":\"c\",\"request_seq\":4,\"seq\":7,\"success\":true,\"type\":\"response\"}",
-    b"{\"body\":{},\"command\":\"c\",\"request_seq\":4,\"seq\":7,\"success\":true,\"type\":\"response\"}",
-    b"{\"command\":\"c\",\"request_seq\":4,\"seq\":7,\"success\":true,\"type\":\"response\"}",
+    br#"{"body":{"value":"9"},"command":"c","request_seq":4,"seq":7,"success":true,"type":"response"}"#,
+    br#"{"body":{"allThreadsContinued":true},"command":"c","request_seq":4,"seq":7,"success":true,"type":"response"}"#,
+    br#"{"body":{"supportsBreakpointLocationsRequest":true,"supportsCancelRequest":true,"supportsCompletionsRequest":true,"supportsConfigurationDoneRequest":true,"supportsExceptionInfoRequest":true,"supportsFunctionBreakpoints":true,"supportsLoadedSourcesRequest":true,"supportsModulesRequest":true,"supportsRestartRequest":true,"supportsSetVariable":true,"supportsStepBack":true,"supportsTerminateRequest":true},"command":"c","request_seq":4,"seq":7,"success":true,"type":"response"}"#,
+    br#"{"body":{},"command":"c","request_seq":4,"seq":7,"success":true,"type":"response"}"#,
+    br#"{"command":"c","request_seq":4,"seq":7,"success":true,"type":"response"}"#,
 ];
 
 fn is_answer(alloc: Global, body: &Option<Body>, text: &[u8]) -> Option<bool> {

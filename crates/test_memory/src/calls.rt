@@ -163,10 +163,9 @@ fn is_done(alloc: Global, deed: Deed, text: &[u8]) -> Option<bool> {
     }
 }
 
-const LINES: &[u8; 64] =
-    b"{\"breakpoints\":[{\"line\":2},{\"line\":9}],\"source\":{\"path\":\"/a.c\"}}";
+const LINES: &[u8; 64] = br#"{"breakpoints":[{"line":2},{"line":9}],"source":{"path":"/a.c"}}"#;
 
-const NAMES: &[u8; 46] = b"{\"breakpoints\":[{\"name\":\"main\"},{\"name\":\"f\"}]}";
+const NAMES: &[u8; 46] = br#"{"breakpoints":[{"name":"main"},{"name":"f"}]}"#;
 
 /// A call with a text and a list is read whole, or not at all, and then by the next try.
 #[test]
@@ -186,34 +185,34 @@ fn reading_names(rt: HostRuntime) -> Result<(), Fail> {
 #[test]
 fn reading_a_launch(rt: HostRuntime) -> Result<(), Fail> {
     let deed = Deed::ReadTwice(Command::Launch);
-    let text = b"{\"args\":[\"-v\",7],\"env\":{\"A\":\"b\"},\"program\":\"/a\"}";
+    let text = br#"{"args":["-v",7],"env":{"A":"b"},"program":"/a"}"#;
     judge(&rt, is_done(rt.alloc(), deed, text))
 }
 
 /// Likewise what an adapter asks of a terminal.
 #[test]
 fn asking_for_a_terminal(rt: HostRuntime) -> Result<(), Fail> {
-    let text = b"{\"args\":[\"a\",\"b\"],\"cwd\":\"/\",\"kind\":\"integrated\",\"title\":\"t\"}";
+    let text = br#"{"args":["a","b"],"cwd":"/","kind":"integrated","title":"t"}"#;
     judge(&rt, is_done(rt.alloc(), Deed::AskTwice, text))
 }
 
 /// The object of the flags that are set, or none.
 #[test]
 fn writing_capabilities(rt: HostRuntime) -> Result<(), Fail> {
-    let text = b"{\"supportsCancelRequest\":true,\"supportsStepBack\":true}";
+    let text = br#"{"supportsCancelRequest":true,"supportsStepBack":true}"#;
     judge(&rt, is_done(rt.alloc(), Deed::WriteTwice, text))
 }
 
 static ARGUMENTS: [(Command, &[u8]); 6] = [
     (Command::SetBreakpoints, LINES),
     (Command::SetFunctionBreakpoints, NAMES),
-    (Command::Launch, b"{\"args\":[\"-v\",7],\"program\":\"/a\"}"),
+    (Command::Launch, br#"{"args":["-v",7],"program":"/a"}"#),
     (
         Command::StackTrace,
-        b"{\"levels\":2,\"startFrame\":1,\"threadId\":7}",
+        br#"{"levels":2,"startFrame":1,"threadId":7}"#,
     ),
-    (Command::Evaluate, b"{\"expression\":\"x\",\"frameId\":3}"),
-    (Command::Next, b"{\"threadId\":1}"),
+    (Command::Evaluate, br#"{"expression":"x","frameId":3}"#),
+    (Command::Next, br#"{"threadId":1}"#),
 ];
 
 fn writes_all(alloc: Global) -> Option<bool> {

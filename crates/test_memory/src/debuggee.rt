@@ -9,7 +9,7 @@ use std::alloc::Global;
 use std::test::Fail;
 
 pub(crate) static RECORDING: &[u8; 301] =
-    b"{\"exit\":0,\"sources\":[{\"name\":\"a.c\",\"path\":\"/a.c\",\"text\":\"one\\ntwo\\n\"}],\"moments\":[{\"thread\":1,\"output\":\"go\\n\",\"threads\":[{\"id\":1,\"name\":\"main\",\"frames\":[{\"name\":\"main\",\"source\":0,\"line\":1,\"scopes\":[{\"name\":\"Locals\",\"variables\":[{\"name\":\"p\",\"value\":\"P\",\"variables\":[{\"name\":\"a\",\"value\":\"7\"}]}]}]}]}]}]}";
+    br#"{"exit":0,"sources":[{"name":"a.c","path":"/a.c","text":"one\ntwo\n"}],"moments":[{"thread":1,"output":"go\n","threads":[{"id":1,"name":"main","frames":[{"name":"main","source":0,"line":1,"scopes":[{"name":"Locals","variables":[{"name":"p","value":"P","variables":[{"name":"a","value":"7"}]}]}]}]}]}]}"#;
 
 fn is_due(happening: &Happening, wanted: &str) -> bool {
     match happening {

@@ -123,14 +123,14 @@ fn is_written(alloc: Global, offered: Capabilities, wanted: &str) -> bool {
 /// Events, and whether steps back are offered after each. After all of them `cancel` is offered.
 static EVENTS: [(&str, bool); 6] = [
     (
-        "{\"supportsStepBack\":true,\"supportsCancelRequest\":true}",
+        r#"{"supportsStepBack":true,"supportsCancelRequest":true}"#,
         true,
     ),
-    ("{\"supportsStepBack\":null}", false),
-    ("{\"supportsStepBack\":true}", true),
+    (r#"{"supportsStepBack":null}"#, false),
+    (r#"{"supportsStepBack":true}"#, true),
     ("[]", true),
-    ("{\"supportsStepBack\":1}", false),
-    ("{\"supportsStepBack\":\"true\"}", false),
+    (r#"{"supportsStepBack":1}"#, false),
+    (r#"{"supportsStepBack":"true"}"#, false),
 ];
 
 // The first event after which something else is offered, or nothing.
@@ -148,7 +148,7 @@ fn first_difference(alloc: Global, before: Capabilities) -> &'static str {
     ""
 }
 
-const STEPS_BACK: &str = "{\"supportsStepBack\":true,\"exceptionBreakpointFilters\":[{}]}";
+const STEPS_BACK: &str = r#"{"supportsStepBack":true,"exceptionBreakpointFilters":[{}]}"#;
 
 // What is told otherwise of an adapter that steps back and has exception filters, or nothing.
 fn told_otherwise(alloc: Global, before: Capabilities) -> &'static str {
@@ -165,7 +165,7 @@ fn told_otherwise(alloc: Global, before: Capabilities) -> &'static str {
     if before.allows(Command::Terminate) || !before.has(Gate::StepBack) {
         return "gates";
     }
-    if !is_written(alloc, before, "{\"supportsStepBack\":true}") {
+    if !is_written(alloc, before, r#"{"supportsStepBack":true}"#) {
         return "what is written";
     }
     ""
@@ -183,7 +183,7 @@ fn capabilities(rt: HostRuntime) {
     let before = offered(rt.alloc(), STEPS_BACK).unwrap_or(none);
     let otherwise = told_otherwise(rt.alloc(), before);
     check(&rt, otherwise.is_empty(), otherwise);
-    match updated(rt.alloc(), before, "{\"supportsStepBack\":false}") {
+    match updated(rt.alloc(), before, r#"{"supportsStepBack":false}"#) {
         Some(after) => {
             check(&rt, is_none(after), "taken away");
             let event = first_difference(rt.alloc(), after);
@@ -234,12 +234,12 @@ fn is_list(found: Result<Vec<u32>, AllocError>, wanted: &[u32]) -> bool {
 }
 
 const SCOPES: &str =
-    "{\"scopes\":[{\"name\":\"Locals\",\"variablesReference\":2},{\"name\":\"None\",\"variablesReference\":0},{\"variablesReference\":5}]}";
+    r#"{"scopes":[{"name":"Locals","variablesReference":2},{"name":"None","variablesReference":0},{"variablesReference":5}]}"#;
 
 const VARIABLES: &str =
-    "{\"variables\":[{\"name\":\"x\",\"variablesReference\":0},{\"name\":\"p\",\"variablesReference\":3}]}";
+    r#"{"variables":[{"name":"x","variablesReference":0},{"name":"p","variablesReference":3}]}"#;
 
-const RESULT: &str = "{\"result\":\"P\",\"variablesReference\":3}";
+const RESULT: &str = r#"{"result":"P","variablesReference":3}"#;
 
 static HOLDERS: [(Command, &str, &[u32]); 6] = [
     (Command::Scopes, SCOPES, &[2, 5]),
@@ -254,7 +254,7 @@ static HOLDERS: [(Command, &str, &[u32]); 6] = [
 #[test]
 fn references(rt: HostRuntime) {
     let frames =
-        "{\"stackFrames\":[{\"id\":7,\"name\":\"f\"},{\"name\":\"g\"},{\"id\":0},{\"id\":-1},{\"id\":2147483648},{\"id\":2147483647}],\"totalFrames\":9}";
+        r#"{"stackFrames":[{"id":7,"name":"f"},{"name":"g"},{"id":0},{"id":-1},{"id":2147483648},{"id":2147483647}],"totalFrames":9}"#;
     check(
         &rt,
         gives_frames(rt.alloc(), frames, &[7, 0, 2147483647]),

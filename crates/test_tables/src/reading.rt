@@ -33,42 +33,38 @@ static STARTING: [(Command, &str, &str); 21] = [
     (Command::Initialize, "", " true true false false"),
     (
         Command::Initialize,
-        "{\"adapterID\":\"rec\",\"linesStartAt1\":false,\"supportsVariablePaging\":true,\"locale\":\"en\"}",
+        r#"{"adapterID":"rec","linesStartAt1":false,"supportsVariablePaging":true,"locale":"en"}"#,
         "rec false true true false",
     ),
     (
         Command::Initialize,
-        "{\"columnsStartAt1\":1,\"linesStartAt1\":\"\"}",
+        r#"{"columnsStartAt1":1,"linesStartAt1":""}"#,
         "bad linesStartAt1",
     ),
     (
         Command::Initialize,
-        "{\"adapterID\":null}",
+        r#"{"adapterID":null}"#,
         " true true false false",
     ),
     (Command::Initialize, "[]", "bad arguments"),
     (Command::Launch, "", "none"),
     (Command::Launch, "null", "none"),
-    (
-        Command::Launch,
-        "{\"program\":\"a\"}",
-        "{\"program\":\"a\"}",
-    ),
+    (Command::Launch, r#"{"program":"a"}"#, r#"{"program":"a"}"#),
     (Command::Launch, "1", "bad arguments"),
-    (Command::Attach, "{\"pid\":1.5}", "{\"pid\":1.5}"),
-    (Command::Attach, "\"x\"", "bad arguments"),
+    (Command::Attach, r#"{"pid":1.5}"#, r#"{"pid":1.5}"#),
+    (Command::Attach, r#""x""#, "bad arguments"),
     (Command::ConfigurationDone, "[1]", "configured"),
-    (Command::Disconnect, "{\"restart\":1}", "disconnect"),
+    (Command::Disconnect, r#"{"restart":1}"#, "disconnect"),
     (Command::Terminate, "", "terminate"),
     (Command::Threads, "7", "threads"),
     (Command::Restart, "{}", "restart"),
     (Command::LoadedSources, "null", "sources"),
     (Command::Cancel, "", "none"),
-    (Command::Cancel, "{\"requestId\":2}", "2"),
-    (Command::Cancel, "{\"requestId\":\"x\"}", "bad requestId"),
+    (Command::Cancel, r#"{"requestId":2}"#, "2"),
+    (Command::Cancel, r#"{"requestId":"x"}"#, "bad requestId"),
     (
         Command::Cancel,
-        "{\"requestId\":9007199254740992}",
+        r#"{"requestId":9007199254740992}"#,
         "bad requestId",
     ),
 ];
@@ -84,86 +80,86 @@ fn starting_and_ending(rt: HostRuntime) {
 static BREAKPOINTS: [(Command, &str, &str); 19] = [
     (
         Command::SetBreakpoints,
-        "{\"source\":{\"path\":\"/a.c\"},\"lines\":[2]}",
+        r#"{"source":{"path":"/a.c"},"lines":[2]}"#,
         "path /a.c 2",
     ),
-    (Command::SetBreakpoints, "{\"source\":{}}", "bad source"),
+    (Command::SetBreakpoints, r#"{"source":{}}"#, "bad source"),
     (
         Command::SetBreakpoints,
-        "{\"source\":{\"path\":\"\",\"sourceReference\":3}}",
+        r#"{"source":{"path":"","sourceReference":3}}"#,
         "path ",
     ),
     (
         Command::SetBreakpoints,
-        "{\"source\":{\"path\":null,\"sourceReference\":3},\"breakpoints\":[{\"line\":1},{\"line\":9,\"column\":\"x\"}],\"lines\":[5]}",
+        r#"{"source":{"path":null,"sourceReference":3},"breakpoints":[{"line":1},{"line":9,"column":"x"}],"lines":[5]}"#,
         "reference 3 1 9",
     ),
     (
         Command::SetBreakpoints,
-        "{\"source\":{\"sourceReference\":3},\"breakpoints\":[],\"lines\":[5]}",
+        r#"{"source":{"sourceReference":3},"breakpoints":[],"lines":[5]}"#,
         "reference 3",
     ),
     (
         Command::SetBreakpoints,
-        "{\"source\":{\"sourceReference\":3},\"breakpoints\":null,\"lines\":[5]}",
+        r#"{"source":{"sourceReference":3},"breakpoints":null,"lines":[5]}"#,
         "reference 3 5",
     ),
     // what does not count is tested all the same
     (
         Command::SetBreakpoints,
-        "{\"source\":{\"path\":\"a\"},\"breakpoints\":[],\"lines\":[-1]}",
+        r#"{"source":{"path":"a"},"breakpoints":[],"lines":[-1]}"#,
         "bad lines",
     ),
     (
         Command::SetBreakpoints,
-        "{\"source\":{\"path\":\"a\"},\"breakpoints\":[{}],\"lines\":[-1]}",
+        r#"{"source":{"path":"a"},"breakpoints":[{}],"lines":[-1]}"#,
         "bad breakpoints",
     ),
     (
         Command::SetBreakpoints,
-        "{\"source\":{\"path\":\"a\"},\"lines\":[2147483648]}",
+        r#"{"source":{"path":"a"},"lines":[2147483648]}"#,
         "bad lines",
     ),
     (Command::SetBreakpoints, "", "bad arguments"),
     (
         Command::SetFunctionBreakpoints,
-        "{\"breakpoints\":[{\"name\":\"f\"},{\"name\":\"g\",\"condition\":1}]}",
+        r#"{"breakpoints":[{"name":"f"},{"name":"g","condition":1}]}"#,
         "texts f g",
     ),
     (
         Command::SetFunctionBreakpoints,
-        "{\"breakpoints\":[{\"name\":1}]}",
+        r#"{"breakpoints":[{"name":1}]}"#,
         "bad breakpoints",
     ),
     (Command::SetFunctionBreakpoints, "{}", "bad breakpoints"),
     (
         Command::SetExceptionBreakpoints,
-        "{\"filters\":[\"raised\",\"uncaught\"]}",
+        r#"{"filters":["raised","uncaught"]}"#,
         "texts raised uncaught",
     ),
     (
         Command::SetExceptionBreakpoints,
-        "{\"filters\":[null]}",
+        r#"{"filters":[null]}"#,
         "bad filters",
     ),
     (
         Command::BreakpointLocations,
-        "{\"source\":{\"path\":\"a\"},\"line\":3}",
+        r#"{"source":{"path":"a"},"line":3}"#,
         "path a 3 0",
     ),
     (
         Command::BreakpointLocations,
-        "{\"source\":{\"path\":\"a\"},\"line\":3,\"endLine\":5}",
+        r#"{"source":{"path":"a"},"line":3,"endLine":5}"#,
         "path a 3 5",
     ),
     (
         Command::BreakpointLocations,
-        "{\"source\":{\"sourceReference\":0},\"line\":-3}",
+        r#"{"source":{"sourceReference":0},"line":-3}"#,
         "bad source",
     ),
     (
         Command::BreakpointLocations,
-        "{\"source\":{\"path\":\"a\"},\"endLine\":\"\"}",
+        r#"{"source":{"path":"a"},"endLine":""}"#,
         "bad line",
     ),
 ];
@@ -178,9 +174,9 @@ fn breakpoints(rt: HostRuntime) {
 
 /// Arguments with the number of a thread.
 static THREADS: [(&str, &str); 3] = [
-    ("{\"threadId\":1}", " 1"),
-    ("{\"threadId\":-9007199254740991}", " -9007199254740991"),
-    ("{\"threadId\":9007199254740991}", " 9007199254740991"),
+    (r#"{"threadId":1}"#, " 1"),
+    (r#"{"threadId":-9007199254740991}"#, " -9007199254740991"),
+    (r#"{"threadId":9007199254740991}"#, " 9007199254740991"),
 ];
 
 /// Arguments without one, and what they are told as.
@@ -188,10 +184,10 @@ static NO_THREADS: [(&str, &str); 7] = [
     ("", "bad arguments"),
     ("null", "bad arguments"),
     ("{}", "bad threadId"),
-    ("{\"threadId\":null}", "bad threadId"),
-    ("{\"threadId\":1.0}", "bad threadId"),
-    ("{\"threadId\":9007199254740992}", "bad threadId"),
-    ("{\"threadId\":-9007199254740992}", "bad threadId"),
+    (r#"{"threadId":null}"#, "bad threadId"),
+    (r#"{"threadId":1.0}"#, "bad threadId"),
+    (r#"{"threadId":9007199254740992}"#, "bad threadId"),
+    (r#"{"threadId":-9007199254740992}"#, "bad threadId"),
 ];
 
 /// Commands that move a thread, and what each is told as.
@@ -230,86 +226,86 @@ fn threads_that_move(rt: HostRuntime) {
 }
 
 static LOOKING: [(Command, &str, &str); 24] = [
-    (Command::StackTrace, "{\"levels\":1}", "bad threadId"),
+    (Command::StackTrace, r#"{"levels":1}"#, "bad threadId"),
     (
         Command::StackTrace,
-        "{\"threadId\":1,\"startFrame\":null}",
+        r#"{"threadId":1,"startFrame":null}"#,
         "1 0 0",
     ),
     (
         Command::StackTrace,
-        "{\"threadId\":1,\"startFrame\":2,\"levels\":2147483647}",
+        r#"{"threadId":1,"startFrame":2,"levels":2147483647}"#,
         "1 2 2147483647",
     ),
     (
         Command::StackTrace,
-        "{\"threadId\":1,\"startFrame\":-1,\"levels\":true}",
+        r#"{"threadId":1,"startFrame":-1,"levels":true}"#,
         "bad startFrame",
     ),
-    (Command::Scopes, "{\"frameId\":0}", "frame 0"),
-    (Command::Scopes, "{\"frameId\":2147483648}", "bad frameId"),
+    (Command::Scopes, r#"{"frameId":0}"#, "frame 0"),
+    (Command::Scopes, r#"{"frameId":2147483648}"#, "bad frameId"),
     (
         Command::Variables,
-        "{\"variablesReference\":2,\"filter\":7,\"count\":3}",
+        r#"{"variablesReference":2,"filter":7,"count":3}"#,
         "2 0 3",
     ),
     (
         Command::Variables,
-        "{\"variablesReference\":2,\"start\":\"\",\"count\":-3}",
+        r#"{"variablesReference":2,"start":"","count":-3}"#,
         "bad start",
     ),
     (
         Command::Evaluate,
-        "{\"expression\":\"p\",\"frameId\":1,\"context\":\"hover\"}",
+        r#"{"expression":"p","frameId":1,"context":"hover"}"#,
         "p 1",
     ),
-    (Command::Evaluate, "{\"expression\":\"q\"}", "q none"),
-    (Command::Evaluate, "{\"frameId\":-1}", "bad expression"),
+    (Command::Evaluate, r#"{"expression":"q"}"#, "q none"),
+    (Command::Evaluate, r#"{"frameId":-1}"#, "bad expression"),
     (Command::Source, "", "source 0"),
     (
         Command::Source,
-        "{\"source\":{\"path\":\"a\",\"sourceReference\":2},\"sourceReference\":3}",
+        r#"{"source":{"path":"a","sourceReference":2},"sourceReference":3}"#,
         "source 2",
     ),
     (
         Command::Source,
-        "{\"source\":{\"sourceReference\":0},\"sourceReference\":3}",
+        r#"{"source":{"sourceReference":0},"sourceReference":3}"#,
         "source 3",
     ),
     (
         Command::Source,
-        "{\"source\":{\"sourceReference\":2},\"sourceReference\":-3}",
+        r#"{"source":{"sourceReference":2},"sourceReference":-3}"#,
         "bad sourceReference",
     ),
     (
         Command::Source,
-        "{\"source\":{\"path\":1},\"sourceReference\":-3}",
+        r#"{"source":{"path":1},"sourceReference":-3}"#,
         "bad source",
     ),
     (
         Command::SetVariable,
-        "{\"variablesReference\":2,\"name\":\"x\",\"value\":\"7\"}",
+        r#"{"variablesReference":2,"name":"x","value":"7"}"#,
         "2 x 7",
     ),
     (
         Command::SetVariable,
-        "{\"variablesReference\":2,\"value\":7}",
+        r#"{"variablesReference":2,"value":7}"#,
         "bad name",
     ),
     (Command::Modules, "", "0 0"),
-    (Command::Modules, "{\"moduleCount\":5}", "0 5"),
-    (Command::Modules, "{\"startModule\":[]}", "bad startModule"),
+    (Command::Modules, r#"{"moduleCount":5}"#, "0 5"),
+    (Command::Modules, r#"{"startModule":[]}"#, "bad startModule"),
     (
         Command::Completions,
-        "{\"text\":\"pr\",\"column\":3,\"line\":4}",
+        r#"{"text":"pr","column":3,"line":4}"#,
         "pr 3 0 4",
     ),
     (
         Command::Completions,
-        "{\"text\":\"pr\",\"column\":3,\"frameId\":\"1\"}",
+        r#"{"text":"pr","column":3,"frameId":"1"}"#,
         "bad frameId",
     ),
-    (Command::Completions, "{\"text\":\"pr\"}", "bad column"),
+    (Command::Completions, r#"{"text":"pr"}"#, "bad column"),
 ];
 
 #[test]

@@ -8,7 +8,7 @@ use std::process::Abort;
 
 /// From recorded conversations of three clients with five debuggers, a line each; an empty one where there were no arguments.
 static SENT: [(Command, &str); 15] = [
-    (Command::Attach, "{\"localfs\": true}"),
+    (Command::Attach, r#"{"localfs": true}"#),
     (
         Command::ConfigurationDone,
         "\n\
@@ -16,148 +16,148 @@ static SENT: [(Command, &str); 15] = [
     ),
     (
         Command::Continue,
-        "{\"threadId\": 1}\n\
-         {\"threadId\": 6333}\n\
-         {\"threadId\": 6883}",
+        r#"{"threadId": 1}
+{"threadId": 6333}
+{"threadId": 6883}"#,
     ),
-    (Command::Disconnect, "{\"terminateDebuggee\": true}"),
+    (Command::Disconnect, r#"{"terminateDebuggee": true}"#),
     (
         Command::Evaluate,
-        "{\"expression\": \"a\", \"frameId\": 1, \"context\": \"watch\", \"format\": {}}\n\
-         {\"expression\": \"a\", \"frameId\": 12, \"context\": \"watch\", \"format\": {}}\n\
-         {\"expression\": \"a\", \"frameId\": 16, \"context\": \"watch\", \"format\": {}}\n\
-         {\"expression\": \"a\", \"frameId\": 2, \"context\": \"watch\", \"format\": {}}\n\
-         {\"expression\": \"a\", \"frameId\": 3, \"context\": \"watch\", \"format\": {}}\n\
-         {\"expression\": \"a\", \"frameId\": 4, \"context\": \"watch\", \"format\": {}}\n\
-         {\"expression\": \"a\", \"frameId\": 524288, \"context\": \"watch\", \"format\": {}}\n\
-         {\"expression\": \"a\", \"frameId\": 8, \"context\": \"watch\", \"format\": {}}\n\
-         {\"expression\": \"no_such_name\", \"frameId\": 1000, \"context\": \"watch\"}",
+        r#"{"expression": "a", "frameId": 1, "context": "watch", "format": {}}
+{"expression": "a", "frameId": 12, "context": "watch", "format": {}}
+{"expression": "a", "frameId": 16, "context": "watch", "format": {}}
+{"expression": "a", "frameId": 2, "context": "watch", "format": {}}
+{"expression": "a", "frameId": 3, "context": "watch", "format": {}}
+{"expression": "a", "frameId": 4, "context": "watch", "format": {}}
+{"expression": "a", "frameId": 524288, "context": "watch", "format": {}}
+{"expression": "a", "frameId": 8, "context": "watch", "format": {}}
+{"expression": "no_such_name", "frameId": 1000, "context": "watch"}"#,
     ),
-    (Command::ExceptionInfo, "{\"threadId\": 1}"),
+    (Command::ExceptionInfo, r#"{"threadId": 1}"#),
     (
         Command::Initialize,
-        "{\"clientID\": \"debugpy-client\", \"adapterID\": \"x\", \"linesStartAt1\": true, \"columnsStartAt1\": true, \"pathFormat\": \"path\", \"supportsVariableType\": true}\n\
-         {\"clientID\": \"go-dap-client\", \"adapterID\": \"generic\", \"locale\": \"en-us\", \"linesStartAt1\": true, \"columnsStartAt1\": true, \"pathFormat\": \"path\", \"supportsVariableType\": true, \"supportsRunInTerminalRequest\": true}\n\
-         {\"clientID\": \"go-dap-client\", \"adapterID\": \"generic\", \"locale\": \"en-us\", \"linesStartAt1\": true, \"columnsStartAt1\": true, \"pathFormat\": \"path\", \"supportsVariableType\": true}\n\
-         {\"clientID\": \"vscode\", \"clientName\": \"Visual Studio Code\", \"adapterID\": \"peer\", \"pathFormat\": \"path\", \"linesStartAt1\": true, \"columnsStartAt1\": true, \"supportsVariableType\": true, \"supportsVariablePaging\": true, \"supportsRunInTerminalRequest\": true, \"locale\": \"en-us\"}",
+        r#"{"clientID": "debugpy-client", "adapterID": "x", "linesStartAt1": true, "columnsStartAt1": true, "pathFormat": "path", "supportsVariableType": true}
+{"clientID": "go-dap-client", "adapterID": "generic", "locale": "en-us", "linesStartAt1": true, "columnsStartAt1": true, "pathFormat": "path", "supportsVariableType": true, "supportsRunInTerminalRequest": true}
+{"clientID": "go-dap-client", "adapterID": "generic", "locale": "en-us", "linesStartAt1": true, "columnsStartAt1": true, "pathFormat": "path", "supportsVariableType": true}
+{"clientID": "vscode", "clientName": "Visual Studio Code", "adapterID": "peer", "pathFormat": "path", "linesStartAt1": true, "columnsStartAt1": true, "supportsVariableType": true, "supportsVariablePaging": true, "supportsRunInTerminalRequest": true, "locale": "en-us"}"#,
     ),
     (
         Command::Launch,
-        "{\"mode\": \"exec\", \"program\": \"/home/user/debuggees/prog_go\", \"cwd\": \"/tmp\"}\n\
-         {\"program\": \"/home/user/debuggees/prog\", \"cwd\": \"/tmp\", \"runInTerminal\": true}\n\
-         {\"program\": \"/home/user/debuggees/prog\", \"cwd\": \"/tmp\"}\n\
-         {\"type\": \"peer\", \"request\": \"launch\", \"name\": \"peer\", \"program\": \"/home/user/debuggees/prog.py\", \"cwd\": \"/tmp\", \"console\": \"internalConsole\", \"python\": \"/usr/bin/python3\"}",
+        r#"{"mode": "exec", "program": "/home/user/debuggees/prog_go", "cwd": "/tmp"}
+{"program": "/home/user/debuggees/prog", "cwd": "/tmp", "runInTerminal": true}
+{"program": "/home/user/debuggees/prog", "cwd": "/tmp"}
+{"type": "peer", "request": "launch", "name": "peer", "program": "/home/user/debuggees/prog.py", "cwd": "/tmp", "console": "internalConsole", "python": "/usr/bin/python3"}"#,
     ),
     (
         Command::Next,
-        "{\"threadId\": 1}\n\
-         {\"threadId\": 6333}\n\
-         {\"threadId\": 6883}",
+        r#"{"threadId": 1}
+{"threadId": 6333}
+{"threadId": 6883}"#,
     ),
     (
         Command::Scopes,
-        "{\"frameId\": 1000}\n\
-         {\"frameId\": 12}\n\
-         {\"frameId\": 16}\n\
-         {\"frameId\": 1}\n\
-         {\"frameId\": 2}\n\
-         {\"frameId\": 3}\n\
-         {\"frameId\": 4}\n\
-         {\"frameId\": 524288}\n\
-         {\"frameId\": 8}",
+        r#"{"frameId": 1000}
+{"frameId": 12}
+{"frameId": 16}
+{"frameId": 1}
+{"frameId": 2}
+{"frameId": 3}
+{"frameId": 4}
+{"frameId": 524288}
+{"frameId": 8}"#,
     ),
     (
         Command::SetBreakpoints,
-        "{\"source\": {\"name\": \"prog.py\", \"path\": \"/home/user/debuggees/prog.py\"}, \"breakpoints\": [{\"line\": 6}, {\"line\": 16}], \"sourceModified\": false, \"lines\": [6, 16]}\n\
-         {\"source\": {\"path\": \"/home/user/debuggees/prog.c\"}, \"breakpoints\": [{\"line\": 5}, {\"line\": 18}]}\n\
-         {\"source\": {\"path\": \"/home/user/debuggees/prog.go\"}, \"breakpoints\": [{\"line\": 11}]}\n\
-         {\"source\": {\"path\": \"/home/user/debuggees/prog.rb\"}, \"breakpoints\": [{\"line\": 2}, {\"line\": 8}]}",
+        r#"{"source": {"name": "prog.py", "path": "/home/user/debuggees/prog.py"}, "breakpoints": [{"line": 6}, {"line": 16}], "sourceModified": false, "lines": [6, 16]}
+{"source": {"path": "/home/user/debuggees/prog.c"}, "breakpoints": [{"line": 5}, {"line": 18}]}
+{"source": {"path": "/home/user/debuggees/prog.go"}, "breakpoints": [{"line": 11}]}
+{"source": {"path": "/home/user/debuggees/prog.rb"}, "breakpoints": [{"line": 2}, {"line": 8}]}"#,
     ),
     (
         Command::SetExceptionBreakpoints,
-        "{\"filters\": [\"uncaught\"]}\n\
-         {\"filters\": []}",
+        r#"{"filters": ["uncaught"]}
+{"filters": []}"#,
     ),
     (
         Command::StackTrace,
-        "{\"threadId\": 1, \"levels\": 20, \"format\": {}}\n\
-         {\"threadId\": 1, \"startFrame\": 0, \"levels\": 20}\n\
-         {\"threadId\": 1}\n\
-         {\"threadId\": 6333, \"levels\": 20, \"format\": {}}\n\
-         {\"threadId\": 6883, \"levels\": 20, \"format\": {}}",
+        r#"{"threadId": 1, "levels": 20, "format": {}}
+{"threadId": 1, "startFrame": 0, "levels": 20}
+{"threadId": 1}
+{"threadId": 6333, "levels": 20, "format": {}}
+{"threadId": 6883, "levels": 20, "format": {}}"#,
     ),
     (Command::Threads, "\n"),
     (
         Command::Variables,
-        "{\"variablesReference\": 1, \"format\": {}}\n\
-         {\"variablesReference\": 10, \"format\": {}}\n\
-         {\"variablesReference\": 1000}\n\
-         {\"variablesReference\": 1001}\n\
-         {\"variablesReference\": 1002}\n\
-         {\"variablesReference\": 104, \"format\": {}}\n\
-         {\"variablesReference\": 105, \"format\": {}}\n\
-         {\"variablesReference\": 106, \"format\": {}}\n\
-         {\"variablesReference\": 107, \"format\": {}}\n\
-         {\"variablesReference\": 11, \"format\": {}}\n\
-         {\"variablesReference\": 14, \"format\": {}}\n\
-         {\"variablesReference\": 15, \"format\": {}}\n\
-         {\"variablesReference\": 154, \"format\": {}}\n\
-         {\"variablesReference\": 155, \"format\": {}}\n\
-         {\"variablesReference\": 156, \"format\": {}}\n\
-         {\"variablesReference\": 157, \"format\": {}}\n\
-         {\"variablesReference\": 15}\n\
-         {\"variablesReference\": 16, \"format\": {}}\n\
-         {\"variablesReference\": 16}\n\
-         {\"variablesReference\": 17, \"format\": {}}\n\
-         {\"variablesReference\": 2, \"format\": {}}\n\
-         {\"variablesReference\": 204, \"format\": {}}\n\
-         {\"variablesReference\": 205, \"format\": {}}\n\
-         {\"variablesReference\": 206, \"format\": {}}\n\
-         {\"variablesReference\": 207, \"format\": {}}\n\
-         {\"variablesReference\": 21, \"format\": {}}\n\
-         {\"variablesReference\": 210, \"format\": {}}\n\
-         {\"variablesReference\": 211, \"format\": {}}\n\
-         {\"variablesReference\": 212, \"format\": {}}\n\
-         {\"variablesReference\": 213, \"format\": {}}\n\
-         {\"variablesReference\": 22, \"format\": {}}\n\
-         {\"variablesReference\": 23, \"format\": {}}\n\
-         {\"variablesReference\": 24, \"format\": {}}\n\
-         {\"variablesReference\": 25, \"format\": {}}\n\
-         {\"variablesReference\": 254, \"format\": {}}\n\
-         {\"variablesReference\": 255, \"format\": {}}\n\
-         {\"variablesReference\": 260, \"format\": {}}\n\
-         {\"variablesReference\": 261, \"format\": {}}\n\
-         {\"variablesReference\": 262, \"format\": {}}\n\
-         {\"variablesReference\": 263, \"format\": {}}\n\
-         {\"variablesReference\": 26}\n\
-         {\"variablesReference\": 27}\n\
-         {\"variablesReference\": 3, \"format\": {}}\n\
-         {\"variablesReference\": 30, \"format\": {}}\n\
-         {\"variablesReference\": 31, \"format\": {}}\n\
-         {\"variablesReference\": 32, \"format\": {}}\n\
-         {\"variablesReference\": 33, \"format\": {}}\n\
-         {\"variablesReference\": 34, \"format\": {}}\n\
-         {\"variablesReference\": 39, \"format\": {}}\n\
-         {\"variablesReference\": 4, \"format\": {}}\n\
-         {\"variablesReference\": 40, \"format\": {}}\n\
-         {\"variablesReference\": 41, \"format\": {}}\n\
-         {\"variablesReference\": 42, \"format\": {}}\n\
-         {\"variablesReference\": 43, \"format\": {}}\n\
-         {\"variablesReference\": 48, \"format\": {}}\n\
-         {\"variablesReference\": 49, \"format\": {}}\n\
-         {\"variablesReference\": 5, \"format\": {}}\n\
-         {\"variablesReference\": 50, \"format\": {}}\n\
-         {\"variablesReference\": 51, \"format\": {}}\n\
-         {\"variablesReference\": 54, \"format\": {}}\n\
-         {\"variablesReference\": 55, \"format\": {}}\n\
-         {\"variablesReference\": 56, \"format\": {}}\n\
-         {\"variablesReference\": 57, \"format\": {}}\n\
-         {\"variablesReference\": 5}\n\
-         {\"variablesReference\": 6, \"format\": {}}\n\
-         {\"variablesReference\": 6}\n\
-         {\"variablesReference\": 7, \"format\": {}}\n\
-         {\"variablesReference\": 8, \"format\": {}}\n\
-         {\"variablesReference\": 9, \"format\": {}}",
+        r#"{"variablesReference": 1, "format": {}}
+{"variablesReference": 10, "format": {}}
+{"variablesReference": 1000}
+{"variablesReference": 1001}
+{"variablesReference": 1002}
+{"variablesReference": 104, "format": {}}
+{"variablesReference": 105, "format": {}}
+{"variablesReference": 106, "format": {}}
+{"variablesReference": 107, "format": {}}
+{"variablesReference": 11, "format": {}}
+{"variablesReference": 14, "format": {}}
+{"variablesReference": 15, "format": {}}
+{"variablesReference": 154, "format": {}}
+{"variablesReference": 155, "format": {}}
+{"variablesReference": 156, "format": {}}
+{"variablesReference": 157, "format": {}}
+{"variablesReference": 15}
+{"variablesReference": 16, "format": {}}
+{"variablesReference": 16}
+{"variablesReference": 17, "format": {}}
+{"variablesReference": 2, "format": {}}
+{"variablesReference": 204, "format": {}}
+{"variablesReference": 205, "format": {}}
+{"variablesReference": 206, "format": {}}
+{"variablesReference": 207, "format": {}}
+{"variablesReference": 21, "format": {}}
+{"variablesReference": 210, "format": {}}
+{"variablesReference": 211, "format": {}}
+{"variablesReference": 212, "format": {}}
+{"variablesReference": 213, "format": {}}
+{"variablesReference": 22, "format": {}}
+{"variablesReference": 23, "format": {}}
+{"variablesReference": 24, "format": {}}
+{"variablesReference": 25, "format": {}}
+{"variablesReference": 254, "format": {}}
+{"variablesReference": 255, "format": {}}
+{"variablesReference": 260, "format": {}}
+{"variablesReference": 261, "format": {}}
+{"variablesReference": 262, "format": {}}
+{"variablesReference": 263, "format": {}}
+{"variablesReference": 26}
+{"variablesReference": 27}
+{"variablesReference": 3, "format": {}}
+{"variablesReference": 30, "format": {}}
+{"variablesReference": 31, "format": {}}
+{"variablesReference": 32, "format": {}}
+{"variablesReference": 33, "format": {}}
+{"variablesReference": 34, "format": {}}
+{"variablesReference": 39, "format": {}}
+{"variablesReference": 4, "format": {}}
+{"variablesReference": 40, "format": {}}
+{"variablesReference": 41, "format": {}}
+{"variablesReference": 42, "format": {}}
+{"variablesReference": 43, "format": {}}
+{"variablesReference": 48, "format": {}}
+{"variablesReference": 49, "format": {}}
+{"variablesReference": 5, "format": {}}
+{"variablesReference": 50, "format": {}}
+{"variablesReference": 51, "format": {}}
+{"variablesReference": 54, "format": {}}
+{"variablesReference": 55, "format": {}}
+{"variablesReference": 56, "format": {}}
+{"variablesReference": 57, "format": {}}
+{"variablesReference": 5}
+{"variablesReference": 6, "format": {}}
+{"variablesReference": 6}
+{"variablesReference": 7, "format": {}}
+{"variablesReference": 8, "format": {}}
+{"variablesReference": 9, "format": {}}"#,
     ),
 ];
 

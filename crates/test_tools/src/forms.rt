@@ -11,10 +11,10 @@ use std::test::Fail;
 /// A request, a body that is no message, a message with line feeds between its tokens, and a response that says why a request
 /// failed: their frames begin at 0, 68, 91 and 135.
 static FOUR: [&[u8]; 4] = [
-    b"{\"seq\":1,\"type\":\"request\",\"command\":\"threads\"}",
+    br#"{"seq":1,"type":"request","command":"threads"}"#,
     b"{}",
     b"{\"seq\":3,\r\n\"type\":\"x\"}",
-    b"{\"seq\":4,\"type\":\"response\",\"request_seq\":1,\"success\":false,\"command\":\"next\",\"message\":\"m\"}",
+    br#"{"seq":4,"type":"response","request_seq":1,"success":false,"command":"next","message":"m"}"#,
 ];
 
 /// A form, whether the listing keeps going, how it ends, and its lines.
@@ -104,10 +104,7 @@ fn each_form_has_its_lines(rt: HostRuntime) -> Result<(), Fail> {
 
 /// Bodies, and what they are on one line.
 static UNWRAPPED: [(&[u8], &[u8]); 5] = [
-    (
-        b"{\"seq\":3,\"type\":\"x\"}",
-        b"{\"seq\":3,\"type\":\"x\"}\n",
-    ),
+    (br#"{"seq":3,"type":"x"}"#, b"{\"seq\":3,\"type\":\"x\"}\n"),
     (
         b"\r\n{\n\"seq\":3,\r\"type\":\"x\"\n}\r\n",
         b"{\"seq\":3,\"type\":\"x\"}\n",
@@ -119,7 +116,7 @@ static UNWRAPPED: [(&[u8], &[u8]); 5] = [
     ),
     // so do escapes, digits and equal keys
     (
-        b" {\"seq\":3,\"type\":\"\\u0078\",\"a\":\"\\n\\/\",\"a\":[1.0,1e2]} ",
+        br#" {"seq":3,"type":"\u0078","a":"\n\/","a":[1.0,1e2]} "#,
         b" {\"seq\":3,\"type\":\"\\u0078\",\"a\":\"\\n\\/\",\"a\":[1.0,1e2]} \n",
     ),
     (

@@ -11,10 +11,10 @@ use test_kit::samples::{THREADS, limits};
 
 /// A request, a failed response, an event whose name has a control character, and a message of another type.
 pub(crate) static FOUR: [&[u8]; 4] = [
-    b"{\"seq\":1,\"type\":\"request\",\"command\":\"threads\"}",
-    b"{\"seq\":1,\"type\":\"response\",\"request_seq\":1,\"success\":false,\"command\":\"threads\"}",
-    b"{\"seq\":2,\"type\":\"event\",\"event\":\"a\\u0007\"}",
-    b"{\"seq\":3,\"type\":\"x\"}",
+    br#"{"seq":1,"type":"request","command":"threads"}"#,
+    br#"{"seq":1,"type":"response","request_seq":1,"success":false,"command":"threads"}"#,
+    br#"{"seq":2,"type":"event","event":"a\u0007"}"#,
+    br#"{"seq":3,"type":"x"}"#,
 ];
 
 /// Where each of their frames ends, and the lines of those up to there.
@@ -109,17 +109,17 @@ fn needs_no_tree(alloc: Global, body: &[u8]) -> bool {
 static CATCHES: [(&[u8], &[u8]); 12] = [
     // of equal keys the last counts
     (
-        b"{\"seq\":1,\"type\":\"event\",\"event\":\"a\",\"event\":\"b\",\"seq\":2}",
+        br#"{"seq":1,"type":"event","event":"a","event":"b","seq":2}"#,
         b"0 2 event b\n",
     ),
     // keys within a value are not those of the message
     (
-        b"{\"body\":{\"seq\":9,\"type\":\"x\",\"event\":[{\"event\":\"c\"}]},\"seq\":1,\"type\":\"event\",\"event\":\"a\"}",
+        br#"{"body":{"seq":9,"type":"x","event":[{"event":"c"}]},"seq":1,"type":"event","event":"a"}"#,
         b"0 1 event a\n",
     ),
     // an escaped key is that key
     (
-        b"{\"s\\u0065q\":1,\"type\":\"\\u0065vent\",\"event\":\"\\t\\u007f\"}",
+        br#"{"s\u0065q":1,"type":"\u0065vent","event":"\t\u007f"}"#,
         b"0 1 event ??\n",
     ),
     // white space, and numbers of every kind where none counts
@@ -129,29 +129,29 @@ static CATCHES: [(&[u8], &[u8]); 12] = [
     ),
     // a reason that is null or a text, which is not listed
     (
-        b"{\"seq\":1,\"type\":\"response\",\"request_seq\":5,\"success\":true,\"command\":\"\",\"message\":null}",
+        br#"{"seq":1,"type":"response","request_seq":5,"success":true,"command":"","message":null}"#,
         b"0 1 response  5 ok\n",
     ),
     (
-        b"{\"message\":\"m\",\"seq\":1,\"type\":\"response\",\"request_seq\":5,\"success\":true,\"command\":\"c\"}",
+        br#"{"message":"m","seq":1,"type":"response","request_seq":5,"success":true,"command":"c"}"#,
         b"0 1 response c 5 ok\n",
     ),
     (
-        b"{\"message\":\"m\\nn\",\"seq\":1,\"type\":\"response\",\"request_seq\":5,\"success\":false,\"command\":\"c\"}",
+        br#"{"message":"m\nn","seq":1,"type":"response","request_seq":5,"success":false,"command":"c"}"#,
         b"0 1 response c 5 failed\n",
     ),
     (
-        b"{\"seq\":1,\"type\":\"response\",\"request_seq\":5,\"success\":false,\"command\":\"c\",\"message\":null}",
+        br#"{"seq":1,"type":"response","request_seq":5,"success":false,"command":"c","message":null}"#,
         b"0 1 response c 5 failed\n",
     ),
     // a command of 64 bytes
     (
-        b"{\"seq\":1,\"type\":\"request\",\"command\":\"aaaaaaaaaaaaaaaaaaaaaaaaaaaaaaaaaaaaaaaaaaaaaaaaaaaaaaaaaaaaaaaa\"}",
+        br#"{"seq":1,"type":"request","command":"aaaaaaaaaaaaaaaaaaaaaaaaaaaaaaaaaaaaaaaaaaaaaaaaaaaaaaaaaaaaaaaa"}"#,
         b"0 1 request aaaaaaaaaaaaaaaaaaaaaaaaaaaaaaaaaaaaaaaaaaaaaaaaaaaaaaaaaaaaaaaa\n",
     ),
     // the greatest seq
     (
-        b"{\"seq\":9007199254740991,\"type\":\"request\",\"command\":\"c\",\"arguments\":null}",
+        br#"{"seq":9007199254740991,"type":"request","command":"c","arguments":null}"#,
         b"0 9007199254740991 request c\n",
     ),
     // a name that is more than ASCII
@@ -161,7 +161,7 @@ static CATCHES: [(&[u8], &[u8]); 12] = [
     ),
     // a wide name
     (
-        b"{\"seq\":0,\"type\":\"event\",\"event\":\"\\ud83d\\ude00\"}",
+        br#"{"seq":0,"type":"event","event":"\ud83d\ude00"}"#,
         b"0 0 event \xf0\x9f\x98\x80\n",
     ),
 ];
@@ -248,64 +248,68 @@ static BAD_BODIES: [(&[u8], BodyRefusal, &[u8]); 16] = [
     (b"", BodyRefusal::NotJson, b"dap: NotJson at 68\n"),
     (b"\xff", BodyRefusal::NotJson, b"dap: NotJson at 68\n"),
     (
-        b"{\"seq\":1,\"type\":\"x\"} {}",
+        br#"{"seq":1,"type":"x"} {}"#,
         BodyRefusal::NotJson,
         b"dap: NotJson at 68\n",
     ),
     (
-        b"{\"seq\":1,\"type\":\"x\",\"a\":[1e999]}",
+        br#"{"seq":1,"type":"x","a":[1e999]}"#,
         BodyRefusal::NotJson,
         b"dap: NotJson at 68\n",
     ),
     (
-        b"{\"seq\":1,\"type\":\"x\",\"a\":[1,]}",
+        br#"{"seq":1,"type":"x","a":[1,]}"#,
         BodyRefusal::NotJson,
         b"dap: NotJson at 68\n",
     ),
     (b"[]", BodyRefusal::NotObject, b"dap: NotObject at 68\n"),
-    (b"{\"seq\":-1}", BodyRefusal::BadSeq, b"dap: BadSeq at 68\n"),
     (
-        b"{\"seq\":1.0}",
+        br#"{"seq":-1}"#,
         BodyRefusal::BadSeq,
         b"dap: BadSeq at 68\n",
     ),
     (
-        b"{\"seq\":9007199254740992}",
+        br#"{"seq":1.0}"#,
         BodyRefusal::BadSeq,
         b"dap: BadSeq at 68\n",
     ),
     (
-        b"{\"seq\":1}",
+        br#"{"seq":9007199254740992}"#,
+        BodyRefusal::BadSeq,
+        b"dap: BadSeq at 68\n",
+    ),
+    (
+        br#"{"seq":1}"#,
         BodyRefusal::BadType,
         b"dap: BadType at 68\n",
     ),
     (
-        b"{\"seq\":1,\"type\":\"request\"}",
+        br#"{"seq":1,"type":"request"}"#,
         BodyRefusal::BadCommand,
         b"dap: BadCommand at 68\n",
     ),
     (
-        b"{\"seq\":1,\"type\":\"request\",\"command\":\"aaaaaaaaaaaaaaaaaaaaaaaaaaaaaaaaaaaaaaaaaaaaaaaaaaaaaaaaaaaaaaaaa\"}",
+        br#"{"seq":1,"type":"request","command":"aaaaaaaaaaaaaaaaaaaaaaaaaaaaaaaaaaaaaaaaaaaaaaaaaaaaaaaaaaaaaaaaa"}"#,
         BodyRefusal::BadCommand,
         b"dap: BadCommand at 68\n",
     ),
     (
-        b"{\"seq\":1,\"type\":\"response\",\"command\":\"x\"}",
+        br#"{"seq":1,"type":"response","command":"x"}"#,
         BodyRefusal::BadRequestSeq,
         b"dap: BadRequestSeq at 68\n",
     ),
     (
-        b"{\"seq\":1,\"type\":\"response\",\"command\":\"x\",\"request_seq\":1,\"success\":0}",
+        br#"{"seq":1,"type":"response","command":"x","request_seq":1,"success":0}"#,
         BodyRefusal::BadSuccess,
         b"dap: BadSuccess at 68\n",
     ),
     (
-        b"{\"seq\":1,\"type\":\"event\"}",
+        br#"{"seq":1,"type":"event"}"#,
         BodyRefusal::BadEvent,
         b"dap: BadEvent at 68\n",
     ),
     (
-        b"{\"seq\":1,\"type\":\"response\",\"command\":\"x\",\"request_seq\":1,\"success\":true,\"message\":1}",
+        br#"{"seq":1,"type":"response","command":"x","request_seq":1,"success":true,"message":1}"#,
         BodyRefusal::BadMessage,
         b"dap: BadMessage at 68\n",
     ),

@@ -81,47 +81,47 @@ static BAD_BODIES: [(&[u8], BodyRefusal, &[u8]); 12] = [
     (b"", BodyRefusal::NotJson, b"dap: NotJson at 103\n"),
     (b"[]", BodyRefusal::NotObject, b"dap: NotObject at 103\n"),
     (
-        b"{\"seq\":-1}",
+        br#"{"seq":-1}"#,
         BodyRefusal::BadSeq,
         b"dap: BadSeq at 103\n",
     ),
     (
-        b"{\"seq\":1.0}",
+        br#"{"seq":1.0}"#,
         BodyRefusal::BadSeq,
         b"dap: BadSeq at 103\n",
     ),
     (
-        b"{\"seq\":9007199254740992}",
+        br#"{"seq":9007199254740992}"#,
         BodyRefusal::BadSeq,
         b"dap: BadSeq at 103\n",
     ),
     (
-        b"{\"seq\":1}",
+        br#"{"seq":1}"#,
         BodyRefusal::BadType,
         b"dap: BadType at 103\n",
     ),
     (
-        b"{\"seq\":1,\"type\":\"request\"}",
+        br#"{"seq":1,"type":"request"}"#,
         BodyRefusal::BadCommand,
         b"dap: BadCommand at 103\n",
     ),
     (
-        b"{\"seq\":1,\"type\":\"response\",\"command\":\"x\"}",
+        br#"{"seq":1,"type":"response","command":"x"}"#,
         BodyRefusal::BadRequestSeq,
         b"dap: BadRequestSeq at 103\n",
     ),
     (
-        b"{\"seq\":1,\"type\":\"response\",\"command\":\"x\",\"request_seq\":1}",
+        br#"{"seq":1,"type":"response","command":"x","request_seq":1}"#,
         BodyRefusal::BadSuccess,
         b"dap: BadSuccess at 103\n",
     ),
     (
-        b"{\"seq\":1,\"type\":\"event\"}",
+        br#"{"seq":1,"type":"event"}"#,
         BodyRefusal::BadEvent,
         b"dap: BadEvent at 103\n",
     ),
     (
-        b"{\"seq\":1,\"type\":\"response\",\"command\":\"x\",\"request_seq\":1,\"success\":true,\"message\":1}",
+        br#"{"seq":1,"type":"response","command":"x","request_seq":1,"success":true,"message":1}"#,
         BodyRefusal::BadMessage,
         b"dap: BadMessage at 103\n",
     ),
@@ -153,11 +153,11 @@ fn refused_bodies(rt: HostRuntime) -> Result<(), Fail> {
 
 static SECOND: [(&[u8], AdapterFault); 2] = [
     (
-        b"{\"seq\":2,\"type\":\"response\",\"request_seq\":1,\"success\":true,\"command\":\"threads\"}",
+        br#"{"seq":2,"type":"response","request_seq":1,"success":true,"command":"threads"}"#,
         AdapterFault::Unmatched { request_seq: 1 },
     ),
     (
-        b"{\"seq\":2,\"type\":\"request\",\"command\":\"initialize\"}",
+        br#"{"seq":2,"type":"request","command":"initialize"}"#,
         AdapterFault::SeqExhausted,
     ),
 ];

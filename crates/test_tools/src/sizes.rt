@@ -9,10 +9,10 @@ use std::alloc::Global;
 
 /// Appends the body of an event of the greatest length.
 fn add_body(body: &mut Vec<u8>) -> bool {
-    body.extend_from_slice(b"{\"seq\":3,\"type\":\"event\",\"event\":\"a\",\"body\":\"")
+    body.extend_from_slice(br#"{"seq":3,"type":"event","event":"a","body":""#)
         .is_ok()
         && body.resize(4194302, b'a').is_ok()
-        && body.extend_from_slice(b"\"}").is_ok()
+        && body.extend_from_slice(br#""}"#).is_ok()
 }
 
 /// Appends 15 frames of a body.
@@ -68,9 +68,9 @@ fn add_text(bytes: &mut Vec<u8>) -> bool {
 
 /// Appends a recording of 1 MB, whose one source has this text.
 fn add_recording(bytes: &mut Vec<u8>) -> bool {
-    let front = b"{\"exit\":0,\"sources\":[{\"name\":\"a.c\",\"path\":\"/a.c\",\"text\":\"";
+    let front = br#"{"exit":0,"sources":[{"name":"a.c","path":"/a.c","text":""#;
     let rest =
-        b"\"}],\"moments\":[{\"thread\":1,\"threads\":[{\"id\":1,\"name\":\"main\",\"frames\":[{\"name\":\"main\",\"source\":0,\"line\":16384}]}]}]}";
+        br#""}],"moments":[{"thread":1,"threads":[{"id":1,"name":"main","frames":[{"name":"main","source":0,"line":16384}]}]}]}"#;
     bytes.extend_from_slice(front).is_ok()
         && add_text(bytes)
         && bytes.extend_from_slice(rest).is_ok()

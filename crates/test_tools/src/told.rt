@@ -108,10 +108,7 @@ fn a_truncated_stream(rt: HostRuntime) {
 static RECORDINGS: [(&[u8], &[u8]); 3] = [
     (b"{", b"dap: NotJson\n"),
     (b"[]", b"dap: NotObject\n"),
-    (
-        b"{\"exit\":0,\"sources\":[],\"moments\":[]}",
-        b"dap: BadKey\n",
-    ),
+    (br#"{"exit":0,"sources":[],"moments":[]}"#, b"dap: BadKey\n"),
 ];
 
 /// Whether bytes are no recording, and that is told with this line.
@@ -222,7 +219,7 @@ static EXPLAINED: [Explained; 17] = [
     ),
     (
         ToolFault::Drive(DriveFault::Recording),
-        b"{\"exit\":0,\"sources\":[{}]}",
+        br#"{"exit":0,"sources":[{}]}"#,
         b"a?b: sources[0].name: absent\n",
     ),
     (

@@ -22,7 +22,7 @@ static WRAPPED: [(&[u8], &[u8]); 9] = [
         THREADS_FRAME,
     ),
     (
-        b"{\"seq\":1,\"type\":\"request\",\"command\":\"threads\"}",
+        br#"{"seq":1,"type":"request","command":"threads"}"#,
         THREADS_FRAME,
     ),
     (
@@ -92,8 +92,7 @@ fn add_front(file: &mut Vec<u8>, front: Front) -> bool {
     match front {
         Front::Nothing => true,
         Front::Longest => {
-            file.extend_from_slice(b"{\"seq\":3,\"type\":\"x\"}")
-                .is_ok()
+            file.extend_from_slice(br#"{"seq":3,"type":"x"}"#).is_ok()
                 && file.resize(1024, b' ').is_ok()
         }
         Front::LongText => file.resize(1025, b'a').is_ok(),

@@ -26,7 +26,7 @@ const ALL: Capabilities = Capabilities {
 fn body(alloc: Global, place: usize) -> Result<Option<Body>, AllocError> {
     Ok(Some(match place {
         0 => Body::Threads {
-            threads: threads(alloc, &[(-1, "t\""), (2, "t\"")])?,
+            threads: threads(alloc, &[(-1, r#"t""#), (2, r#"t""#)])?,
         },
         1 => Body::SetBreakpoints {
             breakpoints: breakpoints(alloc, &[(1, 2, false)])?,
@@ -68,20 +68,20 @@ fn body(alloc: Global, place: usize) -> Result<Option<Body>, AllocError> {
 }
 
 static ANSWERS: [&[u8]; 14] = [
-    b"{\"body\":{\"threads\":[{\"id\":-1,\"name\":\"t\\\"\"},{\"id\":2,\"name\":\"t\\\"\"}]},\"command\":\"c\",\"request_seq\":4,\"seq\":7,\"success\":true,\"type\":\"response\"}",
-    b"{\"body\":{\"breakpoints\":[{\"id\":1,\"line\":2,\"verified\":false}]},\"command\":\"c\",\"request_seq\":4,\"seq\":7,\"success\":true,\"type\":\"response\"}",
-    b"{\"body\":{\"scopes\":[{\"expensive\":false,\"name\":\"s\",\"variablesReference\":3}]},\"command\":\"c\",\"request_seq\":4,\"seq\":7,\"success\":true,\"type\":\"response\"}",
-    b"{\"body\":{\"variables\":[{\"name\":\"v\",\"value\":\"1\",\"variablesReference\":0}]},\"command\":\"c\",\"request_seq\":4,\"seq\":7,\"success\":true,\"type\":\"response\"}",
-    b"{\"body\":{\"stackFrames\":[{\"column\":4,\"id\":1,\"line\":3,\"name\":\"f\",\"source\":{\"name\":\"a\",\"path\":\"/a\",\"sourceReference\":2}}],\"totalFrames\":5},\"command\":\"c\",\"request_seq\":4,\"seq\":7,\"success\":true,\"type\":\"response\"}",
-    b"{\"body\":{\"sources\":[]},\"command\":\"c\",\"request_seq\":4,\"seq\":7,\"success\":true,\"type\":\"response\"}",
-    b"{\"body\":{\"content\":\"x\\n\"},\"command\":\"c\",\"request_seq\":4,\"seq\":7,\"success\":true,\"type\":\"response\"}",
-    b"{\"body\":{\"result\":\"1\",\"variablesReference\":6},\"command\":\"c\",\"request_seq\":4,\"seq\":7,\"success\":true,\"type\":\"response\"}",
-    b"{\"body\":{\"allThreadsContinued\":true},\"command\":\"c\",\"request_seq\":4,\"seq\":7,\"success\":true,\"type\":\"response\"}",
-    b"{\"body\":{\"value\":\"9\"},\"command\":\"c\",\"request_seq\":4,\"seq\":7,\"success\":true,\"type\":\"response\"}",
-    b"{\"body\":{\"supportsBreakpointLocationsRequest\":true,\"supportsCancelRequest\":true,\"supportsCompletionsRequest\":true,\"supportsConfigurationDoneRequest\":true,\"supportsExceptionInfoRequest\":true,\"supportsFunctionBreakpoints\":true,\"supportsLoadedSourcesRequest\":true,\"supportsModulesRequest\":true,\"supportsRestartRequest\":true,\"supportsSetVariable\":true,\"supportsStepBack\":true,\"supportsTerminateRequest\":true},\"command\":\"c\",\"request_seq\":4,\"seq\":7,\"success\":true,\"type\":\"response\"}",
-    b"{\"body\":{},\"command\":\"c\",\"request_seq\":4,\"seq\":7,\"success\":true,\"type\":\"response\"}",
-    b"{\"body\":{\"processId\":7,\"shellProcessId\":8},\"command\":\"c\",\"request_seq\":4,\"seq\":7,\"success\":true,\"type\":\"response\"}",
-    b"{\"command\":\"c\",\"request_seq\":4,\"seq\":7,\"success\":true,\"type\":\"response\"}",
+    br#"{"body":{"threads":[{"id":-1,"name":"t\""},{"id":2,"name":"t\""}]},"command":"c","request_seq":4,"seq":7,"success":true,"type":"response"}"#,
+    br#"{"body":{"breakpoints":[{"id":1,"line":2,"verified":false}]},"command":"c","request_seq":4,"seq":7,"success":true,"type":"response"}"#,
+    br#"{"body":{"scopes":[{"expensive":false,"name":"s","variablesReference":3}]},"command":"c","request_seq":4,"seq":7,"success":true,"type":"response"}"#,
+    br#"{"body":{"variables":[{"name":"v","value":"1","variablesReference":0}]},"command":"c","request_seq":4,"seq":7,"success":true,"type":"response"}"#,
+    br#"{"body":{"stackFrames":[{"column":4,"id":1,"line":3,"name":"f","source":{"name":"a","path":"/a","sourceReference":2}}],"totalFrames":5},"command":"c","request_seq":4,"seq":7,"success":true,"type":"response"}"#,
+    br#"{"body":{"sources":[]},"command":"c","request_seq":4,"seq":7,"success":true,"type":"response"}"#,
+    br#"{"body":{"content":"x\n"},"command":"c","request_seq":4,"seq":7,"success":true,"type":"response"}"#,
+    br#"{"body":{"result":"1","variablesReference":6},"command":"c","request_seq":4,"seq":7,"success":true,"type":"response"}"#,
+    br#"{"body":{"allThreadsContinued":true},"command":"c","request_seq":4,"seq":7,"success":true,"type":"response"}"#,
+    br#"{"body":{"value":"9"},"command":"c","request_seq":4,"seq":7,"success":true,"type":"response"}"#,
+    br#"{"body":{"supportsBreakpointLocationsRequest":true,"supportsCancelRequest":true,"supportsCompletionsRequest":true,"supportsConfigurationDoneRequest":true,"supportsExceptionInfoRequest":true,"supportsFunctionBreakpoints":true,"supportsLoadedSourcesRequest":true,"supportsModulesRequest":true,"supportsRestartRequest":true,"supportsSetVariable":true,"supportsStepBack":true,"supportsTerminateRequest":true},"command":"c","request_seq":4,"seq":7,"success":true,"type":"response"}"#,
+    br#"{"body":{},"command":"c","request_seq":4,"seq":7,"success":true,"type":"response"}"#,
+    br#"{"body":{"processId":7,"shellProcessId":8},"command":"c","request_seq":4,"seq":7,"success":true,"type":"response"}"#,
+    br#"{"command":"c","request_seq":4,"seq":7,"success":true,"type":"response"}"#,
 ];
 
 /// Whether the response with the number 7 to the request `c`, which has the number 4, is written so with this body.
@@ -121,12 +121,12 @@ static REQUESTS: [(u64, &str, &[u8]); 2] = [
     (
         1,
         "threads",
-        b"{\"command\":\"threads\",\"seq\":1,\"type\":\"request\"}",
+        br#"{"command":"threads","seq":1,"type":"request"}"#,
     ),
     (
         9007199254740992,
         "c",
-        b"{\"command\":\"c\",\"seq\":9007199254740992,\"type\":\"request\"}",
+        br#"{"command":"c","seq":9007199254740992,"type":"request"}"#,
     ),
 ];
 

@@ -36,25 +36,25 @@ static FAILURES: [(Failure, u32, &str, &str); 19] = [
         Failure::NotInitialized,
         1001,
         "notInitialized",
-        "{\"error\":{\"format\":\"The session is not initialized.\",\"id\":1001}}",
+        r#"{"error":{"format":"The session is not initialized.","id":1001}}"#,
     ),
     (
         Failure::AlreadyInitialized,
         1002,
         "alreadyInitialized",
-        "{\"error\":{\"format\":\"The session is already initialized.\",\"id\":1002}}",
+        r#"{"error":{"format":"The session is already initialized.","id":1002}}"#,
     ),
     (
         Failure::UnknownCommand,
         1003,
         "unknownCommand",
-        "{\"error\":{\"format\":\"The command is not known.\",\"id\":1003}}",
+        r#"{"error":{"format":"The command is not known.","id":1003}}"#,
     ),
     (
         Failure::Unsupported,
         1004,
         "unsupported",
-        "{\"error\":{\"format\":\"The command is not supported.\",\"id\":1004}}",
+        r#"{"error":{"format":"The command is not supported.","id":1004}}"#,
     ),
     (
         Failure::BadArguments {
@@ -62,7 +62,7 @@ static FAILURES: [(Failure, u32, &str, &str); 19] = [
         },
         1005,
         "badArguments",
-        "{\"error\":{\"format\":\"The argument requestId is missing or malformed.\",\"id\":1005}}",
+        r#"{"error":{"format":"The argument requestId is missing or malformed.","id":1005}}"#,
     ),
     (
         Failure::BadArguments {
@@ -70,85 +70,85 @@ static FAILURES: [(Failure, u32, &str, &str); 19] = [
         },
         1005,
         "badArguments",
-        "{\"error\":{\"format\":\"The argument arguments is missing or malformed.\",\"id\":1005}}",
+        r#"{"error":{"format":"The argument arguments is missing or malformed.","id":1005}}"#,
     ),
     (
         Failure::WrongPhase,
         1007,
         "wrongPhase",
-        "{\"error\":{\"format\":\"The request does not fit the state of the session.\",\"id\":1007}}",
+        r#"{"error":{"format":"The request does not fit the state of the session.","id":1007}}"#,
     ),
     (
         Failure::NotStopped,
         1006,
         "notStopped",
-        "{\"error\":{\"format\":\"The debuggee is not stopped.\",\"id\":1006}}",
+        r#"{"error":{"format":"The debuggee is not stopped.","id":1006}}"#,
     ),
     (
         Failure::UnknownThread,
         1008,
         "unknownThread",
-        "{\"error\":{\"format\":\"The thread does not exist.\",\"id\":1008}}",
+        r#"{"error":{"format":"The thread does not exist.","id":1008}}"#,
     ),
     (
         Failure::StaleReference,
         1009,
         "staleReference",
-        "{\"error\":{\"format\":\"The reference is not valid in this stop.\",\"id\":1009}}",
+        r#"{"error":{"format":"The reference is not valid in this stop.","id":1009}}"#,
     ),
     (
         Failure::UnknownSource,
         1014,
         "unknownSource",
-        "{\"error\":{\"format\":\"The source does not exist.\",\"id\":1014}}",
+        r#"{"error":{"format":"The source does not exist.","id":1014}}"#,
     ),
     (
         Failure::Debuggee,
         1013,
         "debuggee",
-        "{\"error\":{\"format\":\"The debuggee refused.\",\"id\":1013}}",
+        r#"{"error":{"format":"The debuggee refused.","id":1013}}"#,
     ),
     (
         Failure::TooManyBreakpoints,
         1015,
         "tooManyBreakpoints",
-        "{\"error\":{\"format\":\"Too many breakpoints are set.\",\"id\":1015}}",
+        r#"{"error":{"format":"Too many breakpoints are set.","id":1015}}"#,
     ),
     (
         Failure::TooManyReferences,
         1010,
         "tooManyReferences",
-        "{\"error\":{\"format\":\"Too many references are in use.\",\"id\":1010}}",
+        r#"{"error":{"format":"Too many references are in use.","id":1010}}"#,
     ),
     (
         Failure::ReferencesExhausted,
         1017,
         "referencesExhausted",
-        "{\"error\":{\"format\":\"No reference numbers are left.\",\"id\":1017}}",
+        r#"{"error":{"format":"No reference numbers are left.","id":1017}}"#,
     ),
     (
         Failure::TooLarge,
         1016,
         "tooLarge",
-        "{\"error\":{\"format\":\"The response would be too large.\",\"id\":1016}}",
+        r#"{"error":{"format":"The response would be too large.","id":1016}}"#,
     ),
     (
         Failure::Busy,
         1011,
         "busy",
-        "{\"error\":{\"format\":\"Too many requests are waiting.\",\"id\":1011}}",
+        r#"{"error":{"format":"Too many requests are waiting.","id":1011}}"#,
     ),
     (
         Failure::Cancelled,
         1012,
         "cancelled",
-        "{\"error\":{\"format\":\"The request was cancelled.\",\"id\":1012}}",
+        r#"{"error":{"format":"The request was cancelled.","id":1012}}"#,
     ),
     (
         Failure::TerminalRefused,
         1018,
         "terminalRefused",
-        "{\"error\":{\"format\":\"The terminal refused.\",\"id\":1018}}",
+        r#"{"error":{"format":"The terminal refused.","id":1018}}"#,
     ),
 ];
 
@@ -202,20 +202,20 @@ fn built_response(alloc: Global, of: Response) -> Result<Value, AllocError> {
 static RESPONSES: [(Response, &str); 16] = [
     (
         Response::Breakpoints(&[(1, 1, true), (2, 3, true), (3, 9, false)]),
-        "{\"breakpoints\":[{\"id\":1,\"line\":1,\"verified\":true},{\"id\":2,\"line\":3,\"verified\":true},{\"id\":3,\"line\":9,\"verified\":false}]}",
+        r#"{"breakpoints":[{"id":1,"line":1,"verified":true},{"id":2,"line":3,"verified":true},{"id":3,"line":9,"verified":false}]}"#,
     ),
     (
         Response::Threads(&[(1, "main"), (-7, "")]),
-        "{\"threads\":[{\"id\":1,\"name\":\"main\"},{\"id\":-7,\"name\":\"\"}]}",
+        r#"{"threads":[{"id":1,"name":"main"},{"id":-7,"name":""}]}"#,
     ),
-    (Response::Continue, "{\"allThreadsContinued\":true}"),
+    (Response::Continue, r#"{"allThreadsContinued":true}"#),
     (
         Response::Sources(&[("a.c", Some("/a.c"), 1)]),
-        "{\"sources\":[{\"name\":\"a.c\",\"path\":\"/a.c\",\"sourceReference\":1}]}",
+        r#"{"sources":[{"name":"a.c","path":"/a.c","sourceReference":1}]}"#,
     ),
     (
         Response::Content("one\ntwo\nthree\n"),
-        "{\"content\":\"one\\ntwo\\nthree\\n\"}",
+        r#"{"content":"one\ntwo\nthree\n"}"#,
     ),
     (
         Response::Frames(
@@ -225,29 +225,29 @@ static RESPONSES: [(Response, &str); 16] = [
             ],
             5,
         ),
-        "{\"stackFrames\":[{\"column\":1,\"id\":1,\"line\":3,\"name\":\"main\",\"source\":{\"name\":\"a.c\",\"path\":\"/a.c\",\"sourceReference\":1}},{\"column\":0,\"id\":2,\"line\":0,\"name\":\"start\",\"source\":{\"name\":\"b.c\",\"sourceReference\":2}}],\"totalFrames\":5}",
+        r#"{"stackFrames":[{"column":1,"id":1,"line":3,"name":"main","source":{"name":"a.c","path":"/a.c","sourceReference":1}},{"column":0,"id":2,"line":0,"name":"start","source":{"name":"b.c","sourceReference":2}}],"totalFrames":5}"#,
     ),
     (
         Response::Scopes(&[("Locals", 2)]),
-        "{\"scopes\":[{\"expensive\":false,\"name\":\"Locals\",\"variablesReference\":2}]}",
+        r#"{"scopes":[{"expensive":false,"name":"Locals","variablesReference":2}]}"#,
     ),
     (
         Response::Variables(&[("x", "1", 0), ("p", "P", 3)]),
-        "{\"variables\":[{\"name\":\"x\",\"value\":\"1\",\"variablesReference\":0},{\"name\":\"p\",\"value\":\"P\",\"variablesReference\":3}]}",
+        r#"{"variables":[{"name":"x","value":"1","variablesReference":0},{"name":"p","value":"P","variablesReference":3}]}"#,
     ),
-    (Response::SetVariable("9"), "{\"value\":\"9\"}"),
-    (Response::SetVariable(""), "{\"value\":\"\"}"),
-    (Response::SetVariable("a\"b\n"), "{\"value\":\"a\\\"b\\n\"}"),
+    (Response::SetVariable("9"), r#"{"value":"9"}"#),
+    (Response::SetVariable(""), r#"{"value":""}"#),
+    (Response::SetVariable("a\"b\n"), r#"{"value":"a\"b\n"}"#),
     (
         Response::Evaluate("P", 3),
-        "{\"result\":\"P\",\"variablesReference\":3}",
+        r#"{"result":"P","variablesReference":3}"#,
     ),
     (Response::Terminal(None, None), "{}"),
-    (Response::Terminal(Some(7), None), "{\"processId\":7}"),
-    (Response::Terminal(None, Some(0)), "{\"shellProcessId\":0}"),
+    (Response::Terminal(Some(7), None), r#"{"processId":7}"#),
+    (Response::Terminal(None, Some(0)), r#"{"shellProcessId":0}"#),
     (
         Response::Terminal(Some(2147483647), Some(8)),
-        "{\"processId\":2147483647,\"shellProcessId\":8}",
+        r#"{"processId":2147483647,"shellProcessId":8}"#,
     ),
 ];
 
@@ -262,21 +262,21 @@ fn responses(rt: HostRuntime) {
 
 /// The body of each response that has a list, with nothing in it.
 static EMPTY: [(Response, &str); 6] = [
-    (Response::Breakpoints(&[]), "{\"breakpoints\":[]}"),
-    (Response::Threads(&[]), "{\"threads\":[]}"),
+    (Response::Breakpoints(&[]), r#"{"breakpoints":[]}"#),
+    (Response::Threads(&[]), r#"{"threads":[]}"#),
     (
         Response::Frames(&[], 2),
-        "{\"stackFrames\":[],\"totalFrames\":2}",
+        r#"{"stackFrames":[],"totalFrames":2}"#,
     ),
-    (Response::Scopes(&[]), "{\"scopes\":[]}"),
-    (Response::Variables(&[]), "{\"variables\":[]}"),
-    (Response::Sources(&[]), "{\"sources\":[]}"),
+    (Response::Scopes(&[]), r#"{"scopes":[]}"#),
+    (Response::Variables(&[]), r#"{"variables":[]}"#),
+    (Response::Sources(&[]), r#"{"sources":[]}"#),
 ];
 
 /// A file that the client reads by its path has no number.
 static ON_DISK: [(Response, &str); 1] = [(
     Response::Sources(&[("a.c", Some("/a.c"), 0), ("b.c", None, 2)]),
-    "{\"sources\":[{\"name\":\"a.c\",\"path\":\"/a.c\"},{\"name\":\"b.c\",\"sourceReference\":2}]}",
+    r#"{"sources":[{"name":"a.c","path":"/a.c"},{"name":"b.c","sourceReference":2}]}"#,
 )];
 
 #[test]
@@ -323,17 +323,17 @@ fn built_event(alloc: Global, of: Event) -> Result<Value, AllocError> {
 static EVENTS: [(Event, &str); 4] = [
     (
         Event::Output("stdout", "go\n"),
-        "{\"category\":\"stdout\",\"output\":\"go\\n\"}",
+        r#"{"category":"stdout","output":"go\n"}"#,
     ),
     (
         Event::Stopped("pause", 1),
-        "{\"allThreadsStopped\":true,\"reason\":\"pause\",\"threadId\":1}",
+        r#"{"allThreadsStopped":true,"reason":"pause","threadId":1}"#,
     ),
     (
         Event::Continued(-9007199254740991),
-        "{\"allThreadsContinued\":true,\"threadId\":-9007199254740991}",
+        r#"{"allThreadsContinued":true,"threadId":-9007199254740991}"#,
     ),
-    (Event::Exited(-2147483648), "{\"exitCode\":-2147483648}"),
+    (Event::Exited(-2147483648), r#"{"exitCode":-2147483648}"#),
 ];
 
 /// The bodies of events.

@@ -192,13 +192,13 @@ static ACCEPTED: [(u64, &[u8], &[u8], u64); 4] = [
     (
         8192,
         b"X-Note: hi\r\ncontent-length:0046\r\n\r\n{\"seq\":1,\"type\":\"request\",\"command\":\"threads\"}",
-        b"{\"seq\":1,\"type\":\"request\",\"command\":\"threads\"}",
+        br#"{"seq":1,"type":"request","command":"threads"}"#,
         81,
     ),
     (
         8192,
         b"Content-Length: 46\r\n\r\n{\"seq\":1,\"type\":\"request\",\"command\":\"threads\"}",
-        b"{\"seq\":1,\"type\":\"request\",\"command\":\"threads\"}",
+        br#"{"seq":1,"type":"request","command":"threads"}"#,
         68,
     ),
     (32, b"Content-Length: 000000000002\r\n\r\n{}", b"{}", 34),

@@ -7,20 +7,20 @@ use dap_message::{Command, GatheredReferences, Scratch, read_heading_and_referen
 static FRAMES: [(&str, &[u64]); 4] = [
     // Frames without an id, or with one out of its range, are passed over; a key may have escapes.
     (
-        "{\"seq\":1,\"type\":\"response\",\"request_seq\":1,\"success\":true,\"command\":\"stackTrace\",\"body\":{\"stackFrames\":[{\"id\":0},{},{\"id\":2147483647},{\"id\":2147483648},{\"id\":-1},{\"id\":1.0},{\"id\":\"7\"},{\"x\":{\"id\":8},\"i\\u0064\":5}],\"totalFrames\":9}}",
+        r#"{"seq":1,"type":"response","request_seq":1,"success":true,"command":"stackTrace","body":{"stackFrames":[{"id":0},{},{"id":2147483647},{"id":2147483648},{"id":-1},{"id":1.0},{"id":"7"},{"x":{"id":8},"i\u0064":5}],"totalFrames":9}}"#,
         &[0, 2147483647, 5],
     ),
     // Of equal keys the last counts.
     (
-        "{\"body\":{\"stackFrames\":[{\"id\":1}],\"stackFrames\":[{\"id\":2,\"id\":3},{\"id\":4,\"id\":null}]},\"seq\":1,\"type\":\"event\",\"event\":\"e\"}",
+        r#"{"body":{"stackFrames":[{"id":1}],"stackFrames":[{"id":2,"id":3},{"id":4,"id":null}]},"seq":1,"type":"event","event":"e"}"#,
         &[3],
     ),
     (
-        "{\"body\":{\"stackFrames\":[{\"id\":1}]},\"seq\":1,\"type\":\"event\",\"event\":\"e\",\"body\":{}}",
+        r#"{"body":{"stackFrames":[{"id":1}]},"seq":1,"type":"event","event":"e","body":{}}"#,
         &[],
     ),
     // What an earlier body gave is forgotten.
-    ("{\"seq\":1,\"type\":\"event\",\"event\":\"e\"}", &[]),
+    (r#"{"seq":1,"type":"event","event":"e"}"#, &[]),
 ];
 
 /// Whether a body is read.
@@ -54,7 +54,7 @@ fn gathers_holders(rt: HostRuntime) {
     let mut scratch = Scratch::new(rt.alloc());
     let mut given = GatheredReferences::new(rt.alloc());
     let body =
-        "{\"body\":{\"scopes\":[{\"variablesReference\":2},{\"variablesReference\":0}],\"variables\":[{\"name\":\"a\",\"value\":\"\\\"\",\"variablesReference\":2147483647},{\"variablesReference\":2147483648},{\"variablesReference\":3}],\"variablesReference\":7},\"command\":\"scopes\",\"type\":\"response\",\"seq\":1,\"request_seq\":1,\"success\":true}";
+        r#"{"body":{"scopes":[{"variablesReference":2},{"variablesReference":0}],"variables":[{"name":"a","value":"\"","variablesReference":2147483647},{"variablesReference":2147483648},{"variablesReference":3}],"variablesReference":7},"command":"scopes","type":"response","seq":1,"request_seq":1,"success":true}"#;
     check(&rt, is_read(&mut scratch, &mut given, body), body);
     for (command, holders) in &HOLDERS {
         check(&rt, given.holders(*command) == *holders, command.name());
@@ -67,15 +67,15 @@ fn gathers_holders(rt: HostRuntime) {
 
 /// There a message's tree has to be looked at, or it is no message.
 static ODD: [&str; 9] = [
-    "{\"seq\":1,\"type\":\"event\",\"event\":\"e\",\"body\":null}",
-    "{\"seq\":1,\"type\":\"event\",\"event\":\"e\",\"body\":[]}",
-    "{\"seq\":1,\"type\":\"event\",\"event\":\"e\",\"body\":{\"variables\":null}}",
-    "{\"seq\":1,\"type\":\"event\",\"event\":\"e\",\"body\":{\"scopes\":{}}}",
-    "{\"seq\":1,\"type\":\"event\",\"event\":\"e\",\"body\":{\"stackFrames\":[[]]}}",
-    "{\"seq\":1,\"type\":\"event\",\"event\":\"e\",\"body\":{\"stackFrames\":[{}}}",
-    "{\"seq\":1,\"type\":\"event\",\"event\":\"e\",\"body\":{\"x\":1e999}}",
-    "{\"seq\":1,\"type\":\"event\",\"body\":{}}",
-    "{\"seq\":1,\"type\":\"event\",\"event\":\"e\",\"body\":{}}]",
+    r#"{"seq":1,"type":"event","event":"e","body":null}"#,
+    r#"{"seq":1,"type":"event","event":"e","body":[]}"#,
+    r#"{"seq":1,"type":"event","event":"e","body":{"variables":null}}"#,
+    r#"{"seq":1,"type":"event","event":"e","body":{"scopes":{}}}"#,
+    r#"{"seq":1,"type":"event","event":"e","body":{"stackFrames":[[]]}}"#,
+    r#"{"seq":1,"type":"event","event":"e","body":{"stackFrames":[{}}}"#,
+    r#"{"seq":1,"type":"event","event":"e","body":{"x":1e999}}"#,
+    r#"{"seq":1,"type":"event","body":{}}"#,
+    r#"{"seq":1,"type":"event","event":"e","body":{}}]"#,
 ];
 
 #[test]

@@ -22,31 +22,31 @@ fn is_read(alloc: Global, body: &str, scratch: &mut Scratch, text: &str) -> bool
 static READ: [(&str, &str); 6] = [
     // Escapes, in names, in trees and in keys; a key after the body; keys that nobody reads.
     (
-        "{\"type\":\"ev\\u0065nt\",\"body\":{\"b\\n\":[\"\\ud83d\\ude00\",{\"c\":\"\\\"\"}]},\"x\":[[{}],-1.5],\"seq\":7,\"event\":\"\\u00e9\\t\"}",
-        "{\"body\":{\"b\\n\":[\"😀\",{\"c\":\"\\\"\"}]},\"event\":\"é\\t\",\"seq\":7,\"type\":\"event\"}",
+        r#"{"type":"ev\u0065nt","body":{"b\n":["\ud83d\ude00",{"c":"\""}]},"x":[[{}],-1.5],"seq":7,"event":"\u00e9\t"}"#,
+        r#"{"body":{"b\n":["😀",{"c":"\""}]},"event":"é\t","seq":7,"type":"event"}"#,
     ),
     // Of equal keys the last counts: names, bodies, and members of a body.
     (
-        "{\"seq\":1,\"body\":[],\"event\":\"a\",\"type\":\"request\",\"body\":{\"k\":1,\"j\":0,\"k\":2},\"event\":\"b\",\"type\":\"event\"}",
-        "{\"body\":{\"j\":0,\"k\":2},\"event\":\"b\",\"seq\":1,\"type\":\"event\"}",
+        r#"{"seq":1,"body":[],"event":"a","type":"request","body":{"k":1,"j":0,"k":2},"event":"b","type":"event"}"#,
+        r#"{"body":{"j":0,"k":2},"event":"b","seq":1,"type":"event"}"#,
     ),
     // A body that is null is absent, also where it comes after another; `arguments` are no body.
     (
-        "{\"seq\":2,\"type\":\"response\",\"request_seq\":1,\"success\":true,\"command\":\"c\",\"message\":null,\"body\":{},\"arguments\":{},\"body\":null}",
-        "{\"command\":\"c\",\"request_seq\":1,\"seq\":2,\"success\":true,\"type\":\"response\"}",
+        r#"{"seq":2,"type":"response","request_seq":1,"success":true,"command":"c","message":null,"body":{},"arguments":{},"body":null}"#,
+        r#"{"command":"c","request_seq":1,"seq":2,"success":true,"type":"response"}"#,
     ),
     (
-        "{\"body\":[1],\"arguments\":null,\"seq\":3,\"arguments\":{\"b\":[true,null],\"a\":\"\"},\"command\":\"next\",\"type\":\"request\"}",
-        "{\"arguments\":{\"a\":\"\",\"b\":[true,null]},\"command\":\"next\",\"seq\":3,\"type\":\"request\"}",
+        r#"{"body":[1],"arguments":null,"seq":3,"arguments":{"b":[true,null],"a":""},"command":"next","type":"request"}"#,
+        r#"{"arguments":{"a":"","b":[true,null]},"command":"next","seq":3,"type":"request"}"#,
     ),
     // Whole numbers of either sign, up to the ends.
     (
-        "{\"seq\":4,\"type\":\"event\",\"event\":\"e\",\"body\":[-1,0,18446744073709551615,-9223372036854775808]}",
-        "{\"body\":[-1,0,18446744073709551615,-9223372036854775808],\"event\":\"e\",\"seq\":4,\"type\":\"event\"}",
+        r#"{"seq":4,"type":"event","event":"e","body":[-1,0,18446744073709551615,-9223372036854775808]}"#,
+        r#"{"body":[-1,0,18446744073709551615,-9223372036854775808],"event":"e","seq":4,"type":"event"}"#,
     ),
     (
-        "{\"seq\":5,\"type\":\"none\",\"body\":{\"a\":1}}",
-        "{\"seq\":5,\"type\":\"none\"}",
+        r#"{"seq":5,"type":"none","body":{"a":1}}"#,
+        r#"{"seq":5,"type":"none"}"#,
     ),
 ];
 
@@ -61,23 +61,23 @@ fn reads_one_after_another(rt: HostRuntime) {
 
 static WRONG: [(&str, BodyRefusal); 5] = [
     (
-        "{\"seq\":1,\"type\":\"event\",\"event\":\"e\",\"body\":[1e999]}",
+        r#"{"seq":1,"type":"event","event":"e","body":[1e999]}"#,
         BodyRefusal::NotJson,
     ),
     (
-        "{\"seq\":1,\"type\":\"event\",\"event\":\"e\",\"body\":[}}",
+        r#"{"seq":1,"type":"event","event":"e","body":[}}"#,
         BodyRefusal::NotJson,
     ),
     (
-        "{\"seq\":1,\"type\":\"event\",\"event\":\"e\",\"body\":[]}]",
+        r#"{"seq":1,"type":"event","event":"e","body":[]}]"#,
         BodyRefusal::NotJson,
     ),
     (
-        "{\"seq\":1,\"type\":\"event\",\"body\":[]}",
+        r#"{"seq":1,"type":"event","body":[]}"#,
         BodyRefusal::BadEvent,
     ),
     (
-        "{\"seq\":1,\"type\":\"response\",\"request_seq\":1,\"success\":true,\"command\":\"c\",\"message\":1,\"body\":[]}",
+        r#"{"seq":1,"type":"response","request_seq":1,"success":true,"command":"c","message":1,"body":[]}"#,
         BodyRefusal::BadMessage,
     ),
 ];
@@ -116,7 +116,7 @@ static STEPS: [Step; 8] = [
     Step::Key(Some("a")),
     Step::Whole(1),
     Step::Key(Some("b")),
-    Step::Tree(b"[1,{\"c\":\"A\",\"d\":-2}]"),
+    Step::Tree(br#"[1,{"c":"A","d":-2}]"#),
     Step::Key(Some("e")),
     Step::Other,
     Step::Member("g", "x"),
@@ -153,7 +153,7 @@ fn gives(alloc: Global, object_reader: &mut ObjectReader<'_>, step: &Step) -> bo
 
 #[test]
 fn gives_trees_of_members(rt: HostRuntime) {
-    let text = b"{\"a\":1,\"b\":[1,{\"d\":-2,\"c\":\"\\u0041\"}],\"e\":{\"f\":[]},\"g\":\"x\"}";
+    let text = br#"{"a":1,"b":[1,{"d":-2,"c":"\u0041"}],"e":{"f":[]},"g":"x"}"#;
     let mut scratch = Scratch::new(rt.alloc());
     match ObjectReader::open(text, &mut scratch) {
         Ok(mut object_reader) => {
@@ -179,7 +179,7 @@ fn fits(alloc: Global, scratch: &mut Scratch, text: &str) -> Option<bool> {
 
 /// Whether it is where its value is so many arrays, one in another.
 fn is_deep(alloc: Global, scratch: &mut Scratch, times: usize, wanted: bool) -> bool {
-    match nested(alloc, "{\"a\":", times, "") {
+    match nested(alloc, r#"{"a":"#, times, "") {
         Ok(text) => fits(alloc, scratch, text.as_str()) == Some(wanted),
         Err(_) => false,
     }

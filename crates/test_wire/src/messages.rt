@@ -17,49 +17,49 @@ fn fault_of(alloc: Global, body: &[u8]) -> Option<BodyFault> {
 
 static REFUSED: [(&str, BodyRefusal); 27] = [
     ("", BodyRefusal::NotJson),
-    ("{\"seq\":1", BodyRefusal::NotJson),
-    ("{\"seq\":1,}", BodyRefusal::NotJson),
-    ("\"\\ud800\"", BodyRefusal::NotJson),
+    (r#"{"seq":1"#, BodyRefusal::NotJson),
+    (r#"{"seq":1,}"#, BodyRefusal::NotJson),
+    (r#""\ud800""#, BodyRefusal::NotJson),
     // No float is as great as this number, also where nothing asks for it.
-    ("{\"x\":1e999}", BodyRefusal::NotJson),
+    (r#"{"x":1e999}"#, BodyRefusal::NotJson),
     ("[]", BodyRefusal::NotObject),
     ("null", BodyRefusal::NotObject),
     ("{}", BodyRefusal::BadSeq),
-    ("{\"seq\":-1}", BodyRefusal::BadSeq),
-    ("{\"seq\":-0}", BodyRefusal::BadSeq),
-    ("{\"seq\":1.0}", BodyRefusal::BadSeq),
-    ("{\"seq\":1e0}", BodyRefusal::BadSeq),
-    ("{\"seq\":\"1\"}", BodyRefusal::BadSeq),
-    ("{\"seq\":9007199254740992}", BodyRefusal::BadSeq),
-    ("{\"seq\":18446744073709551616}", BodyRefusal::BadSeq),
-    ("{\"seq\":1}", BodyRefusal::BadType),
-    ("{\"seq\":1,\"type\":1}", BodyRefusal::BadType),
-    ("{\"seq\":1,\"type\":null}", BodyRefusal::BadType),
-    ("{\"seq\":1,\"type\":\"request\"}", BodyRefusal::BadCommand),
+    (r#"{"seq":-1}"#, BodyRefusal::BadSeq),
+    (r#"{"seq":-0}"#, BodyRefusal::BadSeq),
+    (r#"{"seq":1.0}"#, BodyRefusal::BadSeq),
+    (r#"{"seq":1e0}"#, BodyRefusal::BadSeq),
+    (r#"{"seq":"1"}"#, BodyRefusal::BadSeq),
+    (r#"{"seq":9007199254740992}"#, BodyRefusal::BadSeq),
+    (r#"{"seq":18446744073709551616}"#, BodyRefusal::BadSeq),
+    (r#"{"seq":1}"#, BodyRefusal::BadType),
+    (r#"{"seq":1,"type":1}"#, BodyRefusal::BadType),
+    (r#"{"seq":1,"type":null}"#, BodyRefusal::BadType),
+    (r#"{"seq":1,"type":"request"}"#, BodyRefusal::BadCommand),
     (
-        "{\"seq\":1,\"type\":\"request\",\"command\":1}",
+        r#"{"seq":1,"type":"request","command":1}"#,
         BodyRefusal::BadCommand,
     ),
-    ("{\"seq\":1,\"type\":\"response\"}", BodyRefusal::BadCommand),
+    (r#"{"seq":1,"type":"response"}"#, BodyRefusal::BadCommand),
     (
-        "{\"seq\":1,\"type\":\"response\",\"command\":\"a\"}",
+        r#"{"seq":1,"type":"response","command":"a"}"#,
         BodyRefusal::BadRequestSeq,
     ),
     (
-        "{\"seq\":1,\"type\":\"response\",\"command\":\"a\",\"request_seq\":1.5,\"success\":1}",
+        r#"{"seq":1,"type":"response","command":"a","request_seq":1.5,"success":1}"#,
         BodyRefusal::BadRequestSeq,
     ),
     (
-        "{\"seq\":1,\"type\":\"response\",\"command\":\"a\",\"request_seq\":1,\"success\":1}",
+        r#"{"seq":1,"type":"response","command":"a","request_seq":1,"success":1}"#,
         BodyRefusal::BadSuccess,
     ),
     (
-        "{\"seq\":1,\"type\":\"response\",\"command\":\"a\",\"request_seq\":1,\"success\":true,\"message\":{}}",
+        r#"{"seq":1,"type":"response","command":"a","request_seq":1,"success":true,"message":{}}"#,
         BodyRefusal::BadMessage,
     ),
-    ("{\"seq\":1,\"type\":\"event\"}", BodyRefusal::BadEvent),
+    (r#"{"seq":1,"type":"event"}"#, BodyRefusal::BadEvent),
     (
-        "{\"seq\":1,\"type\":\"event\",\"event\":null}",
+        r#"{"seq":1,"type":"event","event":null}"#,
         BodyRefusal::BadEvent,
     ),
 ];
@@ -85,40 +85,40 @@ fn refuses_what_is_no_text(rt: HostRuntime) {
 
 static WRITTEN: [(&str, &str); 8] = [
     (
-        "{\"seq\":1,\"type\":\"request\",\"command\":\"threads\"}",
-        "{\"command\":\"threads\",\"seq\":1,\"type\":\"request\"}",
+        r#"{"seq":1,"type":"request","command":"threads"}"#,
+        r#"{"command":"threads","seq":1,"type":"request"}"#,
     ),
     // `seq` last, unknown keys, and white space.
     (
         " {\"type\":\"request\", \"x\":[1.5,{}], \"command\":\"next\", \"arguments\":{\"threadId\":1}, \"seq\":0}\r\n",
-        "{\"arguments\":{\"threadId\":1},\"command\":\"next\",\"seq\":0,\"type\":\"request\"}",
+        r#"{"arguments":{"threadId":1},"command":"next","seq":0,"type":"request"}"#,
     ),
     // `null` counts as absent.
     (
-        "{\"seq\":2,\"type\":\"request\",\"command\":\"\",\"arguments\":null}",
-        "{\"command\":\"\",\"seq\":2,\"type\":\"request\"}",
+        r#"{"seq":2,"type":"request","command":"","arguments":null}"#,
+        r#"{"command":"","seq":2,"type":"request"}"#,
     ),
     (
-        "{\"seq\":9007199254740991,\"type\":\"response\",\"request_seq\":1,\"success\":false,\"command\":\"threads\",\"message\":null,\"body\":null}",
-        "{\"command\":\"threads\",\"request_seq\":1,\"seq\":9007199254740991,\"success\":false,\"type\":\"response\"}",
+        r#"{"seq":9007199254740991,"type":"response","request_seq":1,"success":false,"command":"threads","message":null,"body":null}"#,
+        r#"{"command":"threads","request_seq":1,"seq":9007199254740991,"success":false,"type":"response"}"#,
     ),
     (
-        "{\"seq\":3,\"type\":\"response\",\"request_seq\":2,\"success\":false,\"command\":\"next\",\"message\":\"notStopped\",\"body\":{\"error\":{\"id\":1,\"format\":\"\\u00e9\\n\"}}}",
-        "{\"body\":{\"error\":{\"format\":\"é\\n\",\"id\":1}},\"command\":\"next\",\"message\":\"notStopped\",\"request_seq\":2,\"seq\":3,\"success\":false,\"type\":\"response\"}",
+        r#"{"seq":3,"type":"response","request_seq":2,"success":false,"command":"next","message":"notStopped","body":{"error":{"id":1,"format":"\u00e9\n"}}}"#,
+        r#"{"body":{"error":{"format":"é\n","id":1}},"command":"next","message":"notStopped","request_seq":2,"seq":3,"success":false,"type":"response"}"#,
     ),
     (
-        "{\"seq\":2,\"type\":\"event\",\"event\":\"a\\u0007\",\"body\":-9223372036854775808}",
-        "{\"body\":-9223372036854775808,\"event\":\"a\\u0007\",\"seq\":2,\"type\":\"event\"}",
+        r#"{"seq":2,"type":"event","event":"a\u0007","body":-9223372036854775808}"#,
+        r#"{"body":-9223372036854775808,"event":"a\u0007","seq":2,"type":"event"}"#,
     ),
     // A response's keys do not count in a message of another type.
     (
-        "{\"seq\":3,\"type\":\"x\",\"success\":1}",
-        "{\"seq\":3,\"type\":\"x\"}",
+        r#"{"seq":3,"type":"x","success":1}"#,
+        r#"{"seq":3,"type":"x"}"#,
     ),
     // Of two members with one key the last counts.
     (
-        "{\"seq\":1,\"seq\":3,\"type\":\"Request\"}",
-        "{\"seq\":3,\"type\":\"Request\"}",
+        r#"{"seq":1,"seq":3,"type":"Request"}"#,
+        r#"{"seq":3,"type":"Request"}"#,
     ),
 ];
 
@@ -171,7 +171,7 @@ fn is_event(alloc: Global, body: &[u8], answer: Result<bool, BodyFault>) -> bool
 /// A request whose command is so many characters of two bytes each, and the rest.
 fn request(alloc: Global, times: usize, rest: &str) -> Result<String, AllocError> {
     let long = "é".repeat(alloc, times)?;
-    format!(in alloc; "{{\"seq\":1,\"type\":\"request\",\"command\":\"{long}{rest}\"}}")
+    format!(in alloc; r#"{{"seq":1,"type":"request","command":"{long}{rest}"}}"#)
 }
 
 /// Whether it is read, or refused so.
@@ -210,7 +210,7 @@ pub(crate) fn nested(
 
 /// Whether an event with such a body is read as a plain one or not, or refused so.
 fn is_nested(alloc: Global, times: usize, middle: &str, answer: Result<bool, BodyFault>) -> bool {
-    let front = "{\"seq\":1,\"type\":\"event\",\"event\":\"e\",\"body\":";
+    let front = r#"{"seq":1,"type":"event","event":"e","body":"#;
     match nested(alloc, front, times, middle) {
         Ok(body) => is_event(alloc, body.as_bytes(), answer),
         Err(_) => false,
@@ -240,9 +240,9 @@ fn counts_how_deep_a_body_nests(rt: HostRuntime) {
 #[test]
 fn answers_or_runs_out_of_memory(rt: HostRuntime) {
     let body =
-        b"{\"seq\":3,\"type\":\"response\",\"request_seq\":2,\"success\":false,\"command\":\"next\",\"message\":\"m\",\"body\":{\"a\":[\"b\"]}}";
+        br#"{"seq":3,"type":"response","request_seq":2,"success":false,"command":"next","message":"m","body":{"a":["b"]}}"#;
     let text =
-        "{\"body\":{\"a\":[\"b\"]},\"command\":\"next\",\"message\":\"m\",\"request_seq\":2,\"seq\":3,\"success\":false,\"type\":\"response\"}";
+        r#"{"body":{"a":["b"]},"command":"next","message":"m","request_seq":2,"seq":3,"success":false,"type":"response"}"#;
     let is_so = is_read(rt.alloc(), body, text);
     check(&rt, is_so != Some(false), "answer");
 }

@@ -22,27 +22,23 @@ type ResponseRow = (
 
 static RESPONSES: [ResponseRow; 5] = [
     (
-        "{\"seq\":9,\"type\":\"response\",\"request_seq\":3,\"success\":true,\"command\":\"threads\",\"body\":{\"threads\":[]}}",
+        r#"{"seq":9,"type":"response","request_seq":3,"success":true,"command":"threads","body":{"threads":[]}}"#,
         3,
-        Some((true, "threads", None, Some("{\"threads\":[]}"))),
+        Some((true, "threads", None, Some(r#"{"threads":[]}"#))),
     ),
     (
-        "{\"seq\":9,\"type\":\"response\",\"request_seq\":3,\"success\":true,\"command\":\"threads\",\"body\":{\"threads\":[]}}",
+        r#"{"seq":9,"type":"response","request_seq":3,"success":true,"command":"threads","body":{"threads":[]}}"#,
         9,
         None,
     ),
     (
-        "{\"seq\":9,\"type\":\"response\",\"request_seq\":3,\"success\":false,\"command\":\"next\",\"message\":\"notStopped\",\"body\":null}",
+        r#"{"seq":9,"type":"response","request_seq":3,"success":false,"command":"next","message":"notStopped","body":null}"#,
         3,
         Some((false, "next", Some("notStopped"), None)),
     ),
+    (r#"{"seq":3,"type":"request","command":"threads"}"#, 3, None),
     (
-        "{\"seq\":3,\"type\":\"request\",\"command\":\"threads\"}",
-        3,
-        None,
-    ),
-    (
-        "{\"seq\":3,\"type\":\"event\",\"event\":\"stopped\",\"request_seq\":3}",
+        r#"{"seq":3,"type":"event","event":"stopped","request_seq":3}"#,
         3,
         None,
     ),
@@ -53,15 +49,15 @@ type EventRow = (&'static str, Option<(&'static str, Option<&'static str>)>);
 
 static EVENTS: [EventRow; 3] = [
     (
-        "{\"seq\":4,\"type\":\"event\",\"event\":\"exited\",\"body\":{\"exitCode\":7}}",
-        Some(("exited", Some("{\"exitCode\":7}"))),
+        r#"{"seq":4,"type":"event","event":"exited","body":{"exitCode":7}}"#,
+        Some(("exited", Some(r#"{"exitCode":7}"#))),
     ),
     (
-        "{\"seq\":4,\"type\":\"event\",\"event\":\"initialized\"}",
+        r#"{"seq":4,"type":"event","event":"initialized"}"#,
         Some(("initialized", None)),
     ),
     (
-        "{\"seq\":4,\"type\":\"request\",\"command\":\"next\",\"event\":\"exited\"}",
+        r#"{"seq":4,"type":"request","command":"next","event":"exited"}"#,
         None,
     ),
 ];

@@ -131,10 +131,10 @@ fn is_not_json(alloc: Global, bytes: &[u8]) -> bool {
 /// Texts, and what their trees are written as.
 static READ: [(&str, &str); 3] = [
     (
-        "{\"b\": [1, -2, null], \"a\": \"\\/\"}",
-        "{\"a\":\"/\",\"b\":[1,-2,null]}",
+        r#"{"b": [1, -2, null], "a": "\/"}"#,
+        r#"{"a":"/","b":[1,-2,null]}"#,
     ),
-    ("{\"a\":1,\"a\":2}", "{\"a\":2}"),
+    (r#"{"a":1,"a":2}"#, r#"{"a":2}"#),
     ("18446744073709551615", "18446744073709551615"),
 ];
 
@@ -195,7 +195,7 @@ fn first_otherwise(alloc: Global, text: &[u8]) -> &'static str {
 #[test]
 fn reads_members(rt: HostRuntime) {
     let text =
-        b"{\"n\":9007199254740991,\"m\":9007199254740992,\"f\":1.0,\"s\":\"x\",\"b\":false,\"z\":null,\"t\":[]}";
+        br#"{"n":9007199254740991,"m":9007199254740992,"f":1.0,"s":"x","b":false,"z":null,"t":[]}"#;
     let otherwise = first_otherwise(rt.alloc(), text);
     check(&rt, otherwise.is_empty(), otherwise);
 }
@@ -234,6 +234,6 @@ fn is_object(alloc: Global, text: &[u8]) -> bool {
 
 #[test]
 fn builds_an_object(rt: HostRuntime) {
-    let text = b"{\"a\":\"y\",\"b\":7,\"c\":\"x\"}";
+    let text = br#"{"a":"y","b":7,"c":"x"}"#;
     check(&rt, is_object(rt.alloc(), text), "object");
 }
