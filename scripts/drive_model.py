@@ -10,52 +10,15 @@ import argparse
 import json
 import sys
 
-from session_model import GREATEST, KEYS, RESUMING, THREAD, Failed, Session, are, bad_key, is_count, is_named_source, is_text
-from session_model import FAILURES, name_of
-from slow_check import GATES, MAX_FILE, USED_AT, Message, Refused, given, lines_of, read_json
+from commands import COMMANDS, GATES, GONE, RESUMING, TERMINAL, USED, failure
+from session_model import GREATEST, Failed, Session, bad_key, name_of, written
+from slow_check import MAX_FILE, Message, Refused, given, lines_of, read_json
 
-SETTERS = {"setBreakpoints", "setFunctionBreakpoints", "setExceptionBreakpoints"}
-GONE = {"exited", "terminated"}
 AFTER_START = {"Configuring", "Running", "Stopped", "Resuming"}
-# The client's phases in which a command may be sent. Those that set breakpoints, and `configurationDone`, want the event
-# `initialized` too.
-MAY_SEND = {
-    "initialize": {"Fresh"},
-    "launch": {"Configuring"},
-    "attach": {"Configuring"},
-    "disconnect": AFTER_START | {"Exited"},
-    "pause": {"Running", "Stopped", "Resuming"},
-    **{command: AFTER_START for command in SETTERS | {"configurationDone"}},
-    **{
-        command: AFTER_START | {"Exited"}
-        for command in ("threads", "source", "loadedSources", "modules", "breakpointLocations", "cancel")
-    },
-    **{command: {"Configuring", "Running", "Stopped"} for command in ("terminate", "restart")},
-    **{
-        command: {"Stopped"}
-        for command in RESUMING
-        | {"stackTrace", "scopes", "variables", "evaluate", "setVariable", "exceptionInfo", "completions"}
-    },
-}
-# The keys of the commands that the adapter does not serve.
-CALLS = {
-    **KEYS,
-    "setFunctionBreakpoints": [("breakpoints", True, are(lambda one: isinstance(one, dict) and is_text(one.get("name"))))],
-    "modules": [("startModule", False, is_count), ("moduleCount", False, is_count)],
-    "exceptionInfo": THREAD,
-    "breakpointLocations": [("source", True, is_named_source), ("line", True, is_count), ("endLine", False, is_count)],
-    "completions": [
-        ("text", True, is_text), ("column", True, is_count), ("frameId", False, is_count), ("line", False, is_count),
-    ],
-}
 
 
 class Fault(Exception):
     """What ends a run, as the program prints it after `dap: `."""
-
-
-def written(message):
-    return json.dumps(message, sort_keys=True, separators=(",", ":"), ensure_ascii=False).encode()
 
 
 def is_plain(value, depth=100):
@@ -85,9 +48,8 @@ def call_of(command, arguments):
     if command == "source":
         inner = (told.get("source") or {}).get("sourceReference")
         return {"sourceReference": inner or told.get("sourceReference", 0)}
-    defaults = ("startFrame", "levels", "start", "count", "startModule", "moduleCount")
-    known = {key: told[key] for key, _, _ in CALLS.get(command, []) if key in told and (told[key] or key not in defaults)}
-    return known or None
+    known = [key.name for key in COMMANDS[command].keys if told.get(key.name) or key.name in told and not key.has_default]
+    return {key: told[key] for key in known} or None
 
 
 class Client:
@@ -109,19 +71,20 @@ class Client:
 
     def refusal(self, command, arguments):
         """Why a request may not be sent; not the limits."""
-        late = MAY_SEND[command] == {"Stopped"} and self.phase in ("Running", "Resuming")
+        sent = COMMANDS[command].sent
+        late = sent == {"Stopped"} and self.phase in ("Running", "Resuming")
         if self.phase == "Ended":
             return "Ended"
-        if self.phase not in MAY_SEND[command] and not late:
+        if self.phase not in sent and not late:
             return "WrongPhase"
-        if command in SETTERS | {"configurationDone"} and not self.ready:
+        if COMMANDS[command].needs_ready and not self.ready:
             return "WrongPhase"
         if command in GATES and self.flags.get(GATES[command]) is not True:
             return "NotSupported"
         if late:
             return "NotStopped"
-        if command in USED_AT:
-            key, kind = USED_AT[command]
+        if command in USED:
+            key, kind = USED[command]
             if key in (arguments or {}) and (kind, arguments[key]) not in self.known:
                 return "UnknownReference"
         return None
@@ -145,7 +108,7 @@ class Client:
             self.phase = "Initializing"
         elif command == "disconnect":
             self.go("Ended")
-        elif command in RESUMING | {"terminate", "restart"} and self.phase == "Stopped":
+        elif command in (*RESUMING, "terminate", "restart") and self.phase == "Stopped":
             self.phase = "Resuming"
             self.resuming = self.seq
         return request
@@ -162,11 +125,8 @@ class Client:
         if self.seq >= self.max_seq:
             raise Fault("Client")
         self.seq += 1
-        told = {"type": "response", "seq": self.seq, "request_seq": self.incoming.pop(0), "command": "runInTerminal"}
-        if is_there:
-            return {**told, "success": True, "body": {}}
-        number, text = FAILURES["terminalRefused"]
-        return {**told, "success": False, "message": "terminalRefused", "body": {"error": {"format": text, "id": number}}}
+        told = {"type": "response", "seq": self.seq, "request_seq": self.incoming.pop(0), "command": TERMINAL}
+        return {**told, **({"success": True, "body": {}} if is_there else failure("terminalRefused"))}
 
     def take(self, message):
         if message["type"] == "event":
@@ -360,13 +320,13 @@ def script_line(drive, line):
     word, _, rest = line.partition(b" ")
     command, blank, text = rest.partition(b" ")
     command = command.decode(errors="replace")
-    if word != b"send" or command not in MAY_SEND:
+    if word != b"send" or command not in COMMANDS:
         raise Fault("Script")
     try:
         arguments = read_json(text) if blank else None
     except Refused:
         raise Fault("Script") from None
-    if bad_key(command, arguments, CALLS) or command in ("launch", "attach") and not is_plain(arguments):
+    if bad_key(command, arguments) or command in ("launch", "attach") and not is_plain(arguments):
         raise Fault("Call")
     return drive.send(command, arguments)
 

@@ -6,12 +6,11 @@ the program's own output.
 import copy
 import json
 import os
-import subprocess
 
-from trial import DAP, FOLDER, HERE, RECORDING, expect, frame, request_frame, run
+from slow_check import MAX_FILE
+from trial import ANSWER, BAD_BODIES, BAD_FRAMES, FIRST, FOLDER, HERE, RECORDING, THREADS, fault, file_of, fine, frame
+from trial import long_file, request_frame, try_rows, with_files
 
-THREADS = b'{"seq":1,"type":"request","command":"threads"}'
-FIRST = frame(THREADS)
 SHORT = {9: "\\t", 10: "\\n", 13: "\\r", 34: '\\"', 92: "\\\\"}
 
 
@@ -21,42 +20,27 @@ def excerpt(data):
     return f'"{shown}"' + ("..." if len(data) > 60 else "")
 
 
-def explained(name, words, status, fault, told, out=b"", given=b""):
-    """The fault's own line is as ever; with --explain the other one follows. Nothing else changes."""
-    first = b"dap: " + fault.encode() + b"\n"
-    expect(f"explain: {name}, without it", run(words, given), (status, out, first))
-    expect(f"explain: {name}", run([*words, "--explain"], given), (status, out, first + told.encode() + b"\n"))
+def explained(rows):
+    """The fault's own line is as ever; with --explain the other one follows. Nothing else changes. A row has the fault, the
+    other line, in which FILE is the first file that is made, what was written before, and the input and full streams."""
+    for name, words, told, why, *more in rows:
+        names = with_files(*words)
+        path = next((name for name, word in zip(names, words) if isinstance(word, bytes)), "")
+        out, *given = more or [b""]
+        status, out, err = fault(told, out)
+        both = status, out, err + why.replace("FILE", path).encode() + b"\n"
+        alone = [(f"explain: {name}, without it", names, (status, out, err), *given)] if len(given) < 2 else []
+        try_rows([*alone, (f"explain: {name}", [*names, "--explain"], both, *given)])
 
 
-def written(name, content):
-    path = os.path.join(FOLDER, name)
-    with open(path, "wb") as file:
-        file.write(content if isinstance(content, bytes) else json.dumps(content).encode())
-    return path
-
-
+VARIABLES = [{"name": "v", "value": "1", "variables": []}]
+TOP = {"name": "f", "source": 0, "line": 2, "scopes": [{"name": "l", "variables": VARIABLES}]}
+OTHER = {"id": -7, "name": "other", "frames": [{"name": "g", "source": 1, "line": 1}]}
 GOOD = {
     "exit": 0,
     "sources": [{"name": "a", "text": "one\ntwo\n"}, {"name": "b", "text": "x"}],
     "moments": [
-        {
-            "threads": [
-                {
-                    "id": 1,
-                    "name": "main",
-                    "frames": [
-                        {
-                            "name": "f",
-                            "source": 0,
-                            "line": 2,
-                            "scopes": [{"name": "l", "variables": [{"name": "v", "value": "1", "variables": []}]}],
-                        }
-                    ],
-                },
-                {"id": -7, "name": "other", "frames": [{"name": "g", "source": 1, "line": 1}]},
-            ],
-            "thread": 1,
-        },
+        {"threads": [{"id": 1, "name": "main", "frames": [TOP]}, OTHER], "thread": 1},
         {"threads": [{"id": 1, "name": "main", "frames": [{"name": "f", "source": 0, "line": 1}]}], "thread": 1},
     ],
 }
@@ -75,14 +59,11 @@ def changed(path, value):
         del inner[path[-1]]
     else:
         inner[path[-1]] = value
-    return data
+    return json.dumps(data).encode()
 
 
 def place(path):
-    text = ""
-    for step in path:
-        text += f"[{step}]" if isinstance(step, int) else ("." if text else "") + step
-    return text
+    return "".join(f"[{step}]" if isinstance(step, int) else f".{step}" for step in path).lstrip(".")
 
 
 FRAME = ["moments", 0, "threads", 0, "frames", 0]
@@ -138,21 +119,21 @@ BAD_KEYS = [
 ]
 
 
+TURN = b"turn\n"
+
+
 def recordings():
-    expect("explain: the recording that is changed is good", run(["serve", written("good.json", GOOD)]), (0, b"", b""))
-    script = written("turn.script", b"turn\n")
+    try_rows([("explain: the recording that is changed is good", ["serve", json.dumps(GOOD).encode()], fine())])
+    rows = []
     for path, value, told in BAD_KEYS:
-        file = written("x.json", changed(path, value))
         where = place(path)
         if told is None:
             where, told = where + "[0].variables[0].value", "absent"
-        explained(f"{where}, {told}", ["serve", file], 3, "BadKey", f"{file}: {where}: {told}")
-        explained(f"drive: {where}, {told}", ["drive", file, script], 3, "Recording", f"{file}: {where}: {told}")
+        rows += [(f"{where}, {told}", changed(path, value), "BadKey", f"{where}: {told}")]
     # The first bad key in the order of the format is told, not the first of the file.
-    file = written("x.json", b'{"moments":1,"sources":2,"exit":3.5}')
-    told = f"{file}: exit: a number, not a whole one from -2147483648 to 2147483647"
-    explained("the first of three", ["serve", file], 3, "BadKey", told)
-    for content, fault, told in [
+    told = "exit: a number, not a whole one from -2147483648 to 2147483647"
+    explained([("the first of three", ["serve", b'{"moments":1,"sources":2,"exit":3.5}'], "BadKey", f"FILE: {told}")])
+    for content, name, told in [
         (b"{", "NotJson", "no JSON"),
         (b"", "NotJson", "no JSON"),
         (b"\xff", "NotJson", "no JSON"),
@@ -160,39 +141,17 @@ def recordings():
         (b"null", "NotObject", "null, not an object"),
         (b"17", "NotObject", "a number, not an object"),
     ]:
-        file = written("x.json", content)
-        explained(f"{content}", ["serve", file], 3, fault, f"{file}: {told}")
-        explained(f"drive: {content}", ["drive", file, script], 3, "Recording", f"{file}: {told}")
+        rows += [(f"{content}", content, name, told)]
+    for name, content, told, why in rows:
+        explained([
+            (name, ["serve", content], told, f"FILE: {why}"),
+            (f"drive: {name}", ["drive", content, TURN], "Recording", f"FILE: {why}"),
+        ])
 
 
-BAD_FRAMES = [
-    (b"Content-Length 12\r\n\r\n{}", "BadHeader", b"Content-Length 12"),
-    (b"A: b\r\nContent-Length 12\r\n\r\n{}", "BadHeader", b"A: b\r\nContent-Length 12"),
-    (b"\r\n\r\n{}", "BadHeader", b""),
-    (b"A: b\r\n\r\n", "NoLength", b"A: b"),
-    (b"Content-Length: 2\r\n" * 2 + b"\r\n{}", "TwoLengths", b"Content-Length: 2\r\nContent-Length: 2"),
-    (b"Content-Length: 2x\r\n\r\n{}", "BadLength", b"Content-Length: 2x"),
-    (b"Content-Length: 4194305\r\n\r\n", "BodyTooLong", b"Content-Length: 4194305"),
-    (b"A" * 8192, "HeaderTooLong", b"A" * 8192),
-    (b"\x00\t\"\\\x7f\xc3\xa9: 1\r\n\r\n", "BadHeader", b"\x00\t\"\\\x7f\xc3\xa9: 1"),
-    (b"A: " + b"b" * 56 + b"\r\n\r\n", "NoLength", b"A: " + b"b" * 56),
-    (b"A: " + b"b" * 57 + b"\r\n\r\n", "NoLength", b"A: " + b"b" * 57),
-    (b"A: " + b"b" * 58 + b"\r\n\r\n", "NoLength", b"A: " + b"b" * 58),
-]
-BAD_BODIES = [
-    (b"{", "NotJson"),
-    (b"", "NotJson"),
-    (b"[]", "NotObject"),
-    (b'{"seq":1.0}', "BadSeq"),
-    (b'{"seq":1}', "BadType"),
-    (b'{"seq":1,"type":"request"}', "BadCommand"),
-    (b'{"seq":1,"type":"response","command":"x"}', "BadRequestSeq"),
-    (b'{"seq":1,"type":"response","command":"x","request_seq":1}', "BadSuccess"),
-    (b'{"seq":1,"type":"event"}', "BadEvent"),
-    (b'{"seq":1,"type":"response","command":"x","request_seq":1,"success":true,"message":1}', "BadMessage"),
-    (b'{"seq":"' + b"x" * 100 + b'"}', "BadSeq"),
-]
-LINE = b"0 1 request threads\n"
+# What is no frame or no message, with its fault and what is shown of it.
+LONG = b'{"seq":"' + b"x" * 100 + b'"}'
+BAD = BAD_FRAMES + [(frame(body), name, body) for body, name in [*BAD_BODIES, (b"", "NotJson"), (LONG, "BadSeq")]]
 IN_WORDS = {
     "BadHeader": "a line of the header block is no header field",
     "NoLength": "no header field is named Content-Length",
@@ -212,176 +171,125 @@ IN_WORDS = {
 }
 
 
+AT = len(frame(THREADS))
+
+
 def streams():
-    at = len(FIRST)
-    for bad, fault, shown in BAD_FRAMES + [(frame(body), fault, body) for body, fault in BAD_BODIES]:
-        told = f"{fault} at {at}"
-        file = written("trace.dap", FIRST + bad + FIRST)
-        for tool, out in [("show", LINE), ("unwrap", THREADS + b"\n")]:
-            line = f"{file}: at {at}: {excerpt(shown)}"
-            explained(f"{tool}: {told}, {shown[:20]}", [tool, file], 3, told, line, out)
-            line = f"standard input: at {at}: {excerpt(shown)}"
-            explained(f"{tool} -: {told}, {shown[:20]}", [tool, "-"], 3, told, line, out, FIRST + bad + FIRST)
-    for tool in ("show", "unwrap"):
-        file = written("trace.dap", FIRST[:50])
-        explained(f"{tool}: cut short", [tool, file], 4, "Truncated", f"{file}: ends within a frame")
+    first = frame(THREADS)
+    for tool, out in [("show", b"0 1 request threads\n"), ("unwrap", THREADS + b"\n")]:
+        for bad, name, shown in BAD:
+            told, why = f"{name} at {AT}", f"at {AT}: {excerpt(shown)}"
+            name = f"{told}, {shown[:20]}"
+            explained([
+                (f"{tool}: {name}", [tool, first + bad + first], told, f"FILE: {why}", out),
+                (f"{tool} -: {name}", [tool, "-"], told, f"standard input: {why}", out, first + bad + first),
+            ])
+        explained([(f"{tool}: cut short", [tool, first[:50]], "Truncated", "FILE: ends within a frame")])
 
 
 def lines():
-    for content, line, fault, told in [
-        (THREADS + b"\n[1]\n", 2, "NotObject", b"[1]"),
-        (b"\r\n\n{\r\n", 3, "NotJson", b"{"),
-        (b'{"seq":"' + b"x" * 100 + b'"}', 1, "BadSeq", b'{"seq":"' + b"x" * 100 + b'"}'),
-    ]:
-        file = written("lines", content)
-        explained(f"wrap: {fault}", ["wrap", file], 3, f"{fault} at line {line}", f"{file}: line {line}: {excerpt(told)}")
     long = THREADS[:-1] + b',"arguments":{"a":"' + b"x" * 1024 + b'"}}'
-    file = written("lines", long)
-    explained("wrap: too long", ["wrap", file, "--max-body", "1024"], 3, "BodyTooLong at line 1", f"{file}: line 1: {excerpt(long)}")
-    for content, line, fault, told in [
-        (b"> " + THREADS + b"\n= {}\n", 2, "BadLine", b"= {}"),
-        (b"> " + THREADS + b"\n\n< {\n", 3, "NotJson", b"< {"),
-        (b">{}", 1, "BadLine", b">{}"),
+    for name, words, told, text in [
+        ("wrap: NotObject", ["wrap", THREADS + b"\n[1]\n"], "NotObject at line 2", b"[1]"),
+        ("wrap: NotJson", ["wrap", b"\r\n\n{\r\n"], "NotJson at line 3", b"{"),
+        ("wrap: BadSeq", ["wrap", LONG], "BadSeq at line 1", LONG),
+        ("wrap: too long", ["wrap", long, "--max-body", "1024"], "BodyTooLong at line 1", long),
+        ("check: BadLine", ["check", b"> " + THREADS + b"\n= {}\n"], "BadLine at line 2", b"= {}"),
+        ("check: NotJson", ["check", b"> " + THREADS + b"\n\n< {\n"], "NotJson at line 3", b"< {"),
+        ("check: BadLine", ["check", b">{}"], "BadLine at line 1", b">{}"),
     ]:
-        file = written("lines", content)
-        explained(f"check: {fault}", ["check", file], 3, f"{fault} at line {line}", f"{file}: line {line}: {excerpt(told)}")
+        explained([(name, words, told, f"FILE: {told.partition(' at ')[2]}: {excerpt(text)}")])
 
 
-# A script up to a stop, and what is refused behind it.
+# A script up to a stop, and what is refused behind it: the words, the fault, the line that is shown, and why.
 TO_STOP = b"send initialize {}\nrun\nsend launch\nsend configurationDone\nrun\n"
+BIG = b'send initialize {"adapterID":"' + b"x" * 1024 + b'"}'
+EARLY, ENDED = ": the session is in another phase", ": the session has ended"
 SCRIPTS = [
-    (b"\nrun\nnone\n", [], "Script at line 3", 3, b"none", ""),
-    (b"send none\n", [], "Script at line 1", 1, b"send none", ""),
-    (b"send initialize {\n", [], "Script at line 1", 1, b"send initialize {", ""),
-    (b'send initialize {"linesStartAt1":1}\n', [], "Call at line 1", 1, b'send initialize {"linesStartAt1":1}', ""),
-    (b"terminal ok\n", [], "Call at line 1", 1, b"terminal ok", ""),
-    (b"send launch\n", [], "WrongPhase at line 1", 1, b"send launch", ": the session is in another phase"),
-    (
-        b"send initialize {}\nsend disconnect\nsend threads\n",
-        [],
-        "WrongPhase at line 2",
-        2,
-        b"send disconnect",
-        ": the session is in another phase",
-    ),
-    (b"send initialize {}\nrun\nsend disconnect\nsend threads\n", [], "Ended at line 4", 4, b"send threads", ": the session has ended"),
-    (
-        TO_STOP + b"send restart\n",
-        [],
-        "NotSupported at line 6",
-        6,
-        b"send restart",
-        ": the adapter does not offer it",
-    ),
+    (b"\nrun\nnone\n", [], "Script at line 3", b"none", ""),
+    (b"send none\n", [], "Script at line 1", b"send none", ""),
+    (b"send initialize {\n", [], "Script at line 1", b"send initialize {", ""),
+    (b'send initialize {"linesStartAt1":1}\n', [], "Call at line 1", b'send initialize {"linesStartAt1":1}', ""),
+    (b"terminal ok\n", [], "Call at line 1", b"terminal ok", ""),
+    (b"send launch\n", [], "WrongPhase at line 1", b"send launch", EARLY),
+    (b"send initialize {}\nsend disconnect\nsend threads\n", [], "WrongPhase at line 2", b"send disconnect", EARLY),
+    (b"send initialize {}\nrun\nsend disconnect\nsend threads\n", [], "Ended at line 4", b"send threads", ENDED),
+    (TO_STOP + b"send restart\n", [], "NotSupported at line 6", b"send restart", ": the adapter does not offer it"),
     (
         TO_STOP + b'send continue {"threadId":1}\nsend scopes {"frameId":1}\n',
-        [],
-        "NotStopped at line 7",
-        7,
-        b'send scopes {"frameId":1}',
-        ": the debuggee is not stopped",
+        [], "NotStopped at line 7", b'send scopes {"frameId":1}', ": the debuggee is not stopped",
     ),
     (
         TO_STOP + b'send scopes {"frameId":99}\n',
-        [],
-        "UnknownReference at line 6",
-        6,
-        b'send scopes {"frameId":99}',
-        ": a reference is not known",
+        [], "UnknownReference at line 6", b'send scopes {"frameId":99}', ": a reference is not known",
     ),
-    (
-        b'send initialize {"adapterID":"' + b"x" * 1024 + b'"}\n',
-        ["--max-body", "1024"],
-        "TooLarge at line 1",
-        1,
-        b'send initialize {"adapterID":"' + b"x" * 1024 + b'"}',
-        ": the body is longer than its limit",
-    ),
+    (BIG + b"\n", ["--max-body", "1024"], "TooLarge at line 1", BIG, ": the body is longer than its limit"),
     (
         b"send initialize {}\nrun\nsend threads\nsend threads\nsend threads\n",
-        ["--max-requests", "2"],
-        "Full at line 5",
-        5,
-        b"send threads",
-        ": no more requests may wait",
+        ["--max-requests", "2"], "Full at line 5", b"send threads", ": no more requests may wait",
     ),
 ]
 
 
 def scripts():
-    for content, words, fault, line, text, why in SCRIPTS:
-        file = written("a.script", content)
-        told = f"{file}: line {line}: {excerpt(text)}{why}"
-        explained(f"drive: {fault}", ["drive", RECORDING, file, *words], 3, fault, told)
+    rows = [(f"drive: {told}", *row) for row in SCRIPTS for told in row[2:3]]
+    early = b"send initialize {}\nsend threads\n"
+    rows += [("drive: too early", early, [], "WrongPhase at line 2", b"send threads", EARLY)]
+    for name, content, words, told, text, why in rows:
+        line = told.partition(" at ")[2]
+        explained([(name, ["drive", RECORDING, content, *words], told, f"FILE: {line}: {excerpt(text)}{why}")])
     # One number a side: the second message of either is refused.
-    file = written("a.script", b"send initialize {}\nsend threads\n")
-    told = f"{file}: line 2: {excerpt(b'send threads')}: the session is in another phase"
-    explained("drive: too early", ["drive", RECORDING, file], 3, "WrongPhase at line 2", told)
-    file = written("a.script", b"send initialize {}\nrun\n")
-    told = f"{file}: the adapter has no sequence number left for what is due"
-    explained("drive: the adapter's numbers", ["drive", RECORDING, file, "--max-seq", "1"], 3, "Adapter", told)
+    words = ["drive", RECORDING, b"send initialize {}\nrun\n", "--max-seq", "1"]
+    told = "FILE: the adapter has no sequence number left for what is due"
+    explained([("drive: the adapter's numbers", words, "Adapter", told)])
+
+
+NO_READ = "standard input: cannot be read"
+NO_WRITE = "standard output: cannot be written"
 
 
 def serving():
-    serve = ["serve", RECORDING]
-    status, answer, _ = run(serve, request_frame(1, "initialize", {"adapterID": "rec"}))
-    expect("explain: serve: initialize", status, 0)
-    first = request_frame(1, "initialize", {"adapterID": "rec"})
-    at = len(first)
-    for bad, fault in [(bad, fault) for bad, fault, _ in BAD_FRAMES] + [(frame(body), fault) for body, fault in BAD_BODIES]:
-        told = f"standard input: at {at}: {IN_WORDS[fault]}"
-        explained(f"serve: {fault}, {bad[:20]}", serve, 3, f"{fault} at {at}", told, answer, first + bad)
-    launch = request_frame(2, "launch")
-    again = "standard input: request 2 again, while request 2 has no response"
-    explained("serve: a repeated seq", serve, 3, "RepeatedSeq", again, answer, first + launch + launch)
+    serve, launch = ["serve", RECORDING], request_frame(2, "launch")
     response = frame(b'{"seq":2,"type":"response","request_seq":1,"success":true,"command":"threads"}')
+    try_rows([("explain: serve: initialize", serve, fine(ANSWER), FIRST)])
+    at = len(FIRST)
+    for bad, name, _ in BAD:
+        told = f"standard input: at {at}: {IN_WORDS[name]}"
+        explained([(f"serve: {name}, {bad[:20]}", serve, f"{name} at {at}", told, ANSWER, FIRST + bad)])
+    again = "standard input: request 2 again, while request 2 has no response"
     unmatched = "standard input: response to request 1, which does not wait for one"
-    explained("serve: a response", serve, 3, "Unmatched", unmatched, answer, first + response)
-    explained("serve: cut short", serve, 4, "Truncated", "standard input: ends within a frame", b"", first[:50])
-    numbers = "standard input: no sequence number is left for what is due"
-    explained("serve: no number", [*serve, "--max-seq", "1"], 3, "SeqExhausted", numbers, b"", first)
-    with open("/dev/full", "wb") as full:
-        done = subprocess.run([DAP, *serve, "--explain"], input=first, stdout=full, stderr=subprocess.PIPE, timeout=60)
-    told = b"dap: Write\nstandard output: cannot be written, after 0 bytes\n"
-    expect("explain: serve: a full device", (done.returncode, done.stderr), (5, told))
-    folder = os.open(HERE, os.O_RDONLY)
-    done = subprocess.run([DAP, *serve, "--explain"], stdin=folder, capture_output=True, timeout=60)
-    os.close(folder)
-    expect("explain: serve: it cannot be read", (done.returncode, done.stderr), (5, b"dap: Read\nstandard input: cannot be read\n"))
+    no_number = "standard input: no sequence number is left for what is due"
+    explained([
+        ("serve: a repeated seq", serve, "RepeatedSeq", again, ANSWER, FIRST + launch + launch),
+        ("serve: a response", serve, "Unmatched", unmatched, ANSWER, FIRST + response),
+        ("serve: cut short", serve, "Truncated", "standard input: ends within a frame", b"", FIRST[:50]),
+        ("serve: no number", [*serve, "--max-seq", "1"], "SeqExhausted", no_number, b"", FIRST),
+        ("serve: a full device", serve, "Write", f"{NO_WRITE}, after 0 bytes", b"", FIRST, ["stdout"]),
+        ("serve: it cannot be read", serve, "Read", NO_READ, b"", HERE, []),
+    ])
 
 
 def files():
-    script = written("turn.script", b"turn\n")
-    missing = os.path.join(FOLDER, "none", "count.json")
-    locked = written("locked", b"")
+    script = file_of("turn.script", TURN)
+    locked = file_of("locked", b"")
     os.chmod(locked, 0)
-    strange = os.path.join(FOLDER, "a\nb\x7f")
-    rows = [(missing, "no such file", missing), (FOLDER, "is a directory", FOLDER)]
-    rows += [(strange, "no such file", strange.replace("\n", "?").replace("\x7f", "?"))]
-    rows += [(os.path.join(script, "x"), "cannot be opened", os.path.join(script, "x"))]
-    if os.geteuid():
-        rows += [(locked, "permission denied", locked)]
-    for path, told, name in rows:
-        for words in [["serve", path], ["show", path], ["unwrap", path], ["wrap", path], ["check", path], ["drive", path, script], ["drive", RECORDING, path]]:
-            explained(f"{words[0]}: {told}", words, 5, "Read", f"{name}: {told}")
-    path = os.path.join(FOLDER, "long")
-    with open(path, "wb") as file:
-        file.truncate(67108865)
+    rows = [(os.path.join(FOLDER, "none", "count.json"), "no such file"), (FOLDER, "is a directory")]
+    rows += [(os.path.join(FOLDER, "a\nb\x7f"), "no such file"), (os.path.join(script, "x"), "cannot be opened")]
+    rows += [(locked, "permission denied")] * (os.geteuid() != 0)
+    for path, told in rows:
+        words = [[tool, path] for tool in ("serve", "show", "unwrap", "wrap", "check")]
+        why = f"{path}: {told}".replace("\n", "?").replace("\x7f", "?")
+        for one in [*words, ["drive", path, script], ["drive", RECORDING, path]]:
+            explained([(f"{one[0]}: {told}", one, "Read", why)])
+    path = long_file(MAX_FILE + 1)
     for tool in ("serve", "show", "unwrap", "wrap", "check"):
-        explained(f"{tool}: too long", [tool, path], 3, "FileTooLong", f"{path}: longer than 67108864 bytes")
+        explained([(f"{tool}: too long", [tool, path], "FileTooLong", f"{path}: longer than 67108864 bytes")])
     os.remove(path)
-    for tool in ("show", "unwrap", "wrap", "check"):
-        folder = os.open(HERE, os.O_RDONLY)
-        done = subprocess.run([DAP, tool, "-", "--explain"], stdin=folder, capture_output=True, timeout=60)
-        os.close(folder)
-        told = b"dap: Read\nstandard input: cannot be read\n"
-        expect(f"explain: {tool}: standard input cannot be read", (done.returncode, done.stdout, done.stderr), (5, b"", told))
-    for tool, content in [("show", FIRST), ("unwrap", FIRST), ("wrap", THREADS), ("check", b"")]:
-        path = written("given", content)
-        with open("/dev/full", "wb") as full:
-            done = subprocess.run([DAP, tool, path, "--explain"], stdout=full, stderr=subprocess.PIPE, timeout=60)
-        told = b"dap: Write\nstandard output: cannot be written\n"
-        expect(f"explain: {tool}: a full device", (done.returncode, done.stderr), (5, told))
+    for tool, content in [("show", frame(THREADS)), ("unwrap", frame(THREADS)), ("wrap", THREADS), ("check", b"")]:
+        explained([
+            (f"{tool}: standard input cannot be read", [tool, "-"], "Read", NO_READ, b"", HERE, []),
+            (f"{tool}: a full device", [tool, content], "Write", NO_WRITE, b"", b"", ["stdout"]),
+        ])
 
 
 def explain():

@@ -7,13 +7,14 @@ import json
 import os
 import random
 
+from commands import COMMANDS
 from damage import Raw, Writer, changed_bytes, changed_list, changed_value, noise, odd_value
-from drive_model import CALLS, MAY_SEND, drive_of
+from drive_model import drive_of
 from program_model import read_recording
 from random_sessions import mixed_session, random_recording
 from session_model import frame
 from slow_check import Refused, is_text, read_json
-from trial import FOLDER, HERE, RECORDING, RECORDINGS, recording_of, request, split
+from trial import EXAMPLES, RECORDING, RECORDINGS, bytes_of, file_of, recording_of, request, split
 from try_transcripts import edited, random_script
 
 
@@ -62,19 +63,12 @@ def session_case(choice):
 
 def recording_file(choice):
     """The path of one of the recordings of the examples, or of a random one."""
-    return choice.choice(RECORDINGS) if chance(choice, 2) else file_of(json.dumps(random_recording(choice)).encode())
+    return choice.choice(RECORDINGS) if chance(choice, 2) else made_file(json.dumps(random_recording(choice)).encode())
 
 
-def file_of(content):
-    path = os.path.join(FOLDER, f"recording-{os.getpid()}")
-    with open(path, "wb") as file:
-        file.write(content)
-    return path
-
-
-def bytes_of(path):
-    with open(path, "rb") as file:
-        return file.read()
+def made_file(content):
+    """One for each process."""
+    return file_of(f"recording-{os.getpid()}", content)
 
 
 def other_limits(choice):
@@ -109,7 +103,7 @@ def lines_case(choice):
 
 def messages(choice):
     """Messages of a recorded stream, and others."""
-    folder = os.path.join(HERE, "examples", "streams")
+    folder = os.path.join(EXAMPLES, "streams")
     name = choice.choice(sorted(name for name in os.listdir(folder) if name.endswith(".dap")))
     bodies = [body for _, body in split(bytes_of(os.path.join(folder, name))) if len(body) < 3000]
     there = [json.loads(body) for body in choice.sample(bodies, choice.randrange(5))]
@@ -161,15 +155,18 @@ def messages_with_damage(choice, values):
 
 def changed_message(choice, message):
     """With another value at a key that its command knows, or with any change."""
-    known = CALLS.get(message.get("command")) if isinstance(message, dict) and is_text(message.get("command")) else None
+    known = keys_of(message.get("command")) if isinstance(message, dict) else []
     if not known or chance(choice, 3):
         return changed_value(choice, message, choice.choice([1, 1, 2]))
     return {**message, "arguments": changed_arguments(choice, known, message.get("arguments"))}
 
 
+def keys_of(command):
+    return COMMANDS[command].keys if is_text(command) and command in COMMANDS else []
+
+
 def changed_arguments(choice, known, arguments):
-    key, _, _ = choice.choice(known)
-    return {**(arguments if isinstance(arguments, dict) else {}), key: odd_value(choice)}
+    return {**(arguments if isinstance(arguments, dict) else {}), choice.choice(known).name: odd_value(choice)}
 
 
 def about_as_long(choice, content, options):
@@ -244,7 +241,7 @@ def session_over(choice, content):
     options = other_limits(choice)
     requests = [request(1, "initialize")]
     if is_recording(content):
-        guided = mixed_session(choice, file_of(content), 40)
+        guided = mixed_session(choice, made_file(content), 40)
         options, requests = {**guided.limits, **options}, guided.requests
     return Case("serve", [content, b"".join(frame(json.dumps(one).encode()) for one in requests)], options)
 
@@ -288,12 +285,12 @@ def odd_line(choice, line):
     if chance(choice, 8):
         return choice.choice([b"run", b"poll", b"turn", b"", b"run ", b"Run", b"send", b"send next", b"turn\r", b"#", b"# run"]) + b"\n"
     command, value = sent_by(line)
-    command = command or choice.choice([*sorted(MAY_SEND), "goto"])
+    command = command or choice.choice([*sorted(COMMANDS), "goto"])
     if command in ("launch", "attach") and chance(choice, 3):
         depth = choice.choice([98, 99, 100])
         value = {"a": Raw("[" * depth + "]" * depth)}
-    elif CALLS.get(command) and chance(choice, 2):
-        value = changed_arguments(choice, CALLS[command], value)
+    elif keys_of(command) and chance(choice, 2):
+        value = changed_arguments(choice, keys_of(command), value)
     else:
         value = changed_value(choice, value, choice.choice([1, 1, 2]))
     return f"send {command} ".encode() + line_writer(choice).bytes(value) + b"\n"
@@ -345,7 +342,7 @@ def transcript(choice):
     script, limits = random_script(choice, recording)
     _, made, _ = drive_of(recording, script, **limits)
     name = choice.choice(["delve", "delve", "delve", "debugpy"])
-    return made or bytes_of(os.path.join(HERE, "examples", "transcripts", name + ".txt"))
+    return made or bytes_of(os.path.join(EXAMPLES, "transcripts", name + ".txt"))
 
 
 def odd_message(choice, line):

@@ -4,7 +4,8 @@ scripts/try_sessions.py and scripts/fuzz_cases.py use them.
 """
 import json
 
-from session_model import RESUMING, Closed, Session
+from commands import RESUMING
+from session_model import Closed, Session
 from trial import recording_of, request, split, words_of
 
 

@@ -3,22 +3,19 @@ hand, or are those that a session was played from. Played recordings are in reco
 import json
 import os
 import resource
-import subprocess
 
 from recorded_sessions import RECORD, again, broken, examples, live, live_ends
-from trial import FOLDER, expect, expect_in, run
+from trial import FOLDER, MISSING, bound, bytes_of, expect, expect_in, file_of, fine, output_of, recording_of, run, try_rows
 
 TEXT = "one\ntwo\nthree\n"
 PATH = os.path.join(FOLDER, "there.c")
 SOURCE = {"name": "there.c", "path": PATH}
 GONE = {"name": "gone.c", "path": "/nowhere/gone.c"}
-NO_EXIT = "no event `exited` came: the exit code is 0"
 NO_GONE = "the text of /nowhere/gone.c is not to be had: it gets empty lines"
 
 
-def record(*words, given=b""):
-    done = subprocess.run([RECORD, *words], input=given, capture_output=True, timeout=60)
-    return done.returncode, done.stdout, done.stderr
+def record(*words, **more):
+    return output_of([RECORD, *words], **more)
 
 
 def text_of(steps):
@@ -36,7 +33,7 @@ def text_of(steps):
             lines.append("> " + json.dumps({"seq": count, "type": "request", "command": command, "arguments": arguments}))
             answer = {"seq": count, "type": "response", "request_seq": count, "success": body is not False}
             lines.append("< " + json.dumps({**answer, "command": command, "body": body}))
-    return "\n".join(lines)
+    return "\n".join(lines).encode()
 
 
 def stopped(thread=1, reason="breakpoint"):
@@ -67,6 +64,10 @@ def variable(name, value="v", reference=0, **more):
 
 def variables(reference, *told, **more):
     return ("variables", {"variablesReference": reference, **more}, {"variables": list(told)})
+
+
+def evaluated(expression, result, frame=5):
+    return ("evaluate", {"expression": expression, "frameId": frame}, {"result": result, "variablesReference": 0})
 
 
 def named(name, *inner, value="v"):
@@ -121,110 +122,88 @@ UNASKED = "{} cut: nobody asked for all that they hold"
 
 # Of each a session, the moments of its recording, and what is said beside NO_GONE.
 STOPS = [
-    ("one stop", [*BEGIN, *STOP, EXITED], [moment(in_frame())], []),
-    ("threads that nobody asked for", [*STOP, EXITED], [moment(in_frame(), name="thread 1")], []),
+    ("one stop", [*BEGIN, *STOP, EXITED], [moment(in_frame())]),
+    ("threads that nobody asked for", [*STOP, EXITED], [moment(in_frame(), name="thread 1")]),
     (
-        "names of threads come from before",
-        [*BEGIN, *STOP, stopped(), stack(frame(6)), EXITED],
+        "names of threads come from before", [*BEGIN, *STOP, stopped(), stack(frame(6)), EXITED],
         [moment(in_frame()), moment(in_frame())],
-        [],
     ),
     (
-        "several threads",
-        [stopped(2), threads(3, 2, 1), stack(frame(1), thread=1), stack(frame(2), thread=2), EXITED],
-        [
-            {
-                "threads": [
-                    {"id": 2, "name": "t2", "frames": [in_frame()]},
-                    {"id": 1, "name": "t1", "frames": [in_frame()]},
-                ],
-                "thread": 2,
-            }
-        ],
-        ["stop 1: 1 thread left out: nobody asked for their frames"],
+        "several threads", [stopped(2), threads(3, 2, 1), stack(frame(1), thread=1), stack(frame(2), thread=2), EXITED],
+        [{"threads": [{"id": one, "name": f"t{one}", "frames": [in_frame()]} for one in (2, 1)], "thread": 2}],
+        "stop 1: 1 thread left out: nobody asked for their frames",
     ),
     (
-        "the thread that stopped has no frames",
-        [stopped(2), threads(1, 2), stack(frame(1)), stack(thread=2), EXITED],
-        [moment(in_frame())],
-        [
-            "stop 1: nobody asked for the frames of thread 2: thread 1 is in its place",
-            "stop 1: 1 thread left out: nobody asked for their frames",
-        ],
+        "the thread that stopped has no frames", [stopped(2), threads(1, 2), stack(frame(1)), stack(thread=2), EXITED],
+        [moment(in_frame())], "stop 1: nobody asked for the frames of thread 2: thread 1 is in its place",
+        "stop 1: 1 thread left out: nobody asked for their frames",
     ),
     (
         "threads of the greatest ids",
         [stopped(2**53 - 1), stack(frame(1), thread=2**53 - 1), stack(frame(2), thread=2**53), EXITED],
         [moment(in_frame(), thread=2**53 - 1, name=f"thread {2**53 - 1}")],
-        [],
     ),
     (
         "a stop that nobody looked into",
         [*BEGIN, wrote("a"), stopped(reason="entry"), threads(1), wrote("b"), *STOP, EXITED],
-        [moment(in_frame(), output="ab")],
-        ["stop 1 (entry) is left out: nobody asked for its frames"],
+        [moment(in_frame(), output="ab")], "stop 1 (entry) is left out: nobody asked for its frames",
     ),
     (
         "output before the first stop, between two and after the last one",
         [*BEGIN, wrote("a\n"), wrote("b"), *STOP, wrote("c"), *STOP, wrote("lost"), EXITED],
         [moment(in_frame(), output="a\nb"), moment(in_frame(), output="c")],
-        ["4 characters of output after the last stop are left out"],
+        "4 characters of output after the last stop are left out",
     ),
     (
         "output of other categories",
-        [*BEGIN, wrote("a"), wrote("b", "stderr"), wrote("x", "console"), ("output", {"output": "y"})]
-        + [wrote("z", "telemetry"), *STOP, EXITED],
-        [moment(in_frame(), output="ab")],
         [
-            "1 piece of output of the category stderr: as stdout",
-            "2 pieces of output of the category console left out",
-            "1 piece of output of the category telemetry left out",
+            *BEGIN, wrote("a"), wrote("b", "stderr"), wrote("x", "console"), ("output", {"output": "y"}),
+            wrote("z", "telemetry"), *STOP, EXITED,
         ],
+        [moment(in_frame(), output="ab")], "1 piece of output of the category stderr: as stdout",
+        "2 pieces of output of the category console left out", "1 piece of output of the category telemetry left out",
     ),
     (
         "threads that are asked for after the end",
         [*BEGIN, *STOP, ("continue", {"threadId": 1}, None), EXITED, ("threads", None, {"threads": []})],
         [moment(in_frame())],
-        [],
     ),
     (
-        "a pause of the client",
-        [*BEGIN, *STOP, ("pause", {"threadId": 1}, None), *STOP, *STOP, EXITED],
+        "a pause of the client", [*BEGIN, *STOP, ("pause", {"threadId": 1}, None), *STOP, *STOP, EXITED],
         [moment(in_frame()), moment(in_frame(), waits=True), moment(in_frame())],
-        [],
     ),
     (
-        "a restart",
-        [("launch", {}, None), *BEGIN, *STOP, ("restart", {}, None), *STOP, EXITED],
+        "a restart", [("launch", {}, None), *BEGIN, *STOP, ("restart", {}, None), *STOP, EXITED],
         [moment(in_frame()), moment(in_frame())],
-        ["the program was started again after stop 1: its stops follow those before"],
+        "the program was started again after stop 1: its stops follow those before",
     ),
     (
-        "a stop within a stop",
-        [stopped(1), threads(1, 2), stopped(2), stack(frame(1), thread=2), EXITED],
-        [moment(in_frame(), thread=2, name="t2")],
-        ["stop 1 (breakpoint) is left out: nobody asked for its frames"],
+        "a stop within a stop", [stopped(1), threads(1, 2), stopped(2), stack(frame(1), thread=2), EXITED],
+        [moment(in_frame(), thread=2, name="t2")], "stop 1 (breakpoint) is left out: nobody asked for its frames",
     ),
     (
         "a stack in parts, and one more time",
-        [*BEGIN, stopped(), stack(frame(1, 1), levels=1), stack(frame(2, 2), frame(3, 3), startFrame=1)]
-        + [stack(frame(9, 9)), EXITED],
+        [
+            *BEGIN, stopped(), stack(frame(1, 1), levels=1), stack(frame(2, 2), frame(3, 3), startFrame=1),
+            stack(frame(9, 9)), EXITED,
+        ],
         [moment(in_frame(), in_frame(line=2), in_frame(line=3))],
-        [],
     ),
     (
         "a stack that was asked for in part",
-        [*BEGIN, stopped()]
-        + [("stackTrace", {"threadId": 1, "levels": 1}, {"stackFrames": [frame(1)], "totalFrames": 4}), EXITED],
-        [moment(in_frame())],
-        ["stop 1: 3 frames of thread 1 left out: nobody asked for them"],
+        [
+            *BEGIN, stopped(), ("stackTrace", {"threadId": 1, "levels": 1}, {"stackFrames": [frame(1)], "totalFrames": 4}),
+            EXITED,
+        ],
+        [moment(in_frame())], "stop 1: 3 frames of thread 1 left out: nobody asked for them",
     ),
     (
         "failures, and answers to nothing",
-        [*BEGIN, *STOP, ("scopes", {"frameId": 5}, False)]
-        + ['< {"type":"response","request_seq":99,"success":true,"body":{}}', EXITED],
+        [
+            *BEGIN, *STOP, ("scopes", {"frameId": 5}, False),
+            '< {"type":"response","request_seq":99,"success":true,"body":{}}', EXITED,
+        ],
         [moment(in_frame())],
-        [],
     ),
 ]
 LATE_SCOPES = '{"scopes":[{"name":"late","variablesReference":3}]}'
@@ -233,201 +212,168 @@ HELD = [
         "variables in variables",
         looked(variables(7, variable("a", "1"), variable("b", "{}", 9)), variables(9, variable("c")), variables(8)),
         of_looked(named("a", value="1"), named("b", named("c"), value="{}")),
-        [],
     ),
     (
-        "what nobody opened",
-        looked(variables(7, variable("a", reference=9))),
-        of_looked(named("a")),
-        ["stop 1: " + UNASKED.format("1 scope and 1 variable")],
+        "what nobody opened", looked(variables(7, variable("a", reference=9))), of_looked(named("a")),
+        "stop 1: " + UNASKED.format("1 scope and 1 variable"),
     ),
     (
         "a value that was set",
         looked(
-            variables(7, variable("a", "1")),
-            variables(8),
+            variables(7, variable("a", "1")), variables(8),
             ("setVariable", {"variablesReference": 7, "name": "a", "value": "2"}, {"value": "2"}),
             variables(7, variable("a", "2")),
         ),
         of_looked(named("a", value="1")),
-        [],
     ),
     (
         "variables in parts",
         looked(
             variables(7, variable("c", "2"), start=2, count=2),
-            variables(7, variable("a", "0"), variable("b", "1"), start=0, count=2),
-            variables(8),
+            variables(7, variable("a", "0"), variable("b", "1"), start=0, count=2), variables(8),
         ),
         of_looked(named("a", value="0"), named("b", value="1"), named("c", value="2")),
-        [],
     ),
     (
         "variables by filter, and a part of some",
         looked(
             variables(7, variable("a", reference=9, indexedVariables=7, namedVariables=1)),
-            variables(9, variable("[0]"), filter="indexed", start=0, count=1),
-            variables(9, variable("len"), filter="named"),
+            variables(9, variable("[0]"), filter="indexed", start=0, count=1), variables(9, variable("len"), filter="named"),
             variables(8),
         ),
-        of_looked(named("a", named("len"), named("[0]"))),
-        ["stop 1: " + UNASKED.format("1 variable")],
+        of_looked(named("a", named("len"), named("[0]"))), "stop 1: " + UNASKED.format("1 variable"),
     ),
     (
         "a variable that holds itself",
         looked(variables(7, variable("a", reference=9)), variables(9, variable("a", reference=9)), variables(8)),
-        of_looked(named("a", named("a"))),
-        ["stop 1: 1 cyclic reference cut: a variable that holds what it is in"],
+        of_looked(named("a", named("a"))), "stop 1: 1 cyclic reference cut: a variable that holds what it is in",
     ),
     (
         "a variable that holds its scope",
         looked(variables(7, variable("a", reference=7)), variables(8, variable("b", reference=7))),
         of_looked(named("a"), more=[named("b", named("a"))]),
-        ["stop 1: 2 cyclic references cut: a variable that holds what it is in"],
+        "stop 1: 2 cyclic references cut: a variable that holds what it is in",
     ),
     (
         "two variables that hold the same",
         looked(
-            variables(7, variable("a", reference=9), variable("b", reference=9)),
-            variables(9, variable("c")),
-            variables(8),
+            variables(7, variable("a", reference=9), variable("b", reference=9)), variables(9, variable("c")), variables(8),
         ),
         of_looked(named("a", named("c")), named("b", named("c"))),
-        [],
     ),
     (
         "an answer that comes again with other references, as of debugpy",
         looked(
-            variables(7, variable("a", "1", 9)),
-            variables(7, variable("a", "2", 10)),
-            variables(10, variable("c")),
+            variables(7, variable("a", "1", 9)), variables(7, variable("a", "2", 10)), variables(10, variable("c")),
             variables(8),
         ),
         of_looked(named("a", named("c"), value="1")),
-        [],
     ),
     (
         "scopes that come again with other references",
         [*BEGIN, *STOP, scopes(5, ("A", 7)), scopes(5, ("A", 9)), variables(9, variable("a")), EXITED],
         [moment(in_frame(scope("A", named("a"))))],
-        [],
     ),
     (
         "a frame that comes again with another id",
-        [*BEGIN, *STOP, stack(frame(6)), scopes(6, ("A", 7)), variables(7, variable("a", "1"))]
-        + [("evaluate", {"expression": "a", "frameId": 6}, {"result": "1", "variablesReference": 0}), EXITED],
+        [
+            *BEGIN, *STOP, stack(frame(6)), scopes(6, ("A", 7)), variables(7, variable("a", "1")), evaluated("a", "1", 6),
+            EXITED,
+        ],
         [moment(in_frame(scope("A", named("a", value="1"))))],
-        [],
     ),
-    (
-        "as deep as may be",
-        looked(*deep(59)[0], variables(8)),
-        of_looked(nested(59)),
-        [],
-    ),
-    (
-        "deeper",
-        looked(*deep(61)[0], variables(8)),
-        of_looked(nested(59)),
-        ["stop 1: 1 variable cut: nested deeper than 59"],
-    ),
+    ("as deep as may be", looked(*deep(59)[0], variables(8)), of_looked(nested(59))),
+    ("deeper", looked(*deep(61)[0], variables(8)), of_looked(nested(59)), "stop 1: 1 variable cut: nested deeper than 59"),
     (
         "numbers that come again for the next frame, as of LLDB",
-        [*BEGIN, stopped(), stack(frame(1), frame(2)), scopes(1, ("L", 1)), variables(1, variable("a"))]
-        + [scopes(2, ("L", 1)), variables(1, variable("b")), EXITED],
+        [
+            *BEGIN, stopped(), stack(frame(1), frame(2)), scopes(1, ("L", 1)), variables(1, variable("a")),
+            scopes(2, ("L", 1)), variables(1, variable("b")), EXITED,
+        ],
         [moment(in_frame(scope("L", named("a"))), in_frame(scope("L", named("b"))))],
-        [],
     ),
     (
         "a number of two frames that was opened once, as of Ruby's debug",
-        [*BEGIN, stopped(), stack(frame(1), frame(2)), scopes(1, ("G", 1)), scopes(2, ("G", 1))]
-        + [variables(1, variable("a")), EXITED],
+        [
+            *BEGIN, stopped(), stack(frame(1), frame(2)), scopes(1, ("G", 1)), scopes(2, ("G", 1)),
+            variables(1, variable("a")), EXITED,
+        ],
         [moment(in_frame(scope("G", named("a"))), in_frame(scope("G", named("a"))))],
-        [],
     ),
     (
         "evaluations",
         looked(
-            variables(7, variable("a", "1"), variable("a", "2")),
-            variables(8, variable("b", "3")),
-            ("evaluate", {"expression": "a", "frameId": 5}, {"result": "1", "variablesReference": 0}),
-            ("evaluate", {"expression": "b", "frameId": 5}, {"result": "3", "variablesReference": 0}),
-            ("evaluate", {"expression": "b", "frameId": 5}, {"result": "0x3", "variablesReference": 0}),
-            ("evaluate", {"expression": "a + b", "frameId": 5}, {"result": "4", "variablesReference": 0}),
+            variables(7, variable("a", "1"), variable("a", "2")), variables(8, variable("b", "3")), evaluated("a", "1"),
+            evaluated("b", "3"), evaluated("b", "0x3"), evaluated("a + b", "4"),
             ("evaluate", {"expression": "c", "frameId": 5}, False),
             ("evaluate", {"expression": "a"}, {"result": "1", "variablesReference": 0}),
         ),
         of_looked(named("a", value="1"), named("a", value="2"), more=[named("b", value="3")]),
-        [
-            "stop 1: evaluation of 'b' left out: no variable of the frame has that name and value",
-            "stop 1: evaluation of 'a + b' left out: no variable of the frame has that name and value",
-            "stop 1: evaluation of 'a' left out: it names no frame of the stop",
-        ],
+        "stop 1: evaluation of 'b' left out: no variable of the frame has that name and value",
+        "stop 1: evaluation of 'a + b' left out: no variable of the frame has that name and value",
+        "stop 1: evaluation of 'a' left out: it names no frame of the stop",
     ),
     (
         "answers that come at the next stop",
-        [*BEGIN, *STOP, '> {"seq":90,"type":"request","command":"scopes","arguments":{"frameId":5}}', *STOP]
-        + ['< {"type":"response","request_seq":90,"success":true,"body":' + LATE_SCOPES + "}", EXITED],
-        [moment(in_frame(scope("late"))), moment(in_frame())],
-        ["stop 1: " + UNASKED.format("1 scope")],
+        [
+            *BEGIN, *STOP, '> {"seq":90,"type":"request","command":"scopes","arguments":{"frameId":5}}', *STOP,
+            '< {"type":"response","request_seq":90,"success":true,"body":' + LATE_SCOPES + "}", EXITED,
+        ],
+        [moment(in_frame(scope("late"))), moment(in_frame())], "stop 1: " + UNASKED.format("1 scope"),
     ),
     (
         "bodies that are no such",
-        [*BEGIN, stopped(), ("stackTrace", {"threadId": 1}, {"stackFrames": [7, frame(1)]})]
-        + [("stackTrace", {"threadId": "1"}, {"stackFrames": None})]
-        + [("scopes", {"frameId": 1}, {"scopes": [{"name": 3, "variablesReference": 7.5}, None]})]
-        + [("scopes", None, []), ("variables", {"variablesReference": True}, {"variables": {}}), EXITED],
+        [
+            *BEGIN, stopped(), ("stackTrace", {"threadId": 1}, {"stackFrames": [7, frame(1)]}),
+            ("stackTrace", {"threadId": "1"}, {"stackFrames": None}),
+            ("scopes", {"frameId": 1}, {"scopes": [{"name": 3, "variablesReference": 7.5}, None]}), ("scopes", None, []),
+            ("variables", {"variablesReference": True}, {"variables": {}}), EXITED,
+        ],
         [moment(in_frame(scope("")))],
-        [],
     ),
     (
-        "half a character of UTF-16",
-        [*BEGIN, stopped(), stack(frame(1, name="\ud800f")), EXITED],
+        "half a character of UTF-16", [*BEGIN, stopped(), stack(frame(1, name="\ud800f")), EXITED],
         [moment(in_frame(name="?f"))],
-        [],
     ),
 ]
 
 
 def sessions():
     """What becomes of stops, and of what was looked into there."""
-    for name, steps, moments, said in STOPS + HELD:
+    for name, steps, moments, *said in STOPS + HELD:
         recorded(name, steps, {"exit": 0, "moments": moments}, [NO_GONE, *said])
+
+
+OUT = os.path.join(FOLDER, "out.json")
 
 
 def recorded(name, steps, wanted, said):
     """The recording of a session: its keys that are named, and what is said of it. `dap serve` takes it."""
-    transcript, out = os.path.join(FOLDER, "transcript"), os.path.join(FOLDER, "out.json")
-    with open(transcript, "w", encoding="utf-8") as file:
-        file.write(steps if isinstance(steps, str) else text_of(steps))
-    status, told, err = record(out, "--from", transcript)
+    status, told, err = record(OUT, "--from", text_of(steps))
     expect(f"record: {name}: ends well", (status, told), (0, b""))
-    lines = err.decode().splitlines()
-    expect(f"record: {name}: what is said", sorted(lines[:-1]), sorted(f"record: {line}" for line in said))
-    with open(out, encoding="utf-8") as file:
-        made = json.load(file)
+    *lines, last = err.decode().splitlines()
+    expect(f"record: {name}: what is said", sorted(lines), sorted(f"record: {line}" for line in said))
+    made = recording_of(OUT)
     expect(f"record: {name}", {key: made[key] for key in wanted}, wanted)
-    expect(f"record: {name}: is served", run(["serve", out]), (0, b"", b""))
+    try_rows([(f"record: {name}: is served", ["serve", OUT], fine())])
     counts = [f"{len(made[key])} {key[:-1]}{'s' * (len(made[key]) != 1)}" for key in ("moments", "sources")]
-    expect(f"record: {name}: the last line", lines[-1], f"record: {out}: {', '.join(counts)}, exit code {made['exit']}")
+    expect(f"record: {name}: the last line", last, f"record: {OUT}: {', '.join(counts)}, exit code {made['exit']}")
     return made
 
 
 def exits():
-    stop = [*BEGIN, *STOP]
-    for name, codes, code, said in [
-        ("no exit", [], 0, [NO_EXIT]),
-        ("an exit", [3], 3, []),
-        ("two exits", [3, 4], 4, []),
-        ("the least exit code", [-(2**31)], -(2**31), []),
-        ("the greatest", [2**31 - 1], 2**31 - 1, []),
-        ("one without a sign", [0xC0000005], -1073741819, [(0xC0000005, -1073741819)]),
-        ("one that is too small", [-(2**31) - 1], 2**31 - 1, [(-(2**31) - 1, 2**31 - 1)]),
-        ("an exit that is no number", [3, "4"], 3, []),
+    long = "the exit code {} has more than 32 bits with a sign: it becomes {}".format
+    for name, codes, code, *said in [
+        ("no exit", [], 0, "no event `exited` came: the exit code is 0"),
+        ("an exit", [3], 3),
+        ("two exits", [3, 4], 4),
+        ("the least exit code", [-(2**31)], -(2**31)),
+        ("the greatest", [2**31 - 1], 2**31 - 1),
+        ("one without a sign", [0xC0000005], -1073741819, long(0xC0000005, -1073741819)),
+        ("one that is too small", [-(2**31) - 1], 2**31 - 1, long(-(2**31) - 1, 2**31 - 1)),
+        ("an exit that is no number", [3, "4"], 3),
     ]:
-        steps = [*stop, *[("exited", {"exitCode": one}) for one in codes]]
-        long = "the exit code {} has more than 32 bits with a sign: it becomes {}"
-        said = [line if isinstance(line, str) else long.format(*line) for line in said]
+        steps = [*BEGIN, *STOP, *[("exited", {"exitCode": one}) for one in codes]]
         recorded(name, steps, {"exit": code}, [NO_GONE, *said])
 
 
@@ -438,11 +384,8 @@ def empty(path):
 
 def sources():
     """Texts: from the client's `source`, from this disk, or empty lines."""
-    with open(PATH, "wb") as file:
-        file.write(TEXT.encode())
-    odd = os.path.join(FOLDER, "odd.c")
-    with open(odd, "wb") as file:
-        file.write(b"one\r\n\xfftwo")
+    file_of("there.c", TEXT)
+    odd = file_of("odd.c", b"one\r\n\xfftwo")
     asked = ("source", {"source": {**SOURCE, "sourceReference": 4}, "sourceReference": 4}, {"content": "from the adapter"})
     asked_by_number = ("source", {"sourceReference": 9}, {"content": "x"})
     numbered, by_number = {**SOURCE, "sourceReference": 4}, {"name": "made", "sourceReference": 9}
@@ -481,46 +424,35 @@ def lines_from_0():
     steps = [first, *BEGIN, stopped(), stack(frame(1, 0, SOURCE), frame(2, 2, SOURCE)), EXITED]
     recorded("lines that start at 0", steps, {"moments": [moment(in_frame(), in_frame(line=3))]}, [])
     steps = [*BEGIN, stopped(), stack(frame(1, 1, SOURCE)), EXITED]
-    transcript, out = os.path.join(FOLDER, "transcript"), os.path.join(FOLDER, "out.json")
-    with open(transcript, "w") as file:
-        file.write(text_of(steps))
-    status, _, err = record("--remote", out, "--from", transcript)
+    status, _, err = record("--remote", OUT, "--from", text_of(steps))
     expect("record --remote", (status, f"the text of {PATH} is not to be had".encode() in err), (0, True))
-    with open(out) as file:
-        expect("record --remote: the source", json.load(file)["sources"], [{**SOURCE, "text": "\n"}])
+    expect("record --remote: the source", recording_of(OUT)["sources"], [{**SOURCE, "text": "\n"}])
 
 
 def limits():
     """65536 sources, and one more; a recording that is too long."""
     for count, status in ((65536, 0), (65537, 3)):
         frames = [frame(k, 1, {"name": str(k)}) for k in range(count)]
-        got = recorded_or_not([*BEGIN, stopped(), stack(*frames)], "--remote")
+        got = record(OUT, "--from", text_of([*BEGIN, stopped(), stack(*frames)]), "--remote")
         expect(f"record: {count} sources", got[0], status)
         if status:
             told = b"record: TooManySources: 65537, and a recording has at most 65536\n"
             expect("record: too many sources, by name", got[2], told)
         else:
-            expect("record: the most sources are served", run(["serve", os.path.join(FOLDER, "out.json")]), (0, b"", b""))
+            try_rows([("record: the most sources are served", ["serve", OUT], fine())])
     # A text of 23 million bytes in the transcript, which is held by three variables.
     shared = variables(7, *(variable(name, reference=9) for name in "abc"))
-    status, _, err = recorded_or_not(looked(shared, variables(9, variable("long", "v" * 23000000))))
+    steps = looked(shared, variables(9, variable("long", "v" * 23000000)))
+    status, _, err = record(OUT, "--from", text_of(steps))
     expect("record: too long", status, 3)
     expect_in("record: too long, by name", err, b"record: FileTooLong: the recording would have 690")
 
 
-def recorded_or_not(steps, *words):
-    transcript = os.path.join(FOLDER, "transcript")
-    with open(transcript, "w") as file:
-        file.write(text_of(steps))
-    return record(os.path.join(FOLDER, "out.json"), "--from", transcript, *words)
-
-
 def faults():
     """Each fault by its name, with its status. The file is as it was before, and nothing is left beside it."""
-    good = text_of([*BEGIN, *STOP, EXITED]).encode()
-    missing = os.path.join(FOLDER, "missing")
+    good = text_of([*BEGIN, *STOP, EXITED])
     for name, transcript, status, told in [
-        ("a missing file", missing, 5, f"Read: {missing}: No such file or directory"),
+        ("a missing file", MISSING, 5, f"Read: {MISSING}: No such file or directory"),
         ("a folder", FOLDER, 5, f"Read: {FOLDER}: Is a directory"),
         ("a device without end", "/dev/zero", 3, "FileTooLong: /dev/zero"),
         ("no bytes", b"", 3, "NoMessage: no line of {} has one"),
@@ -529,8 +461,8 @@ def faults():
         ("no JSON", b"\n> {\n", 3, "NotJson: line 2 of {}"),
         ("JSON that is too deep", b"> " + b"[" * 100000, 3, "NotJson: line 1 of {}"),
         ("no object", b"< []", 3, "NotObject: line 1 of {}"),
-        ("no stop", text_of([*BEGIN, EXITED]).encode(), 3, "NoStop: 0 stops, and nobody asked for the frames of one"),
-        ("a stop alone", text_of([stopped(), *BEGIN]).encode(), 3, "NoStop: 1 stop, and nobody asked for the frames of one"),
+        ("no stop", text_of([*BEGIN, EXITED]), 3, "NoStop: 0 stops, and nobody asked for the frames of one"),
+        ("a stop alone", text_of([stopped(), *BEGIN]), 3, "NoStop: 1 stop, and nobody asked for the frames of one"),
     ]:
         with_fault(name, transcript, status, told)
     places(good)
@@ -538,27 +470,20 @@ def faults():
 
 
 def with_fault(name, transcript, status, told):
-    folder = os.path.join(FOLDER, "faults")
-    os.makedirs(folder, exist_ok=True)
-    path, out = os.path.join(folder, "transcript"), os.path.join(folder, "out.json")
-    with open(out, "wb") as file:
-        file.write(b"before")
+    os.makedirs(os.path.join(FOLDER, "faults"), exist_ok=True)
+    out = file_of("faults/out.json", b"before")
     if isinstance(transcript, bytes):
-        with open(path, "wb") as file:
-            file.write(transcript)
-        transcript, told = path, told.format(path)
+        transcript = file_of("faults/transcript", transcript)
+        told = told.format(transcript)
     expect(f"record: {name}", record(out, "--from", transcript), (status, b"", f"record: {told}\n".encode()))
-    with open(out, "rb") as file:
-        expect(f"record: {name}: the file is as before", file.read(), b"before")
-    expect(f"record: {name}: nothing beside it", set(os.listdir(folder)) <= {"transcript", "out.json"}, True)
+    expect(f"record: {name}: the file is as before", bytes_of(out), b"before")
+    beside = set(os.listdir(os.path.dirname(out)))
+    expect(f"record: {name}: nothing beside it", beside <= {"transcript", "out.json"}, True)
 
 
 def places(good):
     """Where the recording goes: places that cannot be written, with a transcript and with an adapter, which is not started."""
-    path = os.path.join(FOLDER, "transcript")
-    with open(path, "wb") as file:
-        file.write(good)
-    started = os.path.join(FOLDER, "started")
+    path, started = file_of("transcript", good), os.path.join(FOLDER, "started")
     for name, out, told in [
         ("a folder that is none", os.path.join(FOLDER, "none", "x"), "No such file or directory"),
         ("a folder", FOLDER, "it is no file"),
@@ -570,61 +495,41 @@ def places(good):
         expect(f"record: into {name}, of an adapter", record(out, "--", "touch", started), wanted)
     expect("record: an adapter is not started for nothing", os.path.exists(started), False)
     # A file of another's: a link stays a link, and a full disk changes nothing.
-    link, out = os.path.join(FOLDER, "link.json"), os.path.join(FOLDER, "out.json")
+    link, out = os.path.join(FOLDER, "link.json"), file_of("out.json", b"before")
     os.symlink(out, link)
-    with open(out, "wb") as file:
-        file.write(b"before")
     with open(out, "rb") as held:
         expect("record: into a link", record(link, "--from", path)[0], 0)
         expect("record: who reads the file meanwhile reads all of the old one", held.read(), b"before")
-    expect("record: a link is one still", (os.path.islink(link), run(["serve", out])), (True, (0, b"", b"")))
-
-    def bound():
-        resource.setrlimit(resource.RLIMIT_FSIZE, (50, 50))
-
-    with open(out, "wb") as file:
-        file.write(b"before")
-    done = subprocess.run([RECORD, out, "--from", path], capture_output=True, preexec_fn=bound, timeout=60)
-    told = f"record: Write: {out}: File too large\n".encode()
-    expect("record: a full disk", (done.returncode, done.stderr), (5, told))
-    with open(out, "rb") as file:
-        expect("record: a full disk: the file is as before", file.read(), b"before")
+    expect("record: a link is one still", (os.path.islink(link), run(["serve", out])), (True, fine()))
+    file_of("out.json", b"before")
+    got = record(out, "--from", path, **bound(resource.RLIMIT_FSIZE, 50))
+    expect("record: a full disk", got, (5, b"", f"record: Write: {out}: File too large\n".encode()))
+    expect("record: a full disk: the file is as before", bytes_of(out), b"before")
     left = [name for name in os.listdir(FOLDER) if name.startswith("out.json.")]
     expect("record: a full disk: nothing beside it", left, [])
-    with open(path, "ab") as file:
-        file.write(b"\n! this transcript is cut: the reason\n")
-    status, _, err = record(out, "--from", path)
+    status, _, err = record(out, "--from", good + b"\n! this transcript is cut: the reason\n")
     told = err.splitlines()[0]
     expect("record: a transcript that is cut", (status, told), (0, b"record: this transcript is cut: the reason"))
 
 
+WRONG_WORDS = ["", "x", "x --from", "x y --from", "x --from y z", "--from y", "x --", "-- true", "x y -- true"]
+WRONG_WORDS += ["x --from y -- true", "--far --from y", "--far -- true"]
+
+
 def usage():
     line = b"usage: scripts/record OUT.json [--remote] (--from TRANSCRIPT | -- COMMAND..); --help says more\n"
-    for words in [
-        [],
-        ["x"],
-        ["x", "--from"],
-        ["x", "y", "--from"],
-        ["x", "--from", "y", "z"],
-        ["--from", "y"],
-        ["x", "--"],
-        ["--", "true"],
-        ["x", "y", "--", "true"],
-        ["x", "--from", "y", "--", "true"],
-        ["--far", "--from", "y"],
-        ["--far", "--", "true"],
-    ]:
+    for words in map(str.split, WRONG_WORDS):
         expect(f"record: usage of {words}", record(*words), (2, b"", line))
     status, out, err = record("--help")
     expect("record --help", (status, err), (0, b""))
-    expect_in("record --help: the cases", out, b"a restart", b"several threads", b"after the last stop", b"`exited`", b"--remote")
-    missing = os.path.join(FOLDER, "missing")
-    told = f"record: Start: {missing}: No such file or directory\n".encode()
-    got = record(os.path.join(FOLDER, "out.json"), "--", missing)
-    expect("record: an adapter that is none", got, (5, b"", told))
-    told = b"record: NoMessage: none came, and the adapter ended with status 1\n"
-    got = record(os.path.join(FOLDER, "out.json"), "--", "false")
-    expect("record: an adapter that says nothing", got, (3, b"", told))
+    parts = b"a restart", b"several threads", b"after the last stop", b"`exited`", b"--remote"
+    expect_in("record --help: the cases", out, *parts)
+    for name, command, status, told in [
+        ("is none", MISSING, 5, f"Start: {MISSING}: No such file or directory"),
+        ("says nothing", "false", 3, "NoMessage: none came, and the adapter ended with status 1"),
+    ]:
+        got = record(OUT, "--", command)
+        expect(f"record: an adapter that {name}", got, (status, b"", f"record: {told}\n".encode()))
 
 
 def recorded_group():

@@ -7,12 +7,11 @@ import json
 import os
 import random
 import signal
-import subprocess
 import sys
-import threading
 
 import recorder
-from trial import DAP, FOLDER, HERE, RECORDINGS, expect, expect_in, frame, recording_of, request, run
+from client import Client
+from trial import DAP, EXAMPLES, FOLDER, HERE, RECORDINGS, bytes_of, expect, expect_in, fine, output_of, recording_of, run
 
 RECORD = os.path.join(HERE, "scripts", "record")
 TRANSCRIPTS = os.path.join(HERE, "scripts", "transcripts")
@@ -20,54 +19,21 @@ FOLLOW = os.path.join(HERE, "scripts", "follow-session")
 SECONDS = 60
 
 
-class Client:
-    """Asks one thing after the other. Events are kept until they are waited for."""
+class Recorded(Client):
+    """A client of a recorded session, or of one that is played."""
 
     def __init__(self, words):
         self.errors = os.path.join(FOLDER, "errors")
         with open(self.errors, "wb") as errors:
-            self.child = subprocess.Popen(words, stdin=subprocess.PIPE, stdout=subprocess.PIPE, stderr=errors)
-        self.watch = threading.Timer(SECONDS, self.child.kill)
-        self.watch.daemon = True
-        self.watch.start()
-        self.seq = 0
-        self.events = []
-
-    def write(self, stream):
-        self.child.stdin.write(stream)
-        self.child.stdin.flush()
-
-    def next(self):
-        """The next message; nothing where the stream has ended."""
-        length = 0
-        while (line := self.child.stdout.readline()) not in (b"\r\n", b""):
-            length = int(line.split(b":")[1])
-        return json.loads(self.child.stdout.read(length)) if line else None
-
-    def send(self, command, arguments=None):
-        self.seq += 1
-        self.write(frame(json.dumps(request(self.seq, command, arguments or {})).encode()))
-
-    def ask(self, command, arguments=None):
-        """The answer's body; nothing where it fails, or the stream ends."""
-        self.send(command, arguments)
-        while (message := self.next()) and message.get("request_seq") != self.seq:
-            self.events += [message] if message["type"] == "event" else []
-        return message.get("body", {}) if message and message["success"] else None
+            super().__init__(words, SECONDS, stderr=errors)
 
     def wait_for(self, *names):
         """The next event of one of these names; nothing where the stream ends before it."""
-        while True:
-            for place, event in enumerate(self.events):
-                if event["event"] in names:
-                    return self.events.pop(place)
-            if (message := self.next()) is None:
-                return None
-            self.events += [message] if message["type"] == "event" else []
+        return next((event for event in self.events_to(*names) if event["event"] in names), None)
 
     def start(self):
         """Up to the first stop."""
-        self.ask("initialize", {"adapterID": "rec"})
+        self.ask("initialize", adapterID="rec")
         # It is answered after the next one.
         self.send("launch")
         self.ask("configurationDone")
@@ -75,13 +41,8 @@ class Client:
 
     def end(self):
         """The status, and what was said on standard error."""
-        self.child.stdin.close()
-        self.child.stdout.read()
-        self.child.stdout.close()
-        status = self.child.wait(SECONDS)
-        self.watch.cancel()
-        with open(self.errors, encoding="utf-8") as errors:
-            return status, errors.read().splitlines()
+        _, status = self.leave()
+        return status, bytes_of(self.errors).decode().splitlines()
 
 
 # What a client looked at, in the streams of real debuggers.
@@ -115,7 +76,7 @@ class Played:
     """A recording that is played, and asked what its session was asked, with the numbers that it gave itself."""
 
     def __init__(self, path):
-        self.client = Client([DAP, "serve", path])
+        self.client = Recorded([DAP, "serve", path])
         self.frames = {}
         self.holders = {}
 
@@ -125,15 +86,15 @@ class Played:
             told = self.client.ask(command)
             return [[(one["id"], one["name"]) for one in each["threads"] if one["id"] in threads] for each in (body, told)]
         if command == "stackTrace":
-            told = self.client.ask(command, arguments)
+            told = self.client.ask(command, **arguments)
             self.frames.update(zip(ids(body["stackFrames"]), ids(told["stackFrames"])))
             return [list(places_of(each["stackFrames"], body["stackFrames"])) for each in (body, told)]
         if command == "scopes":
-            told = self.client.ask(command, {"frameId": self.frames[arguments["frameId"]]})
+            told = self.client.ask(command, frameId=self.frames[arguments["frameId"]])
             self.holders.update(zip(references(body["scopes"]), references(told["scopes"])))
             return [[one["name"] for one in each["scopes"]] for each in (body, told)]
         if command == "variables" and (body["variables"] or self.holders[arguments["variablesReference"]]):
-            told = self.client.ask(command, {"variablesReference": self.holders[arguments["variablesReference"]]})
+            told = self.client.ask(command, variablesReference=self.holders[arguments["variablesReference"]])
             self.holders.update(zip(references(body["variables"]), references(told["variables"])))
             return [[(one["name"], one["value"]) for one in each["variables"]] for each in (body, told)]
         return None
@@ -159,20 +120,17 @@ def places_of(frames, asked):
 def examples():
     """The recordings of real debuggers' streams show at each stop what the session showed."""
     for name, up, down, is_stored in STREAMS:
-        streams = [os.path.join(HERE, "examples", "streams", one + ".dap") for one in (up, down)]
-        transcript = subprocess.run([TRANSCRIPTS, "streams", *streams], capture_output=True, timeout=SECONDS).stdout
+        streams = [os.path.join(EXAMPLES, "streams", one + ".dap") for one in (up, down)]
+        transcript = output_of([TRANSCRIPTS, "streams", *streams])[1]
         path = os.path.join(FOLDER, name + ".json")
-        words = [RECORD, path, "--remote", "--from", "/dev/stdin"]
-        done = subprocess.run(words, input=transcript, capture_output=True, timeout=SECONDS)
-        expect(f"record: {name}", (done.returncode, done.stdout), (0, b""))
+        got = output_of([RECORD, path, "--remote", "--from", "/dev/stdin"], transcript)
+        expect(f"record: {name}", got[:2], (0, b""))
         if is_stored:
-            stored = os.path.join(HERE, "examples", "recordings", name + ".json")
-            with open(stored, "rb") as one, open(path, "rb") as other:
-                expect(f"record: examples/recordings/{name}.json is this recording", one.read() == other.read(), True)
+            stored = bytes_of(os.path.join(EXAMPLES, "recordings", name + ".json"))
+            expect(f"record: examples/recordings/{name}.json is this recording", stored == bytes_of(path), True)
         played_as(name, path, *looks_of(transcript))
-        words = [FOLLOW, "--program", DAP, "--recording", path]
-        done = subprocess.run(words, capture_output=True, timeout=SECONDS)
-        expect(f"record: {name}: is followed", (done.returncode, done.stderr), (0, b""))
+        status, _, err = output_of([FOLLOW, "--program", DAP, "--recording", path])
+        expect(f"record: {name}: is followed", (status, err), (0, b""))
 
 
 def played_as(name, path, stops, code):
@@ -190,7 +148,7 @@ def played_as(name, path, stops, code):
                 now.append((place, command, pair[1]))
                 old, new = counts.get(command, [0, 0])
                 counts[command] = [old + len(pair[0]), new + len(pair[1])]
-        played.client.ask("stepIn", {"threadId": threads[0]})
+        played.client.ask("stepIn", threadId=threads[0])
         stop = played.client.wait_for("stopped", "exited")
     expect(f"record: {name}: what is shown at each stop", [pair for pair in zip(then, now) if pair[0] != pair[1]], [])
     told = ", ".join(f"{new} {command}" for command, (_, new) in sorted(counts.items()))
@@ -207,14 +165,14 @@ def played_as(name, path, stops, code):
 def look_around(client, thread, texts):
     """Asks at a stop for all that there is, and once for the text of each source."""
     for one in client.ask("threads")["threads"]:
-        for here in client.ask("stackTrace", {"threadId": one["id"]})["stackFrames"]:
+        for here in client.ask("stackTrace", threadId=one["id"])["stackFrames"]:
             source = here["source"]
             number = source.get("sourceReference", 0)
             if number and number not in texts:
-                texts[number] = client.ask("source", {"source": source, "sourceReference": number})
-            left = references(client.ask("scopes", {"frameId": here["id"]})["scopes"])
+                texts[number] = client.ask("source", source=source, sourceReference=number)
+            left = references(client.ask("scopes", frameId=here["id"])["scopes"])
             while left:
-                told = client.ask("variables", {"variablesReference": left.pop()})["variables"]
+                told = client.ask("variables", variablesReference=left.pop())["variables"]
                 left += [number for number in references(told) if number]
 
 
@@ -242,11 +200,11 @@ def again():
     """A session over a recording, recorded as it goes on, is that recording."""
     for path in RECORDINGS:
         name, out = os.path.basename(path), os.path.join(FOLDER, "again.json")
-        client = Client([RECORD, out, "--", DAP, "serve", path])
+        client = Recorded([RECORD, out, "--", DAP, "serve", path])
         stop, texts = client.start(), {}
         while stop and stop["event"] == "stopped":
             look_around(client, stop["body"]["threadId"], texts)
-            client.ask("stepIn", {"threadId": stop["body"]["threadId"]})
+            client.ask("stepIn", threadId=stop["body"]["threadId"])
             stop = client.wait_for("stopped", "terminated")
         client.ask("disconnect")
         status, errors = client.end()
@@ -259,7 +217,7 @@ def again():
 
 def at_a_stop(out, recording=RECORDINGS[0]):
     """A client of a recorded session at its first stop, which it has looked into."""
-    client = Client([RECORD, out, "--", DAP, "serve", recording])
+    client = Recorded([RECORD, out, "--", DAP, "serve", recording])
     stop = client.start()
     look_around(client, stop["body"]["threadId"], {})
     return client
@@ -329,11 +287,11 @@ def live_ends():
 
 
 def go_to_the_end(client):
-    client.ask("continue", {"threadId": 1})
+    client.ask("continue", threadId=1)
     # The last moment waits.
-    client.ask("pause", {"threadId": 1})
+    client.ask("pause", threadId=1)
     client.wait_for("stopped")
-    client.ask("continue", {"threadId": 1})
+    client.ask("continue", threadId=1)
     client.wait_for("terminated")
 
 
@@ -353,10 +311,9 @@ def places_in(value):
 
 def broken():
     """Whatever an adapter answers: a recording that is served, or none; and no other end."""
-    path = os.path.join(HERE, "examples", "transcripts", "debugpy.txt")
-    with open(path, encoding="utf-8") as file:
-        lines = [line for line in file.read().splitlines() if line]
-    out, wrong, made = os.path.join(FOLDER, "broken.json"), [], 0
+    path = os.path.join(EXAMPLES, "transcripts", "debugpy.txt")
+    lines = [line for line in bytes_of(path).decode().splitlines() if line]
+    wrong, made = [], 0
     for seed in range(200):
         choice = random.Random(seed)
         session = recorder.Session()
@@ -371,9 +328,7 @@ def broken():
         except recorder.NoRecording:
             continue
         made += 1
-        with open(out, "wb") as file:
-            file.write(json.dumps(recording, ensure_ascii=False).encode("utf-8", "replace"))
-        if run(["serve", out]) != (0, b"", b""):
+        if run(["serve", json.dumps(recording, ensure_ascii=False).encode("utf-8", "replace")]) != fine():
             wrong.append(seed)
     expect("record: broken sessions are served", wrong, [])
     expect("record: broken sessions that have a recording", made > 20, True)

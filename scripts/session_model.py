@@ -11,56 +11,19 @@ import argparse
 import json
 import sys
 
-FAILURES = {
-    "notInitialized": (1001, "The session is not initialized."),
-    "alreadyInitialized": (1002, "The session is already initialized."),
-    "unknownCommand": (1003, "The command is not known."),
-    "unsupported": (1004, "The command is not supported."),
-    "badArguments": (1005, "The argument {} is missing or malformed."),
-    "notStopped": (1006, "The debuggee is not stopped."),
-    "wrongPhase": (1007, "The request does not fit the state of the session."),
-    "unknownThread": (1008, "The thread does not exist."),
-    "staleReference": (1009, "The reference is not valid in this stop."),
-    "tooManyReferences": (1010, "Too many references are in use."),
-    "busy": (1011, "Too many requests are waiting."),
-    "cancelled": (1012, "The request was cancelled."),
-    "debuggee": (1013, "The debuggee refused."),
-    "unknownSource": (1014, "The source does not exist."),
-    "tooManyBreakpoints": (1015, "Too many breakpoints are set."),
-    "tooLarge": (1016, "The response would be too large."),
-    "referencesExhausted": (1017, "No reference numbers are left."),
-    "terminalRefused": (1018, "The terminal refused."),
-}
-RESUMING = {"continue", "next", "stepIn", "stepOut", "stepBack", "reverseContinue"}
-# Commands that have a name and are not served.
-UNSERVED = {
-    "setFunctionBreakpoints", "restart", "modules", "exceptionInfo", "breakpointLocations", "completions",
-}
-TO_STOPPED = {"Ready", "Configured", "Parked", "Asked", "Running", "Stopped"}
-SERVED_IN = {
-    "initialize": {"Fresh"},
-    "launch": {"Ready", "Configured"},
-    "attach": {"Ready", "Configured"},
-    "configurationDone": {"Ready", "Parked"},
-    "disconnect": TO_STOPPED | {"Fresh", "Exited"},
-    "terminate": {"Running", "Stopped"},
-    "setBreakpoints": TO_STOPPED,
-    "setExceptionBreakpoints": TO_STOPPED,
-    "threads": TO_STOPPED | {"Exited"},
-    "source": TO_STOPPED | {"Exited"},
-    "loadedSources": TO_STOPPED | {"Exited"},
-    "pause": {"Running", "Stopped"},
-    **{command: {"Stopped"} for command in RESUMING | {"stackTrace", "scopes", "variables", "evaluate", "setVariable"}},
-}
-OFFERED = ("CancelRequest", "ConfigurationDoneRequest", "LoadedSourcesRequest", "SetVariable", "StepBack", "TerminateRequest")
-CAPABILITIES = {f"supports{name}": True for name in OFFERED}
+from commands import BACK, CAPABILITIES, COMMANDS, RESUMING, TERMINAL, failure
+
 GREATEST = 9007199254740991
 # What the client's terminal is asked to run.
-TERMINAL = {"args": ["recorded"], "cwd": "/", "kind": "integrated", "title": "recorded"}
+RUN_IN_TERMINAL = {"args": ["recorded"], "cwd": "/", "kind": "integrated", "title": "recorded"}
 
 
 def frame(body):
     return b"Content-Length: %d\r\n\r\n" % len(body) + body
+
+
+def written(message):
+    return json.dumps(message, sort_keys=True, separators=(",", ":"), ensure_ascii=False).encode()
 
 
 def is_text(value):
@@ -82,10 +45,6 @@ def is_seq(value):
 def is_count(value):
     """A count, a line or a reference."""
     return is_int(value) and 0 <= value <= 2147483647
-
-
-def are(is_good):
-    return lambda value: isinstance(value, list) and all(map(is_good, value))
 
 
 def is_breakpoint(value):
@@ -110,48 +69,37 @@ def name_of(source):
     return ("reference", source["sourceReference"]) if source.get("sourceReference") else None
 
 
-# The keys of each command's arguments in their order, whether one is required, and what it is.
-THREAD = [("threadId", True, is_int)]
-KEYS = {
-    "initialize": [("adapterID", False, is_text)]
-    + [
-        (key, False, is_truth)
-        for key in ("linesStartAt1", "columnsStartAt1", "supportsVariablePaging", "supportsRunInTerminalRequest")
-    ],
-    "launch": [],
-    "attach": [],
-    "cancel": [("requestId", False, is_seq)],
-    "setBreakpoints": [
-        ("source", True, is_named_source),
-        ("breakpoints", False, are(is_breakpoint)),
-        ("lines", False, are(is_count)),
-    ],
-    "setExceptionBreakpoints": [("filters", True, are(is_text))],
-    "stackTrace": THREAD + [("startFrame", False, is_count), ("levels", False, is_count)],
-    "scopes": [("frameId", True, is_count)],
-    "variables": [("variablesReference", True, is_count), ("start", False, is_count), ("count", False, is_count)],
-    "evaluate": [("expression", True, is_text), ("frameId", False, is_count)],
-    "setVariable": [("variablesReference", True, is_count), ("name", True, is_text), ("value", True, is_text)],
-    "source": [("source", False, is_source), ("sourceReference", False, is_count)],
-    "pause": THREAD,
-    **{command: THREAD for command in RESUMING},
+# What a value of each kind in the table of commands is.
+IS_OF = {
+    "text": is_text,
+    "boolean": is_truth,
+    "thread": is_int,
+    "seq": is_seq,
+    **dict.fromkeys(("count", "line", "frame", "variables"), is_count),
+    "breakpoint": is_breakpoint,
+    "function": lambda value: isinstance(value, dict) and is_text(value.get("name")),
+    "Source": is_source,
+    "NamedSource": is_named_source,
 }
 
 
-def bad_key(command, arguments, table=KEYS):
-    """The first bad key of a command's arguments."""
-    if command not in table:
-        return None
+def is_of(value, kind):
+    if kind.startswith("["):
+        return isinstance(value, list) and all(map(IS_OF[kind[1:-1]], value))
+    return IS_OF[kind](value)
+
+
+def bad_key(command, arguments):
+    """The first bad key of a command's arguments. Of a `launch` they are an object, where there are any."""
+    keys = COMMANDS[command].keys if command in COMMANDS else []
     if arguments is None:
-        return "arguments" if any(required for _, required, _ in table[command]) else None
-    if not isinstance(arguments, dict):
+        return "arguments" if any(key.is_required for key in keys) else None
+    if not isinstance(arguments, dict) and (keys or command in ("launch", "attach")):
         return "arguments"
-    for key, required, is_good in table[command]:
-        value = arguments.get(key)
-        if value is None and not required:
-            continue
-        if not is_good(value):
-            return key
+    for key in keys:
+        value = arguments.get(key.name)
+        if not is_of(value, key.kind) and (value is not None or key.is_required):
+            return key.name
     return None
 
 
@@ -278,7 +226,7 @@ class Recorded:
         self.told = []
         self.held = False
         self.values = {}
-        if how not in ("stepBack", "reverseContinue"):
+        if how not in BACK:
             waiting = [k for k in range(self.at + 1, place) if self.moments[k].get("waits", False)]
             if waiting:
                 place, reason, self.held = waiting[0], "pause", True
@@ -373,8 +321,7 @@ class Session:
 
     def text(self, message):
         """The message as it is written next."""
-        message = {**message, "seq": self.seq + 1}
-        return json.dumps(message, sort_keys=True, separators=(",", ":"), ensure_ascii=False).encode()
+        return written({**message, "seq": self.seq + 1})
 
     def write(self, message):
         self.out += frame(self.text(message))
@@ -389,17 +336,8 @@ class Session:
         self.write(message)
 
     def fail(self, request, name, key=None):
-        number, text = FAILURES[name]
-        self.write(
-            {
-                "type": "response",
-                "request_seq": request["seq"],
-                "success": False,
-                "command": request["command"],
-                "message": name,
-                "body": {"error": {"format": text.format(key), "id": number}},
-            }
-        )
+        message = {"type": "response", "request_seq": request["seq"], "command": request["command"]}
+        self.write({**message, **failure(name, key)})
 
     def event(self, name, body=None):
         self.write({"type": "event", "event": name} if body is None else {"type": "event", "event": name, "body": body})
@@ -431,15 +369,15 @@ class Session:
             raise Failed("notInitialized")
         if self.phase != "Fresh" and command == "initialize":
             raise Failed("alreadyInitialized")
-        if command in UNSERVED:
-            raise Failed("unsupported")
-        if command not in SERVED_IN and command != "cancel":
+        if command not in COMMANDS:
             raise Failed("unknownCommand")
+        served = COMMANDS[command].served
+        if not served:
+            raise Failed("unsupported")
         if key is not None:
             raise Failed("badArguments", key)
-        if command != "cancel" and self.phase not in SERVED_IN[command]:
-            late = SERVED_IN[command] == {"Stopped"} and self.phase == "Running"
-            raise Failed("notStopped" if late else "wrongPhase")
+        if self.phase not in served:
+            raise Failed("notStopped" if served == {"Stopped"} and self.phase == "Running" else "wrongPhase")
 
     def serve(self, request, command, arguments):
         if command == "initialize":
@@ -503,14 +441,14 @@ class Session:
 
     def ask_terminal(self):
         self.phase = "Asked"
-        self.write({"type": "request", "command": "runInTerminal", "arguments": TERMINAL})
+        self.write({"type": "request", "command": TERMINAL, "arguments": RUN_IN_TERMINAL})
         self.asked = self.seq
 
     def take_response(self, response):
         """Once `disconnect` is answered it comes too late, and does nothing more."""
         if self.asked is None or response["request_seq"] != self.asked:
             raise Closed("Unmatched")
-        if response["command"] != "runInTerminal":
+        if response["command"] != TERMINAL:
             raise Closed("CommandMismatch")
         self.asked = None
         if self.phase != "Asked":

@@ -33,6 +33,7 @@ import json
 import re
 import sys
 
+from commands import ENDING, GATES, GIVEN, LEAST, RESUMING, USED
 from shape_table import read_table
 
 MAX_FILE = 67108864
@@ -42,31 +43,6 @@ MAX_COMMAND = 64
 MAX_NESTING = 127
 
 CLIENT, ADAPTER = ">", "<"
-GATES = {
-    "configurationDone": "supportsConfigurationDoneRequest",
-    "terminate": "supportsTerminateRequest",
-    "cancel": "supportsCancelRequest",
-    "setFunctionBreakpoints": "supportsFunctionBreakpoints",
-    "stepBack": "supportsStepBack",
-    "reverseContinue": "supportsStepBack",
-    "loadedSources": "supportsLoadedSourcesRequest",
-    "setVariable": "supportsSetVariable",
-    "restart": "supportsRestartRequest",
-    "modules": "supportsModulesRequest",
-    "exceptionInfo": "supportsExceptionInfoRequest",
-    "breakpointLocations": "supportsBreakpointLocationsRequest",
-    "completions": "supportsCompletionsRequest",
-}
-RESUMING_COMMANDS = {"continue", "next", "stepIn", "stepOut", "stepBack", "reverseContinue"}
-RESUMING_EVENTS = {"continued", "exited", "terminated"}
-# The key of a request that holds a reference, and the kind of the reference.
-USED_AT = {
-    "scopes": ("frameId", "frame"),
-    "evaluate": ("frameId", "frame"),
-    "completions": ("frameId", "frame"),
-    "variables": ("variablesReference", "variables"),
-    "setVariable": ("variablesReference", "variables"),
-}
 
 
 # Lines and messages
@@ -252,28 +228,18 @@ def same_seq(said, side, seq, place):
 
 
 def resumes(message):
-    return any(succeeds(message, command) for command in RESUMING_COMMANDS) or any(
-        is_event(message, name) for name in RESUMING_EVENTS
-    )
+    return any(succeeds(message, command) for command in RESUMING) or any(is_event(message, name) for name in ENDING)
 
 
 def given(message):
     """The references that a message gives, as pairs of kind and number."""
+    if not is_response(message, ADAPTER) or not message.success or message.command not in GIVEN:
+        return []
+    kind, array, key = GIVEN[message.command]
     body = message.body if isinstance(message.body, dict) else {}
-    if succeeds(message, "stackTrace"):
-        return numbers("frame", body.get("stackFrames"), "id", 0)
-    for command in ("scopes", "variables"):
-        if succeeds(message, command):
-            return numbers("variables", body.get(command), "variablesReference", 1)
-    if succeeds(message, "evaluate") or succeeds(message, "setVariable"):
-        return numbers("variables", [body], "variablesReference", 1)
-    return []
-
-
-def numbers(kind, elements, key, least):
-    elements = elements if isinstance(elements, list) else []
-    found = [element.get(key) for element in elements if isinstance(element, dict)]
-    return [(kind, number) for number in found if is_whole(number) and least <= number <= GREATEST_REFERENCE]
+    elements = body.get(array) if array else [body]
+    found = [element.get(key) for element in elements if isinstance(element, dict)] if isinstance(elements, list) else []
+    return [(kind, number) for number in found if is_whole(number) and LEAST[kind] <= number <= GREATEST_REFERENCE]
 
 
 # The rules. Each says how the message at a place breaks it, or None.
@@ -366,9 +332,9 @@ def capabilities(event):
 
 def rule_6(said, place):
     message = said[place]
-    if not is_request(message, CLIENT) or message.command not in USED_AT or not isinstance(message.arguments, dict):
+    if not is_request(message, CLIENT) or message.command not in USED or not isinstance(message.arguments, dict):
         return None
-    key, kind = USED_AT[message.command]
+    key, kind = USED[message.command]
     number = message.arguments.get(key)
     if not is_whole(number):
         return None

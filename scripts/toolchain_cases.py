@@ -1,9 +1,8 @@
 """What is said where the toolchain's command `rt` is not on the PATH, as a group of scripts/try-program."""
 import os
 import shutil
-import subprocess
 
-from trial import FOLDER, HERE, expect, expect_in
+from trial import FOLDER, HERE, bytes_of, expect, expect_in, file_of, output_of
 
 # The commands that the scripts need, and no other.
 COMMANDS = "awk bash cat chmod cmp cp cut dirname env find grep mkdir mktemp readlink rm sed sha256sum sort tail wc xargs"
@@ -19,21 +18,17 @@ def without_rt(*words):
         os.mkdir(path)
         for command in COMMANDS.split():
             os.symlink(shutil.which(command), os.path.join(path, command))
-    nothing = {"env": {"PATH": path}, "stdin": subprocess.DEVNULL}
-    done = subprocess.run(words, **nothing, capture_output=True, text=True, timeout=60)
-    return done.returncode, done.stdout, done.stderr
+    status, out, err = output_of(words, "/dev/null", env={"PATH": path})
+    return status, out.decode(), err.decode()
 
 
 def write(path, text):
     os.makedirs(os.path.dirname(path), exist_ok=True)
-    with open(path, "w", encoding="utf-8") as file:
-        file.write(text)
-    os.chmod(path, 0o755)
+    os.chmod(file_of(path, text), 0o755)
 
 
 def text_of(*names):
-    with open(os.path.join(HERE, *names), encoding="utf-8") as file:
-        return file.read()
+    return bytes_of(os.path.join(HERE, *names)).decode()
 
 
 def no_toolchain():

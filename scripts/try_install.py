@@ -5,17 +5,15 @@ before its text. So a page that lacks one is found whatever scripts/man makes of
 """
 import os
 import re
-import subprocess
 import tempfile
 
-from trial import DAP, HERE, expect, program_itself, run
+from trial import DAP, HERE, bytes_of, expect, fine, output_of, program_itself, run
 
 RELEASE = os.path.join(HERE, "release")
 
 
 def text_of(*path):
-    with open(os.path.join(RELEASE, *path), encoding="utf-8") as file:
-        return file.read()
+    return bytes_of(os.path.join(RELEASE, *path)).decode()
 
 
 def help_of(*words):
@@ -30,8 +28,7 @@ def options_in(told):
 
 def manuals():
     """Pages and completions are what the help makes of them, and each option that the program prints is in all of them."""
-    done = subprocess.run([os.path.join(HERE, "scripts", "man"), "--check"], capture_output=True, timeout=60)
-    expect("scripts/man --check", (done.returncode, done.stdout, done.stderr), (0, b"", b""))
+    expect("scripts/man --check", output_of([os.path.join(HERE, "scripts", "man"), "--check"]), fine())
     top = help_of()
     commands = re.findall(r"^  (\w+)  ", top.split("Commands:\n")[1].split("\n\n")[0], re.MULTILINE)
     commands.remove("help")
@@ -46,7 +43,7 @@ def manuals():
         words = set(re.findall(r"[\w'-]+", told)) - {"Usage", "Commands", "Arguments", "Options", "Statuses", "help", "Print", "this", "message", "given", "subcommand", "s"}
         expect(f"{name}.1: words", sorted(words - set(re.findall(r"[\w'-]+", re.sub(r"\\f[BIR]", "", page)))), [])
         expect(f"{name}: in bash, zsh and fish", [lacking(name, option, shells) for option in options_in(told)], [[]] * len(options_in(told)))
-    expect("the version", run(["--version"]), (0, b"dap 0.1.0\n", b""))
+    expect("the version", run(["--version"]), fine(b"dap 0.1.0\n"))
 
 
 def lacking(name, option, shells):
@@ -75,9 +72,8 @@ def install():
             name = "make install " + words[0].split("=")[0]
             expect(name, make("install", *words, f"PROGRAM={program}"), 0)
             expect(f"{name}: the files", files_below(place), [below + path for path in files])
-            installed = os.path.join(place, below, "bin", "dap")
-            done = subprocess.run([installed, "--version"], capture_output=True, timeout=60)
-            expect(f"{name}: the program", (done.returncode, done.stdout, done.stderr), (0, b"dap 0.1.0\n", b""))
+            installed = output_of([os.path.join(place, below, "bin", "dap"), "--version"])
+            expect(f"{name}: the program", installed, fine(b"dap 0.1.0\n"))
             expect("make uninstall", make("uninstall", *words), 0)
             expect("make uninstall: what is left", files_below(place), [])
     with tempfile.TemporaryDirectory() as place:
@@ -86,7 +82,7 @@ def install():
 
 
 def make(*words):
-    return subprocess.run(["make", "-s", "-C", HERE, *words], capture_output=True, timeout=60).returncode
+    return output_of(["make", "-s", "-C", HERE, *words])[0]
 
 
 GROUPS = {"manuals": manuals, "install": install}

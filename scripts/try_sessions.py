@@ -4,15 +4,18 @@ terminal that the client is asked for.
 Rows are a command, its arguments and all the messages that come for it, written out by hand, or a response of the client.
 Longer sessions, and random ones, are compared with scripts/session_model.py to the byte.
 """
-import json
 import os
 import random
-import subprocess
 
+from commands import CAPABILITIES as FLAGS
+from commands import TERMINAL, failure
 from random_sessions import Guided, mixed_session, random_recording
-from session_model import FAILURES
-from trial import CAPABILITIES, DAP, FOLDER, HERE, RECORDING, RECORDINGS, expect, frame, frames_of, recording_of
+from session_model import RUN_IN_TERMINAL, written
+from trial import DAP, HERE, RECORDING, RECORDINGS, expect, fault, file_of, fine, frame, frames_of, output_of, recording_of
 from trial import request, run
+
+FOLLOW = os.path.join(HERE, "scripts", "follow-session")
+
 
 # The messages that come for a request, each by the request's number and command: a success, a failure, an event.
 def ok(body=None):
@@ -21,10 +24,7 @@ def ok(body=None):
 
 
 def fails(name, key=None):
-    number, text = FAILURES[name]
-    told = {"type": "response", "success": False, "message": name}
-    body = {"error": {"format": text.format(key), "id": number}}
-    return lambda seq, command: {**told, "body": body, "request_seq": seq, "command": command}
+    return lambda seq, command: {"type": "response", **failure(name, key), "request_seq": seq, "command": command}
 
 
 def tells(event, body=None):
@@ -38,11 +38,10 @@ def launched(seq):
 
 
 def asks_for_terminal():
-    arguments = {"args": ["recorded"], "cwd": "/", "kind": "integrated", "title": "recorded"}
-    return lambda _, __: {"type": "request", "command": "runInTerminal", "arguments": arguments}
+    return lambda _, __: {"type": "request", "command": TERMINAL, "arguments": RUN_IN_TERMINAL}
 
 
-def answered(request_seq, success=True, command="runInTerminal", **more):
+def answered(request_seq, success=True, command=TERMINAL, **more):
     """A row's command and arguments for a response of the client."""
     told = {"type": "response", "request_seq": request_seq, "success": success, "command": command}
     return {**told, **more}, None
@@ -50,10 +49,6 @@ def answered(request_seq, success=True, command="runInTerminal", **more):
 
 def stopped(reason):
     return tells("stopped", {"allThreadsStopped": True, "reason": reason, "threadId": 1})
-
-
-def written(message):
-    return json.dumps(message, sort_keys=True, separators=(",", ":"), ensure_ascii=False).encode()
 
 
 def rows(name, told, path=RECORDING, words=(), fault=None):
@@ -67,7 +62,7 @@ def rows(name, told, path=RECORDING, words=(), fault=None):
     same(name, path, requests, answers, words, fault)
 
 
-def same(name, path, requests, answers, words, fault=None):
+def same(name, path, requests, answers, words, fault_name=None):
     """What comes for each message. Where it is something else, the first such message is told."""
     status, out, err = run(["serve", path, *words], b"".join(frames_of(requests)))
     at = 0
@@ -75,7 +70,7 @@ def same(name, path, requests, answers, words, fault=None):
         if not out.startswith(answer, at):
             return expect(f"{name}: {one}", out[at : at + len(answer) + 200], answer)
         at += len(answer)
-    expect(name, (status, out[at:], err), (0, b"", b"") if fault is None else (3, b"", f"dap: {fault}\n".encode()))
+    expect(name, (status, out[at:], err), fault(fault_name) if fault_name else fine())
 
 
 def compare(guided, name):
@@ -83,7 +78,6 @@ def compare(guided, name):
 
 
 # Rows over examples/recordings/a.json. Its first moment has `x`, and `p` with `a`; the second has two frames; the last waits.
-FLAGS = json.loads(CAPABILITIES)["body"]
 THREAD = {"threadId": 1}
 SOURCE_A = {"name": "a.c", "path": "/a.c", "sourceReference": 1}
 PATH_A, NUMBER_A = {"path": "/a.c"}, {"sourceReference": 1}
@@ -153,44 +147,32 @@ NOT_IN_A_STOP = [
 
 def references():
     """Numbers in a stop and in the next one, what has none, and what may be asked when."""
-    rows(
-        "references: in a stop and in the next",
-        [
-            *STOPPED,
-            *LOOK,
-            ("scopes", {"frameId": 1}, scopes(("Locals", 2))),
-            ("variables", number(2), variables(X, P)),
-            ("variables", number(3), variables(("a", "7", 0))),
-            ("evaluate", in_frame(1, "p"), value("P", 3)),
-            ("evaluate", in_frame(1, "q"), fails("debuggee")),
-            ("next", {"threadId": 2}, fails("unknownThread")),
-            ("pause", THREAD, ok()),
-            *LOOK,
-            NEXT,
-            ("variables", number(2), STALE),
-            ("stackTrace", THREAD, stack((4, "main", 2))),
-            ("scopes", {"frameId": 4}, scopes()),
-            ("scopes", {"frameId": 1}, STALE),
-        ],
-    )
-    rows(
-        "references: of the other kind, not given yet, and none",
-        [
-            *STOPPED,
-            *LOOK,
-            *[("scopes", {"frameId": n}, STALE) for n in (0, 2, 3, 2147483647)],
-            *[("variables", number(n), STALE) for n in (0, 1, 3, 2147483647)],
-            *[("evaluate", in_frame(n, "x"), STALE) for n in (0, 2, 3)],
-            ("evaluate", {"expression": "x"}, fails("debuggee")),
-            ("evaluate", in_frame(None, "x"), fails("debuggee")),
-            ("stackTrace", {"threadId": 2}, fails("unknownThread")),
-            ("variables", number(2), variables(X, P)),
-        ],
-    )
-    rows(
-        "references: not stopped",
-        [*STOPPED, HELD, ("stackTrace", THREAD, fails("notStopped")), PAUSE, EXIT],
-    )
+    rows("references: in a stop and in the next", [
+        *STOPPED, *LOOK,
+        ("scopes", {"frameId": 1}, scopes(("Locals", 2))),
+        ("variables", number(2), variables(X, P)),
+        ("variables", number(3), variables(("a", "7", 0))),
+        ("evaluate", in_frame(1, "p"), value("P", 3)),
+        ("evaluate", in_frame(1, "q"), fails("debuggee")),
+        ("next", {"threadId": 2}, fails("unknownThread")),
+        ("pause", THREAD, ok()),
+        *LOOK, NEXT,
+        ("variables", number(2), STALE),
+        ("stackTrace", THREAD, stack((4, "main", 2))),
+        ("scopes", {"frameId": 4}, scopes()),
+        ("scopes", {"frameId": 1}, STALE),
+    ])
+    rows("references: of the other kind, not given yet, and none", [
+        *STOPPED, *LOOK,
+        *[("scopes", {"frameId": n}, STALE) for n in (0, 2, 3, 2147483647)],
+        *[("variables", number(n), STALE) for n in (0, 1, 3, 2147483647)],
+        *[("evaluate", in_frame(n, "x"), STALE) for n in (0, 2, 3)],
+        ("evaluate", {"expression": "x"}, fails("debuggee")),
+        ("evaluate", in_frame(None, "x"), fails("debuggee")),
+        ("stackTrace", {"threadId": 2}, fails("unknownThread")),
+        ("variables", number(2), variables(X, P)),
+    ])
+    rows("references: not stopped", [*STOPPED, HELD, ("stackTrace", THREAD, fails("notStopped")), PAUSE, EXIT])
     for name, before, refusal, after in NOT_IN_A_STOP:
         rows(f"references: {name}", [*before, *[(*one, fails(refusal)) for one in ASKED_IN_A_STOP], *after])
     bad = ("scopes", {"frameId": -1}, fails("badArguments", "frameId"))
@@ -204,32 +186,22 @@ def few_references():
     """As many as may be live, and the greatest number. What a refused answer named is taken back."""
     many, none_left = fails("tooManyReferences"), fails("referencesExhausted")
     two, greatest = ("--max-references", "2"), ("--max-reference", "2")
-    rows(
-        "references: two at most",
-        [
-            *STOPPED,
-            *LOOK,
-            ("variables", number(2), many),
-            ("evaluate", in_frame(1, "p"), many),
-            *LOOK,
-            ("evaluate", in_frame(1, "x"), value("1")),
-            NEXT,
-            ("stackTrace", THREAD, stack((3, "main", 2))),
-        ],
-        words=two,
-    )
-    rows(
-        "references: one at most",
-        [
-            *STOPPED,
-            STEP_IN,
-            ("stackTrace", THREAD, many),
-            ("stackTrace", {"threadId": 1, "startFrame": 1}, stack((1, "main", 1), total=2)),
-            ("stackTrace", {"threadId": 1, "levels": 1}, many),
-            ("stackTrace", {"threadId": 1, "startFrame": 1, "levels": 9}, stack((1, "main", 1), total=2)),
-        ],
-        words=("--max-references", "1"),
-    )
+    rows("references: two at most", [
+        *STOPPED, *LOOK,
+        ("variables", number(2), many),
+        ("evaluate", in_frame(1, "p"), many),
+        *LOOK,
+        ("evaluate", in_frame(1, "x"), value("1")),
+        NEXT,
+        ("stackTrace", THREAD, stack((3, "main", 2))),
+    ], words=two)
+    rows("references: one at most", [
+        *STOPPED, STEP_IN,
+        ("stackTrace", THREAD, many),
+        ("stackTrace", {"threadId": 1, "startFrame": 1}, stack((1, "main", 1), total=2)),
+        ("stackTrace", {"threadId": 1, "levels": 1}, many),
+        ("stackTrace", {"threadId": 1, "startFrame": 1, "levels": 9}, stack((1, "main", 1), total=2)),
+    ], words=("--max-references", "1"))
     rows(
         "references: 2 is the greatest",
         [*STOPPED, *LOOK, ("variables", number(2), none_left), *LOOK, NEXT, *[("stackTrace", THREAD, none_left)] * 2],
@@ -270,25 +242,21 @@ def names():
     first = [{"name": "v", "value": "1"}, {"name": "w", "value": "2", "variables": held}, {"name": "v", "value": "7"}]
     second = [{"name": "w", "value": "3"}, {"name": "u", "value": "5", "variables": []}, {"name": "v", "value": "6"}]
     there = [{"name": "A", "variables": first}, {"name": "B", "variables": second}, {"name": "C"}]
-    rows(
-        "references: the first variable of a name",
-        [
-            *INITIALIZED,
-            ("launch", None),
-            ("configurationDone", None, ok(), launched(2), stopped("entry")),
-            ("stackTrace", THREAD, stack((1, "main", 1), source={"name": "a", "sourceReference": 1})),
-            ("evaluate", in_frame(1, "v"), value("1")),
-            ("evaluate", in_frame(1, "u"), value("5")),
-            ("evaluate", in_frame(1, "w"), value("2", 2)),
-            *[("evaluate", in_frame(1, text), fails("debuggee")) for text in ("c", "A", "W", "", "w ", "w.c")],
-            ("scopes", {"frameId": 1}, scopes(("A", 3), ("B", 4), ("C", 5))),
-            ("variables", number(3), variables(("v", "1", 0), ("w", "2", 2), ("v", "7", 0))),
-            ("variables", number(4), variables(("w", "3", 0), ("u", "5", 0), ("v", "6", 0))),
-            ("variables", number(5), variables()),
-            ("variables", number(2), variables(("c", "4", 0))),
-        ],
-        made_recording("names", [{"name": "a", "text": "a"}], there),
-    )
+    rows("references: the first variable of a name", [
+        *INITIALIZED,
+        ("launch", None),
+        ("configurationDone", None, ok(), launched(2), stopped("entry")),
+        ("stackTrace", THREAD, stack((1, "main", 1), source={"name": "a", "sourceReference": 1})),
+        ("evaluate", in_frame(1, "v"), value("1")),
+        ("evaluate", in_frame(1, "u"), value("5")),
+        ("evaluate", in_frame(1, "w"), value("2", 2)),
+        *[("evaluate", in_frame(1, text), fails("debuggee")) for text in ("c", "A", "W", "", "w ", "w.c")],
+        ("scopes", {"frameId": 1}, scopes(("A", 3), ("B", 4), ("C", 5))),
+        ("variables", number(3), variables(("v", "1", 0), ("w", "2", 2), ("v", "7", 0))),
+        ("variables", number(4), variables(("w", "3", 0), ("u", "5", 0), ("v", "6", 0))),
+        ("variables", number(5), variables()),
+        ("variables", number(2), variables(("c", "4", 0))),
+    ], made_recording("names", [{"name": "a", "text": "a"}], there))
 
 
 def values():
@@ -301,45 +269,37 @@ def values():
         ({"variablesReference": 2, "value": 1}, "name"),
         ({"variablesReference": 2, "name": "x", "value": None}, "value"),
     ]
-    rows(
-        "values: set, seen, and lost by a step there and back",
-        [
-            *there,
-            *set_x,
-            ("setVariable", assigning(2, "p", "Q"), ok({"value": "Q"})),
-            ("setVariable", assigning(2, "y", "9"), fails("debuggee")),
-            ("variables", number(2), variables(("x", "9", 0), ("p", "Q", 3))),
-            ("evaluate", in_frame(1, "x"), value("9")),
-            ("evaluate", in_frame(1, "p"), value("Q", 3)),
-            NEXT,
-            *[("stepBack", THREAD, ok(), stopped("step"))] * 2,
-            ("stackTrace", THREAD, stack((4, "main", 1))),
-            ("evaluate", in_frame(4, "x"), value("1")),
-            ("setVariable", assigning(2, "x", "9"), STALE),
-            ("scopes", {"frameId": 4}, scopes(("Locals", 5))),
-            ("variables", number(5), variables(X, ("p", "P", 6))),
-        ],
-    )
-    rows(
-        "values: kept by what is refused, set again, set in a variable, and lost where it stops at once",
-        [
-            *there,
-            *set_x,
-            ("next", {"threadId": 2}, fails("unknownThread")),
-            ("variables", number(2), is_set),
-            *[("setVariable", arguments, fails("badArguments", key)) for arguments, key in bad],
-            *[("setVariable", assigning(n, "x", "8"), STALE) for n in (0, 1, 4, 2147483647)],
-            ("setVariable", assigning(3, "x", "8"), fails("debuggee")),
-            ("variables", number(2), is_set),
-            ("setVariable", assigning(2, "x", ""), ok({"value": ""})),
-            ("setVariable", assigning(3, "a", "\u0001\u00e9"), ok({"value": "\u0001\u00e9"})),
-            ("variables", number(2), variables(("x", "", 0), P)),
-            ("variables", number(3), variables(("a", "\u0001\u00e9", 0))),
-            ("stepBack", THREAD, ok(), stopped("step")),
-            ("stackTrace", THREAD, stack((4, "main", 1))),
-            ("evaluate", in_frame(4, "x"), value("1")),
-        ],
-    )
+    rows("values: set, seen, and lost by a step there and back", [
+        *there, *set_x,
+        ("setVariable", assigning(2, "p", "Q"), ok({"value": "Q"})),
+        ("setVariable", assigning(2, "y", "9"), fails("debuggee")),
+        ("variables", number(2), variables(("x", "9", 0), ("p", "Q", 3))),
+        ("evaluate", in_frame(1, "x"), value("9")),
+        ("evaluate", in_frame(1, "p"), value("Q", 3)),
+        NEXT,
+        *[("stepBack", THREAD, ok(), stopped("step"))] * 2,
+        ("stackTrace", THREAD, stack((4, "main", 1))),
+        ("evaluate", in_frame(4, "x"), value("1")),
+        ("setVariable", assigning(2, "x", "9"), STALE),
+        ("scopes", {"frameId": 4}, scopes(("Locals", 5))),
+        ("variables", number(5), variables(X, ("p", "P", 6))),
+    ])
+    rows("values: kept by what is refused, set again, set in a variable, and lost where it stops at once", [
+        *there, *set_x,
+        ("next", {"threadId": 2}, fails("unknownThread")),
+        ("variables", number(2), is_set),
+        *[("setVariable", arguments, fails("badArguments", key)) for arguments, key in bad],
+        *[("setVariable", assigning(n, "x", "8"), STALE) for n in (0, 1, 4, 2147483647)],
+        ("setVariable", assigning(3, "x", "8"), fails("debuggee")),
+        ("variables", number(2), is_set),
+        ("setVariable", assigning(2, "x", ""), ok({"value": ""})),
+        ("setVariable", assigning(3, "a", "\u0001\u00e9"), ok({"value": "\u0001\u00e9"})),
+        ("variables", number(2), variables(("x", "", 0), P)),
+        ("variables", number(3), variables(("a", "\u0001\u00e9", 0))),
+        ("stepBack", THREAD, ok(), stopped("step")),
+        ("stackTrace", THREAD, stack((4, "main", 1))),
+        ("evaluate", in_frame(4, "x"), value("1")),
+    ])
     for name, before, refusal, after in NOT_IN_A_STOP:
         rows(f"values: {name}", [*before, ("setVariable", assigning(2, "x", "9"), fails(refusal)), *after])
     bad = ("setVariable", None, fails("badArguments", "arguments"))
@@ -382,34 +342,28 @@ def terminals():
     """A terminal that the client is asked for, and what its response does."""
     none = ok({"threads": []})
     rows("terminals: there", [*IS_ASKED, (*answered(4, body={}), launched(2), GO, stopped("entry")), HELD, PAUSE, EXIT])
-    rows(
-        "terminals: refused, and asked for again",
-        [
-            *IS_ASKED,
-            (*answered(4, False, message="terminalRefused"), refused_launch(2)),
-            ("threads", None, none),
-            ("launch", CONSOLE, asks_for_terminal()),
-            (*answered(7), launched(6), GO, stopped("entry")),
-        ],
-    )
-    rows(
-        "terminals: what is served meanwhile",
-        [
-            *IS_ASKED,
-            ("threads", None, none),
-            ("loadedSources", None, ok({"sources": [SOURCE_A]})),
-            set_lines(PATH_A, [2], placed((1, 2, True))),
-            ("setExceptionBreakpoints", {"filters": []}, ok()),
-            ("cancel", {"requestId": 2}, ok()),
-            ("terminate", None, fails("wrongPhase")),
-            ("launch", CONSOLE, fails("wrongPhase")),
-            ("configurationDone", None, fails("wrongPhase")),
-            ("next", THREAD, fails("wrongPhase")),
-            ("initialize", None, fails("alreadyInitialized")),
-            (*answered(4, body={"processId": "x"}), launched(2), GO, stopped("entry")),
-            CONTINUE,
-        ],
-    )
+    rows("terminals: refused, and asked for again", [
+        *IS_ASKED,
+        (*answered(4, False, message="terminalRefused"), refused_launch(2)),
+        ("threads", None, none),
+        ("launch", CONSOLE, asks_for_terminal()),
+        (*answered(7), launched(6), GO, stopped("entry")),
+    ])
+    rows("terminals: what is served meanwhile", [
+        *IS_ASKED,
+        ("threads", None, none),
+        ("loadedSources", None, ok({"sources": [SOURCE_A]})),
+        set_lines(PATH_A, [2], placed((1, 2, True))),
+        ("setExceptionBreakpoints", {"filters": []}, ok()),
+        ("cancel", {"requestId": 2}, ok()),
+        ("terminate", None, fails("wrongPhase")),
+        ("launch", CONSOLE, fails("wrongPhase")),
+        ("configurationDone", None, fails("wrongPhase")),
+        ("next", THREAD, fails("wrongPhase")),
+        ("initialize", None, fails("alreadyInitialized")),
+        (*answered(4, body={"processId": "x"}), launched(2), GO, stopped("entry")),
+        CONTINUE,
+    ])
     cancelled = lambda _, __: fails("cancelled")(2, "launch")
     rows("terminals: disconnect meanwhile", [*IS_ASKED, ("disconnect", None, cancelled, ok()), (*answered(4),)])
     configured = [*ANNOUNCED, ("configurationDone", None, ok())]
@@ -448,38 +402,30 @@ def breakpoints():
     ]
     rows("breakpoints: replaced", first)
     # What was refused changed nothing: the run stops at line 2 and not at line 1, and the next one is 5.
-    rows(
-        "breakpoints: an answer that is too large",
-        [
-            *first,
-            ("setBreakpoints", {"source": PATH_A, "lines": [1] * 100}, fails("tooLarge")),
-            ("launch", None),
-            ("configurationDone", None, ok(), launched(6), GO, stopped("entry")),
-            CONTINUE,
-            ("stackTrace", THREAD, stack((1, "main", 2))),
-            set_lines(PATH_A, [1], placed((5, 1, True))),
-            BACK,
-        ],
-        words=("--max-body", "1024"),
-    )
+    rows("breakpoints: an answer that is too large", [
+        *first,
+        ("setBreakpoints", {"source": PATH_A, "lines": [1] * 100}, fails("tooLarge")),
+        ("launch", None),
+        ("configurationDone", None, ok(), launched(6), GO, stopped("entry")),
+        CONTINUE,
+        ("stackTrace", THREAD, stack((1, "main", 2))),
+        set_lines(PATH_A, [1], placed((5, 1, True))),
+        BACK,
+    ], words=("--max-body", "1024"))
     many, other = fails("tooManyBreakpoints"), {"path": "/b.c"}
-    rows(
-        "breakpoints: two at most, of all sources together",
-        [
-            *INITIALIZED,
-            set_lines(PATH_A, [1, 2, 3], many),
-            set_lines(PATH_A, [2], placed((1, 2, True))),
-            set_lines(NUMBER_A, [3], placed((2, 3, True))),
-            set_lines(NUMBER_A, [1, 3], many),
-            set_lines(NUMBER_A, [1], placed((3, 1, True))),
-            set_lines(PATH_A, [7], placed((4, 7, False))),
-            set_lines(other, [1], many),
-            set_lines(PATH_A, [], placed()),
-            set_lines(other, [1], placed((5, 1, False))),
-            set_lines({"path": "/c.c"}, [], placed()),
-        ],
-        words=("--max-breakpoints", "2"),
-    )
+    rows("breakpoints: two at most, of all sources together", [
+        *INITIALIZED,
+        set_lines(PATH_A, [1, 2, 3], many),
+        set_lines(PATH_A, [2], placed((1, 2, True))),
+        set_lines(NUMBER_A, [3], placed((2, 3, True))),
+        set_lines(NUMBER_A, [1, 3], many),
+        set_lines(NUMBER_A, [1], placed((3, 1, True))),
+        set_lines(PATH_A, [7], placed((4, 7, False))),
+        set_lines(other, [1], many),
+        set_lines(PATH_A, [], placed()),
+        set_lines(other, [1], placed((5, 1, False))),
+        set_lines({"path": "/c.c"}, [], placed()),
+    ], words=("--max-breakpoints", "2"))
     bad_breakpoints()
     breakpoints_by_phase()
     breakpoints_that_stop()
@@ -499,95 +445,76 @@ def bad_breakpoints():
         ({"source": NUMBER_A, "lines": [None]}, "lines"),
         ({"source": NUMBER_A, "breakpoints": [], "lines": [2147483648]}, "lines"),
     ]
-    rows(
-        "breakpoints: good and bad arguments",
-        [
-            *INITIALIZED,
-            *[("setBreakpoints", arguments, fails("badArguments", key)) for arguments, key in bad],
-            ("setBreakpoints", {"source": {"path": ""}, "breakpoints": None, "lines": [1]}, placed((1, 1, False))),
-            ("setBreakpoints", {"source": NUMBER_A, "breakpoints": [], "lines": [1]}, placed()),
-            set_lines({"path": "/a.c", "sourceReference": 7}, [1], placed((2, 1, True))),
-            set_lines({"path": "/b.c", "sourceReference": 1}, [1], placed((3, 1, False))),
-            set_lines({"path": None, "sourceReference": 2}, [1], placed((4, 1, False))),
-        ],
-    )
+    rows("breakpoints: good and bad arguments", [
+        *INITIALIZED,
+        *[("setBreakpoints", arguments, fails("badArguments", key)) for arguments, key in bad],
+        ("setBreakpoints", {"source": {"path": ""}, "breakpoints": None, "lines": [1]}, placed((1, 1, False))),
+        ("setBreakpoints", {"source": NUMBER_A, "breakpoints": [], "lines": [1]}, placed()),
+        set_lines({"path": "/a.c", "sourceReference": 7}, [1], placed((2, 1, True))),
+        set_lines({"path": "/b.c", "sourceReference": 1}, [1], placed((3, 1, False))),
+        set_lines({"path": None, "sourceReference": 2}, [1], placed((4, 1, False))),
+    ])
 
 
 def breakpoints_by_phase():
     """They are set before the start, in a run and in a stop, and not after the exit."""
-    rows(
-        "breakpoints: before the start, and while it runs",
-        [
-            set_lines(PATH_A, [1], fails("notInitialized")),
-            *INITIALIZED,
-            set_lines(PATH_A, [1], placed((1, 1, True))),
-            ("configurationDone", None, ok()),
-            set_lines(PATH_A, [1], placed((2, 1, True))),
-            ("launch", None, ok(), GO, stopped("entry")),
-            HELD,
-            set_lines(PATH_A, [1], placed((3, 1, True))),
-            TERMINATE,
-            set_lines(PATH_A, [1], fails("wrongPhase")),
-            set_lines(PATH_A, [-1], fails("badArguments", "breakpoints")),
-        ],
-    )
-    rows(
-        "breakpoints: while a launch waits, and in a stop",
-        [
-            *INITIALIZED,
-            ("launch", None),
-            set_lines(PATH_A, [9], placed((1, 9, False))),
-            ("configurationDone", None, ok(), launched(2), GO, stopped("entry")),
-            set_lines(PATH_A, [9, 9], placed((2, 9, False), (3, 9, False))),
-            HELD,
-            PAUSE,
-            EXIT,
-            set_lines(PATH_A, [], fails("wrongPhase")),
-        ],
-    )
+    rows("breakpoints: before the start, and while it runs", [
+        set_lines(PATH_A, [1], fails("notInitialized")),
+        *INITIALIZED,
+        set_lines(PATH_A, [1], placed((1, 1, True))),
+        ("configurationDone", None, ok()),
+        set_lines(PATH_A, [1], placed((2, 1, True))),
+        ("launch", None, ok(), GO, stopped("entry")),
+        HELD,
+        set_lines(PATH_A, [1], placed((3, 1, True))),
+        TERMINATE,
+        set_lines(PATH_A, [1], fails("wrongPhase")),
+        set_lines(PATH_A, [-1], fails("badArguments", "breakpoints")),
+    ])
+    rows("breakpoints: while a launch waits, and in a stop", [
+        *INITIALIZED,
+        ("launch", None),
+        set_lines(PATH_A, [9], placed((1, 9, False))),
+        ("configurationDone", None, ok(), launched(2), GO, stopped("entry")),
+        set_lines(PATH_A, [9, 9], placed((2, 9, False), (3, 9, False))),
+        HELD, PAUSE, EXIT,
+        set_lines(PATH_A, [], fails("wrongPhase")),
+    ])
 
 
 def breakpoints_that_stop():
     """The nearest moment whose newest frame is at a line that was set for a name of its source stops a move."""
     second = stack((1, "f", 3), (2, "main", 1))
-    rows(
-        "breakpoints: the nearest one stops a move",
-        [
-            *STOPPED,
-            set_lines(PATH_A, [1, 2, 3], placed((1, 1, True), (2, 2, True), (3, 3, True))),
-            CONTINUE,
-            ("stackTrace", THREAD, second),
-            CONTINUE,
-            ("stackTrace", THREAD, stack((3, "main", 2))),
-            BACK,
-            ("stackTrace", THREAD, stack((4, "f", 3), (5, "main", 1))),
-            BACK,
-            ("stackTrace", THREAD, stack((6, "main", 1))),
-            BACK_TO_START,
-        ],
-    )
+    rows("breakpoints: the nearest one stops a move", [
+        *STOPPED,
+        set_lines(PATH_A, [1, 2, 3], placed((1, 1, True), (2, 2, True), (3, 3, True))),
+        CONTINUE,
+        ("stackTrace", THREAD, second),
+        CONTINUE,
+        ("stackTrace", THREAD, stack((3, "main", 2))),
+        BACK,
+        ("stackTrace", THREAD, stack((4, "f", 3), (5, "main", 1))),
+        BACK,
+        ("stackTrace", THREAD, stack((6, "main", 1))),
+        BACK_TO_START,
+    ])
     # At the second moment line 1 is that of the caller.
     rows(
         "breakpoints: the newest frame alone counts",
         [*STOPPED, set_lines(PATH_A, [1], placed((1, 1, True))), HELD, PAUSE, ("stackTrace", THREAD, stack((1, "main", 2)))],
     )
-    rows(
-        "breakpoints: a path and a number are two names",
-        [
-            *STOPPED,
-            set_lines(NUMBER_A, [2], placed((1, 2, True))),
-            set_lines(PATH_A, [9], placed((2, 9, False))),
-            CONTINUE,
-            set_lines(NUMBER_A, [], placed()),
-            BACK_TO_START,
-            HELD,
-            # What is set while it runs stops the next move.
-            set_lines(PATH_A, [3], placed((3, 3, True))),
-            PAUSE,
-            BACK,
-            ("stackTrace", THREAD, second),
-        ],
-    )
+    rows("breakpoints: a path and a number are two names", [
+        *STOPPED,
+        set_lines(NUMBER_A, [2], placed((1, 2, True))),
+        set_lines(PATH_A, [9], placed((2, 9, False))),
+        CONTINUE,
+        set_lines(NUMBER_A, [], placed()),
+        BACK_TO_START, HELD,
+        # What is set while it runs stops the next move.
+        set_lines(PATH_A, [3], placed((3, 3, True))),
+        PAUSE, BACK,
+        ("stackTrace", THREAD, second),
+    ])
 
 
 def lines_from_0():
@@ -596,24 +523,21 @@ def lines_from_0():
     for lines, columns, line, column in [(False, False, 0, 0), (False, True, 0, 1), (True, False, 1, 0), (None, None, 1, 1)]:
         announced = {"adapterID": "rec", "linesStartAt1": lines, "columnsStartAt1": columns}
         far = placed((3, line + 2, True), (4, line + 3, False), (5, greatest, False))
-        rows(
-            f"breakpoints: lines from {line}, columns from {column}",
-            [
-                ("initialize", announced, ok(FLAGS), tells("initialized")),
-                set_lines(PATH_A, [line], placed((1, line, True))),
-                set_lines(PATH_A, [1 - line], placed((2, 1 - line, line == 0))),
-                set_lines(PATH_A, [line + 2, line + 3, greatest], far),
-                ("launch", None),
-                ("configurationDone", None, ok(), launched(5), GO, stopped("entry")),
-                STEP_IN,
-                ("stackTrace", THREAD, stack((1, "f", line + 2), (2, "main", line), column=column)),
-                set_lines(PATH_A, [line], placed((6, line, True))),
-                BACK,
-                set_lines(PATH_A, [line + 1], placed((7, line + 1, True))),
-                CONTINUE,
-                ("stackTrace", THREAD, stack((3, "main", line + 1), column=column)),
-            ],
-        )
+        rows(f"breakpoints: lines from {line}, columns from {column}", [
+            ("initialize", announced, ok(FLAGS), tells("initialized")),
+            set_lines(PATH_A, [line], placed((1, line, True))),
+            set_lines(PATH_A, [1 - line], placed((2, 1 - line, line == 0))),
+            set_lines(PATH_A, [line + 2, line + 3, greatest], far),
+            ("launch", None),
+            ("configurationDone", None, ok(), launched(5), GO, stopped("entry")),
+            STEP_IN,
+            ("stackTrace", THREAD, stack((1, "f", line + 2), (2, "main", line), column=column)),
+            set_lines(PATH_A, [line], placed((6, line, True))),
+            BACK,
+            set_lines(PATH_A, [line + 1], placed((7, line + 1, True))),
+            CONTINUE,
+            ("stackTrace", THREAD, stack((3, "main", line + 1), column=column)),
+        ])
 
 
 def sources():
@@ -644,39 +568,28 @@ def sources():
     rows("sources: before initialize", [(command, told, fails("notInitialized")) for command, told, _ in asked])
     odd = "\u0001\u00e9\"\\\u007f"
     told = [{"name": "b", "sourceReference": 1}, {"name": "", "path": "", "sourceReference": 2}]
-    rows(
-        "sources: no path, and an empty one",
-        [
-            *INITIALIZED,
-            ("loadedSources", None, ok({"sources": told})),
-            ("source", {"sourceReference": 1}, ok({"content": ""})),
-            ("source", {"sourceReference": 2}, ok({"content": odd})),
-            set_lines({"sourceReference": 1}, [1], placed((1, 1, False))),
-            set_lines({"path": ""}, [1, 2], placed((2, 1, True), (3, 2, False))),
-        ],
-        made_recording("unnamed", [{"name": "b", "text": ""}, {"name": "", "path": "", "text": odd}]),
-    )
-    rows(
-        "sources: a line is there where some source of the path has it",
-        [
-            *INITIALIZED,
-            set_lines({"path": "/a"}, [1, 2, 3], placed((1, 1, True), (2, 2, True), (3, 3, False))),
-            set_lines({"sourceReference": 3}, [1, 2], placed((4, 1, True), (5, 2, False))),
-            set_lines({"sourceReference": 4}, [1], placed((6, 1, False))),
-            set_lines({"path": "/A"}, [1], placed((7, 1, False))),
-        ],
-        made_recording("shared", [{"name": "s", "path": "/a", "text": text} for text in ("\n", "1\n2", "1\n")]),
-    )
+    rows("sources: no path, and an empty one", [
+        *INITIALIZED,
+        ("loadedSources", None, ok({"sources": told})),
+        ("source", {"sourceReference": 1}, ok({"content": ""})),
+        ("source", {"sourceReference": 2}, ok({"content": odd})),
+        set_lines({"sourceReference": 1}, [1], placed((1, 1, False))),
+        set_lines({"path": ""}, [1, 2], placed((2, 1, True), (3, 2, False))),
+    ], made_recording("unnamed", [{"name": "b", "text": ""}, {"name": "", "path": "", "text": odd}]))
+    rows("sources: a line is there where some source of the path has it", [
+        *INITIALIZED,
+        set_lines({"path": "/a"}, [1, 2, 3], placed((1, 1, True), (2, 2, True), (3, 3, False))),
+        set_lines({"sourceReference": 3}, [1, 2], placed((4, 1, True), (5, 2, False))),
+        set_lines({"sourceReference": 4}, [1], placed((6, 1, False))),
+        set_lines({"path": "/A"}, [1], placed((7, 1, False))),
+    ], made_recording("shared", [{"name": "s", "path": "/a", "text": text} for text in ("\n", "1\n2", "1\n")]))
 
 
 def made_recording(name, sources, scopes=()):
     """The path of a recording of one moment, at line 1 of the last source."""
     frames = [{"name": "main", "source": len(sources) - 1, "line": 1, "scopes": scopes}]
     moment = {"threads": [{"id": 1, "name": "main", "frames": frames}], "thread": 1}
-    path = os.path.join(FOLDER, name)
-    with open(path, "w") as file:
-        json.dump({"exit": 0, "sources": sources, "moments": [moment]}, file)
-    return path
+    return file_of(name, {"exit": 0, "sources": sources, "moments": [moment]})
 
 
 def too_large():
@@ -693,18 +606,13 @@ def too_large():
         ]:
             asked = [("evaluate", in_frame(1, "v")), ("scopes", {"frameId": 1}), ("variables", number(2))] * 2
             held = [{"name": "v", "value": text, "variables": [{"name": "c", "value": "d"}]}]
-            rows(
-                f"too large: a value of {unit!r}, {len(text) - len(fits)} bytes more",
-                [
-                    *INITIALIZED,
-                    ("launch", None),
-                    ("configurationDone", None, ok(), launched(2), stopped("entry")),
-                    ("stackTrace", THREAD, stack((1, "main", 1), source={"name": "a", "sourceReference": 1})),
-                    *[(*one, answer) for one, answer in zip(asked, answers)],
-                ],
-                made_recording("long", [source], [{"name": "L", "variables": held}]),
-                small,
-            )
+            rows(f"too large: a value of {unit!r}, {len(text) - len(fits)} bytes more", [
+                *INITIALIZED,
+                ("launch", None),
+                ("configurationDone", None, ok(), launched(2), stopped("entry")),
+                ("stackTrace", THREAD, stack((1, "main", 1), source={"name": "a", "sourceReference": 1})),
+                *[(*one, answer) for one, answer in zip(asked, answers)],
+            ], made_recording("long", [source], [{"name": "L", "variables": held}]), small)
     for more in (0, 1):
         text = "a" * (1024 + more - len(written({**ok({"content": ""})(2, "source"), "seq": 3})))
         path = made_recording("text", [{"name": "a", "text": text}])
@@ -749,21 +657,18 @@ def mixed():
     """Random sessions over each recording, and over random ones, under small limits."""
     paths = list(RECORDINGS)
     for seed in range(13):
-        paths.append(os.path.join(FOLDER, f"random{seed}"))
-        with open(paths[-1], "w") as file:
-            json.dump(random_recording(random.Random(seed)), file)
+        paths.append(file_of(f"random{seed}", random_recording(random.Random(seed))))
     for seed in range(12 * len(paths)):
         path = paths[seed % len(paths)]
         guided = mixed_session(random.Random(seed), path)
         compare(guided, f"mixed: {seed}, over {os.path.basename(path)}, {' '.join(guided.words)}")
 
 
-def follow():
+def follow_session():
     """scripts/follow-session finds nothing wrong."""
     for path in RECORDINGS:
-        words = [os.path.join(HERE, "scripts", "follow-session"), "--program", DAP, "--recording", path]
-        done = subprocess.run(words, capture_output=True, timeout=300)
-        expect(f"follow-session {os.path.basename(path)}", (done.returncode, done.stderr), (0, b""))
+        status, _, err = output_of([FOLLOW, "--program", DAP, "--recording", path], timeout=300)
+        expect(f"follow-session {os.path.basename(path)}", (status, err), (0, b""))
 
 
 GROUPS = {
@@ -775,5 +680,5 @@ GROUPS = {
     "too_large": too_large,
     "walks": walks,
     "mixed": mixed,
-    "follow": follow,
+    "follow_session": follow_session,
 }

@@ -2,7 +2,7 @@
 import json
 import os
 
-from trial import FOLDER, expect, frames_of, request, run, split
+from trial import expect, file_of, frames_of, request, run, split
 
 VARIABLES, SOURCES, MOMENTS, LINES = 70000, 65536, 16384, 65536
 FAR = 7919  # a prime, so that the lines of moments that follow each other are far from each other
@@ -17,9 +17,7 @@ def moment(source=0, line=1, scopes=()):
 
 def bodies(name, sources, moments, asked, *words):
     """What the responses to these requests have as their bodies, and the reasons of the stops, in their order."""
-    path = os.path.join(FOLDER, name + ".json")
-    with open(path, "w", encoding="utf-8") as file:
-        json.dump({"exit": 0, "sources": sources, "moments": moments}, file)
+    path = file_of(name + ".json", {"exit": 0, "sources": sources, "moments": moments})
     requests = [request(seq, *one) for seq, one in enumerate(asked, 1)]
     status, out, err = run(["serve", path, *words], b"".join(frames_of(requests)))
     os.remove(path)

@@ -19,27 +19,14 @@ import random
 import sys
 
 import slow_check
-from drive_model import MAY_SEND, RESUMING, Drive, Fault, drive_of, script_line
-from slow_check import GATES, USED_AT
-from trial import FOLDER, RECORDINGS, expect, failures, recording_of, run, words_of
+from commands import COMMANDS, ENDING, EVENTS, GATES, GIVEN, RESUMING, USED, body_giving
+from drive_model import Drive, Fault, drive_of, script_line
+from trial import RECORDINGS, expect, failures, recording_of, run, words_of
 
 COUNT = 300
 EDITS = 6
 FLAGS = sorted(set(GATES.values()))
 ODD_NUMBERS = [0, 1, 2, 3, 4, 5, -1, 1.0, -0.0, 2147483647, 2147483648, 2**53 - 1, 2**53, 2**64 - 1, 2**64, -(2**63), None]
-
-
-def with_files(*words_and_contents):
-    """The words, each file's bytes in the place of its name."""
-    words = []
-    for place, word in enumerate(words_and_contents):
-        if isinstance(word, bytes):
-            path = os.path.join(FOLDER, f"text{place}")
-            with open(path, "wb") as file:
-                file.write(word)
-            word = path
-        words.append(word)
-    return words
 
 
 def is_known(command):
@@ -82,8 +69,8 @@ class Scripted:
 
     def arguments(self, command):
         pick = self.choice.choice
-        if command in USED_AT:
-            key, kind = USED_AT[command]
+        if command in USED:
+            key, kind = USED[command]
             told = {key: self.number(kind), "expression": pick(["x", "p", "q"])}
             if command == "setVariable":
                 live = [thing for its_kind, thing in self.drive.adapter.references.live if its_kind == "holder"]
@@ -117,7 +104,7 @@ class Scripted:
         if len(client.waiting) >= client.max_requests and self.choice.randrange(8):
             return self.line(b"run")
         for _ in range(20):
-            commands = [c for c in sorted(MAY_SEND) if c not in ("disconnect", "terminate") or self.choice.randrange(8) == 0]
+            commands = [c for c in sorted(COMMANDS) if c not in ("disconnect", "terminate") or self.choice.randrange(8) == 0]
             command = self.choice.choice(lead.get(client.phase, commands) if self.choice.randrange(3) else commands)
             arguments = self.arguments(command)
             if client.refusal(command, arguments) is None:
@@ -256,8 +243,7 @@ def exchange(choice, command, body=None, arguments=None):
 
 def put_event(choice, said):
     """An event, mostly of the adapter."""
-    names = ["initialized", "continued", "exited", "terminated", "stopped", "output"]
-    put(choice, said, (choice.choice("<<<>"), event(choice.choice(names))))
+    put(choice, said, (choice.choice("<<<>"), event(choice.choice(EVENTS))))
 
 
 def put_offer(choice, said):
@@ -299,30 +285,21 @@ def resumption(choice):
     """What ends the life of references; where it fails, or is of the other side, it does not."""
     if choice.randrange(2):
         return exchange(choice, choice.choice(sorted(RESUMING)))
-    return [(choice.choice("<<<>"), event(choice.choice(["continued", "exited", "terminated", "stopped"])))]
+    return [(choice.choice("<<<>"), event(choice.choice([*ENDING, "stopped"])))]
 
 
 def use(choice, kind, number):
     """A request that names a reference, mostly as what it is."""
-    commands = [command for command, (_, its_kind) in USED_AT.items() if its_kind == kind or choice.randrange(8) == 0]
+    commands = [command for command, (_, its_kind) in USED.items() if its_kind == kind or choice.randrange(8) == 0]
     command = choice.choice(commands)
-    return choice.choice(">>>>>>>>>>>><"), ask(choice, command, {USED_AT[command][0]: number})
-
-
-GIVERS = {
-    "stackTrace": lambda number: ("frame", {"stackFrames": [{"id": number}, {"id": 77}]}),
-    "scopes": lambda number: ("variables", {"scopes": [{}, {"variablesReference": number}]}),
-    "variables": lambda number: ("variables", {"variables": [{"variablesReference": 0}, {"variablesReference": number}]}),
-    "evaluate": lambda number: ("variables", {"variablesReference": number}),
-    "setVariable": lambda number: ("variables", {"variablesReference": number}),
-}
+    return choice.choice(">>>>>>>>>>>><"), ask(choice, command, {USED[command][0]: number})
 
 
 def put_reference(choice, said):
     """A reference that is given, perhaps a resumption, and a request that names it, or another one."""
     number = choice.choice([*ODD_NUMBERS, 500, 501, 502, 503, 504, 505])
-    command = choice.choice(sorted(GIVERS))
-    kind, body = GIVERS[command](number)
+    command = choice.choice(sorted(GIVEN))
+    kind, body = body_giving(command, number)
     between = choice.choice([[], resumption(choice)])
     used = number if choice.randrange(8) or not isinstance(number, int) else number + 1
     put(choice, said, *exchange(choice, command, body), *between, use(choice, kind, used))
@@ -458,7 +435,7 @@ class Trial:
         """What the program says of a transcript, and what the slow checker does."""
         wanted = slow_check.check(text, **OPTIONS[words])
         self.counts[kind_of(wanted)] += 1
-        got = run(with_files("check", text, *words))
+        got = run(["check", text, *words])
         if got != (wanted[0], wanted[1].encode(), wanted[2].encode()):
             self.keep(name, text, got, wanted)
         return wanted
@@ -476,7 +453,7 @@ class Trial:
         script, limits = random_script(choice, recording)
         words = words_of(limits)
         wanted = drive_of(recording, script, **limits)
-        got = run(with_files("drive", path, script, *words))
+        got = run(["drive", path, script, *words])
         self.drives[wanted[2].decode().split(" at ")[0].strip() or "done"] += 1
         if got != wanted:
             self.keep(f"{seed}: drive {os.path.basename(path)} {' '.join(words)}", script, got, wanted)
