@@ -1,4 +1,4 @@
-//! Worked examples that may meet want of memory, as tests alone. With ample memory each gives the example's answer.
+//! Worked examples that may be refused memory, as tests alone. With ample memory each gives the example's answer.
 //! `scripts/refuse-allocations` runs a copy of them with each allocation refused in turn: then each gives that answer, or
 //! says `refused` and shows that nothing else has happened.
 #![tactic(auto)]
