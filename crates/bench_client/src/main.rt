@@ -6,7 +6,9 @@
 
 use dap_client::{AnswerFault, Client, ClientFault, Phase, SendFault, Terminal};
 use dap_frame::Limits;
-use dap_message::{Call, Command, Kind, Message, read_call};
+use dap_call::{Call, read_call};
+use dap_command::Command;
+use dap_envelope::{Kind, Message};
 use dap_reader::{MessageReader, ReadFault};
 use std::alloc::{AllocError, Global};
 use std::fs::File;

@@ -13,7 +13,7 @@ use Rattle.dap_frame.specs.Verdict.{verdict, Part, IsUnrefused}
 use Rattle.dap_frame.specs.declared.frames.End.{End as EndOf}
 use Rattle.dap_frame.specs.declared.frames.End.TheVariants.{Clean, Truncated, Refused as Closed}
 use Rattle.dap_frame.specs.declared.limits.Bounds.{Bounds}
-use Rattle.dap_message.specs.declared.message.Message.{Message}
+use Rattle.dap_envelope.specs.declared.message.Message.{Message}
 use Rattle.dap_decision.specs.declared.phase.Phase.{Phase}
 use Rattle.dap_decision.specs.declared.phase.Phase.TheVariants.{Ended}
 use Rattle.dap_outbox.specs.Draft.{bytes_of}

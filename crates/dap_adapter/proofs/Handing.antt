@@ -2,7 +2,7 @@
 use Rattle.std.proofs.Common.{◌≡◌, ℕ, List, [], ◌++◌, take, drop, true, false, Option, Some, None, is_some, subst}
 use Rattle.std.proofs.lemmas.List.{take-append-drop}
 use Rattle.dap_frame.specs.Laws.{EachStreamHasOneSplit}
-use Rattle.dap_message.specs.declared.message.Message.{Message}
+use Rattle.dap_envelope.specs.declared.message.Message.{Message}
 use Rattle.dap_adapter.specs.AdapterState.{AdapterState}
 use Rattle.dap_adapter.specs.Calls.{Takes}
 use Rattle.dap_adapter.specs.PrivateServing.{Way, Point, point_of, Leads, Breaks}

@@ -3,14 +3,14 @@ use Rattle.std.proofs.Common.{◌≡◌, ℕ, ◌+◌, List, [], ◌∷◌, ◌+
 use Rattle.std.proofs.lemmas.List.{length-append, length-take, take-append-drop}
 use Rattle.std.proofs.lemmas.Grind.{flat_map-append}
 use Rattle.dap_frame.specs.Written.{frame_of}
-use Rattle.dap_message.specs.Canon.{canon}
+use Rattle.dap_envelope.specs.Canon.{canon}
 use Rattle.dap_channel.specs.Channel.{IoEvent, Gave, ReadFailed, Took, WriteFailed, Flushed, FlushFailed, bytes_written, reads}
 use Rattle.dap_channel.specs.Sent.{saturating_count, Sends}
 use Rattle.dap_channel.specs.Laws.{CallsAddUp}
 use Rattle.dap_frame.specs.Settings.{Settings, bounds_of}
 use Rattle.dap_frame.specs.Stream.{Split}
 use Rattle.dap_frame.specs.declared.limits.Bounds.{Bounds}
-use Rattle.dap_message.specs.declared.message.Message.{Message}
+use Rattle.dap_envelope.specs.declared.message.Message.{Message}
 use Rattle.dap_debuggee.specs.Shown.{Shown}
 use Rattle.dap_session.specs.Carried.{Goes}
 use Rattle.dap_outbox.specs.Draft.{bytes_of}

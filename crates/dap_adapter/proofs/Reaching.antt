@@ -1,7 +1,7 @@
 -- What serving comes to by a part of a run whose bytes were gathered.
 use Rattle.std.proofs.Common.{◌≡◌, ◌⊎◌, ℕ, List, ◌++◌, Bool, true, false, refl, sym, ap, ◌∙◌, subst, append_assoc, append-nil, inl, inr}
 use Rattle.dap_channel.specs.Laws.{CallsAddUp}
-use Rattle.dap_message.specs.declared.message.Message.{Message}
+use Rattle.dap_envelope.specs.declared.message.Message.{Message}
 use Rattle.dap_session.specs.declared.fault.AdapterFault.{AdapterFault}
 use Rattle.dap_adapter.specs.AdapterState.{AdapterState, state_of}
 use Rattle.dap_adapter.specs.Parts.{MayBeHeld, RunsOn, StopsAtCall}

@@ -7,12 +7,12 @@ use Rattle.dap_json.specs.Field.{max_seq}
 use Rattle.dap_history.specs.Answers.{Answers, AnswersOne, IsAnswerTo}
 use Rattle.dap_history.specs.History.{Entry, In, Out, ReferencesEnd, Came, Asked, waiting, if_unanswered, is_answered_in, ins_of, request_as, response_at}
 use Rattle.dap_history.specs.Received.{AreRead}
-use Rattle.dap_message.specs.InRange.{IsInRange, ReadIsInRange}
-use Rattle.dap_message.specs.ReadBack.{AllReadBack}
-use Rattle.dap_message.specs.Refusals.{max_command}
-use Rattle.dap_message.specs.declared.message.Message.{Message}
-use Rattle.dap_message.specs.declared.message.Kind.{Kind}
-use Rattle.dap_message.specs.declared.message.Kind.TheVariants.{Request, Response, Event, Other}
+use Rattle.dap_envelope.specs.InRange.{IsInRange, ReadIsInRange}
+use Rattle.dap_envelope.specs.ReadBack.{AllReadBack}
+use Rattle.dap_envelope.specs.Refusals.{max_command}
+use Rattle.dap_envelope.specs.declared.message.Message.{Message}
+use Rattle.dap_envelope.specs.declared.message.Kind.{Kind}
+use Rattle.dap_envelope.specs.declared.message.Kind.TheVariants.{Request, Response, Event, Other}
 use Rattle.dap_tables.specs.declared.entry.Entry.{Entry as Kept}
 use Rattle.dap_outbox.specs.InRange.{IsRequestInRange, AnswersInRange}
 use Rattle.dap_session.specs.Plan.{Made, references_end_if, entries_of}

@@ -6,9 +6,9 @@ use Rattle.dap_frame.specs.Intake.{Intake, IsUnderWay, StandsFor as StandsForStr
 use Rattle.dap_frame.specs.Settings.{bounds_of}
 use Rattle.dap_history.specs.History.{In, ins_of, outs_of}
 use Rattle.dap_history.specs.HistoryLaws.{HistoriesGrow}
-use Rattle.dap_message.specs.InRange.{ReadIsInRange}
-use Rattle.dap_message.specs.Meaning.{Msg}
-use Rattle.dap_message.specs.declared.message.Message.{Message}
+use Rattle.dap_envelope.specs.InRange.{ReadIsInRange}
+use Rattle.dap_envelope.specs.Meaning.{Msg}
+use Rattle.dap_envelope.specs.declared.message.Message.{Message}
 use Rattle.dap_session.specs.Carried.{Goes}
 use Rattle.dap_session.specs.Laws.{CanMake, can_make, EachStepGoesOn}
 use Rattle.dap_session.specs.Plan.{Made, Plan, entries_of}

@@ -3,11 +3,11 @@ use Rattle.std.proofs.Common.{◌≡◌, ◌≢◌, ℕ, ◌+◌, List, Bool, tr
 use Rattle.std.specs.Prelude.{not, bytes_eq}
 use Rattle.dap_frame.specs.Feeds.{Completes}
 use Rattle.dap_frame.specs.Intake.{Intake}
-use Rattle.dap_message.specs.Meaning.{Msg}
-use Rattle.dap_message.specs.Terminal.{run_in_terminal}
-use Rattle.dap_message.specs.declared.message.Message.{Message}
-use Rattle.dap_message.specs.declared.message.Kind.{Kind}
-use Rattle.dap_message.specs.declared.message.Kind.TheVariants.{Request, Response, Event, Other}
+use Rattle.dap_envelope.specs.Meaning.{Msg}
+use Rattle.dap_call.specs.Terminal.{run_in_terminal}
+use Rattle.dap_envelope.specs.declared.message.Message.{Message}
+use Rattle.dap_envelope.specs.declared.message.Kind.{Kind}
+use Rattle.dap_envelope.specs.declared.message.Kind.TheVariants.{Request, Response, Event, Other}
 use Rattle.dap_tables.specs.declared.entry.Entry.{Entry}
 use Rattle.dap_tables.specs.Outstanding.{contains_seq}
 use Rattle.dap_session.specs.declared.fault.AdapterFault.{AdapterFault}

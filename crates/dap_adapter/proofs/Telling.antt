@@ -1,7 +1,7 @@
 -- One poll.
 use Rattle.std.proofs.Common.{◌≡◌, ℕ, ◌+◌, List, [], length, Bool, None, refl, subst}
 use Rattle.std.specs.Prelude.{◌==◌, ◌&&◌, not}
-use Rattle.dap_message.specs.declared.message.Message.{Message}
+use Rattle.dap_envelope.specs.declared.message.Message.{Message}
 use Rattle.dap_session.specs.Plan.{written_by}
 use Rattle.dap_session.specs.declared.fault.AdapterFault.{AdapterFault}
 use Rattle.dap_decision.specs.declared.phase.Phase.TheVariants.{Stopped}

@@ -3,8 +3,8 @@
 use Rattle.std.specs.Prelude.{◌≡◌, ◌≢◌, ℕ, List, [], ◌++◌, Bool, true, false, None}
 use Rattle.dap_frame.specs.Intake.{StandsFor as StandsForStream}
 use Rattle.dap_history.specs.History.{Entry, outs_of}
-use Rattle.dap_message.specs.ReadBack.{AllReadBack}
-use Rattle.dap_message.specs.declared.message.Message.{Message}
+use Rattle.dap_envelope.specs.ReadBack.{AllReadBack}
+use Rattle.dap_envelope.specs.declared.message.Message.{Message}
 use Rattle.dap_debuggee.specs.Shown.{Shown}
 use Rattle.dap_session.specs.Carried.{Goes}
 use Rattle.dap_outbox.specs.Draft.{bytes_of}

@@ -4,7 +4,7 @@ use Rattle.dap_channel.specs.Channel.{IoEvent, Ran, bytes_read, bytes_written, r
 use Rattle.dap_channel.specs.Sent.{saturating_count, WritesShort}
 use Rattle.dap_frame.specs.Intake.{StandsFor as StandsForStream}
 use Rattle.dap_history.specs.History.{Entry}
-use Rattle.dap_message.specs.declared.message.Message.{Message}
+use Rattle.dap_envelope.specs.declared.message.Message.{Message}
 use Rattle.dap_debuggee.specs.Shown.{Shown}
 use Rattle.dap_session.specs.declared.fault.AdapterFault.{AdapterFault}
 use Rattle.dap_session.specs.declared.fault.AdapterFault.TheVariants.{OutOfMemory as NoMemory}

@@ -3,8 +3,8 @@
 use Rattle.std.specs.Prelude.{◌≡◌, ℕ, ◌+◌, ◌≤◌, ◌==◌, ◌||◌, List, [], ◌∷◌, ◌++◌, length, Bool, false, Some, None, Ok, if◌then◌else◌}
 use Rattle.dap_frame.specs.Settings.{Settings, bounds_of}
 use Rattle.dap_frame.specs.Stream.{Split}
-use Rattle.dap_message.specs.Meaning.{Msg}
-use Rattle.dap_message.specs.declared.message.Message.{Message}
+use Rattle.dap_envelope.specs.Meaning.{Msg}
+use Rattle.dap_envelope.specs.declared.message.Message.{Message}
 use Rattle.dap_debuggee.specs.Shown.{Shown}
 use Rattle.dap_decision.specs.declared.phase.Phase.{Phase}
 use Rattle.dap_decision.specs.declared.phase.Phase.TheVariants.{Stopped, Ended}

@@ -20,7 +20,7 @@ use crate::taken::{Came, Taken, Turned};
 use dap_debuggee::Debuggee;
 use dap_frame::{End, Limits};
 use dap_history::laws::histories_grow;
-use dap_message::laws::read_is_in_range;
+use dap_envelope::laws::read_is_in_range;
 use dap_reader::{MessageReader, Next, ReadFault};
 use dap_session::laws::{each_step_goes_on, each_step_stays_within};
 use dap_session::{AdapterFault, Phase, Session};

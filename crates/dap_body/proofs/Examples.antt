@@ -5,7 +5,7 @@ use Rattle.json.specs.Print.{escape_byte}
 use Rattle.serde_json.specs.Data.{boolean, negative, number, string, array, object, no_items, no_members, member}
 use Rattle.serde_json.specs.Written.{compact_text}
 use Rattle.dap_json.specs.Put.{whole_number}
-use Rattle.dap_call.specs.declared.key.Key.TheVariants as key
+use Rattle.dap_command.specs.declared.key.Key.TheVariants as key
 use Rattle.dap_body.specs.Failure.{row_of, failures_in_order, failure_body}
 use Rattle.dap_body.specs.ResponseBody.{set_breakpoints_body, threads_body, continue_body, stack_trace_body, scopes_body, variables_body, evaluate_body, source_body, loaded_sources_body}
 use Rattle.dap_body.specs.EventBody.{output_body, stopped_body, continued_body, exited_body}

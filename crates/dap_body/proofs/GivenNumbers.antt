@@ -7,7 +7,7 @@ use Rattle.serde_json.specs.Find.{get}
 use Rattle.serde_json.specs.View.{items_of}
 use Rattle.dap_json.specs.Field.{if_passes, max_seq}
 use Rattle.dap_json.specs.Put.{whole_number}
-use Rattle.dap_call.specs.GivenReferences.{reference_at, references_in}
+use Rattle.dap_command.specs.GivenReferences.{reference_at, references_in}
 use Rattle.dap_body.specs.ResponseBody.{stack_frame, scope, variable, evaluate_body}
 use Rattle.dap_body.specs.GivenNumbers.{references_among, BodiesGiveTheirNumbers}
 

@@ -1,7 +1,7 @@
 -- The data of a body's parts.
 use Rattle.std.specs.Prelude.{Option, option_map}
 use Rattle.serde_json.specs.Data.{Data}
-use Rattle.dap_call.specs.Capabilities.{capabilities_data}
+use Rattle.dap_command.specs.Capabilities.{capabilities_data}
 use Rattle.dap_body.specs.declared.body.Body.{Body}
 use Rattle.dap_body.specs.declared.body.Body.TheVariants.{Initialize, SetBreakpoints, Threads, Continue, StackTrace, Scopes, Variables, SetVariable, Evaluate, Source, LoadedSources, RunInTerminal}
 use Rattle.dap_body.specs.declared.event.EventBody.{EventBody}

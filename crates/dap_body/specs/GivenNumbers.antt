@@ -1,8 +1,8 @@
 -- The references that the bodies of responses give are the numbers that these were built with, and no other.
 -- Specification, "StackTraceResponse", "ScopesResponse", "VariablesResponse", "EvaluateResponse", "SetVariableResponse".
 use Rattle.std.specs.Prelude.{◌≡◌, ℕ, List, [], ◌∷◌, map, filter, ◌&&◌, nat_le}
-use Rattle.dap_call.specs.GivenReferences.{frame_ids, holders_of}
-use Rattle.dap_call.specs.declared.command.Command.TheVariants.{Scopes, Variables, Evaluate, SetVariable}
+use Rattle.dap_command.specs.GivenReferences.{frame_ids, holders_of}
+use Rattle.dap_command.specs.declared.command.Command.TheVariants.{Scopes, Variables, Evaluate, SetVariable}
 use Rattle.dap_body.specs.ResponseBody.{stack_trace_body, scopes_body, variables_body, set_variable_body, evaluate_body}
 use Rattle.dap_body.specs.declared.response.Scope.{Scope}
 use Rattle.dap_body.specs.declared.response.StackFrame.{StackFrame}

@@ -3,8 +3,8 @@
 use Rattle.std.specs.Prelude.{ℕ, ℤ, List, Option, IsTrue, Some}
 use Rattle.serde_json.specs.Data.{Data}
 use Rattle.dap_json.specs.Writable.{is_plain_tree}
-use Rattle.dap_call.specs.Capabilities.{capabilities_data}
-use Rattle.dap_call.specs.declared.capabilities.Capabilities.{Capabilities}
+use Rattle.dap_command.specs.Capabilities.{capabilities_data}
+use Rattle.dap_command.specs.declared.capabilities.Capabilities.{Capabilities}
 use Rattle.dap_body.specs.EventBody.{output_body, stopped_body, continued_body, exited_body}
 use Rattle.dap_body.specs.Failure.{failure_body}
 use Rattle.dap_body.specs.ResponseBody.{set_breakpoints_body, threads_body, continue_body, stack_trace_body, scopes_body, variables_body, set_variable_body, evaluate_body, source_body, loaded_sources_body, run_in_terminal_body}

@@ -9,13 +9,13 @@ ghost use Rattle.serde_json.specs.Find.{of_integer};
 ghost use Rattle.serde_json.specs.View.{view};
 ghost use Rattle.dap_json.specs.Sound.{IsSound, IsSoundNumber};
 ghost use Rattle.dap_body.specs.Body.{data_of};
-ghost use Rattle.dap_call.specs.Capabilities.{capabilities_data};
+ghost use Rattle.dap_command.specs.Capabilities.{capabilities_data};
 ghost use Rattle.dap_body.specs.ResponseBody.{list_of, only_member, stack_trace_body, evaluate_body, run_in_terminal_body};
 ghost use Rattle.dap_body.specs.Adds.{Adds};
 ghost use Rattle.dap_body.specs.PrivateText.{HasSoundPath, IsSoundOptional, is_of_parts, optional_number_tokens, path_tokens, text_member, tokens_of};
 
 use crate::response::{Breakpoint, Scope, Source, StackFrame, Thread, Variable};
-use dap_call::Capabilities;
+use dap_command::Capabilities;
 use dap_json::laws::{text_is_read_again, what_is_read_is_sound};
 use dap_json::{ParseFault, Text, parse};
 use json::Writer;

@@ -9,7 +9,7 @@ ghost use Rattle.dap_json.specs.Sound.{IsSound};
 ghost use Rattle.dap_body.specs.Failure.{bad_argument_format, error_body, failure_body, row_of};
 ghost use Rattle.dap_body.specs.PrivateText.{tokens_of};
 
-use dap_call::Key;
+use dap_command::Key;
 use json::Writer;
 use serde_json::{Map, Value, put};
 use std::alloc::{AllocError, Global};

@@ -3,9 +3,9 @@ use Rattle.std.specs.Prelude.{◌≡◌, ◌⊎◌, ℕ, List, [], ◌∷◌, Op
 use Rattle.serde_json.specs.Data.{Data}
 use Rattle.dap_json.specs.Read.{json_of}
 use Rattle.dap_call.specs.Call.{call_of}
-use Rattle.dap_call.specs.Command.{command_named}
+use Rattle.dap_command.specs.Command.{command_named}
 use Rattle.dap_call.specs.declared.call.Call.{Call}
-use Rattle.dap_call.specs.declared.command.Command.{Command}
+use Rattle.dap_command.specs.declared.command.Command.{Command}
 
 -- the arguments that a text is: none where there is no text
 abbrev pub given_in : List ℕ → Option (Option Data)

@@ -1,8 +1,8 @@
 -- What the exports of a client do, in the words of dap_client, over the client behind the handle.
 use Rattle.std.specs.Prelude.{◌≡◌, ℕ, ◌+◌, ◌==◌, List, [], ◌∷◌, ◌++◌, length, take, Bool, false, Option, Some, None, is_some, if◌then◌else◌}
 use Rattle.dap_history.specs.History.{Out}
-use Rattle.dap_message.specs.ReadBack.{ReadsBack}
-use Rattle.dap_message.specs.Types.Call.{Call}
+use Rattle.dap_envelope.specs.ReadBack.{ReadsBack}
+use Rattle.dap_call.specs.declared.call.Call.{Call}
 use Rattle.dap_client.specs.Calls.{refusal_of, answer_refusal_of, NotSent, NotAnswered, Takes, TakeRefused}
 use Rattle.dap_client.specs.Sending.{next_message, sent_bytes, after_send}
 use Rattle.dap_client.specs.StandsFor.{GoesOn}

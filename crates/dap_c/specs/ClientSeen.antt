@@ -2,7 +2,7 @@
 use Rattle.std.specs.Prelude.{◌≡◌, ◌≤◌, ℕ, List, length, max, option_map, unwrap_or}
 use Rattle.std.specs.List.{slice_get}
 use Rattle.dap_frame.specs.Settings.{Settings}
-use Rattle.dap_call.specs.declared.capabilities.Capabilities.{Capabilities}
+use Rattle.dap_command.specs.declared.capabilities.Capabilities.{Capabilities}
 use Rattle.dap_history.specs.History.{Entry, Came, Went, waiting}
 use Rattle.dap_client.specs.ClientState.{ClientState}
 use Rattle.dap_client.specs.Seen.{phase_in, ready_in, references_in}

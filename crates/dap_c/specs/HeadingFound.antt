@@ -1,8 +1,8 @@
 -- What a message says of itself, as a caller in C sees it.
 use Rattle.std.specs.Prelude.{◌≡◌, ℕ, List, Bool, false, length}
-use Rattle.dap_message.specs.declared.message.Message.{Message}
-use Rattle.dap_message.specs.declared.message.Kind.{Kind}
-use Rattle.dap_message.specs.declared.message.Kind.TheVariants.{Request, Response, Event, Other}
+use Rattle.dap_envelope.specs.declared.message.Message.{Message}
+use Rattle.dap_envelope.specs.declared.message.Kind.{Kind}
+use Rattle.dap_envelope.specs.declared.message.Kind.TheVariants.{Request, Response, Event, Other}
 use Rattle.dap_c.specs.declared.heading.YtHeadingFound.{YtHeadingFound}
 
 abbrev pub kind_number : Kind → ℕ

@@ -3,13 +3,14 @@
 ghost use Rattle.std.specs.Prelude.{◌≡◌, ◌⊎◌, IfOk, IfErr, IfSome, IfNone, Some, None, Ok, IsTrue, IsUtf8, option_map};
 ghost use Rattle.serde_json.specs.View.{view};
 ghost use Rattle.dap_call.specs.Call.{call_of};
-ghost use Rattle.dap_call.specs.Command.{command_named};
+ghost use Rattle.dap_command.specs.Command.{command_named};
 ghost use Rattle.dap_call.specs.PlainCall.{is_plain_call};
 ghost use Rattle.dap_call.specs.declared.call.Call.{Call as TheCall};
 ghost use Rattle.dap_c.specs.CallGiven.{IsCallOf, IsCodeOfCall, given_in};
 
 use dap_c_parts::codes::{YT_BAD_ARGUMENTS, YT_BAD_COMMAND, YT_NO_MEMORY};
-use dap_call::{Call, CallFault, Command, read_call};
+use dap_call::{Call, CallFault, read_call};
+use dap_command::Command;
 use dap_json::{ParseFault, parse};
 use serde_json::Value;
 use std::alloc::Global;

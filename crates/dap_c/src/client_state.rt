@@ -8,7 +8,7 @@ ghost use Rattle.dap_c.specs.ClientSeen.{IsStateOf, IsStateIn, IsWithin, AreFlag
 
 use crate::client_handle::{YtClient, full, taken};
 use dap_c_parts::codes::{YT_NONE, YT_OK};
-use dap_call::Capabilities;
+use dap_command::Capabilities;
 use dap_client::{Client, Phase};
 use std::alloc::Global;
 

@@ -1,14 +1,15 @@
 //! What a message says of itself: a body comes in; its number, its kind and its name go out. Only what the caller lends for
 //! them is touched.
 ghost use Rattle.std.specs.Prelude.{◌≡◌, ◌<◌, ◌≤◌, ◌++◌, ℕ, List, length, drop};
-ghost use Rattle.dap_message.specs.Heading.{IsHeadingOf};
-ghost use Rattle.dap_message.specs.Meaning.{Msg};
-ghost use Rattle.dap_message.specs.declared.message.Message.{Message};
+ghost use Rattle.dap_envelope.specs.Heading.{IsHeadingOf};
+ghost use Rattle.dap_envelope.specs.Meaning.{Msg};
+ghost use Rattle.dap_envelope.specs.declared.message.Message.{Message};
 ghost use Rattle.dap_c.specs.HeadingFound.{IsFound, name_of};
 
 use dap_c_parts::codes::{YT_NOTHING, YT_OK, YT_SMALL};
 use dap_c_parts::copying::put;
-use dap_message::{Heading, HeadingKind, Scratch, read_heading};
+use dap_envelope::{Heading, HeadingKind, read_heading};
+use dap_json::object_reader::Scratch;
 use std::alloc::Global;
 
 /// What a message says of itself.

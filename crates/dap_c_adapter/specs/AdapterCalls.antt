@@ -2,7 +2,7 @@
 -- host feeds.
 use Rattle.std.specs.Prelude.{◌≡◌, ◌⊎◌, ℕ, List, [], ◌++◌, length, take, Bool, false, Option, Some, None, Ok, is_some, if◌then◌else◌}
 use Rattle.dap_debuggee.specs.declared.answers.Variable.{Variable}
-use Rattle.dap_message.specs.declared.message.Message.{Message}
+use Rattle.dap_envelope.specs.declared.message.Message.{Message}
 use Rattle.serde_json.specs.Data.{Data}
 use Rattle.dap_recording.specs.declared.recording.Recording.{Recording}
 use Rattle.dap_recording.specs.Reading.{verdict_of}

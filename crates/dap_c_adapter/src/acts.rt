@@ -9,7 +9,7 @@ use crate::adapter_handle::{YtAdapter, full, taken};
 use crate::held_adapter::HeldAdapter;
 use dap_c_parts::codes::{YT_NO_MEMORY, YT_NONE, YT_NOTHING, YT_OK, YT_SMALL};
 use dap_c_parts::copying::{put, put_numbers};
-use dap_call::SourceKey;
+use dap_command::SourceKey;
 use dap_debuggee::How;
 use dap_live::HostAct;
 use std::alloc::Global;

@@ -3,7 +3,7 @@ ghost use Rattle.std.specs.Prelude.{◌≡◌};
 ghost use Rattle.dap_c_parts.specs.Causes.{refusal_number, body_number};
 
 use dap_frame::Refusal;
-use dap_message::BodyRefusal;
+use dap_envelope::BodyRefusal;
 
 pub fn cause_of(refusal: Refusal) -> u32
     ensures { result ≡ refusal_number refusal }

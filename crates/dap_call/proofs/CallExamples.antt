@@ -6,9 +6,9 @@ use Rattle.serde_json.proofs.OnLiterals.{serde_json_on_literals}
 use Rattle.dap_json.specs.Read.{json_of}
 use Rattle.dap_call.specs.Call.{call_of, source_parts, initialize_of, cancel_of, given_lines, set_breakpoints_of, set_function_breakpoints_of, set_exception_breakpoints_of, stack_trace_of, evaluate_of, scopes_of, variables_of, source_of, set_variable_of, modules_of, breakpoint_locations_of, completions_of, thread_of}
 use Rattle.dap_call.specs.declared.call.Call.TheVariants as call
-use Rattle.dap_call.specs.declared.call.SourceKey.TheVariants.{Path, Reference}
-use Rattle.dap_call.specs.declared.command.Command.TheVariants as command
-use Rattle.dap_call.specs.declared.key.Key.TheVariants as key
+use Rattle.dap_command.specs.declared.source_key.SourceKey.TheVariants.{Path, Reference}
+use Rattle.dap_command.specs.declared.command.Command.TheVariants as command
+use Rattle.dap_command.specs.declared.key.Key.TheVariants as key
 
 -- ---- starting
 

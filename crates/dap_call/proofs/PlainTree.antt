@@ -9,8 +9,8 @@ use Rattle.dap_call.specs.CallTree.{if_any, breakpoint_items, function_items, te
 use Rattle.dap_call.specs.PlainCall.{is_plain_call, are_plain_arguments, max_arguments}
 use Rattle.dap_call.specs.declared.call.Call.{Call}
 use Rattle.dap_call.specs.declared.call.Call.TheVariants as call
-use Rattle.dap_call.specs.declared.call.SourceKey.{SourceKey}
-use Rattle.dap_call.specs.declared.call.SourceKey.TheVariants.{Path, Reference}
+use Rattle.dap_command.specs.declared.source_key.SourceKey.{SourceKey}
+use Rattle.dap_command.specs.declared.source_key.SourceKey.TheVariants.{Path, Reference}
 
 -- ---- lists
 

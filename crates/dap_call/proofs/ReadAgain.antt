@@ -6,15 +6,17 @@ use Rattle.serde_json.specs.Data.{Data, null, boolean, number, string, array, ob
 use Rattle.serde_json.specs.Find.{as_str}
 use Rattle.dap_json.specs.Field.{is_object, max_seq}
 use Rattle.dap_json.specs.Writable.{is_writable}
-use Rattle.dap_call.specs.Argument.{is_int, int_of, may_be_absent}
+use Rattle.dap_call.specs.Argument.{may_be_absent}
+use Rattle.dap_command.specs.Numbers.{is_int, int_of}
 use Rattle.dap_call.specs.Call.{call_of, each, line_in, name_in, source_key_of, source_parts, initialize_of, cancel_of, given_lines, set_breakpoints_of, set_function_breakpoints_of, set_exception_breakpoints_of, stack_trace_of, scopes_of, variables_of, evaluate_of, source_of, set_variable_of, modules_of, breakpoint_locations_of, completions_of, thread_of}
 use Rattle.dap_call.specs.CallTree.{int, if_any, source_tree, breakpoint_tree, breakpoint_items, function_items, text_items, call_tree, command_of, initialize_members, cancel_members, set_breakpoints_members, set_function_breakpoints_members, set_exception_breakpoints_members, thread_members, stack_trace_members, scopes_members, variables_members, evaluate_members, source_members, set_variable_members, modules_members, breakpoint_locations_members, completions_members}
-use Rattle.dap_call.specs.PlainCall.{is_plain_call, is_plain_source, are_plain_arguments, max_arguments, is_number, is_none_or}
+use Rattle.dap_call.specs.PlainCall.{is_plain_call, is_plain_source, are_plain_arguments, max_arguments}
+use Rattle.dap_command.specs.Numbers.{is_number, is_none_or}
 use Rattle.dap_call.specs.declared.call.Call.{Call}
 use Rattle.dap_call.specs.declared.call.Call.TheVariants as call
 use Rattle.dap_call.specs.declared.call.Initialize.{Initialize}
-use Rattle.dap_call.specs.declared.call.SourceKey.{SourceKey}
-use Rattle.dap_call.specs.declared.call.SourceKey.TheVariants.{Path, Reference}
+use Rattle.dap_command.specs.declared.source_key.SourceKey.{SourceKey}
+use Rattle.dap_command.specs.declared.source_key.SourceKey.TheVariants.{Path, Reference}
 
 pub all_three : (a b c : Bool) → (a && (b && c)) ≡ true → (a ≡ true) × (b ≡ true) × (c ≡ true)
 all_three true true true e = (refl, refl, refl)

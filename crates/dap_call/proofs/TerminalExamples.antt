@@ -5,7 +5,7 @@ use Rattle.serde_json.specs.Data.{string, array, object, no_items, item, no_memb
 use Rattle.serde_json.proofs.OnLiterals.{serde_json_on_literals}
 use Rattle.dap_json.specs.Read.{json_of}
 use Rattle.dap_call.specs.Terminal.{terminal_of, terminal_members, terminal_tree}
-use Rattle.dap_call.specs.declared.key.Key.TheVariants as key
+use Rattle.dap_command.specs.declared.key.Key.TheVariants as key
 
 -- as debugpy asks; what is not listed is ignored, and the variables of the environment are not kept
 all_keys : terminal_of (json_of (codes "{\"args\":[\"python\",\"a.py\"],\"cwd\":\"/\",\"env\":{\"A\":null},\"kind\":\"integrated\",\"title\":\"Run\",\"argsCanBeInterpretedByShell\":7}"))

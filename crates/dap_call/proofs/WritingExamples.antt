@@ -4,8 +4,8 @@ use Rattle.serde_json.specs.Data.{boolean, null, number, unsigned, negative, str
 use Rattle.dap_call.specs.CallTree.{call_tree, command_of, initialize_members, set_breakpoints_members, stack_trace_members, variables_members, evaluate_members, set_variable_members, modules_members}
 use Rattle.dap_call.specs.PlainCall.{is_plain_call}
 use Rattle.dap_call.specs.declared.call.Call.TheVariants as call
-use Rattle.dap_call.specs.declared.call.SourceKey.TheVariants.{Path, Reference}
-use Rattle.dap_call.specs.declared.command.Command.TheVariants as command
+use Rattle.dap_command.specs.declared.source_key.SourceKey.TheVariants.{Path, Reference}
+use Rattle.dap_command.specs.declared.command.Command.TheVariants as command
 
 -- ---- what is written
 

@@ -5,7 +5,7 @@ use Rattle.std.specs.Ordering.{nat_cmp, match_ordering}
 use Rattle.std.specs.Cmp.Lexicographic.{slice_cmp}
 use Rattle.serde_json.specs.Data.{Data, Members, no_members, member, boolean, string, array, put}
 use Rattle.dap_json.specs.Put.{whole_number}
-use Rattle.dap_call.specs.Key.{text_of}
+use Rattle.dap_command.specs.Key.{text_of}
 use Rattle.dap_call.specs.CallTree.{if_any, with, with_number, with_false, with_true, with_optional, int, source_tree, breakpoint_items, initialize_members, set_breakpoints_members, thread_members, stack_trace_members, variables_members, evaluate_members, set_variable_members, modules_members, breakpoint_locations_members, completions_members}
 use Rattle.dap_call.specs.declared.call.Initialize.{Initialize}
 use Rattle.dap_call.specs.declared.call.StackTrace.{StackTrace}
@@ -15,9 +15,9 @@ use Rattle.dap_call.specs.declared.call.SetVariable.{SetVariable}
 use Rattle.dap_call.specs.declared.call.Modules.{Modules}
 use Rattle.dap_call.specs.declared.call.BreakpointLocations.{BreakpointLocations}
 use Rattle.dap_call.specs.declared.call.Completions.{Completions}
-use Rattle.dap_call.specs.declared.call.SourceKey.{SourceKey}
-use Rattle.dap_call.specs.declared.key.Key.{Key}
-use Rattle.dap_call.specs.declared.key.Key.TheVariants as key
+use Rattle.dap_command.specs.declared.source_key.SourceKey.{SourceKey}
+use Rattle.dap_command.specs.declared.key.Key.{Key}
+use Rattle.dap_command.specs.declared.key.Key.TheVariants as key
 
 abbrev pub AnyWritten : Members → Type 0
 AnyWritten ms = IsTrue (is_some (if_any ms))

@@ -1,16 +1,15 @@
 -- What stands at a key of a command's arguments, or the key that is bad.
 -- Specification, the types whose names end in "Arguments": what type a property has, and whether it may be absent.
--- This profile's choice: the ranges of numbers, that `null` counts as absent, and that one key is told, the first bad one
+-- This profile's choice: that `null` counts as absent, and that one key is told, the first bad one
 -- in the order of the command's row.
-use Rattle.std.specs.Prelude.{ℕ, ◌&&◌, ℤ, pos, negsuc, Bool, nat_le, int_le, Option, Some, None, option_and_then, option_map, unwrap_or, Result, Ok, Err}
+use Rattle.std.specs.Prelude.{Option, Some, None, option_and_then, option_map, unwrap_or, Result, Ok, Err}
 use Rattle.serde_json.specs.Data.{Data, null, object}
-use Rattle.serde_json.specs.Find.{as_number, as_u64, as_i64}
 use Rattle.std.specs.Prelude.{◌≡◌}
-use Rattle.dap_json.specs.Field.{if_passes, is_object, max_seq, tree_at}
+use Rattle.dap_json.specs.Field.{tree_at}
 use Rattle.dap_json.specs.Steps.{◌>>=◌, Returns}
-use Rattle.dap_call.specs.Key.{text_of}
-use Rattle.dap_call.specs.declared.key.Key.{Key}
-use Rattle.dap_call.specs.declared.key.Key.TheVariants as key
+use Rattle.dap_command.specs.Key.{text_of}
+use Rattle.dap_command.specs.declared.key.Key.{Key}
+use Rattle.dap_command.specs.declared.key.Key.TheVariants as key
 use Rattle.dap_call.specs.declared.call.CallFault.{CallFault}
 use Rattle.dap_call.specs.declared.call.CallFault.TheVariants.{BadArguments, OutOfMemory}
 
@@ -31,32 +30,6 @@ Says OutOfMemory read = Unit {0}
 -- What a function returned is what the rows read, unless memory ran out.
 abbrev pub Gives : {A : Type 0} → Result A CallFault → Read A → Type 0
 Gives result read = Returns (λ x. x) Says result read
-
--- ---- shapes of a value; the ranges are this profile's choice
-
--- the greatest count, reference and line
-abbrev pub max_number : ℕ
-max_number = 2147483647
-
--- -9007199254740991 to 9007199254740991
-abbrev pub is_int : ℤ → Bool
-is_int z = int_le (negsuc 9007199254740990) z && int_le z (pos 9007199254740991)
-
--- a whole number of either sign
-abbrev pub int_of : Data → Option ℤ
-int_of d = if_passes is_int (option_and_then as_i64 (as_number d))
-
--- a count, a reference or a line
-abbrev pub number_of : Data → Option ℕ
-number_of d = if_passes (λ n. nat_le n max_number) (option_and_then as_u64 (as_number d))
-
--- a sequence number
-abbrev pub seq_of : Data → Option ℕ
-seq_of d = if_passes (λ n. nat_le n max_seq) (option_and_then as_u64 (as_number d))
-
--- an object, whatever is in it
-abbrev pub object_of : Data → Option Data
-object_of d = if_passes is_object (Some d)
 
 -- ---- keys
 

@@ -7,14 +7,15 @@ use Rattle.std.specs.Prelude.{ℕ, zero, suc, ℤ, List, [], ◌∷◌, Bool, tr
 use Rattle.serde_json.specs.Data.{Data, Items, no_items, item}
 use Rattle.serde_json.specs.Find.{as_str, as_bool, as_array}
 use Rattle.dap_json.specs.Steps.{◌>>=◌}
-use Rattle.dap_call.specs.Argument.{Read, int_of, number_of, seq_of, value_at, required_at, optional_at, optional_or, may_be_absent, must_be_there}
-use Rattle.dap_call.specs.declared.key.Key.TheVariants as key
+use Rattle.dap_call.specs.Argument.{Read, value_at, required_at, optional_at, optional_or, may_be_absent, must_be_there}
+use Rattle.dap_command.specs.Numbers.{int_of, number_of, seq_of}
+use Rattle.dap_command.specs.declared.key.Key.TheVariants as key
 use Rattle.dap_call.specs.declared.call.Call.{Call}
 use Rattle.dap_call.specs.declared.call.Call.TheVariants as call
-use Rattle.dap_call.specs.declared.call.SourceKey.{SourceKey}
-use Rattle.dap_call.specs.declared.call.SourceKey.TheVariants.{Path, Reference}
-use Rattle.dap_call.specs.declared.command.Command.{Command}
-use Rattle.dap_call.specs.declared.command.Command.TheVariants as command
+use Rattle.dap_command.specs.declared.source_key.SourceKey.{SourceKey}
+use Rattle.dap_command.specs.declared.source_key.SourceKey.TheVariants.{Path, Reference}
+use Rattle.dap_command.specs.declared.command.Command.{Command}
+use Rattle.dap_command.specs.declared.command.Command.TheVariants as command
 
 -- ---- shapes
 

@@ -5,9 +5,9 @@ use Rattle.serde_json.specs.Data.{Data, boolean, number, string, array, object, 
 use Rattle.serde_json.specs.Find.{of_integer}
 use Rattle.serde_json.specs.View.{items_of}
 use Rattle.dap_json.specs.Put.{put_if, whole_number}
-use Rattle.dap_call.specs.Key.{text_of}
-use Rattle.dap_call.specs.declared.key.Key.{Key}
-use Rattle.dap_call.specs.declared.key.Key.TheVariants as key
+use Rattle.dap_command.specs.Key.{text_of}
+use Rattle.dap_command.specs.declared.key.Key.{Key}
+use Rattle.dap_command.specs.declared.key.Key.TheVariants as key
 use Rattle.dap_call.specs.declared.call.Call.{Call}
 use Rattle.dap_call.specs.declared.call.Call.TheVariants as call
 use Rattle.dap_call.specs.declared.call.Initialize.{Initialize}
@@ -18,10 +18,10 @@ use Rattle.dap_call.specs.declared.call.SetVariable.{SetVariable}
 use Rattle.dap_call.specs.declared.call.Modules.{Modules}
 use Rattle.dap_call.specs.declared.call.BreakpointLocations.{BreakpointLocations}
 use Rattle.dap_call.specs.declared.call.Completions.{Completions}
-use Rattle.dap_call.specs.declared.call.SourceKey.{SourceKey}
-use Rattle.dap_call.specs.declared.call.SourceKey.TheVariants.{Path, Reference}
-use Rattle.dap_call.specs.declared.command.Command.{Command}
-use Rattle.dap_call.specs.declared.command.Command.TheVariants as command
+use Rattle.dap_command.specs.declared.source_key.SourceKey.{SourceKey}
+use Rattle.dap_command.specs.declared.source_key.SourceKey.TheVariants.{Path, Reference}
+use Rattle.dap_command.specs.declared.command.Command.{Command}
+use Rattle.dap_command.specs.declared.command.Command.TheVariants as command
 
 -- ---- members
 

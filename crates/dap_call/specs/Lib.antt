@@ -1,12 +1,5 @@
-pub mod Command
-pub mod Capabilities
-pub mod GivenReferences
-pub mod Gathered
-pub mod Key
-pub mod Lent
 pub mod Argument
 pub mod Call
 pub mod CallTree
 pub mod PlainCall
 pub mod Terminal
-pub mod SameSource

@@ -5,21 +5,13 @@ use Rattle.std.specs.List.{list_all}
 use Rattle.serde_json.specs.Data.{Data}
 use Rattle.dap_json.specs.Field.{is_object, max_seq}
 use Rattle.dap_json.specs.Writable.{is_writable, is_plain_tree}
-use Rattle.dap_call.specs.Argument.{is_int, max_number}
+use Rattle.dap_command.specs.Numbers.{is_int, is_number, is_none_or}
 use Rattle.dap_call.specs.Call.{call_of}
 use Rattle.dap_call.specs.CallTree.{call_tree, command_of}
 use Rattle.dap_call.specs.declared.call.Call.{Call}
 use Rattle.dap_call.specs.declared.call.Call.TheVariants as call
-use Rattle.dap_call.specs.declared.call.SourceKey.{SourceKey}
-use Rattle.dap_call.specs.declared.call.SourceKey.TheVariants.{Path, Reference}
-
-abbrev pub is_number : ℕ → Bool
-is_number n = nat_le n max_number
-
--- absent, or in range
-abbrev pub is_none_or : (ℕ → Bool) → Option ℕ → Bool
-is_none_or test None = true
-is_none_or test (Some n) = test n
+use Rattle.dap_command.specs.declared.source_key.SourceKey.{SourceKey}
+use Rattle.dap_command.specs.declared.source_key.SourceKey.TheVariants.{Path, Reference}
 
 abbrev pub is_plain_source : SourceKey → Bool
 is_plain_source (Path path) = true

@@ -6,10 +6,11 @@ use Rattle.serde_json.specs.Data.{Data, string, array, object, Members, no_membe
 use Rattle.serde_json.specs.Find.{as_str}
 use Rattle.dap_json.specs.Steps.{◌>>=◌}
 use Rattle.dap_json.specs.Writable.{is_plain_tree}
-use Rattle.dap_call.specs.Argument.{Read, object_of, required_at, optional_at, must_be_there}
+use Rattle.dap_call.specs.Argument.{Read, required_at, optional_at, must_be_there}
+use Rattle.dap_json.specs.Field.{object_of}
 use Rattle.dap_call.specs.Call.{texts_of}
 use Rattle.dap_call.specs.CallTree.{with, with_optional_text, text_items}
-use Rattle.dap_call.specs.declared.key.Key.TheVariants as key
+use Rattle.dap_command.specs.declared.key.Key.TheVariants as key
 use Rattle.dap_call.specs.declared.terminal.TerminalCall.{TerminalCall}
 
 abbrev pub run_in_terminal : List ℕ

@@ -2,11 +2,13 @@
 ghost use Rattle.std.specs.Prelude.{◌≡◌, [], option_map};
 ghost use Rattle.serde_json.specs.View.{view};
 ghost use Rattle.serde_json.specs.Find.{as_str, as_bool};
-ghost use Rattle.dap_call.specs.Lent.{lent_data};
-ghost use Rattle.dap_call.specs.Argument.{Gives, is_int as is_int_number, read_map, value_at, required_at, optional_at, optional_or, int_of, number_of, seq_of, object_of, may_be_absent, must_be_there};
+ghost use Rattle.dap_json.specs.Lent.{lent_data};
+ghost use Rattle.dap_call.specs.Argument.{Gives, read_map, value_at, required_at, optional_at, optional_or, may_be_absent, must_be_there};
+ghost use Rattle.dap_json.specs.Field.{object_of};
+ghost use Rattle.dap_command.specs.Numbers.{is_int as is_int_number, int_of, number_of, seq_of};
 
 use crate::call::CallFault;
-use crate::key::Key;
+use dap_command::Key;
 use dap_json::field::MAX_SEQ;
 use dap_json::{Text, field};
 use serde_json::Value;
@@ -78,7 +80,7 @@ impl<'v> Model for Arguments<'v> {
     ghost use Rattle.std.specs.Coded.{coded_option};
     ghost use Rattle.serde_json.specs.Data.{Data};
     ghost use Rattle.dap_json.specs.Stored.{coded_data};
-    ghost use Rattle.dap_call.specs.Lent.{lent_data};
+    ghost use Rattle.dap_json.specs.Lent.{lent_data};
 
     ghost Value = { Option Data };
 

@@ -1,8 +1,8 @@
 //! Requests with their arguments, typed by the keys of each command.
 //!
 //! Specification, "Requests". A key that this profile does not list is not kept, save those of `launch` and `attach`.
+use dap_command::{Key, SourceKey};
 use dap_json::{List, Text, Tree};
-use std::alloc::AllocError;
 
 /// A request. In one that was read, or is plain, a number of a thread is -9007199254740991 to 9007199254740991, and any
 /// other number, unless it says otherwise, is 0 to 2147483647. Lines and columns are counted as the client counts them,
@@ -140,33 +140,13 @@ pub struct Completions {
     pub line: Option<u32>,
 }
 
-/// How a source is named: by its path where it has one, also an empty one, else by its reference, 1 to 2147483647.
-#[derive(Drop)]
-pub enum SourceKey {
-    Path(Text),
-    Reference(u32),
-}
-
-impl Clone for SourceKey {
-    ghost use Rattle.std.specs.Prelude.{◌≡◌};
-
-    ghost is_clone = { λ a b. b ≡ a };
-
-    fn clone(&self) -> Result<SourceKey, AllocError> {
-        match self {
-            SourceKey::Path(path) => Ok(SourceKey::Path(path.clone()?)),
-            SourceKey::Reference(reference) => Ok(SourceKey::Reference(*reference)),
-        }
-    }
-}
-
 /// Why arguments were not read.
 #[derive(Clone, Copy, Debug, PartialEq, Eq)]
 pub enum CallFault {
     /// The first bad key in the order of the command's row: one that is required and absent, or whose value is not of
     /// its kind or range. It is the row's own key also where the fault stands deeper, as in `source`. `arguments` where
     /// they are no object, or absent while a key is required.
-    BadArguments { key: crate::key::Key },
+    BadArguments { key: Key },
     /// Memory was refused.
     OutOfMemory,
 }

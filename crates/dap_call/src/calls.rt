@@ -1,19 +1,17 @@
 //! From a command and its arguments to a call: a function for each row of keys.
 ghost use Rattle.std.specs.Prelude.{◌≡◌, IfOk, IsErrOf, OnErr, Some, true, is_some, option_map, option_and_then};
 ghost use Rattle.serde_json.specs.View.{view};
-ghost use Rattle.dap_call.specs.Lent.{lent_data};
+ghost use Rattle.dap_json.specs.Lent.{lent_data};
 ghost use Rattle.dap_call.specs.Argument.{Gives, read_map, must_be_there};
 ghost use Rattle.dap_call.specs.Call.{lines_of, line_in, breakpoint_lines_of, name_in, names_of, texts_of, source_key_of, source_reference_of, source_parts as source_parts_of, initialize_of, cancel_of, given_lines, set_breakpoints_of, set_function_breakpoints_of, set_exception_breakpoints_of, stack_trace_of, scopes_of, variables_of, evaluate_of, source_of, set_variable_of, modules_of, breakpoint_locations_of, completions_of, thread_of, tree_of, call_of, takes_memory};
 ghost use Rattle.dap_call.specs.declared.call.CallFault.TheVariants.{OutOfMemory};
 
 use crate::argument;
 use crate::argument::Arguments;
-use crate::call::{
-    BreakpointLocations, Call, CallFault, Completions, Evaluate, Initialize, Modules, SetVariable,
-    SourceKey, StackTrace, Variables,
-};
-use crate::command::Command;
-use crate::key::Key;
+use crate::call::{BreakpointLocations, Call, CallFault, Completions, Evaluate, Initialize, Modules, SetVariable, StackTrace, Variables};
+use dap_command::SourceKey;
+use dap_command::Command;
+use dap_command::Key;
 use dap_json::{List, Text, Tree, field};
 use serde_json::Value;
 use std::alloc::{AllocError, Global};

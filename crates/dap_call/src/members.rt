@@ -4,7 +4,7 @@ ghost use Rattle.serde_json.specs.Data.{string};
 ghost use Rattle.serde_json.specs.View.{view, members_view};
 ghost use Rattle.dap_call.specs.CallTree.{with, with_number, with_false, with_true, with_optional, with_optional_text};
 
-use crate::key::Key;
+use dap_command::Key;
 use dap_json::Text;
 use dap_json::members::{Members, put_text};
 use serde_json::{Value, put};

@@ -5,11 +5,13 @@ ghost use Rattle.std.specs.Prelude.{◌≡◌, nat_le};
 ghost use Rattle.std.specs.List.{list_all};
 ghost use Rattle.dap_json.specs.Field.{max_seq};
 ghost use Rattle.dap_call.specs.CallTree.{command_of};
-ghost use Rattle.dap_call.specs.PlainCall.{is_plain_call, is_plain_source, are_plain_arguments, is_number as is_number_in_range, is_none_or};
+ghost use Rattle.dap_call.specs.PlainCall.{is_plain_call, is_plain_source, are_plain_arguments};
+ghost use Rattle.dap_command.specs.Numbers.{is_number as is_number_in_range, is_none_or};
 
 use crate::argument::{MAX_NUMBER, is_int};
-use crate::call::{Call, SourceKey};
-use crate::command::Command;
+use crate::call::Call;
+use dap_command::SourceKey;
+use dap_command::Command;
 use dap_json::field::MAX_SEQ;
 use dap_json::{Tree, plain};
 

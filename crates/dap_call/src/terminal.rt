@@ -6,12 +6,12 @@ ghost use Rattle.serde_json.specs.Data.{no_members};
 ghost use Rattle.serde_json.specs.View.{view, members_view};
 ghost use Rattle.dap_json.specs.Writable.{is_plain_tree};
 ghost use Rattle.dap_call.specs.Argument.{Gives};
-ghost use Rattle.dap_call.specs.Lent.{lent_data};
+ghost use Rattle.dap_json.specs.Lent.{lent_data};
 ghost use Rattle.dap_call.specs.Terminal.{terminal_of, terminal_members, terminal_tree};
 
 use crate::argument::Arguments;
 use crate::call::CallFault;
-use crate::key::Key;
+use dap_command::Key;
 use crate::members::{add, add_optional_text, add_text};
 use crate::writing::texts;
 use dap_json::members::Members;

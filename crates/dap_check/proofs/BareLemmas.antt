@@ -6,17 +6,17 @@ use Rattle.std.specs.List.{list_any}
 use Rattle.std.specs.Ordering.{nat_cmp}
 use Rattle.std.proofs.lemmas.List.Sums.{sum_by_push}
 use Rattle.serde_json.specs.Data.{Data, null}
-use Rattle.dap_message.specs.Command.{command_named}
-use Rattle.dap_message.specs.GivenReferences.{frame_ids, holders_of}
-use Rattle.dap_message.specs.Gathered.{AreGivenBy}
-use Rattle.dap_message.specs.ResponseReferences.{or_null, AreGivenIn}
-use Rattle.dap_message.specs.Types.GatheredReferences.{GatheredReferences}
-use Rattle.dap_message.specs.Types.Capabilities.{Capabilities}
-use Rattle.dap_message.specs.Types.Command.{Command}
-use Rattle.dap_message.specs.Types.Command.TheVariants as command
-use Rattle.dap_message.specs.declared.message.Message.{Message}
-use Rattle.dap_message.specs.declared.message.Kind.{Kind}
-use Rattle.dap_message.specs.declared.message.Kind.TheVariants.{Request, Response, Event, Other}
+use Rattle.dap_command.specs.Command.{command_named}
+use Rattle.dap_command.specs.GivenReferences.{frame_ids, holders_of}
+use Rattle.dap_command.specs.Gathered.{AreGivenBy}
+use Rattle.dap_envelope.specs.ResponseReferences.{or_null, AreGivenIn}
+use Rattle.dap_command.specs.declared.gathering.GatheredReferences.{GatheredReferences}
+use Rattle.dap_command.specs.declared.capabilities.Capabilities.{Capabilities}
+use Rattle.dap_command.specs.declared.command.Command.{Command}
+use Rattle.dap_command.specs.declared.command.Command.TheVariants as command
+use Rattle.dap_envelope.specs.declared.message.Message.{Message}
+use Rattle.dap_envelope.specs.declared.message.Kind.{Kind}
+use Rattle.dap_envelope.specs.declared.message.Kind.TheVariants.{Request, Response, Event, Other}
 use Rattle.dap_check.specs.PrivateBare.{is_looked_at, bare_kind, bare_line, IsReadBody, IsReadAs, gathered_frames, gathered_holders_for, gathered_holders, gathers_frame, gathers_holder}
 use Rattle.dap_check.specs.PrivateKept.{AreCounts, ArePending, ArePhases, AreReferences, reference_after, IsFirst, Begins, AreWaiting, open_at, waiting_after, IsOffered, offer_after, IsSeen}
 use Rattle.dap_check.specs.Findings.{is_open_as, request_of}

@@ -1,6 +1,6 @@
 -- Worked examples of all findings, and of the requests that nothing has answered, by computation.
 use Rattle.std.proofs.Common.{◌≡◌, ℕ, List, [], ◌∷◌, ◌++◌, true, false, None, codes, refl}
-use Rattle.dap_message.specs.declared.message.Kind.TheVariants.{Request, Response, Event}
+use Rattle.dap_envelope.specs.declared.message.Kind.TheVariants.{Request, Response, Event}
 use Rattle.dap_check.specs.Findings.{findings, first_of, open_requests}
 use Rattle.dap_check.specs.declared.line.Line.{Line}
 use Rattle.dap_check.specs.declared.line.Side.{Side}

@@ -1,7 +1,7 @@
 -- All lines that break a rule: one line more, and the first of them.
 use Rattle.std.proofs.Common.{◌≡◌, List, [], ◌∷◌, ◌++◌, Bool, true, Option, Some, None, refl, sym, ap, ◌∙◌, subst}
 use Rattle.std.proofs.lemmas.List.{append_assoc, append-nil}
-use Rattle.dap_message.specs.Types.GatheredReferences.{GatheredReferences}
+use Rattle.dap_command.specs.declared.gathering.GatheredReferences.{GatheredReferences}
 use Rattle.dap_shape.specs.Faults.{fault_in}
 use Rattle.dap_check.specs.Findings.{finding_at, findings_after, findings, first_of, AreSound}
 use Rattle.dap_check.specs.Legal.{least_broken, IsLegal, IsVerdict}

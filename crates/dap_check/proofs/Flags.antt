@@ -5,12 +5,12 @@ use Rattle.std.specs.List.{list_any}
 use Rattle.std.proofs.lemmas.List.{append_assoc, append-nil}
 use Rattle.serde_json.specs.Data.{Data}
 use Rattle.serde_json.specs.Find.{get, as_bool}
-use Rattle.dap_message.specs.Field.{tree_at}
-use Rattle.dap_message.specs.Command.{flag_of}
-use Rattle.dap_message.specs.Capabilities.{is_flag, has, capabilities_of, updated_flag, flag_after}
-use Rattle.dap_message.specs.Types.Capabilities.{Capabilities}
-use Rattle.dap_message.specs.Types.Gate.{Gate}
-use Rattle.dap_message.specs.Types.Gate.TheVariants.{BreakpointLocations, Cancel, Completions, ConfigurationDone, ExceptionInfo, FunctionBreakpoints, LoadedSources, Modules, Restart, SetVariable, StepBack, Terminate}
+use Rattle.dap_json.specs.Field.{tree_at}
+use Rattle.dap_command.specs.Command.{flag_of}
+use Rattle.dap_command.specs.Capabilities.{is_flag, has, capabilities_of, updated_flag, flag_after}
+use Rattle.dap_command.specs.declared.capabilities.Capabilities.{Capabilities}
+use Rattle.dap_command.specs.declared.command.Gate.{Gate}
+use Rattle.dap_command.specs.declared.command.Gate.TheVariants.{BreakpointLocations, Cancel, Completions, ConfigurationDone, ExceptionInfo, FunctionBreakpoints, LoadedSources, Modules, Restart, SetVariable, StepBack, Terminate}
 use Rattle.dap_check.specs.Since.{is_open, last_since, Past}
 use Rattle.dap_check.specs.Lines.{body_of, succeeds, is_adapter_event}
 use Rattle.dap_check.specs.Rules.{initialize, offered_capabilities, offered_since, offered_after, updated_to}

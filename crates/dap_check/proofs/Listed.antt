@@ -4,8 +4,8 @@ use Rattle.std.specs.Prelude.{◌&&◌, ◌||◌, cond, filter}
 use Rattle.std.specs.List.{list_any, Contains}
 use Rattle.std.proofs.lemmas.List.Elements.{Contains-append_left, Contains-append_right, Contains-append_cases, Contains-push, Contains-push_cases}
 use Rattle.std.proofs.lemmas.List.{append_assoc, append-nil}
-use Rattle.dap_message.specs.declared.message.Kind.{Kind}
-use Rattle.dap_message.specs.declared.message.Kind.TheVariants.{Request, Response, Event, Other}
+use Rattle.dap_envelope.specs.declared.message.Kind.{Kind}
+use Rattle.dap_envelope.specs.declared.message.Kind.TheVariants.{Request, Response, Event, Other}
 use Rattle.dap_check.specs.FindingLaws.{IsFindingIn, FindingsAreBrokenRules, IsUnansweredIn, OpenRequestsAreUnanswered, OpenRequestsWait}
 use Rattle.dap_check.specs.Findings.{finding_at, findings_after, findings, request_at, request_of, is_answered, open_requests, is_open_as}
 use Rattle.dap_check.specs.Legal.{least_broken}

@@ -2,7 +2,7 @@
 use Rattle.std.proofs.Common.{◌≡◌, List, [], ◌∷◌, ◌++◌, Bool, true, false, Option, Some, None, refl, sym, ap, ◌∙◌}
 use Rattle.std.specs.Prelude.{option_map}
 use Rattle.std.proofs.lemmas.List.Sums.{fold_push}
-use Rattle.dap_message.specs.Capabilities.{offered_by}
+use Rattle.dap_command.specs.Capabilities.{offered_by}
 use Rattle.dap_check.specs.Since.{last_since, Past}
 use Rattle.dap_check.specs.Lines.{succeeds, body_of}
 use Rattle.dap_check.specs.Rules.{offered_since, after_line, initialize}

@@ -2,8 +2,8 @@
 use Rattle.std.proofs.Common.{◌≡◌, ℕ, List, [], ◌∷◌, Bool, true, false, Option, Some, None, refl, sym, ap, ◌∙◌, subst, inl, inr}
 use Rattle.std.specs.Prelude.{◌↔◌, not, ◌&&◌, ◌||◌, cond, codes}
 use Rattle.std.specs.List.{list_any}
-use Rattle.dap_message.specs.declared.message.Kind.{Kind}
-use Rattle.dap_message.specs.declared.message.Kind.TheVariants.{Request, Response, Event, Other}
+use Rattle.dap_envelope.specs.declared.message.Kind.{Kind}
+use Rattle.dap_envelope.specs.declared.message.Kind.TheVariants.{Request, Response, Event, Other}
 use Rattle.dap_check.specs.Laws.{SomeAt, OpenAt}
 use Rattle.dap_check.specs.Lines.{other_side, is_request_for, asks, asks_as, asks_for, answers, succeeds}
 use Rattle.dap_check.specs.Places.{IsOutOfPlace, AnswerIsByPlaces, OneIsUnanswered, IsTooEarly, FirstRequestIsByPlaces, OfferIsByPlaces, switches_on, switches_off, ReferencesAreByPlaces}

@@ -5,8 +5,8 @@ use Rattle.std.specs.Str.Lines.{lines}
 use Rattle.serde_json.specs.Data.{Data, unsigned, boolean, number, string, object, no_members, member}
 use Rattle.serde_json.proofs.OnLiterals.{serde_json_on_literals}
 use Rattle.dap_json.specs.Read.{json_of}
-use Rattle.dap_message.specs.Meaning.{Msg}
-use Rattle.dap_message.specs.declared.message.Kind.TheVariants.{Request, Response, Event}
+use Rattle.dap_envelope.specs.Meaning.{Msg}
+use Rattle.dap_envelope.specs.declared.message.Kind.TheVariants.{Request, Response, Event}
 use Rattle.dap_check.specs.Legal.{IsLegal, IsFinding}
 use Rattle.dap_check.specs.Transcript.{AreLines, FirstRefused}
 use Rattle.dap_check.specs.declared.checking.CheckFault.TheVariants.{BadLine}

@@ -2,8 +2,8 @@
 -- is judged by all lines before it, those that break a rule too, is this profile's choice.
 use Rattle.std.specs.Prelude.{◌≡◌, ℕ, ◌==◌, List, [], ◌∷◌, ◌++◌, Bool, true, ◌&&◌, if◌then◌else◌, Option, Some, None}
 use Rattle.std.specs.List.{list_any}
-use Rattle.dap_message.specs.declared.message.Kind.{Kind}
-use Rattle.dap_message.specs.declared.message.Kind.TheVariants.{Request, Response, Event, Other}
+use Rattle.dap_envelope.specs.declared.message.Kind.{Kind}
+use Rattle.dap_envelope.specs.declared.message.Kind.TheVariants.{Request, Response, Event, Other}
 use Rattle.dap_shape.specs.Faults.{fault_in}
 use Rattle.dap_check.specs.Legal.{least_broken}
 use Rattle.dap_check.specs.Lines.{other_side, same_side, answers}

@@ -3,12 +3,12 @@ use Rattle.std.specs.Prelude.{◌≡◌, ◌↔◌, ◌⊎◌, ℕ, Bool, true, 
 use Rattle.std.specs.List.{list_any}
 use Rattle.serde_json.specs.Data.{Data}
 use Rattle.serde_json.specs.Find.{get, as_bool}
-use Rattle.dap_message.specs.Field.{tree_at}
-use Rattle.dap_message.specs.Command.{flag_of}
-use Rattle.dap_message.specs.Capabilities.{is_flag, has}
-use Rattle.dap_message.specs.Types.Gate.{Gate}
-use Rattle.dap_message.specs.declared.message.Kind.{Kind}
-use Rattle.dap_message.specs.declared.message.Kind.TheVariants.{Request, Response, Event, Other}
+use Rattle.dap_json.specs.Field.{tree_at}
+use Rattle.dap_command.specs.Command.{flag_of}
+use Rattle.dap_command.specs.Capabilities.{is_flag, has}
+use Rattle.dap_command.specs.declared.command.Gate.{Gate}
+use Rattle.dap_envelope.specs.declared.message.Kind.{Kind}
+use Rattle.dap_envelope.specs.declared.message.Kind.TheVariants.{Request, Response, Event, Other}
 use Rattle.dap_check.specs.Laws.{SomeAt, OpenAt}
 use Rattle.dap_check.specs.Lines.{other_side, is_request_for, body_of, asks, asks_as, asks_for, answers, succeeds, is_adapter_event}
 use Rattle.dap_check.specs.Rules.{breaks_answer, breaks_first_request, initialize, offered_capabilities, gives_frame, gives_holder, is_frame, is_holder, resumes}

@@ -1,16 +1,16 @@
 -- Lines that are read without what no rule looks at. Only private clauses and proofs cite this file.
 use Rattle.std.specs.Prelude.{◌≡◌, ℕ, List, [], ◌∷◌, Bool, false, ◌&&◌, ◌||◌, codes, bytes_eq, if◌then◌else◌, Option, Some, None}
-use Rattle.dap_message.specs.Command.{command_named}
-use Rattle.dap_message.specs.Gathered.{given_frames, given_holders}
-use Rattle.dap_message.specs.ResponseReferences.{AreGivenIn}
-use Rattle.dap_message.specs.Refusals.{Bad}
-use Rattle.dap_message.specs.Types.Command.{Command}
-use Rattle.dap_message.specs.Types.GatheredReferences.{GatheredReferences}
-use Rattle.dap_message.specs.declared.fault.BodyFault.{BodyFault}
-use Rattle.dap_message.specs.declared.fault.BodyFault.TheVariants.{Refused, OutOfMemory}
-use Rattle.dap_message.specs.declared.message.Message.{Message}
-use Rattle.dap_message.specs.declared.message.Kind.{Kind}
-use Rattle.dap_message.specs.declared.message.Kind.TheVariants.{Request, Response, Event, Other}
+use Rattle.dap_command.specs.Command.{command_named}
+use Rattle.dap_command.specs.Gathered.{given_frames, given_holders}
+use Rattle.dap_envelope.specs.ResponseReferences.{AreGivenIn}
+use Rattle.dap_envelope.specs.Refusals.{Bad}
+use Rattle.dap_command.specs.declared.command.Command.{Command}
+use Rattle.dap_command.specs.declared.gathering.GatheredReferences.{GatheredReferences}
+use Rattle.dap_envelope.specs.declared.fault.BodyFault.{BodyFault}
+use Rattle.dap_envelope.specs.declared.fault.BodyFault.TheVariants.{Refused, OutOfMemory}
+use Rattle.dap_envelope.specs.declared.message.Message.{Message}
+use Rattle.dap_envelope.specs.declared.message.Kind.{Kind}
+use Rattle.dap_envelope.specs.declared.message.Kind.TheVariants.{Request, Response, Event, Other}
 use Rattle.dap_check.specs.Lines.{is_among, is_of}
 use Rattle.dap_check.specs.Rules.{naming_frames, naming_holders, contains_number}
 use Rattle.dap_check.specs.declared.line.Line.{Line}

@@ -5,9 +5,9 @@ use Rattle.std.specs.List.{list_any}
 use Rattle.std.specs.BTreeMap as tree
 use Rattle.std.specs.BTreeSet as sorted
 use Rattle.std.specs.Ordering.{nat_cmp}
-use Rattle.dap_message.specs.Capabilities.{offered_by}
-use Rattle.dap_message.specs.Types.Capabilities.{Capabilities}
-use Rattle.dap_message.specs.declared.message.Kind.{Kind}
+use Rattle.dap_command.specs.Capabilities.{offered_by}
+use Rattle.dap_command.specs.declared.capabilities.Capabilities.{Capabilities}
+use Rattle.dap_envelope.specs.declared.message.Kind.{Kind}
 use Rattle.dap_check.specs.Since.{first_since, last_since, Past}
 use Rattle.dap_check.specs.Lines.{other_side, is_request_among, arguments_of, body_of, is_of, asks, answers, succeeds}
 use Rattle.dap_check.specs.Rules.{naming_frames, naming_holders, is_unknown, number_at, initialize, disconnect, offered_since, after_line, is_frame, is_holder}

@@ -1,8 +1,8 @@
 -- How a text is cut into the lines of a transcript. That a transcript is such a text is this profile's choice; what a body
 -- is stands in `Meaning` and `Refusals` of `dap_message`.
 use Rattle.std.specs.Prelude.{◌≡◌, ℕ, ◌+◌, ◌<◌, List, [], ◌∷◌, ◌++◌, length, take, drop, codes, bytes_eq, if◌then◌else◌, Option, Some, None}
-use Rattle.dap_message.specs.Meaning.{Msg}
-use Rattle.dap_message.specs.Refusals.{Bad}
+use Rattle.dap_envelope.specs.Meaning.{Msg}
+use Rattle.dap_envelope.specs.Refusals.{Bad}
 use Rattle.dap_check.specs.declared.checking.CheckFault.{CheckFault}
 use Rattle.dap_check.specs.declared.checking.CheckFault.TheVariants.{BadLine, Body, OutOfMemory}
 use Rattle.dap_check.specs.declared.line.Line.{Line}

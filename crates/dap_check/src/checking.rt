@@ -20,8 +20,10 @@ use crate::reading::read_bare;
 use crate::rule::{AnySeq, Checked, Finding, Report, Rule};
 use crate::seen::Seen;
 use crate::unanswered::in_order;
-use dap_message::laws::each_body_is_one;
-use dap_message::{BodyRefusal, GatheredReferences, Scratch};
+use dap_envelope::laws::each_body_is_one;
+use dap_command::GatheredReferences;
+use dap_envelope::BodyRefusal;
+use dap_json::object_reader::Scratch;
 use std::alloc::{AllocError, Global};
 use thiserror::Error;
 

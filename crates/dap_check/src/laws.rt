@@ -4,7 +4,7 @@ ghost use Rattle.dap_check.specs.FindingLaws.{FindingsAreBrokenRules, FirstFindi
 ghost use Rattle.dap_check.specs.ReadingLaws.{TextsHaveOneLine, TextsHaveOneTranscript, TranscriptsGrow};
 ghost use Rattle.dap_check.specs.Places.{AnswerIsByPlaces, FirstRequestIsByPlaces, OfferIsByPlaces, ReferencesAreByPlaces};
 
-use dap_message::laws::each_body_is_one;
+use dap_envelope::laws::each_body_is_one;
 
 /// Each transcript is legal, or has one finding: never both, never two.
 pub fn each_transcript_has_one_verdict()

@@ -4,10 +4,10 @@
 //! them: at what `initialize` and `capabilities` offer, and at what a request names. The references that a response gives
 //! are gathered with no tree.
 ghost use Rattle.std.specs.Prelude.{◌≡◌, drop, false, MatchOption, IfSome, IfOk, IfErr, IsTrue};
-ghost use Rattle.dap_message.specs.Heading.{IsHeadingOf, IsKindOf};
-ghost use Rattle.dap_message.specs.Meaning.{Msg};
-ghost use Rattle.dap_message.specs.declared.message.Kind.{Kind as TheKind};
-ghost use Rattle.dap_message.specs.declared.message.Message.{Message as TheMessage};
+ghost use Rattle.dap_envelope.specs.Heading.{IsHeadingOf, IsKindOf};
+ghost use Rattle.dap_envelope.specs.Meaning.{Msg};
+ghost use Rattle.dap_envelope.specs.declared.message.Kind.{Kind as TheKind};
+ghost use Rattle.dap_envelope.specs.declared.message.Message.{Message as TheMessage};
 ghost use Rattle.dap_shape.specs.Faults.{fault_in};
 ghost use Rattle.dap_check.specs.PrivateBare.{bare_kind as bare_kind_of, bare_message, is_looked_at as looked_at, IsReadBody, IsReadAs, IsUnread};
 ghost use Rattle.dap_check.specs.Transcript.{side_of, IsLine, Refuses};
@@ -16,10 +16,10 @@ ghost use Rattle.dap_check.specs.declared.line.Line.{Line as TheLine};
 use crate::checking::CheckFault;
 use crate::line::{Form, Line, Side};
 use crate::words;
-use dap_message::{
-    BodyFault, GatheredReferences, Heading, HeadingKind, Kind, Message, Scratch, Text,
-    read_heading_and_references, read_message, read_message_with,
-};
+use dap_command::GatheredReferences;
+use dap_envelope::{BodyFault, Heading, HeadingKind, Kind, Message, read_heading_and_references, read_message, read_message_with};
+use dap_json::Text;
+use dap_json::object_reader::Scratch;
 use dap_shape::{message_fault, read_heading_and_shape};
 use std::alloc::{AllocError, Global};
 

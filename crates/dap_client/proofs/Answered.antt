@@ -5,9 +5,9 @@ use Rattle.std.proofs.lemmas.Bool.Decides.{nat_tests}
 use Rattle.serde_json.specs.Data.{Data}
 use Rattle.dap_frame.specs.Settings.{Settings}
 use Rattle.dap_json.specs.Field.{max_seq}
-use Rattle.dap_message.specs.Command.{command_named}
-use Rattle.dap_message.specs.Types.Command.{Command}
-use Rattle.dap_message.specs.Terminal.{run_in_terminal}
+use Rattle.dap_command.specs.Command.{command_named}
+use Rattle.dap_command.specs.declared.command.Command.{Command}
+use Rattle.dap_call.specs.Terminal.{run_in_terminal}
 use Rattle.dap_tables.specs.Known.{KnownReferences}
 use Rattle.dap_tables.specs.Outstanding.{Kept, KeptRequests, IsOrderlyRequests, kept_unparked, without}
 use Rattle.dap_tables.specs.Seq.{Numbers, after_next}

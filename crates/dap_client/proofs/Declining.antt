@@ -4,14 +4,14 @@ use Rattle.std.proofs.lemmas.Bool.Decides.{nat_tests}
 use Rattle.std.proofs.lemmas.List.{append-nil}
 use Rattle.dap_frame.specs.Written.{frame_of}
 use Rattle.dap_json.specs.Field.{max_seq}
-use Rattle.dap_message.specs.Canon.{canon}
+use Rattle.dap_envelope.specs.Canon.{canon}
 use Rattle.dap_message.specs.MessageParts.{failure_response}
 use Rattle.dap_message.specs.Lengths.{FailuresAreShort}
-use Rattle.dap_message.specs.Meaning.{Msg}
-use Rattle.dap_message.specs.ReadBack.{AllReadBack}
-use Rattle.dap_message.specs.Refusals.{max_command}
-use Rattle.dap_message.specs.Types.Failure.{Failure}
-use Rattle.dap_message.specs.declared.message.Message.{Message}
+use Rattle.dap_envelope.specs.Meaning.{Msg}
+use Rattle.dap_envelope.specs.ReadBack.{AllReadBack}
+use Rattle.dap_envelope.specs.Refusals.{max_command}
+use Rattle.dap_body.specs.declared.failure.Failure.{Failure}
+use Rattle.dap_envelope.specs.declared.message.Message.{Message}
 use Rattle.dap_tables.specs.Seq.{Numbers, next_number}
 use Rattle.dap_client.specs.Keeping.{AreReadBack, IsMade}
 use Rattle.dap_client.specs.Session.{Session}

@@ -7,16 +7,16 @@ use Rattle.dap_frame.specs.Intake.{Intake, IsUnderWay, StandsFor as StandsForStr
 use Rattle.dap_frame.specs.Settings.{Settings, bounds_of}
 use Rattle.dap_history.specs.History.{Entry, In, Out, ins_of}
 use Rattle.dap_history.specs.HistoryLaws.{HistoriesGrow}
-use Rattle.dap_message.specs.InRange.{ReadIsInRange}
-use Rattle.dap_message.specs.Meaning.{Msg}
+use Rattle.dap_envelope.specs.InRange.{ReadIsInRange}
+use Rattle.dap_envelope.specs.Meaning.{Msg}
 use Rattle.dap_json.specs.Field.{max_seq}
-use Rattle.dap_message.specs.Types.Call.{Call}
-use Rattle.dap_message.specs.declared.message.Kind.{Kind}
-use Rattle.dap_message.specs.declared.message.Kind.TheVariants.{Request, Response, Event, Other}
-use Rattle.dap_message.specs.declared.message.Message.{Message}
+use Rattle.dap_call.specs.declared.call.Call.{Call}
+use Rattle.dap_envelope.specs.declared.message.Kind.{Kind}
+use Rattle.dap_envelope.specs.declared.message.Kind.TheVariants.{Request, Response, Event, Other}
+use Rattle.dap_envelope.specs.declared.message.Message.{Message}
 use Rattle.dap_client.specs.Calls.{refusal_of, answer_refusal_of, Takes}
 use Rattle.dap_client.specs.ClientState.{ClientState}
-use Rattle.dap_message.specs.ReadBack.{AllReadBack}
+use Rattle.dap_envelope.specs.ReadBack.{AllReadBack}
 use Rattle.dap_client.specs.Keeping.{AreReadBack, IsMade}
 use Rattle.dap_client.specs.Laws.{EachStepGoesOn}
 use Rattle.dap_client.specs.PrivateReceives.{HasReceived}

@@ -5,20 +5,20 @@ use Rattle.std.proofs.lemmas.List.{append-nil}
 use Rattle.std.proofs.lemmas.Slice.Eq.{bytes_eq-Decides}
 use Rattle.serde_json.specs.Data.{Data}
 use Rattle.dap_frame.specs.Settings.{Settings}
-use Rattle.dap_message.specs.Command.{command_named, name_of}
-use Rattle.dap_message.specs.CallTree.{call_tree, command_of}
+use Rattle.dap_command.specs.Command.{command_named, name_of}
+use Rattle.dap_call.specs.CallTree.{call_tree, command_of}
 use Rattle.dap_history.specs.Answers.{AnswersOne}
 use Rattle.dap_history.specs.History.{Asked, Answered, Entry, In, Out, Came, Went, without_answered, request_as, response_as, request_at, response_at, ins_of}
 use Rattle.dap_history.specs.HistoryLaws.{HistoriesGrow}
 use Rattle.dap_message.specs.MessageParts.{failure_response}
-use Rattle.dap_message.specs.Types.Call.{Call}
-use Rattle.dap_message.specs.Types.Command.{Command}
-use Rattle.dap_message.specs.Types.Command.TheVariants as command
-use Rattle.dap_message.specs.Types.Failure.{Failure}
-use Rattle.dap_message.specs.declared.message.Message.{Message}
-use Rattle.dap_message.specs.declared.message.Kind.{Kind}
-use Rattle.dap_message.specs.declared.message.Kind.TheVariants.{Request, Response, Event, Other}
-use Rattle.dap_message.specs.Terminal.{run_in_terminal}
+use Rattle.dap_call.specs.declared.call.Call.{Call}
+use Rattle.dap_command.specs.declared.command.Command.{Command}
+use Rattle.dap_command.specs.declared.command.Command.TheVariants as command
+use Rattle.dap_body.specs.declared.failure.Failure.{Failure}
+use Rattle.dap_envelope.specs.declared.message.Message.{Message}
+use Rattle.dap_envelope.specs.declared.message.Kind.{Kind}
+use Rattle.dap_envelope.specs.declared.message.Kind.TheVariants.{Request, Response, Event, Other}
+use Rattle.dap_call.specs.Terminal.{run_in_terminal}
 use Rattle.dap_tables.specs.Outstanding.{contains_seq, kept_unparked, entry_with, HasDistinctSeqs}
 use Rattle.dap_tables.specs.declared.entry.Entry.{Entry as Waiting}
 use Rattle.dap_client.specs.declared.fault.ClientFault.{ClientFault}

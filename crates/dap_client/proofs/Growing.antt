@@ -5,7 +5,7 @@ use Rattle.std.proofs.lemmas.List.{append-nil}
 use Rattle.dap_history.specs.Answers.{Answers, AnswersOne}
 use Rattle.dap_history.specs.History.{Entry, In, Out, Came, Went, Asked, waiting, without_answered, outs_of, AreNumberedAfter, request_at, response_at}
 use Rattle.dap_history.specs.HistoryLaws.{HistoriesGrow}
-use Rattle.dap_message.specs.declared.message.Message.{Message}
+use Rattle.dap_envelope.specs.declared.message.Message.{Message}
 use Rattle.dap_client.specs.Seen.{Seen, nothing_seen, after_in, after_out, seen_then, seen_after, seen_in}
 use Rattle.dap_client.specs.Session.{Session}
 use Rattle.dap_history.specs.Requests.{asks}

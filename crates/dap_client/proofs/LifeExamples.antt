@@ -7,10 +7,10 @@ use Rattle.json.specs.Print.{escape_byte}
 use Rattle.serde_json.proofs.OnLiterals.{serde_json_on_literals}
 use Rattle.dap_json.specs.Read.{json_of}
 use Rattle.dap_frame.specs.Settings.{usual_settings, settings}
-use Rattle.dap_message.specs.CallTree.{initialize_members, stack_trace_members, evaluate_members, variables_members}
-use Rattle.dap_message.specs.Canon.{canon, tree_of, request_members, response_members}
-use Rattle.dap_message.specs.Types.Call.TheVariants as call
-use Rattle.dap_message.specs.declared.message.Kind.TheVariants.{Request}
+use Rattle.dap_call.specs.CallTree.{initialize_members, stack_trace_members, evaluate_members, variables_members}
+use Rattle.dap_envelope.specs.Canon.{canon, tree_of, request_members, response_members}
+use Rattle.dap_call.specs.declared.call.Call.TheVariants as call
+use Rattle.dap_envelope.specs.declared.message.Kind.TheVariants.{Request}
 use Rattle.dap_client.specs.declared.fault.ClientFault.TheVariants.{Unmatched, CommandMismatch, SeqExhausted as NoSeq}
 use Rattle.dap_client.specs.declared.fault.SendFault.TheVariants.{Ended, WrongPhase, NotSupported, NotStopped, UnknownReference, TooLarge, Full, SeqExhausted}
 use Rattle.dap_client.specs.declared.phase.Phase.TheVariants as phase

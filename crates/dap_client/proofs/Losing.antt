@@ -1,6 +1,6 @@
 -- A message whose bytes are lost.
 use Rattle.std.proofs.Common.{◌≡◌, ◌≢◌, ℕ, List, [], Option, Some, None}
-use Rattle.dap_message.specs.declared.message.Message.{Message}
+use Rattle.dap_envelope.specs.declared.message.Message.{Message}
 use Rattle.dap_client.specs.Calls.{Takes, LosesMessage}
 use Rattle.dap_client.specs.ClientState.{ClientState}
 use Rattle.dap_client.specs.declared.fault.ClientFault.{ClientFault}

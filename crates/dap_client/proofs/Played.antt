@@ -4,11 +4,11 @@ use Rattle.dap_json.specs.Read.{json_of}
 use Rattle.dap_frame.specs.Settings.{Settings, bounds_of}
 use Rattle.dap_frame.specs.Intake.{Intake}
 use Rattle.dap_frame.specs.declared.stage.Stage.TheVariants.{Header}
-use Rattle.dap_message.specs.Canon.{canon}
-use Rattle.dap_message.specs.Types.Call.{Call}
-use Rattle.dap_message.specs.Types.Call.TheVariants as call
-use Rattle.dap_message.specs.declared.message.Message.{Message}
-use Rattle.dap_message.specs.declared.message.Kind.TheVariants.{Response, Event}
+use Rattle.dap_envelope.specs.Canon.{canon}
+use Rattle.dap_call.specs.declared.call.Call.{Call}
+use Rattle.dap_call.specs.declared.call.Call.TheVariants as call
+use Rattle.dap_envelope.specs.declared.message.Message.{Message}
+use Rattle.dap_envelope.specs.declared.message.Kind.TheVariants.{Response, Event}
 use Rattle.dap_client.specs.declared.fault.ClientFault.{ClientFault}
 use Rattle.dap_client.specs.declared.fault.AnswerFault.{AnswerFault}
 use Rattle.dap_client.specs.declared.fault.SendFault.{SendFault}

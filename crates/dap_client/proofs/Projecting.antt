@@ -2,14 +2,14 @@
 use Rattle.std.proofs.Common.{[], ◌≡◌, ℕ, ◌+◌, List, Bool, true, false, Option, Some, None, Result, Ok, Err, length, refl, sym, ap}
 use Rattle.std.specs.Prelude.{bytes_eq, nat_le, nat_lt, if◌then◌else◌}
 use Rattle.serde_json.specs.Data.{Data}
-use Rattle.dap_message.specs.CallTree.{command_of}
-use Rattle.dap_message.specs.Command.{command_named}
-use Rattle.dap_message.specs.declared.message.Kind.{Kind}
-use Rattle.dap_message.specs.declared.message.Kind.TheVariants.{Request, Response, Event, Other}
-use Rattle.dap_message.specs.Types.Call.{Call}
-use Rattle.dap_message.specs.Types.Call.TheVariants as call
-use Rattle.dap_message.specs.Types.Command.{Command}
-use Rattle.dap_message.specs.Types.Failure.{Failure}
+use Rattle.dap_call.specs.CallTree.{command_of}
+use Rattle.dap_command.specs.Command.{command_named}
+use Rattle.dap_envelope.specs.declared.message.Kind.{Kind}
+use Rattle.dap_envelope.specs.declared.message.Kind.TheVariants.{Request, Response, Event, Other}
+use Rattle.dap_call.specs.declared.call.Call.{Call}
+use Rattle.dap_call.specs.declared.call.Call.TheVariants as call
+use Rattle.dap_command.specs.declared.command.Command.{Command}
+use Rattle.dap_body.specs.declared.failure.Failure.{Failure}
 use Rattle.dap_tables.specs.Outstanding.{contains_seq, entry_with}
 use Rattle.dap_tables.specs.declared.entry.Entry.{Entry}
 use Rattle.dap_client.specs.declared.fault.ClientFault.{ClientFault}

@@ -6,9 +6,9 @@ use Rattle.json.specs.Print.{escape_byte}
 use Rattle.serde_json.proofs.OnLiterals.{serde_json_on_literals}
 use Rattle.dap_json.specs.Read.{json_of}
 use Rattle.dap_frame.specs.Settings.{usual_settings, settings}
-use Rattle.dap_message.specs.CallTree.{initialize_members, stack_trace_members, evaluate_members, variables_members}
-use Rattle.dap_message.specs.Canon.{canon, tree_of, request_members}
-use Rattle.dap_message.specs.Types.Call.TheVariants as call
+use Rattle.dap_call.specs.CallTree.{initialize_members, stack_trace_members, evaluate_members, variables_members}
+use Rattle.dap_envelope.specs.Canon.{canon, tree_of, request_members}
+use Rattle.dap_call.specs.declared.call.Call.TheVariants as call
 use Rattle.dap_tables.specs.declared.reference_kind.ReferenceKind.TheVariants.{Frame, Holder}
 use Rattle.dap_client.specs.declared.fault.ClientFault.TheVariants.{ReferenceLimit}
 use Rattle.dap_client.specs.declared.fault.SendFault.TheVariants.{UnknownReference}

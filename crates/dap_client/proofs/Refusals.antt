@@ -2,7 +2,7 @@
 use Rattle.std.proofs.Common.{◌≡◌, ℕ, ◌+◌, ◌<◌, List, [], ◌∷◌, ◌++◌, Bool, true, false, Option, Some, None, refl, sym, ap, subst, ◌∙◌, arith, true≢false}
 use Rattle.std.specs.Prelude.{find, cond, ◌==◌, ◌||◌, nat_lt, if◌then◌else◌}
 use Rattle.std.proofs.lemmas.Bool.Decides.{nat_tests}
-use Rattle.dap_message.specs.Types.Call.{Call}
+use Rattle.dap_call.specs.declared.call.Call.{Call}
 use Rattle.dap_frame.specs.Settings.{Settings}
 use Rattle.dap_tables.specs.Known.{KnownReferences}
 use Rattle.dap_tables.specs.Outstanding.{Kept, KeptRequests, IsOrderlyRequests, kept_unparked, contains_seq}

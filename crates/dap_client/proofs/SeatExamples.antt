@@ -1,8 +1,8 @@
 -- Worked examples of the smaller client, each shown by computation.
 use Rattle.std.proofs.Common.{◌≡◌, [], ◌∷◌, true, false, None, Ok, Err, codes, refl}
 use Rattle.dap_frame.specs.Settings.{Settings, settings}
-use Rattle.dap_message.specs.Types.Command.TheVariants as command
-use Rattle.dap_message.specs.declared.message.Kind.TheVariants.{Request, Response, Event, Other}
+use Rattle.dap_command.specs.declared.command.Command.TheVariants as command
+use Rattle.dap_envelope.specs.declared.message.Kind.TheVariants.{Request, Response, Event, Other}
 use Rattle.dap_tables.specs.Outstanding.{kept_unparked}
 use Rattle.dap_tables.specs.declared.reference_kind.ReferenceKind.TheVariants.{Frame}
 use Rattle.dap_client.specs.declared.fault.ClientFault.TheVariants.{Unmatched, CommandMismatch, ReferenceLimit, SeqExhausted}

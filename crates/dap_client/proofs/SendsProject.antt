@@ -1,7 +1,7 @@
 -- What a client sends is a step of the smaller one: the tables compared, each command in each phase.
 use Rattle.std.proofs.Common.{[], ◌≡◌, ◌+◌, ◌∷◌, ◌++◌, Bool, true, false, refl}
-use Rattle.dap_message.specs.Types.Command.{Command}
-use Rattle.dap_message.specs.Types.Command.TheVariants as command
+use Rattle.dap_command.specs.declared.command.Command.{Command}
+use Rattle.dap_command.specs.declared.command.Command.TheVariants as command
 use Rattle.dap_tables.specs.Outstanding.{kept_unparked}
 use Rattle.dap_tables.specs.declared.entry.Entry.{Entry}
 use Rattle.dap_client.specs.declared.phase.Phase.{Phase}

@@ -6,12 +6,12 @@ use Rattle.json.specs.Print.{escape_byte}
 use Rattle.serde_json.proofs.OnLiterals.{serde_json_on_literals}
 use Rattle.dap_json.specs.Read.{json_of}
 use Rattle.dap_frame.specs.Settings.{settings}
-use Rattle.dap_message.specs.Canon.{canon, tree_of, request_members, response_members}
-use Rattle.dap_message.specs.CallTree.{initialize_members}
-use Rattle.dap_message.specs.Terminal.{terminal_of}
-use Rattle.dap_message.specs.Types.Call.{Call}
-use Rattle.dap_message.specs.Types.Call.TheVariants as call
-use Rattle.dap_message.specs.declared.message.Kind.TheVariants.{Request}
+use Rattle.dap_envelope.specs.Canon.{canon, tree_of, request_members, response_members}
+use Rattle.dap_call.specs.CallTree.{initialize_members}
+use Rattle.dap_call.specs.Terminal.{terminal_of}
+use Rattle.dap_call.specs.declared.call.Call.{Call}
+use Rattle.dap_call.specs.declared.call.Call.TheVariants as call
+use Rattle.dap_envelope.specs.declared.message.Kind.TheVariants.{Request}
 use Rattle.dap_client.specs.Session.{oldest_of}
 use Rattle.dap_client.specs.declared.fault.AnswerFault.TheVariants.{NotKept, SeqExhausted, Ended}
 use Rattle.dap_client.specs.declared.fault.ClientFault.TheVariants.{RepeatedSeq, SeqExhausted as NoSeq}

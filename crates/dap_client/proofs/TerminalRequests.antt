@@ -6,19 +6,19 @@ use Rattle.std.proofs.lemmas.Slice.Eq.{bytes_eq-Decides}
 use Rattle.serde_json.specs.Data.{Data}
 use Rattle.dap_history.specs.History.{Asked}
 use Rattle.dap_history.specs.Requests.{asks}
-use Rattle.dap_message.specs.Argument.{Read}
-use Rattle.dap_message.specs.Canon.{canon}
-use Rattle.dap_message.specs.CallTree.{if_any, initialize_members}
+use Rattle.dap_call.specs.Argument.{Read}
+use Rattle.dap_envelope.specs.Canon.{canon}
+use Rattle.dap_call.specs.CallTree.{if_any, initialize_members}
 use Rattle.dap_message.specs.Lengths.{FailuresAreShort, FixedResponsesAreShort}
-use Rattle.dap_message.specs.Meaning.{Msg}
-use Rattle.dap_message.specs.ReadBack.{ReadsBack}
-use Rattle.dap_message.specs.Refusals.{max_command}
-use Rattle.dap_message.specs.Types.Body.TheVariants.{RunInTerminal}
-use Rattle.dap_message.specs.Types.Initialize.{Initialize}
-use Rattle.dap_message.specs.declared.message.Message.{Message}
-use Rattle.dap_message.specs.Terminal.{run_in_terminal, terminal_of}
-use Rattle.dap_message.specs.Types.Failure.TheVariants.{Unsupported, TerminalRefused}
-use Rattle.dap_message.specs.Types.TerminalCall.{TerminalCall}
+use Rattle.dap_envelope.specs.Meaning.{Msg}
+use Rattle.dap_envelope.specs.ReadBack.{ReadsBack}
+use Rattle.dap_envelope.specs.Refusals.{max_command}
+use Rattle.dap_body.specs.declared.body.Body.TheVariants.{RunInTerminal}
+use Rattle.dap_call.specs.declared.call.Initialize.{Initialize}
+use Rattle.dap_envelope.specs.declared.message.Message.{Message}
+use Rattle.dap_call.specs.Terminal.{run_in_terminal, terminal_of}
+use Rattle.dap_body.specs.declared.failure.Failure.TheVariants.{Unsupported, TerminalRefused}
+use Rattle.dap_call.specs.declared.terminal.TerminalCall.{TerminalCall}
 use Rattle.std.proofs.lemmas.Bool.Decides.{nat_tests}
 use Rattle.dap_json.specs.Field.{max_seq}
 use Rattle.dap_tables.specs.Outstanding.{Kept, contains_seq, entry_with, kept_unparked, oldest_unparked, without}

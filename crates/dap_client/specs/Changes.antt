@@ -1,8 +1,8 @@
 -- What changes the phase: the one table of changes by their causes.
 -- Specification, the events "initialized", "stopped", "continued", "exited", "terminated" and "capabilities", and the responses of the requests named; Overview, "Lifetime of Objects References". The phases are this profile's choice.
 use Rattle.std.specs.Prelude.{ℕ, List, [], ◌∷◌, codes, bytes_eq, Bool, true, false, Option, find, option_map}
-use Rattle.dap_message.specs.Types.Command.{Command}
-use Rattle.dap_message.specs.Types.Command.TheVariants as command
+use Rattle.dap_command.specs.declared.command.Command.{Command}
+use Rattle.dap_command.specs.declared.command.Command.TheVariants as command
 use Rattle.dap_client.specs.declared.change.Change.{Change}
 use Rattle.dap_client.specs.declared.phase.Phase.{Phase}
 use Rattle.dap_client.specs.declared.phase.Phase.TheVariants.{Fresh, Initializing, Configuring, Running, Stopped, Resuming, Exited, Ended}

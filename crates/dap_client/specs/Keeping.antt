@@ -2,8 +2,8 @@
 use Rattle.std.specs.Prelude.{◌≡◌, ℕ, ◌≤◌, ◌<◌, List, Bool, false, ⊤, Option, Some, None, Result, Ok, Err, bytes_eq, if◌then◌else◌}
 use Rattle.dap_frame.specs.Settings.{Settings}
 use Rattle.dap_json.specs.Field.{max_seq}
-use Rattle.dap_message.specs.ReadBack.{AllReadBack}
-use Rattle.dap_message.specs.Types.Call.{Call}
+use Rattle.dap_envelope.specs.ReadBack.{AllReadBack}
+use Rattle.dap_call.specs.declared.call.Call.{Call}
 use Rattle.dap_tables.specs.Known.{KnownReferences}
 use Rattle.dap_tables.specs.Outstanding.{KeptRequests, IsOrderlyRequests}
 use Rattle.dap_tables.specs.Seq.{Numbers}

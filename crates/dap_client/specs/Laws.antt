@@ -2,11 +2,11 @@
 use Rattle.std.specs.Prelude.{◌≡◌, ◌≤◌, ℕ, List, [], ◌∷◌, ◌++◌, length, Bool, None, Ok}
 use Rattle.dap_frame.specs.Settings.{Settings}
 use Rattle.dap_history.specs.History.{Entry, In, Out, ins_of}
-use Rattle.dap_message.specs.Command.{name_of}
-use Rattle.dap_message.specs.Refusals.{max_command}
-use Rattle.dap_message.specs.Types.Call.{Call}
-use Rattle.dap_message.specs.Types.Command.{Command}
-use Rattle.dap_message.specs.declared.message.Message.{Message}
+use Rattle.dap_command.specs.Command.{name_of}
+use Rattle.dap_envelope.specs.Refusals.{max_command}
+use Rattle.dap_call.specs.declared.call.Call.{Call}
+use Rattle.dap_command.specs.declared.command.Command.{Command}
+use Rattle.dap_envelope.specs.declared.message.Message.{Message}
 use Rattle.dap_tables.specs.Outstanding.{HasDistinctSeqs}
 use Rattle.dap_client.specs.Follows.{Follows}
 use Rattle.dap_client.specs.TerminalResponse.{next_terminal_response, first_terminal_refusal, after_terminal_response}

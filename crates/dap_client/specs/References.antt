@@ -2,8 +2,8 @@
 -- Specification, "ScopesArguments", "VariablesArguments", "SetVariableArguments", "EvaluateArguments", "CompletionsArguments".
 use Rattle.std.specs.Prelude.{ℕ, List, [], ◌∷◌, Bool, Option, Some, None}
 use Rattle.std.specs.List.{list_all}
-use Rattle.dap_message.specs.Types.Call.{Call}
-use Rattle.dap_message.specs.Types.Call.TheVariants as call
+use Rattle.dap_call.specs.declared.call.Call.{Call}
+use Rattle.dap_call.specs.declared.call.Call.TheVariants as call
 use Rattle.dap_tables.specs.declared.reference_kind.ReferenceKind.{ReferenceKind}
 use Rattle.dap_tables.specs.Given.{frame, holder}
 use Rattle.dap_tables.specs.Known.{has_pair}

@@ -4,16 +4,16 @@ use Rattle.std.specs.Prelude.{ℕ, List, [], ◌∷◌, Bool, true, false, ◌==
 use Rattle.serde_json.specs.Data.{Data}
 use Rattle.serde_json.specs.Find.{as_bool}
 use Rattle.dap_json.specs.Field.{tree_at}
-use Rattle.dap_message.specs.Argument.{value_at}
-use Rattle.dap_message.specs.Types.Key.TheVariants.{SupportsRunInTerminalRequest}
-use Rattle.dap_message.specs.Capabilities.{offered_by, updated_by}
-use Rattle.dap_message.specs.Command.{command_named}
+use Rattle.dap_call.specs.Argument.{value_at}
+use Rattle.dap_command.specs.declared.key.Key.TheVariants.{SupportsRunInTerminalRequest}
+use Rattle.dap_command.specs.Capabilities.{offered_by, updated_by}
+use Rattle.dap_command.specs.Command.{command_named}
 use Rattle.dap_history.specs.History.{Entry, In, Out, ReferencesEnd}
-use Rattle.dap_message.specs.Types.Capabilities.{Capabilities}
-use Rattle.dap_message.specs.Types.Command.{Command}
-use Rattle.dap_message.specs.Types.Command.TheVariants as command
-use Rattle.dap_message.specs.declared.message.Kind.{Kind}
-use Rattle.dap_message.specs.declared.message.Kind.TheVariants.{Request, Response, Event, Other}
+use Rattle.dap_command.specs.declared.capabilities.Capabilities.{Capabilities}
+use Rattle.dap_command.specs.declared.command.Command.{Command}
+use Rattle.dap_command.specs.declared.command.Command.TheVariants as command
+use Rattle.dap_envelope.specs.declared.message.Kind.{Kind}
+use Rattle.dap_envelope.specs.declared.message.Kind.TheVariants.{Request, Response, Event, Other}
 use Rattle.dap_tables.specs.declared.reference_kind.ReferenceKind.{ReferenceKind}
 use Rattle.dap_tables.specs.Known.{with_pairs}
 use Rattle.dap_client.specs.declared.phase.Phase.{Phase}

@@ -2,13 +2,13 @@
 -- Specification, "Request". Which refusals there are, and their order, is this profile's choice.
 use Rattle.std.specs.Prelude.{ℕ, ◌+◌, List, [], ◌∷◌, ◌++◌, length, Bool, false, not, ◌&&◌, ◌||◌, nat_lt, nat_le, Option, find}
 use Rattle.dap_frame.specs.Written.{frame_of}
-use Rattle.dap_message.specs.Canon.{canon}
-use Rattle.dap_message.specs.Capabilities.{is_allowed}
-use Rattle.dap_message.specs.CallTree.{call_tree, command_of}
-use Rattle.dap_message.specs.Command.{name_of}
-use Rattle.dap_message.specs.Types.Call.{Call}
-use Rattle.dap_message.specs.declared.message.Message.{Message}
-use Rattle.dap_message.specs.declared.message.Kind.TheVariants.{Request}
+use Rattle.dap_envelope.specs.Canon.{canon}
+use Rattle.dap_command.specs.Capabilities.{is_allowed}
+use Rattle.dap_call.specs.CallTree.{call_tree, command_of}
+use Rattle.dap_command.specs.Command.{name_of}
+use Rattle.dap_call.specs.declared.call.Call.{Call}
+use Rattle.dap_envelope.specs.declared.message.Message.{Message}
+use Rattle.dap_envelope.specs.declared.message.Kind.TheVariants.{Request}
 use Rattle.dap_tables.specs.Outstanding.{kept_unparked}
 use Rattle.dap_tables.specs.declared.entry.Entry.{Entry}
 use Rattle.dap_client.specs.declared.fault.SendFault.{SendFault}

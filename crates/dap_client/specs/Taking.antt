@@ -4,18 +4,18 @@ use Rattle.std.specs.Prelude.{ℕ, ◌+◌, List, [], ◌∷◌, ◌++◌, lengt
 use Rattle.std.specs.List.{flat_map}
 use Rattle.serde_json.specs.Data.{Data}
 use Rattle.dap_frame.specs.Written.{frame_of}
-use Rattle.dap_message.specs.Canon.{canon}
-use Rattle.dap_message.specs.Command.{command_named}
+use Rattle.dap_envelope.specs.Canon.{canon}
+use Rattle.dap_command.specs.Command.{command_named}
 use Rattle.dap_history.specs.History.{Entry, Out}
 use Rattle.dap_message.specs.MessageParts.{failure_response}
-use Rattle.dap_message.specs.Argument.{Read}
-use Rattle.dap_message.specs.Terminal.{run_in_terminal, terminal_of}
-use Rattle.dap_message.specs.Types.Failure.{Failure}
-use Rattle.dap_message.specs.Types.Failure.TheVariants.{Unsupported, BadArguments, Busy}
-use Rattle.dap_message.specs.Types.TerminalCall.{TerminalCall}
-use Rattle.dap_message.specs.declared.message.Message.{Message}
-use Rattle.dap_message.specs.declared.message.Kind.{Kind}
-use Rattle.dap_message.specs.declared.message.Kind.TheVariants.{Request, Response, Event, Other}
+use Rattle.dap_call.specs.Argument.{Read}
+use Rattle.dap_call.specs.Terminal.{run_in_terminal, terminal_of}
+use Rattle.dap_body.specs.declared.failure.Failure.{Failure}
+use Rattle.dap_body.specs.declared.failure.Failure.TheVariants.{Unsupported, BadArguments, Busy}
+use Rattle.dap_call.specs.declared.terminal.TerminalCall.{TerminalCall}
+use Rattle.dap_envelope.specs.declared.message.Message.{Message}
+use Rattle.dap_envelope.specs.declared.message.Kind.{Kind}
+use Rattle.dap_envelope.specs.declared.message.Kind.TheVariants.{Request, Response, Event, Other}
 use Rattle.dap_tables.specs.Outstanding.{contains_seq, entry_with, kept_unparked, without}
 use Rattle.dap_tables.specs.declared.entry.Entry.{Entry as Waiting}
 use Rattle.dap_client.specs.declared.fault.ClientFault.{ClientFault}

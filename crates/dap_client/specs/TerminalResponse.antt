@@ -3,12 +3,12 @@
 use Rattle.std.specs.Prelude.{ℕ, ◌+◌, List, [], ◌∷◌, Bool, true, false, not, ◌&&◌, nat_le, Option, Some, find}
 use Rattle.dap_frame.specs.Written.{frame_of}
 use Rattle.dap_message.specs.MessageParts.{failure_response, success_response}
-use Rattle.dap_message.specs.Canon.{canon}
-use Rattle.dap_message.specs.PlainCall.{is_number, is_none_or}
-use Rattle.dap_message.specs.ResponseBody.{run_in_terminal_body}
-use Rattle.dap_message.specs.Types.Failure.TheVariants.{TerminalRefused}
-use Rattle.dap_message.specs.declared.message.Message.{Message}
-use Rattle.dap_message.specs.Terminal.{run_in_terminal}
+use Rattle.dap_envelope.specs.Canon.{canon}
+use Rattle.dap_command.specs.Numbers.{is_number, is_none_or}
+use Rattle.dap_body.specs.ResponseBody.{run_in_terminal_body}
+use Rattle.dap_body.specs.declared.failure.Failure.TheVariants.{TerminalRefused}
+use Rattle.dap_envelope.specs.declared.message.Message.{Message}
+use Rattle.dap_call.specs.Terminal.{run_in_terminal}
 use Rattle.dap_tables.specs.Outstanding.{contains_seq, without}
 use Rattle.dap_client.specs.declared.fault.AnswerFault.{AnswerFault}
 use Rattle.dap_client.specs.declared.fault.AnswerFault.TheVariants as fault

@@ -2,11 +2,11 @@
 use Rattle.std.specs.Prelude.{◌≡◌, ℕ, ◌≤◌, List, [], ◌∷◌, length, Bool, false, None, Ok, ⊤}
 use Rattle.dap_frame.specs.Settings.{Settings}
 use Rattle.dap_json.specs.Field.{max_seq}
-use Rattle.dap_message.specs.Types.Call.{Call}
-use Rattle.dap_message.specs.declared.message.Kind.{Kind}
-use Rattle.dap_message.specs.declared.message.Kind.TheVariants.{Request, Response, Event, Other}
-use Rattle.dap_message.specs.declared.message.Message.{Message}
-use Rattle.dap_message.specs.Terminal.{run_in_terminal}
+use Rattle.dap_call.specs.declared.call.Call.{Call}
+use Rattle.dap_envelope.specs.declared.message.Kind.{Kind}
+use Rattle.dap_envelope.specs.declared.message.Kind.TheVariants.{Request, Response, Event, Other}
+use Rattle.dap_envelope.specs.declared.message.Message.{Message}
+use Rattle.dap_call.specs.Terminal.{run_in_terminal}
 use Rattle.dap_tables.specs.Known.{HasDistinctPairs}
 use Rattle.dap_tables.specs.Outstanding.{Kept, HasDistinctSeqs}
 use Rattle.dap_client.specs.TerminalResponse.{first_terminal_refusal, after_terminal_response}

@@ -2,8 +2,8 @@
 ghost use Rattle.std.specs.Prelude.{◌≡◌, ◌+◌, ◌<◌, ◌≤◌, ◌++◌, IfOk, IfErr, IfNone, OnOk, OnErr, IsTrue, length, None};
 ghost use Rattle.dap_frame.specs.Written.{frame_of};
 ghost use Rattle.dap_json.specs.Field.{max_seq};
-ghost use Rattle.dap_message.specs.Canon.{canon};
-ghost use Rattle.dap_message.specs.ReadBack.{ReadsBack};
+ghost use Rattle.dap_envelope.specs.Canon.{canon};
+ghost use Rattle.dap_envelope.specs.ReadBack.{ReadsBack};
 ghost use Rattle.dap_tables.specs.Outstanding.{contains_seq};
 ghost use Rattle.dap_client.specs.TerminalResponse.{is_plain_terminal, terminal_response, next_terminal_response, terminal_response_bytes, first_terminal_refusal, after_terminal_response};
 ghost use Rattle.dap_client.specs.Keeping.{IsWhyNotAnswered};
@@ -13,7 +13,9 @@ use crate::session::Session;
 use crate::terminal::Terminal;
 use dap_frame::frame_from;
 use dap_message::laws::fixed_messages_are_short;
-use dap_message::{Body, Failure, RUN_IN_TERMINAL, append_answer, append_failure};
+use dap_body::{Body, Failure};
+use dap_call::RUN_IN_TERMINAL;
+use dap_message::{append_answer, append_failure};
 use std::alloc::{AllocError, Global};
 
 /// Appends the text of the response, or changes nothing.

@@ -12,7 +12,7 @@
 //! - **A message was delivered**: the client has counted it already, so that `phase`, `ready` and `capabilities` are those
 //!   after it. A response is looked up by its `request_seq`; an event is shown.
 //! - **The adapter asks for a terminal**: a request `runInTerminal` was delivered, and `bytes` is empty. So it is kept, and
-//!   waits for `answer`. Read its arguments by `dap_message::read_terminal`, run `args` in `cwd`, and give the message's
+//!   waits for `answer`. Read its arguments by `dap_call::read_terminal`, run `args` in `cwd`, and give the message's
 //!   `seq` and what became of it to `answer`; write the bytes. Adapters answer `launch` only after that. It is kept where the
 //!   last `initialize` that was sent says `supports_run_in_terminal_request`, its arguments are good, and fewer are kept than
 //!   may be. Any other request of the adapter was answered by the failure that `bytes` holds.

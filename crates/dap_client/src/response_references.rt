@@ -1,10 +1,11 @@
 //! The references that responses give.
 ghost use Rattle.std.specs.Prelude.{◌≡◌, map, IfOk, Some};
 ghost use Rattle.serde_json.specs.View.{view};
-ghost use Rattle.dap_message.specs.GivenReferences.{frame_ids, holders_of};
+ghost use Rattle.dap_command.specs.GivenReferences.{frame_ids, holders_of};
 ghost use Rattle.dap_tables.specs.Given.{frame, holder, references_given_by, references_given_in};
 
-use dap_message::{Command, Tree, frames_given, holders_given};
+use dap_command::{Command, frames_given, holders_given};
+use dap_json::Tree;
 use dap_tables::ReferenceKind;
 use serde_json::Value;
 use std::alloc::{AllocError, Global};

@@ -2,14 +2,14 @@
 ghost use Rattle.std.specs.Prelude.{◌≡◌, ◌+◌, ◌<◌, ◌≤◌, length, IfOk, IfErr, IfNone, OnOk, OnErr, IsTrue, false, Some, None};
 ghost use Rattle.std.specs.List.{list_all};
 ghost use Rattle.dap_json.specs.Field.{max_seq};
-ghost use Rattle.dap_message.specs.Canon.{canon};
-ghost use Rattle.dap_message.specs.ReadBack.{ReadsBack};
-ghost use Rattle.dap_message.specs.PlainCall.{is_plain_call};
-ghost use Rattle.dap_message.specs.Types.Call.{Call};
+ghost use Rattle.dap_envelope.specs.Canon.{canon};
+ghost use Rattle.dap_envelope.specs.ReadBack.{ReadsBack};
+ghost use Rattle.dap_call.specs.PlainCall.{is_plain_call};
+ghost use Rattle.dap_call.specs.declared.call.Call.{Call};
 ghost use Rattle.dap_tables.specs.Known.{has_pair};
 ghost use Rattle.dap_client.specs.References.{are_known, optional_frame};
 ghost use Rattle.dap_client.specs.Sending.{first_of, early_refusals, late_refusals, refusals_in_order, next_message, request_of, sent_bytes, after_send};
-ghost use Rattle.dap_message.specs.CallTree.{call_tree, command_of};
+ghost use Rattle.dap_call.specs.CallTree.{call_tree, command_of};
 ghost use Rattle.dap_client.specs.Seen.{resumer_by, announced_after as announced_after_call, after_sent};
 ghost use Rattle.dap_client.specs.Keeping.{IsWhyNotSent, IsWhyLate};
 
@@ -21,8 +21,10 @@ use crate::phase::Phase;
 use crate::session::Session;
 use crate::{changes, table};
 use dap_frame::frame_from;
-use dap_message::laws::written_call_is_plain;
-use dap_message::{Call, Text, Tree, append_request, write_call};
+use dap_call::laws::written_call_is_plain;
+use dap_call::{Call, write_call};
+use dap_json::{Text, Tree};
+use dap_message::append_request;
 use dap_tables::{Entry, ReferenceKind};
 use std::alloc::{AllocError, Global};
 

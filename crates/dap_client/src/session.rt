@@ -5,12 +5,12 @@ ghost use Rattle.dap_json.specs.Field.{max_seq};
 ghost use Rattle.dap_tables.specs.Outstanding.{contains_seq, entry_with, kept_unparked, without, IsOrderlyRequests};
 ghost use Rattle.dap_client.specs.Seen.{after_change};
 ghost use Rattle.dap_client.specs.Session.{fresh_session, oldest_of};
-ghost use Rattle.dap_message.specs.Terminal.{run_in_terminal};
+ghost use Rattle.dap_call.specs.Terminal.{run_in_terminal};
 
 use crate::change::Change;
 use crate::phase::Phase;
 use dap_frame::Limits;
-use dap_message::Capabilities;
+use dap_command::Capabilities;
 use dap_tables::{Entry, Known, Outstanding, PutFault, Seq};
 use std::alloc::{AllocError, Global};
 use std::marker::Model;

@@ -2,19 +2,19 @@
 ghost use Rattle.std.specs.Prelude.{◌≡◌, ◌+◌, ◌≤◌, ◌<◌, [], ◌∷◌, ◌++◌, length, if◌then◌else◌, ◌&&◌, IfOk, IfErr, OnOk, OnErr, IsTrue, nat_le, Some, None, codes, option_and_then};
 ghost use Rattle.dap_json.specs.Field.{max_seq, tree_at};
 ghost use Rattle.dap_frame.specs.Written.{frame_of};
-ghost use Rattle.dap_message.specs.Canon.{canon};
-ghost use Rattle.dap_message.specs.InRange.{IsInRange};
+ghost use Rattle.dap_envelope.specs.Canon.{canon};
+ghost use Rattle.dap_envelope.specs.InRange.{IsInRange};
 ghost use Rattle.dap_message.specs.MessageParts.{failure_response};
-ghost use Rattle.dap_message.specs.Meaning.{Msg};
-ghost use Rattle.dap_message.specs.Refusals.{max_command};
+ghost use Rattle.dap_envelope.specs.Meaning.{Msg};
+ghost use Rattle.dap_envelope.specs.Refusals.{max_command};
 ghost use Rattle.dap_tables.specs.Outstanding.{entry_with};
 ghost use Rattle.dap_client.specs.Changes.{change_in, signal_named};
 ghost use Rattle.dap_client.specs.Keeping.{match_result, AreReadBack, IsMade, IsWhyClosed, IsWhyUnlearned};
 ghost use Rattle.dap_client.specs.declared.phase.Phase.TheVariants.{Initializing};
-ghost use Rattle.dap_message.specs.Capabilities.{offered_by};
+ghost use Rattle.dap_command.specs.Capabilities.{offered_by};
 ghost use Rattle.dap_client.specs.Phases.{is_phase, is_among, phases_in_a_stop};
 ghost use Rattle.dap_client.specs.Seen.{is_initialize, references_of_success, known_after, capabilities_after, cause_of, after_change, after_body, after_answer, after_signal, after_event, updated_from, is_ready_after};
-ghost use Rattle.dap_message.specs.Terminal.{run_in_terminal};
+ghost use Rattle.dap_call.specs.Terminal.{run_in_terminal};
 ghost use Rattle.dap_client.specs.Taking.{declines, failure_at_once as failure_by, request_from, takes, takes_answer, takes_request};
 
 use crate::changes;
@@ -25,10 +25,12 @@ use crate::session::Session;
 use crate::signal::Signal;
 use dap_frame::frame_from;
 use dap_message::laws::fixed_messages_are_short;
-use dap_message::{
-    CallFault, Capabilities, Command, Failure, Kind, Message, RUN_IN_TERMINAL, Text, Tree,
-    append_failure, read_terminal,
-};
+use dap_body::Failure;
+use dap_call::{CallFault, RUN_IN_TERMINAL, read_terminal};
+use dap_command::{Capabilities, Command};
+use dap_envelope::{Kind, Message};
+use dap_json::{Text, Tree};
+use dap_message::append_failure;
 use dap_tables::{Entry, KnownFault, ReferenceKind};
 use std::alloc::{AllocError, Global};
 

@@ -2,7 +2,7 @@
 //!
 //! Specification, "RunInTerminalResponse".
 ghost use Rattle.std.specs.Prelude.{◌≡◌};
-ghost use Rattle.dap_message.specs.PlainCall.{is_number, is_none_or};
+ghost use Rattle.dap_command.specs.Numbers.{is_number, is_none_or};
 ghost use Rattle.dap_client.specs.TerminalResponse.{is_plain_terminal};
 
 /// The greatest number of a process.

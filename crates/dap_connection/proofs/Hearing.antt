@@ -7,7 +7,7 @@ use Rattle.std.proofs.lemmas.List.{drop-drop}
 use Rattle.std.proofs.lemmas.List.Elements.{All-append, All-nil, All-cons}
 use Rattle.dap_channel.specs.Channel.{IoEvent}
 use Rattle.dap_channel.specs.Sent.{WritesShort, saturating_count}
-use Rattle.dap_message.specs.declared.message.Message.{Message}
+use Rattle.dap_envelope.specs.declared.message.Message.{Message}
 use Rattle.dap_client.specs.Calls.{TakesNext}
 use Rattle.dap_client.specs.ClientState.{ClientState}
 use Rattle.dap_connection.specs.ConnectionState.{Wire, ConnectionState}

@@ -3,9 +3,9 @@
 use Rattle.std.specs.Prelude.{◌≡◌, ◌≢◌, ℕ, ◌+◌, ◌<◌, ◌≤◌, List, [], ◌∷◌, ◌++◌, All, length, take, true, Option, Some, None, is_some, option_to_list}
 use Rattle.dap_channel.specs.Channel.{IoEvent, Gave, ReadFailed}
 use Rattle.dap_channel.specs.Sent.{Sends, WritesShort, saturating_count}
-use Rattle.dap_message.specs.Parts.{response_parts}
-use Rattle.dap_message.specs.Types.Call.{Call}
-use Rattle.dap_message.specs.declared.message.Message.{Message}
+use Rattle.dap_envelope.specs.Parts.{response_parts}
+use Rattle.dap_call.specs.declared.call.Call.{Call}
+use Rattle.dap_envelope.specs.declared.message.Message.{Message}
 use Rattle.dap_client.specs.Calls.{TakesNext, NextRefused, NotSent, NotAnswered}
 use Rattle.dap_client.specs.declared.fault.ClientFault.{ClientFault}
 use Rattle.dap_client.specs.Sending.{sent_bytes, after_send}

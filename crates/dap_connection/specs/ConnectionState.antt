@@ -1,6 +1,6 @@
 -- A connection, as contracts see it.
 use Rattle.std.specs.Prelude.{◌≡◌, ◌≤◌, ℕ, List, length, Option, None}
-use Rattle.dap_message.specs.declared.message.Message.{Message}
+use Rattle.dap_envelope.specs.declared.message.Message.{Message}
 use Rattle.dap_client.specs.ClientState.{ClientState}
 use Rattle.dap_connection.specs.declared.fault.ConnectionFault.{ConnectionFault}
 

@@ -2,7 +2,7 @@
 ghost use Rattle.std.specs.Prelude.{◌≡◌, ◌≢◌, ℕ, ◌+◌, ◌<◌, ◌≤◌, List, [], ◌∷◌, ◌++◌, length, IfOk, IfErr, OnOk, OnErr, IfSome, IfNone, IsTrue, Some, None, Ok, Err, true, false};
 ghost use Rattle.dap_channel.specs.Sent.{Sends, saturating_count};
 ghost use Rattle.dap_client.specs.Session.{fresh_session};
-ghost use Rattle.dap_message.specs.PlainCall.{is_plain_call};
+ghost use Rattle.dap_call.specs.PlainCall.{is_plain_call};
 ghost use Rattle.dap_client.specs.TerminalResponse.{is_plain_terminal};
 ghost use Rattle.dap_connection.specs.PrivateSteps.{Steps, FailsToWrite};
 ghost use Rattle.dap_connection.specs.declared.fault.ConnectionFault.{ConnectionFault};
@@ -13,7 +13,8 @@ use crate::fault::ConnectionFault;
 use dap_channel::{Channel, send};
 use dap_client::{Client, Sent, Terminal};
 use dap_frame::Limits;
-use dap_message::{Call, Message};
+use dap_call::Call;
+use dap_envelope::Message;
 use std::alloc::{AllocError, Global};
 use std::collections::VecDeque;
 use std::marker::Model;

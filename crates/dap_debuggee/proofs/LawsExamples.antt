@@ -1,10 +1,10 @@
 -- Worked examples of the laws' tables, each shown by computation.
 use Rattle.std.proofs.Common.{◌≡◌, List, ℕ, [], ◌∷◌, codes, replicate, true, false, Option, None, Some, pos, negsuc, refl}
-use Rattle.dap_call.specs.declared.call.SourceKey.{SourceKey}
-use Rattle.dap_call.specs.declared.call.SourceKey.TheVariants.{Path, Reference}
+use Rattle.dap_command.specs.declared.source_key.SourceKey.{SourceKey}
+use Rattle.dap_command.specs.declared.source_key.SourceKey.TheVariants.{Path, Reference}
 use Rattle.dap_debuggee.specs.Shown.{Act, Reply, to_start, to_resume, to_pause, to_poll, to_set_breakpoints, to_assign, to_end, done, refused, happened, category_name, asked_of_act}
 use Rattle.dap_debuggee.specs.Laws.{may_answer, state_after, lines_after, keeps_answers, keeps_frames, Stays, with_value, children_after, is_code, is_short, is_frame}
-use Rattle.dap_call.specs.SameSource.{is_source}
+use Rattle.dap_command.specs.SameSource.{is_source}
 use Rattle.dap_debuggee.specs.declared.answers.State.TheVariants.{NotStarted, Running, Stopped, Gone}
 use Rattle.dap_debuggee.specs.declared.answers.How.TheVariants.{Next, Continue}
 use Rattle.dap_debuggee.specs.declared.answers.Asked.TheVariants as remembers

@@ -1,6 +1,6 @@
 -- What a debuggee shows in a view: where it stands, what it was last asked, and what it answers to each query.
 use Rattle.std.specs.Prelude.{ℕ, ℤ, Bool, List, take, drop, nat_lt, codes, Option, if◌then◌else◌}
-use Rattle.dap_call.specs.declared.call.SourceKey.{SourceKey}
+use Rattle.dap_command.specs.declared.source_key.SourceKey.{SourceKey}
 use Rattle.dap_debuggee.specs.declared.answers.State.{State}
 use Rattle.dap_debuggee.specs.declared.answers.How.{How}
 use Rattle.dap_debuggee.specs.declared.answers.Asked.{Asked}

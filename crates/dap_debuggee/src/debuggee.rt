@@ -8,7 +8,7 @@ ghost use Rattle.std.specs.Prelude.{◌≡◌, IfOk, OnOk};
 use crate::answers::{
     Assigned, DebuggeeFault, Evaluation, Frame, Happening, How, Scope, Source, Thread, Variable,
 };
-use dap_call::SourceKey;
+use dap_command::SourceKey;
 use dap_json::Text;
 use std::alloc::{AllocError, Global};
 

@@ -2,7 +2,7 @@
 use Rattle.std.proofs.Common.{◌≡◌, [], ◌∷◌, Bool, true, false, Option, Some, None, refl}
 use Rattle.std.specs.Prelude.{◌||◌, if◌then◌else◌, option_map, find, List}
 use Rattle.std.specs.List.{list_any}
-use Rattle.dap_message.specs.Types.Command.{Command}
+use Rattle.dap_command.specs.declared.command.Command.{Command}
 use Rattle.dap_decision.specs.declared.effect.Effect.{Effect}
 use Rattle.dap_decision.specs.declared.phase.Phase.{Phase}
 use Rattle.dap_decision.specs.Failures.{phase_refused}

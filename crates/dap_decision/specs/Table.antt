@@ -2,8 +2,8 @@
 -- Which requests come when: Overview, "Initialization" to "Debug session end", and the requests of the Specification. The phases, and that another phase refuses a command, are this profile's choice.
 use Rattle.std.specs.Prelude.{ℕ, ◌==◌, List, [], ◌∷◌, ◌++◌, Bool, false, Option, find, option_map}
 use Rattle.std.specs.List.{list_any, list_all, flat_map}
-use Rattle.dap_message.specs.Types.Command.{Command}
-use Rattle.dap_message.specs.Types.Command.TheVariants as command
+use Rattle.dap_command.specs.declared.command.Command.{Command}
+use Rattle.dap_command.specs.declared.command.Command.TheVariants as command
 use Rattle.dap_debuggee.specs.declared.answers.How.TheVariants as how
 use Rattle.dap_decision.specs.declared.phase.Phase.{Phase}
 use Rattle.dap_decision.specs.declared.phase.Phase.TheVariants.{Fresh, Ready, Configured, Parked, Asked, Running, Stopped, Exited, Ended}

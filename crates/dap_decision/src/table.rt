@@ -1,12 +1,12 @@
 //! The table of commands and phases.
 ghost use Rattle.std.specs.Prelude.{◌≡◌, Some, None, if◌then◌else◌, false};
-ghost use Rattle.dap_message.specs.Types.Command.{Command};
+ghost use Rattle.dap_command.specs.declared.command.Command.{Command};
 ghost use Rattle.dap_decision.specs.Table.{effect_in, is_never_served, is_of_stops, is_among, ready_to_stopped, ready_to_exited, is_phase};
 
 use crate::effect::Effect;
 use crate::phase::Phase;
 use dap_debuggee::How;
-use dap_message::Command;
+use dap_command::Command;
 
 fn is_configuring_or_there(phase: Phase) -> bool
     ensures { result ≡ is_among phase ready_to_stopped }

@@ -6,13 +6,13 @@ use Rattle.dap_frame.specs.Settings.{Settings, AreInRange, bounds_of}
 use Rattle.dap_frame.specs.Written.{frame_of}
 use Rattle.dap_history.specs.History.{Entry, In}
 use Rattle.dap_history.specs.Pieces.{Whole}
-use Rattle.dap_message.specs.Canon.{canon}
-use Rattle.dap_message.specs.Laws.{IsOneMessage, IsOneRefusal}
-use Rattle.dap_message.specs.Meaning.{Msg}
-use Rattle.dap_message.specs.ReadBack.{ReadsBack, AllReadBack}
-use Rattle.dap_message.specs.Refusals.{Bad}
-use Rattle.dap_message.specs.declared.fault.BodyRefusal.{BodyRefusal}
-use Rattle.dap_message.specs.declared.message.Message.{Message}
+use Rattle.dap_envelope.specs.Canon.{canon}
+use Rattle.dap_envelope.specs.Laws.{IsOneMessage, IsOneRefusal}
+use Rattle.dap_envelope.specs.Meaning.{Msg}
+use Rattle.dap_envelope.specs.ReadBack.{ReadsBack, AllReadBack}
+use Rattle.dap_envelope.specs.Refusals.{Bad}
+use Rattle.dap_envelope.specs.declared.fault.BodyRefusal.{BodyRefusal}
+use Rattle.dap_envelope.specs.declared.message.Message.{Message}
 use Rattle.dap_session.specs.Carried.{CarriedOut}
 use Rattle.dap_session.specs.Plan.{Plan, written_by, entries_of}
 use Rattle.dap_outbox.specs.Draft.{bytes_of}

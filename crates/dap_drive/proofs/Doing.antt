@@ -12,8 +12,8 @@ use Rattle.dap_frame.specs.Stream.{Split}
 use Rattle.dap_frame.specs.Written.{frame_of}
 use Rattle.dap_frame.specs.declared.limits.Bounds.{Bounds}
 use Rattle.dap_history.specs.History.{Out}
-use Rattle.dap_message.specs.PlainCall.{is_plain_call}
-use Rattle.dap_message.specs.Types.Call.{Call}
+use Rattle.dap_call.specs.PlainCall.{is_plain_call}
+use Rattle.dap_call.specs.declared.call.Call.{Call}
 use Rattle.dap_session.specs.Handling.{turns}
 use Rattle.dap_session.specs.Carried.{CarriedOut}
 use Rattle.dap_session.specs.Plan.{Plan, Made, written_by}
@@ -41,9 +41,9 @@ use Rattle.dap_client.specs.TerminalResponse.{is_plain_terminal, first_terminal_
 use Rattle.dap_client.specs.declared.fault.AnswerFault.{AnswerFault}
 use Rattle.dap_client.specs.declared.fault.AnswerFault.TheVariants as answer_fault
 use Rattle.dap_client.specs.declared.terminal.Terminal.{Terminal}
-use Rattle.dap_message.specs.Canon.{canon}
-use Rattle.dap_message.specs.ReadBack.{ReadsBack, AllReadBack}
-use Rattle.dap_message.specs.declared.message.Message.{Message}
+use Rattle.dap_envelope.specs.Canon.{canon}
+use Rattle.dap_envelope.specs.ReadBack.{ReadsBack, AllReadBack}
+use Rattle.dap_envelope.specs.declared.message.Message.{Message}
 use Rattle.dap_world.specs.Agreement.{EachScheduleAgrees}
 use Rattle.dap_world.specs.World.{World, fresh_world, client_said, adapter_said, Sends, Answers, Turns, Polls, Step as WorldStep, Schedule, by_sending, by_answering, by_turning, by_polling, starts, goes}
 use Rattle.dap_drive.specs.Driven.{AdapterStops}

@@ -6,8 +6,8 @@ use Rattle.dap_frame.specs.Laws.{EachStreamHasOneSplit}
 use Rattle.dap_frame.specs.Settings.{Settings, bounds_of}
 use Rattle.dap_frame.specs.Stream.{FramesThen, Split}
 use Rattle.dap_check.specs.declared.line.Side.{Side}
-use Rattle.dap_message.specs.Canon.{canon}
-use Rattle.dap_message.specs.declared.message.Message.{Message}
+use Rattle.dap_envelope.specs.Canon.{canon}
+use Rattle.dap_envelope.specs.declared.message.Message.{Message}
 use Rattle.dap_world.specs.World.{Said, said_by}
 use Rattle.dap_drive.specs.PrivateLines.{IsBetween, WritesLine, WritesLines, IsUnwritten, lines_of}
 use Rattle.dap_drive.specs.Transcript.{mark_of, line_of, text_of}

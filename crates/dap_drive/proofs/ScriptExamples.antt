@@ -4,8 +4,8 @@ use Rattle.std.specs.Str.{is_utf8, chars}
 use Rattle.serde_json.specs.Data.{object, no_members}
 use Rattle.serde_json.proofs.OnLiterals.{serde_json_on_literals}
 use Rattle.dap_json.specs.Read.{json_of}
-use Rattle.dap_message.specs.Call.{thread_of}
-use Rattle.dap_message.specs.Types.Call.TheVariants as call
+use Rattle.dap_call.specs.Call.{thread_of}
+use Rattle.dap_call.specs.declared.call.Call.TheVariants as call
 use Rattle.dap_client.specs.declared.terminal.Terminal.TheVariants.{Started, Refused}
 use Rattle.dap_check.specs.declared.line.Side.TheVariants.{Client, Adapter}
 use Rattle.dap_drive.specs.Script.{is_skipped, order_of, text_before, text_after}

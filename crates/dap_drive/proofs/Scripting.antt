@@ -2,8 +2,8 @@
 use Rattle.std.proofs.Common.{◌≡◌, ℕ, ◌+◌, ◌<◌, List, [], ◌∷◌, ◌++◌, length, Bool, true, false, Ok, refl, sym, ap, ◌∙◌, subst, arith, append_assoc, append-nil, inl, inr}
 use Rattle.std.proofs.lemmas.List.{length-append}
 use Rattle.std.specs.Str.Lines.{lines}
-use Rattle.dap_message.specs.OneLine.{CanonIsOneLine}
-use Rattle.dap_message.specs.Types.Call.{Call}
+use Rattle.dap_envelope.specs.OneLine.{CanonIsOneLine}
+use Rattle.dap_call.specs.declared.call.Call.{Call}
 use Rattle.dap_client.specs.declared.terminal.Terminal.{Terminal}
 use Rattle.dap_drive.specs.Driven.{Drives, StopsWith, StopsAt, SaysOf}
 use Rattle.dap_world.specs.Agreement.{EachScheduleAgrees}

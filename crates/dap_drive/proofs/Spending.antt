@@ -7,12 +7,12 @@ use Rattle.std.proofs.lemmas.List.{length-append}
 use Rattle.std.specs.List.{flat_map}
 use Rattle.serde_json.specs.Data.{Data}
 use Rattle.dap_frame.specs.Written.{frame_of}
-use Rattle.dap_message.specs.Canon.{canon}
-use Rattle.dap_message.specs.Command.{command_named}
-use Rattle.dap_message.specs.declared.message.Kind.{Kind}
-use Rattle.dap_message.specs.declared.message.Kind.TheVariants.{Request, Response, Event, Other}
-use Rattle.dap_message.specs.declared.message.Message.{Message}
-use Rattle.dap_message.specs.Types.Failure.{Failure}
+use Rattle.dap_envelope.specs.Canon.{canon}
+use Rattle.dap_command.specs.Command.{command_named}
+use Rattle.dap_envelope.specs.declared.message.Kind.{Kind}
+use Rattle.dap_envelope.specs.declared.message.Kind.TheVariants.{Request, Response, Event, Other}
+use Rattle.dap_envelope.specs.declared.message.Message.{Message}
+use Rattle.dap_body.specs.declared.failure.Failure.{Failure}
 use Rattle.dap_tables.specs.Outstanding.{contains_seq, entry_with}
 use Rattle.dap_tables.specs.declared.entry.Entry.{Entry}
 use Rattle.dap_client.specs.Calls.{Takes}

@@ -3,7 +3,7 @@ use Rattle.std.proofs.Common.{◌≡◌, ℕ, List, Bool, true, false, Err, refl
 use Rattle.std.specs.Prelude.{cond}
 use Rattle.std.specs.Str.{IsUtf8, is_utf8}
 use Rattle.std.proofs.lemmas.Str.{IsUtf8-from_is_utf8, is_utf8-from_IsUtf8}
-use Rattle.dap_message.specs.Command.{command_named}
+use Rattle.dap_command.specs.Command.{command_named}
 use Rattle.dap_drive.specs.Script.{known_command, command_in}
 use Rattle.dap_drive.specs.declared.script.LineFault.TheVariants.{Script}
 

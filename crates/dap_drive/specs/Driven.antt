@@ -1,7 +1,7 @@
 -- What comes of a script: the transcript, or why it is not run to its end. The formats are this profile's own.
 use Rattle.std.specs.Prelude.{◌≡◌, ◌⊎◌, ◌+◌, ℕ, List, ◌∷◌, ◌++◌, length, false, Option, Some, None, Ok, Err}
 use Rattle.dap_frame.specs.Settings.{Settings}
-use Rattle.dap_message.specs.Types.Call.{Call as TheCall}
+use Rattle.dap_call.specs.declared.call.Call.{Call as TheCall}
 use Rattle.dap_json.specs.Read.{json_of}
 use Rattle.dap_replay.specs.Played.{shown_of, FollowsPlayed, fresh_played}
 use Rattle.dap_recording.specs.Reading.{verdict_of}

@@ -2,8 +2,8 @@
 use Rattle.std.specs.Prelude.{ℕ, List, [], map}
 use Rattle.dap_frame.specs.Settings.{Settings, bounds_of}
 use Rattle.dap_frame.specs.Stream.{FramesThen}
-use Rattle.dap_message.specs.Canon.{canon}
-use Rattle.dap_message.specs.declared.message.Message.{Message}
+use Rattle.dap_envelope.specs.Canon.{canon}
+use Rattle.dap_envelope.specs.declared.message.Message.{Message}
 
 -- the bytes are just the frames of these bodies
 abbrev pub AreFrames : Settings → List (List ℕ) → List ℕ → Type 0

@@ -4,7 +4,7 @@ use Rattle.dap_frame.specs.Intake.{Intake}
 use Rattle.dap_frame.specs.Settings.{Settings, AreInRange}
 use Rattle.dap_history.specs.History.{Entry}
 use Rattle.dap_debuggee.specs.Shown.{Shown}
-use Rattle.dap_message.specs.Types.Call.{Call as TheCall}
+use Rattle.dap_call.specs.declared.call.Call.{Call as TheCall}
 use Rattle.dap_session.specs.Carried.{Goes}
 use Rattle.dap_session.specs.Plan.{written_by}
 use Rattle.dap_outbox.specs.Draft.{bytes_of}

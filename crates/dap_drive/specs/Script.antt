@@ -7,12 +7,12 @@ use Rattle.serde_json.specs.declared.value.Value.{Value}
 use Rattle.dap_json.specs.Field.{unless_null}
 use Rattle.dap_json.specs.Read.{json_of}
 use Rattle.dap_json.specs.Steps.{◌>>=◌, Returns}
-use Rattle.dap_message.specs.Argument.{Read as ReadCall}
-use Rattle.dap_message.specs.Call.{call_of}
-use Rattle.dap_message.specs.Command.{command_named}
-use Rattle.dap_message.specs.PlainCall.{is_plain_call}
-use Rattle.dap_message.specs.Types.Call.{Call as TheCall}
-use Rattle.dap_message.specs.Types.Command.{Command}
+use Rattle.dap_call.specs.Argument.{Read as ReadCall}
+use Rattle.dap_call.specs.Call.{call_of}
+use Rattle.dap_command.specs.Command.{command_named}
+use Rattle.dap_call.specs.PlainCall.{is_plain_call}
+use Rattle.dap_call.specs.declared.call.Call.{Call as TheCall}
+use Rattle.dap_command.specs.declared.command.Command.{Command}
 use Rattle.dap_client.specs.TerminalResponse.{is_plain_terminal}
 use Rattle.dap_client.specs.declared.terminal.Terminal.TheVariants.{Started, Refused}
 use Rattle.dap_drive.specs.declared.script.LineFault.{LineFault}

@@ -2,7 +2,7 @@
 use Rattle.std.specs.Prelude.{◌≡◌, ℕ, List, [], ◌∷◌, ◌++◌, false, codes}
 use Rattle.std.specs.List.{flat_map}
 use Rattle.std.specs.Str.Lines.{lines}
-use Rattle.dap_message.specs.Canon.{canon}
+use Rattle.dap_envelope.specs.Canon.{canon}
 use Rattle.dap_check.specs.Legal.{IsVerdict}
 use Rattle.dap_check.specs.Transcript.{AreLines}
 use Rattle.dap_check.specs.declared.line.Line.{Line}

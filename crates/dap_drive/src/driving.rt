@@ -17,7 +17,7 @@ use crate::script::{LineFault, Order, read_order};
 use dap_check::split_line;
 use dap_debuggee::Debuggee;
 use dap_frame::Limits;
-use dap_message::laws::canonical_text_is_one_line;
+use dap_envelope::laws::canonical_text_is_one_line;
 use dap_recording::RecordingFault;
 use dap_replay::{Recorded, recorded_stops_last};
 use dap_world::laws::{each_schedule_agrees, references_agree_while_stops_last};

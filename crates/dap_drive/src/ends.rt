@@ -3,7 +3,7 @@ ghost use Rattle.std.specs.Prelude.{◌≡◌, ℕ, ◌+◌, ◌==◌, ◌||◌,
 ghost use Rattle.dap_debuggee.specs.declared.answers.State.{State};
 ghost use Rattle.dap_frame.specs.Intake.{IsUnderWay};
 ghost use Rattle.dap_frame.specs.Settings.{AreInRange, Settings};
-ghost use Rattle.dap_message.specs.PlainCall.{is_plain_call};
+ghost use Rattle.dap_call.specs.PlainCall.{is_plain_call};
 ghost use Rattle.dap_client.specs.TerminalResponse.{is_plain_terminal};
 ghost use Rattle.dap_decision.specs.Table.{is_phase};
 ghost use Rattle.dap_drive.specs.PrivateHeld.{Spends, left_to_do};
@@ -19,8 +19,8 @@ use dap_check::Side;
 use dap_client::{AnswerFault, Client, ClientFault, Got, SendFault, Terminal};
 use dap_debuggee::Debuggee;
 use dap_frame::{Frames, Limits, each_stream_has_one_split, written_is_read_again};
-use dap_message::Call;
-use dap_message::laws::each_body_is_one;
+use dap_call::Call;
+use dap_envelope::laws::each_body_is_one;
 use dap_world::laws::{each_schedule_agrees, moves_are_in_order};
 use std::alloc::{AllocError, Global};
 

@@ -1,13 +1,14 @@
 //! What a line of a script asks for.
 ghost use Rattle.std.specs.Prelude.{◌≡◌, ◌==◌, position, option_map, IfOk, IsTrue};
 ghost use Rattle.serde_json.specs.View.{view};
-ghost use Rattle.dap_message.specs.Lent.{lent_data};
-ghost use Rattle.dap_message.specs.PlainCall.{is_plain_call};
+ghost use Rattle.dap_json.specs.Lent.{lent_data};
+ghost use Rattle.dap_call.specs.PlainCall.{is_plain_call};
 ghost use Rattle.dap_drive.specs.Script.{Gives, GivesArguments, IsPlainOrder, text_before, text_after, command_in, arguments_in, call_in, send_in, order_of};
 
 use dap_client::Terminal;
 use dap_json::{ParseFault, parse};
-use dap_message::{Call, CallFault, Command, read_call};
+use dap_call::{Call, CallFault, read_call};
+use dap_command::Command;
 use serde_json::Value;
 use std::alloc::Global;
 use std::str;

@@ -8,12 +8,12 @@ use Rattle.std.proofs.lemmas.List.{append_assoc, append-nil}
 use Rattle.std.proofs.lemmas.Slice.Eq.{bytes_eq-Decides}
 use Rattle.serde_json.specs.Data.{Data, Num, unsigned, negative, float}
 use Rattle.serde_json.specs.Find.{as_bool}
-use Rattle.dap_message.specs.Capabilities.{has, is_flag, passes}
-use Rattle.dap_message.specs.Command.{command_named, gate_of}
-use Rattle.dap_message.specs.Types.Command.{Command}
-use Rattle.dap_message.specs.Types.Gate.{Gate}
-use Rattle.dap_message.specs.declared.message.Kind.{Kind}
-use Rattle.dap_message.specs.declared.message.Kind.TheVariants.{Request, Response, Event, Other}
+use Rattle.dap_command.specs.Capabilities.{has, is_flag, passes}
+use Rattle.dap_command.specs.Command.{command_named, gate_of}
+use Rattle.dap_command.specs.declared.command.Command.{Command}
+use Rattle.dap_command.specs.declared.command.Gate.{Gate}
+use Rattle.dap_envelope.specs.declared.message.Kind.{Kind}
+use Rattle.dap_envelope.specs.declared.message.Kind.TheVariants.{Request, Response, Event, Other}
 use Rattle.dap_check.specs.Lines.{other_side, is_among, is_request_among, is_request_for, arguments_of, body_of, is_of, asks, asks_as, asks_for, answers, succeeds, is_adapter_event}
 use Rattle.dap_check.specs.Laws.{OpenIsAPlace, SomeIsAPlace}
 use Rattle.dap_check.specs.Places.{named_by, switches_on, switches_off, OfferIsByPlaces}

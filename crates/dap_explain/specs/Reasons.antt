@@ -1,10 +1,10 @@
 -- Why a line breaks a rule, told by the earlier lines that it stands against.
 use Rattle.std.specs.Prelude.{◌≡◌, ℕ, List, [], ◌∷◌, ◌+◌, ◌==◌, Bool, false, ◌&&◌, ◌||◌, codes, count_by, if◌then◌else◌, Option, Some, None, is_some, is_none, option_map, option_and_then}
 use Rattle.serde_json.specs.Data.{Data, Num, unsigned, negative, float}
-use Rattle.dap_message.specs.Command.{command_named, gate_of}
-use Rattle.dap_message.specs.Types.Gate.{Gate}
-use Rattle.dap_message.specs.declared.message.Kind.{Kind}
-use Rattle.dap_message.specs.declared.message.Kind.TheVariants.{Request, Response, Event, Other}
+use Rattle.dap_command.specs.Command.{command_named, gate_of}
+use Rattle.dap_command.specs.declared.command.Gate.{Gate}
+use Rattle.dap_envelope.specs.declared.message.Kind.{Kind}
+use Rattle.dap_envelope.specs.declared.message.Kind.TheVariants.{Request, Response, Event, Other}
 use Rattle.dap_check.specs.Since.{first_since, last_since, Past}
 use Rattle.dap_check.specs.Lines.{other_side, is_request_among, is_request_for, arguments_of, is_of, asks, asks_as, asks_for, answers, succeeds, is_adapter_event}
 use Rattle.dap_check.specs.Places.{decided_by, switches_on, switches_off}

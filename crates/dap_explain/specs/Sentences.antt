@@ -1,6 +1,6 @@
 -- A finding's reason in one sentence, in the protocol's words. The sentences are this profile's choice.
 use Rattle.std.specs.Prelude.{ℕ, List, [], ◌∷◌, codes, decimal, flat_map, Some, None}
-use Rattle.dap_message.specs.Command.{flag_of}
+use Rattle.dap_command.specs.Command.{flag_of}
 use Rattle.dap_explain.specs.Reasons.{key_of}
 use Rattle.dap_explain.specs.declared.reason.Reason.{Reason}
 use Rattle.dap_explain.specs.declared.reason.Reason.TheVariants.{Numbered, NotAsked, Answered, OtherCommand, Waits, NotInitialize, FirstWaits, NeverAsked, InitializeWaits, InitializeFailed, NotInitialized, NotOffered, Negative, NeverGiven, OtherKind, Gone, Ended}

@@ -2,7 +2,7 @@
 ghost use Rattle.std.specs.Prelude.{◌≡◌, ◌⊎◌, ◌==◌, ◌-◌, ◌^◌, ◌<◌, ◌∷◌, ◌++◌, List, ℕ, false, IfOk, IfErr, option_map};
 ghost use Rattle.std.specs.List.{list_any};
 ghost use Rattle.std.specs.Str.Lines.{lines};
-ghost use Rattle.dap_message.specs.Lent.{lent_data};
+ghost use Rattle.dap_json.specs.Lent.{lent_data};
 ghost use Rattle.dap_check.specs.Lines.{other_side, asks_as, asks_for, answers};
 ghost use Rattle.dap_explain.specs.Reasons.{trail, is_open_still, reason_of, why_number, why_waiting, not_asked_reason, why_not_asked, second_request_reason, why_early, no_initialize_reason, why_uninitialized, why_refused, gate_asked, not_given_reason, why_unknown, gives, other_kind, key_of, number_reason, kind_named, why_ended};
 ghost use Rattle.dap_check.specs.Rules.{number_at, resumes};
@@ -15,7 +15,8 @@ use crate::trail::{Opened, Trail, Watch};
 use crate::walking::{Search, text_at, walk};
 use dap_check::laws::texts_are_read_in_one_way;
 use dap_check::{CheckFault, Line, Rule, Side, read_line, words};
-use dap_message::{Command, Gate, Kind};
+use dap_command::{Command, Gate};
+use dap_envelope::Kind;
 use serde_json::Value;
 use std::alloc::Global;
 

@@ -1,7 +1,7 @@
 //! Why a line breaks a rule, and against which earlier line it stands.
 ghost use Rattle.std.specs.Prelude.{◌≡◌};
 
-use dap_message::Gate;
+use dap_command::Gate;
 
 /// Which of the two kinds a reference is of, by the key that names it.
 #[derive(Clone, Copy, Debug, PartialEq, Eq)]

@@ -3,7 +3,7 @@ ghost use Rattle.std.specs.Prelude.{◌≡◌, ◌∷◌, ◌++◌, [], decimal,
 ghost use Rattle.dap_explain.specs.Sentences.{joined_text, other_words, sentence_of, part_text};
 
 use crate::reason::{Reason, ReferenceKind};
-use dap_message::Gate;
+use dap_command::Gate;
 use itoa::Buffer;
 use std::alloc::{AllocError, Global};
 

@@ -1,7 +1,7 @@
 //! What is looked for among the earlier lines, and what is found.
 ghost use Rattle.std.specs.Prelude.{◌≡◌, ◌+◌, ◌-◌, ◌^◌, ◌<◌, ◌≤◌, ◌∷◌, []};
-ghost use Rattle.dap_message.specs.Lent.{lent_data};
-ghost use Rattle.dap_message.specs.GivenReferences.{frame_ids, holders_of};
+ghost use Rattle.dap_json.specs.Lent.{lent_data};
+ghost use Rattle.dap_command.specs.GivenReferences.{frame_ids, holders_of};
 ghost use Rattle.serde_json.specs.View.{view};
 ghost use Rattle.dap_check.specs.Places.{decided_by, named_by};
 ghost use Rattle.dap_explain.specs.PrivateTrails.{closed_after, trail_after, opens_of, closes_of};
@@ -10,7 +10,8 @@ ghost use Rattle.dap_check.specs.Rules.{contains_number, gives_frame as frame_gi
 use crate::reason::ReferenceKind;
 use dap_check::{Line, Side, words};
 use dap_json::field;
-use dap_message::{Capabilities, Command, Gate, Kind, frames_given, holders_given};
+use dap_command::{Capabilities, Command, Gate, frames_given, holders_given};
+use dap_envelope::Kind;
 use serde_json::Value;
 
 /// A line that was looked for.

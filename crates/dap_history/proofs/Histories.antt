@@ -5,11 +5,11 @@ use Rattle.std.specs.List.{list_any}
 use Rattle.std.proofs.lemmas.List.Folds.{list_any-append}
 use Rattle.std.proofs.lemmas.List.Elements.{filter-append}
 use Rattle.dap_history.specs.History.{Entry, Way, Asked, Answered, waiting, if_unanswered, is_answered_in, has_request_seq, request_at, response_at, without_answered, In, Out, ReferencesEnd, ins_of, outs_of}
-use Rattle.dap_message.specs.declared.message.Message.{Message}
+use Rattle.dap_envelope.specs.declared.message.Message.{Message}
 use Rattle.dap_history.specs.Answers.{Answers, AnswersOne}
 use Rattle.dap_history.specs.HistoryLaws.{HistoriesGrow}
 use Rattle.dap_history.specs.Received.{AreRead}
-use Rattle.dap_message.specs.Meaning.{Msg}
+use Rattle.dap_envelope.specs.Meaning.{Msg}
 
 cut-if_unanswered : (a b : Bool) (q : Asked) → (if a || b then [] else q ∷ []) ≡ filter (λ (p : Asked). not b) (if a then [] else q ∷ [])
 cut-if_unanswered true true q = refl

@@ -3,8 +3,8 @@ use Rattle.std.specs.Prelude.{◌≡◌, ℕ, List, [], ◌∷◌, ◌++◌, opt
 use Rattle.dap_history.specs.History.{Entry, Way, waiting, without_answered, request_at, response_at, ins_of, outs_of}
 use Rattle.dap_history.specs.Answers.{Answers, AnswersOne}
 use Rattle.dap_history.specs.Received.{AreRead}
-use Rattle.dap_message.specs.Meaning.{Msg}
-use Rattle.dap_message.specs.declared.message.Message.{Message}
+use Rattle.dap_envelope.specs.Meaning.{Msg}
+use Rattle.dap_envelope.specs.declared.message.Message.{Message}
 
 pub record HistoriesGrow : Type 0 where
   -- a response ends the waiting of what it answers, and a request begins to wait

@@ -3,8 +3,8 @@ use Rattle.std.specs.Prelude.{◌≡◌, ℕ, ◌<◌, List, length}
 use Rattle.dap_frame.specs.Feeds.{Completes, Closes}
 use Rattle.dap_frame.specs.Intake.{Intake}
 use Rattle.dap_frame.specs.declared.frames.FrameFault.{FrameFault}
-use Rattle.dap_message.specs.Refusals.{Bad}
-use Rattle.dap_message.specs.declared.fault.BodyRefusal.{BodyRefusal}
+use Rattle.dap_envelope.specs.Refusals.{Bad}
+use Rattle.dap_envelope.specs.declared.fault.BodyRefusal.{BodyRefusal}
 
 -- a body is whole, after the first n bytes of the piece
 pub record Whole (old : Intake) (piece : List ℕ) (n : ℕ) : Type 0 where

@@ -1,8 +1,8 @@
 -- What came to an end: the bytes that it used, and the messages that their whole frames are.
 use Rattle.std.specs.Prelude.{ℕ, List, [], ◌∷◌}
 use Rattle.dap_frame.specs.Intake.{Intake, IsUnderWay, StandsFor as StandsForStream}
-use Rattle.dap_message.specs.Meaning.{Msg}
-use Rattle.dap_message.specs.declared.message.Message.{Message}
+use Rattle.dap_envelope.specs.Meaning.{Msg}
+use Rattle.dap_envelope.specs.declared.message.Message.{Message}
 use Rattle.dap_history.specs.History.{Entry, ins_of}
 
 -- the bodies are these messages, one by one

@@ -15,8 +15,8 @@ use Rattle.dap_frame.specs.Written.{frame_of}
 use Rattle.dap_frame.specs.declared.limits.Bounds.{Bounds}
 use Rattle.dap_live.specs.LiveLaws.{FollowsLive}
 use Rattle.dap_live.specs.LiveShown.{LiveState, shown_live}
-use Rattle.dap_message.specs.ReadBack.{AllReadBack}
-use Rattle.dap_message.specs.declared.message.Message.{Message}
+use Rattle.dap_envelope.specs.ReadBack.{AllReadBack}
+use Rattle.dap_envelope.specs.declared.message.Message.{Message}
 use Rattle.dap_outbox.specs.Draft.{bytes_of}
 use Rattle.dap_recording.specs.declared.recording.RecordedSource.{RecordedSource}
 use Rattle.dap_session.specs.Polling.{has_debuggee}

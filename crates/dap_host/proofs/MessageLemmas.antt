@@ -1,9 +1,9 @@
 -- What an adapter wrote is listed as a line for each message.
 use Rattle.std.proofs.Common.{◌≡◌, ℕ, ◌<◌, ◌≤◌, ◌^◌, List, [], ◌∷◌, ◌++◌, length, refl, sym, ap, ◌∙◌, append_assoc, append-nil, arith}
 use Rattle.dap_frame.specs.Written.{frame_of}
-use Rattle.dap_message.specs.Canon.{canon}
-use Rattle.dap_message.specs.ReadBack.{AllReadBack}
-use Rattle.dap_message.specs.declared.message.Message.{Message}
+use Rattle.dap_envelope.specs.Canon.{canon}
+use Rattle.dap_envelope.specs.ReadBack.{AllReadBack}
+use Rattle.dap_envelope.specs.declared.message.Message.{Message}
 use Rattle.dap_outbox.specs.Draft.{bytes_of}
 use Rattle.dap_host.specs.Written.{marked_line, message_lines}
 

@@ -4,16 +4,16 @@ use Rattle.std.specs.Fmt.{signed_decimal}
 use Rattle.std.specs.List.{flat_map}
 use Rattle.json.specs.Print.{print}
 use Rattle.json.specs.Token.{Token, begin_object, end_object, begin_array, end_array, key, string, number}
-use Rattle.dap_call.specs.declared.call.SourceKey.{SourceKey}
-use Rattle.dap_call.specs.declared.call.SourceKey.TheVariants.{Path, Reference}
+use Rattle.dap_command.specs.declared.source_key.SourceKey.{SourceKey}
+use Rattle.dap_command.specs.declared.source_key.SourceKey.TheVariants.{Path, Reference}
 use Rattle.dap_debuggee.specs.declared.answers.How.{How}
 use Rattle.dap_debuggee.specs.declared.answers.How.TheVariants.{StepIn, Next, StepOut, Continue, StepBack, ReverseContinue}
 use Rattle.dap_live.specs.declared.mail.Dropped.{Dropped as Drop}
 use Rattle.dap_live.specs.declared.mail.Dropped.TheVariants.{OutOfTurn, OutOfRange, TooManySources, Told, TooManyHolders}
 use Rattle.dap_live.specs.declared.mail.HostAct.{HostAct}
 use Rattle.dap_live.specs.declared.mail.HostAct.TheVariants.{Start, Resume, Pause, SetBreakpoints, Assign, End}
-use Rattle.dap_message.specs.Canon.{canon}
-use Rattle.dap_message.specs.declared.message.Message.{Message}
+use Rattle.dap_envelope.specs.Canon.{canon}
+use Rattle.dap_envelope.specs.declared.message.Message.{Message}
 use Rattle.dap_recording.specs.RecordingKey.{name_of}
 use Rattle.dap_stream.specs.Lines.{name_of_body_refusal}
 use Rattle.dap_tables.specs.declared.reference_kind.ReferenceKind.{ReferenceKind}

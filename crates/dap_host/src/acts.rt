@@ -5,7 +5,7 @@ ghost use Rattle.dap_body.specs.Adds.{Adds};
 ghost use Rattle.dap_host.specs.Written.{how_name as how_name_of, text_member, number_member, thread_member, source_member, lines_member, act_members, act_tokens, act_line, act_lines};
 ghost use Rattle.dap_live.specs.declared.mail.HostAct.{HostAct};
 
-use dap_call::SourceKey;
+use dap_command::SourceKey;
 use dap_debuggee::How;
 use dap_json::{List, Text};
 use dap_live::HostAct;

@@ -139,8 +139,8 @@ impl Host {
     ghost use Rattle.dap_host.specs.Written.{message_lines, refusal_line, target_line};
     ghost use Rattle.dap_host.specs.declared.told.Said.{Said};
     ghost use Rattle.dap_tables.specs.References.{target_of};
-    ghost use Rattle.dap_message.specs.ReadBack.{AllReadBack};
-    ghost use Rattle.dap_message.specs.declared.message.Message.{Message};
+    ghost use Rattle.dap_envelope.specs.ReadBack.{AllReadBack};
+    ghost use Rattle.dap_envelope.specs.declared.message.Message.{Message};
     ghost use Rattle.dap_outbox.specs.Draft.{bytes_of};
     ghost use Rattle.dap_session.specs.Polling.{has_debuggee};
 

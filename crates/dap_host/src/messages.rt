@@ -1,7 +1,7 @@
 //! The lines of what an adapter wrote.
 ghost use Rattle.std.specs.Prelude.{◌≡◌, ◌++◌, List, OnOk};
-ghost use Rattle.dap_message.specs.ReadBack.{AllReadBack};
-ghost use Rattle.dap_message.specs.declared.message.Message.{Message};
+ghost use Rattle.dap_envelope.specs.ReadBack.{AllReadBack};
+ghost use Rattle.dap_envelope.specs.declared.message.Message.{Message};
 ghost use Rattle.dap_outbox.specs.Draft.{bytes_of};
 ghost use Rattle.dap_host.specs.Written.{marked_line, message_lines};
 

@@ -8,12 +8,12 @@ ghost use Rattle.serde_json.specs.View.{view, members_view};
 ghost use Rattle.dap_json.specs.ObjectReader.{IsRestOf};
 ghost use Rattle.dap_json.specs.Read.{json_of};
 ghost use Rattle.dap_json.specs.declared.bytes.ParseFault.{ParseFault};
-ghost use Rattle.dap_message.specs.Refusals.{Bad};
+ghost use Rattle.dap_envelope.specs.Refusals.{Bad};
 ghost use Rattle.dap_host.specs.Hearing.{IsMessage};
 
 use dap_json::object_reader::{Invalid, ObjectReader, Scratch};
 use dap_json::{ParseFault, parse};
-use dap_message::{BodyFault, BodyRefusal, read_heading, read_message_with};
+use dap_envelope::{BodyFault, BodyRefusal, read_heading, read_message_with};
 use serde_json::{Map, Value};
 use std::alloc::{AllocError, AllocFailed, Global};
 

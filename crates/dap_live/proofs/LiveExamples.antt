@@ -1,6 +1,6 @@
 -- Worked examples of what a host's debuggee drops, answers and shows, each shown by computation.
 use Rattle.std.proofs.Common.{◌≡◌, List, ℕ, [], ◌∷◌, codes, length, replicate, Bool, true, false, Option, None, Some, pos, refl, inl, inr}
-use Rattle.dap_call.specs.declared.call.SourceKey.TheVariants.{Reference}
+use Rattle.dap_command.specs.declared.source_key.SourceKey.TheVariants.{Reference}
 use Rattle.dap_debuggee.specs.Shown.{to_start, to_resume, to_pause, to_poll, to_assign, done, refused, happened}
 use Rattle.dap_debuggee.specs.declared.answers.State.TheVariants.{NotStarted, Running, Stopped, Gone}
 use Rattle.dap_debuggee.specs.declared.answers.How.TheVariants.{Next}

@@ -4,7 +4,7 @@ use Rattle.std.proofs.lemmas.Bool.{eqb-true}
 use Rattle.std.specs.Prelude.{option_and_then}
 use Rattle.std.specs.List.{slice_get}
 use Rattle.std.specs.Option.{IsSome}
-use Rattle.dap_call.specs.declared.call.SourceKey.{SourceKey}
+use Rattle.dap_command.specs.declared.source_key.SourceKey.{SourceKey}
 use Rattle.dap_debuggee.specs.Shown.{Act, to_start, to_resume, to_pause, to_poll, to_set_breakpoints, to_assign, to_end, Reply, done, refused, happened, asked_of_act, Last}
 use Rattle.dap_debuggee.specs.Laws.{may_answer, state_after, lines_after, keeps_answers, keeps_frames, variable_named, with_value, children_after, Stays, Counts, Remembers, Answers, Moves, SetsLines, SetsValues, KeepsAnswers, KeepsFrames, KeepsSources, FramesStay, SourcesStay, SameFrames, SameSources, NoThreads, VerifiesEach, AssignsVariables}
 use Rattle.dap_debuggee.specs.StayLaws.{frames-stay, sources-stay}

@@ -1,6 +1,6 @@
 //! What is dropped of what a host says.
 ghost use Rattle.std.specs.Prelude.{◌≡◌};
-ghost use Rattle.dap_call.specs.Argument.{is_int};
+ghost use Rattle.dap_command.specs.Numbers.{is_int};
 ghost use Rattle.dap_debuggee.specs.Laws.{is_short, may_happen};
 ghost use Rattle.dap_live.specs.Dropping.{why_dropped, EachDropHasItsReason};
 

@@ -9,7 +9,7 @@ use crate::dropping::why_dropped;
 use crate::held::{Learned, Live, LiveLast};
 use crate::here::Here;
 use crate::mail::{Coming, Dropped, HostAct};
-use dap_call::SourceKey;
+use dap_command::SourceKey;
 use dap_debuggee::{
     Asked, Assigned, Debuggee, DebuggeeFault, Evaluation, Frame, Happening, How, Scope, Source,
     State, Thread, Variable,

@@ -2,7 +2,7 @@
 //!
 //! Contracts see nothing of it: no clause says what a cell holds.
 
-use dap_call::SourceKey;
+use dap_command::SourceKey;
 use dap_debuggee::{Category, How, Variable};
 use dap_json::{List, Text};
 use dap_replay::Recorded;

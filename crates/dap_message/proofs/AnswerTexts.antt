@@ -6,8 +6,8 @@ use Rattle.serde_json.specs.Data.{Data, object, Members}
 use Rattle.serde_json.specs.Written.{members_outline, members_text, compact_text}
 use Rattle.serde_json.proofs.Texts.{print-outline}
 use Rattle.dap_message.specs.PrivateAnswering.{with_body, with_arguments}
-use Rattle.dap_message.specs.Canon.{canon, tree_of, request_members, response_members, event_members}
-use Rattle.dap_message.specs.declared.message.Kind.TheVariants.{Request, Response, Event}
+use Rattle.dap_envelope.specs.Canon.{canon, tree_of, request_members, response_members, event_members}
+use Rattle.dap_envelope.specs.declared.message.Kind.TheVariants.{Request, Response, Event}
 
 tail : List ℕ → List ℕ
 tail [] = []

@@ -9,27 +9,27 @@ use Rattle.serde_json.specs.Data.{Data, boolean, object, Members, no_members}
 use Rattle.serde_json.specs.Find.{of_integer}
 use Rattle.serde_json.specs.Written.{number_text}
 use Rattle.dap_json.specs.Field.{max_seq}
-use Rattle.dap_call.specs.Argument.{is_int}
-use Rattle.dap_call.specs.Capabilities.{capabilities_data, with_flag}
-use Rattle.dap_call.specs.Command.{flag_of}
-use Rattle.dap_call.specs.declared.capabilities.Capabilities.{Capabilities}
-use Rattle.dap_call.specs.declared.command.Gate.{Gate}
-use Rattle.dap_call.specs.declared.command.Gate.TheVariants as gate
-use Rattle.dap_call.specs.declared.key.Key.{Key}
-use Rattle.dap_call.specs.declared.key.Key.TheVariants as key
+use Rattle.dap_command.specs.Numbers.{is_int}
+use Rattle.dap_command.specs.Capabilities.{capabilities_data, with_flag}
+use Rattle.dap_command.specs.Command.{flag_of}
+use Rattle.dap_command.specs.declared.capabilities.Capabilities.{Capabilities}
+use Rattle.dap_command.specs.declared.command.Gate.{Gate}
+use Rattle.dap_command.specs.declared.command.Gate.TheVariants as gate
+use Rattle.dap_command.specs.declared.key.Key.{Key}
+use Rattle.dap_command.specs.declared.key.Key.TheVariants as key
 use Rattle.dap_body.specs.Failure.{row_of, bad_argument_format, failure_body}
-use Rattle.dap_call.specs.PlainCall.{is_number, is_none_or}
+use Rattle.dap_command.specs.Numbers.{is_number, is_none_or}
 use Rattle.dap_body.specs.Body.{data_in}
 use Rattle.dap_body.specs.ResponseBody.{run_in_terminal_body}
 use Rattle.dap_body.specs.declared.body.Body.{Body}
 use Rattle.dap_body.specs.declared.body.Body.TheVariants.{Initialize, Continue, RunInTerminal}
 use Rattle.dap_body.specs.declared.failure.Failure.{Failure}
 use Rattle.dap_body.specs.declared.failure.Failure.TheVariants.{NotInitialized, BadArguments}
-use Rattle.dap_message.specs.Canon.{canon, tree_of, members_of, response_members, event_members}
+use Rattle.dap_envelope.specs.Canon.{canon, tree_of, members_of, response_members, event_members}
 use Rattle.dap_message.specs.MessageParts.{failure_response, success_response, event_message, has_fixed_shape, AdapterEvent, initialized, output, stopped, continued, exited, terminated, event_name, event_body}
 use Rattle.dap_message.specs.Lengths.{is_exit_code, IsWithin, FailuresAreShort, FixedResponsesAreShort, EventsAreShort}
-use Rattle.dap_message.specs.Refusals.{max_command}
-use Rattle.dap_message.specs.declared.message.Message.{Message}
+use Rattle.dap_envelope.specs.Refusals.{max_command}
+use Rattle.dap_envelope.specs.declared.message.Message.{Message}
 use Rattle.dap_message.proofs.Sizes.{quoted_le, size, members_size, length-compact_text, put_size}
 
 length-canon : (m : Message) → length (canon m) ≡ size (object (members_of m.seq m.kind))

@@ -11,12 +11,12 @@ use Rattle.dap_body.specs.declared.body.Body.{Body}
 use Rattle.dap_body.specs.declared.event.EventBody.{EventBody}
 use Rattle.dap_body.specs.declared.failure.Failure.{Failure}
 use Rattle.dap_body.specs.declared.failure.Failure.TheVariants.{NotInitialized, AlreadyInitialized, UnknownCommand, Unsupported, BadArguments, WrongPhase, NotStopped, UnknownThread, StaleReference, UnknownSource, Debuggee, TooManyBreakpoints, TooManyReferences, ReferencesExhausted, TooLarge, Busy, Cancelled, TerminalRefused}
-use Rattle.dap_message.specs.Canon.{canon}
-use Rattle.dap_message.specs.Laws.{WrittenIsReadAgain}
+use Rattle.dap_envelope.specs.Canon.{canon}
+use Rattle.dap_envelope.specs.Laws.{WrittenIsReadAgain}
 use Rattle.dap_message.specs.MessageParts.{request_message, failure_response, success_response, event_message}
-use Rattle.dap_message.specs.Meaning.{Msg}
-use Rattle.dap_message.specs.Refusals.{max_command}
-use Rattle.dap_message.specs.SoundMessage.{IsSoundTree}
+use Rattle.dap_envelope.specs.Meaning.{Msg}
+use Rattle.dap_envelope.specs.Refusals.{max_command}
+use Rattle.dap_envelope.specs.SoundMessage.{IsSoundTree}
 use Rattle.dap_body.proofs.PlainBodies.{failure_bodies_are_plain, body_is_plain, event_is_plain}
 
 within : (n most : ℕ) → n ≤ most → nat_le n most ≡ true

@@ -2,14 +2,14 @@
 -- Specification, "ErrorResponse", "InitializeResponse", "ContinueResponse", "RunInTerminalResponse" and "Events". The limits, and that 1024 bytes are enough, are this profile's choice.
 use Rattle.std.specs.Prelude.{ℕ, ◌≤◌, ◌&&◌, ℤ, pos, negsuc, int_le, List, length, Bool, Option, IsTrue, ⊤}
 use Rattle.dap_json.specs.Field.{max_seq}
-use Rattle.dap_call.specs.Argument.{is_int}
+use Rattle.dap_command.specs.Numbers.{is_int}
 use Rattle.dap_body.specs.Body.{data_in}
 use Rattle.dap_body.specs.declared.body.Body.{Body}
 use Rattle.dap_body.specs.declared.failure.Failure.{Failure}
 use Rattle.dap_message.specs.MessageParts.{failure_response, success_response, event_message, has_fixed_shape, AdapterEvent, initialized, output, stopped, continued, exited, terminated, event_name, event_body}
-use Rattle.dap_message.specs.Canon.{canon}
-use Rattle.dap_message.specs.Refusals.{max_command}
-use Rattle.dap_message.specs.declared.message.Message.{Message}
+use Rattle.dap_envelope.specs.Canon.{canon}
+use Rattle.dap_envelope.specs.Refusals.{max_command}
+use Rattle.dap_envelope.specs.declared.message.Message.{Message}
 
 -- -2147483648 to 2147483647
 abbrev pub is_exit_code : ℤ → Bool

@@ -2,14 +2,14 @@
 -- Specification, "ErrorResponse", "InitializeResponse", "ContinueResponse" and "Events".
 use Rattle.std.specs.Prelude.{ℕ, ℤ, List, codes, ◌&&◌, Bool, false, true, Option, Some, None}
 use Rattle.serde_json.specs.Data.{Data}
-use Rattle.dap_call.specs.PlainCall.{is_number, is_none_or}
+use Rattle.dap_command.specs.Numbers.{is_number, is_none_or}
 use Rattle.dap_body.specs.Failure.{row_of, failure_body}
 use Rattle.dap_body.specs.EventBody.{output_body, stopped_body, continued_body, exited_body}
 use Rattle.dap_body.specs.declared.body.Body.{Body}
 use Rattle.dap_body.specs.declared.body.Body.TheVariants.{Initialize, Continue, RunInTerminal}
 use Rattle.dap_body.specs.declared.failure.Failure.{Failure}
-use Rattle.dap_message.specs.declared.message.Message.{Message}
-use Rattle.dap_message.specs.declared.message.Kind.TheVariants.{Request, Response, Event}
+use Rattle.dap_envelope.specs.declared.message.Message.{Message}
+use Rattle.dap_envelope.specs.declared.message.Kind.TheVariants.{Request, Response, Event}
 
 -- ---- the kinds
 

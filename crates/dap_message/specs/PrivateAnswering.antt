@@ -4,7 +4,7 @@ use Rattle.std.specs.Prelude.{ℕ, List, [], ◌∷◌, ◌++◌, codes, decimal
 use Rattle.json.specs.Token.{Token, key, number, boolean, string, end_object}
 use Rattle.serde_json.specs.Data.{Data, Members}
 use Rattle.serde_json.specs.Written.{compact_text}
-use Rattle.dap_message.specs.Canon.{request_members, response_members, event_members}
+use Rattle.dap_envelope.specs.Canon.{request_members, response_members, event_members}
 use Rattle.dap_message.specs.declared.answering.End.{End}
 use Rattle.dap_message.specs.declared.answering.End.TheVariants.{Request, Success, Failure, Event}
 

@@ -12,13 +12,13 @@ ghost use Rattle.dap_body.specs.Adds.{Adds};
 ghost use Rattle.dap_body.specs.Body.{data_in, event_data_in};
 ghost use Rattle.dap_body.specs.Failure.{failure_body};
 ghost use Rattle.dap_message.specs.PrivateAnswering.{with_body, with_arguments, end_members, response_end};
-ghost use Rattle.dap_message.specs.Canon.{canon, request_members, event_members, response_members};
+ghost use Rattle.dap_envelope.specs.Canon.{canon, request_members, event_members, response_members};
 ghost use Rattle.dap_message.specs.MessageParts.{request_message, failure_response, success_response, event_message};
-ghost use Rattle.dap_message.specs.Meaning.{Msg};
-ghost use Rattle.dap_message.specs.Refusals.{max_command};
-ghost use Rattle.dap_message.specs.SoundMessage.{IsSoundTree};
+ghost use Rattle.dap_envelope.specs.Meaning.{Msg};
+ghost use Rattle.dap_envelope.specs.Refusals.{max_command};
+ghost use Rattle.dap_envelope.specs.SoundMessage.{IsSoundTree};
 
-use crate::laws::written_is_read_again;
+use dap_envelope::laws::written_is_read_again;
 use dap_body::{Body, EventBody, Failure, append_body, append_event_body, append_failure_body};
 use dap_json::Tree;
 use dap_json::laws::what_is_read_is_sound;

@@ -1,20 +1,14 @@
-//! Messages of the Debug Adapter Protocol: from bytes and back.
+//! The texts of requests, responses and events, written with no tree of the message; and all names that a caller needs to read
+//! and write messages.
 //!
-//! Overview, "Base Protocol", of the content part; Specification, "ProtocolMessage", "Request",
-//! "Response", "Event". Header fields are a lower layer's. What commands ask and what an adapter answers is told by
-//! `dap_call` and `dap_body`, whose names are handed on here, so that a caller needs this crate alone.
+//! Specification, "Request", "Response", "ErrorResponse" and "Event". What a message is, and how it is read, is told by
+//! `dap_envelope`, what commands ask and an adapter answers by `dap_call` and `dap_body`, whose names are handed on here, so
+//! that a caller needs this crate alone. The crates beside this one name those that they stand on. Header fields are a lower
+//! layer's.
 #![tactic(auto)]
 
 mod answering;
-mod fault;
-mod heading;
 pub mod laws;
-mod message;
-mod one_pass;
-mod parts;
-mod reading;
-mod response_references;
-mod writing;
 
 pub use answering::{append_answer, append_event, append_failure, append_request};
 pub use dap_body::{
@@ -29,12 +23,10 @@ pub use dap_call::{
     RUN_IN_TERMINAL, SetVariable, SourceKey, StackTrace, TerminalCall, Variables, frames_given,
     holders_given, read_call, read_terminal, write_call, write_terminal,
 };
+pub use dap_envelope::{
+    BodyFault, BodyRefusal, Event, Heading, HeadingKind, Kind, MAX_COMMAND, Message, Noted,
+    Response, heading_of, none_noted, note_member, read_heading, read_heading_and_references,
+    read_message, read_message_with, write_message,
+};
 pub use dap_json::object_reader::Scratch;
 pub use dap_json::{List, Text, Tree};
-pub use fault::{BodyFault, BodyRefusal};
-pub use heading::{Heading, HeadingKind, Noted, heading_of, none_noted, note_member, read_heading};
-pub use message::{Kind, MAX_COMMAND, Message};
-pub use parts::{Event, Response};
-pub use reading::{read_message, read_message_with};
-pub use response_references::read_heading_and_references;
-pub use writing::write_message;

@@ -5,21 +5,21 @@ use Rattle.std.proofs.Math.Seq.{take-append_seam, drop-append_seam}
 use Rattle.std.proofs.lemmas.List.{append-nil, drop-append-le, take-append-le}
 use Rattle.dap_json.specs.Field.{max_seq}
 use Rattle.dap_frame.specs.Written.{frame_of}
-use Rattle.dap_message.specs.Body.{data_in}
+use Rattle.dap_body.specs.Body.{data_in}
 use Rattle.json.specs.Print.{escape_byte}
 use Rattle.serde_json.specs.Data.{object}
 use Rattle.std.specs.Fmt.{digits}
 use Rattle.std.proofs.lemmas.Fmt.{length-decimal-le}
-use Rattle.dap_message.specs.Canon.{canon, tree_of, members_of, request_members}
-use Rattle.dap_message.specs.Terminal.{run_in_terminal, terminal_members}
+use Rattle.dap_envelope.specs.Canon.{canon, tree_of, members_of, request_members}
+use Rattle.dap_call.specs.Terminal.{run_in_terminal, terminal_members}
 use Rattle.dap_message.proofs.Sizes.{length-compact_text}
 use Rattle.dap_message.specs.MessageParts.{failure_response, success_response, has_fixed_shape}
 use Rattle.dap_message.specs.Lengths.{max_fixed, FailuresAreShort, FixedResponsesAreShort}
-use Rattle.dap_message.specs.Meaning.{Msg}
-use Rattle.dap_message.specs.ReadBack.{ReadsBack, AllReadBack}
-use Rattle.dap_message.specs.Refusals.{max_command}
-use Rattle.dap_message.specs.Types.Failure.{Failure}
-use Rattle.dap_message.specs.declared.message.Message.{Message}
+use Rattle.dap_envelope.specs.Meaning.{Msg}
+use Rattle.dap_envelope.specs.ReadBack.{ReadsBack, AllReadBack}
+use Rattle.dap_envelope.specs.Refusals.{max_command}
+use Rattle.dap_body.specs.declared.failure.Failure.{Failure}
+use Rattle.dap_envelope.specs.declared.message.Message.{Message}
 use Rattle.dap_tables.specs.declared.entry.Entry.{Entry}
 use Rattle.dap_tables.specs.Seq.{Numbers}
 use Rattle.dap_outbox.specs.InRange.{IsRequestInRange, IsDraftInRange}

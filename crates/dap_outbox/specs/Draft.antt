@@ -4,15 +4,15 @@ use Rattle.std.specs.Prelude.{ℕ, ◌+◌, List, [], ◌∷◌, ◌++◌, codes
 use Rattle.std.specs.List.{flat_map}
 use Rattle.serde_json.specs.Data.{Data}
 use Rattle.dap_frame.specs.Written.{frame_of}
-use Rattle.dap_message.specs.Canon.{canon}
+use Rattle.dap_envelope.specs.Canon.{canon}
 use Rattle.dap_history.specs.History.{Entry, Asked, Out}
 use Rattle.dap_tables.specs.declared.target.Target.{Target}
 use Rattle.dap_message.specs.MessageParts.{AdapterEvent, event_name, event_body, success_response, failure_response, event_message}
-use Rattle.dap_message.specs.Types.Failure.{Failure}
-use Rattle.dap_message.specs.Types.TerminalCall.{TerminalCall}
-use Rattle.dap_message.specs.Terminal.{run_in_terminal, terminal_tree}
-use Rattle.dap_message.specs.declared.message.Kind.TheVariants.{Request as RequestKind}
-use Rattle.dap_message.specs.declared.message.Message.{Message}
+use Rattle.dap_body.specs.declared.failure.Failure.{Failure}
+use Rattle.dap_call.specs.declared.terminal.TerminalCall.{TerminalCall}
+use Rattle.dap_call.specs.Terminal.{run_in_terminal, terminal_tree}
+use Rattle.dap_envelope.specs.declared.message.Kind.TheVariants.{Request as RequestKind}
+use Rattle.dap_envelope.specs.declared.message.Message.{Message}
 use Rattle.dap_tables.specs.declared.entry.Entry.{Entry as Request}
 
 -- how a request is answered: with a body, and what the references in it name, or with a failure

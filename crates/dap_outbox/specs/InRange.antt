@@ -3,7 +3,7 @@
 use Rattle.std.specs.Prelude.{◌≤◌, List, length}
 use Rattle.std.specs.List.{AllByRecursion}
 use Rattle.dap_json.specs.Field.{max_seq}
-use Rattle.dap_message.specs.Refusals.{max_command}
+use Rattle.dap_envelope.specs.Refusals.{max_command}
 use Rattle.dap_tables.specs.declared.entry.Entry.{Entry as Request}
 use Rattle.dap_outbox.specs.Draft.{Draft, reply, emit, ask}
 

@@ -2,11 +2,11 @@
 use Rattle.std.specs.Prelude.{◌≡◌, ℕ, ◌+◌, ◌≤◌, List, [], ◌∷◌, ◌++◌, length, take, drop, Option, Some, None}
 use Rattle.dap_json.specs.Field.{max_seq}
 use Rattle.dap_message.specs.MessageParts.{AdapterEvent, initialized, output, stopped, continued, exited, terminated}
-use Rattle.dap_message.specs.Body.{data_in}
+use Rattle.dap_body.specs.Body.{data_in}
 use Rattle.dap_message.specs.Lengths.{max_fixed}
-use Rattle.dap_message.specs.ReadBack.{AllReadBack}
-use Rattle.dap_message.specs.Types.Body.{Body}
-use Rattle.dap_message.specs.Types.Body.TheVariants as body
+use Rattle.dap_envelope.specs.ReadBack.{AllReadBack}
+use Rattle.dap_body.specs.declared.body.Body.{Body}
+use Rattle.dap_body.specs.declared.body.Body.TheVariants as body
 use Rattle.dap_debuggee.specs.Shown.{category_name}
 use Rattle.dap_tables.specs.Seq.{Numbers}
 use Rattle.dap_outbox.specs.declared.answer.Answer.{Answer}

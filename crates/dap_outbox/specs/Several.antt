@@ -1,6 +1,6 @@
 -- Answers to several kept requests.
 use Rattle.std.specs.Prelude.{◌≡◌, ℕ, ◌==◌, not, Bool, List, ◌++◌, filter, map, Option, Some, None}
-use Rattle.dap_message.specs.Types.Failure.{Failure}
+use Rattle.dap_body.specs.declared.failure.Failure.{Failure}
 use Rattle.dap_tables.specs.Outstanding.{Kept, is_parked}
 use Rattle.dap_tables.specs.declared.entry.Entry.{Entry}
 use Rattle.dap_outbox.specs.declared.several.Chosen.{Chosen}

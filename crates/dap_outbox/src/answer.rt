@@ -1,7 +1,9 @@
 //! How a request is answered, and what is told, before it is written.
 
 use dap_debuggee::Category;
-use dap_message::{Capabilities, Failure, Text};
+use dap_body::Failure;
+use dap_command::Capabilities;
+use dap_json::Text;
 
 /// A body of a fixed shape.
 #[derive(Clone, Copy, Debug)]

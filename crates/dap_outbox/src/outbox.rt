@@ -1,7 +1,7 @@
 //! A buffer that is lent, with messages of a step behind what it had before.
 ghost use Rattle.std.specs.Prelude.{nat_le, ◌≡◌, ℕ, ◌+◌, ◌<◌, ◌≤◌, [], ◌++◌, length, IfOk, OnOk, OnErr, IsTrue, false};
-ghost use Rattle.dap_message.specs.Body.{data_in};
-ghost use Rattle.dap_message.specs.Canon.{canon};
+ghost use Rattle.dap_body.specs.Body.{data_in};
+ghost use Rattle.dap_envelope.specs.Canon.{canon};
 ghost use Rattle.dap_outbox.specs.Draft.{reply, emit, ask, success as success_word};
 ghost use Rattle.dap_outbox.specs.Outbox.{answer_of, event_of, IsReady, Holds, AppendsDraft};
 ghost use Rattle.dap_json.specs.Field.{max_seq};
@@ -11,7 +11,8 @@ ghost use Rattle.dap_message.specs.Lengths.{max_fixed, IsWithin};
 use crate::answer::{Answer, Event};
 use crate::texts::{append_reply, append_terminal, append_told};
 use dap_frame::frame_from;
-use dap_message::{Body, append_answer};
+use dap_body::Body;
+use dap_message::append_answer;
 use dap_tables::{Entry, Seq};
 use std::alloc::{AllocError, Global};
 use std::marker::Model;

@@ -6,7 +6,7 @@ ghost use Rattle.dap_outbox.specs.Several.{is_chosen, answer_where, answer_by, W
 
 use crate::answer::Answer;
 use crate::outbox::Outbox;
-use dap_message::Failure;
+use dap_body::Failure;
 use dap_tables::{InOrder, Outstanding};
 use std::alloc::{AllocError, Global};
 

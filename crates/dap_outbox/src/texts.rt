@@ -1,7 +1,7 @@
 //! The text of each message that an adapter writes without a body of its own.
 ghost use Rattle.std.specs.Prelude.{◌≡◌, ◌≤◌, ◌++◌, IfOk, OnOk, OnErr, IsTrue};
-ghost use Rattle.dap_message.specs.Body.{event_data_in};
-ghost use Rattle.dap_message.specs.Canon.{canon};
+ghost use Rattle.dap_body.specs.Body.{event_data_in};
+ghost use Rattle.dap_envelope.specs.Canon.{canon};
 ghost use Rattle.dap_outbox.specs.Draft.{reply, emit, ask, message_of, recorded_terminal};
 ghost use Rattle.dap_outbox.specs.InRange.{IsRequestInRange};
 ghost use Rattle.dap_outbox.specs.Outbox.{answer_of, event_of, shape_of};
@@ -9,14 +9,14 @@ ghost use Rattle.dap_json.specs.Field.{max_seq};
 ghost use Rattle.dap_json.specs.Writable.{is_plain_tree};
 ghost use Rattle.dap_message.specs.MessageParts.{event_name, event_body};
 ghost use Rattle.dap_message.specs.Lengths.{max_fixed, IsWithin};
-ghost use Rattle.dap_message.specs.ReadBack.{ReadsBack};
+ghost use Rattle.dap_envelope.specs.ReadBack.{ReadsBack};
 
 use crate::answer::{Answer, Event, Fixed};
 use dap_message::laws::fixed_messages_are_short;
-use dap_message::{
-    Body, EventBody, List, RUN_IN_TERMINAL, TerminalCall, Text, Tree, append_answer, append_event,
-    append_failure, append_request, write_terminal,
-};
+use dap_body::{Body, EventBody};
+use dap_call::{RUN_IN_TERMINAL, TerminalCall, write_terminal};
+use dap_json::{List, Text, Tree};
+use dap_message::{append_answer, append_event, append_failure, append_request};
 use dap_tables::Entry;
 use std::alloc::{AllocError, Global};
 

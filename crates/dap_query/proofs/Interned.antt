@@ -11,8 +11,8 @@ use Rattle.dap_tables.specs.declared.target.Target.{Target}
 use Rattle.dap_tables.specs.declared.reference_kind.ReferenceKind.{ReferenceKind}
 use Rattle.dap_tables.specs.declared.reference_kind.ReferenceKind.TheVariants as kind
 use Rattle.dap_tables.specs.References.{LiveReferences, same_kind, is_same, place_of, target_of, numbered_at}
-use Rattle.dap_message.specs.Types.Failure.{Failure}
-use Rattle.dap_message.specs.Types.Failure.TheVariants.{TooManyReferences, ReferencesExhausted}
+use Rattle.dap_body.specs.declared.failure.Failure.{Failure}
+use Rattle.dap_body.specs.declared.failure.Failure.TheVariants.{TooManyReferences, ReferencesExhausted}
 use Rattle.dap_query.specs.Laws.{AreFew, NumbersNameObjects}
 use Rattle.dap_query.specs.References.{IsNumberOf, intern, and_then, onto_first, intern_each, targets_named, with_target, with_targets}
 use Rattle.dap_query.specs.QueryResults.{Grows}

@@ -4,17 +4,17 @@ use Rattle.std.specs.Prelude.{◌&&◌, cond, nat_le, option_map, if◌then◌el
 use Rattle.std.proofs.lemmas.Bool.Decides.{nat_tests}
 use Rattle.std.specs.List.{AllZip}
 use Rattle.serde_json.specs.Data.{Data}
-use Rattle.dap_message.proofs.GivenNumbers.{bodies_give_their_numbers}
-use Rattle.dap_message.specs.GivenNumbers.{references_among}
-use Rattle.dap_message.specs.GivenReferences.{frame_ids, holders_of}
-use Rattle.dap_message.specs.ResponseBody.{threads_body, stack_trace_body, scopes_body, variables_body, evaluate_body, source_body, loaded_sources_body}
-use Rattle.dap_message.specs.Types.Command.{Command}
-use Rattle.dap_message.specs.Types.Command.TheVariants as command
-use Rattle.dap_message.specs.Types.StackFrame.{StackFrame}
-use Rattle.dap_message.specs.Types.Scope.{Scope as ScopeBody}
-use Rattle.dap_message.specs.Types.Source.{Source as SourceBody}
-use Rattle.dap_message.specs.Types.Thread.{Thread as ThreadBody}
-use Rattle.dap_message.specs.Types.Variable.{Variable as VariableBody}
+use Rattle.dap_body.proofs.GivenNumbers.{bodies_give_their_numbers}
+use Rattle.dap_body.specs.GivenNumbers.{references_among}
+use Rattle.dap_command.specs.GivenReferences.{frame_ids, holders_of}
+use Rattle.dap_body.specs.ResponseBody.{threads_body, stack_trace_body, scopes_body, variables_body, evaluate_body, source_body, loaded_sources_body}
+use Rattle.dap_command.specs.declared.command.Command.{Command}
+use Rattle.dap_command.specs.declared.command.Command.TheVariants as command
+use Rattle.dap_body.specs.declared.response.StackFrame.{StackFrame}
+use Rattle.dap_body.specs.declared.response.Scope.{Scope as ScopeBody}
+use Rattle.dap_body.specs.declared.response.Source.{Source as SourceBody}
+use Rattle.dap_body.specs.declared.response.Thread.{Thread as ThreadBody}
+use Rattle.dap_body.specs.declared.response.Variable.{Variable as VariableBody}
 use Rattle.dap_tables.specs.Given.{frame, holder, references_given_by, references_given_in}
 use Rattle.dap_tables.specs.References.{LiveReferences, frame_of, holder_of, target_of, is_of_kind}
 use Rattle.dap_tables.specs.declared.reference_kind.ReferenceKind.{ReferenceKind}

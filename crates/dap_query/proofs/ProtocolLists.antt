@@ -2,13 +2,13 @@
 use Rattle.std.proofs.Common.{◌≡◌, ◌∙◌, ℕ, List, [], ◌∷◌, Option, None, Some, Ok, length, map, option_map, refl, sym, ap}
 use Rattle.std.specs.List.{zip}
 use Rattle.serde_json.specs.Data.{Data}
-use Rattle.dap_message.specs.ResponseBody.{stack_trace_body, scopes_body, variables_body}
-use Rattle.dap_message.specs.Types.Call.TheVariants as call
-use Rattle.dap_message.specs.Types.Scope.{Scope as ScopeBody}
-use Rattle.dap_message.specs.Types.StackFrame.{StackFrame as FrameBody}
-use Rattle.dap_message.specs.Types.StackTrace.{StackTrace}
-use Rattle.dap_message.specs.Types.Variable.{Variable as VariableBody}
-use Rattle.dap_message.specs.Types.Variables.{Variables}
+use Rattle.dap_body.specs.ResponseBody.{stack_trace_body, scopes_body, variables_body}
+use Rattle.dap_call.specs.declared.call.Call.TheVariants as call
+use Rattle.dap_body.specs.declared.response.Scope.{Scope as ScopeBody}
+use Rattle.dap_body.specs.declared.response.StackFrame.{StackFrame as FrameBody}
+use Rattle.dap_call.specs.declared.call.StackTrace.{StackTrace}
+use Rattle.dap_body.specs.declared.response.Variable.{Variable as VariableBody}
+use Rattle.dap_call.specs.declared.call.Variables.{Variables}
 use Rattle.dap_debuggee.specs.Shown.{Shown, window}
 use Rattle.dap_debuggee.specs.declared.answers.Frame.{Frame}
 use Rattle.dap_debuggee.specs.declared.answers.Scope.{Scope}

@@ -3,7 +3,7 @@ use Rattle.std.proofs.Common.{◌≡◌, ℕ, List, [], ◌∷◌, true, false, 
 use Rattle.dap_debuggee.specs.declared.answers.Source.{Source}
 use Rattle.dap_debuggee.specs.declared.answers.Variable.{Variable}
 use Rattle.dap_frame.specs.Settings.{Settings}
-use Rattle.dap_message.specs.Types.Failure.TheVariants.{TooManyReferences, ReferencesExhausted}
+use Rattle.dap_body.specs.declared.failure.Failure.TheVariants.{TooManyReferences, ReferencesExhausted}
 use Rattle.dap_debuggee.specs.Shown.{window}
 use Rattle.dap_query.specs.Bodies.{reference_of, numbered_source, source_of_frame, no_source, page, line_shown, column_shown, protocol_sources}
 use Rattle.dap_query.specs.Queries.{object_of, usual_options}

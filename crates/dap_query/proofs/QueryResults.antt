@@ -2,13 +2,13 @@
 use Rattle.std.proofs.Common.{◌≡◌, ℕ, ◌-◌, List, [], ◌∷◌, map, Bool, true, false, Option, Some, None, Result, Ok, Err, length, refl, subst}
 use Rattle.std.specs.Prelude.{is_none, option_and_then}
 use Rattle.serde_json.specs.Data.{Data}
-use Rattle.dap_message.specs.ResponseBody.{source_body, threads_body, loaded_sources_body}
-use Rattle.dap_message.specs.Types.Call.{Call}
-use Rattle.dap_message.specs.Types.Call.TheVariants as call
-use Rattle.dap_message.specs.CallTree.{command_of}
-use Rattle.dap_message.specs.Types.Command.{Command}
-use Rattle.dap_message.specs.Types.Command.TheVariants as command
-use Rattle.dap_message.specs.Types.Failure.{Failure}
+use Rattle.dap_body.specs.ResponseBody.{source_body, threads_body, loaded_sources_body}
+use Rattle.dap_call.specs.declared.call.Call.{Call}
+use Rattle.dap_call.specs.declared.call.Call.TheVariants as call
+use Rattle.dap_call.specs.CallTree.{command_of}
+use Rattle.dap_command.specs.declared.command.Command.{Command}
+use Rattle.dap_command.specs.declared.command.Command.TheVariants as command
+use Rattle.dap_body.specs.declared.failure.Failure.{Failure}
 use Rattle.dap_debuggee.specs.Shown.{Shown, window}
 use Rattle.dap_tables.specs.Given.{references_given_in}
 use Rattle.dap_tables.specs.References.{LiveReferences}

@@ -4,16 +4,16 @@ use Rattle.std.specs.Prelude.{ℕ, ◌+◌, ◌-◌, ◌&&◌, List, [], ◌∷�
 use Rattle.std.specs.List.{slice_get, zip, range_with_len}
 use Rattle.serde_json.specs.Data.{Data}
 use Rattle.dap_tables.specs.declared.target.Target.{Target}
-use Rattle.dap_message.specs.ResponseBody.{threads_body, stack_trace_body, scopes_body, variables_body, evaluate_body, source_body, loaded_sources_body}
-use Rattle.dap_message.specs.Types.Call.{Call}
-use Rattle.dap_message.specs.Types.Call.TheVariants as call
-use Rattle.dap_message.specs.Types.Failure.{Failure}
-use Rattle.dap_message.specs.Types.Failure.TheVariants.{Debuggee}
-use Rattle.dap_message.specs.Types.Thread.{Thread as ThreadBody}
-use Rattle.dap_message.specs.Types.StackFrame.{StackFrame}
-use Rattle.dap_message.specs.Types.Scope.{Scope as ScopeBody}
-use Rattle.dap_message.specs.Types.Variable.{Variable as VariableBody}
-use Rattle.dap_message.specs.Types.Source.{Source as SourceBody}
+use Rattle.dap_body.specs.ResponseBody.{threads_body, stack_trace_body, scopes_body, variables_body, evaluate_body, source_body, loaded_sources_body}
+use Rattle.dap_call.specs.declared.call.Call.{Call}
+use Rattle.dap_call.specs.declared.call.Call.TheVariants as call
+use Rattle.dap_body.specs.declared.failure.Failure.{Failure}
+use Rattle.dap_body.specs.declared.failure.Failure.TheVariants.{Debuggee}
+use Rattle.dap_body.specs.declared.response.Thread.{Thread as ThreadBody}
+use Rattle.dap_body.specs.declared.response.StackFrame.{StackFrame}
+use Rattle.dap_body.specs.declared.response.Scope.{Scope as ScopeBody}
+use Rattle.dap_body.specs.declared.response.Variable.{Variable as VariableBody}
+use Rattle.dap_body.specs.declared.response.Source.{Source as SourceBody}
 use Rattle.dap_debuggee.specs.Shown.{Shown, window}
 use Rattle.dap_debuggee.specs.declared.answers.Thread.{Thread}
 use Rattle.dap_debuggee.specs.declared.answers.Frame.{Frame}

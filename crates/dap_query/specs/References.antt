@@ -2,8 +2,8 @@
 -- Overview, "Lifetime of Objects References".
 use Rattle.std.specs.Prelude.{◌≡◌, ℕ, List, [], ◌∷◌, ◌++◌, Bool, true, Option, Some, None, Result, Ok, Err, is_some, nat_le, if◌then◌else◌}
 use Rattle.dap_frame.specs.Settings.{Settings}
-use Rattle.dap_message.specs.Types.Failure.{Failure}
-use Rattle.dap_message.specs.Types.Failure.TheVariants.{TooManyReferences, ReferencesExhausted}
+use Rattle.dap_body.specs.declared.failure.Failure.{Failure}
+use Rattle.dap_body.specs.declared.failure.Failure.TheVariants.{TooManyReferences, ReferencesExhausted}
 use Rattle.dap_tables.specs.References.{LiveReferences, place_of, target_of, is_of_kind, intern_result}
 use Rattle.dap_tables.specs.declared.reference_kind.ReferenceKind.{ReferenceKind}
 use Rattle.dap_tables.specs.declared.target.Target.{Target}

@@ -1,8 +1,8 @@
 -- Which queries the debuggee refuses, and which objects an answer names.
 -- This profile's choice.
 use Rattle.std.specs.Prelude.{ℕ, ◌-◌, List, [], Bool, false, Option, Some, None, is_none, option_and_then}
-use Rattle.dap_message.specs.Types.Call.{Call}
-use Rattle.dap_message.specs.Types.Call.TheVariants as call
+use Rattle.dap_call.specs.declared.call.Call.{Call}
+use Rattle.dap_call.specs.declared.call.Call.TheVariants as call
 use Rattle.dap_tables.specs.declared.target.Target.{Target}
 use Rattle.dap_debuggee.specs.Shown.{Shown, window}
 use Rattle.dap_query.specs.Bodies.{page, frame_objects, scope_objects, variable_objects, value_objects}

@@ -2,8 +2,8 @@
 ghost use Rattle.std.specs.Prelude.{◌≡◌, List, IfOk, OnErr};
 ghost use Rattle.dap_debuggee.specs.Shown.{window};
 ghost use Rattle.dap_debuggee.specs.declared.answers.Variable.{Variable};
-ghost use Rattle.dap_message.specs.Body.{data_in};
-ghost use Rattle.dap_message.specs.Types.Call.{Call};
+ghost use Rattle.dap_body.specs.Body.{data_in};
+ghost use Rattle.dap_call.specs.declared.call.Call.{Call};
 ghost use Rattle.dap_query.specs.Bodies.{query_result, page};
 ghost use Rattle.dap_query.specs.QueryResults.{AnswersWith, IsQueryResult, OnlyGives};
 
@@ -14,7 +14,8 @@ use crate::bodies::{
 use crate::no_answer::NoAnswer;
 use crate::queries::Queries;
 use dap_debuggee::{Debuggee, Evaluation};
-use dap_message::{Body, Call, Evaluate, Failure, StackTrace, Variables};
+use dap_body::{Body, Failure};
+use dap_call::{Call, Evaluate, StackTrace, Variables};
 use std::alloc::{AllocError, Global};
 
 impl Queries {

@@ -10,7 +10,8 @@ ghost use Rattle.dap_query.specs.Bodies.{protocol_thread, numbered_source, refer
 
 use crate::options::Options;
 use dap_debuggee::{Debuggee, DebuggeeFault, Frame, Scope, Source, Thread, Variable};
-use dap_message::{StackFrame, Text};
+use dap_body::StackFrame;
+use dap_json::Text;
 use dap_tables::{ReferenceKind, Target};
 use std::alloc::{AllocError, Global};
 
@@ -120,17 +121,17 @@ pub(crate) fn variables_named(
 
 // ---- lists of bodies
 
-fn protocol_thread(thread: Thread) -> dap_message::Thread
+fn protocol_thread(thread: Thread) -> dap_body::Thread
     ensures { result ≡ protocol_thread thread }
 {
     let Thread { id, name } = thread;
-    dap_message::Thread { id, name }
+    dap_body::Thread { id, name }
 }
 
 pub(crate) fn protocol_threads(
     alloc: Global,
     threads: Vec<Thread>,
-) -> Result<Vec<dap_message::Thread>, AllocError>
+) -> Result<Vec<dap_body::Thread>, AllocError>
     ensures { IfOk result (λ told. told.items ≡ map protocol_thread threads.items) }
 {
     threads
@@ -150,12 +151,12 @@ fn reference_of(number: u32, source: &Source) -> Option<u32>
     }
 }
 
-fn numbered_source(number: u32, source: Source) -> dap_message::Source
+fn numbered_source(number: u32, source: Source) -> dap_body::Source
     ensures { result ≡ numbered_source number source }
 {
     let source_reference = reference_of(number, &source);
     let Source { name, path, .. } = source;
-    dap_message::Source {
+    dap_body::Source {
         name,
         path,
         source_reference,
@@ -166,7 +167,7 @@ fn numbered_source(number: u32, source: Source) -> dap_message::Source
 pub(crate) fn protocol_sources(
     alloc: Global,
     sources: Vec<Source>,
-) -> Result<Vec<dap_message::Source>, AllocError>
+) -> Result<Vec<dap_body::Source>, AllocError>
     requires { length sources.items ≤ 65536 }
     ensures { IfOk result (λ told. told.items ≡ protocol_sources sources.items) }
 {
@@ -182,12 +183,12 @@ fn source_of_frame<D: Debuggee>(
     alloc: Global,
     debuggee: &D,
     index: u32,
-) -> Result<dap_message::Source, AllocError>
+) -> Result<dap_body::Source, AllocError>
     ensures { IfOk result (λ told. told ≡ source_of_frame (D.shown debuggee.now).sources index) }
 {
     match debuggee.source(alloc, index) {
         Ok(source) => Ok(numbered_source(index + 1, source)),
-        Err(DebuggeeFault::Refused) => Ok(dap_message::Source {
+        Err(DebuggeeFault::Refused) => Ok(dap_body::Source {
             name: Text::copied(alloc, "")?,
             path: None,
             source_reference: Some(0),
@@ -201,7 +202,7 @@ fn sources_of_frames<D: Debuggee>(
     alloc: Global,
     debuggee: &D,
     frames: &[Frame],
-) -> Result<Vec<dap_message::Source>, AllocError>
+) -> Result<Vec<dap_body::Source>, AllocError>
     ensures { IfOk result (λ told. told.items ≡ map (λ (f : FrameWord). source_of_frame (D.shown debuggee.now).sources f.source) frames.now) }
 {
     let mut told = Vec::with_capacity(alloc, frames.len())?;
@@ -228,7 +229,7 @@ fn column_shown(options: Options) -> u32
     if options.columns_start_at_1 { 1 } else { 0 }
 }
 
-fn frame_with(options: Options, id: u32, frame: Frame, source: dap_message::Source) -> StackFrame
+fn frame_with(options: Options, id: u32, frame: Frame, source: dap_body::Source) -> StackFrame
     ensures { result ≡ frame_with options id frame source }
 {
     let Frame {
@@ -251,7 +252,7 @@ fn frames_with(
     options: Options,
     ids: Vec<u32>,
     frames: Vec<Frame>,
-    sources: Vec<dap_message::Source>,
+    sources: Vec<dap_body::Source>,
 ) -> Result<Vec<StackFrame>, AllocError>
     ensures { IfOk result (λ told. told.items ≡ map (λ p. frame_with options p.0 p.1.0 p.1.1) (zip ids.items (zip frames.items sources.items))) }
 {
@@ -275,11 +276,11 @@ pub(crate) fn protocol_frames<D: Debuggee>(
     frames_with(alloc, options, ids, frames, sources)
 }
 
-fn protocol_scope(number: u32, scope: Scope) -> dap_message::Scope
+fn protocol_scope(number: u32, scope: Scope) -> dap_body::Scope
     ensures { result ≡ protocol_scope number scope }
 {
     let Scope { name, holder: _ } = scope;
-    dap_message::Scope {
+    dap_body::Scope {
         name,
         variables_reference: number,
     }
@@ -290,7 +291,7 @@ pub(crate) fn protocol_scopes(
     alloc: Global,
     numbers: Vec<u32>,
     scopes: Vec<Scope>,
-) -> Result<Vec<dap_message::Scope>, AllocError>
+) -> Result<Vec<dap_body::Scope>, AllocError>
     ensures { IfOk result (λ told. told.items ≡ with_numbers protocol_scope numbers.items scopes.items) }
 {
     numbers
@@ -300,7 +301,7 @@ pub(crate) fn protocol_scopes(
         .collect(alloc)
 }
 
-fn protocol_variable(number: u32, variable: Variable) -> dap_message::Variable
+fn protocol_variable(number: u32, variable: Variable) -> dap_body::Variable
     ensures { result ≡ protocol_variable number variable }
 {
     let Variable {
@@ -308,7 +309,7 @@ fn protocol_variable(number: u32, variable: Variable) -> dap_message::Variable
         value,
         holder: _,
     } = variable;
-    dap_message::Variable {
+    dap_body::Variable {
         name,
         value,
         variables_reference: number,
@@ -320,7 +321,7 @@ pub(crate) fn protocol_variables(
     alloc: Global,
     numbers: Vec<u32>,
     variables: Vec<Variable>,
-) -> Result<Vec<dap_message::Variable>, AllocError>
+) -> Result<Vec<dap_body::Variable>, AllocError>
     ensures { IfOk result (λ told. told.items ≡ with_numbers protocol_variable numbers.items variables.items) }
 {
     numbers

@@ -5,7 +5,7 @@ ghost use Rattle.dap_query.specs.QueryResults.{Gives, OnlyGives};
 
 use crate::no_answer::NoAnswer;
 use crate::queries::Queries;
-use dap_message::Failure;
+use dap_body::Failure;
 use dap_tables::{RefFault, Target};
 use std::alloc::Global;
 

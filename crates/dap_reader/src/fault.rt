@@ -1,7 +1,7 @@
 //! Why no more messages are read.
 
 use dap_frame::FrameFault;
-use dap_message::BodyRefusal;
+use dap_envelope::BodyRefusal;
 
 /// Why no more messages are read. Offsets count bytes from the start of the stream.
 #[derive(Clone, Copy, Debug, PartialEq, Eq)]

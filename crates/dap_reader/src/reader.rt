@@ -4,15 +4,16 @@ ghost use Rattle.dap_frame.specs.Ends.{EndsWith};
 ghost use Rattle.dap_frame.specs.Intake.{IsReady, IsUnderWay, StandsFor as StandsForStream};
 ghost use Rattle.dap_frame.specs.Settings.{bounds_of};
 ghost use Rattle.dap_frame.specs.declared.frames.End.{End};
-ghost use Rattle.dap_message.specs.Meaning.{Msg};
-ghost use Rattle.dap_message.specs.declared.message.Message.{Message};
+ghost use Rattle.dap_envelope.specs.Meaning.{Msg};
+ghost use Rattle.dap_envelope.specs.declared.message.Message.{Message};
 ghost use Rattle.dap_reader.specs.declared.fault.ReadFault.{ReadFault};
 ghost use Rattle.dap_reader.specs.Reader.{Advances, Gives, IsRefused, IsUnread, StandsFor};
 
 use crate::fault::ReadFault;
 use dap_frame::{End, Frames, Limits};
 use dap_history::laws::histories_grow;
-use dap_message::{BodyFault, Message, Scratch, read_message_with};
+use dap_envelope::{BodyFault, Message, read_message_with};
+use dap_json::object_reader::Scratch;
 use std::alloc::{AllocError, Global};
 use std::marker::Model;
 

@@ -3,7 +3,7 @@ use Rattle.std.proofs.Common.{◌≡◌, List, ℕ, codes, refl}
 use Rattle.std.specs.Fmt.{digits}
 use Rattle.dap_check.specs.declared.checking.CheckFault.TheVariants as check
 use Rattle.dap_frame.specs.declared.Refusal.TheVariants.{BadHeader}
-use Rattle.dap_message.specs.declared.fault.BodyRefusal.TheVariants.{BadSeq}
+use Rattle.dap_envelope.specs.declared.fault.BodyRefusal.TheVariants.{BadSeq}
 use Rattle.dap_reason.specs.Streams.{words_of_show, words_of_wrap, words_of_check}
 use Rattle.dap_stream.specs.declared.listing.ShowFault.TheVariants as show
 use Rattle.dap_stream.specs.declared.wrapping.WrapFault.TheVariants as wrap

@@ -7,7 +7,7 @@ use crate::excerpt::{Part, bytes_at, header_at, push, push_at, push_at_line};
 use crate::recordings::NO_MEMORY;
 use dap_check::CheckFault;
 use dap_frame::Refusal;
-use dap_message::BodyRefusal;
+use dap_envelope::BodyRefusal;
 use dap_stream::{ShowFault, WrapFault};
 use std::alloc::AllocError;
 

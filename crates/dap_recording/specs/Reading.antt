@@ -13,7 +13,7 @@ use Rattle.serde_json.specs.View.{items_view}
 use Rattle.serde_json.specs.declared.value.Value.{Value}
 use Rattle.dap_json.specs.Steps.{◌>>=◌, ◌>>◌, Returns}
 use Rattle.dap_json.specs.Field.{if_passes, is_object}
-use Rattle.dap_call.specs.Argument.{int_of, number_of}
+use Rattle.dap_command.specs.Numbers.{int_of, number_of}
 use Rattle.dap_debuggee.specs.Laws.{is_code}
 use Rattle.dap_recording.specs.Recording.{line_count}
 use Rattle.dap_recording.specs.RecordingKey.{name_of}

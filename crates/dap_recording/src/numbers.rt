@@ -1,7 +1,7 @@
 //! The numbers of a recording: which JSON values are one, and how great it may be.
 ghost use Rattle.std.specs.Prelude.{◌≡◌};
 ghost use Rattle.serde_json.specs.View.{view};
-ghost use Rattle.dap_call.specs.Argument.{int_of, number_of};
+ghost use Rattle.dap_command.specs.Numbers.{int_of, number_of};
 ghost use Rattle.dap_recording.specs.Reading.{exit_of};
 ghost use Rattle.dap_recording.specs.Recording.{line_count as line_count_of};
 

@@ -9,7 +9,7 @@ use Rattle.serde_json.specs.Events.{items_len}
 use Rattle.serde_json.specs.Find.{as_str, as_bool, as_array}
 use Rattle.dap_json.specs.Steps.{◌>>=◌, ◌>>◌}
 use Rattle.dap_json.specs.Field.{if_passes, is_object}
-use Rattle.dap_call.specs.Argument.{int_of, number_of}
+use Rattle.dap_command.specs.Numbers.{int_of, number_of}
 use Rattle.dap_recording.specs.Reading as read
 use Rattle.dap_recording.specs.Reading.{Read, Holders, Numbered, or_bad, in_shape, required_at, value_at, exit_of, line_of, place_of, verdict_of, or_fault, recording_of, source_of, moment_of, moments_of, thread_of, frame_of, scope_of, scopes_of}
 use Rattle.dap_recording.specs.Recording.{line_count}

@@ -6,7 +6,7 @@ ghost use Rattle.serde_json.specs.Find.{as_str, as_bool, as_array};
 ghost use Rattle.serde_json.specs.View.{view, items_view};
 ghost use Rattle.dap_recording.specs.Reading.{value_at, exit_of, line_of};
 ghost use Rattle.dap_refusal.specs.Refusals.{here as here_of, element_here, within as within_of, kind_of as kind_of_data, other_than, no_number as no_number_of, no_exit, no_id as no_id_of, source_cause, line_cause, id_cause, thread_cause, or_here, due_in, due_at, any_at, text_at, text_if_any as text_if_any_of, flag_if_any as flag_if_any_of, items_at, items_if_any as items_if_any_of, some_items_at, few_items_at, exit_at, source_at, line_at, has_id as has_id_of, id_at, thread_at, in_element, each_element, variables_in, variables_if_any as variables_if_any_of, variable_row as variable_row_of, scope_row as scope_row_of, scopes_row as scopes_row_of, lines_at as lines_at_of, frame_row as frame_row_of, thread_row as thread_row_of, moment_row as moment_row_of, source_row as source_row_of, recording_row as recording_row_of, refusal_of as refusal_of_data, Finds, FindsAll, FindsText, FindsItems, StopsWithin, bad_key_in};
-ghost use Rattle.dap_call.specs.Argument.{int_of, number_of};
+ghost use Rattle.dap_command.specs.Numbers.{int_of, number_of};
 ghost use Rattle.dap_recording.specs.declared.reading.RecordingKey.TheVariants as key;
 ghost use Rattle.dap_refusal.specs.declared.refusal.JsonKind.TheVariants as kind;
 ghost use Rattle.dap_json.specs.Read.{json_of};

@@ -1,7 +1,7 @@
 -- Worked examples of moves, each shown by computation.
 use Rattle.std.proofs.Common.{◌≡◌, List, ℕ, Bool, [], ◌∷◌, codes, true, false, Some, None, pos, refl}
 use Rattle.std.specs.Prelude.{map}
-use Rattle.dap_call.specs.declared.call.SourceKey.TheVariants.{Path, Reference}
+use Rattle.dap_command.specs.declared.source_key.SourceKey.TheVariants.{Path, Reference}
 use Rattle.dap_replay.specs.Moves.{move_of, has_line, least_after, greatest_before}
 use Rattle.dap_replay.specs.Played.{lines_in}
 use Rattle.dap_debuggee.specs.declared.answers.Frame.{Frame}

@@ -1,7 +1,7 @@
 -- Worked examples of a recorded debuggee, act by act and query by query, each shown by computation.
 use Rattle.std.proofs.Common.{◌≡◌, Bool, List, ℕ, [], ◌∷◌, ◌++◌, codes, replicate, true, false, Some, None, pos, refl}
 use Rattle.std.specs.Option.{IsSome}
-use Rattle.dap_call.specs.declared.call.SourceKey.TheVariants.{Path, Reference}
+use Rattle.dap_command.specs.declared.source_key.SourceKey.TheVariants.{Path, Reference}
 use Rattle.dap_recording.proofs.ReadingExamples.{three_moments_is_recording}
 use Rattle.dap_recording.proofs.ThreeMoments.{three_moments}
 use Rattle.dap_replay.proofs.Told.{told_can_be_asked}

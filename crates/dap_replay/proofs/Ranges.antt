@@ -5,7 +5,7 @@ use Rattle.std.proofs.lemmas.Bool.Decides.{nat_tests, Decides-int_eq}
 use Rattle.std.specs.List.{list_all, slice_get, find}
 use Rattle.std.specs.Ordering.{int_eq}
 use Rattle.dap_debuggee.specs.declared.answers.Frame.{Frame}
-use Rattle.dap_call.specs.Argument.{is_int}
+use Rattle.dap_command.specs.Numbers.{is_int}
 use Rattle.dap_recording.specs.Recording.{objects_of, is_moment, is_thread, are_distinct, is_rising, objects, thread_at, id_at, IsRecording}
 use Rattle.dap_debuggee.specs.Laws.{is_frame, SourcesInRange, ThreadsInRange, FramesInRange, NamesOneFrame}
 use Rattle.dap_replay.specs.Played.{Played, shown_of, source_shown, thread_shown, moment_shown, threads_at, is_there}

@@ -12,8 +12,8 @@ use Rattle.std.proofs.lemmas.List.{length-map, get_or-map}
 use Rattle.std.proofs.lemmas.List.Elements.{All-from_get_or}
 use Rattle.std.proofs.lemmas.List.Folds.{list_any_at, list_any_none}
 use Rattle.std.proofs.lemmas.List.Sorted.{IsPermutation-refl, IsNonDecreasingBy-short, list_any-IsPermutation}
-use Rattle.dap_call.specs.declared.call.SourceKey.{SourceKey}
-use Rattle.dap_call.specs.SameSource.{is_source}
+use Rattle.dap_command.specs.declared.source_key.SourceKey.{SourceKey}
+use Rattle.dap_command.specs.SameSource.{is_source}
 use Rattle.dap_tables.specs.SourceMap.{OfSource, comes_before, set_of, count, of_others, in_place, with_set, HasNoEmptyList}
 use Rattle.dap_replay.specs.Moves.{has_line}
 use Rattle.dap_replay.specs.PrivateSetLines.{lines_of, rising_of, IsRising, source_lines, all_lines, AllRise}

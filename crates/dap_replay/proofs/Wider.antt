@@ -3,7 +3,7 @@ use Rattle.std.proofs.Common.{◌≡◌, ℕ, ◌<◌, ◌≤◌, ◌+◌, ◌&&
 use Rattle.std.proofs.lemmas.Bool.{ltb-true, lt-ltb, and_parts, and_from}
 use Rattle.std.proofs.lemmas.List.Folds.{list_all-append}
 use Rattle.std.specs.List.{list_all}
-use Rattle.dap_call.specs.Argument.{is_int}
+use Rattle.dap_command.specs.Numbers.{is_int}
 use Rattle.dap_debuggee.specs.Laws.{is_frame}
 use Rattle.dap_debuggee.specs.declared.answers.Frame.{Frame}
 use Rattle.dap_recording.specs.Recording.{line_count, is_thread, is_moment, are_distinct, is_rising, objects, IsRecording}

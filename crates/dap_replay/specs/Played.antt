@@ -4,8 +4,8 @@ use Rattle.std.specs.Prelude.{◌≡◌, ℕ, zero, suc, ◌+◌, ◌-◌, ◌%�
 use Rattle.std.specs.List.{list_any, slice_get, find}
 use Rattle.std.specs.Option.{IsSome}
 use Rattle.std.specs.Ordering.{int_eq}
-use Rattle.dap_call.specs.declared.call.SourceKey.{SourceKey}
-use Rattle.dap_call.specs.declared.call.SourceKey.TheVariants.{Path, Reference}
+use Rattle.dap_command.specs.declared.source_key.SourceKey.{SourceKey}
+use Rattle.dap_command.specs.declared.source_key.SourceKey.TheVariants.{Path, Reference}
 use Rattle.dap_debuggee.specs.Shown.{Shown, Act, to_start, to_resume, to_pause, to_poll, to_set_breakpoints, to_assign, to_end, Reply, done, refused, happened, asked_of_act, Last}
 use Rattle.dap_debuggee.specs.Laws.{variable_named, with_value}
 use Rattle.dap_recording.specs.Recording.{id_at}

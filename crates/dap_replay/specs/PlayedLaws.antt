@@ -3,7 +3,7 @@ use Rattle.std.proofs.Common.{◌≡◌, ℕ, ◌+◌, ◌%◌, ◌^◌, ℤ, Bo
 use Rattle.std.proofs.lemmas.Bool.{eqb-true}
 use Rattle.std.specs.List.{slice_get}
 use Rattle.std.specs.Option.{IsSome}
-use Rattle.dap_call.specs.declared.call.SourceKey.{SourceKey}
+use Rattle.dap_command.specs.declared.source_key.SourceKey.{SourceKey}
 use Rattle.dap_debuggee.specs.Shown.{Act, to_start, to_resume, to_pause, to_poll, to_set_breakpoints, to_assign, to_end, Reply, done, refused, happened}
 use Rattle.dap_debuggee.specs.Laws.{may_answer, state_after, keeps_answers, keeps_frames, lines_after, Counts, Remembers, Answers, Moves, SetsLines, SetsValues, SetsWhatIsTold, KeepsAnswers, KeepsFrames, KeepsSources, SameFrames, SameSources, NoThreads, VerifiesEach, AssignsVariables, with_value}
 use Rattle.dap_debuggee.specs.StayLaws.{frames-stay, sources-stay}

@@ -2,7 +2,7 @@
 
 use crate::recorded::{Going, LastAsked, Recorded};
 use crate::variables;
-use dap_call::SourceKey;
+use dap_command::SourceKey;
 use dap_debuggee::{Asked, DebuggeeFault, How, State};
 use std::alloc::{AllocError, Global};
 

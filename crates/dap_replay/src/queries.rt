@@ -5,7 +5,7 @@ ghost use Rattle.dap_replay.specs.Played.{is_in as is_in_span, source_shown, thr
 
 use crate::recorded::Recorded;
 use crate::variables;
-use dap_call::SourceKey;
+use dap_command::SourceKey;
 use dap_debuggee::{
     Assigned, DebuggeeFault, Evaluation, Frame, Scope, Source, State, Thread, Variable,
 };

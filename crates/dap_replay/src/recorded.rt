@@ -10,7 +10,7 @@ use crate::paths::Paths;
 use crate::set_lines::SetLines;
 use crate::variables::HolderMap;
 use crate::{moves, paths};
-use dap_call::SourceKey;
+use dap_command::SourceKey;
 use dap_debuggee::{
     Asked, Assigned, Debuggee, DebuggeeFault, Evaluation, Frame, Happening, How, Scope, Source,
     State, Thread, Variable,

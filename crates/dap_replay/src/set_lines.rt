@@ -1,13 +1,13 @@
 //! The lines that are set, by source. Each source's are kept as they were set and in rising order, so that one of many is found
 //! by halving.
 ghost use Rattle.std.specs.Prelude.{◌≡◌, ◌<◌, ◌≤◌, [], length, IfOk, OnOk, OnErr};
-ghost use Rattle.dap_call.specs.declared.call.SourceKey.TheVariants.{Path, Reference};
+ghost use Rattle.dap_command.specs.declared.source_key.SourceKey.TheVariants.{Path, Reference};
 ghost use Rattle.dap_tables.specs.SourceMap.{count, HasNoEmptyList};
 ghost use Rattle.dap_replay.specs.Moves.{has_line as has_line_in};
 ghost use Rattle.dap_replay.specs.Played.{lines_in, with_source_lines};
 ghost use Rattle.dap_replay.specs.PrivateSetLines.{lines_of, rising_of, IsRising};
 
-use dap_call::SourceKey;
+use dap_command::SourceKey;
 use dap_tables::SourceMap;
 use std::alloc::{AllocError, Global};
 use std::marker::Model;

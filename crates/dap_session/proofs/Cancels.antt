@@ -1,7 +1,7 @@
 -- The requests that a cancel names.
 use Rattle.std.proofs.Common.{◌≡◌, ℕ, List, [], ◌∷◌, ◌++◌, Bool, true, false, Option, Some, refl, sym, ap, ◌∙◌, subst, true≢false}
 use Rattle.std.specs.Prelude.{◌==◌, ◌||◌, ◌&&◌, not, if◌then◌else◌}
-use Rattle.dap_message.specs.Types.Failure.TheVariants.{Cancelled}
+use Rattle.dap_body.specs.declared.failure.Failure.TheVariants.{Cancelled}
 use Rattle.dap_tables.specs.Outstanding.{Kept, contains_seq, entry_with, is_parked, HasDistinctSeqs}
 use Rattle.dap_tables.specs.declared.entry.Entry.{Entry}
 use Rattle.dap_session.specs.Handling.{answer_each}

@@ -8,19 +8,20 @@ use Rattle.serde_json.specs.Data.{Data, Items, no_items, item}
 use Rattle.serde_json.specs.Find.{as_u64, as_number, as_array, as_str}
 use Rattle.dap_json.specs.Field.{if_passes}
 use Rattle.dap_json.specs.Steps.{◌>>=◌}
-use Rattle.dap_message.specs.Argument.{number_of, value_at, in_shape, or_bad, optional_at, required_at, must_be_there, max_number}
-use Rattle.dap_message.specs.Call.{call_of, each, line_in, lines_of, breakpoint_lines_of, source_key_of, given_lines, set_breakpoints_of, set_variable_of}
-use Rattle.dap_message.specs.Types.Call.{Call}
-use Rattle.dap_message.specs.Types.Call.TheVariants as call
-use Rattle.dap_message.specs.Types.Command.{Command}
-use Rattle.dap_message.specs.Types.Command.TheVariants as command
-use Rattle.dap_message.specs.Types.Key.{Key}
-use Rattle.dap_message.specs.Types.Key.TheVariants as key
-use Rattle.dap_message.specs.Types.SourceKey.{SourceKey}
-use Rattle.dap_message.specs.ResponseBody.{set_breakpoints_body, set_variable_body}
-use Rattle.dap_message.specs.Types.Breakpoint.{Breakpoint as BreakpointBody}
-use Rattle.dap_message.specs.Types.Failure.TheVariants.{TooManyBreakpoints}
-use Rattle.dap_message.specs.Types.SetVariable.{SetVariable}
+use Rattle.dap_call.specs.Argument.{value_at, in_shape, or_bad, optional_at, required_at, must_be_there}
+use Rattle.dap_command.specs.Numbers.{number_of, max_number}
+use Rattle.dap_call.specs.Call.{call_of, each, line_in, lines_of, breakpoint_lines_of, source_key_of, given_lines, set_breakpoints_of, set_variable_of}
+use Rattle.dap_call.specs.declared.call.Call.{Call}
+use Rattle.dap_call.specs.declared.call.Call.TheVariants as call
+use Rattle.dap_command.specs.declared.command.Command.{Command}
+use Rattle.dap_command.specs.declared.command.Command.TheVariants as command
+use Rattle.dap_command.specs.declared.key.Key.{Key}
+use Rattle.dap_command.specs.declared.key.Key.TheVariants as key
+use Rattle.dap_command.specs.declared.source_key.SourceKey.{SourceKey}
+use Rattle.dap_body.specs.ResponseBody.{set_breakpoints_body, set_variable_body}
+use Rattle.dap_body.specs.declared.response.Breakpoint.{Breakpoint as BreakpointBody}
+use Rattle.dap_body.specs.declared.failure.Failure.TheVariants.{TooManyBreakpoints}
+use Rattle.dap_call.specs.declared.call.SetVariable.{SetVariable}
 use Rattle.dap_tables.specs.declared.entry.Entry.{Entry}
 use Rattle.dap_tables.specs.Breakpoints.{breakpoints_with}
 use Rattle.dap_tables.specs.Outstanding.{without}

@@ -1,7 +1,7 @@
 -- What is decided of a request is its plan.
 use Rattle.std.proofs.Common.{◌≡◌, Some, refl}
-use Rattle.dap_message.specs.Types.Call.{Call}
-use Rattle.dap_message.specs.Types.Failure.{Failure}
+use Rattle.dap_call.specs.declared.call.Call.{Call}
+use Rattle.dap_body.specs.declared.failure.Failure.{Failure}
 use Rattle.dap_tables.specs.declared.entry.Entry.{Entry}
 use Rattle.dap_debuggee.specs.Shown.{Shown}
 use Rattle.dap_decision.specs.Decisions.{IsServed}

@@ -6,17 +6,17 @@ use Rattle.std.proofs.lemmas.Slice.Eq.{bytes_eq-Decides}
 use Rattle.dap_history.specs.Answers.{AnswersOne}
 use Rattle.dap_history.specs.History.{Asked, without_answered, request_as, response_as}
 use Rattle.dap_history.specs.Requests.{asked_of, asks}
-use Rattle.dap_message.specs.Argument.{Read}
-use Rattle.dap_message.specs.Call.{call_of}
-use Rattle.dap_message.specs.Types.Call.{Call}
-use Rattle.dap_message.specs.Types.Command.TheVariants as command
-use Rattle.dap_message.specs.Types.Failure.TheVariants.{NotInitialized, BadArguments, Busy, Cancelled}
-use Rattle.dap_message.specs.declared.message.Message.{Message}
-use Rattle.dap_message.specs.declared.message.Kind.{Kind}
-use Rattle.dap_message.specs.declared.message.Kind.TheVariants.{Request as RequestKind, Response, Event, Other}
+use Rattle.dap_call.specs.Argument.{Read}
+use Rattle.dap_call.specs.Call.{call_of}
+use Rattle.dap_call.specs.declared.call.Call.{Call}
+use Rattle.dap_command.specs.declared.command.Command.TheVariants as command
+use Rattle.dap_body.specs.declared.failure.Failure.TheVariants.{NotInitialized, BadArguments, Busy, Cancelled}
+use Rattle.dap_envelope.specs.declared.message.Message.{Message}
+use Rattle.dap_envelope.specs.declared.message.Kind.{Kind}
+use Rattle.dap_envelope.specs.declared.message.Kind.TheVariants.{Request as RequestKind, Response, Event, Other}
 use Rattle.serde_json.specs.Data.{Data}
 use Rattle.dap_debuggee.specs.Shown.{Reply, done, refused}
-use Rattle.dap_message.specs.Terminal.{run_in_terminal}
+use Rattle.dap_call.specs.Terminal.{run_in_terminal}
 use Rattle.dap_tables.specs.Outstanding.{Kept, kept_unparked, contains_seq, parked_ones, HasDistinctSeqs}
 use Rattle.dap_tables.specs.declared.entry.Entry.{Entry as Request}
 use Rattle.dap_session.specs.declared.fault.AdapterFault.{AdapterFault}

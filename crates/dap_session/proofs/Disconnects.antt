@@ -3,7 +3,7 @@ use Rattle.std.proofs.Common.{◌≡◌, ℕ, ◌+◌, ◌<◌, ◌≤◌, List,
 use Rattle.std.proofs.lemmas.List.{length-map}
 use Rattle.std.specs.Prelude.{◌==◌, not}
 use Rattle.dap_message.specs.Lengths.{max_fixed}
-use Rattle.dap_message.specs.Types.Failure.TheVariants.{Cancelled}
+use Rattle.dap_body.specs.declared.failure.Failure.TheVariants.{Cancelled}
 use Rattle.dap_tables.specs.Outstanding.{Kept, entries, contains_seq, is_parked, parked_ones, unparked_ones, without, HasDistinctSeqs}
 use Rattle.dap_tables.specs.declared.entry.Entry.{Entry}
 use Rattle.dap_debuggee.specs.Shown.{Reply}

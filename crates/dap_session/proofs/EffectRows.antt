@@ -1,7 +1,7 @@
 -- Each effect of the table, a row each: what comes of it, and that its failures come in their order. A new effect is one row more.
 use Rattle.std.proofs.Common.{inr, ℤ, ◌≡◌, ◌+◌, [], ◌∷◌, true, None, length, refl}
 use Rattle.dap_message.specs.MessageParts.{terminated}
-use Rattle.dap_message.specs.Types.Call.{Call}
+use Rattle.dap_call.specs.declared.call.Call.{Call}
 use Rattle.dap_tables.specs.Outstanding.{Kept, without, parked_ones}
 use Rattle.dap_debuggee.specs.Laws.{state_after, may_answer}
 use Rattle.dap_debuggee.specs.declared.answers.How.{How}

@@ -1,13 +1,13 @@
 -- What the bodies of answers that are no queries give: nothing.
 use Rattle.std.proofs.Common.{◌≡◌, ℕ, List, [], Bool, true, false, Option, Some, None, Ok, Err, refl, subst}
 use Rattle.std.specs.Prelude.{if◌then◌else◌}
-use Rattle.dap_message.specs.Capabilities.{capabilities_data}
-use Rattle.dap_message.specs.ResponseBody.{continue_body, set_breakpoints_body, set_variable_body}
-use Rattle.dap_message.specs.Types.Breakpoint.{Breakpoint}
-use Rattle.dap_message.specs.Types.Command.{Command}
-use Rattle.dap_message.specs.Types.Failure.TheVariants.{TooManyBreakpoints}
-use Rattle.dap_message.specs.Types.SetVariable.{SetVariable}
-use Rattle.dap_message.specs.Types.SourceKey.{SourceKey}
+use Rattle.dap_command.specs.Capabilities.{capabilities_data}
+use Rattle.dap_body.specs.ResponseBody.{continue_body, set_breakpoints_body, set_variable_body}
+use Rattle.dap_body.specs.declared.response.Breakpoint.{Breakpoint}
+use Rattle.dap_command.specs.declared.command.Command.{Command}
+use Rattle.dap_body.specs.declared.failure.Failure.TheVariants.{TooManyBreakpoints}
+use Rattle.dap_call.specs.declared.call.SetVariable.{SetVariable}
+use Rattle.dap_command.specs.declared.source_key.SourceKey.{SourceKey}
 use Rattle.dap_tables.specs.Given.{references_given_in}
 use Rattle.dap_debuggee.specs.Shown.{Shown}
 use Rattle.dap_debuggee.specs.declared.answers.Assigned.{Assigned}

@@ -1,6 +1,6 @@
 -- What is offered is served: each command, by the table.
 use Rattle.std.proofs.Common.{refl}
-use Rattle.dap_message.specs.Types.Command.TheVariants as command
+use Rattle.dap_command.specs.declared.command.Command.TheVariants as command
 use Rattle.dap_session.specs.OfferLaws.{OffersAreServed}
 
 pub offers_are_served : OffersAreServed

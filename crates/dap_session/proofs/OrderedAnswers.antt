@@ -1,13 +1,13 @@
 -- What a request is answered with is the first failure whose test holds, also once it is served.
 use Rattle.std.proofs.Common.{◌≡◌, [], ◌∷◌, Bool, true, false, ◌&&◌, cond, Option, Some, None, Ok, Err, refl, sym, ap, ◌∙◌, subst}
 use Rattle.std.specs.Prelude.{find}
-use Rattle.dap_message.specs.Argument.{Read}
-use Rattle.dap_message.specs.Failure.{failures_in_order}
-use Rattle.dap_message.specs.Types.Call.{Call}
-use Rattle.dap_message.specs.Types.Command.{Command}
-use Rattle.dap_message.specs.Types.Failure.{Failure}
-use Rattle.dap_message.specs.Types.Failure.TheVariants.{NotInitialized, AlreadyInitialized, UnknownCommand, Unsupported, BadArguments, WrongPhase, NotStopped, UnknownThread, StaleReference, UnknownSource}
-use Rattle.dap_message.specs.Types.Key.{Key}
+use Rattle.dap_call.specs.Argument.{Read}
+use Rattle.dap_body.specs.Failure.{failures_in_order}
+use Rattle.dap_call.specs.declared.call.Call.{Call}
+use Rattle.dap_command.specs.declared.command.Command.{Command}
+use Rattle.dap_body.specs.declared.failure.Failure.{Failure}
+use Rattle.dap_body.specs.declared.failure.Failure.TheVariants.{NotInitialized, AlreadyInitialized, UnknownCommand, Unsupported, BadArguments, WrongPhase, NotStopped, UnknownThread, StaleReference, UnknownSource}
+use Rattle.dap_command.specs.declared.key.Key.{Key}
 use Rattle.dap_tables.specs.declared.entry.Entry.{Entry}
 use Rattle.dap_debuggee.specs.Shown.{Shown, Reply}
 use Rattle.dap_decision.specs.declared.effect.Effect.{Effect}

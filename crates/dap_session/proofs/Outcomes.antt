@@ -6,7 +6,7 @@ use Rattle.std.specs.List.{list_any}
 use Rattle.std.proofs.lemmas.List.{append-nil}
 use Rattle.dap_history.specs.History.{Asked, Answered, without_answered}
 use Rattle.dap_history.specs.Requests.{asks}
-use Rattle.dap_message.specs.Types.Failure.{Failure}
+use Rattle.dap_body.specs.declared.failure.Failure.{Failure}
 use Rattle.dap_tables.specs.Outstanding.{Kept, without, HasDistinctSeqs}
 use Rattle.dap_tables.specs.References.{LiveReferences}
 use Rattle.dap_tables.specs.declared.entry.Entry.{Entry}

@@ -1,9 +1,9 @@
 -- Where an own request may wait: an effect of the table is found in a phase that suits it, also where a terminal is asked for first.
 use Rattle.std.proofs.Common.{◌≡◌, Bool, true, false, Option, Some, None, refl, sym, ◌∙◌, subst, true≢false}
 use Rattle.std.specs.Prelude.{ℕ, if◌then◌else◌, ⊤}
-use Rattle.dap_message.specs.Types.Call.{Call}
-use Rattle.dap_message.specs.Types.Command.{Command}
-use Rattle.dap_message.specs.Types.Command.TheVariants as command
+use Rattle.dap_call.specs.declared.call.Call.{Call}
+use Rattle.dap_command.specs.declared.command.Command.{Command}
+use Rattle.dap_command.specs.declared.command.Command.TheVariants as command
 use Rattle.dap_tables.specs.declared.entry.Entry.{Entry}
 use Rattle.dap_debuggee.specs.Shown.{Shown, Reply, done, refused, happened}
 use Rattle.dap_decision.specs.declared.effect.Effect.{Effect}

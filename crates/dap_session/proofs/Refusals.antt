@@ -2,7 +2,7 @@
 use Rattle.std.proofs.Common.{◌≡◌, ◌⊎◌, inl, inr, List, [], ◌∷◌, ◌++◌, Bool, true, false, refl, sym, ap, ◌∙◌, subst, true≢false}
 use Rattle.std.specs.Prelude.{◌||◌}
 use Rattle.std.specs.List.{list_any}
-use Rattle.dap_message.specs.Types.Failure.{Failure}
+use Rattle.dap_body.specs.declared.failure.Failure.{Failure}
 use Rattle.dap_tables.specs.declared.entry.Entry.{Entry}
 use Rattle.dap_session.specs.Laws.{CanMake}
 use Rattle.dap_session.specs.Plan.{Made, Plan, at_once, after_answering}

@@ -5,13 +5,13 @@ use Rattle.std.specs.Prelude.{◌==◌, ◌||◌, is_none, is_some, nat_lt, nat_
 use Rattle.std.proofs.lemmas.Bool.Decides.{nat_tests}
 use Rattle.dap_frame.specs.Settings.{Settings}
 use Rattle.serde_json.specs.Data.{Data}
-use Rattle.dap_message.specs.Types.Call.{Call}
-use Rattle.dap_message.specs.Types.Call.TheVariants as call
-use Rattle.dap_message.specs.Types.Command.{Command}
-use Rattle.dap_message.specs.Types.Failure.{Failure}
-use Rattle.dap_message.specs.Types.Failure.TheVariants.{Debuggee, TooManyBreakpoints, TooManyReferences, ReferencesExhausted, TooLarge, Cancelled}
-use Rattle.dap_message.specs.Types.SetVariable.{SetVariable}
-use Rattle.dap_message.specs.Types.SourceKey.{SourceKey}
+use Rattle.dap_call.specs.declared.call.Call.{Call}
+use Rattle.dap_call.specs.declared.call.Call.TheVariants as call
+use Rattle.dap_command.specs.declared.command.Command.{Command}
+use Rattle.dap_body.specs.declared.failure.Failure.{Failure}
+use Rattle.dap_body.specs.declared.failure.Failure.TheVariants.{Debuggee, TooManyBreakpoints, TooManyReferences, ReferencesExhausted, TooLarge, Cancelled}
+use Rattle.dap_call.specs.declared.call.SetVariable.{SetVariable}
+use Rattle.dap_command.specs.declared.source_key.SourceKey.{SourceKey}
 use Rattle.dap_tables.specs.Outstanding.{Kept, contains_seq, without, parked_ones}
 use Rattle.dap_tables.specs.References.{LiveReferences, place_of, numbered_at}
 use Rattle.dap_tables.specs.declared.entry.Entry.{Entry}

@@ -1,8 +1,8 @@
 -- What starts the debuggee is served in one phase.
 use Rattle.std.proofs.Common.{◌≡◌, Bool, true, false, Some, refl, sym, ap, ◌∙◌, subst, ◌⊎◌, inl, inr, true≢false}
 use Rattle.std.specs.List.{list_all}
-use Rattle.dap_message.specs.Types.Command.{Command}
-use Rattle.dap_message.specs.Types.Command.TheVariants as command
+use Rattle.dap_command.specs.declared.command.Command.{Command}
+use Rattle.dap_command.specs.declared.command.Command.TheVariants as command
 use Rattle.dap_decision.specs.declared.effect.Effect.{Effect}
 use Rattle.dap_decision.specs.declared.effect.Effect.TheVariants as effect
 use Rattle.dap_decision.specs.declared.phase.Phase.{Phase}

@@ -1,13 +1,13 @@
 -- The phase stays the debuggee's state.
 use Rattle.std.proofs.Common.{◌≡◌, ℕ, ◌+◌, Bool, true, false, Result, Ok, Err, length, refl, sym, subst}
 use Rattle.std.specs.Prelude.{not, if◌then◌else◌, nat_lt, nat_le, bytes_eq}
-use Rattle.dap_message.specs.Argument.{Read}
-use Rattle.dap_message.specs.Call.{call_of}
-use Rattle.dap_message.specs.Types.Call.{Call}
-use Rattle.dap_message.specs.Types.Command.TheVariants as command
-use Rattle.dap_message.specs.declared.message.Kind.{Kind}
-use Rattle.dap_message.specs.declared.message.Kind.TheVariants.{Request as RequestKind, Response, Event, Other}
-use Rattle.dap_message.specs.Terminal.{run_in_terminal}
+use Rattle.dap_call.specs.Argument.{Read}
+use Rattle.dap_call.specs.Call.{call_of}
+use Rattle.dap_call.specs.declared.call.Call.{Call}
+use Rattle.dap_command.specs.declared.command.Command.TheVariants as command
+use Rattle.dap_envelope.specs.declared.message.Kind.{Kind}
+use Rattle.dap_envelope.specs.declared.message.Kind.TheVariants.{Request as RequestKind, Response, Event, Other}
+use Rattle.dap_call.specs.Terminal.{run_in_terminal}
 use Rattle.dap_tables.specs.Outstanding.{contains_seq}
 use Rattle.dap_tables.specs.declared.entry.Entry.{Entry as Request}
 use Rattle.dap_debuggee.specs.Laws.{state_after}

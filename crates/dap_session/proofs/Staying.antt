@@ -4,7 +4,7 @@ use Rattle.std.proofs.lemmas.List.{append-nil}
 use Rattle.dap_frame.specs.Settings.{Settings}
 use Rattle.dap_history.specs.History.{Asked, Answered}
 use Rattle.dap_history.specs.Requests.{asks}
-use Rattle.dap_message.specs.declared.message.Message.{Message}
+use Rattle.dap_envelope.specs.declared.message.Message.{Message}
 use Rattle.dap_debuggee.specs.Shown.{Shown}
 use Rattle.dap_session.specs.Answering.{GoesWell}
 use Rattle.dap_session.specs.Handling.{turns}

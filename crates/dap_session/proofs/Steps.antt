@@ -5,7 +5,7 @@ use Rattle.std.proofs.lemmas.List.{append-nil}
 use Rattle.dap_history.specs.Answers.{Answers, AnswersOne}
 use Rattle.dap_history.specs.History.{Entry, In, Out, ReferencesEnd, Came, Asked, Answered, waiting, without_answered, ins_of, outs_of, AreNumberedAfter, response_at, response_as, request_as, Went}
 use Rattle.dap_history.specs.HistoryLaws.{HistoriesGrow}
-use Rattle.dap_message.specs.declared.message.Message.{Message}
+use Rattle.dap_envelope.specs.declared.message.Message.{Message}
 use Rattle.dap_session.specs.Answering.{answered_by, AnswersEach, open_after, GoesWell}
 use Rattle.dap_session.specs.Plan.{Made, entries_of, references_end_if}
 use Rattle.dap_outbox.specs.Draft.{success, failure, Draft, reply, emit, ask, request_of, requests_in, message_of, names_of, numbered_messages, outs}

@@ -3,7 +3,7 @@ use Rattle.std.specs.Prelude.{◌≡◌, ℕ, ◌+◌, ◌<◌, List, [], ◌∷
 use Rattle.dap_history.specs.Answers.{AnswersOne}
 use Rattle.dap_history.specs.History.{Asked, Answered, without_answered, request_as, response_as}
 use Rattle.dap_history.specs.Requests.{asked_of, asks}
-use Rattle.dap_message.specs.declared.message.Message.{Message}
+use Rattle.dap_envelope.specs.declared.message.Message.{Message}
 use Rattle.dap_tables.specs.Outstanding.{HasDistinctSeqs}
 use Rattle.dap_debuggee.specs.Shown.{Shown}
 use Rattle.dap_session.specs.Handling.{turns}

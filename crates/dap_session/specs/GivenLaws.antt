@@ -1,9 +1,9 @@
 -- The references that an answer gives are live once it is given.
 -- Overview, "Lifetime of Objects References".
 use Rattle.std.specs.Prelude.{◌≡◌, ℕ, List, [], ◌∷◌, Bool, true, false, Option, Some, Ok}
-use Rattle.dap_message.specs.Types.Command.{Command}
-use Rattle.dap_message.specs.Types.Command.TheVariants as command
-use Rattle.dap_message.specs.declared.message.Message.{Message}
+use Rattle.dap_command.specs.declared.command.Command.{Command}
+use Rattle.dap_command.specs.declared.command.Command.TheVariants as command
+use Rattle.dap_envelope.specs.declared.message.Message.{Message}
 use Rattle.dap_debuggee.specs.Shown.{Shown}
 use Rattle.dap_tables.specs.Given.{references_given_in}
 use Rattle.dap_query.specs.References.{AreLive}

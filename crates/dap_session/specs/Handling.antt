@@ -4,21 +4,21 @@ use Rattle.std.specs.Prelude.{ℕ, ◌+◌, List, [], ◌∷◌, ◌++◌, lengt
 use Rattle.std.specs.List.{zip, range_with_len, list_any}
 use Rattle.serde_json.specs.Data.{Data}
 use Rattle.dap_json.specs.Field.{text_at}
-use Rattle.dap_message.specs.Argument.{Read}
-use Rattle.dap_message.specs.Canon.{canon}
-use Rattle.dap_message.specs.Capabilities.{capabilities_data}
+use Rattle.dap_call.specs.Argument.{Read}
+use Rattle.dap_envelope.specs.Canon.{canon}
+use Rattle.dap_command.specs.Capabilities.{capabilities_data}
 use Rattle.dap_message.specs.MessageParts.{initialized, terminated, success_response}
-use Rattle.dap_message.specs.ResponseBody.{continue_body, set_breakpoints_body, set_variable_body}
-use Rattle.dap_message.specs.Types.Breakpoint.{Breakpoint as BreakpointBody}
-use Rattle.dap_message.specs.Types.Call.{Call}
-use Rattle.dap_message.specs.Types.Call.TheVariants as call
-use Rattle.dap_message.specs.Types.Capabilities.{Capabilities}
-use Rattle.dap_message.specs.Types.Command.{Command}
-use Rattle.dap_message.specs.Types.Command.TheVariants as command
-use Rattle.dap_message.specs.Types.Failure.{Failure}
-use Rattle.dap_message.specs.Types.Failure.TheVariants.{Debuggee, TooManyBreakpoints, TooLarge, Cancelled}
-use Rattle.dap_message.specs.Types.SetVariable.{SetVariable}
-use Rattle.dap_message.specs.Types.SourceKey.{SourceKey}
+use Rattle.dap_body.specs.ResponseBody.{continue_body, set_breakpoints_body, set_variable_body}
+use Rattle.dap_body.specs.declared.response.Breakpoint.{Breakpoint as BreakpointBody}
+use Rattle.dap_call.specs.declared.call.Call.{Call}
+use Rattle.dap_call.specs.declared.call.Call.TheVariants as call
+use Rattle.dap_command.specs.declared.capabilities.Capabilities.{Capabilities}
+use Rattle.dap_command.specs.declared.command.Command.{Command}
+use Rattle.dap_command.specs.declared.command.Command.TheVariants as command
+use Rattle.dap_body.specs.declared.failure.Failure.{Failure}
+use Rattle.dap_body.specs.declared.failure.Failure.TheVariants.{Debuggee, TooManyBreakpoints, TooLarge, Cancelled}
+use Rattle.dap_call.specs.declared.call.SetVariable.{SetVariable}
+use Rattle.dap_command.specs.declared.source_key.SourceKey.{SourceKey}
 use Rattle.dap_tables.specs.Outstanding.{Kept, without, with_mark}
 use Rattle.dap_tables.specs.declared.entry.Entry.{Entry}
 use Rattle.dap_debuggee.specs.Shown.{Shown, Act, to_start, to_resume, to_pause, to_set_breakpoints, to_assign, to_end, Reply, done}

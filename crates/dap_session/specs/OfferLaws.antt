@@ -1,8 +1,8 @@
 -- What `initialize` offers is what is served.
 -- Specification, "Capabilities": a client asks what a flag gates only where the flag is offered.
 use Rattle.std.specs.Prelude.{◌≡◌, ◌||◌, not}
-use Rattle.dap_message.specs.Capabilities.{is_allowed}
-use Rattle.dap_message.specs.Types.Command.{Command}
+use Rattle.dap_command.specs.Capabilities.{is_allowed}
+use Rattle.dap_command.specs.declared.command.Command.{Command}
 use Rattle.dap_session.specs.Handling.{adapter_capabilities}
 use Rattle.dap_decision.specs.Table.{is_never_served}
 use Rattle.dap_session.specs.Taking.{is_cancel}

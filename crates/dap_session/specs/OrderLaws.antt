@@ -2,14 +2,14 @@
 -- That order is this profile's choice. It is of a request that is handled in a turn; a `cancel` is answered where it is taken.
 use Rattle.std.specs.List.{AllByRecursion}
 use Rattle.std.specs.Prelude.{◌≡◌, ◌+◌, ◌==◌, ◌&&◌, ℕ, nat_lt, nat_le, not, ⊤, Bool, true, false, List, [], ◌∷◌, length, Option, Some, None, is_none, option_map, option_and_then, find, Ok, Err, if◌then◌else◌}
-use Rattle.dap_message.specs.Argument.{Read}
-use Rattle.dap_message.specs.Failure.{failures_in_order}
-use Rattle.dap_message.specs.Types.Call.{Call}
-use Rattle.dap_message.specs.Types.Call.TheVariants as call
-use Rattle.dap_message.specs.Types.Command.{Command}
-use Rattle.dap_message.specs.Types.Failure.{Failure}
-use Rattle.dap_message.specs.Types.Failure.TheVariants.{NotInitialized, AlreadyInitialized, UnknownCommand, Unsupported, BadArguments, WrongPhase, NotStopped, UnknownThread, StaleReference, UnknownSource, Debuggee, TooManyBreakpoints, TooManyReferences, ReferencesExhausted, TooLarge}
-use Rattle.dap_message.specs.Types.Key.{Key}
+use Rattle.dap_call.specs.Argument.{Read}
+use Rattle.dap_body.specs.Failure.{failures_in_order}
+use Rattle.dap_call.specs.declared.call.Call.{Call}
+use Rattle.dap_call.specs.declared.call.Call.TheVariants as call
+use Rattle.dap_command.specs.declared.command.Command.{Command}
+use Rattle.dap_body.specs.declared.failure.Failure.{Failure}
+use Rattle.dap_body.specs.declared.failure.Failure.TheVariants.{NotInitialized, AlreadyInitialized, UnknownCommand, Unsupported, BadArguments, WrongPhase, NotStopped, UnknownThread, StaleReference, UnknownSource, Debuggee, TooManyBreakpoints, TooManyReferences, ReferencesExhausted, TooLarge}
+use Rattle.dap_command.specs.declared.key.Key.{Key}
 use Rattle.dap_tables.specs.Outstanding.{parked_ones, with_mark, without}
 use Rattle.dap_tables.specs.declared.entry.Entry.{Entry}
 use Rattle.dap_tables.specs.declared.target.Target.{Target}

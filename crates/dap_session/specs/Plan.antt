@@ -1,7 +1,7 @@
 -- What a call comes to: what is written, what is left, and what the debuggee is asked before.
 use Rattle.std.specs.Prelude.{ℕ, ◌+◌, List, [], ◌∷◌, ◌++◌, length, Bool, true, false, nat_le, Result, Ok, Err, if◌then◌else◌}
 use Rattle.dap_history.specs.History.{Entry, ReferencesEnd}
-use Rattle.dap_message.specs.declared.message.Message.{Message}
+use Rattle.dap_envelope.specs.declared.message.Message.{Message}
 use Rattle.dap_tables.specs.Outstanding.{without}
 use Rattle.dap_tables.specs.declared.entry.Entry.{Entry as Request}
 use Rattle.dap_debuggee.specs.Shown.{Act, Reply, done}

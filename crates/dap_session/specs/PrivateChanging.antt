@@ -1,9 +1,9 @@
 -- The code's words for what is changed: lines, or a value.
 use Rattle.std.specs.Prelude.{◌≡◌, ℕ, ◌<◌, ⊤, List, [], ◌∷◌, All, true, Some, Result, Ok, Err}
-use Rattle.dap_message.specs.Body.{data_of}
-use Rattle.dap_message.specs.Types.Body.{Body}
-use Rattle.dap_message.specs.Types.Call.{Call}
-use Rattle.dap_message.specs.Types.Call.TheVariants as call
+use Rattle.dap_body.specs.Body.{data_of}
+use Rattle.dap_body.specs.declared.body.Body.{Body}
+use Rattle.dap_call.specs.declared.call.Call.{Call}
+use Rattle.dap_call.specs.declared.call.Call.TheVariants as call
 use Rattle.dap_tables.specs.declared.entry.Entry.{Entry}
 use Rattle.dap_debuggee.specs.Shown.{done}
 use Rattle.dap_session.specs.Carried.{Goes}

@@ -2,7 +2,7 @@
 -- Overview, "Lifetime of Objects References".
 use Rattle.std.specs.Prelude.{◌≡◌, ◌⊎◌, ℕ, ◌≤◌, List, [], ◌∷◌, true, false, Some, None, Ok}
 use Rattle.dap_tables.specs.declared.target.Target.{Target}
-use Rattle.dap_message.specs.declared.message.Message.{Message}
+use Rattle.dap_envelope.specs.declared.message.Message.{Message}
 use Rattle.dap_debuggee.specs.Shown.{Shown}
 use Rattle.dap_session.specs.Handling.{turns}
 use Rattle.dap_session.specs.Laws.{CanMake}

@@ -1,8 +1,8 @@
 -- An answer that is refused for its size, or for want of room or of numbers, changes nothing.
 -- That nothing is given or set then is this profile's choice.
 use Rattle.std.specs.Prelude.{◌≡◌, List, ◌∷◌, ◌++◌, Bool, true, false, Some, Ok}
-use Rattle.dap_message.specs.Types.Failure.{Failure}
-use Rattle.dap_message.specs.Types.Failure.TheVariants.{TooManyBreakpoints, TooManyReferences, ReferencesExhausted, TooLarge}
+use Rattle.dap_body.specs.declared.failure.Failure.{Failure}
+use Rattle.dap_body.specs.declared.failure.Failure.TheVariants.{TooManyBreakpoints, TooManyReferences, ReferencesExhausted, TooLarge}
 use Rattle.dap_tables.specs.declared.entry.Entry.{Entry}
 use Rattle.dap_debuggee.specs.Shown.{Shown}
 use Rattle.dap_session.specs.Handling.{turns}

@@ -16,7 +16,7 @@ use Rattle.dap_session.specs.Handling.{plan_for, some_plan, turns}
 use Rattle.dap_session.specs.Plan.{Made, Plan, at_once, asking, messages_due, plan_within_numbers, after_answering, written_by}
 use Rattle.dap_outbox.specs.Draft.{failure, bytes_of}
 use Rattle.dap_session.specs.Session.{Session, cancelled_by, not_cancelled_by}
-use Rattle.dap_message.specs.ReadBack.{AllReadBack}
+use Rattle.dap_envelope.specs.ReadBack.{AllReadBack}
 
 -- a session with its debuggee
 pub record SessionState (D : Type 0) : Type 0 where

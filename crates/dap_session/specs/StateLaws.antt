@@ -1,7 +1,7 @@
 -- The phase of an adapter is the state of its debuggee.
 -- The phases and the states are this profile's choice.
 use Rattle.std.specs.Prelude.{◌≡◌, ◌⊎◌, IsTrue, Some, Ok}
-use Rattle.dap_message.specs.declared.message.Message.{Message}
+use Rattle.dap_envelope.specs.declared.message.Message.{Message}
 use Rattle.dap_debuggee.specs.Laws.{state_after, may_answer}
 use Rattle.dap_debuggee.specs.Shown.{Shown, Reply}
 use Rattle.dap_debuggee.specs.declared.answers.State.{State}

@@ -1,7 +1,7 @@
 -- What stays true of a session, step by step.
 use Rattle.std.specs.Prelude.{◌≡◌, ◌+◌, ◌≤◌, length, Some, Ok}
 use Rattle.dap_frame.specs.Settings.{Settings}
-use Rattle.dap_message.specs.declared.message.Message.{Message}
+use Rattle.dap_envelope.specs.declared.message.Message.{Message}
 use Rattle.dap_tables.specs.Outstanding.{HasDistinctSeqs}
 use Rattle.dap_debuggee.specs.Shown.{Shown}
 use Rattle.dap_tables.specs.SourceMap.{count}

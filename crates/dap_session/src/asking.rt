@@ -4,7 +4,7 @@
 //! for one is this profile's choice.
 ghost use Rattle.std.specs.Prelude.{◌≡◌, ◌+◌, ◌≤◌, ◌&&◌, [], ◌∷◌, length, IfOk, IfErr, IsErrOf, OnOk, OnErr, IsTrue, Ok, Some, true, false};
 ghost use Rattle.std.specs.List.{list_any};
-ghost use Rattle.dap_message.specs.Command.{command_named};
+ghost use Rattle.dap_command.specs.Command.{command_named};
 ghost use Rattle.dap_tables.specs.Outstanding.{contains_seq, is_parked, parked_ones};
 ghost use Rattle.dap_debuggee.specs.Shown.{to_start};
 ghost use Rattle.dap_session.specs.Handling.{after_asking, after_asking_parked, effect_of, is_launch, names_terminal, parked_wants_terminal, some_plan, wants_terminal};
@@ -24,7 +24,9 @@ use crate::starting::start_failure;
 use dap_debuggee::Debuggee;
 use dap_decision::{Effect, Phase};
 use dap_json::field;
-use dap_message::{Command, RUN_IN_TERMINAL, Text, Tree};
+use dap_call::RUN_IN_TERMINAL;
+use dap_command::Command;
+use dap_json::{Text, Tree};
 use dap_outbox::{Answer, Chosen, Outbox, answer_chosen};
 use dap_query::Options;
 use dap_tables::{Entry, InOrder, Outstanding};

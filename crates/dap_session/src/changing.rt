@@ -5,7 +5,7 @@ ghost use Rattle.std.specs.Prelude.{◌≡◌, ◌+◌, ◌≤◌, map, length, 
 ghost use Rattle.dap_query.specs.declared.no_answer.NoAnswer.{NoAnswer};
 ghost use Rattle.dap_session.specs.Session.{numbers_of};
 ghost use Rattle.dap_outbox.specs.Outbox.{IsReady};
-ghost use Rattle.dap_message.specs.Types.Call.{Call};
+ghost use Rattle.dap_call.specs.declared.call.Call.{Call};
 ghost use Rattle.dap_tables.specs.Breakpoints.{max_id, breakpoints_with};
 ghost use Rattle.dap_debuggee.specs.Shown.{to_set_breakpoints, to_assign, done};
 ghost use Rattle.dap_query.specs.Queries.{object_of};
@@ -18,7 +18,9 @@ ghost use Rattle.dap_session.specs.PrivateChanging.{AreLines, CanChange, IsChang
 use crate::fault::AdapterFault;
 use crate::session::Session;
 use dap_debuggee::Debuggee;
-use dap_message::{Body, Breakpoint, Call, Failure, SetVariable, SourceKey};
+use dap_body::{Body, Breakpoint, Failure};
+use dap_call::{Call, SetVariable};
+use dap_command::SourceKey;
 use dap_outbox::{Answer, Outbox};
 use dap_query::NoAnswer;
 use dap_tables::{BpFault, Entry};

@@ -14,7 +14,7 @@ use crate::fault::AdapterFault;
 use crate::session::Session;
 use dap_debuggee::Debuggee;
 use dap_decision::Phase;
-use dap_message::Failure;
+use dap_body::Failure;
 use dap_outbox::{Answer, Chosen, Outbox, answer_chosen};
 use dap_tables::Entry;
 use std::alloc::{AllocError, Global};

@@ -1,9 +1,9 @@
 //! What requests do in the phases that serve them, an effect of the table each.
 ghost use Rattle.std.specs.Prelude.{◌≡◌, ◌+◌, ◌≤◌, ◌<◌, [], ◌∷◌, IfOk, OnErr, IsTrue, None, Some, true, OnOk};
 ghost use Rattle.dap_session.specs.Session.{numbers_of};
-ghost use Rattle.dap_message.specs.Body.{data_in};
+ghost use Rattle.dap_body.specs.Body.{data_in};
 ghost use Rattle.dap_message.specs.Lengths.{IsWithin};
-ghost use Rattle.dap_message.specs.Types.Call.{Call};
+ghost use Rattle.dap_call.specs.declared.call.Call.{Call};
 ghost use Rattle.dap_tables.specs.Outstanding.{contains_seq};
 ghost use Rattle.dap_debuggee.specs.Shown.{to_start, to_resume, to_pause, to_end};
 ghost use Rattle.dap_session.specs.SessionState.{MadeBy, Carries, reply_of};
@@ -15,7 +15,9 @@ ghost use Rattle.dap_outbox.specs.Outbox.{Holds, answer_of, event_of, shape_of, 
 use crate::session::Session;
 use dap_debuggee::{Debuggee, How};
 use dap_decision::Phase;
-use dap_message::{Call, Capabilities, Failure};
+use dap_body::Failure;
+use dap_call::Call;
+use dap_command::Capabilities;
 use dap_outbox::{Answer, Event, Fixed, Outbox};
 use dap_query::Options;
 use dap_tables::Entry;

@@ -2,8 +2,8 @@
 //! and taken back where it fails.
 ghost use Rattle.std.specs.Prelude.{◌≡◌, ◌+◌, ◌≤◌, [], ◌∷◌, length, IfOk, IfErr, IfSome, IfNone, OnErr, true, false, IsTrue, OnOk, ◌≢◌};
 ghost use Rattle.dap_query.specs.declared.no_answer.NoAnswer.{NoAnswer};
-ghost use Rattle.dap_message.specs.Body.{data_in};
-ghost use Rattle.dap_message.specs.Types.Call.{Call};
+ghost use Rattle.dap_body.specs.Body.{data_in};
+ghost use Rattle.dap_call.specs.declared.call.Call.{Call};
 ghost use Rattle.dap_query.specs.Bodies.{query_result};
 ghost use Rattle.dap_query.specs.QueryResults.{IsQueryResult};
 ghost use Rattle.dap_tables.specs.References.{back_to};
@@ -16,7 +16,8 @@ ghost use Rattle.dap_session.specs.PrivateQuerying.{IsOutboxOf, MakesFailure, On
 
 use crate::session::Session;
 use dap_debuggee::Debuggee;
-use dap_message::{Body, Call, Failure};
+use dap_body::{Body, Failure};
+use dap_call::Call;
 use dap_outbox::{Answer, Outbox};
 use dap_query::NoAnswer;
 use dap_tables::{Entry, Mark};

@@ -1,11 +1,11 @@
 //! What comes of a message that is delivered.
 ghost use Rattle.std.specs.Prelude.{◌≡◌, ◌+◌, ◌≤◌, [], ◌∷◌, length, IfOk, IfErr, IfSome, IfNone, IsErrOf, OnOk, OnErr, Some, true, false, IsTrue};
 ghost use Rattle.dap_session.specs.Session.{numbers_of};
-ghost use Rattle.dap_message.specs.Command.{command_named};
+ghost use Rattle.dap_command.specs.Command.{command_named};
 ghost use Rattle.dap_tables.specs.Outstanding.{contains_seq};
 ghost use Rattle.dap_decision.specs.Failures.{of_known};
 ghost use Rattle.dap_outbox.specs.Draft.{reply, failure, plain_success};
-ghost use Rattle.dap_message.specs.Types.Failure.TheVariants.{Cancelled};
+ghost use Rattle.dap_body.specs.declared.failure.Failure.TheVariants.{Cancelled};
 ghost use Rattle.dap_session.specs.Handling.{some_plan};
 ghost use Rattle.dap_session.specs.SessionState.{IsUnasked, MadeBy, HasTaken, NotTaken, LacksRoom, NamesNone, NamesOne, AppendsSome};
 ghost use Rattle.dap_outbox.specs.Outbox.{Holds, answer_of, IsReady};
@@ -17,7 +17,11 @@ use crate::fault::AdapterFault;
 use crate::session::{Session, give_back};
 use dap_debuggee::Debuggee;
 use dap_decision::{Phase, call_in};
-use dap_message::{Call, CallFault, Command, Failure, Kind, Message, Text, Tree};
+use dap_body::Failure;
+use dap_call::{Call, CallFault};
+use dap_command::Command;
+use dap_envelope::{Kind, Message};
+use dap_json::{Text, Tree};
 use dap_outbox::{Answer, Outbox};
 use dap_tables::Entry;
 use std::alloc::{AllocError, Global};

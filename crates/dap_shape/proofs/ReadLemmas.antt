@@ -4,13 +4,13 @@ use Rattle.std.proofs.lemmas.Slice.Eq.{bytes_eq-Decides}
 use Rattle.serde_json.specs.Data.{Data, Members, put}
 use Rattle.serde_json.specs.Find.{get_member}
 use Rattle.serde_json.proofs.Views.{get_member-put, get_member-put_other}
-use Rattle.dap_call.specs.Gathered.{AreGivenBy}
+use Rattle.dap_command.specs.Gathered.{AreGivenBy}
 use Rattle.dap_json.specs.Field.{unless_null}
 use Rattle.dap_json.specs.declared.object_reader.MemberValue.{MemberValue}
-use Rattle.dap_message.specs.Heading.{Notes, NotesAll}
-use Rattle.dap_message.specs.ResponseReferences.{or_null}
-use Rattle.dap_message.specs.Types.GatheredReferences.{GatheredReferences}
-use Rattle.dap_message.specs.declared.heading.Noted.{Noted}
+use Rattle.dap_envelope.specs.Heading.{Notes, NotesAll}
+use Rattle.dap_envelope.specs.ResponseReferences.{or_null}
+use Rattle.dap_command.specs.declared.gathering.GatheredReferences.{GatheredReferences}
+use Rattle.dap_envelope.specs.declared.heading.Noted.{Noted}
 use Rattle.dap_shape.specs.Faults.{fault_of, held_fault}
 use Rattle.dap_shape.specs.Shapes.{Row, inside, at_key}
 use Rattle.dap_shape.specs.PrivateSound.{AreArguments, IsBody, IsRead}

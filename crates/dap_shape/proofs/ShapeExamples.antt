@@ -2,7 +2,7 @@
 use Rattle.std.proofs.Common.{◌≡◌, ℕ, List, [], ◌∷◌, codes, Option, Some, None, true, false, refl}
 use Rattle.std.specs.Fmt.{digits}
 use Rattle.serde_json.specs.Data.{unsigned, Data, null, number, string, array, object, no_items, item, no_members, member}
-use Rattle.dap_message.specs.declared.message.Kind.TheVariants.{Request, Response, Event}
+use Rattle.dap_envelope.specs.declared.message.Kind.TheVariants.{Request, Response, Event}
 use Rattle.dap_shape.specs.Shapes.{at_key, at_place, absent, other_than}
 use Rattle.dap_shape.specs.Faults.{fault_of, fault_in}
 use Rattle.dap_shape.specs.Sentences.{sentence_of}

@@ -8,8 +8,8 @@ use Rattle.std.specs.Cmp.Lexicographic.{slice_cmp}
 use Rattle.serde_json.specs.Data.{Num, unsigned, negative, float, Data, null, boolean, number, string, array, object, Items, no_items, item, Members, no_members, member}
 use Rattle.serde_json.specs.Find.{as_bool, as_number, as_str}
 use Rattle.dap_json.specs.Field.{is_null}
-use Rattle.dap_message.specs.declared.message.Kind.{Kind as MessageKind}
-use Rattle.dap_message.specs.declared.message.Kind.TheVariants.{Request, Response, Event, Other}
+use Rattle.dap_envelope.specs.declared.message.Kind.{Kind as MessageKind}
+use Rattle.dap_envelope.specs.declared.message.Kind.TheVariants.{Request, Response, Event, Other}
 use Rattle.dap_shape.specs.Shapes.{Row, Fault, at_key, at_place, missing, misfit, inside}
 use Rattle.dap_shape.specs.Rows.{fields_of, values_of, requests, responses, events}
 use Rattle.dap_shape.specs.declared.shape.Scalar.{Scalar}

@@ -6,11 +6,11 @@ use Rattle.json.specs.Json.{value, members, items}
 use Rattle.serde_json.specs.Data.{Data, object, Items, Members, no_members}
 use Rattle.serde_json.specs.Find.{get_member}
 use Rattle.serde_json.specs.Read.{of_json, of_items, of_members, converted}
-use Rattle.dap_message.specs.Field.{is_null, unless_null, tree_at}
-use Rattle.dap_message.specs.Gathered.{AreGivenBy}
-use Rattle.dap_message.specs.Heading.{NotesAll}
-use Rattle.dap_message.specs.ResponseReferences.{or_null}
-use Rattle.dap_message.specs.Types.GatheredReferences.{GatheredReferences}
+use Rattle.dap_json.specs.Field.{is_null, unless_null, tree_at}
+use Rattle.dap_command.specs.Gathered.{AreGivenBy}
+use Rattle.dap_envelope.specs.Heading.{NotesAll}
+use Rattle.dap_envelope.specs.ResponseReferences.{or_null}
+use Rattle.dap_command.specs.declared.gathering.GatheredReferences.{GatheredReferences}
 use Rattle.dap_shape.specs.Shapes.{Row}
 use Rattle.dap_shape.specs.Rows.{requests, responses, events}
 use Rattle.dap_shape.specs.Faults.{fault_of, rows_fault, row_named, held_fault}

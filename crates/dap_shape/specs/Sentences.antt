@@ -1,7 +1,7 @@
 -- A fault of a message in one sentence, in the protocol's words. The sentences are this profile's choice.
 use Rattle.std.specs.Prelude.{ℕ, List, [], ◌∷◌, ◌++◌, codes, decimal, flat_map}
-use Rattle.dap_message.specs.declared.message.Kind.{Kind as MessageKind}
-use Rattle.dap_message.specs.declared.message.Kind.TheVariants.{Request, Response, Event, Other}
+use Rattle.dap_envelope.specs.declared.message.Kind.{Kind as MessageKind}
+use Rattle.dap_envelope.specs.declared.message.Kind.TheVariants.{Request, Response, Event, Other}
 use Rattle.dap_shape.specs.Shapes.{Step, at_key, at_place, Wrong, absent, other_than, Fault}
 use Rattle.dap_shape.specs.Rows.{values_of}
 use Rattle.dap_shape.specs.declared.shape.Scalar.{Scalar}

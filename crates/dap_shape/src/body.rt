@@ -2,7 +2,7 @@
 ghost use Rattle.std.specs.Prelude.{◌≡◌, ◌<◌, ◌++◌, map, length, OnOk, None};
 ghost use Rattle.serde_json.specs.Data.{Data, Items, Members, array as array_data, object as object_data, no_members, put};
 ghost use Rattle.dap_json.specs.Inside.{numbers_in};
-ghost use Rattle.dap_message.specs.Gathered.{AreGivenBy, AreGathered};
+ghost use Rattle.dap_command.specs.Gathered.{AreGivenBy, AreGathered};
 ghost use Rattle.dap_shape.specs.Faults.{fault_of};
 ghost use Rattle.dap_shape.specs.Seen.{row_seen};
 ghost use Rattle.dap_shape.specs.PrivateSound.{AreFew, AreKept, object_fault, IsValue, AreMembers};
@@ -10,9 +10,9 @@ ghost use Rattle.dap_shape.specs.PrivateSound.{AreFew, AreKept, object_fault, Is
 use crate::rows::fields;
 use crate::shape::{Field, Kind, Shape, TypeName};
 use crate::sound::{SeenRows, column, lacks, member, row_of};
-use dap_call::{FRAMES, HOLDERS};
+use dap_command::{FRAMES, HOLDERS};
 use dap_json::object_reader::{Invalid, MAX_DEPTH, Range, keep, whole};
-use dap_message::GatheredReferences;
+use dap_command::GatheredReferences;
 use json::{Reader, Token};
 
 /// How deep what stands in a body may nest.

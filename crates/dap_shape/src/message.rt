@@ -8,7 +8,8 @@ use crate::entries::{events, requests, responses};
 use crate::fault::ShapeFault;
 use crate::shape::{Entry, Field};
 use crate::walking::held_fault;
-use dap_message::{Kind, Tree};
+use dap_envelope::Kind;
+use dap_json::Tree;
 use std::alloc::{AllocError, Global};
 
 pub(crate) fn field_named(entries: &'static [Entry], name: &str) -> Option<Field>

@@ -6,12 +6,12 @@ ghost use Rattle.std.specs.Prelude.{◌≡◌, false, codes, map, option_map, Op
 ghost use Rattle.serde_json.specs.Data.{Data, Members, no_members, put};
 ghost use Rattle.dap_json.specs.Field.{is_null, unless_null, tree_at};
 ghost use Rattle.dap_json.specs.ObjectReader.{Describes, IsRestOf, IsNext};
-ghost use Rattle.dap_message.specs.Gathered.{AreGivenBy};
-ghost use Rattle.dap_message.specs.Heading.{IsHeadingOf, IsKindOf};
-ghost use Rattle.dap_message.specs.Meaning.{Msg, MeansKind};
-ghost use Rattle.dap_message.specs.ResponseReferences.{AreGivenIn};
-ghost use Rattle.dap_message.specs.declared.message.Kind.{Kind as TheKind};
-ghost use Rattle.dap_message.specs.declared.message.Message.{Message};
+ghost use Rattle.dap_command.specs.Gathered.{AreGivenBy};
+ghost use Rattle.dap_envelope.specs.Heading.{IsHeadingOf, IsKindOf};
+ghost use Rattle.dap_envelope.specs.Meaning.{Msg, MeansKind};
+ghost use Rattle.dap_envelope.specs.ResponseReferences.{AreGivenIn};
+ghost use Rattle.dap_envelope.specs.declared.message.Kind.{Kind as TheKind};
+ghost use Rattle.dap_envelope.specs.declared.message.Message.{Message};
 ghost use Rattle.dap_shape.specs.Faults.{row_named, held_fault, fault_in};
 ghost use Rattle.dap_shape.specs.Rows.{requests as request_rows, responses as response_rows, events as event_rows};
 ghost use Rattle.dap_shape.specs.Seen.{row_seen, entry_seen};
@@ -23,9 +23,8 @@ use crate::message::field_named;
 use crate::shape::{Entry, Field, Kind, Shape};
 use crate::sound::{is_null, value};
 use dap_json::object_reader::{Invalid, MAX_DEPTH, MemberValue, ObjectReader, Scratch};
-use dap_message::{
-    GatheredReferences, Heading, HeadingKind, Noted, heading_of, none_noted, note_member,
-};
+use dap_command::GatheredReferences;
+use dap_envelope::{Heading, HeadingKind, Noted, heading_of, none_noted, note_member};
 use memchr::{memchr, memmem};
 use std::str::from_utf8;
 
@@ -249,7 +248,7 @@ fn is_sound(kind: &HeadingKind<'_>, arguments: Option<&str>, body: Option<Guess<
     }
 }
 
-/// What [`read_heading_and_references`](dap_message::read_heading_and_references) gives, and whether it was seen on the way
+/// What [`read_heading_and_references`](dap_envelope::read_heading_and_references) gives, and whether it was seen on the way
 /// that the message has no fault ([`message_fault`](crate::message_fault)). Where it was not, there may be one or none. That
 /// it is seen, and that there is something, of most messages is no clause: tests show it.
 pub fn read_heading_and_shape<'a>(

@@ -7,7 +7,7 @@ ghost use Rattle.dap_shape.specs.Seen.{step_seen, wrong_seen, fault_seen};
 use crate::entries::values;
 use crate::fault::{Cause, Inward, ShapeFault};
 use crate::shape::{Choice, Kind as ValueKind, Scalar, Shape};
-use dap_message::Kind;
+use dap_envelope::Kind;
 use itoa::Buffer;
 use std::alloc::{AllocError, Global};
 

@@ -4,7 +4,7 @@ ghost use Rattle.std.specs.List.{list_any};
 ghost use Rattle.serde_json.specs.Find.{as_str};
 ghost use Rattle.serde_json.specs.View.{view, items_view};
 ghost use Rattle.dap_json.specs.Field.{tree_at};
-ghost use Rattle.dap_message.specs.Lent.{lent_data};
+ghost use Rattle.dap_json.specs.Lent.{lent_data};
 ghost use Rattle.dap_shape.specs.Shapes.{inside as one_further, missing, misfit as misfit_of};
 ghost use Rattle.dap_shape.specs.Rows.{values_of};
 ghost use Rattle.dap_shape.specs.Faults.{is_whole as is_whole_number, is_among, is_of as is_scalar, row_fault, rows_fault, fault_of as fault_of_data, items_fault as items_fault_of};

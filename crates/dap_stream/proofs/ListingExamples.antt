@@ -2,8 +2,8 @@
 use Rattle.std.proofs.Common.{◌≡◌, [], ◌∷◌, ◌++◌, codes, true, false, Some, None, refl}
 use Rattle.std.specs.Fmt.{digits}
 use Rattle.serde_json.specs.Data.{null, object, no_members}
-use Rattle.dap_message.specs.declared.fault.BodyRefusal.TheVariants.{BadSeq}
-use Rattle.dap_message.specs.declared.message.Kind.TheVariants.{Request, Response, Event, Other}
+use Rattle.dap_envelope.specs.declared.fault.BodyRefusal.TheVariants.{BadSeq}
+use Rattle.dap_envelope.specs.declared.message.Kind.TheVariants.{Request, Response, Event, Other}
 use Rattle.dap_stream.specs.Lines.{shown_text, line_of_message, line_with_reason, line_of_object, line_of_refused, object_of_refused}
 
 -- ---- names

@@ -18,8 +18,8 @@ use Rattle.dap_frame.specs.declared.frames.End.{End}
 use Rattle.dap_frame.specs.declared.frames.End.TheVariants as ends
 use Rattle.dap_stream.specs.declared.lines.Style.{Style}
 use Rattle.dap_stream.specs.declared.listing.ShowFault.TheVariants.{Frame, Body, OutOfMemory}
-use Rattle.dap_message.specs.Refusals.{Bad}
-use Rattle.dap_message.specs.declared.fault.BodyRefusal.{BodyRefusal}
+use Rattle.dap_envelope.specs.Refusals.{Bad}
+use Rattle.dap_envelope.specs.declared.fault.BodyRefusal.{BodyRefusal}
 
 -- ---- how far a listing has come
 

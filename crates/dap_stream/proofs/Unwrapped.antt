@@ -14,8 +14,8 @@ use Rattle.dap_frame.specs.declared.limits.Bounds.{Bounds}
 use Rattle.dap_frame.specs.Settings.{Settings, bounds_of}
 use Rattle.dap_frame.specs.Written.{frame_of}
 use Rattle.dap_json.specs.Read.{json_of}
-use Rattle.dap_message.specs.Meaning.{Msg}
-use Rattle.dap_message.specs.declared.message.Message.{Message}
+use Rattle.dap_envelope.specs.Meaning.{Msg}
+use Rattle.dap_envelope.specs.declared.message.Message.{Message}
 use Rattle.dap_stream.specs.Lines.{is_break, unbroken, line_of_body}
 use Rattle.dap_stream.specs.Listing.{IsLineOf, of_message, of_refused, Lists, none, one_more, Listed, stops_in}
 use Rattle.dap_stream.specs.Unwrapping.{lines_of_bodies}

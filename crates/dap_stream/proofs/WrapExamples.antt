@@ -9,10 +9,10 @@ use Rattle.serde_json.proofs.OnLiterals.{serde_json_on_literals}
 use Rattle.dap_frame.specs.Written.{frame_of}
 use Rattle.dap_frame.specs.Settings.{Settings, settings}
 use Rattle.dap_json.specs.Read.{json_of}
-use Rattle.dap_message.specs.Meaning.{Msg}
-use Rattle.dap_message.specs.Refusals.{first_refusal}
-use Rattle.dap_message.specs.declared.fault.BodyRefusal.TheVariants.{NotJson, BadSeq}
-use Rattle.dap_message.specs.declared.message.Kind.TheVariants.{Other}
+use Rattle.dap_envelope.specs.Meaning.{Msg}
+use Rattle.dap_envelope.specs.Refusals.{first_refusal}
+use Rattle.dap_envelope.specs.declared.fault.BodyRefusal.TheVariants.{NotJson, BadSeq}
+use Rattle.dap_envelope.specs.declared.message.Kind.TheVariants.{Other}
 use Rattle.dap_stream.specs.Wrapping.{bodies, frames_of_bodies, IsBody, FirstRefused}
 use Rattle.dap_stream.specs.declared.wrapping.WrapFault.TheVariants.{Body, BodyTooLong}
 

@@ -8,10 +8,10 @@ use Rattle.dap_frame.specs.Settings.{Settings, bounds_of}
 use Rattle.dap_frame.specs.Stream.{Frame, FramesThen, Split}
 use Rattle.dap_frame.specs.Verdict.{verdict, Part, Refused as Refuses}
 use Rattle.dap_frame.specs.Intake.{StartsAt, LastStartsAt}
-use Rattle.dap_message.specs.Meaning.{Msg}
-use Rattle.dap_message.specs.Refusals.{Bad}
-use Rattle.dap_message.specs.declared.fault.BodyRefusal.{BodyRefusal}
-use Rattle.dap_message.specs.declared.message.Message.{Message}
+use Rattle.dap_envelope.specs.Meaning.{Msg}
+use Rattle.dap_envelope.specs.Refusals.{Bad}
+use Rattle.dap_envelope.specs.declared.fault.BodyRefusal.{BodyRefusal}
+use Rattle.dap_envelope.specs.declared.message.Message.{Message}
 use Rattle.dap_stream.specs.Lines.{line_in, refused_in}
 use Rattle.dap_stream.specs.declared.lines.Form.{Form}
 use Rattle.dap_stream.specs.declared.lines.Style.{Style}

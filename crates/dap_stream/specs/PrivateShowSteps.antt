@@ -2,13 +2,13 @@
 use Rattle.std.specs.Prelude.{◌≡◌, ℕ, Bool, false, not, List, [], ◌∷◌, ◌++◌, take, None}
 use Rattle.dap_frame.specs.Settings.{Settings, bounds_of}
 use Rattle.dap_frame.specs.Intake.{Intake, StandsFor}
-use Rattle.dap_message.specs.Refusals.{Bad}
-use Rattle.dap_message.specs.declared.fault.BodyFault.{BodyFault}
-use Rattle.dap_message.specs.declared.fault.BodyFault.TheVariants.{Refused as BodyRefused, OutOfMemory as NoMemoryForBody}
-use Rattle.dap_message.specs.declared.heading.HeadingKind.{HeadingKind}
-use Rattle.dap_message.specs.declared.heading.HeadingKind.TheVariants.{Request, Response, Event, Other}
-use Rattle.dap_message.specs.declared.message.Kind.{Kind}
-use Rattle.dap_message.specs.declared.message.Kind.TheVariants as kind
+use Rattle.dap_envelope.specs.Refusals.{Bad}
+use Rattle.dap_envelope.specs.declared.fault.BodyFault.{BodyFault}
+use Rattle.dap_envelope.specs.declared.fault.BodyFault.TheVariants.{Refused as BodyRefused, OutOfMemory as NoMemoryForBody}
+use Rattle.dap_envelope.specs.declared.heading.HeadingKind.{HeadingKind}
+use Rattle.dap_envelope.specs.declared.heading.HeadingKind.TheVariants.{Request, Response, Event, Other}
+use Rattle.dap_envelope.specs.declared.message.Kind.{Kind}
+use Rattle.dap_envelope.specs.declared.message.Kind.TheVariants as kind
 use Rattle.dap_stream.specs.Lines.{kind_text}
 use Rattle.dap_stream.specs.Listing.{Listed}
 use Rattle.dap_stream.specs.declared.lines.Style.{Style}

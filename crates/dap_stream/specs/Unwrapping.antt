@@ -5,8 +5,8 @@ use Rattle.serde_json.specs.Data.{Data}
 use Rattle.dap_frame.specs.Settings.{Settings}
 use Rattle.dap_frame.specs.Written.{frame_of}
 use Rattle.dap_json.specs.Read.{json_of}
-use Rattle.dap_message.specs.Meaning.{Msg}
-use Rattle.dap_message.specs.declared.message.Message.{Message}
+use Rattle.dap_envelope.specs.Meaning.{Msg}
+use Rattle.dap_envelope.specs.declared.message.Message.{Message}
 use Rattle.dap_stream.specs.Lines.{is_break, unbroken, line_of_body}
 use Rattle.dap_stream.specs.Listing.{Listed, stops_in}
 use Rattle.dap_stream.specs.Wrapping.{IsBody, AreBodies, frames_of_bodies}

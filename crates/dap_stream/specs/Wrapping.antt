@@ -3,9 +3,9 @@
 use Rattle.std.specs.Prelude.{◌≡◌, ℕ, ◌+◌, ◌<◌, ◌≤◌, not, ◌==◌, List, ◌∷◌, ◌++◌, length, filter, flat_map, All}
 use Rattle.dap_frame.specs.Settings.{Settings}
 use Rattle.dap_frame.specs.Written.{frame_of}
-use Rattle.dap_message.specs.Meaning.{Msg}
-use Rattle.dap_message.specs.Refusals.{Bad}
-use Rattle.dap_message.specs.declared.message.Message.{Message}
+use Rattle.dap_envelope.specs.Meaning.{Msg}
+use Rattle.dap_envelope.specs.Refusals.{Bad}
+use Rattle.dap_envelope.specs.declared.message.Message.{Message}
 use Rattle.dap_stream.specs.declared.wrapping.WrapFault.{WrapFault}
 use Rattle.dap_stream.specs.declared.wrapping.WrapFault.TheVariants.{Body, BodyTooLong, OutOfMemory}
 

@@ -1,12 +1,13 @@
 //! Bodies: whether one is a message, and what it is on one line.
 
 ghost use Rattle.std.specs.Prelude.{◌≡◌, ◌++◌, [], ◌∷◌, OnOk, IfErr};
-ghost use Rattle.dap_message.specs.Meaning.{Msg};
-ghost use Rattle.dap_message.specs.declared.message.Message.{Message};
+ghost use Rattle.dap_envelope.specs.Meaning.{Msg};
+ghost use Rattle.dap_envelope.specs.declared.message.Message.{Message};
 ghost use Rattle.dap_stream.specs.Lines.{is_break, unbroken, line_of_body};
 ghost use Rattle.dap_stream.specs.PrivateShowSteps.{IsUnread};
 
-use dap_message::{BodyFault, Scratch, read_heading, read_message};
+use dap_envelope::{BodyFault, read_heading, read_message};
+use dap_json::object_reader::Scratch;
 use memchr::memchr2;
 use std::alloc::{AllocError, Global};
 

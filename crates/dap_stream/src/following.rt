@@ -14,7 +14,7 @@ use crate::lines::Style;
 use crate::listing::{ShowFault, Shown, list_rest};
 use dap_channel::{Channel, calls_add_up, calls_are_the_log, send};
 use dap_frame::{Frames, Limits};
-use dap_message::Scratch;
+use dap_json::object_reader::Scratch;
 use std::alloc::Global;
 use thiserror::Error;
 

@@ -1,18 +1,16 @@
 //! The line of a message, in each form, and of a body that is none.
 
 ghost use Rattle.std.specs.Prelude.{◌≡◌, ◌++◌, OnOk, IfOk, IfErr, decimal, option_map};
-ghost use Rattle.dap_message.specs.Heading.{IsHeadingOf};
-ghost use Rattle.dap_message.specs.Meaning.{Msg};
-ghost use Rattle.dap_message.specs.declared.message.Message.{Message};
+ghost use Rattle.dap_envelope.specs.Heading.{IsHeadingOf};
+ghost use Rattle.dap_envelope.specs.Meaning.{Msg};
+ghost use Rattle.dap_envelope.specs.declared.message.Message.{Message};
 ghost use Rattle.dap_stream.specs.Lines.{shown_text, shown_byte, outcome_text, words_of_message, line_of_message, reason_of, reason_text, line_with_reason, line_of_object, line_of_body, line_in, name_of_body_refusal, line_of_refused, object_of_refused, refused_in};
 ghost use Rattle.dap_stream.specs.Listing.{IsLineOf};
 ghost use Rattle.dap_stream.specs.PrivateShowSteps.{kind_words, is_failure, IsUnread, IsStopped};
 
 use crate::bodies::{push_unbroken, test_message};
-use dap_message::{
-    BodyFault, BodyRefusal, Heading, HeadingKind, Kind, Message, Scratch, read_heading,
-    read_message,
-};
+use dap_envelope::{BodyFault, BodyRefusal, Heading, HeadingKind, Kind, Message, read_heading, read_message};
+use dap_json::object_reader::Scratch;
 use itoa::Buffer;
 use std::alloc::{AllocError, Global};
 

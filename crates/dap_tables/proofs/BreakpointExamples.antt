@@ -1,10 +1,10 @@
 -- Small tables of breakpoints, worked out.
 use Rattle.std.proofs.Common.{◌≡◌, ℕ, [], ◌∷◌, false, codes, refl, lit≤, lit<, arith}
-use Rattle.dap_call.specs.declared.call.SourceKey.{SourceKey}
-use Rattle.dap_call.specs.declared.call.SourceKey.TheVariants.{Path, Reference}
+use Rattle.dap_command.specs.declared.source_key.SourceKey.{SourceKey}
+use Rattle.dap_command.specs.declared.source_key.SourceKey.TheVariants.{Path, Reference}
 use Rattle.dap_tables.specs.SourceMap.{set_of, count, HasDistinctSources, HasNoEmptyList}
 use Rattle.dap_tables.specs.Breakpoints.{SetBreakpoints, no_breakpoints, breakpoints_with, count_with, max_id, HasNoRoomForLines, IsRefusedForIds}
-use Rattle.dap_call.specs.SameSource.{is_source}
+use Rattle.dap_command.specs.SameSource.{is_source}
 
 abbrev a : SourceKey
 a = Path (codes "/a.c")

@@ -1,6 +1,6 @@
 -- What a change of one source's list leaves of the table of breakpoints.
 use Rattle.std.proofs.Common.{◌≡◌, ℕ, ◌+◌, ◌≤◌, List, [], ◌∷◌, length, refl, arith}
-use Rattle.dap_call.specs.declared.call.SourceKey.{SourceKey}
+use Rattle.dap_command.specs.declared.source_key.SourceKey.{SourceKey}
 use Rattle.dap_tables.specs.SourceMap.{set_of, count, of_others}
 use Rattle.dap_tables.specs.Breakpoints.{SetBreakpoints, BreakpointTable, lines_with_ids, breakpoints_with, max_id, count_with, IsOrderlyBreakpoints}
 use Rattle.dap_tables.specs.SourceMapLaws.{set-with, other-with}

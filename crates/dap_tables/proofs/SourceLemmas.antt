@@ -9,9 +9,9 @@ use Rattle.std.specs.Ordering.{is_eq, is_lt, match_ordering}
 use Rattle.std.specs.declared.cmp.Ordering.{Ordering}
 use Rattle.std.specs.declared.cmp.Ordering.TheVariants.{Less, Equal, Greater}
 use Rattle.std.proofs.lemmas.Map.Keys.{sorted_head, sorted_tail}
-use Rattle.dap_call.specs.declared.call.SourceKey.{SourceKey}
+use Rattle.dap_command.specs.declared.source_key.SourceKey.{SourceKey}
 use Rattle.dap_tables.specs.SourceMap.{OfSource, comes_before, set_of, of_others, in_place}
-use Rattle.dap_call.specs.SameSource.{is_source}
+use Rattle.dap_command.specs.SameSource.{is_source}
 
 module _ {T : Type 0} where
   others-if : (b : Bool) (s : OfSource T) (xs ys zs : List (OfSource T)) → xs ≡ ys ++ zs → (if not b then s ∷ xs else xs) ≡ (if not b then s ∷ ys else ys) ++ zs

@@ -2,9 +2,9 @@
 use Rattle.std.proofs.Common.{◌≡◌, ◌+◌, ◌<◌, ◌≤◌, lit≤, List, [], ◌∷◌, Bool, true, false, not, length, refl, sym, ap, subst, ◌∙◌, arith}
 use Rattle.std.specs.Prelude.{if◌then◌else◌}
 use Rattle.std.specs.List.{list_any}
-use Rattle.dap_call.specs.declared.call.SourceKey.{SourceKey}
+use Rattle.dap_command.specs.declared.source_key.SourceKey.{SourceKey}
 use Rattle.dap_tables.specs.SourceMap.{OfSource, comes_before, set_of, count, of_others, in_place, with_set, HasDistinctSources, HasNoEmptyList}
-use Rattle.dap_call.specs.SameSource.{is_source}
+use Rattle.dap_command.specs.SameSource.{is_source}
 use Rattle.dap_tables.specs.Ors.{or-left, or-right}
 use Rattle.dap_tables.specs.SourceMapLaws.{same-source, turned, any-others, none-left, any-place}
 

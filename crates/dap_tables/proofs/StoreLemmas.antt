@@ -10,9 +10,9 @@ use Rattle.std.specs.declared.cmp.Ordering.TheVariants.{Less, Equal}
 use Rattle.std.proofs.lemmas.List.{append-nil}
 use Rattle.std.proofs.lemmas.Map.Lookups.{exact_bytes, exact_unsigned}
 use Rattle.std.proofs.lemmas.Map.Text.{is_eq-slice_cmp}
-use Rattle.dap_call.specs.declared.call.SourceKey.TheVariants.{Path, Reference}
+use Rattle.dap_command.specs.declared.source_key.SourceKey.TheVariants.{Path, Reference}
 use Rattle.dap_tables.specs.SourceMap.{OfSource, set_of, of_others, in_place}
-use Rattle.dap_call.specs.SameSource.{is_source}
+use Rattle.dap_command.specs.SameSource.{is_source}
 use Rattle.dap_tables.specs.PrivateSourceStore.{at_path, at_reference, sources_of}
 use Rattle.dap_tables.proofs.SourceLemmas.{others-append, found, set_of-entries, others-entries, put-entries}
 

@@ -3,7 +3,7 @@
 -- Specification, "SetBreakpointsRequest": a request replaces all breakpoints of one source.
 -- That ids rise and never come again, and the two limits, are this profile's choices.
 use Rattle.std.specs.Prelude.{ℕ, ◌+◌, ◌≤◌, ◌<◌, List, [], ◌∷◌, length}
-use Rattle.dap_call.specs.declared.call.SourceKey.{SourceKey}
+use Rattle.dap_command.specs.declared.source_key.SourceKey.{SourceKey}
 use Rattle.dap_tables.specs.SourceMap.{OfSource, count, of_others, with_set, HasDistinctSources, HasNoEmptyList}
 
 -- those of each source that has some, each its id and its line, and the id that comes next

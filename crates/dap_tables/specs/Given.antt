@@ -2,9 +2,9 @@
 -- Specification, the responses that `dap_call` names.
 use Rattle.std.specs.Prelude.{ℕ, List, [], map, Option, Some, None}
 use Rattle.serde_json.specs.Data.{Data}
-use Rattle.dap_call.specs.GivenReferences.{frame_ids, holders_of}
-use Rattle.dap_call.specs.declared.command.Command.{Command}
-use Rattle.dap_call.specs.declared.command.Command.TheVariants.{StackTrace}
+use Rattle.dap_command.specs.GivenReferences.{frame_ids, holders_of}
+use Rattle.dap_command.specs.declared.command.Command.{Command}
+use Rattle.dap_command.specs.declared.command.Command.TheVariants.{StackTrace}
 use Rattle.dap_tables.specs.declared.reference_kind.ReferenceKind.{ReferenceKind}
 use Rattle.dap_tables.specs.declared.reference_kind.ReferenceKind.TheVariants.{Frame, Holder}
 

@@ -1,7 +1,7 @@
 -- How a map from sources to lists is stored: the lists by path, and those by reference.
 use Rattle.std.specs.Prelude.{ℕ, List, ◌++◌, map, String, string_bytes, Vec}
 use Rattle.std.specs.BTreeMap.{BTreeMap}
-use Rattle.dap_call.specs.declared.call.SourceKey.TheVariants.{Path, Reference}
+use Rattle.dap_command.specs.declared.source_key.SourceKey.TheVariants.{Path, Reference}
 use Rattle.dap_tables.specs.SourceMap.{OfSource}
 
 abbrev pub at_path : {A B T : Type 0} → String A × Vec T B → OfSource T

@@ -4,10 +4,10 @@ use Rattle.std.proofs.lemmas.Bool.{eqb-true}
 use Rattle.std.specs.Prelude.{◌==◌, ◌||◌, if◌then◌else◌}
 use Rattle.std.specs.List.{list_any}
 use Rattle.std.proofs.lemmas.Slice.Eq.{bytes_eq-Decides}
-use Rattle.dap_call.specs.declared.call.SourceKey.{SourceKey}
-use Rattle.dap_call.specs.declared.call.SourceKey.TheVariants.{Path, Reference}
+use Rattle.dap_command.specs.declared.source_key.SourceKey.{SourceKey}
+use Rattle.dap_command.specs.declared.source_key.SourceKey.TheVariants.{Path, Reference}
 use Rattle.dap_tables.specs.SourceMap.{OfSource, comes_before, set_of, of_others, in_place, with_set}
-use Rattle.dap_call.specs.SameSource.{is_source}
+use Rattle.dap_command.specs.SameSource.{is_source}
 use Rattle.dap_tables.specs.Ors.{or-false, or-left, or-right}
 
 -- ---- names

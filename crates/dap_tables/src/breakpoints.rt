@@ -1,13 +1,13 @@
 //! The breakpoints that are set, by source.
 ghost use Rattle.std.specs.Prelude.{◌≡◌, ◌+◌, ◌<◌, ◌≤◌, ◌↔◌, List, ℕ, [], ◌++◌, length, false, IsTrue, IsOk, IfOk, OnOk, OnErr, Ok, Err};
-ghost use Rattle.dap_call.specs.declared.call.SourceKey.{SourceKey as Source};
+ghost use Rattle.dap_command.specs.declared.source_key.SourceKey.{SourceKey as Source};
 ghost use Rattle.dap_tables.specs.SourceMap.{set_of, count, of_others, with_set};
 ghost use Rattle.dap_tables.specs.Breakpoints.{BreakpointTable, no_breakpoints, lines_with_ids, breakpoints_with, max_id, IsAllowed, HasNoRoomForLines, IsRefusedForIds, TakesIds, IsOrderlyBreakpoints};
-ghost use Rattle.dap_call.specs.SameSource.{is_source};
+ghost use Rattle.dap_command.specs.SameSource.{is_source};
 
 use crate::bp_fault::BpFault;
 use crate::source_map::SourceMap;
-use dap_call::SourceKey;
+use dap_command::SourceKey;
 use std::alloc::{AllocError, Global};
 use std::marker::Model;
 

@@ -1,9 +1,9 @@
 //! A map from sources to lists, stored as two maps.
 ghost use Rattle.std.specs.Prelude.{◌≡◌, ◌<◌, ◌≤◌, [], length, OnOk, OnErr, string_bytes};
-ghost use Rattle.dap_call.specs.declared.call.SourceKey.TheVariants.{Path, Reference};
+ghost use Rattle.dap_command.specs.declared.source_key.SourceKey.TheVariants.{Path, Reference};
 ghost use Rattle.dap_tables.specs.SourceMap.{set_of, count, of_others, with_set, HasNoEmptyList};
 
-use dap_call::SourceKey;
+use dap_command::SourceKey;
 use std::alloc::{AllocError, Global};
 use std::collections::BTreeMap;
 use std::marker::Model;

@@ -8,7 +8,7 @@ use Rattle.dap_check.specs.declared.line.Line.{Line}
 use Rattle.dap_check.specs.declared.rule.AnySeq.{AnySeq}
 use Rattle.dap_check.specs.declared.rule.Rule.{Rule}
 use Rattle.dap_explain.specs.Reasons.{reason_of}
-use Rattle.dap_message.specs.declared.message.Kind.{Kind}
+use Rattle.dap_envelope.specs.declared.message.Kind.{Kind}
 use Rattle.dap_shape.specs.Shapes.{Fault}
 use Rattle.dap_shape.specs.Faults.{fault_in}
 use Rattle.dap_shape.specs.Sentences.{sentence_of}

@@ -9,7 +9,7 @@ use Rattle.dap_check.specs.declared.rule.Checked.{Checked}
 use Rattle.dap_check.specs.declared.rule.Checked.TheVariants.{Legal, Finding}
 use Rattle.dap_check.specs.declared.rule.OpenRequest.{OpenRequest}
 use Rattle.dap_check.specs.declared.rule.Rule.{Rule}
-use Rattle.dap_message.specs.declared.message.Kind.{Kind}
+use Rattle.dap_envelope.specs.declared.message.Kind.{Kind}
 use Rattle.dap_explain.specs.Reasons.{reason_of}
 use Rattle.dap_explain.specs.Sentences.{joined_text, sentence_of}
 use Rattle.dap_explain.specs.declared.reason.Reason.{Reason}

@@ -14,7 +14,8 @@ ghost use Rattle.dap_tool.specs.PrivateListed.{rule_at, left_after, IsListed};
 
 use crate::verdict::{CheckOptions, push_finding};
 use dap_check::{CheckFault, Finding, Rule, split_line};
-use dap_message::{BodyFault, Kind, Scratch, read_message_with};
+use dap_envelope::{BodyFault, Kind, read_message_with};
+use dap_json::object_reader::Scratch;
 use dap_shape::{ShapeFault, message_fault, sentence};
 use std::alloc::{AllocError, Global};
 

@@ -5,11 +5,11 @@ use Rattle.std.proofs.lemmas.Slice.Eq.{bytes_eq-Decides}
 use Rattle.serde_json.specs.Data.{Members, no_members, boolean, put}
 use Rattle.serde_json.specs.Find.{get_member, as_bool}
 use Rattle.serde_json.proofs.Views.{get_member-put, get_member-put_other}
-use Rattle.dap_call.specs.Command.{flag_of}
-use Rattle.dap_call.specs.Capabilities.{with_flag, capabilities_data, offered_by, is_flag}
-use Rattle.dap_call.specs.declared.capabilities.Capabilities.{Capabilities}
-use Rattle.dap_call.specs.declared.command.Gate.{Gate}
-use Rattle.dap_call.specs.declared.command.Gate.TheVariants.{BreakpointLocations, Cancel, Completions, ConfigurationDone, ExceptionInfo, FunctionBreakpoints, LoadedSources, Modules, Restart, SetVariable, StepBack, Terminate}
+use Rattle.dap_command.specs.Command.{flag_of}
+use Rattle.dap_command.specs.Capabilities.{with_flag, capabilities_data, offered_by, is_flag}
+use Rattle.dap_command.specs.declared.capabilities.Capabilities.{Capabilities}
+use Rattle.dap_command.specs.declared.command.Gate.{Gate}
+use Rattle.dap_command.specs.declared.command.Gate.TheVariants.{BreakpointLocations, Cancel, Completions, ConfigurationDone, ExceptionInfo, FunctionBreakpoints, LoadedSources, Modules, Restart, SetVariable, StepBack, Terminate}
 
 -- a flag with what it is
 pub record Flag : Type 0 where

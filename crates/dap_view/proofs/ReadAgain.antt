@@ -5,7 +5,7 @@ use Rattle.std.proofs.lemmas.Bool.{leb-true, lt-ltb, and_parts}
 use Rattle.serde_json.specs.Data.{Data, number}
 use Rattle.serde_json.specs.Find.{of_integer}
 use Rattle.serde_json.specs.View.{items_of}
-use Rattle.dap_call.specs.Argument.{is_int, int_of}
+use Rattle.dap_command.specs.Numbers.{is_int, int_of}
 use Rattle.dap_body.specs.ResponseBody.{thread, source, stack_frame, scope, variable, breakpoint, threads_body, stack_trace_body, scopes_body, variables_body, set_breakpoints_body, loaded_sources_body, evaluate_body}
 use Rattle.dap_body.specs.declared.body.Body.TheVariants as body
 use Rattle.dap_body.specs.declared.response.Breakpoint.{Breakpoint}

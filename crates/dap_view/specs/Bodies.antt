@@ -5,7 +5,7 @@ use Rattle.std.specs.Prelude.{◌≡◌, ℕ, suc, List, [], ◌∷◌, Option, 
 use Rattle.serde_json.specs.Data.{Data, Items, no_items, item}
 use Rattle.serde_json.specs.Find.{as_str, as_array}
 use Rattle.dap_json.specs.Steps.{◌>>=◌, Returns}
-use Rattle.dap_call.specs.Argument.{seq_of}
+use Rattle.dap_command.specs.Numbers.{seq_of}
 use Rattle.dap_view.specs.At.{Read, required_at, optional_at}
 use Rattle.dap_view.specs.Elements.{ThreadParts, StackFrameParts, ScopeParts, VariableParts, BreakpointParts, SourceParts, EvaluationParts, thread_of, stack_frame_of, scope_of, variable_of, breakpoint_of, source_in, evaluation_of}
 use Rattle.dap_view.specs.Lent.{stack_frame_parts}

@@ -5,7 +5,8 @@ use Rattle.std.specs.Prelude.{ℕ, ℤ, List, Bool, Option, Some, None, Ok, Err}
 use Rattle.serde_json.specs.Data.{Data}
 use Rattle.serde_json.specs.Find.{as_str, as_bool}
 use Rattle.dap_json.specs.Steps.{◌>>=◌}
-use Rattle.dap_call.specs.Argument.{int_of, number_of, seq_of, object_of}
+use Rattle.dap_json.specs.Field.{object_of}
+use Rattle.dap_command.specs.Numbers.{int_of, number_of, seq_of}
 use Rattle.dap_view.specs.At.{Read, or_fault, required_at, optional_at, optional_or}
 use Rattle.dap_view.specs.declared.key.BodyKey.TheVariants as key
 

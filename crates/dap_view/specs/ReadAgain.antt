@@ -3,8 +3,8 @@
 use Rattle.std.specs.Prelude.{◌≡◌, ℕ, map, ◌&&◌, Bool, true, false, nat_le, Some, None, unwrap_or, Ok}
 use Rattle.std.specs.List.{list_all}
 use Rattle.dap_json.specs.Field.{max_seq}
-use Rattle.dap_call.specs.Argument.{is_int, max_number}
-use Rattle.dap_call.specs.Capabilities.{offered_by}
+use Rattle.dap_command.specs.Numbers.{is_int, max_number}
+use Rattle.dap_command.specs.Capabilities.{offered_by}
 use Rattle.dap_body.specs.Body.{data_of}
 use Rattle.dap_body.specs.declared.body.Body.{Body}
 use Rattle.dap_body.specs.declared.body.Body.TheVariants as body

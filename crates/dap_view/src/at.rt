@@ -2,7 +2,7 @@
 ghost use Rattle.std.specs.Prelude.{◌≡◌, option_map};
 ghost use Rattle.serde_json.specs.Find.{as_str, as_bool, as_array};
 ghost use Rattle.serde_json.specs.View.{view, items_view};
-ghost use Rattle.dap_call.specs.Argument.{int_of, number_of, seq_of, is_int as is_int_number};
+ghost use Rattle.dap_command.specs.Numbers.{int_of, number_of, seq_of, is_int as is_int_number};
 ghost use Rattle.dap_view.specs.At.{ok_map, required_at, optional_at, optional_or};
 
 use crate::key::BodyKey;

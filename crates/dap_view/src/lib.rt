@@ -16,7 +16,7 @@ pub use bodies::{
     StackTrace, breakpoints, evaluate, loaded_sources, scopes, set_variable, source, stack_trace,
     threads, variables,
 };
-pub use dap_call::Capabilities;
+pub use dap_command::Capabilities;
 pub use elements::{Breakpoint, Evaluation, Scope, Source, StackFrame, Thread, Variable};
 pub use fault::ViewFault;
 pub use key::BodyKey;

@@ -14,9 +14,9 @@ use Rattle.dap_frame.specs.Laws.{EachStreamHasOneSplit}
 use Rattle.dap_frame.specs.Settings.{Settings, AreInRange}
 use Rattle.dap_history.specs.History.{ins_of}
 use Rattle.dap_history.specs.Pieces.{Whole, FrameClosed, BodyRefused}
-use Rattle.dap_message.specs.Canon.{canon}
-use Rattle.dap_message.specs.Meaning.{Msg}
-use Rattle.dap_message.specs.declared.message.Message.{Message}
+use Rattle.dap_envelope.specs.Canon.{canon}
+use Rattle.dap_envelope.specs.Meaning.{Msg}
+use Rattle.dap_envelope.specs.declared.message.Message.{Message}
 use Rattle.dap_session.specs.Carried.{Goes}
 use Rattle.dap_session.specs.declared.fault.AdapterFault.{AdapterFault}
 use Rattle.dap_session.specs.declared.fault.AdapterFault.TheVariants as adapter

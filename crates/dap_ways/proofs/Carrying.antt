@@ -14,10 +14,10 @@ use Rattle.dap_frame.specs.Stream.{FramesThen, NoFrame, Split}
 use Rattle.dap_frame.specs.Written.{frame_of}
 use Rattle.dap_frame.specs.declared.limits.Bounds.{Bounds}
 use Rattle.dap_history.specs.Pieces.{Whole}
-use Rattle.dap_message.specs.Canon.{canon}
-use Rattle.dap_message.specs.Meaning.{Msg}
-use Rattle.dap_message.specs.ReadBack.{ReadsBack, AllReadBack}
-use Rattle.dap_message.specs.declared.message.Message.{Message}
+use Rattle.dap_envelope.specs.Canon.{canon}
+use Rattle.dap_envelope.specs.Meaning.{Msg}
+use Rattle.dap_envelope.specs.ReadBack.{ReadsBack, AllReadBack}
+use Rattle.dap_envelope.specs.declared.message.Message.{Message}
 use Rattle.dap_outbox.specs.Draft.{bytes_of}
 use Rattle.dap_world.specs.Moves.{MovesInOrder, IsWay}
 use Rattle.dap_world.specs.World.{Said, said_by}

@@ -21,10 +21,10 @@ use Rattle.dap_frame.specs.Settings.{Settings, AreInRange, bounds_of}
 use Rattle.dap_frame.specs.Written.{frame_of}
 use Rattle.dap_history.specs.History.{Entry, In, Out, ReferencesEnd, ins_of, outs_of}
 use Rattle.dap_history.specs.Received.{AreRead}
-use Rattle.dap_message.specs.Canon.{canon}
-use Rattle.dap_message.specs.ReadBack.{ReadsBack, AllReadBack}
-use Rattle.dap_message.specs.Types.Call.{Call}
-use Rattle.dap_message.specs.declared.message.Message.{Message}
+use Rattle.dap_envelope.specs.Canon.{canon}
+use Rattle.dap_envelope.specs.ReadBack.{ReadsBack, AllReadBack}
+use Rattle.dap_call.specs.declared.call.Call.{Call}
+use Rattle.dap_envelope.specs.declared.message.Message.{Message}
 use Rattle.dap_session.specs.Carried.{Goes}
 use Rattle.dap_session.specs.Plan.{Made, Plan, written_by, references_end_if, entries_of}
 use Rattle.dap_outbox.specs.Draft.{Draft, outs}

@@ -12,7 +12,7 @@ use Rattle.dap_client.specs.declared.fault.ClientFault.TheVariants.{ReferenceLim
 use Rattle.dap_debuggee.specs.Laws.{StopsLast}
 use Rattle.dap_debuggee.specs.Shown.{Shown}
 use Rattle.dap_frame.specs.Settings.{Settings, AreInRange}
-use Rattle.dap_message.specs.declared.message.Message.{Message}
+use Rattle.dap_envelope.specs.declared.message.Message.{Message}
 use Rattle.dap_session.specs.Carried.{Goes}
 use Rattle.dap_session.specs.declared.fault.AdapterFault.{AdapterFault}
 use Rattle.dap_session.specs.declared.fault.AdapterFault.TheVariants.{SeqExhausted, OutOfMemory}

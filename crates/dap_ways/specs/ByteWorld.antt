@@ -19,11 +19,11 @@ use Rattle.dap_debuggee.specs.Shown.{Shown}
 use Rattle.dap_frame.specs.Settings.{Settings}
 use Rattle.dap_frame.specs.Written.{frame_of}
 use Rattle.dap_history.specs.History.{Out}
-use Rattle.dap_message.specs.Canon.{canon}
-use Rattle.dap_message.specs.PlainCall.{is_plain_call}
-use Rattle.dap_message.specs.ReadBack.{ReadsBack}
-use Rattle.dap_message.specs.Types.Call.{Call}
-use Rattle.dap_message.specs.declared.message.Message.{Message}
+use Rattle.dap_envelope.specs.Canon.{canon}
+use Rattle.dap_call.specs.PlainCall.{is_plain_call}
+use Rattle.dap_envelope.specs.ReadBack.{ReadsBack}
+use Rattle.dap_call.specs.declared.call.Call.{Call}
+use Rattle.dap_envelope.specs.declared.message.Message.{Message}
 use Rattle.dap_session.specs.Carried.{Goes}
 use Rattle.dap_session.specs.Session.{fresh_session as fresh_adapter}
 use Rattle.dap_world.specs.World.{Said}

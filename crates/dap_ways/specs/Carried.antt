@@ -10,8 +10,8 @@ use Rattle.dap_client.specs.StandsFor.{StandsFor as ClientStandsFor}
 use Rattle.dap_frame.specs.Intake.{Intake}
 use Rattle.dap_frame.specs.Settings.{Settings}
 use Rattle.dap_history.specs.History.{Entry, ins_of, outs_of}
-use Rattle.dap_message.specs.Canon.{canon}
-use Rattle.dap_message.specs.declared.message.Message.{Message}
+use Rattle.dap_envelope.specs.Canon.{canon}
+use Rattle.dap_envelope.specs.declared.message.Message.{Message}
 use Rattle.dap_world.specs.Moves.{IsWay}
 use Rattle.dap_world.specs.World.{World, Said}
 use Rattle.dap_ways.specs.ByteWorld.{ByteWorld, written_bytes}

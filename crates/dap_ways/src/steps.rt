@@ -6,7 +6,7 @@ ghost use Rattle.dap_adapter.specs.Calls.{PollRefused, TakeRefused, TurnRefused}
 ghost use Rattle.dap_client.specs.Calls.{NotAnswered, NotSent, TakeRefused as ClientTakeRefused};
 ghost use Rattle.dap_client.specs.TerminalResponse.{is_plain_terminal};
 ghost use Rattle.dap_debuggee.specs.declared.answers.State.{State};
-ghost use Rattle.dap_message.specs.PlainCall.{is_plain_call};
+ghost use Rattle.dap_call.specs.PlainCall.{is_plain_call};
 ghost use Rattle.dap_ways.specs.ByteWorld.{IsFreshAdapter, IsFreshClient};
 ghost use Rattle.dap_ways.specs.Steps.{AdapterSteps, AdapterStepsOver, ClientSteps, ClientStepsOver, TurnSteps};
 
@@ -14,7 +14,7 @@ use dap_adapter::{Adapter, AdapterFault, Taken, Turned};
 use dap_client::{AnswerFault, Client, ClientFault, Got, SendFault, Sent, Terminal};
 use dap_debuggee::Debuggee;
 use dap_frame::Limits;
-use dap_message::Call;
+use dap_call::Call;
 use std::alloc::{AllocError, Global};
 
 /// A client with which a schedule starts: [`Client::open`].

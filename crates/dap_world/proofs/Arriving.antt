@@ -2,8 +2,8 @@
 use Rattle.std.proofs.Common.{◌≡◌, ℕ, List, [], ◌∷◌, ◌++◌, refl, sym, ap, subst}
 use Rattle.std.specs.List.{AllByRecursion}
 use Rattle.dap_frame.specs.Settings.{Settings, AreInRange}
-use Rattle.dap_message.specs.ReadBack.{ReadsBack, AllReadBack}
-use Rattle.dap_message.specs.declared.message.Message.{Message}
+use Rattle.dap_envelope.specs.ReadBack.{ReadsBack, AllReadBack}
+use Rattle.dap_envelope.specs.declared.message.Message.{Message}
 use Rattle.dap_check.specs.declared.line.Side.{Side}
 use Rattle.dap_check.specs.declared.line.Side.TheVariants.{Client, Adapter}
 use Rattle.dap_debuggee.specs.Shown.{Shown}

@@ -11,14 +11,14 @@ use Rattle.dap_ends.specs.ClientModel as seat
 use Rattle.dap_ends.specs.References.{Ref, Eyes, same_ref, is_inspect, is_resuming as small_is_resuming, holds as small_has_stop, ends_stop as small_ends_stop, given_after}
 use Rattle.dap_ends.proofs.Counts.{eqb-same, names-same}
 use Rattle.dap_frame.specs.Settings.{Settings}
-use Rattle.dap_message.specs.CallTree.{command_of}
-use Rattle.dap_message.specs.Command.{command_named, name_of}
-use Rattle.dap_message.specs.Types.Call.{Call}
-use Rattle.dap_message.specs.Types.Command.{Command}
-use Rattle.dap_message.specs.Types.Command.TheVariants as command
-use Rattle.dap_message.specs.declared.message.Kind.{Kind}
-use Rattle.dap_message.specs.declared.message.Kind.TheVariants.{Request, Response, Event, Other}
-use Rattle.dap_message.specs.declared.message.Message.{Message}
+use Rattle.dap_call.specs.CallTree.{command_of}
+use Rattle.dap_command.specs.Command.{command_named, name_of}
+use Rattle.dap_call.specs.declared.call.Call.{Call}
+use Rattle.dap_command.specs.declared.command.Command.{Command}
+use Rattle.dap_command.specs.declared.command.Command.TheVariants as command
+use Rattle.dap_envelope.specs.declared.message.Kind.{Kind}
+use Rattle.dap_envelope.specs.declared.message.Kind.TheVariants.{Request, Response, Event, Other}
+use Rattle.dap_envelope.specs.declared.message.Message.{Message}
 use Rattle.dap_tables.specs.Outstanding.{Kept, entry_with, without, kept_unparked}
 use Rattle.dap_tables.specs.Given.{references_given_in}
 use Rattle.dap_tables.specs.Known.{with_pairs, HasDistinctPairs}

@@ -6,8 +6,8 @@ use Rattle.std.specs.List.{list_any}
 use Rattle.dap_ends.specs.Messages as small
 use Rattle.dap_ends.specs.References.{messages}
 use Rattle.dap_ends.specs.Pair.{client_dialogue, adapter_dialogue, without_client_responses}
-use Rattle.dap_message.specs.declared.message.Kind.{Kind}
-use Rattle.dap_message.specs.declared.message.Kind.TheVariants.{Request, Response, Event, Other}
+use Rattle.dap_envelope.specs.declared.message.Kind.{Kind}
+use Rattle.dap_envelope.specs.declared.message.Kind.TheVariants.{Request, Response, Event, Other}
 use Rattle.dap_check.specs.Lines.{other_side, same_side, is_of, is_request, is_request_for, is_response_to, is_success, is_event, is_adapter_event, asks, asks_as, asks_for, answers, succeeds}
 use Rattle.dap_check.specs.Rules.{initialize, disconnect, is_out_of_place, breaks_answer, is_too_early, breaks_first_request, breaks_initialized, breaks_disconnect}
 use Rattle.dap_check.specs.Since.{is_open, first_since}

@@ -6,12 +6,12 @@ use Rattle.json.specs.Print.{escape_byte}
 use Rattle.serde_json.proofs.OnLiterals.{serde_json_on_literals}
 use Rattle.dap_json.specs.Read.{json_of}
 use Rattle.dap_frame.specs.Settings.{usual_settings, settings}
-use Rattle.dap_message.specs.Call.{initialize_of, thread_of, stack_trace_of, cancel_of}
-use Rattle.dap_message.specs.Canon.{canon, tree_of, response_members, event_members}
+use Rattle.dap_call.specs.Call.{initialize_of, thread_of, stack_trace_of, cancel_of}
+use Rattle.dap_envelope.specs.Canon.{canon, tree_of, response_members, event_members}
 use Rattle.dap_message.specs.MessageParts.{success_response, failure_response}
-use Rattle.dap_message.specs.Types.Failure.TheVariants.{NotInitialized, AlreadyInitialized, UnknownCommand, Unsupported, BadArguments, WrongPhase, Debuggee, Cancelled}
-use Rattle.dap_message.specs.Types.Key.TheVariants.{ThreadId, RequestId}
-use Rattle.dap_message.specs.declared.message.Kind.TheVariants.{Response, Event}
+use Rattle.dap_body.specs.declared.failure.Failure.TheVariants.{NotInitialized, AlreadyInitialized, UnknownCommand, Unsupported, BadArguments, WrongPhase, Debuggee, Cancelled}
+use Rattle.dap_command.specs.declared.key.Key.TheVariants.{ThreadId, RequestId}
+use Rattle.dap_envelope.specs.declared.message.Kind.TheVariants.{Response, Event}
 use Rattle.dap_session.specs.declared.fault.AdapterFault.TheVariants.{RepeatedSeq, SeqExhausted, Unmatched, Ended}
 use Rattle.dap_decision.specs.declared.phase.Phase.TheVariants.{Configured, Running, Stopped, Exited, Ended as EndedPhase}
 use Rattle.dap_query.specs.Bodies.{query_result}

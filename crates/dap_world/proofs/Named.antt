@@ -1,9 +1,9 @@
 -- Requests by number and command alone, as the smaller ends see them: each is in one place.
 use Rattle.std.specs.Prelude.{◌≡◌, ◌+◌, ℕ, List, [], ◌∷◌, ◌++◌, length, map, filter, Bool, Option}
 use Rattle.dap_history.specs.History.{Asked as AskedRequest}
-use Rattle.dap_message.specs.declared.message.Kind.{Kind}
-use Rattle.dap_message.specs.declared.message.Kind.TheVariants.{Request, Response, Event, Other}
-use Rattle.dap_message.specs.declared.message.Message.{Message}
+use Rattle.dap_envelope.specs.declared.message.Kind.{Kind}
+use Rattle.dap_envelope.specs.declared.message.Kind.TheVariants.{Request, Response, Event, Other}
+use Rattle.dap_envelope.specs.declared.message.Message.{Message}
 use Rattle.dap_tables.specs.Outstanding.{Kept}
 use Rattle.dap_session.specs.Session.{own_requests}
 use Rattle.dap_world.specs.World.{World}

@@ -3,12 +3,12 @@ use Rattle.std.proofs.Common.{◌≡◌, ℕ, List, [], ◌∷◌, Bool, true, f
 use Rattle.std.specs.Prelude.{not, is_none, ◌&&◌, option_map}
 use Rattle.std.specs.List.{AllByRecursion}
 use Rattle.dap_client.specs.References.{optional_frame, references_used_by}
-use Rattle.dap_message.specs.Argument.{Read}
-use Rattle.dap_message.specs.Types.Call.{Call}
-use Rattle.dap_message.specs.Types.Call.TheVariants as call
-use Rattle.dap_message.specs.Types.Command.{Command}
-use Rattle.dap_message.specs.Types.Failure.{Failure}
-use Rattle.dap_message.specs.Types.Failure.TheVariants.{NotInitialized, AlreadyInitialized, UnknownCommand, Unsupported, BadArguments, WrongPhase, NotStopped, UnknownThread, StaleReference, UnknownSource}
+use Rattle.dap_call.specs.Argument.{Read}
+use Rattle.dap_call.specs.declared.call.Call.{Call}
+use Rattle.dap_call.specs.declared.call.Call.TheVariants as call
+use Rattle.dap_command.specs.declared.command.Command.{Command}
+use Rattle.dap_body.specs.declared.failure.Failure.{Failure}
+use Rattle.dap_body.specs.declared.failure.Failure.TheVariants.{NotInitialized, AlreadyInitialized, UnknownCommand, Unsupported, BadArguments, WrongPhase, NotStopped, UnknownThread, StaleReference, UnknownSource}
 use Rattle.dap_debuggee.specs.Shown.{Shown}
 use Rattle.dap_decision.specs.Failures.{command_of, call_in, of_known, is_early, is_initialize, waits_for_stop, thread_named, reference_named, source_named, lacks_thread, lacks_reference, lacks_source, when, or_else, first_failure, key_refused, phase_refused, read_refused, known_refused}
 use Rattle.dap_session.specs.Handling.{refusal}

@@ -9,7 +9,7 @@ use Rattle.dap_ends.specs.AdapterModel.{AdapterModel, AdapterPhase, Made as Smal
 use Rattle.dap_ends.specs.AdapterModel as desk
 use Rattle.dap_ends.specs.References.{Ref, Table, is_inspect, given_by as small_given, all_in, references_from, live_refs, inspection_succeeds, table_turned, table_after}
 use Rattle.dap_ends.specs.Pair.{NumberedNote, WrittenNote, Pair, numbered_notes, notes_written_by, pair_after_adapter}
-use Rattle.dap_message.specs.declared.message.Message.{Message}
+use Rattle.dap_envelope.specs.declared.message.Message.{Message}
 use Rattle.dap_history.specs.History.{Asked, without_answered}
 use Rattle.dap_check.specs.declared.line.Side.TheVariants.{Adapter}
 use Rattle.dap_session.specs.Answering.{GoesWell}

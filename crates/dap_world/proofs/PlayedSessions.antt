@@ -2,9 +2,9 @@
 use Rattle.std.proofs.Common.{ℕ, ◌+◌, ◌++◌, List, [], ◌∷◌, length, Bool, true, false, Option, Some, None, Result, Ok, Err, codes, pos, nat_le, if◌then◌else◌, map, drop}
 use Rattle.dap_json.specs.Read.{json_of}
 use Rattle.dap_frame.specs.Settings.{Settings}
-use Rattle.dap_message.specs.Canon.{canon}
-use Rattle.dap_message.specs.declared.message.Message.{Message}
-use Rattle.dap_message.specs.declared.message.Kind.TheVariants.{Request}
+use Rattle.dap_envelope.specs.Canon.{canon}
+use Rattle.dap_envelope.specs.declared.message.Message.{Message}
+use Rattle.dap_envelope.specs.declared.message.Kind.TheVariants.{Request}
 use Rattle.dap_debuggee.specs.Shown.{Shown, Act, to_start, Reply, refused}
 use Rattle.dap_replay.specs.Played.{Played, fresh_played, act_on, with_ask, shown_of}
 use Rattle.dap_recording.specs.declared.recording.Recording.{Recording}

@@ -3,12 +3,12 @@ use Rattle.std.proofs.Common.{◌≡◌, ℕ, Bool, true, codes, List, [], ◌�
 use Rattle.std.specs.Prelude.{◌++◌, ◌≤◌, IsTrue, false}
 use Rattle.std.specs.List.{AllByRecursion}
 use Rattle.dap_frame.specs.Settings.{Settings}
-use Rattle.dap_message.specs.PlainCall.{is_plain_call}
-use Rattle.dap_message.specs.ReadBack.{ReadsBack, AllReadBack}
-use Rattle.dap_message.specs.Types.Call.{Call}
-use Rattle.dap_message.specs.Types.Call.TheVariants as call
-use Rattle.dap_message.specs.declared.message.Kind.TheVariants.{Other}
-use Rattle.dap_message.specs.declared.message.Message.{Message}
+use Rattle.dap_call.specs.PlainCall.{is_plain_call}
+use Rattle.dap_envelope.specs.ReadBack.{ReadsBack, AllReadBack}
+use Rattle.dap_call.specs.declared.call.Call.{Call}
+use Rattle.dap_call.specs.declared.call.Call.TheVariants as call
+use Rattle.dap_envelope.specs.declared.message.Kind.TheVariants.{Other}
+use Rattle.dap_envelope.specs.declared.message.Message.{Message}
 use Rattle.dap_debuggee.specs.Shown.{Shown, Act, Reply, refused}
 use Rattle.dap_check.specs.declared.line.Side.{Side}
 use Rattle.dap_check.specs.declared.line.Side.TheVariants.{Client, Adapter}

@@ -12,14 +12,14 @@ use Rattle.std.proofs.lemmas.Bool.Decides.{nat_tests}
 use Rattle.serde_json.specs.Data.{Num, unsigned, negative, float, Data, null, boolean, number, string, array, object, Items, no_items, item, Members, no_members, member}
 use Rattle.dap_ends.proofs.Counts.{and-left, and-right}
 use Rattle.dap_json.specs.Sound.{IsSoundNumber, IsBefore, IsSound, AreSound, HasSound}
-use Rattle.dap_message.specs.Canon.{canon}
-use Rattle.dap_message.specs.Laws.{WrittenIsReadAgain}
-use Rattle.dap_message.specs.Plain.{is_plain}
-use Rattle.dap_message.specs.ReadBack.{ReadsBack, AllReadBack}
-use Rattle.dap_message.specs.SoundMessage.{HasSoundTexts, HasSoundTree, IsSoundText, IsSoundTree}
-use Rattle.dap_message.specs.declared.message.Kind.{Kind}
-use Rattle.dap_message.specs.declared.message.Kind.TheVariants.{Request, Response, Event, Other}
-use Rattle.dap_message.specs.declared.message.Message.{Message}
+use Rattle.dap_envelope.specs.Canon.{canon}
+use Rattle.dap_envelope.specs.Laws.{WrittenIsReadAgain}
+use Rattle.dap_envelope.specs.Plain.{is_plain}
+use Rattle.dap_envelope.specs.ReadBack.{ReadsBack, AllReadBack}
+use Rattle.dap_envelope.specs.SoundMessage.{HasSoundTexts, HasSoundTree, IsSoundText, IsSoundTree}
+use Rattle.dap_envelope.specs.declared.message.Kind.{Kind}
+use Rattle.dap_envelope.specs.declared.message.Kind.TheVariants.{Request, Response, Event, Other}
+use Rattle.dap_envelope.specs.declared.message.Message.{Message}
 
 -- ---- trees
 

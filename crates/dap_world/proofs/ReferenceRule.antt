@@ -11,19 +11,19 @@ use Rattle.dap_ends.specs.Messages.{code}
 use Rattle.dap_ends.specs.References.{Ref, Note, same_ref, IsWithin, given_by as small_given, is_resumption, known_next, known_after, AsksKnown}
 use Rattle.dap_ends.specs.Pair.{in_client_dialogue, client_dialogue}
 use Rattle.dap_ends.proofs.Counts.{and-left, and-right, names-same}
-use Rattle.dap_message.specs.CallTree.{command_of, call_tree, variables_members, evaluate_members, set_variable_members, completions_members, if_any}
-use Rattle.dap_message.specs.Command.{command_named, name_of}
-use Rattle.dap_message.specs.GivenReferences.{frame_ids, holders_of}
-use Rattle.dap_message.specs.PlainCall.{WrittenCallIsReadAgain}
-use Rattle.dap_message.specs.Types.Call.{Call}
-use Rattle.dap_message.specs.Types.Call.TheVariants as call
-use Rattle.dap_message.specs.Types.Command.{Command}
-use Rattle.dap_message.specs.Types.Command.TheVariants as command
-use Rattle.dap_message.specs.Types.Completions.{Completions}
-use Rattle.dap_message.specs.Types.Evaluate.{Evaluate}
-use Rattle.dap_message.specs.Types.Variables.{Variables}
-use Rattle.dap_message.specs.declared.message.Kind.{Kind}
-use Rattle.dap_message.specs.declared.message.Kind.TheVariants.{Request, Response, Event, Other}
+use Rattle.dap_call.specs.CallTree.{command_of, call_tree, variables_members, evaluate_members, set_variable_members, completions_members, if_any}
+use Rattle.dap_command.specs.Command.{command_named, name_of}
+use Rattle.dap_command.specs.GivenReferences.{frame_ids, holders_of}
+use Rattle.dap_call.specs.PlainCall.{WrittenCallIsReadAgain}
+use Rattle.dap_call.specs.declared.call.Call.{Call}
+use Rattle.dap_call.specs.declared.call.Call.TheVariants as call
+use Rattle.dap_command.specs.declared.command.Command.{Command}
+use Rattle.dap_command.specs.declared.command.Command.TheVariants as command
+use Rattle.dap_call.specs.declared.call.Completions.{Completions}
+use Rattle.dap_call.specs.declared.call.Evaluate.{Evaluate}
+use Rattle.dap_call.specs.declared.call.Variables.{Variables}
+use Rattle.dap_envelope.specs.declared.message.Kind.{Kind}
+use Rattle.dap_envelope.specs.declared.message.Kind.TheVariants.{Request, Response, Event, Other}
 use Rattle.dap_tables.specs.Given.{frame, holder, references_given_in}
 use Rattle.dap_tables.specs.Known.{has_pair}
 use Rattle.dap_tables.specs.declared.reference_kind.ReferenceKind.{ReferenceKind}

@@ -10,9 +10,9 @@ use Rattle.dap_ends.specs.References.{RefWorld, IsWithin, same_ref, live_refs, A
 use Rattle.dap_ends.proofs.Keeps.{limit-next}
 use Rattle.dap_ends.proofs.RefsAgrees.{all-live as all-names-live}
 use Rattle.dap_frame.specs.Settings.{Settings, AreInRange}
-use Rattle.dap_message.specs.declared.message.Kind.{Kind}
-use Rattle.dap_message.specs.declared.message.Kind.TheVariants.{Request, Response, Event, Other}
-use Rattle.dap_message.specs.declared.message.Message.{Message}
+use Rattle.dap_envelope.specs.declared.message.Kind.{Kind}
+use Rattle.dap_envelope.specs.declared.message.Kind.TheVariants.{Request, Response, Event, Other}
+use Rattle.dap_envelope.specs.declared.message.Message.{Message}
 use Rattle.dap_history.specs.Requests.{asks}
 use Rattle.dap_tables.specs.Outstanding.{Kept}
 use Rattle.dap_tables.specs.References.{LiveReferences}

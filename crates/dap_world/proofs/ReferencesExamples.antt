@@ -7,11 +7,11 @@ use Rattle.json.specs.Print.{escape_byte}
 use Rattle.serde_json.proofs.OnLiterals.{serde_json_on_literals}
 use Rattle.dap_json.specs.Read.{json_of}
 use Rattle.dap_frame.specs.Settings.{Settings, usual_settings, settings}
-use Rattle.dap_message.specs.Call.{initialize_of, thread_of, stack_trace_of, scopes_of, variables_of, evaluate_of, source_of, source_parts, given_lines, set_breakpoints_of}
-use Rattle.dap_message.specs.Canon.{canon, tree_of, response_members, event_members}
+use Rattle.dap_call.specs.Call.{initialize_of, thread_of, stack_trace_of, scopes_of, variables_of, evaluate_of, source_of, source_parts, given_lines, set_breakpoints_of}
+use Rattle.dap_envelope.specs.Canon.{canon, tree_of, response_members, event_members}
 use Rattle.dap_message.specs.MessageParts.{failure_response}
-use Rattle.dap_message.specs.Types.Failure.TheVariants.{UnknownThread, StaleReference, UnknownSource, Debuggee, TooManyBreakpoints, TooManyReferences, ReferencesExhausted, TooLarge, NotStopped}
-use Rattle.dap_message.specs.Types.SourceKey.TheVariants.{Path}
+use Rattle.dap_body.specs.declared.failure.Failure.TheVariants.{UnknownThread, StaleReference, UnknownSource, Debuggee, TooManyBreakpoints, TooManyReferences, ReferencesExhausted, TooLarge, NotStopped}
+use Rattle.dap_command.specs.declared.source_key.SourceKey.TheVariants.{Path}
 use Rattle.dap_query.specs.Bodies.{query_result}
 use Rattle.dap_session.specs.Handling.{plan_for}
 use Rattle.dap_session.specs.Polling.{after_happening}

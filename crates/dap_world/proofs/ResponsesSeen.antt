@@ -7,7 +7,7 @@ use Rattle.dap_ends.specs.AdapterModel.{parked_of, unparked_of, ends_wait, asks 
 use Rattle.dap_ends.specs.AdapterModel as desk
 use Rattle.dap_ends.specs.Standing.{AllLaunch}
 use Rattle.dap_ends.proofs.Counts.{names-same}
-use Rattle.dap_message.specs.Terminal.{run_in_terminal}
+use Rattle.dap_call.specs.Terminal.{run_in_terminal}
 use Rattle.dap_tables.specs.Outstanding.{parked_ones, unparked_ones}
 use Rattle.dap_debuggee.specs.Shown.{Reply, refused}
 use Rattle.dap_session.specs.declared.fault.AdapterFault.{AdapterFault}

@@ -7,17 +7,17 @@ use Rattle.json.specs.Print.{escape_byte}
 use Rattle.serde_json.proofs.OnLiterals.{serde_json_on_literals}
 use Rattle.dap_json.specs.Read.{json_of}
 use Rattle.dap_frame.specs.Settings.{Settings, AreInRange, settings}
-use Rattle.dap_message.specs.Call.{initialize_of, thread_of, stack_trace_of}
-use Rattle.dap_message.specs.CallTree.{call_tree, initialize_members, stack_trace_members}
-use Rattle.dap_message.specs.Canon.{canon, tree_of, request_members, response_members, event_members}
-use Rattle.dap_message.specs.Argument.{Read}
-use Rattle.dap_message.specs.Laws.{WrittenIsReadAgain}
-use Rattle.dap_message.specs.PlainCall.{WrittenCallIsReadAgain}
-use Rattle.dap_message.specs.Types.Call.{Call}
-use Rattle.dap_message.specs.Types.Call.TheVariants as call
-use Rattle.dap_message.specs.Types.Command.TheVariants as command
-use Rattle.dap_message.specs.Types.Failure.{Failure}
-use Rattle.dap_message.specs.Types.Failure.TheVariants.{StaleReference}
+use Rattle.dap_call.specs.Call.{initialize_of, thread_of, stack_trace_of}
+use Rattle.dap_call.specs.CallTree.{call_tree, initialize_members, stack_trace_members}
+use Rattle.dap_envelope.specs.Canon.{canon, tree_of, request_members, response_members, event_members}
+use Rattle.dap_call.specs.Argument.{Read}
+use Rattle.dap_envelope.specs.Laws.{WrittenIsReadAgain}
+use Rattle.dap_call.specs.PlainCall.{WrittenCallIsReadAgain}
+use Rattle.dap_call.specs.declared.call.Call.{Call}
+use Rattle.dap_call.specs.declared.call.Call.TheVariants as call
+use Rattle.dap_command.specs.declared.command.Command.TheVariants as command
+use Rattle.dap_body.specs.declared.failure.Failure.{Failure}
+use Rattle.dap_body.specs.declared.failure.Failure.TheVariants.{StaleReference}
 use Rattle.dap_debuggee.specs.Laws.{may_answer}
 use Rattle.dap_debuggee.specs.Shown.{Act, to_start, to_resume, to_pause, to_poll, to_set_breakpoints, to_assign, to_end, Reply, done, refused, happened}
 use Rattle.dap_debuggee.specs.declared.answers.Happening.TheVariants as happening

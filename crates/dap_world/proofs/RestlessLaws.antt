@@ -5,7 +5,7 @@ use Rattle.std.specs.List.{list_all}
 use Rattle.std.specs.Ordering.{int_eq}
 use Rattle.std.proofs.lemmas.Bool.Decides.{Decides-int_eq}
 use Rattle.dap_ends.proofs.Counts.{and-left, and-right}
-use Rattle.dap_message.specs.Argument.{is_int}
+use Rattle.dap_command.specs.Numbers.{is_int}
 use Rattle.dap_debuggee.specs.KeepsLaws.{KeepsLaws}
 use Rattle.dap_debuggee.specs.Laws.{state_after, keeps_answers, is_frame}
 use Rattle.dap_debuggee.specs.Shown.{Act, to_start, to_resume, to_pause, to_poll, to_set_breakpoints, to_assign, to_end, Reply, done, refused, happened}

@@ -6,13 +6,13 @@ use Rattle.json.specs.Print.{escape_byte}
 use Rattle.serde_json.proofs.OnLiterals.{serde_json_on_literals}
 use Rattle.dap_json.specs.Read.{json_of}
 use Rattle.dap_frame.specs.Settings.{usual_settings, settings}
-use Rattle.dap_message.specs.Call.{initialize_of, thread_of, stack_trace_of, cancel_of, given_lines, set_breakpoints_of, set_exception_breakpoints_of, source_parts}
-use Rattle.dap_message.specs.Canon.{canon, tree_of, request_members, response_members, event_members}
-use Rattle.dap_message.specs.Terminal.{terminal_members}
+use Rattle.dap_call.specs.Call.{initialize_of, thread_of, stack_trace_of, cancel_of, given_lines, set_breakpoints_of, set_exception_breakpoints_of, source_parts}
+use Rattle.dap_envelope.specs.Canon.{canon, tree_of, request_members, response_members, event_members}
+use Rattle.dap_call.specs.Terminal.{terminal_members}
 use Rattle.dap_message.specs.MessageParts.{success_response, failure_response}
-use Rattle.dap_message.specs.Types.Failure.TheVariants.{AlreadyInitialized, Unsupported, UnknownCommand, BadArguments, WrongPhase, Debuggee, Cancelled}
-use Rattle.dap_message.specs.Types.Key.TheVariants.{AdapterId, Arguments}
-use Rattle.dap_message.specs.declared.message.Kind.TheVariants.{Response}
+use Rattle.dap_body.specs.declared.failure.Failure.TheVariants.{AlreadyInitialized, Unsupported, UnknownCommand, BadArguments, WrongPhase, Debuggee, Cancelled}
+use Rattle.dap_command.specs.declared.key.Key.TheVariants.{AdapterId, Arguments}
+use Rattle.dap_envelope.specs.declared.message.Kind.TheVariants.{Response}
 use Rattle.dap_debuggee.specs.declared.answers.State.{State}
 use Rattle.dap_debuggee.specs.declared.answers.State.TheVariants.{NotStarted, Running as IsRunning}
 use Rattle.dap_session.specs.declared.fault.AdapterFault.{AdapterFault}

@@ -6,13 +6,13 @@ use Rattle.json.specs.Print.{escape_byte}
 use Rattle.serde_json.proofs.OnLiterals.{serde_json_on_literals}
 use Rattle.dap_json.specs.Read.{json_of}
 use Rattle.dap_frame.specs.Settings.{usual_settings}
-use Rattle.dap_message.specs.Call.{initialize_of, cancel_of}
-use Rattle.dap_message.specs.CallTree.{initialize_members}
-use Rattle.dap_message.specs.Canon.{canon, tree_of, request_members, response_members, event_members}
-use Rattle.dap_message.specs.Laws.{WrittenIsReadAgain}
-use Rattle.dap_message.specs.Terminal.{terminal_of, terminal_members}
-use Rattle.dap_message.specs.Types.Call.{Call}
-use Rattle.dap_message.specs.Types.Call.TheVariants as call
+use Rattle.dap_call.specs.Call.{initialize_of, cancel_of}
+use Rattle.dap_call.specs.CallTree.{initialize_members}
+use Rattle.dap_envelope.specs.Canon.{canon, tree_of, request_members, response_members, event_members}
+use Rattle.dap_envelope.specs.Laws.{WrittenIsReadAgain}
+use Rattle.dap_call.specs.Terminal.{terminal_of, terminal_members}
+use Rattle.dap_call.specs.declared.call.Call.{Call}
+use Rattle.dap_call.specs.declared.call.Call.TheVariants as call
 use Rattle.dap_debuggee.specs.Shown.{Shown}
 use Rattle.dap_history.specs.History.{Asked as Request}
 use Rattle.dap_history.specs.Requests.{asks}

@@ -11,15 +11,15 @@ use Rattle.dap_ends.specs.References.{Ref, Table, given_by as small_given, all_i
 use Rattle.dap_ends.specs.Pair.{NumberedNote, WrittenNote, Pair, PairTurn, terminal_ask, launch_seq, turn_asks, terminal_after_command, terminal_after_turn, sets_variable, unless_sets_variable, numbered_notes, notes_written_by, pair_after_adapter, pair_asks_terminal, pair_after_turn, pair_happens}
 use Rattle.dap_ends.specs.Standing.{AllLaunch}
 use Rattle.dap_ends.specs.Messages.{one_if}
-use Rattle.dap_message.specs.Argument.{Read}
-use Rattle.dap_message.specs.Call.{call_of, cancel_of}
-use Rattle.dap_message.specs.CallTree.{command_of as command_in}
-use Rattle.dap_message.specs.Command.{command_named}
-use Rattle.dap_message.specs.Terminal.{terminal_members}
-use Rattle.dap_message.specs.Types.Call.{Call}
-use Rattle.dap_message.specs.Types.Call.TheVariants as call
-use Rattle.dap_message.specs.Types.Command.{Command}
-use Rattle.dap_message.specs.Types.Command.TheVariants as command
+use Rattle.dap_call.specs.Argument.{Read}
+use Rattle.dap_call.specs.Call.{call_of, cancel_of}
+use Rattle.dap_call.specs.CallTree.{command_of as command_in}
+use Rattle.dap_command.specs.Command.{command_named}
+use Rattle.dap_call.specs.Terminal.{terminal_members}
+use Rattle.dap_call.specs.declared.call.Call.{Call}
+use Rattle.dap_call.specs.declared.call.Call.TheVariants as call
+use Rattle.dap_command.specs.declared.command.Command.{Command}
+use Rattle.dap_command.specs.declared.command.Command.TheVariants as command
 use Rattle.dap_history.specs.History.{Asked}
 use Rattle.dap_history.specs.Requests.{asks as all_asks}
 use Rattle.dap_tables.specs.Outstanding.{Kept}

@@ -3,13 +3,13 @@
 use Rattle.std.specs.Prelude.{ℕ, List, [], Option, Some, None, Ok, Err, Bool, if◌then◌else◌}
 use Rattle.serde_json.specs.Data.{Data}
 use Rattle.dap_client.specs.References.{references_used_by}
-use Rattle.dap_message.specs.Argument.{Read}
-use Rattle.dap_message.specs.Call.{call_of}
-use Rattle.dap_message.specs.Command.{command_named}
-use Rattle.dap_message.specs.Types.Call.{Call}
-use Rattle.dap_message.specs.Types.Command.{Command}
-use Rattle.dap_message.specs.declared.message.Kind.{Kind}
-use Rattle.dap_message.specs.declared.message.Kind.TheVariants.{Request, Response, Event, Other}
+use Rattle.dap_call.specs.Argument.{Read}
+use Rattle.dap_call.specs.Call.{call_of}
+use Rattle.dap_command.specs.Command.{command_named}
+use Rattle.dap_call.specs.declared.call.Call.{Call}
+use Rattle.dap_command.specs.declared.command.Command.{Command}
+use Rattle.dap_envelope.specs.declared.message.Kind.{Kind}
+use Rattle.dap_envelope.specs.declared.message.Kind.TheVariants.{Request, Response, Event, Other}
 use Rattle.dap_tables.specs.Given.{references_given_in}
 use Rattle.dap_tables.specs.declared.entry.Entry.{Entry}
 use Rattle.dap_tables.specs.declared.reference_kind.ReferenceKind.{ReferenceKind}

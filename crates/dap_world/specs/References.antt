@@ -11,8 +11,8 @@ use Rattle.dap_client.specs.Taking.{takes as client_takes}
 use Rattle.dap_client.specs.declared.fault.ClientFault.{ClientFault}
 use Rattle.dap_debuggee.specs.Laws.{ends_a_stop}
 use Rattle.dap_debuggee.specs.Shown.{Shown}
-use Rattle.dap_message.specs.Types.Failure.TheVariants.{StaleReference}
-use Rattle.dap_message.specs.declared.message.Message.{Message}
+use Rattle.dap_body.specs.declared.failure.Failure.TheVariants.{StaleReference}
+use Rattle.dap_envelope.specs.declared.message.Message.{Message}
 use Rattle.dap_session.specs.Carried.{Goes}
 use Rattle.dap_session.specs.Handling.{refusal}
 use Rattle.dap_query.specs.References.{AreLive}

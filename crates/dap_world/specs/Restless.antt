@@ -1,7 +1,7 @@
 -- A debuggee that may go on by itself while it is stopped, and keeps every law of a debuggee: for it the law on references fails.
 use Rattle.std.specs.Prelude.{◌≡◌, ℕ, ◌+◌, ◌%◌, ◌^◌, Bool, true, false, ◌&&◌, List, [], ◌∷◌, Option, Some, None, Err, codes, pos, IsTrue, if◌then◌else◌}
 use Rattle.std.specs.Ordering.{int_eq}
-use Rattle.dap_message.specs.Types.SourceKey.{SourceKey}
+use Rattle.dap_command.specs.declared.source_key.SourceKey.{SourceKey}
 use Rattle.dap_frame.specs.Settings.{Settings, AreInRange}
 use Rattle.dap_debuggee.specs.KeepsLaws.{KeepsLaws}
 use Rattle.dap_debuggee.specs.Laws.{Follows, is_short, may_answer, state_after, lines_after}
@@ -9,8 +9,8 @@ use Rattle.dap_debuggee.specs.Shown.{Shown, Act, to_assign, Reply, happened, Las
 use Rattle.dap_debuggee.specs.declared.answers.State.{State}
 use Rattle.dap_debuggee.specs.declared.answers.State.TheVariants.{NotStarted, Running, Stopped, Gone}
 use Rattle.dap_debuggee.specs.declared.answers.Thread.{Thread}
-use Rattle.dap_message.specs.Types.Failure.TheVariants.{StaleReference}
-use Rattle.dap_message.specs.declared.message.Message.{Message}
+use Rattle.dap_body.specs.declared.failure.Failure.TheVariants.{StaleReference}
+use Rattle.dap_envelope.specs.declared.message.Message.{Message}
 use Rattle.dap_client.specs.Taking.{takes}
 use Rattle.dap_client.specs.declared.fault.ClientFault.TheVariants.{ReferenceLimit}
 use Rattle.dap_session.specs.Handling.{refusal}

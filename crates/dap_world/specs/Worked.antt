@@ -5,7 +5,7 @@ use Rattle.dap_check.specs.declared.line.Side.{Side}
 use Rattle.dap_check.specs.declared.line.Side.TheVariants.{Client, Adapter}
 use Rattle.dap_debuggee.specs.Shown.{Shown}
 use Rattle.dap_frame.specs.Settings.{Settings, usual_settings}
-use Rattle.dap_message.specs.Canon.{canon}
+use Rattle.dap_envelope.specs.Canon.{canon}
 use Rattle.dap_recording.specs.declared.recording.Recording.{Recording}
 use Rattle.dap_replay.specs.Played.{fresh_played, shown_of, FollowsPlayed}
 use Rattle.dap_session.specs.Carried.{Goes}

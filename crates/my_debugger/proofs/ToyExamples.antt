@@ -1,6 +1,6 @@
 -- Worked examples of what the debugger shows, tells and keeps, each shown by computation.
 use Rattle.std.proofs.Common.{◌≡◌, List, [], ◌∷◌, codes, true, false, Option, None, Some, pos, refl, decimal}
-use Rattle.dap_call.specs.declared.call.SourceKey.TheVariants.{Path, Reference}
+use Rattle.dap_command.specs.declared.source_key.SourceKey.TheVariants.{Path, Reference}
 use Rattle.dap_debuggee.specs.Shown.{to_poll, to_set_breakpoints, to_assign, to_end}
 use Rattle.dap_debuggee.specs.Laws.{is_short}
 use Rattle.dap_debuggee.specs.declared.answers.State.TheVariants.{NotStarted, Running, Stopped, Gone}

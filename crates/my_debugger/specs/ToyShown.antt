@@ -3,9 +3,9 @@
 use Rattle.std.specs.Prelude.{ℕ, ◌+◌, ℤ, pos, Bool, false, ◌&&◌, nat_le, nat_lt, nat_eq, min, decimal, codes, List, [], ◌∷◌, length, map, Option, Some, None, option_map, option_and_then, bytes_eq, if◌then◌else◌}
 use Rattle.std.specs.List.{slice_get, find}
 use Rattle.std.specs.Ordering.{int_eq}
-use Rattle.dap_call.specs.SameSource.{is_source}
-use Rattle.dap_call.specs.declared.call.SourceKey.{SourceKey}
-use Rattle.dap_call.specs.declared.call.SourceKey.TheVariants.{Path}
+use Rattle.dap_command.specs.SameSource.{is_source}
+use Rattle.dap_command.specs.declared.source_key.SourceKey.{SourceKey}
+use Rattle.dap_command.specs.declared.source_key.SourceKey.TheVariants.{Path}
 use Rattle.dap_debuggee.specs.Shown.{Shown, Last}
 use Rattle.dap_debuggee.specs.declared.answers.State.{State}
 use Rattle.dap_debuggee.specs.declared.answers.State.TheVariants.{NotStarted, Running, Stopped, Gone}

@@ -5,7 +5,7 @@ ghost use Rattle.my_debugger.specs.ToyShown.{main_thread, line_of, frames_from, 
 
 use crate::call::{Call, Local};
 use crate::program::{NAME, PATH};
-use dap_call::SourceKey;
+use dap_command::SourceKey;
 use dap_debuggee::{Frame, Scope, Source, Thread, Variable};
 use dap_json::Text;
 use std::alloc::{AllocError, Global};

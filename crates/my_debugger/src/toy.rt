@@ -4,7 +4,7 @@ use crate::call::{Call, Local};
 use crate::news::{LastAct, News, Reason};
 use crate::program::{PATH, TEXT};
 use crate::{call, queries};
-use dap_call::SourceKey;
+use dap_command::SourceKey;
 use dap_debuggee::{
     Asked, Assigned, Debuggee, DebuggeeFault, Evaluation, Frame, Happening, How, Scope, Source,
     State, Thread, Variable,

@@ -16,7 +16,8 @@
 //! answered. A call that is refused memory changes nothing, and a piece that is closes the client too.
 
 use dap_client::{AnswerFault, Client, ClientFault, Phase, SendFault, Terminal};
-use dap_message::{Call, CallFault, Capabilities, Command, read_call};
+use dap_call::{Call, CallFault, read_call};
+use dap_command::{Capabilities, Command};
 use serde_json::Value;
 use std::alloc::{AllocError, Global};
 use std::marker::Model;

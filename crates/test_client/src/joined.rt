@@ -5,7 +5,7 @@ use crate::library::initialize;
 use dap_adapter::{Adapter, Turned};
 use dap_client::Client;
 use dap_frame::Limits;
-use dap_message::Call;
+use dap_call::Call;
 use dap_replay::Recorded;
 use std::alloc::Global;
 use std::marker::Model;

@@ -12,7 +12,7 @@
 //! | `all` | all that can be told of the first frame of the thread 1 |
 
 use crate::telling::{add_all, add_children, add_value};
-use dap_call::SourceKey;
+use dap_command::SourceKey;
 use dap_debuggee::{Debuggee, DebuggeeFault, Frame, Happening, How};
 use dap_json::Text;
 use dap_replay::Recorded;

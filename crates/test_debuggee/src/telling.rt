@@ -1,7 +1,7 @@
 //! What a recording tells of its threads, frames, variables and sources, as text.
 
 use crate::playing::{faulted, in_short, source};
-use dap_call::SourceKey;
+use dap_command::SourceKey;
 use dap_debuggee::{Debuggee, Evaluation, Frame, Scope, Source, Thread, Variable};
 use dap_replay::Recorded;
 use std::alloc::Global;

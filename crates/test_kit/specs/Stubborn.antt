@@ -1,7 +1,7 @@
 -- A debuggee of the tests: a recording that may refuse its first start, though it could start, and whose variables take one long value.
 -- It shows that the laws hold of more than one debuggee.
 use Rattle.std.proofs.Common.{◌≡◌, ℕ, ◌+◌, ◌%◌, ◌^◌, ◌⊎◌, inl, inr, Bool, true, false, not, arith, List, codes, IsTrue, Option, Some, refl, sym, ap, subst, ◌∙◌}
-use Rattle.dap_call.specs.declared.call.SourceKey.{SourceKey}
+use Rattle.dap_command.specs.declared.source_key.SourceKey.{SourceKey}
 use Rattle.dap_debuggee.specs.Shown.{Shown, Act, to_start, to_resume, to_pause, to_poll, to_set_breakpoints, to_assign, to_end, Reply, done, refused, happened, asked_of_act, Last}
 use Rattle.dap_debuggee.specs.Laws.{may_answer, state_after, lines_after, keeps_answers, keeps_frames, Counts, Remembers, Answers, Moves, SetsLines, SetsValues, SetsOneValue, KeepsAnswers, KeepsFrames, KeepsSources, FramesStay, SourcesStay, SameFrames, SameSources, SameAnswers, NoThreads, VerifiesEach, AssignsVariables}
 use Rattle.dap_replay.specs.Played.{Played, lines_in, shown_of, FollowsPlayed}

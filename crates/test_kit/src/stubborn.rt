@@ -2,7 +2,7 @@
 ghost use Rattle.std.specs.Prelude.{◌≡◌};
 ghost use Rattle.test_kit.specs.Stubborn.{long_value};
 
-use dap_call::SourceKey;
+use dap_command::SourceKey;
 use dap_debuggee::{
     Assigned, Debuggee, DebuggeeFault, Evaluation, Frame, Happening, How, Scope, Source, Thread,
     Variable,

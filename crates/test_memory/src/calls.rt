@@ -1,10 +1,8 @@
 //! Calls and capabilities that are read and written, or want of memory.
 
 use crate::outcomes::{both, judge, refused};
-use dap_call::{
-    Call, CallFault, Capabilities, Command, SourceKey, read_call, read_terminal, write_call,
-    write_terminal,
-};
+use dap_call::{Call, CallFault, read_call, read_terminal, write_call, write_terminal};
+use dap_command::{Capabilities, Command, SourceKey};
 use dap_json::{ParseFault, parse, write};
 use serde_json::Value;
 use std::alloc::Global;

@@ -1,7 +1,7 @@
 //! Examples of a recorded debuggee: it is played, and asked.
 
 use crate::outcomes::{both, judge, refused};
-use dap_call::SourceKey;
+use dap_command::SourceKey;
 use dap_debuggee::{Debuggee, DebuggeeFault, Happening};
 use dap_recording::RecordingFault;
 use dap_replay::Recorded;

@@ -9,13 +9,12 @@
 //! tables of `test_tables`.
 
 use crate::outcomes::{judge, refused};
-use dap_call::{
-    Call, CallFault, Capabilities, Command, Gate, frames_given, holders_given, read_call,
-};
+use dap_call::{Call, CallFault, read_call};
+use dap_command::{Capabilities, Command, Gate, frames_given, holders_given};
 use dap_debuggee::{Debuggee, DebuggeeFault, How};
 use dap_frame::{End, Fed, FrameFault, Frames, LimitFault, Limits, Refusal, write_frame};
 use dap_json::{ParseFault, parse};
-use dap_message::{BodyFault, read_message};
+use dap_envelope::{BodyFault, read_message};
 use dap_recording::RecordingFault;
 use dap_replay::Recorded;
 use dap_tables::Seq;

@@ -1,6 +1,8 @@
 //! The rows, and what runs them.
 
-use dap_message::{GatheredReferences, Kind, Scratch, read_message};
+use dap_command::GatheredReferences;
+use dap_envelope::{Kind, read_message};
+use dap_json::object_reader::Scratch;
 use dap_shape::{
     Choice, Field, Scalar, Shape, TypeName, fields, message_fault, read_heading_and_shape,
     sentence, values,

@@ -1,7 +1,7 @@
 //! The table of breakpoints.
 
 use crate::checks::judge;
-use dap_call::SourceKey;
+use dap_command::SourceKey;
 use dap_json::Text;
 use dap_tables::{BpFault, Breakpoints};
 use std::alloc::{AllocError, Global};

@@ -1,7 +1,7 @@
 //! Commands with their gates, capabilities, and the references that a body gives.
 
 use crate::checks::check;
-use dap_call::{Capabilities, Command, Gate, frames_given, holders_given};
+use dap_command::{Capabilities, Command, Gate, frames_given, holders_given};
 use serde_json::Value;
 use std::alloc::{AllocError, Global};
 

@@ -2,7 +2,7 @@
 
 use crate::checks::check;
 use crate::telling::told_read;
-use dap_call::Command;
+use dap_command::Command;
 use serde_json::Value;
 use std::alloc::{AllocError, Global};
 

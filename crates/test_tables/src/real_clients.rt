@@ -1,7 +1,8 @@
 //! The arguments that real clients sent to real debuggers, each once: all are read as calls.
 
 use crate::checks::check;
-use dap_call::{Command, read_call};
+use dap_call::read_call;
+use dap_command::Command;
 use serde_json::Value;
 use std::alloc::Global;
 use std::process::Abort;

@@ -1,6 +1,7 @@
 //! Calls as words, for tests to compare them with what is due.
 
-use dap_call::{Call, CallFault, Command, SourceKey, read_call};
+use dap_call::{Call, CallFault, read_call};
+use dap_command::{Command, SourceKey};
 use dap_json::{Text, Tree};
 use serde_json::Value;
 use std::alloc::{AllocError, Global};

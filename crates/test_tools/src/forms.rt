@@ -3,7 +3,7 @@
 use crate::serving::frames_of;
 use crate::told::expect_none;
 use dap_frame::{End, Limits};
-use dap_message::BodyRefusal;
+use dap_envelope::BodyRefusal;
 use dap_tool::{Form, ShowFault, Shown, Style, list, unwrap, wrap};
 use std::alloc::Global;
 use std::test::Fail;

@@ -2,7 +2,8 @@
 
 use dap_debuggee::Debuggee;
 use dap_frame::{End, Limits, write_frame};
-use dap_message::{SourceKey, Text};
+use dap_command::SourceKey;
+use dap_json::Text;
 use dap_replay::Recorded;
 use dap_tool::show;
 use std::alloc::Global;

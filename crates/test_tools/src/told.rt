@@ -2,7 +2,7 @@
 
 use dap_adapter::{AdapterFault, ServeFault};
 use dap_frame::{FrameFault, Refusal};
-use dap_message::BodyRefusal;
+use dap_envelope::BodyRefusal;
 use dap_recording::RecordingFault;
 use dap_replay::Recorded;
 use dap_tool::{

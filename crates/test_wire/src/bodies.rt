@@ -7,7 +7,7 @@ use dap_body::{
     body_loaded_sources, body_output, body_scopes, body_set_breakpoints, body_set_variable,
     body_source, body_stack_trace, body_stopped, body_terminal, body_threads, body_variables,
 };
-use dap_call::Key;
+use dap_command::Key;
 use dap_json::Text;
 use serde_json::Value;
 use std::alloc::{AllocError, Global};

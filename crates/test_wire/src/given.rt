@@ -1,7 +1,9 @@
 //! The references that bodies give, gathered beside the heading with no tree.
 
 use crate::checks::check;
-use dap_message::{Command, GatheredReferences, Scratch, read_heading_and_references};
+use dap_command::{Command, GatheredReferences};
+use dap_envelope::read_heading_and_references;
+use dap_json::object_reader::Scratch;
 
 /// Bodies that are read one after another, and the frames that each gives.
 static FRAMES: [(&str, &[u64]); 4] = [

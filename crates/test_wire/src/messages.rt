@@ -1,7 +1,7 @@
 //! Messages that are read and written: rows from outside, and that each call answers where memory is ample.
 
 use crate::checks::check;
-use dap_message::{BodyFault, BodyRefusal, Kind, Message, read_message, write_message};
+use dap_envelope::{BodyFault, BodyRefusal, Kind, Message, read_message, write_message};
 use std::alloc::{AllocError, Global};
 
 /// Why a body is not read.

@@ -1,7 +1,7 @@
 //! What a message lends as the response to a request, and as an event.
 
 use crate::checks::check;
-use dap_message::{BodyFault, Event, Message, Response, read_message};
+use dap_envelope::{BodyFault, Event, Message, Response, read_message};
 use serde_json::Value;
 use std::alloc::Global;
 

@@ -3,7 +3,7 @@
 use crate::checks::check;
 use crate::frames::limits;
 use dap_frame::{End, FrameFault, Refusal};
-use dap_message::BodyRefusal;
+use dap_envelope::BodyRefusal;
 use dap_reader::{MessageReader, ReadFault};
 use std::alloc::Global;
 

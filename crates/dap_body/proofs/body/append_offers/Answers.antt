@@ -1,6 +1,6 @@
 use Rattle.std.proofs.Common.{◌∙◌, ◌++◌, ap, Some}
 use Rattle.serde_json.specs.Written.{compact_text, has_float}
-use Rattle.dap_call.specs.Capabilities.{capabilities_data}
+use Rattle.dap_command.specs.Capabilities.{capabilities_data}
 use Rattle.dap_body.proofs.PlainBodies.{offers-float, offers-shallow}
 use Rattle.dap_body.proofs.body.append_offers.Goals as goal
 

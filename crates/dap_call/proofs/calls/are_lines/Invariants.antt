@@ -1,6 +1,6 @@
 use Rattle.std.proofs.Common.{◌≡◌, drop, is_some}
 use Rattle.serde_json.specs.View.{items_view}
-use Rattle.dap_call.specs.Argument.{number_of}
+use Rattle.dap_command.specs.Numbers.{number_of}
 use Rattle.dap_call.specs.Call.{each}
 use Rattle.dap_call.proofs.calls.are_lines.Given as goal
 

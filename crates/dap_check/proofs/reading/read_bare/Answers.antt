@@ -1,5 +1,5 @@
 use Rattle.std.proofs.Common.{List, ℕ, refl, subst}
-use Rattle.dap_message.specs.Meaning.{Msg}
+use Rattle.dap_envelope.specs.Meaning.{Msg}
 use Rattle.dap_check.proofs.BareLemmas.{line_read}
 use Rattle.dap_check.proofs.reading.read_bare.Goals as goal
 

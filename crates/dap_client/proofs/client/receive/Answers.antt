@@ -1,6 +1,6 @@
 use Rattle.std.proofs.Common.{Option, subst}
 use Rattle.std.proofs.lemmas.Result.{err_from_is_err_and}
-use Rattle.dap_message.specs.declared.message.Message.{Message}
+use Rattle.dap_envelope.specs.declared.message.Message.{Message}
 use Rattle.dap_reader.specs.Reader.{Gives, GivesOne}
 use Rattle.dap_client.proofs.Refusing.{untaken_refused}
 use Rattle.dap_client.proofs.client.receive.Goals as goal

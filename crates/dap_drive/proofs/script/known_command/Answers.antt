@@ -1,5 +1,5 @@
 use Rattle.std.proofs.Common.{ap, sym, ◌∙◌}
-use Rattle.dap_message.specs.Command.{command_named}
+use Rattle.dap_command.specs.Command.{command_named}
 use Rattle.dap_drive.specs.Script.{known_command}
 use Rattle.dap_drive.proofs.Texts.{of_text, of_no_text}
 use Rattle.dap_drive.proofs.script.known_command.Goals as goal

@@ -1,6 +1,6 @@
 use Rattle.std.proofs.Common.{◌≡◌}
 use Rattle.serde_json.specs.View.{view}
-use Rattle.dap_message.specs.GivenReferences.{frame_ids}
+use Rattle.dap_command.specs.GivenReferences.{frame_ids}
 use Rattle.dap_check.specs.Rules.{contains_number}
 use Rattle.dap_explain.proofs.trail.has_frame.Given as goal
 

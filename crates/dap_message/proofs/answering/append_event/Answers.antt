@@ -1,7 +1,7 @@
 use Rattle.std.proofs.Common.{◌∙◌, false, None}
 use Rattle.serde_json.specs.Written.{members_text}
 use Rattle.dap_body.specs.Body.{event_data_in}
-use Rattle.dap_message.specs.Canon.{event_members}
+use Rattle.dap_envelope.specs.Canon.{event_members}
 use Rattle.dap_message.specs.PrivateAnswering.{with_body}
 use Rattle.dap_message.proofs.AnswerTexts.{both, front, joined, canon-event}
 use Rattle.dap_message.proofs.ReadsBack.{event-plain, happened-back}

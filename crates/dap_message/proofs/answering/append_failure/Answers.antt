@@ -1,7 +1,7 @@
 use Rattle.std.proofs.Common.{◌∙◌, false, Some, None}
 use Rattle.serde_json.specs.Written.{members_text}
 use Rattle.dap_body.specs.Failure.{failure_body, row_of}
-use Rattle.dap_message.specs.Canon.{response_members}
+use Rattle.dap_envelope.specs.Canon.{response_members}
 use Rattle.dap_message.specs.PrivateAnswering.{with_body}
 use Rattle.dap_message.proofs.AnswerTexts.{both, front, joined, canon-response}
 use Rattle.dap_message.proofs.ReadsBack.{name-text, failed-back}

@@ -1,6 +1,6 @@
 use Rattle.std.proofs.Common.{◌∙◌, false, None}
 use Rattle.serde_json.specs.Written.{members_text}
-use Rattle.dap_message.specs.Canon.{request_members}
+use Rattle.dap_envelope.specs.Canon.{request_members}
 use Rattle.dap_message.specs.PrivateAnswering.{with_arguments}
 use Rattle.dap_message.proofs.AnswerTexts.{both, front, joined, canon-request}
 use Rattle.dap_message.proofs.ReadsBack.{asked-back}

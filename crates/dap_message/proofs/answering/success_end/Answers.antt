@@ -1,6 +1,6 @@
 use Rattle.std.proofs.lemmas.Result.{on_ok_weaker}
 use Rattle.dap_body.proofs.Tokens.{next, one}
-use Rattle.dap_message.specs.Canon.{response_members}
+use Rattle.dap_envelope.specs.Canon.{response_members}
 use Rattle.dap_message.proofs.answering.success_end.Goals as goal
 
 pub returns-clause-adds : goal.returns-clause-adds

@@ -5,7 +5,7 @@ use Rattle.json.specs.Reads.{token_of}
 use Rattle.json.proofs.Grammar.{value-begin_object}
 use Rattle.serde_json.specs.Data.{object}
 use Rattle.serde_json.specs.Read.{of_json, converted}
-use Rattle.dap_call.proofs.GatheredLemmas.{none_yet, given_by}
+use Rattle.dap_command.proofs.GatheredLemmas.{none_yet, given_by}
 use Rattle.dap_json.proofs.ObjectReaderLemmas.{converted-object}
 use Rattle.dap_shape.specs.Faults.{rows_fault}
 use Rattle.dap_shape.specs.Rows.{fields_of}

@@ -3,7 +3,7 @@ use Rattle.std.specs.List.{cons_option}
 use Rattle.std.specs.Prelude.{codes}
 use Rattle.serde_json.specs.Data.{array}
 use Rattle.dap_json.specs.Inside.{if_within, whole_of, numbers_in}
-use Rattle.dap_call.proofs.GatheredLemmas.{all_stay, with_frames, with_scopes, with_variables, with_own}
+use Rattle.dap_command.proofs.GatheredLemmas.{all_stay, with_frames, with_scopes, with_variables, with_own}
 use Rattle.dap_shape.proofs.SoundLemmas.{on_ok}
 use Rattle.dap_shape.proofs.body.take_member.Goals as goal
 

@@ -3,7 +3,7 @@ use Rattle.std.specs.Prelude.{map}
 use Rattle.json.specs.Json.{members, value}
 use Rattle.serde_json.specs.Data.{Members, no_members, object}
 use Rattle.serde_json.specs.Read.{of_members, converted}
-use Rattle.dap_message.specs.Gathered.{AreGathered}
+use Rattle.dap_command.specs.Gathered.{AreGathered}
 use Rattle.dap_shape.specs.Seen.{row_seen}
 use Rattle.dap_shape.specs.PrivateSound.{AreKept}
 use Rattle.dap_shape.proofs.body.take_members.Given as goal

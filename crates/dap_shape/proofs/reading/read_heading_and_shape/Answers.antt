@@ -1,5 +1,5 @@
 use Rattle.serde_json.specs.Data.{object}
-use Rattle.dap_message.proofs.ResponseReferencesLemmas.{given_in}
+use Rattle.dap_envelope.proofs.ResponseReferencesLemmas.{given_in}
 use Rattle.dap_shape.proofs.reading.read_heading_and_shape.Goals as goal
 
 pub returns : goal.returns

@@ -2,7 +2,7 @@ use Rattle.std.proofs.Common.{◌≡◌, true, IfOk, option_map, ap, ◌∙◌, 
 use Rattle.std.specs.Prelude.{is_some}
 use Rattle.serde_json.specs.Find.{as_object}
 use Rattle.serde_json.specs.View.{view}
-use Rattle.dap_message.specs.Lent.{lent_data}
+use Rattle.dap_json.specs.Lent.{lent_data}
 use Rattle.dap_shape.specs.Faults.{rows_fault}
 use Rattle.dap_shape.specs.Seen.{fault_seen}
 use Rattle.dap_shape.proofs.ShapeLemmas.{found_in, weight-tree_at, item_below, fault_of-object}

@@ -2,7 +2,7 @@ use Rattle.std.proofs.Common.{◌≡◌, ◌+◌, ◌*◌, drop}
 use Rattle.std.specs.Prelude.{map}
 use Rattle.serde_json.specs.Data.{depth, items_depth}
 use Rattle.serde_json.specs.View.{view, items_view}
-use Rattle.dap_message.specs.Lent.{lent_data}
+use Rattle.dap_json.specs.Lent.{lent_data}
 use Rattle.dap_shape.specs.Faults.{rows_fault, items_fault}
 use Rattle.dap_shape.specs.Seen.{row_seen}
 use Rattle.dap_shape.proofs.ShapeLemmas.{found_in, weight}

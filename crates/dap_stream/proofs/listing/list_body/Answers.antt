@@ -2,7 +2,7 @@ use Rattle.std.proofs.Common.{◌≡◌, ◌-◌, length, Err, ap, refl, sym, �
 use Rattle.dap_frame.specs.Intake.{StandsFor}
 use Rattle.dap_stream.specs.Listing.{IsLineOf, Shows}
 use Rattle.dap_stream.specs.PrivateShowSteps.{IsStopped}
-use Rattle.dap_message.specs.declared.fault.BodyFault.TheVariants.{Refused}
+use Rattle.dap_envelope.specs.declared.fault.BodyFault.TheVariants.{Refused}
 use Rattle.dap_stream.specs.declared.listing.ShowFault.TheVariants.{Body}
 use Rattle.dap_stream.proofs.ShowLemmas.{released, stopped_at}
 use Rattle.dap_stream.proofs.listing.list_body.Goals as goal

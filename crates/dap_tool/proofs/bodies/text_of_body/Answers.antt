@@ -1,10 +1,10 @@
 use Rattle.std.proofs.Common.{◌≡◌, ℕ, Vec, Global, option_map, Ok, Err, sym, subst}
 use Rattle.std.specs.Prelude.{option_to_list}
 use Rattle.dap_json.specs.Steps.{Returns}
-use Rattle.dap_message.specs.Gives.{Says}
-use Rattle.dap_message.specs.Meaning.{Msg}
-use Rattle.dap_message.specs.declared.fault.BodyFault.{BodyFault}
-use Rattle.dap_message.specs.declared.message.Message.{Message}
+use Rattle.dap_envelope.specs.Gives.{Says}
+use Rattle.dap_envelope.specs.Meaning.{Msg}
+use Rattle.dap_envelope.specs.declared.fault.BodyFault.{BodyFault}
+use Rattle.dap_envelope.specs.declared.message.Message.{Message}
 use Rattle.dap_shape.specs.Faults.{fault_in}
 use Rattle.dap_tool.specs.Verdicts.{texts_of_body}
 use Rattle.dap_tool.proofs.bodies.text_of_body.Goals as goal

@@ -1,5 +1,5 @@
 use Rattle.std.proofs.Common.{sym, ap, ◌∙◌}
-use Rattle.dap_message.specs.Command.{command_named}
+use Rattle.dap_command.specs.Command.{command_named}
 use Rattle.dap_tables.specs.Outstanding.{entry_with}
 use Rattle.dap_client.proofs.Answered.{unlearned-closes, known_after-answers}
 use Rattle.dap_client.proofs.session.Session.take_response.Goals as goal

@@ -1,6 +1,6 @@
 use Rattle.std.proofs.Common.{◌≡◌, List, length, arith, refl, ◌∙◌, ◌++◌, ◌∷◌, [], ap, sym, subst}
-use Rattle.dap_message.specs.Parts.{parts_of_response}
-use Rattle.dap_message.specs.declared.message.Message.{Message}
+use Rattle.dap_envelope.specs.Parts.{parts_of_response}
+use Rattle.dap_envelope.specs.declared.message.Message.{Message}
 use Rattle.dap_connection.specs.ConnectionState.{ConnectionState}
 use Rattle.dap_connection.specs.Connection.{Hears, not_heard, input_ended, loses_other, too_many_others}
 use Rattle.dap_connection.specs.declared.fault.ConnectionFault.TheVariants.{Ended, OutOfMemory, TooManyMessages}

@@ -1,6 +1,6 @@
 use Rattle.std.proofs.Common.{◌∙◌, ◌+◌, ap, arith, length, length-append}
-use Rattle.dap_message.specs.Body.{data_in}
-use Rattle.dap_message.specs.Canon.{canon}
+use Rattle.dap_body.specs.Body.{data_in}
+use Rattle.dap_envelope.specs.Canon.{canon}
 use Rattle.dap_message.specs.MessageParts.{success_response}
 use Rattle.dap_outbox.proofs.Outboxes.{framed, reads-text, writes-behind}
 use Rattle.dap_outbox.proofs.outbox.Outbox.reply_within.Goals as goal

@@ -1,5 +1,5 @@
 use Rattle.std.proofs.Common.{ℕ, List, ◌++◌, take, option_to_list, subst}
-use Rattle.dap_message.specs.declared.message.Message.{Message}
+use Rattle.dap_envelope.specs.declared.message.Message.{Message}
 use Rattle.dap_reader.proofs.Reading.{gives_stands, none_met}
 use Rattle.dap_reader.specs.Reader.{Reader, IsRefused, StandsFor}
 use Rattle.dap_reader.proofs.reader.MessageReader.next.Goals as goal

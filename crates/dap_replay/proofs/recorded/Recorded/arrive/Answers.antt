@@ -1,7 +1,7 @@
 use Rattle.std.proofs.Common.{rules, ◌≡◌, length, Some, nat_le, true, refl, sym, ap, ◌∙◌}
 use Rattle.std.specs.List.{slice_get}
 use Rattle.std.proofs.lemmas.Option.{slice_get_read}
-use Rattle.dap_call.specs.Argument.{is_int}
+use Rattle.dap_command.specs.Numbers.{is_int}
 use Rattle.dap_recording.specs.Recording.{id_at}
 use Rattle.dap_replay.proofs.Ranges.{id_of_recording, reason_short}
 use Rattle.dap_replay.proofs.recorded.Recorded.arrive.Goals as goal

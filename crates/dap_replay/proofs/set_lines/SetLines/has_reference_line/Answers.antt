@@ -1,5 +1,5 @@
 use Rattle.std.proofs.Common.{sym, ap, subst, ◌∙◌}
-use Rattle.dap_call.specs.declared.call.SourceKey.TheVariants.{Reference}
+use Rattle.dap_command.specs.declared.source_key.SourceKey.TheVariants.{Reference}
 use Rattle.dap_tables.specs.SourceMap.{set_of}
 use Rattle.dap_replay.specs.Moves.{has_line}
 use Rattle.dap_replay.specs.PrivateSetLines.{lines_of, IsRising}

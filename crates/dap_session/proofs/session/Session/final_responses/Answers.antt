@@ -1,6 +1,6 @@
 use Rattle.std.proofs.Common.{◌≡◌, ◌+◌, ◌≤◌, true, length, sym, subst}
 use Rattle.std.specs.Prelude.{◌==◌, not}
-use Rattle.dap_message.specs.Types.Failure.TheVariants.{Cancelled}
+use Rattle.dap_body.specs.declared.failure.Failure.TheVariants.{Cancelled}
 use Rattle.dap_tables.specs.Outstanding.{entries, contains_seq}
 use Rattle.dap_outbox.specs.Draft.{failure}
 use Rattle.dap_session.specs.SessionState.{SessionState}

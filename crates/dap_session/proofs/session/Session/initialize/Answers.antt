@@ -1,7 +1,7 @@
 use Rattle.std.proofs.Common.{[], ◌∷◌, Some, refl, subst}
 use Rattle.dap_message.specs.MessageParts.{initialized}
-use Rattle.dap_message.specs.Capabilities.{capabilities_data}
-use Rattle.dap_message.specs.Types.Capabilities.{Capabilities}
+use Rattle.dap_command.specs.Capabilities.{capabilities_data}
+use Rattle.dap_command.specs.declared.capabilities.Capabilities.{Capabilities}
 use Rattle.dap_outbox.specs.Draft.{reply, emit, success}
 use Rattle.dap_outbox.specs.Outbox.{Holds}
 use Rattle.dap_session.proofs.session.Session.initialize.Goals as goal

@@ -1,5 +1,5 @@
 use Rattle.std.proofs.Common.{rules, ◌≡◌, ◌+◌, length, Err, ap, ◌∙◌, sym, refl, subst}
-use Rattle.dap_message.specs.ReadBack.{AllReadBack}
+use Rattle.dap_envelope.specs.ReadBack.{AllReadBack}
 use Rattle.dap_tables.specs.Outstanding.{parked_ones}
 use Rattle.dap_debuggee.specs.Shown.{to_start, done}
 use Rattle.dap_session.specs.declared.fault.AdapterFault.TheVariants.{OutOfMemory}

@@ -1,6 +1,6 @@
 use Rattle.std.proofs.Common.{rules, ◌≡◌, [], Some, None, sym, ap, ◌∙◌}
 use Rattle.std.specs.BTreeMap.{get_by_text}
-use Rattle.dap_call.specs.declared.call.SourceKey.TheVariants.{Path}
+use Rattle.dap_command.specs.declared.source_key.SourceKey.TheVariants.{Path}
 use Rattle.dap_tables.specs.SourceMap.{set_of}
 use Rattle.dap_tables.proofs.SourceLemmas.{found}
 use Rattle.dap_tables.proofs.StoreLemmas.{set_of-path}

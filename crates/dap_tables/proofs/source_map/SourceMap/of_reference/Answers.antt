@@ -1,7 +1,7 @@
 use Rattle.std.proofs.Common.{rules, ◌≡◌, [], Some, None, sym, ap, ◌∙◌}
 use Rattle.std.specs.BTreeMap.{get}
 use Rattle.std.specs.Ordering.{nat_cmp}
-use Rattle.dap_call.specs.declared.call.SourceKey.TheVariants.{Reference}
+use Rattle.dap_command.specs.declared.source_key.SourceKey.TheVariants.{Reference}
 use Rattle.dap_tables.specs.SourceMap.{set_of}
 use Rattle.dap_tables.proofs.SourceLemmas.{found}
 use Rattle.dap_tables.proofs.StoreLemmas.{set_of-reference}

@@ -1,5 +1,5 @@
 use Rattle.std.proofs.Common.{subst, ◌++◌, map, string_bytes, sym, ap, ◌∙◌}
-use Rattle.dap_call.specs.declared.call.SourceKey.TheVariants.{Path}
+use Rattle.dap_command.specs.declared.source_key.SourceKey.TheVariants.{Path}
 use Rattle.dap_tables.specs.SourceMap.{HasNoEmptyList, of_others, in_place}
 use Rattle.dap_tables.specs.PrivateSourceStore.{sources_of, at_path, at_reference}
 use Rattle.dap_tables.proofs.SourceMapLemmas.{filled-others, filled-place}

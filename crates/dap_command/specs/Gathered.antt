@@ -1,0 +1,30 @@
+-- The references that a body gives, where they were gathered with no tree.
+use Rattle.std.specs.Prelude.{◌≡◌, ℕ, List, []}
+use Rattle.serde_json.specs.Data.{Data}
+use Rattle.dap_command.specs.GivenReferences.{frame_ids, holders_of}
+use Rattle.dap_command.specs.declared.command.Command.{Command}
+use Rattle.dap_command.specs.declared.command.Command.TheVariants.{Scopes, Variables, Evaluate, SetVariable}
+use Rattle.dap_command.specs.declared.gathering.GatheredReferences.{GatheredReferences}
+
+abbrev pub given_frames : GatheredReferences → List ℕ
+given_frames given = given.frames.items
+
+-- by the command of the response
+abbrev pub given_holders : Command → GatheredReferences → List ℕ
+given_holders Scopes given = given.scopes.items
+given_holders Variables given = given.variables.items
+given_holders Evaluate given = given.own.items
+given_holders SetVariable given = given.own.items
+given_holders _ given = []
+
+-- the same as the walkers give over the body
+pub record AreGivenBy (given : GatheredReferences) (body : Data) : Type 0 where
+  pub frames : given_frames given ≡ frame_ids body
+  pub holders : (command : Command) → given_holders command given ≡ holders_of command body
+
+-- the same, list by list
+pub record AreGathered (given : GatheredReferences) (body : Data) : Type 0 where
+  pub frames : given.frames.items ≡ frame_ids body
+  pub scopes : given.scopes.items ≡ holders_of Scopes body
+  pub variables : given.variables.items ≡ holders_of Variables body
+  pub own : given.own.items ≡ holders_of Evaluate body

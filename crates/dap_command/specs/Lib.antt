@@ -1,0 +1,7 @@
+pub mod Command
+pub mod Capabilities
+pub mod GivenReferences
+pub mod Gathered
+pub mod Key
+pub mod Numbers
+pub mod SameSource

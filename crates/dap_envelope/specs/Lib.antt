@@ -1,0 +1,15 @@
+pub mod Refusals
+pub mod Meaning
+pub mod Gives
+pub mod Heading
+pub mod ResponseReferences
+pub mod PrivateOnePass
+pub mod InRange
+pub mod PrivateVerdict
+pub mod Plain
+pub mod Canon
+pub mod ReadBack
+pub mod OneLine
+pub mod SoundMessage
+pub mod Laws
+pub mod Parts

@@ -1,5 +1,0 @@
-use Rattle.dap_message.proofs.OneLine.{one_line}
-use Rattle.dap_message.proofs.laws.canonical_text_is_one_line.Goals as goal
-
-pub returns : goal.returns
-returns c = one_line

@@ -1,5 +1,0 @@
-use Rattle.dap_message.proofs.Ranges.{read_is_in_range}
-use Rattle.dap_message.proofs.laws.read_is_in_range.Goals as goal
-
-pub returns : goal.returns
-returns c = read_is_in_range

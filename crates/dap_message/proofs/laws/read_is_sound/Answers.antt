@@ -1,5 +1,0 @@
-use Rattle.dap_message.proofs.SoundReading.{read_sound}
-use Rattle.dap_message.proofs.laws.read_is_sound.Goals as goal
-
-pub returns : goal.returns
-returns c = read_sound c.what_is_read_is_sound.ensures
