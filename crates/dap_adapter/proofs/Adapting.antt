@@ -9,15 +9,15 @@ use Rattle.dap_history.specs.Received.{Received}
 use Rattle.dap_envelope.specs.InRange.{ReadIsInRange}
 use Rattle.dap_envelope.specs.declared.message.Message.{Message}
 use Rattle.dap_debuggee.specs.Shown.{Shown}
-use Rattle.dap_session.specs.declared.fault.AdapterFault.{AdapterFault}
-use Rattle.dap_session.specs.Carried.{Goes}
-use Rattle.dap_session.specs.Follows.{Follows}
-use Rattle.dap_session.specs.Laws.{CanMake, can_make, EachStepGoesOn}
-use Rattle.dap_session.specs.Plan.{Made, Plan, entries_of}
-use Rattle.dap_session.specs.Polling.{polls}
-use Rattle.dap_session.specs.SessionState.{SessionState, Carries, HasTurned}
-use Rattle.dap_session.specs.Session.{Session, IsOrderly, fresh_session}
-use Rattle.dap_session.specs.Within.{IsWithin, EachStepStaysWithin}
+use Rattle.dap_plan.specs.declared.fault.AdapterFault.{AdapterFault}
+use Rattle.dap_plan.specs.Carried.{Goes}
+use Rattle.dap_plan.specs.Follows.{Follows}
+use Rattle.dap_plan.specs.Laws.{CanMake, can_make, EachStepGoesOn}
+use Rattle.dap_plan.specs.Plan.{Made, Plan, entries_of}
+use Rattle.dap_plan.specs.Polling.{polls}
+use Rattle.dap_plan.specs.SessionState.{SessionState, Carries, HasTurned}
+use Rattle.dap_plan.specs.Session.{Session, IsOrderly, fresh_session}
+use Rattle.dap_plan.specs.Within.{IsWithin, EachStepStaysWithin}
 use Rattle.dap_adapter.specs.Calls.{Step, Handled, Saw}
 use Rattle.dap_adapter.specs.AdapterState.{AdapterState, state_of}
 use Rattle.dap_adapter.specs.StandsFor.{GoesOn}

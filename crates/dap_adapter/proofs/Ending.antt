@@ -17,7 +17,7 @@ use Rattle.dap_envelope.specs.declared.message.Message.{Message}
 use Rattle.dap_decision.specs.declared.phase.Phase.{Phase}
 use Rattle.dap_decision.specs.declared.phase.Phase.TheVariants.{Ended}
 use Rattle.dap_outbox.specs.Draft.{bytes_of}
-use Rattle.dap_session.specs.Session.{fresh_session}
+use Rattle.dap_plan.specs.Session.{fresh_session}
 use Rattle.dap_decision.specs.Table.{is_phase}
 use Rattle.dap_adapter.specs.AdapterState.{AdapterState}
 use Rattle.dap_adapter.specs.Run.{to_take, has_ended, fresh_state, begins}

@@ -3,7 +3,7 @@ use Rattle.std.proofs.Common.{List, ℕ, Option, Result, Ok, Err}
 use Rattle.dap_channel.specs.Channel.{IoEvent, bytes_read, bytes_written, Ran, Pipes}
 use Rattle.dap_channel.specs.Laws.{PipesTellTheirBytes}
 use Rattle.dap_debuggee.specs.Shown.{Shown}
-use Rattle.dap_session.specs.Carried.{Goes}
+use Rattle.dap_plan.specs.Carried.{Goes}
 use Rattle.dap_adapter.specs.Served.{Start, Serves, ServesBytes, IsAtEndUnless, HasReason}
 use Rattle.dap_adapter.specs.declared.served.Served.{Served}
 use Rattle.dap_adapter.specs.declared.served.ServeFault.{ServeFault}

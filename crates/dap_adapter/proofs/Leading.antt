@@ -5,7 +5,7 @@ use Rattle.std.proofs.Math.Seq.{take-add}
 use Rattle.std.proofs.Math.ListN.{drop_of_length-le}
 use Rattle.dap_envelope.specs.declared.message.Message.{Message}
 use Rattle.dap_outbox.specs.Draft.{bytes_of}
-use Rattle.dap_session.specs.declared.fault.AdapterFault.{AdapterFault}
+use Rattle.dap_plan.specs.declared.fault.AdapterFault.{AdapterFault}
 use Rattle.dap_adapter.specs.AdapterState.{AdapterState}
 use Rattle.dap_adapter.specs.Parts.{RunsOn, CallMade, StopsAtCall}
 use Rattle.dap_adapter.specs.Run.{Next, to_take, has_ended}

@@ -2,7 +2,7 @@
 use Rattle.std.proofs.Common.{◌≡◌, ◌⊎◌, ℕ, List, ◌++◌, Bool, true, false, refl, sym, ap, ◌∙◌, subst, append_assoc, append-nil, inl, inr}
 use Rattle.dap_channel.specs.Laws.{CallsAddUp}
 use Rattle.dap_envelope.specs.declared.message.Message.{Message}
-use Rattle.dap_session.specs.declared.fault.AdapterFault.{AdapterFault}
+use Rattle.dap_plan.specs.declared.fault.AdapterFault.{AdapterFault}
 use Rattle.dap_adapter.specs.AdapterState.{AdapterState, state_of}
 use Rattle.dap_adapter.specs.Parts.{MayBeHeld, RunsOn, StopsAtCall}
 use Rattle.dap_adapter.specs.Run.{Next, to_take, to_turn, to_poll, has_ended, fresh_state}

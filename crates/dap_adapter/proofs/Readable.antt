@@ -15,7 +15,7 @@ use Rattle.dap_envelope.specs.declared.message.Kind.{Kind}
 use Rattle.dap_envelope.specs.declared.message.Kind.TheVariants.{Request, Response, Event, Other}
 use Rattle.dap_tables.specs.declared.entry.Entry.{Entry as Kept}
 use Rattle.dap_outbox.specs.InRange.{IsRequestInRange, AnswersInRange}
-use Rattle.dap_session.specs.Plan.{Made, references_end_if, entries_of}
+use Rattle.dap_plan.specs.Plan.{Made, references_end_if, entries_of}
 use Rattle.dap_outbox.specs.Draft.{Answer, success, failure, Draft, reply, emit, ask, message_of, names_of, numbered_messages, outs}
 use Rattle.dap_adapter.specs.AdapterState.{AdapterState}
 use Rattle.dap_adapter.specs.StandsFor.{StandsFor, GoesOn}

@@ -9,12 +9,12 @@ use Rattle.dap_history.specs.HistoryLaws.{HistoriesGrow}
 use Rattle.dap_envelope.specs.InRange.{ReadIsInRange}
 use Rattle.dap_envelope.specs.Meaning.{Msg}
 use Rattle.dap_envelope.specs.declared.message.Message.{Message}
-use Rattle.dap_session.specs.Carried.{Goes}
-use Rattle.dap_session.specs.Laws.{CanMake, can_make, EachStepGoesOn}
-use Rattle.dap_session.specs.Plan.{Made, Plan, entries_of}
-use Rattle.dap_session.specs.SessionState.{SessionState}
-use Rattle.dap_session.specs.Taking.{takes}
-use Rattle.dap_session.specs.Within.{EachStepStaysWithin}
+use Rattle.dap_plan.specs.Carried.{Goes}
+use Rattle.dap_plan.specs.Laws.{CanMake, can_make, EachStepGoesOn}
+use Rattle.dap_plan.specs.Plan.{Made, Plan, entries_of}
+use Rattle.dap_plan.specs.SessionState.{SessionState}
+use Rattle.dap_plan.specs.Taking.{takes}
+use Rattle.dap_plan.specs.Within.{EachStepStaysWithin}
 use Rattle.dap_adapter.specs.Calls.{Takes}
 use Rattle.dap_adapter.specs.AdapterState.{AdapterState, state_of}
 use Rattle.dap_adapter.specs.PrivateReceives.{HasReceived}

@@ -10,15 +10,15 @@ use Rattle.dap_envelope.specs.declared.message.Kind.{Kind}
 use Rattle.dap_envelope.specs.declared.message.Kind.TheVariants.{Request, Response, Event, Other}
 use Rattle.dap_tables.specs.declared.entry.Entry.{Entry}
 use Rattle.dap_tables.specs.Outstanding.{contains_seq}
-use Rattle.dap_session.specs.declared.fault.AdapterFault.{AdapterFault}
-use Rattle.dap_session.specs.declared.fault.AdapterFault.TheVariants.{SeqExhausted, OutOfMemory, Frame, Body, RepeatedSeq, Unmatched, CommandMismatch, Ended}
+use Rattle.dap_plan.specs.declared.fault.AdapterFault.{AdapterFault}
+use Rattle.dap_plan.specs.declared.fault.AdapterFault.TheVariants.{SeqExhausted, OutOfMemory, Frame, Body, RepeatedSeq, Unmatched, CommandMismatch, Ended}
 use Rattle.dap_decision.specs.declared.phase.Phase.TheVariants as phase
-use Rattle.dap_session.specs.Handling.{some_plan}
-use Rattle.dap_session.specs.Plan.{Made, Plan, at_once, messages_due, plan_within_numbers}
-use Rattle.dap_session.specs.SessionState.{SessionState, NotTaken, IsUnasked}
-use Rattle.dap_session.specs.Session.{Session, is_asked}
+use Rattle.dap_plan.specs.Handling.{some_plan}
+use Rattle.dap_plan.specs.Plan.{Made, Plan, at_once, messages_due, plan_within_numbers}
+use Rattle.dap_plan.specs.SessionState.{SessionState, NotTaken, IsUnasked}
+use Rattle.dap_plan.specs.Session.{Session, is_asked}
 use Rattle.dap_decision.specs.Table.{is_phase}
-use Rattle.dap_session.specs.Taking.{takes, takes_as, after_taking, after_late_terminal, plan_of_response, plan_of_terminal}
+use Rattle.dap_plan.specs.Taking.{takes, takes_as, after_taking, after_late_terminal, plan_of_response, plan_of_terminal}
 use Rattle.dap_reader.specs.Reader.{IsRefused as IsUnreadPiece}
 use Rattle.dap_reader.specs.declared.fault.ReadFault.{ReadFault}
 use Rattle.dap_reader.specs.declared.fault.ReadFault.TheVariants as read

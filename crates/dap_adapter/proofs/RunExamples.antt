@@ -6,9 +6,9 @@ use Rattle.dap_envelope.specs.Meaning.{Msg}
 use Rattle.dap_envelope.specs.declared.message.Kind.TheVariants.{Event}
 use Rattle.dap_debuggee.specs.Shown.{Shown}
 use Rattle.dap_decision.specs.declared.phase.Phase.TheVariants.{Running, Stopped, Exited, Ended}
-use Rattle.dap_session.specs.Carried.{Goes}
-use Rattle.dap_session.specs.Plan.{at_once, no_change}
-use Rattle.dap_session.specs.Session.{fresh_session}
+use Rattle.dap_plan.specs.Carried.{Goes}
+use Rattle.dap_plan.specs.Plan.{at_once, no_change}
+use Rattle.dap_plan.specs.Session.{fresh_session}
 use Rattle.dap_adapter.specs.Run.{to_take, to_poll, after_poll, has_ended, fresh_state, Run, begins, delivers, idles, sees}
 
 -- ---- when the debuggee is asked no more

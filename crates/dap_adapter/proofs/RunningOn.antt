@@ -11,12 +11,12 @@ use Rattle.dap_history.specs.History.{Entry, outs_of}
 use Rattle.dap_envelope.specs.ReadBack.{AllReadBack, ReadsBack}
 use Rattle.dap_envelope.specs.declared.message.Message.{Message}
 use Rattle.dap_debuggee.specs.Shown.{Shown}
-use Rattle.dap_session.specs.Carried.{Goes}
-use Rattle.dap_session.specs.Handling.{turns}
-use Rattle.dap_session.specs.Plan.{written_by}
+use Rattle.dap_plan.specs.Carried.{Goes}
+use Rattle.dap_plan.specs.Handling.{turns}
+use Rattle.dap_plan.specs.Plan.{written_by}
 use Rattle.dap_outbox.specs.Draft.{bytes_of}
-use Rattle.dap_session.specs.Session.{Session}
-use Rattle.dap_session.specs.SessionState.{SessionState}
+use Rattle.dap_plan.specs.Session.{Session}
+use Rattle.dap_plan.specs.SessionState.{SessionState}
 use Rattle.dap_adapter.specs.PrivateServing.{next_if}
 use Rattle.dap_adapter.specs.Parts.{MayBeHeld, RunsOn, PartsJoin, InTurn, none_made, answered, told as told_since, StandsInTurn, CallsInTurnAddUp}
 use Rattle.dap_adapter.specs.Calls.{Handled, Saw, Delivers, Waits, Takes}

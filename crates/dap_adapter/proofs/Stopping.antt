@@ -9,11 +9,11 @@ use Rattle.dap_frame.specs.declared.frames.FrameFault.{FrameFault}
 use Rattle.dap_frame.specs.declared.limits.Bounds.{Bounds}
 use Rattle.dap_tables.specs.Outstanding.{Kept}
 use Rattle.dap_debuggee.specs.Shown.{Shown}
-use Rattle.dap_session.specs.declared.fault.AdapterFault.{AdapterFault}
-use Rattle.dap_session.specs.declared.fault.AdapterFault.TheVariants.{SeqExhausted, OutOfMemory, Frame, Body, RepeatedSeq, Unmatched, CommandMismatch, Ended}
-use Rattle.dap_session.specs.Handling.{turns, turn_of, some_plan, plan}
-use Rattle.dap_session.specs.Plan.{Plan, messages_due}
-use Rattle.dap_session.specs.Session.{Session, oldest}
+use Rattle.dap_plan.specs.declared.fault.AdapterFault.{AdapterFault}
+use Rattle.dap_plan.specs.declared.fault.AdapterFault.TheVariants.{SeqExhausted, OutOfMemory, Frame, Body, RepeatedSeq, Unmatched, CommandMismatch, Ended}
+use Rattle.dap_plan.specs.Handling.{turns, turn_of, some_plan, plan}
+use Rattle.dap_plan.specs.Plan.{Plan, messages_due}
+use Rattle.dap_plan.specs.Session.{Session, oldest}
 use Rattle.dap_history.specs.Pieces.{FrameClosed, BodyRefused}
 use Rattle.dap_adapter.specs.Calls.{TakeRefused, TurnRefused, PollRefused, ClosedBy}
 use Rattle.dap_adapter.specs.AdapterState.{AdapterState, state_of}

@@ -2,8 +2,8 @@
 use Rattle.std.proofs.Common.{◌≡◌, ℕ, ◌+◌, List, [], length, Bool, None, refl, subst}
 use Rattle.std.specs.Prelude.{◌==◌, ◌&&◌, not}
 use Rattle.dap_envelope.specs.declared.message.Message.{Message}
-use Rattle.dap_session.specs.Plan.{written_by}
-use Rattle.dap_session.specs.declared.fault.AdapterFault.{AdapterFault}
+use Rattle.dap_plan.specs.Plan.{written_by}
+use Rattle.dap_plan.specs.declared.fault.AdapterFault.{AdapterFault}
 use Rattle.dap_decision.specs.declared.phase.Phase.TheVariants.{Stopped}
 use Rattle.dap_decision.specs.Table.{is_phase}
 use Rattle.dap_adapter.specs.Parts.{RunsOn}

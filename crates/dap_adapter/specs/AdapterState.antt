@@ -1,9 +1,9 @@
 -- An adapter, as contracts see it.
 use Rattle.std.specs.Prelude.{Option}
 use Rattle.dap_frame.specs.Intake.{Intake}
-use Rattle.dap_session.specs.Session.{Session}
-use Rattle.dap_session.specs.SessionState.{SessionState}
-use Rattle.dap_session.specs.declared.fault.AdapterFault.{AdapterFault}
+use Rattle.dap_plan.specs.Session.{Session}
+use Rattle.dap_plan.specs.SessionState.{SessionState}
+use Rattle.dap_plan.specs.declared.fault.AdapterFault.{AdapterFault}
 
 -- the session, the bytes of a frame under way, why it is closed, and the debuggee
 pub record AdapterState (D : Type 0) : Type 0 where

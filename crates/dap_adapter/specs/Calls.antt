@@ -10,21 +10,21 @@ use Rattle.dap_envelope.specs.ReadBack.{AllReadBack}
 use Rattle.dap_envelope.specs.declared.message.Message.{Message}
 use Rattle.dap_debuggee.specs.Shown.{Shown}
 use Rattle.dap_tables.specs.Outstanding.{Kept}
-use Rattle.dap_session.specs.declared.fault.AdapterFault.{AdapterFault}
-use Rattle.dap_session.specs.declared.fault.AdapterFault.TheVariants.{Frame, Body, SeqExhausted, OutOfMemory}
+use Rattle.dap_plan.specs.declared.fault.AdapterFault.{AdapterFault}
+use Rattle.dap_plan.specs.declared.fault.AdapterFault.TheVariants.{Frame, Body, SeqExhausted, OutOfMemory}
 use Rattle.dap_adapter.specs.declared.taken.Turned.{Turned}
 use Rattle.dap_adapter.specs.declared.taken.Turned.TheVariants.{Idle, Done}
-use Rattle.dap_session.specs.Carried.{Goes}
-use Rattle.dap_session.specs.Handling.{some_plan, turns}
-use Rattle.dap_session.specs.Plan.{Plan, written_by, entries_of}
+use Rattle.dap_plan.specs.Carried.{Goes}
+use Rattle.dap_plan.specs.Handling.{some_plan, turns}
+use Rattle.dap_plan.specs.Plan.{Plan, written_by, entries_of}
 use Rattle.dap_outbox.specs.Draft.{bytes_of}
-use Rattle.dap_session.specs.Polling.{polls, has_debuggee}
-use Rattle.dap_session.specs.SessionState.{SessionState, SessionStep, IsUnasked, HasTooMany}
-use Rattle.dap_session.specs.Session.{Session, to_handle}
+use Rattle.dap_plan.specs.Polling.{polls, has_debuggee}
+use Rattle.dap_plan.specs.SessionState.{SessionState, SessionStep, IsUnasked, HasTooMany}
+use Rattle.dap_plan.specs.Session.{Session, to_handle}
 use Rattle.dap_reader.specs.Reader.{Reader}
 use Rattle.dap_adapter.specs.AdapterState.{AdapterState, state_of}
 use Rattle.dap_adapter.specs.StandsFor.{StandsFor, GoesOn}
-use Rattle.dap_session.specs.Taking.{takes}
+use Rattle.dap_plan.specs.Taking.{takes}
 
 -- its session made a step, over these bytes of the client and what came with them; a client with the same limit on bodies reads each message that it wrote
 pub record Step {D : Type 0} (follows : Goes D) (plan : Plan) (old new : AdapterState D) (used : List ℕ) (came : List Entry) (bytes : List ℕ) : Type 0 where

@@ -3,11 +3,11 @@ use Rattle.std.specs.Prelude.{◌≡◌, ℕ, List, [], Option, Some, None}
 use Rattle.dap_frame.specs.Feeds.{Gathers}
 use Rattle.dap_frame.specs.Intake.{Intake}
 use Rattle.dap_envelope.specs.declared.message.Message.{Message}
-use Rattle.dap_session.specs.Carried.{Goes}
-use Rattle.dap_session.specs.SessionState.{SessionState, HasTaken}
-use Rattle.dap_session.specs.Taking.{takes}
-use Rattle.dap_session.specs.declared.fault.AdapterFault.{AdapterFault}
-use Rattle.dap_session.specs.declared.fault.AdapterFault.TheVariants as fault
+use Rattle.dap_plan.specs.Carried.{Goes}
+use Rattle.dap_plan.specs.SessionState.{SessionState, HasTaken}
+use Rattle.dap_plan.specs.Taking.{takes}
+use Rattle.dap_plan.specs.declared.fault.AdapterFault.{AdapterFault}
+use Rattle.dap_plan.specs.declared.fault.AdapterFault.TheVariants as fault
 use Rattle.dap_reader.specs.Reader.{GivesOne}
 use Rattle.dap_reader.specs.declared.fault.ReadFault.{ReadFault}
 use Rattle.dap_reader.specs.declared.fault.ReadFault.TheVariants.{Frame, Body, OutOfMemory, Closed}

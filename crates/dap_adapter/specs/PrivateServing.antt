@@ -6,9 +6,9 @@ use Rattle.dap_frame.specs.Intake.{StandsFor as StandsForStream}
 use Rattle.dap_history.specs.History.{Entry}
 use Rattle.dap_envelope.specs.declared.message.Message.{Message}
 use Rattle.dap_debuggee.specs.Shown.{Shown}
-use Rattle.dap_session.specs.declared.fault.AdapterFault.{AdapterFault}
-use Rattle.dap_session.specs.declared.fault.AdapterFault.TheVariants.{OutOfMemory as NoMemory}
-use Rattle.dap_session.specs.Carried.{Goes}
+use Rattle.dap_plan.specs.declared.fault.AdapterFault.{AdapterFault}
+use Rattle.dap_plan.specs.declared.fault.AdapterFault.TheVariants.{OutOfMemory as NoMemory}
+use Rattle.dap_plan.specs.Carried.{Goes}
 use Rattle.dap_outbox.specs.Draft.{bytes_of}
 use Rattle.dap_adapter.specs.declared.served.Served.{Served}
 use Rattle.dap_adapter.specs.declared.served.ServeFault.{ServeFault}

@@ -8,15 +8,15 @@ use Rattle.dap_envelope.specs.declared.message.Message.{Message}
 use Rattle.dap_debuggee.specs.Shown.{Shown}
 use Rattle.dap_decision.specs.declared.phase.Phase.{Phase}
 use Rattle.dap_decision.specs.declared.phase.Phase.TheVariants.{Stopped, Ended}
-use Rattle.dap_session.specs.Carried.{Goes}
-use Rattle.dap_session.specs.Handling.{turns}
-use Rattle.dap_session.specs.Plan.{Plan, written_by}
+use Rattle.dap_plan.specs.Carried.{Goes}
+use Rattle.dap_plan.specs.Handling.{turns}
+use Rattle.dap_plan.specs.Plan.{Plan, written_by}
 use Rattle.dap_outbox.specs.Draft.{bytes_of}
-use Rattle.dap_session.specs.Polling.{polls}
-use Rattle.dap_session.specs.SessionState.{SessionState, SessionStep}
-use Rattle.dap_session.specs.Session.{Session, fresh_session}
+use Rattle.dap_plan.specs.Polling.{polls}
+use Rattle.dap_plan.specs.SessionState.{SessionState, SessionStep}
+use Rattle.dap_plan.specs.Session.{Session, fresh_session}
 use Rattle.dap_decision.specs.Table.{is_phase}
-use Rattle.dap_session.specs.Taking.{takes}
+use Rattle.dap_plan.specs.Taking.{takes}
 
 -- what is done next: a message is delivered, a request is handled, or the debuggee is asked what happened, so many times already since the message
 pub data Next : Type 0 where

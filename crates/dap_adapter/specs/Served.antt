@@ -17,16 +17,16 @@ use Rattle.dap_envelope.specs.declared.fault.BodyRefusal.{BodyRefusal}
 use Rattle.dap_envelope.specs.declared.message.Message.{Message}
 use Rattle.dap_debuggee.specs.Shown.{Shown}
 use Rattle.dap_decision.specs.declared.phase.Phase.TheVariants.{Ended}
-use Rattle.dap_session.specs.declared.fault.AdapterFault.{AdapterFault}
-use Rattle.dap_session.specs.declared.fault.AdapterFault.TheVariants.{Frame, Body, SeqExhausted, OutOfMemory as NoMemory}
-use Rattle.dap_session.specs.Carried.{Goes, CarriedOut}
-use Rattle.dap_session.specs.Handling.{turns}
-use Rattle.dap_session.specs.Plan.{Made}
+use Rattle.dap_plan.specs.declared.fault.AdapterFault.{AdapterFault}
+use Rattle.dap_plan.specs.declared.fault.AdapterFault.TheVariants.{Frame, Body, SeqExhausted, OutOfMemory as NoMemory}
+use Rattle.dap_plan.specs.Carried.{Goes, CarriedOut}
+use Rattle.dap_plan.specs.Handling.{turns}
+use Rattle.dap_plan.specs.Plan.{Made}
 use Rattle.dap_outbox.specs.Draft.{bytes_of}
-use Rattle.dap_session.specs.Polling.{polls}
-use Rattle.dap_session.specs.SessionState.{SessionState}
+use Rattle.dap_plan.specs.Polling.{polls}
+use Rattle.dap_plan.specs.SessionState.{SessionState}
 use Rattle.dap_decision.specs.Table.{is_phase}
-use Rattle.dap_session.specs.Taking.{takes}
+use Rattle.dap_plan.specs.Taking.{takes}
 use Rattle.dap_adapter.specs.declared.served.Served.{Served}
 use Rattle.dap_adapter.specs.declared.served.ServeFault.{ServeFault}
 use Rattle.dap_adapter.specs.declared.served.ServeFault.TheVariants.{Read, Write, Adapter, TooManyReads, OutOfMemory}

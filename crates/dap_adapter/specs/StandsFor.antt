@@ -3,8 +3,8 @@ use Rattle.std.specs.Prelude.{◌≡◌, ℕ, List, ◌++◌, None}
 use Rattle.dap_frame.specs.Settings.{bounds_of}
 use Rattle.dap_history.specs.History.{Entry}
 use Rattle.dap_history.specs.Received.{Received}
-use Rattle.dap_session.specs.Follows.{Follows}
-use Rattle.dap_session.specs.Within.{IsWithin}
+use Rattle.dap_plan.specs.Follows.{Follows}
+use Rattle.dap_plan.specs.Within.{IsWithin}
 use Rattle.dap_adapter.specs.AdapterState.{AdapterState}
 
 -- An open adapter that used the bytes s, and whose calls took and handed out what h lists.

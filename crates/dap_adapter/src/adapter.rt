@@ -4,15 +4,15 @@ ghost use Rattle.dap_debuggee.specs.declared.answers.State.{State};
 ghost use Rattle.dap_frame.specs.Ends.{EndsWith};
 ghost use Rattle.dap_frame.specs.Intake.{StandsFor as StandsForStream};
 ghost use Rattle.dap_frame.specs.declared.frames.End.{End};
-ghost use Rattle.dap_session.specs.declared.fault.AdapterFault.{AdapterFault};
+ghost use Rattle.dap_plan.specs.declared.fault.AdapterFault.{AdapterFault};
 ghost use Rattle.dap_adapter.specs.Calls.{TakeRefused};
 ghost use Rattle.dap_adapter.specs.PrivateReceives.{HasReceived, IsBy};
 ghost use Rattle.dap_reader.specs.declared.fault.ReadFault.{ReadFault};
 ghost use Rattle.std.specs.Option.{option_copied};
 ghost use Rattle.dap_tables.specs.References.{target_of};
 ghost use Rattle.dap_tables.specs.SourceMap.{count};
-ghost use Rattle.dap_session.specs.Session.{fresh_session, oldest, own_requests, to_handle};
-ghost use Rattle.dap_session.specs.SessionState.{AppendsSome};
+ghost use Rattle.dap_plan.specs.Session.{fresh_session, oldest, own_requests, to_handle};
+ghost use Rattle.dap_plan.specs.SessionState.{AppendsSome};
 ghost use Rattle.dap_decision.specs.Table.{is_phase};
 ghost use Rattle.dap_decision.specs.declared.phase.Phase.TheVariants.{Asked};
 
@@ -22,8 +22,9 @@ use dap_frame::{End, Limits};
 use dap_history::laws::histories_grow;
 use dap_envelope::laws::read_is_in_range;
 use dap_reader::{MessageReader, Next, ReadFault};
-use dap_session::laws::{each_step_goes_on, each_step_stays_within};
-use dap_session::{AdapterFault, Phase, Session};
+use dap_plan::laws::{each_step_goes_on, each_step_stays_within};
+use dap_plan::AdapterFault;
+use dap_session::{Phase, Session};
 use dap_tables::Target;
 use std::alloc::{AllocError, Global};
 use std::marker::Model;
@@ -54,7 +55,7 @@ impl<D: Debuggee + Drop> Model for Adapter<D> {
 impl<D: Debuggee + Drop> Adapter<D> {
     ghost use Rattle.dap_adapter.specs.AdapterState.{state_of};
     ghost use Rattle.dap_adapter.specs.Calls.{Takes, TurnGives, Handled, TurnRefused, AreFewer, Saw, PollRefused};
-    ghost use Rattle.dap_session.specs.Polling.{has_debuggee};
+    ghost use Rattle.dap_plan.specs.Polling.{has_debuggee};
     ghost use Rattle.dap_adapter.specs.StandsFor.{StandsFor};
     ghost use Rattle.dap_adapter.specs.declared.taken.Turned.{Turned};
 

@@ -3,14 +3,15 @@ ghost use Rattle.std.specs.Prelude.{◌≡◌, List, [], true, false, IfOk, IfEr
 ghost use Rattle.dap_adapter.specs.Parts.{AnswersPiece, PollsOn, StopsAfter, PartsJoin, CallsInTurnAddUp};
 ghost use Rattle.dap_adapter.specs.PrivateServing.{adapter_fault_of};
 ghost use Rattle.dap_adapter.specs.Run.{to_take, to_poll, has_ended};
-ghost use Rattle.dap_session.specs.Polling.{has_debuggee};
+ghost use Rattle.dap_plan.specs.Polling.{has_debuggee};
 
 use crate::adapter::Adapter;
 use crate::outlet::Gathered;
 use crate::served::ServeFault;
 use crate::serving::{is_ended, polls, serve_piece};
 use dap_debuggee::Debuggee;
-use dap_session::{AdapterFault, Phase};
+use dap_plan::AdapterFault;
+use dap_session::Phase;
 use std::alloc::Global;
 use std::mem;
 

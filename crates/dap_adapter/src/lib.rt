@@ -15,7 +15,8 @@ mod taken;
 
 pub use adapter::Adapter;
 pub use answering::{calls_in_turn_add_up, parts_of_a_run_join};
-pub use dap_session::{AdapterFault, Options, Phase};
+pub use dap_plan::AdapterFault;
+pub use dap_session::{Options, Phase};
 pub use dap_tables::{ReferenceKind, Target};
 pub use served::{ServeFault, Served};
 pub use serving::{serve, serve_channel, serving_is_of_the_log};

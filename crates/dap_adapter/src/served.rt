@@ -1,7 +1,8 @@
 //! What serving comes to.
 
 use dap_frame::End;
-use dap_session::{AdapterFault, Phase};
+use dap_plan::AdapterFault;
+use dap_session::Phase;
 
 /// How serving ended.
 #[derive(Clone, Copy, Debug, PartialEq, Eq)]

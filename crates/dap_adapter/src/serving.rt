@@ -1,7 +1,7 @@
 //! A debuggee served over a channel.
 ghost use Rattle.std.specs.Prelude.{◌≡◌, ℕ, ◌+◌, ◌<◌, ◌≤◌, List, [], length, take, is_some, IsTrue, false, IfOk, OnOk, IfErr, Result};
 ghost use Rattle.dap_debuggee.specs.declared.answers.State.{State};
-ghost use Rattle.dap_session.specs.Session.{to_handle};
+ghost use Rattle.dap_plan.specs.Session.{to_handle};
 ghost use Rattle.dap_decision.specs.Table.{is_phase};
 ghost use Rattle.dap_decision.specs.declared.phase.Phase.{Phase};
 ghost use Rattle.dap_adapter.specs.Run.{to_take, to_turn, to_poll, has_ended};
@@ -18,7 +18,8 @@ use crate::taken::Came;
 use dap_channel::{Channel, Pipe, calls_add_up, calls_are_the_log, pipes_tell_their_bytes};
 use dap_debuggee::Debuggee;
 use dap_frame::{End, Limits, each_stream_has_one_split};
-use dap_session::{AdapterFault, Phase};
+use dap_plan::AdapterFault;
+use dap_session::Phase;
 use std::alloc::Global;
 use std::io::{Read, Write};
 

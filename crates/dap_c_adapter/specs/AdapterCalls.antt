@@ -9,7 +9,7 @@ use Rattle.dap_recording.specs.Reading.{verdict_of}
 use Rattle.dap_replay.specs.Played.{fresh_played}
 use Rattle.dap_live.specs.LiveShown.{LiveState, fresh_live, shown_live}
 use Rattle.dap_live.specs.LiveLaws.{FollowsLive}
-use Rattle.dap_session.specs.declared.fault.AdapterFault.{AdapterFault}
+use Rattle.dap_plan.specs.declared.fault.AdapterFault.{AdapterFault}
 use Rattle.dap_adapter.specs.AdapterState.{state_of}
 use Rattle.dap_adapter.specs.Calls.{Takes, TakeRefused, TurnGives, TurnRefused, AreFewer, Saw, PollRefused}
 use Rattle.dap_adapter.specs.declared.taken.Turned.{Turned}

@@ -1,7 +1,7 @@
 -- Why an adapter is closed, as a code and as what is found of it.
 use Rattle.std.specs.Prelude.{◌≡◌, ℕ}
-use Rattle.dap_session.specs.declared.fault.AdapterFault.{AdapterFault}
-use Rattle.dap_session.specs.declared.fault.AdapterFault.TheVariants.{Frame, Body, RepeatedSeq, Unmatched, CommandMismatch, Ended, SeqExhausted, OutOfMemory}
+use Rattle.dap_plan.specs.declared.fault.AdapterFault.{AdapterFault}
+use Rattle.dap_plan.specs.declared.fault.AdapterFault.TheVariants.{Frame, Body, RepeatedSeq, Unmatched, CommandMismatch, Ended, SeqExhausted, OutOfMemory}
 use Rattle.dap_c_parts.specs.Causes.{refusal_number, body_number}
 use Rattle.dap_c_parts.specs.declared.found.YtFound.{YtFound}
 

@@ -3,7 +3,7 @@ use Rattle.std.specs.Prelude.{◌≡◌, ◌≤◌, ℕ, length, max}
 use Rattle.dap_frame.specs.Settings.{Settings}
 use Rattle.dap_decision.specs.declared.phase.Phase.{Phase}
 use Rattle.dap_decision.specs.declared.phase.Phase.TheVariants.{Fresh, Ready, Configured, Parked, Asked, Running, Stopped, Exited, Ended}
-use Rattle.dap_session.specs.Session.{Session, own_requests}
+use Rattle.dap_plan.specs.Session.{Session, own_requests}
 use Rattle.dap_tables.specs.SourceMap.{count}
 use Rattle.dap_tables.specs.declared.reference_kind.ReferenceKind.{ReferenceKind}
 use Rattle.dap_tables.specs.declared.reference_kind.ReferenceKind.TheVariants.{Frame, Holder}

@@ -1,6 +1,6 @@
 //! What can be seen of an adapter: the adapter behind a handle is read, and what is seen goes out. Nothing is changed.
 ghost use Rattle.std.specs.Prelude.{◌≡◌, length, IfSome, IsSome, Some, None};
-ghost use Rattle.dap_session.specs.declared.fault.AdapterFault.{AdapterFault as TheFault};
+ghost use Rattle.dap_plan.specs.declared.fault.AdapterFault.{AdapterFault as TheFault};
 ghost use Rattle.dap_tables.specs.References.{target_of};
 ghost use Rattle.dap_c_adapter.specs.AdapterSeen.{IsAdapterState, IsWithin, IsTarget, phase_number, kind_number};
 

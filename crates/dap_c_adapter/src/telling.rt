@@ -7,8 +7,8 @@ ghost use Rattle.std.specs.Prelude.{◌≡◌, ◌⊎◌, ◌≤◌, ◌++◌, �
 ghost use Rattle.dap_json.specs.Read.{json_of};
 ghost use Rattle.dap_recording.specs.Reading.{verdict_of};
 ghost use Rattle.dap_replay.specs.Played.{fresh_played};
-ghost use Rattle.dap_session.specs.Polling.{has_debuggee};
-ghost use Rattle.dap_session.specs.declared.fault.AdapterFault.{AdapterFault as TheFault};
+ghost use Rattle.dap_plan.specs.Polling.{has_debuggee};
+ghost use Rattle.dap_plan.specs.declared.fault.AdapterFault.{AdapterFault as TheFault};
 ghost use Rattle.dap_c_adapter.specs.AdapterCalls.{AdapterSaw, RefusesPoll, IsUntold, IsCodeOfText, IsCodeOfRecording, IsToldCode, IsNoRecording, KeepsActs, variable_told};
 ghost use Rattle.dap_c_adapter.specs.AdapterFaults.{adapter_number, IsAdapterFaultFound};
 ghost use Rattle.dap_c_parts.specs.Behind.{FromTo};

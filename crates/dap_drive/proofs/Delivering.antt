@@ -13,14 +13,14 @@ use Rattle.dap_envelope.specs.ReadBack.{ReadsBack, AllReadBack}
 use Rattle.dap_envelope.specs.Refusals.{Bad}
 use Rattle.dap_envelope.specs.declared.fault.BodyRefusal.{BodyRefusal}
 use Rattle.dap_envelope.specs.declared.message.Message.{Message}
-use Rattle.dap_session.specs.Carried.{CarriedOut}
-use Rattle.dap_session.specs.Plan.{Plan, written_by, entries_of}
+use Rattle.dap_plan.specs.Carried.{CarriedOut}
+use Rattle.dap_plan.specs.Plan.{Plan, written_by, entries_of}
 use Rattle.dap_outbox.specs.Draft.{bytes_of}
-use Rattle.dap_session.specs.SessionState.{SessionState, SessionStep}
-use Rattle.dap_session.specs.Session.{Session}
-use Rattle.dap_session.specs.Taking.{takes}
-use Rattle.dap_session.specs.declared.fault.AdapterFault.{AdapterFault}
-use Rattle.dap_session.specs.declared.fault.AdapterFault.TheVariants as adapter_fault
+use Rattle.dap_plan.specs.SessionState.{SessionState, SessionStep}
+use Rattle.dap_plan.specs.Session.{Session}
+use Rattle.dap_plan.specs.Taking.{takes}
+use Rattle.dap_plan.specs.declared.fault.AdapterFault.{AdapterFault}
+use Rattle.dap_plan.specs.declared.fault.AdapterFault.TheVariants as adapter_fault
 use Rattle.dap_adapter.specs.Calls.{Step, Takes as AdapterTakes, Delivers as AdapterDelivers, ClosedBy as AdapterClosedBy, TakeRefused as AdapterTakeRefused}
 use Rattle.dap_adapter.specs.AdapterState.{AdapterState, state_of}
 use Rattle.dap_adapter.specs.Run.{to_take}

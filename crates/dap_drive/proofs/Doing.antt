@@ -14,15 +14,15 @@ use Rattle.dap_frame.specs.declared.limits.Bounds.{Bounds}
 use Rattle.dap_history.specs.History.{Out}
 use Rattle.dap_call.specs.PlainCall.{is_plain_call}
 use Rattle.dap_call.specs.declared.call.Call.{Call}
-use Rattle.dap_session.specs.Handling.{turns}
-use Rattle.dap_session.specs.Carried.{CarriedOut}
-use Rattle.dap_session.specs.Plan.{Plan, Made, written_by}
+use Rattle.dap_plan.specs.Handling.{turns}
+use Rattle.dap_plan.specs.Carried.{CarriedOut}
+use Rattle.dap_plan.specs.Plan.{Plan, Made, written_by}
 use Rattle.dap_outbox.specs.Draft.{bytes_of}
-use Rattle.dap_session.specs.Polling.{polls}
-use Rattle.dap_session.specs.SessionState.{SessionState}
-use Rattle.dap_session.specs.Session.{Session, to_handle, fresh_session as fresh_adapter}
-use Rattle.dap_session.specs.declared.fault.AdapterFault.{AdapterFault}
-use Rattle.dap_session.specs.declared.fault.AdapterFault.TheVariants as adapter_fault
+use Rattle.dap_plan.specs.Polling.{polls}
+use Rattle.dap_plan.specs.SessionState.{SessionState}
+use Rattle.dap_plan.specs.Session.{Session, to_handle, fresh_session as fresh_adapter}
+use Rattle.dap_plan.specs.declared.fault.AdapterFault.{AdapterFault}
+use Rattle.dap_plan.specs.declared.fault.AdapterFault.TheVariants as adapter_fault
 use Rattle.dap_decision.specs.Table.{is_phase}
 use Rattle.dap_decision.specs.declared.phase.Phase.{Phase}
 use Rattle.dap_decision.specs.declared.phase.Phase.TheVariants.{Stopped}

@@ -3,7 +3,7 @@ use Rattle.std.proofs.Common.{ℕ, List, sym, subst, inl, inr}
 use Rattle.dap_frame.specs.Settings.{Settings, AreInRange}
 use Rattle.dap_debuggee.specs.Laws.{StopsLast}
 use Rattle.dap_debuggee.specs.Shown.{Shown}
-use Rattle.dap_session.specs.Carried.{Goes}
+use Rattle.dap_plan.specs.Carried.{Goes}
 use Rattle.dap_adapter.specs.Run.{Next}
 use Rattle.dap_client.specs.declared.fault.ClientFault.TheVariants.{ReferenceLimit}
 use Rattle.dap_world.specs.References.{ReferencesAgreeWhileStopsLast, EachTranscriptIsLegalWhileStopsLast}

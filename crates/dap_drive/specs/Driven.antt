@@ -8,7 +8,7 @@ use Rattle.dap_recording.specs.Reading.{verdict_of}
 use Rattle.dap_debuggee.specs.Shown.{Shown}
 use Rattle.dap_recording.specs.declared.reading.RecordingFault.{RecordingFault}
 use Rattle.dap_recording.specs.declared.recording.Recording.{Recording as TheRecording}
-use Rattle.dap_session.specs.Carried.{Goes}
+use Rattle.dap_plan.specs.Carried.{Goes}
 use Rattle.dap_client.specs.Sending.{first_of, refusals_in_order}
 use Rattle.dap_client.specs.Session.{oldest_of}
 use Rattle.dap_client.specs.TerminalResponse.{first_terminal_refusal}

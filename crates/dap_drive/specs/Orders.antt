@@ -4,14 +4,14 @@ use Rattle.dap_frame.specs.Settings.{Settings}
 use Rattle.dap_call.specs.declared.call.Call.{Call}
 use Rattle.dap_envelope.specs.declared.message.Message.{Message}
 use Rattle.dap_debuggee.specs.Shown.{Shown}
-use Rattle.dap_session.specs.Carried.{Goes}
-use Rattle.dap_session.specs.Handling.{turns}
-use Rattle.dap_session.specs.Plan.{written_by}
+use Rattle.dap_plan.specs.Carried.{Goes}
+use Rattle.dap_plan.specs.Handling.{turns}
+use Rattle.dap_plan.specs.Plan.{written_by}
 use Rattle.dap_outbox.specs.Draft.{bytes_of}
-use Rattle.dap_session.specs.Polling.{polls}
-use Rattle.dap_session.specs.SessionState.{HasTooMany}
-use Rattle.dap_session.specs.Taking.{takes}
-use Rattle.dap_session.specs.declared.fault.AdapterFault.TheVariants.{SeqExhausted}
+use Rattle.dap_plan.specs.Polling.{polls}
+use Rattle.dap_plan.specs.SessionState.{HasTooMany}
+use Rattle.dap_plan.specs.Taking.{takes}
+use Rattle.dap_plan.specs.declared.fault.AdapterFault.TheVariants.{SeqExhausted}
 use Rattle.dap_adapter.specs.Run.{Next, to_take, to_turn, to_poll, after_poll}
 use Rattle.dap_client.specs.Session.{oldest_of}
 use Rattle.dap_client.specs.Taking.{takes as client_takes}

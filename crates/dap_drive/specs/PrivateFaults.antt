@@ -1,8 +1,8 @@
 -- The code's words for faults of the ends, and the laws that its proofs cite. Only private clauses cite these.
 use Rattle.dap_frame.specs.Laws.{EachStreamHasOneSplit, WrittenIsReadAgain}
 use Rattle.dap_envelope.specs.Laws.{EachBodyIsOne}
-use Rattle.dap_session.specs.declared.fault.AdapterFault.{AdapterFault}
-use Rattle.dap_session.specs.declared.fault.AdapterFault.TheVariants as adapter
+use Rattle.dap_plan.specs.declared.fault.AdapterFault.{AdapterFault}
+use Rattle.dap_plan.specs.declared.fault.AdapterFault.TheVariants as adapter
 use Rattle.dap_client.specs.declared.fault.ClientFault.{ClientFault}
 use Rattle.dap_client.specs.declared.fault.ClientFault.TheVariants as client
 use Rattle.dap_client.specs.declared.fault.AnswerFault.{AnswerFault}

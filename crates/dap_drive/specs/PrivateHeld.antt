@@ -5,11 +5,11 @@ use Rattle.dap_frame.specs.Settings.{Settings, AreInRange}
 use Rattle.dap_history.specs.History.{Entry}
 use Rattle.dap_debuggee.specs.Shown.{Shown}
 use Rattle.dap_call.specs.declared.call.Call.{Call as TheCall}
-use Rattle.dap_session.specs.Carried.{Goes}
-use Rattle.dap_session.specs.Plan.{written_by}
+use Rattle.dap_plan.specs.Carried.{Goes}
+use Rattle.dap_plan.specs.Plan.{written_by}
 use Rattle.dap_outbox.specs.Draft.{bytes_of}
-use Rattle.dap_session.specs.SessionState.{SessionState}
-use Rattle.dap_session.specs.Session.{to_handle}
+use Rattle.dap_plan.specs.SessionState.{SessionState}
+use Rattle.dap_plan.specs.Session.{to_handle}
 use Rattle.dap_decision.specs.Table.{is_phase}
 use Rattle.dap_decision.specs.declared.phase.Phase.TheVariants.{Stopped}
 use Rattle.dap_adapter.specs.AdapterState.{AdapterState}

@@ -19,10 +19,10 @@ use Rattle.dap_envelope.specs.ReadBack.{AllReadBack}
 use Rattle.dap_envelope.specs.declared.message.Message.{Message}
 use Rattle.dap_outbox.specs.Draft.{bytes_of}
 use Rattle.dap_recording.specs.declared.recording.RecordedSource.{RecordedSource}
-use Rattle.dap_session.specs.Polling.{has_debuggee}
-use Rattle.dap_session.specs.Session.{Session, fresh_session}
-use Rattle.dap_session.specs.SessionState.{SessionState}
-use Rattle.dap_session.specs.declared.fault.AdapterFault.{AdapterFault}
+use Rattle.dap_plan.specs.Polling.{has_debuggee}
+use Rattle.dap_plan.specs.Session.{Session, fresh_session}
+use Rattle.dap_plan.specs.SessionState.{SessionState}
+use Rattle.dap_plan.specs.declared.fault.AdapterFault.{AdapterFault}
 use Rattle.dap_host.specs.Hearing.{HostState, IsGoing, HandsOut, SameButAdapter, TakesMessage, AnswersMessage, TellsIt, StopsMessage, StopsTelling, RefusesTold, bad_moment, dropped, IsUnheard, drop_of}
 use Rattle.dap_host.specs.Written.{message_lines}
 use Rattle.dap_live.specs.declared.mail.Coming.{Coming}

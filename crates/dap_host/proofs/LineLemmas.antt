@@ -5,7 +5,7 @@ use Rattle.serde_json.specs.Data.{Data}
 use Rattle.dap_channel.specs.Sent.{saturating_count}
 use Rattle.dap_recording.specs.declared.reading.RecordingFault.{RecordingFault}
 use Rattle.dap_recording.specs.declared.reading.RecordingFault.TheVariants as fault
-use Rattle.dap_session.specs.declared.fault.AdapterFault.{AdapterFault}
+use Rattle.dap_plan.specs.declared.fault.AdapterFault.{AdapterFault}
 use Rattle.dap_host.specs.Hearing.{HostState, IsGoing, counted, mark_of, HearsMarked, StopsMarked, Hears, Stops}
 use Rattle.dap_host.specs.Moments.{HasSources, ReadsSources, FileRefused}
 

@@ -9,8 +9,8 @@ use Rattle.dap_frame.specs.Written.{frame_of}
 use Rattle.dap_debuggee.specs.Shown.{Shown}
 use Rattle.dap_adapter.specs.Run.{Next, to_take, to_turn, to_poll, Run, begins, delivers, handles, idles, sees}
 use Rattle.dap_envelope.specs.declared.message.Message.{Message}
-use Rattle.dap_session.specs.Carried.{Goes}
-use Rattle.dap_session.specs.SessionState.{SessionState}
+use Rattle.dap_plan.specs.Carried.{Goes}
+use Rattle.dap_plan.specs.SessionState.{SessionState}
 use Rattle.dap_host.specs.StreamLaws.{StreamLaws}
 
 pub stream_laws : (limits : Settings) → AreInRange limits → WrittenIsReadAgain → EachStreamHasOneSplit → FrameHasNoFrameWithin → StreamLaws (bounds_of limits)

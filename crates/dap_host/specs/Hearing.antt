@@ -27,9 +27,9 @@ use Rattle.dap_envelope.specs.Refusals.{Bad}
 use Rattle.dap_envelope.specs.declared.message.Message.{Message}
 use Rattle.dap_recording.specs.declared.recording.RecordedSource.{RecordedSource}
 use Rattle.dap_replay.specs.Played.{Played}
-use Rattle.dap_session.specs.Session.{fresh_session}
+use Rattle.dap_plan.specs.Session.{fresh_session}
 use Rattle.dap_tables.specs.References.{target_of}
-use Rattle.dap_session.specs.declared.fault.AdapterFault.{AdapterFault}
+use Rattle.dap_plan.specs.declared.fault.AdapterFault.{AdapterFault}
 use Rattle.dap_host.specs.Moments.{IsComing, Fails, HasSources, ReadsSources, sources_after, HasRoom}
 use Rattle.dap_host.specs.Told.{said_of, happening_of}
 use Rattle.dap_host.specs.Written.{message_lines, act_lines, refusal_line, target_line}

@@ -6,7 +6,7 @@ use Rattle.dap_adapter.specs.declared.served.ServeFault.{ServeFault}
 use Rattle.dap_adapter.specs.declared.served.ServeFault.TheVariants.{Read, Write, Adapter, TooManyReads, OutOfMemory}
 use Rattle.dap_channel.specs.Channel.{IoEvent, Ran, bytes_read, bytes_written, MayGoOn, HasEnded, HasReadFailed}
 use Rattle.dap_channel.specs.Sent.{Flushes, WritesShort, saturating_count}
-use Rattle.dap_session.specs.declared.fault.AdapterFault.{AdapterFault}
+use Rattle.dap_plan.specs.declared.fault.AdapterFault.{AdapterFault}
 use Rattle.dap_host.specs.Fetching.{has_line, Fetches, FetchesMost}
 use Rattle.dap_host.specs.Hearing.{HostState, Hears, Stops}
 

@@ -4,7 +4,7 @@ use Rattle.dap_adapter.specs.declared.served.ServeFault.{ServeFault}
 use Rattle.dap_adapter.specs.declared.served.ServeFault.TheVariants as serve
 use Rattle.dap_channel.specs.Channel.{IoEvent}
 use Rattle.dap_channel.specs.Sent.{Flushes, WritesShort, saturating_count}
-use Rattle.dap_session.specs.declared.fault.AdapterFault.{AdapterFault}
+use Rattle.dap_plan.specs.declared.fault.AdapterFault.{AdapterFault}
 use Rattle.dap_host.specs.Hearing.{HostState, Stops}
 use Rattle.dap_host.specs.PrivateFetching.{Quiet}
 use Rattle.dap_host.specs.Hosting.{HostPoint, point_of, BeginsWith, Answered, Makes, Heard}

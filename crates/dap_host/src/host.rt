@@ -1,6 +1,6 @@
 //! A host's lines, one after the other.
 ghost use Rattle.std.specs.Prelude.{◌≡◌, IfOk, drop};
-ghost use Rattle.dap_session.specs.declared.fault.AdapterFault.{AdapterFault};
+ghost use Rattle.dap_plan.specs.declared.fault.AdapterFault.{AdapterFault};
 ghost use Rattle.dap_decision.specs.Table.{is_phase};
 ghost use Rattle.dap_decision.specs.declared.phase.Phase.{Phase};
 ghost use Rattle.dap_frame.specs.Written.{frame_of};
@@ -142,7 +142,7 @@ impl Host {
     ghost use Rattle.dap_envelope.specs.ReadBack.{AllReadBack};
     ghost use Rattle.dap_envelope.specs.declared.message.Message.{Message};
     ghost use Rattle.dap_outbox.specs.Draft.{bytes_of};
-    ghost use Rattle.dap_session.specs.Polling.{has_debuggee};
+    ghost use Rattle.dap_plan.specs.Polling.{has_debuggee};
 
     /// A host of a debuggee that is not started. The bytes are a JSON object with the `sources` of a recording, the first of
     /// which has a line; a recording is one, and what else it has is not looked at.

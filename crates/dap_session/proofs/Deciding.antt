@@ -7,12 +7,12 @@ use Rattle.dap_debuggee.specs.Shown.{Shown}
 use Rattle.dap_decision.specs.Decisions.{IsServed}
 use Rattle.dap_decision.specs.declared.decision.Decision.TheVariants.{Refuses, Serves}
 use Rattle.dap_decision.specs.declared.effect.Effect.{Effect}
-use Rattle.dap_session.specs.Handling.{effect_of, plan, refusal}
-use Rattle.dap_session.specs.PrivateChanging.{Suits}
-use Rattle.dap_session.specs.Session.{Session}
-use Rattle.dap_session.specs.SessionState.{plan_of_decision}
-use Rattle.dap_session.proofs.ChangeResults.{call-suits}
-use Rattle.dap_session.proofs.OwnRequests.{still-suits}
+use Rattle.dap_plan.specs.Handling.{effect_of, plan, refusal}
+use Rattle.dap_plan.specs.Changing.{Suits}
+use Rattle.dap_plan.specs.Session.{Session}
+use Rattle.dap_plan.specs.SessionState.{plan_of_decision}
+use Rattle.dap_plan.proofs.ChangeResults.{call-suits}
+use Rattle.dap_plan.proofs.OwnRequests.{still-suits}
 
 pub decided-refused : (view : Shown) (s : Session) (r : Entry) (f : Failure) → refusal view s r ≡ Some f → plan view s r ≡ plan_of_decision (Refuses f) view s r
 decided-refused view s r f h = rw h refl

@@ -7,19 +7,19 @@ use Rattle.dap_body.specs.declared.failure.Failure.TheVariants.{Cancelled}
 use Rattle.dap_tables.specs.Outstanding.{Kept, entries, contains_seq, is_parked, parked_ones, unparked_ones, without, HasDistinctSeqs}
 use Rattle.dap_tables.specs.declared.entry.Entry.{Entry}
 use Rattle.dap_debuggee.specs.Shown.{Reply}
-use Rattle.dap_session.specs.Handling.{answer_each, by_reply, start_phase, after_disconnect, after_parked_launch}
+use Rattle.dap_plan.specs.Handling.{answer_each, by_reply, start_phase, after_disconnect, after_parked_launch}
 use Rattle.dap_tables.specs.References.{without_references}
 use Rattle.dap_decision.specs.declared.phase.Phase.TheVariants.{Ended}
-use Rattle.dap_session.specs.declared.fault.AdapterFault.{AdapterFault}
-use Rattle.dap_session.specs.declared.fault.AdapterFault.TheVariants.{SeqExhausted}
-use Rattle.dap_session.specs.SessionState.{SessionState, MadeBy, IsRefusedFor}
-use Rattle.dap_session.specs.Plan.{Plan, messages_due}
+use Rattle.dap_plan.specs.declared.fault.AdapterFault.{AdapterFault}
+use Rattle.dap_plan.specs.declared.fault.AdapterFault.TheVariants.{SeqExhausted}
+use Rattle.dap_plan.specs.SessionState.{SessionState, MadeBy, IsRefusedFor}
+use Rattle.dap_plan.specs.Plan.{Plan, messages_due}
 use Rattle.dap_outbox.specs.Draft.{Answer, Draft, failure, plain_success, reply}
-use Rattle.dap_session.specs.Session.{Session}
-use Rattle.dap_session.specs.Taking.{after_terminal}
+use Rattle.dap_plan.specs.Session.{Session}
+use Rattle.dap_plan.specs.Taking.{after_terminal}
 use Rattle.dap_outbox.specs.Several.{answer_where, WritesAll}
 use Rattle.dap_outbox.specs.Outbox.{OutboxState, Holds, AppendsDraft}
-use Rattle.dap_session.proofs.Rows.{length-each}
+use Rattle.dap_plan.proofs.Rows.{length-each}
 use Rattle.dap_session.proofs.SeveralAnswers.{answers-kept, others-kept, length-without, answers-parked, count-parked, parked-without}
 
 -- how many messages a disconnect takes

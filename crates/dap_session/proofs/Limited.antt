@@ -2,11 +2,11 @@
 use Rattle.std.proofs.Common.{◌≡◌, ℕ, ◌<◌, List, ap, ◌∙◌}
 use Rattle.dap_tables.specs.Outstanding.{HasDistinctSeqs}
 use Rattle.dap_debuggee.specs.Shown.{Shown}
-use Rattle.dap_session.specs.Carried.{Goes}
-use Rattle.dap_session.specs.Laws.{can_make}
-use Rattle.dap_session.specs.SessionState.{SessionState, HasTurned}
-use Rattle.dap_session.specs.Session.{Session, to_handle}
-use Rattle.dap_session.proofs.Turns.{turn-is}
+use Rattle.dap_plan.specs.Carried.{Goes}
+use Rattle.dap_plan.specs.Laws.{can_make}
+use Rattle.dap_plan.specs.SessionState.{SessionState, HasTurned}
+use Rattle.dap_plan.specs.Session.{Session, to_handle}
+use Rattle.dap_plan.proofs.Turns.{turn-is}
 
 pub turned-limits : {D : Type 0} (shown : D → Shown) (follows : Goes D) (old new : SessionState D) (bytes : List ℕ) → HasTurned shown follows old new bytes → new.session.limits ≡ old.session.limits
 turned-limits shown follows old new bytes t =

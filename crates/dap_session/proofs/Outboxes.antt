@@ -5,7 +5,7 @@ use Rattle.dap_message.specs.Lengths.{max_fixed}
 use Rattle.dap_tables.specs.Seq.{Numbers}
 use Rattle.dap_outbox.specs.Draft.{Draft}
 use Rattle.dap_outbox.specs.Outbox.{OutboxState, IsReady, Holds, AppendsDraft}
-use Rattle.dap_session.specs.Session.{Session, numbers_of}
+use Rattle.dap_plan.specs.Session.{Session, numbers_of}
 
 -- nothing is written yet
 pub holds-none : (s : Session) (out : OutboxState) → IsReady out (numbers_of s) → max_fixed ≤ s.limits.body → s.limits.seq ≤ max_seq → Holds out s.limits.body s.used []

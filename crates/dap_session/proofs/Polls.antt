@@ -1,9 +1,9 @@
 -- A poll where there is no debuggee to ask.
 use Rattle.std.proofs.Common.{◌≡◌, ℕ, List, [], false, refl, sym, subst}
-use Rattle.dap_session.specs.Carried.{Goes}
-use Rattle.dap_session.specs.Plan.{Plan, at_once, no_change}
-use Rattle.dap_session.specs.Polling.{polls, has_debuggee}
-use Rattle.dap_session.specs.SessionState.{SessionState, Carries}
+use Rattle.dap_plan.specs.Carried.{Goes}
+use Rattle.dap_plan.specs.Plan.{Plan, at_once, no_change}
+use Rattle.dap_plan.specs.Polling.{polls, has_debuggee}
+use Rattle.dap_plan.specs.SessionState.{SessionState, Carries}
 use Rattle.dap_session.proofs.TakingRequests.{no-step}
 
 -- where there is no debuggee to ask

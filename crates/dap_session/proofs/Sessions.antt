@@ -5,7 +5,7 @@ use Rattle.dap_tables.specs.Outstanding.{KeptRequests, IsOrderlyRequests, kept_u
 use Rattle.dap_tables.specs.Breakpoints.{BreakpointTable}
 use Rattle.dap_tables.specs.Seq.{Numbers}
 use Rattle.dap_tables.specs.declared.entry.Entry.{Entry}
-use Rattle.dap_session.specs.SessionState.{IsSession}
+use Rattle.dap_plan.specs.SessionState.{IsSession}
 
 -- a request less
 pub session-without : (points : BreakpointTable) (limits : Settings) (old new : KeptRequests) (numbers later : Numbers) (seq : ℕ) → IsSession limits old points numbers → new ≡ record old { kept = without seq old.kept } → IsOrderlyRequests new → later.last ≡ limits.seq → later.used ≤ later.last → IsSession limits new points later

@@ -6,8 +6,8 @@ use Rattle.std.proofs.lemmas.Bool.Decides.{nat_tests}
 use Rattle.std.proofs.lemmas.List.Folds.{list_any-append}
 use Rattle.dap_tables.specs.Outstanding.{Kept, entries, without, contains_seq, is_parked, parked_ones, HasDistinctSeqs}
 use Rattle.dap_tables.specs.declared.entry.Entry.{Entry}
-use Rattle.dap_session.specs.Handling.{answer_each}
-use Rattle.dap_session.proofs.Kept.{all-without, IsApart, apart, false-left, false-right, eqb-self, none-parked}
+use Rattle.dap_plan.specs.Handling.{answer_each}
+use Rattle.dap_plan.proofs.Kept.{all-without, IsApart, apart, false-left, false-right, eqb-self, none-parked}
 use Rattle.dap_outbox.specs.Several.{answer_where}
 use Rattle.dap_outbox.specs.Draft.{Answer, Draft, reply}
 

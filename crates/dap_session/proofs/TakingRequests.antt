@@ -5,13 +5,13 @@ use Rattle.dap_tables.specs.Outstanding.{contains_seq}
 use Rattle.dap_tables.specs.declared.entry.Entry.{Entry}
 use Rattle.dap_decision.specs.declared.phase.Phase.TheVariants.{Asked, Ended}
 use Rattle.dap_debuggee.specs.Shown.{Act, Reply}
-use Rattle.dap_session.specs.Carried.{Goes}
+use Rattle.dap_plan.specs.Carried.{Goes}
 use Rattle.dap_decision.specs.Failures.{of_known, command_of}
-use Rattle.dap_session.specs.Plan.{Made, at_once, asking, no_change, plan_within_numbers}
-use Rattle.dap_session.specs.SessionState.{SessionState, MadeBy, Carries, HasTaken}
-use Rattle.dap_session.specs.Session.{Session}
+use Rattle.dap_plan.specs.Plan.{Made, at_once, asking, no_change, plan_within_numbers}
+use Rattle.dap_plan.specs.SessionState.{SessionState, MadeBy, Carries, HasTaken}
+use Rattle.dap_plan.specs.Session.{Session}
 use Rattle.dap_decision.specs.Table.{is_phase}
-use Rattle.dap_session.specs.Taking.{takes_request, after_taking, after_cancel_request, after_keeping, after_late_terminal, plan_of_response, plan_of_terminal, is_cancel}
+use Rattle.dap_plan.specs.Taking.{takes_request, after_taking, after_cancel_request, after_keeping, after_late_terminal, plan_of_response, plan_of_terminal, is_cancel}
 
 -- a request that no name refuses
 pub record IsOpenTo (r : Entry) (s : Session) : Type 0 where

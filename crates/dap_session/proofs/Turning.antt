@@ -5,14 +5,14 @@ use Rattle.std.proofs.lemmas.Bool.Decides.{nat_tests}
 use Rattle.dap_tables.specs.Outstanding.{Kept, entry_with, contains_seq, oldest_unparked, HasDistinctSeqs}
 use Rattle.dap_tables.specs.declared.entry.Entry.{Entry}
 use Rattle.dap_debuggee.specs.Shown.{Shown}
-use Rattle.dap_session.specs.declared.fault.AdapterFault.TheVariants.{SeqExhausted, OutOfMemory}
-use Rattle.dap_session.specs.declared.fault.AdapterFault.{AdapterFault}
-use Rattle.dap_session.specs.Carried.{Goes}
-use Rattle.dap_session.specs.SessionState.{SessionState, IsUnasked, IsRefusedFor, NotTurned, HasTurned, Carries}
-use Rattle.dap_session.specs.Handling.{plan, some_plan, turn_of}
-use Rattle.dap_session.specs.Plan.{messages_due, plan_within_numbers}
-use Rattle.dap_session.specs.Session.{Session, oldest}
-use Rattle.dap_session.proofs.Kept.{IsKept, kept-found, apart, eqb-self, false-left, false-right}
+use Rattle.dap_plan.specs.declared.fault.AdapterFault.TheVariants.{SeqExhausted, OutOfMemory}
+use Rattle.dap_plan.specs.declared.fault.AdapterFault.{AdapterFault}
+use Rattle.dap_plan.specs.Carried.{Goes}
+use Rattle.dap_plan.specs.SessionState.{SessionState, IsUnasked, IsRefusedFor, NotTurned, HasTurned, Carries}
+use Rattle.dap_plan.specs.Handling.{plan, some_plan, turn_of}
+use Rattle.dap_plan.specs.Plan.{messages_due, plan_within_numbers}
+use Rattle.dap_plan.specs.Session.{Session, oldest}
+use Rattle.dap_plan.proofs.Kept.{IsKept, kept-found, apart, eqb-self, false-left, false-right}
 
 entry-middle : (before : List Kept) (k : Kept) (after : List Kept) → contains_seq k.entry.seq before ≡ false → entry_with k.entry.seq (before ++ k ∷ after) ≡ Some k.entry
 entry-middle [] k after h = rw (eqb-self k.entry.seq) refl

@@ -4,11 +4,11 @@ use Rattle.std.specs.Prelude.{nat_le, if◌then◌else◌}
 use Rattle.std.proofs.lemmas.Bool.Decides.{nat_tests}
 use Rattle.dap_tables.specs.Outstanding.{Kept}
 use Rattle.dap_debuggee.specs.Shown.{Shown, to_start, to_resume, to_pause, to_poll, to_set_breakpoints, to_assign, to_end}
-use Rattle.dap_session.specs.declared.fault.AdapterFault.TheVariants.{SeqExhausted}
-use Rattle.dap_session.specs.Handling.{plan, some_plan, turn_of}
-use Rattle.dap_session.specs.Plan.{Plan, at_once, asking, messages_due, plan_within_numbers}
-use Rattle.dap_session.specs.SessionState.{IsUnasked}
-use Rattle.dap_session.specs.Session.{Session}
+use Rattle.dap_plan.specs.declared.fault.AdapterFault.TheVariants.{SeqExhausted}
+use Rattle.dap_plan.specs.Handling.{plan, some_plan, turn_of}
+use Rattle.dap_plan.specs.Plan.{Plan, at_once, asking, messages_due, plan_within_numbers}
+use Rattle.dap_plan.specs.SessionState.{IsUnasked}
+use Rattle.dap_plan.specs.Session.{Session}
 
 same-after : {D : Type 0} (b : Bool) (plan : Plan) (v : D) → IsUnasked (some_plan (if b then Ok plan else Err SeqExhausted)) v v
 same-after false plan v = refl

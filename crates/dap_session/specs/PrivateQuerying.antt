@@ -6,11 +6,11 @@ use Rattle.dap_query.specs.declared.no_answer.NoAnswer.TheVariants.{Fails, OutOf
 use Rattle.dap_tables.specs.Outstanding.{without}
 use Rattle.dap_tables.specs.References.{LiveReferences}
 use Rattle.dap_tables.specs.declared.entry.Entry.{Entry}
-use Rattle.dap_session.specs.Plan.{Made, after_answering}
+use Rattle.dap_plan.specs.Plan.{Made, after_answering}
 use Rattle.dap_outbox.specs.Draft.{failure}
 use Rattle.dap_outbox.specs.Outbox.{OutboxState, Holds}
-use Rattle.dap_session.specs.Session.{Session}
-use Rattle.dap_session.specs.SessionState.{SessionState}
+use Rattle.dap_plan.specs.Session.{Session}
+use Rattle.dap_plan.specs.SessionState.{SessionState}
 
 -- where a request fails, just this is made
 abbrev pub MakesFailure : NoAnswer → Entry → Session → Made → Type 0

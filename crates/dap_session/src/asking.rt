@@ -7,18 +7,18 @@ ghost use Rattle.std.specs.List.{list_any};
 ghost use Rattle.dap_command.specs.Command.{command_named};
 ghost use Rattle.dap_tables.specs.Outstanding.{contains_seq, is_parked, parked_ones};
 ghost use Rattle.dap_debuggee.specs.Shown.{to_start};
-ghost use Rattle.dap_session.specs.Handling.{after_asking, after_asking_parked, effect_of, is_launch, names_terminal, parked_wants_terminal, some_plan, wants_terminal};
-ghost use Rattle.dap_session.specs.Plan.{asking, messages_due};
+ghost use Rattle.dap_plan.specs.Handling.{after_asking, after_asking_parked, effect_of, is_launch, names_terminal, parked_wants_terminal, some_plan, wants_terminal};
+ghost use Rattle.dap_plan.specs.Plan.{asking, messages_due};
 ghost use Rattle.dap_outbox.specs.Draft.{ask, plain_success, reply};
 ghost use Rattle.dap_outbox.specs.Outbox.{Holds, IsReady};
-ghost use Rattle.dap_session.specs.Session.{is_asked, numbers_of};
+ghost use Rattle.dap_plan.specs.Session.{is_asked, numbers_of};
 ghost use Rattle.dap_decision.specs.Table.{is_phase};
 ghost use Rattle.dap_decision.specs.declared.phase.Phase.TheVariants.{Asked};
-ghost use Rattle.dap_session.specs.SessionState.{MadeBy, Carries, HasTaken, IsRefusedFor, IsUnasked, NotTaken, reply_of};
-ghost use Rattle.dap_session.specs.Taking.{after_terminal, plan_of_response, plan_of_terminal, takes_response};
+ghost use Rattle.dap_plan.specs.SessionState.{MadeBy, Carries, HasTaken, IsRefusedFor, IsUnasked, NotTaken, reply_of};
+ghost use Rattle.dap_plan.specs.Taking.{after_terminal, plan_of_response, plan_of_terminal, takes_response};
 
 use crate::effects::start_phase;
-use crate::fault::AdapterFault;
+use dap_plan::AdapterFault;
 use crate::session::Session;
 use crate::starting::start_failure;
 use dap_debuggee::Debuggee;
@@ -92,7 +92,7 @@ fn is_waiting(phase: Phase) -> bool
 }
 
 impl<D: Debuggee + Drop> Session<D> {
-    ghost use Rattle.dap_session.specs.declared.fault.AdapterFault.{AdapterFault};
+    ghost use Rattle.dap_plan.specs.declared.fault.AdapterFault.{AdapterFault};
 
     fn parked_wants_terminal(&self) -> bool
         ensures { result ≡ parked_wants_terminal self.now.session.options self.now.session.kept }

@@ -3,19 +3,19 @@
 //! The debuggee is queried and the answer measured; then the debuggee is asked, and the answer given.
 ghost use Rattle.std.specs.Prelude.{◌≡◌, ◌+◌, ◌≤◌, map, length, Ok, Some, IfOk, IfErr, IfSome, IfNone, OnOk, OnErr, IsTrue, false, ◌≢◌};
 ghost use Rattle.dap_query.specs.declared.no_answer.NoAnswer.{NoAnswer};
-ghost use Rattle.dap_session.specs.Session.{numbers_of};
+ghost use Rattle.dap_plan.specs.Session.{numbers_of};
 ghost use Rattle.dap_outbox.specs.Outbox.{IsReady};
 ghost use Rattle.dap_call.specs.declared.call.Call.{Call};
 ghost use Rattle.dap_tables.specs.Breakpoints.{max_id, breakpoints_with};
 ghost use Rattle.dap_debuggee.specs.Shown.{to_set_breakpoints, to_assign, done};
 ghost use Rattle.dap_query.specs.Queries.{object_of};
-ghost use Rattle.dap_session.specs.Breakpoints.{are_too_many};
-ghost use Rattle.dap_session.specs.Handling.{after_change, answers_to, change_result, lines_asked, lines_result, value_result};
-ghost use Rattle.dap_session.specs.Plan.{messages_due};
-ghost use Rattle.dap_session.specs.SessionState.{Carries, IsRefusedFor, IsUnasked};
-ghost use Rattle.dap_session.specs.PrivateChanging.{AreLines, CanChange, IsChange, IsChangeBody, IsMeasured, IsToFail, Changes, lines_given};
+ghost use Rattle.dap_plan.specs.Breakpoints.{are_too_many};
+ghost use Rattle.dap_plan.specs.Handling.{after_change, answers_to, change_result, lines_asked, lines_result, value_result};
+ghost use Rattle.dap_plan.specs.Plan.{messages_due};
+ghost use Rattle.dap_plan.specs.SessionState.{Carries, IsRefusedFor, IsUnasked};
+ghost use Rattle.dap_plan.specs.Changing.{AreLines, CanChange, IsChange, IsChangeBody, IsMeasured, IsToFail, Changes, lines_given};
 
-use crate::fault::AdapterFault;
+use dap_plan::AdapterFault;
 use crate::session::Session;
 use dap_debuggee::Debuggee;
 use dap_body::{Body, Breakpoint, Failure};

@@ -1,16 +1,16 @@
 //! The end of a session: every request that waits is answered.
 ghost use Rattle.std.specs.Prelude.{◌≡◌, ◌+◌, ◌≤◌, length, [], IfOk, IfErr, OnOk, OnErr, IsTrue};
-ghost use Rattle.dap_session.specs.Session.{numbers_of};
+ghost use Rattle.dap_plan.specs.Session.{numbers_of};
 ghost use Rattle.dap_tables.specs.Outstanding.{contains_seq};
 ghost use Rattle.dap_debuggee.specs.Shown.{to_end};
 ghost use Rattle.dap_decision.specs.declared.phase.Phase.{Phase};
-ghost use Rattle.dap_session.specs.Handling.{after_disconnect};
-ghost use Rattle.dap_session.specs.Plan.{at_once, asking, messages_due};
+ghost use Rattle.dap_plan.specs.Handling.{after_disconnect};
+ghost use Rattle.dap_plan.specs.Plan.{at_once, asking, messages_due};
 ghost use Rattle.dap_tables.specs.References.{without_references};
-ghost use Rattle.dap_session.specs.SessionState.{Carries, IsRefusedFor};
+ghost use Rattle.dap_plan.specs.SessionState.{Carries, IsRefusedFor};
 ghost use Rattle.dap_outbox.specs.Outbox.{Holds, IsReady};
 
-use crate::fault::AdapterFault;
+use dap_plan::AdapterFault;
 use crate::session::Session;
 use dap_debuggee::Debuggee;
 use dap_decision::Phase;

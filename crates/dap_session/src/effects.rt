@@ -1,14 +1,14 @@
 //! What requests do in the phases that serve them, an effect of the table each.
 ghost use Rattle.std.specs.Prelude.{◌≡◌, ◌+◌, ◌≤◌, ◌<◌, [], ◌∷◌, IfOk, OnErr, IsTrue, None, Some, true, OnOk};
-ghost use Rattle.dap_session.specs.Session.{numbers_of};
+ghost use Rattle.dap_plan.specs.Session.{numbers_of};
 ghost use Rattle.dap_body.specs.Body.{data_in};
 ghost use Rattle.dap_message.specs.Lengths.{IsWithin};
 ghost use Rattle.dap_call.specs.declared.call.Call.{Call};
 ghost use Rattle.dap_tables.specs.Outstanding.{contains_seq};
 ghost use Rattle.dap_debuggee.specs.Shown.{to_start, to_resume, to_pause, to_end};
-ghost use Rattle.dap_session.specs.SessionState.{MadeBy, Carries, reply_of};
-ghost use Rattle.dap_session.specs.Handling.{after_initialize, after_park, after_launch, after_configuration_done, after_terminate, after_resume, by_reply, options_of, start_phase, adapter_capabilities, resume_body as resume_body_word};
-ghost use Rattle.dap_session.specs.Plan.{after_answering, asking};
+ghost use Rattle.dap_plan.specs.SessionState.{MadeBy, Carries, reply_of};
+ghost use Rattle.dap_plan.specs.Handling.{after_initialize, after_park, after_launch, after_configuration_done, after_terminate, after_resume, by_reply, options_of, start_phase, adapter_capabilities, resume_body as resume_body_word};
+ghost use Rattle.dap_plan.specs.Plan.{after_answering, asking};
 ghost use Rattle.dap_outbox.specs.Draft.{reply, emit};
 ghost use Rattle.dap_outbox.specs.Outbox.{Holds, answer_of, event_of, shape_of, IsReady};
 

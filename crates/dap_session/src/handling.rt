@@ -2,13 +2,13 @@
 ghost use Rattle.std.specs.Prelude.{◌≡◌, ◌+◌, ◌≤◌, ◌<◌, IfOk, IfErr, OnOk, OnErr, IsTrue, IfSome, IfNone, None, option_map, false};
 ghost use Rattle.dap_outbox.specs.Outbox.{IsReady};
 ghost use Rattle.dap_tables.specs.Outstanding.{contains_seq, is_parked};
-ghost use Rattle.dap_session.specs.SessionState.{Carries, IsRefusedFor, plan_of_decision, IsIdle, HasTurned, NotTurned, AppendsSome};
-ghost use Rattle.dap_session.specs.Session.{oldest, to_handle, numbers_of};
-ghost use Rattle.dap_session.specs.Handling.{plan, plan_for};
-ghost use Rattle.dap_session.specs.Plan.{messages_due};
-ghost use Rattle.dap_session.specs.PrivateChanging.{IsSuitable, Suits};
+ghost use Rattle.dap_plan.specs.SessionState.{Carries, IsRefusedFor, plan_of_decision, IsIdle, HasTurned, NotTurned, AppendsSome};
+ghost use Rattle.dap_plan.specs.Session.{oldest, to_handle, numbers_of};
+ghost use Rattle.dap_plan.specs.Handling.{plan, plan_for};
+ghost use Rattle.dap_plan.specs.Plan.{messages_due};
+ghost use Rattle.dap_plan.specs.Changing.{IsSuitable, Suits};
 
-use crate::fault::AdapterFault;
+use dap_plan::AdapterFault;
 use crate::session::{Session, give_back};
 use dap_debuggee::Debuggee;
 use dap_decision::{Decision, Effect, decide, thread_of};
@@ -25,7 +25,7 @@ fn copied(request: &Entry) -> Result<Entry, AllocError>
 }
 
 impl<D: Debuggee + Drop> Session<D> {
-    ghost use Rattle.dap_session.specs.declared.fault.AdapterFault.{AdapterFault};
+    ghost use Rattle.dap_plan.specs.declared.fault.AdapterFault.{AdapterFault};
     ghost use Rattle.dap_decision.specs.declared.decision.Decision.{Decision};
 
     /// Whether there are own numbers for so many messages.

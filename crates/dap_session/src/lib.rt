@@ -1,17 +1,15 @@
-//! A session at the adapter: what each request comes to, over a debuggee, without the bytes that come in.
+//! A session at the adapter: each of its calls does what the plan says, over a debuggee, without the bytes that come in.
 //!
-//! Overview and Specification. `specs/Table.antt` is the one table of commands and phases, `Failures.antt` the tests in their
-//! one order, `Handling.antt`, `Taking.antt` and `Polling.antt` say what a step comes to: a plan, made at once or of the
-//! debuggee's reply. Bytes of a client and frames stand above, in the adapter.
+//! Overview and Specification. What a step comes to is told by `dap_plan`, which failure a request has by `dap_decision`. This
+//! crate knows how a session keeps what it has, and how the debuggee is asked; bytes of a client and frames stand above, in the
+//! adapter.
 #![tactic(auto)]
 
 mod asking;
 mod changing;
 mod disconnecting;
 mod effects;
-mod fault;
 mod handling;
-pub mod laws;
 mod polling;
 mod querying;
 mod session;
@@ -19,6 +17,6 @@ mod starting;
 mod taking;
 
 pub use dap_decision::Phase;
+pub use dap_plan::AdapterFault;
 pub use dap_query::Options;
-pub use fault::AdapterFault;
 pub use session::Session;

@@ -1,16 +1,16 @@
 //! What happened to the debuggee, told to the client.
 ghost use Rattle.std.specs.Prelude.{◌≡◌, ◌+◌, ◌≤◌, ◌<◌, [], ◌∷◌, length, IfOk, IfErr, OnOk, OnErr, IsOk, IsTrue, false};
-ghost use Rattle.dap_session.specs.Session.{numbers_of};
+ghost use Rattle.dap_plan.specs.Session.{numbers_of};
 ghost use Rattle.dap_message.specs.Lengths.{IsWithin};
 ghost use Rattle.dap_debuggee.specs.Laws.{is_short};
-ghost use Rattle.dap_session.specs.SessionState.{MadeBy, Carries, LacksRoom, IsRefusedPoll, AppendsSome};
+ghost use Rattle.dap_plan.specs.SessionState.{MadeBy, Carries, LacksRoom, IsRefusedPoll, AppendsSome};
 ghost use Rattle.dap_outbox.specs.Draft.{emit};
-ghost use Rattle.dap_session.specs.Polling.{after_happening, after_poll_reply, polls, has_debuggee};
+ghost use Rattle.dap_plan.specs.Polling.{after_happening, after_poll_reply, polls, has_debuggee};
 ghost use Rattle.dap_debuggee.specs.Shown.{to_poll};
-ghost use Rattle.dap_session.specs.Plan.{asking};
+ghost use Rattle.dap_plan.specs.Plan.{asking};
 ghost use Rattle.dap_outbox.specs.Outbox.{Holds, event_of, IsReady};
 
-use crate::fault::AdapterFault;
+use dap_plan::AdapterFault;
 use crate::session::{Session, give_back};
 use dap_debuggee::{Debuggee, Happening};
 use dap_decision::Phase;

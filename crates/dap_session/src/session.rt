@@ -6,7 +6,7 @@ ghost use Rattle.dap_tables.specs.Outstanding.{without, with_mark, contains_seq,
 ghost use Rattle.dap_tables.specs.References.{target_of};
 ghost use Rattle.dap_tables.specs.SourceMap.{count};
 ghost use Rattle.dap_query.specs.Queries.{object_of};
-ghost use Rattle.dap_session.specs.Session.{fresh_session, own_requests, numbers_of};
+ghost use Rattle.dap_plan.specs.Session.{fresh_session, own_requests, numbers_of};
 ghost use Rattle.dap_debuggee.specs.Laws.{is_short};
 ghost use Rattle.dap_debuggee.specs.Shown.{to_start, to_resume, to_pause, to_poll, to_end, done, happened};
 
@@ -37,7 +37,7 @@ pub struct Session<D: Debuggee + Drop> {
 impl<D: Debuggee + Drop> Model for Session<D> {
     ghost use Rattle.std.specs.Coded.{codes};
     ghost use Rattle.dap_json.specs.Stored.{coded_data};
-    ghost use Rattle.dap_session.specs.SessionState.{SessionState, IsSession};
+    ghost use Rattle.dap_plan.specs.SessionState.{SessionState, IsSession};
 
     ghost Value = { SessionState D };
 
@@ -61,7 +61,7 @@ impl<D: Debuggee + Drop> Model for Session<D> {
 }
 
 impl<D: Debuggee + Drop> Session<D> {
-    ghost use Rattle.dap_session.specs.SessionState.{reply_of};
+    ghost use Rattle.dap_plan.specs.SessionState.{reply_of};
     ghost use Rattle.dap_tables.specs.References.{without_references};
 
     /// A fresh session.

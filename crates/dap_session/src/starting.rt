@@ -1,16 +1,16 @@
 //! The start of a debuggee for requests that wait for `configurationDone`.
 ghost use Rattle.std.specs.Prelude.{◌≡◌, ◌+◌, ◌≤◌, length, IfOk, IfErr, OnOk, OnErr, None, false};
-ghost use Rattle.dap_session.specs.Session.{numbers_of};
+ghost use Rattle.dap_plan.specs.Session.{numbers_of};
 ghost use Rattle.dap_tables.specs.Outstanding.{is_parked, parked_ones};
 ghost use Rattle.dap_debuggee.specs.Shown.{to_start};
-ghost use Rattle.dap_session.specs.Handling.{after_parked_launch, by_reply};
-ghost use Rattle.dap_session.specs.Plan.{asking, messages_due};
-ghost use Rattle.dap_session.specs.SessionState.{Carries, IsRefusedFor, reply_of};
+ghost use Rattle.dap_plan.specs.Handling.{after_parked_launch, by_reply};
+ghost use Rattle.dap_plan.specs.Plan.{asking, messages_due};
+ghost use Rattle.dap_plan.specs.SessionState.{Carries, IsRefusedFor, reply_of};
 ghost use Rattle.dap_outbox.specs.Several.{answer_by};
 ghost use Rattle.dap_outbox.specs.Outbox.{Holds, IsReady};
 
 use crate::effects::start_phase;
-use crate::fault::AdapterFault;
+use dap_plan::AdapterFault;
 use crate::session::Session;
 use dap_debuggee::Debuggee;
 use dap_body::Failure;

@@ -1,19 +1,19 @@
 //! What comes of a message that is delivered.
 ghost use Rattle.std.specs.Prelude.{◌≡◌, ◌+◌, ◌≤◌, [], ◌∷◌, length, IfOk, IfErr, IfSome, IfNone, IsErrOf, OnOk, OnErr, Some, true, false, IsTrue};
-ghost use Rattle.dap_session.specs.Session.{numbers_of};
+ghost use Rattle.dap_plan.specs.Session.{numbers_of};
 ghost use Rattle.dap_command.specs.Command.{command_named};
 ghost use Rattle.dap_tables.specs.Outstanding.{contains_seq};
 ghost use Rattle.dap_decision.specs.Failures.{of_known};
 ghost use Rattle.dap_outbox.specs.Draft.{reply, failure, plain_success};
 ghost use Rattle.dap_body.specs.declared.failure.Failure.TheVariants.{Cancelled};
-ghost use Rattle.dap_session.specs.Handling.{some_plan};
-ghost use Rattle.dap_session.specs.SessionState.{IsUnasked, MadeBy, HasTaken, NotTaken, LacksRoom, NamesNone, NamesOne, AppendsSome};
+ghost use Rattle.dap_plan.specs.Handling.{some_plan};
+ghost use Rattle.dap_plan.specs.SessionState.{IsUnasked, MadeBy, HasTaken, NotTaken, LacksRoom, NamesNone, NamesOne, AppendsSome};
 ghost use Rattle.dap_outbox.specs.Outbox.{Holds, answer_of, IsReady};
 ghost use Rattle.dap_decision.specs.Table.{is_phase};
 ghost use Rattle.dap_decision.specs.declared.phase.Phase.TheVariants.{Ended};
-ghost use Rattle.dap_session.specs.Taking.{after_answering_at_once, after_keeping, after_cancel_request, after_cancel, id_in, is_cancel, may_take_memory, takes, takes_request};
+ghost use Rattle.dap_plan.specs.Taking.{after_answering_at_once, after_keeping, after_cancel_request, after_cancel, id_in, is_cancel, may_take_memory, takes, takes_request};
 
-use crate::fault::AdapterFault;
+use dap_plan::AdapterFault;
 use crate::session::{Session, give_back};
 use dap_debuggee::Debuggee;
 use dap_decision::{Phase, call_in};
@@ -63,7 +63,7 @@ fn entry_of(seq: u64, command: &Text, arguments: &Option<Tree>) -> Result<Entry,
 }
 
 impl<D: Debuggee + Drop> Session<D> {
-    ghost use Rattle.dap_session.specs.declared.fault.AdapterFault.{AdapterFault};
+    ghost use Rattle.dap_plan.specs.declared.fault.AdapterFault.{AdapterFault};
 
     /// Answers a request that is not kept.
     fn answer_at_once(

@@ -3,7 +3,7 @@ use Rattle.std.proofs.Common.{◌≡◌, codes, refl}
 use Rattle.std.specs.Fmt.{digits}
 use Rattle.dap_frame.specs.declared.Refusal.TheVariants.{BadLength}
 use Rattle.dap_envelope.specs.declared.fault.BodyRefusal.TheVariants.{BadSeq}
-use Rattle.dap_session.specs.declared.fault.AdapterFault.TheVariants as adapter
+use Rattle.dap_plan.specs.declared.fault.AdapterFault.TheVariants as adapter
 use Rattle.dap_adapter.specs.declared.served.ServeFault.TheVariants as serve
 use Rattle.dap_recording.specs.declared.reading.RecordingKey.TheVariants.{Moments}
 use Rattle.dap_recording.specs.declared.reading.RecordingFault.TheVariants as recording

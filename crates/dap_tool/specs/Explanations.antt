@@ -1,8 +1,8 @@
 -- The second line of a fault: the file, the place in it and the bytes or the key that are refused. It is a function of the fault,
 -- of the file's name and of what was read of it. The sentences are this profile's choice.
 use Rattle.std.specs.Prelude.{ℕ, List, [], ◌∷◌, ◌++◌, codes, decimal}
-use Rattle.dap_session.specs.declared.fault.AdapterFault.{AdapterFault}
-use Rattle.dap_session.specs.declared.fault.AdapterFault.TheVariants as adapter
+use Rattle.dap_plan.specs.declared.fault.AdapterFault.{AdapterFault}
+use Rattle.dap_plan.specs.declared.fault.AdapterFault.TheVariants as adapter
 use Rattle.dap_adapter.specs.declared.served.ServeFault.{ServeFault}
 use Rattle.dap_adapter.specs.declared.served.ServeFault.TheVariants as serve
 use Rattle.dap_client.specs.declared.fault.SendFault.{SendFault}

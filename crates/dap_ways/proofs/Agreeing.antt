@@ -17,9 +17,9 @@ use Rattle.dap_history.specs.Pieces.{Whole, FrameClosed, BodyRefused}
 use Rattle.dap_envelope.specs.Canon.{canon}
 use Rattle.dap_envelope.specs.Meaning.{Msg}
 use Rattle.dap_envelope.specs.declared.message.Message.{Message}
-use Rattle.dap_session.specs.Carried.{Goes}
-use Rattle.dap_session.specs.declared.fault.AdapterFault.{AdapterFault}
-use Rattle.dap_session.specs.declared.fault.AdapterFault.TheVariants as adapter
+use Rattle.dap_plan.specs.Carried.{Goes}
+use Rattle.dap_plan.specs.declared.fault.AdapterFault.{AdapterFault}
+use Rattle.dap_plan.specs.declared.fault.AdapterFault.TheVariants as adapter
 use Rattle.dap_world.specs.Agreement.{MeetsNoFault, EachScheduleAgrees}
 use Rattle.dap_world.specs.Moves.{MovesInOrder}
 use Rattle.dap_world.specs.References.{LastingStops, ReferencesAgreeWhileStopsLast, EachTranscriptIsLegalWhileStopsLast}

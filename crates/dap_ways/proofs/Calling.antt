@@ -20,7 +20,7 @@ use Rattle.dap_call.specs.PlainCall.{is_plain_call}
 use Rattle.dap_envelope.specs.ReadBack.{ReadsBack}
 use Rattle.dap_call.specs.declared.call.Call.{Call}
 use Rattle.dap_envelope.specs.declared.message.Message.{Message}
-use Rattle.dap_session.specs.Carried.{Goes}
+use Rattle.dap_plan.specs.Carried.{Goes}
 use Rattle.dap_ways.specs.ByteWorld.{ByteWorld, ByteStep, by_sending, by_answering, by_taking_up, by_taking_down, by_turning, by_polling, client_wrote, adapter_wrote}
 use Rattle.dap_ways.specs.Steps.{ClientSteps, ClientStepsOver, AdapterSteps, AdapterStepsOver, TurnSteps}
 

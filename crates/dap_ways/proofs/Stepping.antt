@@ -25,12 +25,12 @@ use Rattle.dap_envelope.specs.Canon.{canon}
 use Rattle.dap_envelope.specs.ReadBack.{ReadsBack, AllReadBack}
 use Rattle.dap_call.specs.declared.call.Call.{Call}
 use Rattle.dap_envelope.specs.declared.message.Message.{Message}
-use Rattle.dap_session.specs.Carried.{Goes}
-use Rattle.dap_session.specs.Plan.{Made, Plan, written_by, references_end_if, entries_of}
+use Rattle.dap_plan.specs.Carried.{Goes}
+use Rattle.dap_plan.specs.Plan.{Made, Plan, written_by, references_end_if, entries_of}
 use Rattle.dap_outbox.specs.Draft.{Draft, outs}
-use Rattle.dap_session.specs.Polling.{polls}
-use Rattle.dap_session.specs.Session.{Session as AdapterSession, fresh_session as fresh_adapter}
-use Rattle.dap_session.specs.SessionState.{SessionState}
+use Rattle.dap_plan.specs.Polling.{polls}
+use Rattle.dap_plan.specs.Session.{Session as AdapterSession, fresh_session as fresh_adapter}
+use Rattle.dap_plan.specs.SessionState.{SessionState}
 use Rattle.dap_world.specs.Moves.{MovesInOrder}
 use Rattle.dap_world.specs.World.{World, Said, said_by, client_said, adapter_said, Step, Schedule, starts, goes, by_sending, by_answering, by_coming_up, by_coming_down, by_turning, by_polling}
 use Rattle.dap_ways.specs.Agreement.{IsOneOfMessages}

@@ -13,9 +13,9 @@ use Rattle.dap_debuggee.specs.Laws.{StopsLast}
 use Rattle.dap_debuggee.specs.Shown.{Shown}
 use Rattle.dap_frame.specs.Settings.{Settings, AreInRange}
 use Rattle.dap_envelope.specs.declared.message.Message.{Message}
-use Rattle.dap_session.specs.Carried.{Goes}
-use Rattle.dap_session.specs.declared.fault.AdapterFault.{AdapterFault}
-use Rattle.dap_session.specs.declared.fault.AdapterFault.TheVariants.{SeqExhausted, OutOfMemory}
+use Rattle.dap_plan.specs.Carried.{Goes}
+use Rattle.dap_plan.specs.declared.fault.AdapterFault.{AdapterFault}
+use Rattle.dap_plan.specs.declared.fault.AdapterFault.TheVariants.{SeqExhausted, OutOfMemory}
 use Rattle.dap_world.specs.Agreement.{Agrees}
 use Rattle.dap_world.specs.References.{LastingStops, ReferencesAgree}
 use Rattle.dap_world.specs.Transcripts.{said_of, KeepsRules}

@@ -24,8 +24,8 @@ use Rattle.dap_call.specs.PlainCall.{is_plain_call}
 use Rattle.dap_envelope.specs.ReadBack.{ReadsBack}
 use Rattle.dap_call.specs.declared.call.Call.{Call}
 use Rattle.dap_envelope.specs.declared.message.Message.{Message}
-use Rattle.dap_session.specs.Carried.{Goes}
-use Rattle.dap_session.specs.Session.{fresh_session as fresh_adapter}
+use Rattle.dap_plan.specs.Carried.{Goes}
+use Rattle.dap_plan.specs.Session.{fresh_session as fresh_adapter}
 use Rattle.dap_world.specs.World.{Said}
 
 -- ---- a world

@@ -6,8 +6,8 @@ use Rattle.dap_adapter.specs.declared.taken.Turned.{Turned}
 use Rattle.dap_adapter.specs.declared.taken.Turned.TheVariants.{Idle, Done}
 use Rattle.dap_client.specs.ClientState.{ClientState}
 use Rattle.dap_debuggee.specs.Shown.{Shown}
-use Rattle.dap_session.specs.Carried.{Goes}
-use Rattle.dap_session.specs.Handling.{turns}
+use Rattle.dap_plan.specs.Carried.{Goes}
+use Rattle.dap_plan.specs.Handling.{turns}
 use Rattle.dap_ways.specs.ByteWorld.{ByteWorld, ByteStep, client_wrote, adapter_wrote}
 
 -- whatever is on the ways: the client went from one to the other, and wrote these bytes

@@ -7,9 +7,9 @@ use Rattle.dap_envelope.specs.declared.message.Message.{Message}
 use Rattle.dap_check.specs.declared.line.Side.{Side}
 use Rattle.dap_check.specs.declared.line.Side.TheVariants.{Client, Adapter}
 use Rattle.dap_debuggee.specs.Shown.{Shown}
-use Rattle.dap_session.specs.Carried.{Goes}
-use Rattle.dap_session.specs.Plan.{written_by}
-use Rattle.dap_session.specs.SessionState.{SessionState}
+use Rattle.dap_plan.specs.Carried.{Goes}
+use Rattle.dap_plan.specs.Plan.{written_by}
+use Rattle.dap_plan.specs.SessionState.{SessionState}
 use Rattle.dap_client.specs.Sending.{next_message, after_send}
 use Rattle.dap_client.specs.Session.{Session as ClientSession}
 use Rattle.dap_client.specs.TerminalResponse.{next_terminal_response, after_terminal_response}

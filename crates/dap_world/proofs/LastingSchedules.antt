@@ -2,9 +2,9 @@
 use Rattle.dap_frame.specs.Settings.{Settings}
 use Rattle.dap_debuggee.specs.Laws.{StopsLast}
 use Rattle.dap_debuggee.specs.Shown.{Shown, Act, Reply}
-use Rattle.dap_session.specs.Carried.{Goes, CarriedOut}
-use Rattle.dap_session.specs.Plan.{Made, Plan, at_once, asking}
-use Rattle.dap_session.specs.SessionState.{SessionState, SessionStep}
+use Rattle.dap_plan.specs.Carried.{Goes, CarriedOut}
+use Rattle.dap_plan.specs.Plan.{Made, Plan, at_once, asking}
+use Rattle.dap_plan.specs.SessionState.{SessionState, SessionStep}
 use Rattle.dap_world.specs.References.{LastingStops}
 use Rattle.dap_world.specs.World.{World, AdapterStep, Step, by_sending, by_answering, by_coming_up, by_coming_down, by_turning, by_polling, Schedule, starts, goes}
 

@@ -12,12 +12,12 @@ use Rattle.dap_message.specs.MessageParts.{success_response, failure_response}
 use Rattle.dap_body.specs.declared.failure.Failure.TheVariants.{NotInitialized, AlreadyInitialized, UnknownCommand, Unsupported, BadArguments, WrongPhase, Debuggee, Cancelled}
 use Rattle.dap_command.specs.declared.key.Key.TheVariants.{ThreadId, RequestId}
 use Rattle.dap_envelope.specs.declared.message.Kind.TheVariants.{Response, Event}
-use Rattle.dap_session.specs.declared.fault.AdapterFault.TheVariants.{RepeatedSeq, SeqExhausted, Unmatched, Ended}
+use Rattle.dap_plan.specs.declared.fault.AdapterFault.TheVariants.{RepeatedSeq, SeqExhausted, Unmatched, Ended}
 use Rattle.dap_decision.specs.declared.phase.Phase.TheVariants.{Configured, Running, Stopped, Exited, Ended as EndedPhase}
 use Rattle.dap_query.specs.Bodies.{query_result}
-use Rattle.dap_session.specs.Handling.{plan_for}
-use Rattle.dap_session.specs.Polling.{after_happening}
-use Rattle.dap_session.specs.Session.{to_handle}
+use Rattle.dap_plan.specs.Handling.{plan_for}
+use Rattle.dap_plan.specs.Polling.{after_happening}
+use Rattle.dap_plan.specs.Session.{to_handle}
 use Rattle.dap_world.proofs.PlayedSessions.{At, Calls, comes, turn, poll, run, fresh_at, request, request_with, texts_of, initialized, written_after}
 
 abbrev at_first : At

@@ -5,7 +5,7 @@ use Rattle.dap_envelope.specs.declared.message.Kind.{Kind}
 use Rattle.dap_envelope.specs.declared.message.Kind.TheVariants.{Request, Response, Event, Other}
 use Rattle.dap_envelope.specs.declared.message.Message.{Message}
 use Rattle.dap_tables.specs.Outstanding.{Kept}
-use Rattle.dap_session.specs.Session.{own_requests}
+use Rattle.dap_plan.specs.Session.{own_requests}
 use Rattle.dap_world.specs.World.{World}
 
 pub record Name : Type 0 where

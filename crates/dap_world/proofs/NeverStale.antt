@@ -11,9 +11,9 @@ use Rattle.dap_body.specs.declared.failure.Failure.{Failure}
 use Rattle.dap_body.specs.declared.failure.Failure.TheVariants.{NotInitialized, AlreadyInitialized, UnknownCommand, Unsupported, BadArguments, WrongPhase, NotStopped, UnknownThread, StaleReference, UnknownSource}
 use Rattle.dap_debuggee.specs.Shown.{Shown}
 use Rattle.dap_decision.specs.Failures.{command_of, call_in, of_known, is_early, is_initialize, waits_for_stop, thread_named, reference_named, source_named, lacks_thread, lacks_reference, lacks_source, when, or_else, first_failure, key_refused, phase_refused, read_refused, known_refused}
-use Rattle.dap_session.specs.Handling.{refusal}
+use Rattle.dap_plan.specs.Handling.{refusal}
 use Rattle.dap_query.specs.References.{AreLive}
-use Rattle.dap_session.specs.Session.{Session}
+use Rattle.dap_plan.specs.Session.{Session}
 use Rattle.dap_decision.specs.Table.{is_phase, is_served, is_never_served}
 use Rattle.dap_decision.specs.declared.phase.Phase.TheVariants.{Fresh}
 use Rattle.dap_tables.specs.Outstanding.{Kept}

@@ -12,12 +12,12 @@ use Rattle.dap_ends.specs.Pair.{NumberedNote, WrittenNote, Pair, numbered_notes,
 use Rattle.dap_envelope.specs.declared.message.Message.{Message}
 use Rattle.dap_history.specs.History.{Asked, without_answered}
 use Rattle.dap_check.specs.declared.line.Side.TheVariants.{Adapter}
-use Rattle.dap_session.specs.Answering.{GoesWell}
-use Rattle.dap_session.specs.GivenLaws.{given_by}
-use Rattle.dap_session.specs.Plan.{Made, written_by}
+use Rattle.dap_plan.specs.Answering.{GoesWell}
+use Rattle.dap_plan.specs.GivenLaws.{given_by}
+use Rattle.dap_plan.specs.Plan.{Made, written_by}
 use Rattle.dap_outbox.specs.Draft.{success, failure, Draft, reply, emit, ask, message_of, numbered_messages, requests_in}
-use Rattle.dap_session.specs.Session.{Session, own_requests}
-use Rattle.dap_session.specs.SessionState.{SessionState}
+use Rattle.dap_plan.specs.Session.{Session, own_requests}
+use Rattle.dap_plan.specs.SessionState.{SessionState}
 use Rattle.dap_world.specs.Projection.{note_seen, notes_seen, written_seen, adapter_model_of, own_seen, references_seen, table_of, ByNumber, pair_of}
 use Rattle.dap_world.specs.World.{World, Said, said_by, adapter_said}
 use Rattle.dap_world.proofs.Answered.{IsHarmless, AllHarmless, AllGive}

@@ -22,12 +22,12 @@ use Rattle.dap_envelope.specs.declared.message.Kind.{Kind}
 use Rattle.dap_envelope.specs.declared.message.Kind.TheVariants.{Request, Response, Event, Other}
 use Rattle.dap_envelope.specs.declared.message.Message.{Message}
 use Rattle.dap_outbox.specs.Draft.{Draft, reply, emit, ask, success, failure, numbered_messages, own_request}
-use Rattle.dap_session.specs.Answering.{AnswersEach, GoesWell, answered_by, open_after, with_seq}
-use Rattle.dap_session.specs.Carried.{Goes}
-use Rattle.dap_session.specs.Laws.{CanMake, can_make}
-use Rattle.dap_session.specs.Plan.{Made}
-use Rattle.dap_session.specs.Polling.{polls}
-use Rattle.dap_session.specs.Session.{Session, own_requests}
+use Rattle.dap_plan.specs.Answering.{AnswersEach, GoesWell, answered_by, open_after, with_seq}
+use Rattle.dap_plan.specs.Carried.{Goes}
+use Rattle.dap_plan.specs.Laws.{CanMake, can_make}
+use Rattle.dap_plan.specs.Plan.{Made}
+use Rattle.dap_plan.specs.Polling.{polls}
+use Rattle.dap_plan.specs.Session.{Session, own_requests}
 use Rattle.dap_tables.specs.Outstanding.{Kept, kept_unparked, entry_with}
 use Rattle.dap_tables.specs.declared.entry.Entry.{Entry}
 use Rattle.dap_world.specs.Agreement.{requests_among, responses_among, answer_to, count, AreInOnePlace}

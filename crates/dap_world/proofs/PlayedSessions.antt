@@ -8,14 +8,14 @@ use Rattle.dap_envelope.specs.declared.message.Kind.TheVariants.{Request}
 use Rattle.dap_debuggee.specs.Shown.{Shown, Act, to_start, Reply, refused}
 use Rattle.dap_replay.specs.Played.{Played, fresh_played, act_on, with_ask, shown_of}
 use Rattle.dap_recording.specs.declared.recording.Recording.{Recording}
-use Rattle.dap_session.specs.declared.fault.AdapterFault.{AdapterFault}
-use Rattle.dap_session.specs.declared.fault.AdapterFault.TheVariants.{SeqExhausted}
-use Rattle.dap_session.specs.Handling.{turns}
-use Rattle.dap_session.specs.Plan.{Made, Plan, at_once, asking}
+use Rattle.dap_plan.specs.declared.fault.AdapterFault.{AdapterFault}
+use Rattle.dap_plan.specs.declared.fault.AdapterFault.TheVariants.{SeqExhausted}
+use Rattle.dap_plan.specs.Handling.{turns}
+use Rattle.dap_plan.specs.Plan.{Made, Plan, at_once, asking}
 use Rattle.dap_outbox.specs.Draft.{numbered_messages}
-use Rattle.dap_session.specs.Polling.{polls}
-use Rattle.dap_session.specs.Session.{Session, fresh_session}
-use Rattle.dap_session.specs.Taking.{takes}
+use Rattle.dap_plan.specs.Polling.{polls}
+use Rattle.dap_plan.specs.Session.{Session, fresh_session}
+use Rattle.dap_plan.specs.Taking.{takes}
 
 -- ---- the recording of the examples: `main`, `f` below it, and `main` again, where a run is held
 

@@ -12,13 +12,13 @@ use Rattle.dap_envelope.specs.declared.message.Message.{Message}
 use Rattle.dap_debuggee.specs.Shown.{Shown, Act, Reply, refused}
 use Rattle.dap_check.specs.declared.line.Side.{Side}
 use Rattle.dap_check.specs.declared.line.Side.TheVariants.{Client, Adapter}
-use Rattle.dap_session.specs.declared.fault.AdapterFault.{AdapterFault}
-use Rattle.dap_session.specs.Carried.{Goes, CarriedOut}
-use Rattle.dap_session.specs.Handling.{turns}
-use Rattle.dap_session.specs.Plan.{Made, Plan, at_once, asking, written_by}
-use Rattle.dap_session.specs.Polling.{polls}
-use Rattle.dap_session.specs.SessionState.{SessionState}
-use Rattle.dap_session.specs.Taking.{takes}
+use Rattle.dap_plan.specs.declared.fault.AdapterFault.{AdapterFault}
+use Rattle.dap_plan.specs.Carried.{Goes, CarriedOut}
+use Rattle.dap_plan.specs.Handling.{turns}
+use Rattle.dap_plan.specs.Plan.{Made, Plan, at_once, asking, written_by}
+use Rattle.dap_plan.specs.Polling.{polls}
+use Rattle.dap_plan.specs.SessionState.{SessionState}
+use Rattle.dap_plan.specs.Taking.{takes}
 use Rattle.dap_client.specs.declared.fault.ClientFault.{ClientFault}
 use Rattle.dap_client.specs.Sending.{first_of, refusals_in_order, next_message, after_send}
 use Rattle.dap_client.specs.Taking.{Made as ClientMade, takes as client_takes}

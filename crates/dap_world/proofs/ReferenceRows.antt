@@ -22,11 +22,11 @@ use Rattle.dap_replay.specs.Played.{Played, with_ask, fresh_played, act_on, show
 use Rattle.dap_debuggee.specs.Shown.{Act, to_start, to_resume, to_pause, to_poll, to_set_breakpoints, to_assign, to_end, Reply}
 use Rattle.dap_recording.proofs.ThreeMoments.{three_moments}
 use Rattle.dap_query.specs.Bodies.{query_result}
-use Rattle.dap_session.specs.Carried.{Goes}
+use Rattle.dap_plan.specs.Carried.{Goes}
 use Rattle.dap_query.specs.References.{AreLive}
-use Rattle.dap_session.specs.Handling.{plan_for}
-use Rattle.dap_session.specs.Plan.{Plan, at_once, asking}
-use Rattle.dap_session.specs.Polling.{after_happening}
+use Rattle.dap_plan.specs.Handling.{plan_for}
+use Rattle.dap_plan.specs.Plan.{Plan, at_once, asking}
+use Rattle.dap_plan.specs.Polling.{after_happening}
 use Rattle.dap_client.specs.Sending.{first_of, refusals_in_order}
 use Rattle.dap_client.specs.declared.fault.SendFault.TheVariants.{NotStopped, UnknownReference}
 use Rattle.dap_world.specs.MessageReferences.{references_used_by_read, references_used_by_request}

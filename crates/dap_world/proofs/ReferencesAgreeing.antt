@@ -29,9 +29,9 @@ use Rattle.dap_client.specs.declared.fault.ClientFault.{ClientFault}
 use Rattle.dap_client.specs.declared.fault.ClientFault.TheVariants.{ReferenceLimit}
 use Rattle.dap_debuggee.specs.Laws.{Answers, Moves}
 use Rattle.dap_debuggee.specs.Shown.{Shown}
-use Rattle.dap_session.specs.Carried.{Goes}
+use Rattle.dap_plan.specs.Carried.{Goes}
 use Rattle.dap_query.specs.References.{AreLive}
-use Rattle.dap_session.specs.StateLaws.{EachStepKeepsState}
+use Rattle.dap_plan.specs.StateLaws.{EachStepKeepsState}
 use Rattle.dap_world.specs.MessageReferences.{references_used_by_request, references_used_by_kind}
 use Rattle.dap_world.specs.Projection.{notes_seen, all_kept, references_seen, table_of, pair_of, written_seen}
 use Rattle.dap_world.specs.References.{LastingStops, ReferencesAgreeWhileStopsLast, EachTranscriptIsLegalWhileStopsLast}

@@ -13,8 +13,8 @@ use Rattle.dap_message.specs.MessageParts.{failure_response}
 use Rattle.dap_body.specs.declared.failure.Failure.TheVariants.{UnknownThread, StaleReference, UnknownSource, Debuggee, TooManyBreakpoints, TooManyReferences, ReferencesExhausted, TooLarge, NotStopped}
 use Rattle.dap_command.specs.declared.source_key.SourceKey.TheVariants.{Path}
 use Rattle.dap_query.specs.Bodies.{query_result}
-use Rattle.dap_session.specs.Handling.{plan_for}
-use Rattle.dap_session.specs.Polling.{after_happening}
+use Rattle.dap_plan.specs.Handling.{plan_for}
+use Rattle.dap_plan.specs.Polling.{after_happening}
 use Rattle.dap_world.proofs.PlayedSessions.{At, Calls, turn, poll, run, fresh_at, request, request_with, texts_of, initialized, written_after}
 
 abbrev played : Settings → List Calls → At

@@ -10,15 +10,15 @@ use Rattle.dap_ends.proofs.Counts.{names-same}
 use Rattle.dap_call.specs.Terminal.{run_in_terminal}
 use Rattle.dap_tables.specs.Outstanding.{parked_ones, unparked_ones}
 use Rattle.dap_debuggee.specs.Shown.{Reply, refused}
-use Rattle.dap_session.specs.declared.fault.AdapterFault.{AdapterFault}
-use Rattle.dap_session.specs.declared.fault.AdapterFault.TheVariants.{Unmatched, CommandMismatch, SeqExhausted}
+use Rattle.dap_plan.specs.declared.fault.AdapterFault.{AdapterFault}
+use Rattle.dap_plan.specs.declared.fault.AdapterFault.TheVariants.{Unmatched, CommandMismatch, SeqExhausted}
 use Rattle.dap_decision.specs.declared.phase.Phase.{Phase}
 use Rattle.dap_decision.specs.declared.phase.Phase.TheVariants as adapter
-use Rattle.dap_session.specs.Handling.{by_reply, start_phase}
-use Rattle.dap_session.specs.Laws.{CanMake}
-use Rattle.dap_session.specs.Plan.{Made, Plan, messages_due, plan_within_numbers}
-use Rattle.dap_session.specs.Session.{Session, is_asked}
-use Rattle.dap_session.specs.Taking.{after_terminal, after_late_terminal, plan_of_response, takes_response}
+use Rattle.dap_plan.specs.Handling.{by_reply, start_phase}
+use Rattle.dap_plan.specs.Laws.{CanMake}
+use Rattle.dap_plan.specs.Plan.{Made, Plan, messages_due, plan_within_numbers}
+use Rattle.dap_plan.specs.Session.{Session, is_asked}
+use Rattle.dap_plan.specs.Taking.{after_terminal, after_late_terminal, plan_of_response, takes_response}
 use Rattle.dap_world.specs.Projection.{adapter_model_phase, all_kept, adapter_model_of}
 use Rattle.dap_world.proofs.Answered.{AllHarmless, AllGiveNone, none-each, none-reply, is_done, told-reply, starts-phase, harmless-after_park, same-desk}
 use Rattle.dap_world.proofs.KeptSeen.{all_told, each-succeeded, parked-seen, unparked-seen}

@@ -28,12 +28,12 @@ use Rattle.dap_client.specs.Taking.{takes as client_takes}
 use Rattle.dap_client.specs.declared.fault.ClientFault.TheVariants.{ReferenceLimit}
 use Rattle.dap_query.specs.Bodies.{query_result}
 use Rattle.dap_decision.specs.Failures.{first_failure, name_refused, key_refused, phase_refused, read_refused}
-use Rattle.dap_session.specs.Handling.{refusal}
+use Rattle.dap_plan.specs.Handling.{refusal}
 use Rattle.dap_query.specs.References.{AreLive}
-use Rattle.dap_session.specs.Handling.{plan_for}
-use Rattle.dap_session.specs.Plan.{Plan, at_once, asking}
-use Rattle.dap_session.specs.Polling.{after_happening}
-use Rattle.dap_session.specs.Session.{oldest}
+use Rattle.dap_plan.specs.Handling.{plan_for}
+use Rattle.dap_plan.specs.Plan.{Plan, at_once, asking}
+use Rattle.dap_plan.specs.Polling.{after_happening}
+use Rattle.dap_plan.specs.Session.{oldest}
 use Rattle.dap_tables.specs.Outstanding.{Kept}
 use Rattle.dap_world.specs.MessageReferences.{references_used_by_read, references_used_by_request}
 use Rattle.dap_world.specs.Restless.{Restless, restless_shown, is_possible, restless_after, RestlessFollows, PremiseIsNeeded}

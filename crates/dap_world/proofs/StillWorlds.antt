@@ -13,12 +13,12 @@ use Rattle.dap_debuggee.specs.Shown.{Shown, to_poll, Reply, done, refused, happe
 use Rattle.dap_debuggee.specs.declared.answers.Happening.TheVariants as happening
 use Rattle.dap_debuggee.specs.declared.answers.State.{State}
 use Rattle.dap_debuggee.specs.declared.answers.State.TheVariants as state
-use Rattle.dap_session.specs.Carried.{Goes, CarriedOut}
-use Rattle.dap_session.specs.Plan.{Made, Plan, at_once, asking, written_by}
-use Rattle.dap_session.specs.Polling.{polls}
-use Rattle.dap_session.specs.Session.{Session}
-use Rattle.dap_session.specs.SessionState.{SessionState, SessionStep}
-use Rattle.dap_session.specs.StateLaws.{IsStateOf, KeepsState, EachStepKeepsState}
+use Rattle.dap_plan.specs.Carried.{Goes, CarriedOut}
+use Rattle.dap_plan.specs.Plan.{Made, Plan, at_once, asking, written_by}
+use Rattle.dap_plan.specs.Polling.{polls}
+use Rattle.dap_plan.specs.Session.{Session}
+use Rattle.dap_plan.specs.SessionState.{SessionState, SessionStep}
+use Rattle.dap_plan.specs.StateLaws.{IsStateOf, KeepsState, EachStepKeepsState}
 use Rattle.dap_decision.specs.declared.phase.Phase.{Phase}
 use Rattle.dap_decision.specs.declared.phase.Phase.TheVariants as adapter
 use Rattle.dap_world.specs.Projection.{adapter_model_phase, pair_of}

@@ -15,14 +15,14 @@ use Rattle.dap_command.specs.declared.key.Key.TheVariants.{AdapterId, Arguments}
 use Rattle.dap_envelope.specs.declared.message.Kind.TheVariants.{Response}
 use Rattle.dap_debuggee.specs.declared.answers.State.{State}
 use Rattle.dap_debuggee.specs.declared.answers.State.TheVariants.{NotStarted, Running as IsRunning}
-use Rattle.dap_session.specs.declared.fault.AdapterFault.{AdapterFault}
-use Rattle.dap_session.specs.declared.fault.AdapterFault.TheVariants.{Unmatched, CommandMismatch, SeqExhausted, Ended}
+use Rattle.dap_plan.specs.declared.fault.AdapterFault.{AdapterFault}
+use Rattle.dap_plan.specs.declared.fault.AdapterFault.TheVariants.{Unmatched, CommandMismatch, SeqExhausted, Ended}
 use Rattle.dap_decision.specs.declared.phase.Phase.{Phase}
 use Rattle.dap_decision.specs.declared.phase.Phase.TheVariants.{Ready, Configured, Parked, Asked, Running, Stopped, Ended as EndedPhase}
 use Rattle.dap_query.specs.Bodies.{query_result}
-use Rattle.dap_session.specs.Handling.{plan_for}
-use Rattle.dap_session.specs.Polling.{after_happening}
-use Rattle.dap_session.specs.Session.{own_requests}
+use Rattle.dap_plan.specs.Handling.{plan_for}
+use Rattle.dap_plan.specs.Polling.{after_happening}
+use Rattle.dap_plan.specs.Session.{own_requests}
 use Rattle.dap_world.proofs.PlayedSessions.{At, Calls, comes, turn, poll, run, fresh_at, request, request_with, texts_of, initialized, written_after}
 
 -- ---- words of the examples

@@ -17,13 +17,13 @@ use Rattle.dap_debuggee.specs.Shown.{Shown}
 use Rattle.dap_history.specs.History.{Asked as Request}
 use Rattle.dap_history.specs.Requests.{asks}
 use Rattle.dap_outbox.specs.Draft.{own_request}
-use Rattle.dap_session.specs.declared.fault.AdapterFault.TheVariants.{Unmatched}
+use Rattle.dap_plan.specs.declared.fault.AdapterFault.TheVariants.{Unmatched}
 use Rattle.dap_decision.specs.declared.phase.Phase.TheVariants.{Asked, Configured, Ended}
 use Rattle.dap_query.specs.Bodies.{query_result}
-use Rattle.dap_session.specs.Carried.{Goes}
-use Rattle.dap_session.specs.Handling.{plan_for}
-use Rattle.dap_session.specs.Session.{own_requests}
-use Rattle.dap_session.specs.Taking.{takes}
+use Rattle.dap_plan.specs.Carried.{Goes}
+use Rattle.dap_plan.specs.Handling.{plan_for}
+use Rattle.dap_plan.specs.Session.{own_requests}
+use Rattle.dap_plan.specs.Taking.{takes}
 use Rattle.dap_client.specs.declared.terminal.Terminal.TheVariants.{Refused}
 use Rattle.dap_world.specs.Agreement.{requests_among, responses_among, answer_to}
 use Rattle.dap_world.specs.Worked.{refused_texts, texts_said, IsWritten}

@@ -26,12 +26,12 @@ use Rattle.dap_tables.specs.Outstanding.{Kept}
 use Rattle.dap_tables.specs.declared.entry.Entry.{Entry}
 use Rattle.dap_check.specs.declared.line.Side.TheVariants.{Adapter}
 use Rattle.dap_tables.specs.References.{LiveReferences}
-use Rattle.dap_session.specs.Answering.{GoesWell}
-use Rattle.dap_session.specs.GivenLaws.{given_by, AllGiveLive}
-use Rattle.dap_session.specs.Handling.{is_launch, names_terminal, wants_terminal, parked_wants_terminal}
-use Rattle.dap_session.specs.Plan.{Made}
+use Rattle.dap_plan.specs.Answering.{GoesWell}
+use Rattle.dap_plan.specs.GivenLaws.{given_by, AllGiveLive}
+use Rattle.dap_plan.specs.Handling.{is_launch, names_terminal, wants_terminal, parked_wants_terminal}
+use Rattle.dap_plan.specs.Plan.{Made}
 use Rattle.dap_outbox.specs.Draft.{Draft, reply, emit, ask, message_of, numbered_messages, requests_in}
-use Rattle.dap_session.specs.Session.{Session, own_requests}
+use Rattle.dap_plan.specs.Session.{Session, own_requests}
 use Rattle.dap_outbox.specs.Draft.{own_request}
 use Rattle.dap_query.specs.declared.options.Options.{Options}
 use Rattle.dap_decision.specs.declared.phase.Phase.{Phase}

@@ -14,11 +14,11 @@ use Rattle.dap_call.specs.declared.call.Call.TheVariants as call
 use Rattle.dap_replay.specs.Played.{Played, fresh_played, shown_of, FollowsPlayed}
 use Rattle.dap_debuggee.specs.Shown.{Shown}
 use Rattle.dap_history.specs.Requests.{asks}
-use Rattle.dap_session.specs.declared.fault.AdapterFault.TheVariants.{SeqExhausted}
+use Rattle.dap_plan.specs.declared.fault.AdapterFault.TheVariants.{SeqExhausted}
 use Rattle.dap_query.specs.Bodies.{query_result}
-use Rattle.dap_session.specs.Carried.{Goes}
-use Rattle.dap_session.specs.Handling.{plan_for, turns}
-use Rattle.dap_session.specs.Taking.{takes}
+use Rattle.dap_plan.specs.Carried.{Goes}
+use Rattle.dap_plan.specs.Handling.{plan_for, turns}
+use Rattle.dap_plan.specs.Taking.{takes}
 use Rattle.dap_tables.specs.Outstanding.{parked_ones}
 use Rattle.dap_world.specs.Agreement.{requests_among, responses_among}
 use Rattle.dap_world.specs.Worked.{nothing_recorded, cancelled_texts, disconnected_texts, texts_said, IsWritten}

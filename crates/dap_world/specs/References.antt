@@ -13,8 +13,8 @@ use Rattle.dap_debuggee.specs.Laws.{ends_a_stop}
 use Rattle.dap_debuggee.specs.Shown.{Shown}
 use Rattle.dap_body.specs.declared.failure.Failure.TheVariants.{StaleReference}
 use Rattle.dap_envelope.specs.declared.message.Message.{Message}
-use Rattle.dap_session.specs.Carried.{Goes}
-use Rattle.dap_session.specs.Handling.{refusal}
+use Rattle.dap_plan.specs.Carried.{Goes}
+use Rattle.dap_plan.specs.Handling.{refusal}
 use Rattle.dap_query.specs.References.{AreLive}
 use Rattle.dap_world.specs.MessageReferences.{references_used_by_request, references_used_by_kind}
 use Rattle.dap_world.specs.Transcripts.{said_of, Keeps}

@@ -13,9 +13,9 @@ use Rattle.dap_body.specs.declared.failure.Failure.TheVariants.{StaleReference}
 use Rattle.dap_envelope.specs.declared.message.Message.{Message}
 use Rattle.dap_client.specs.Taking.{takes}
 use Rattle.dap_client.specs.declared.fault.ClientFault.TheVariants.{ReferenceLimit}
-use Rattle.dap_session.specs.Handling.{refusal}
+use Rattle.dap_plan.specs.Handling.{refusal}
 use Rattle.dap_query.specs.References.{AreLive}
-use Rattle.dap_session.specs.Session.{oldest}
+use Rattle.dap_plan.specs.Session.{oldest}
 use Rattle.dap_tables.specs.Outstanding.{Kept}
 use Rattle.dap_world.specs.MessageReferences.{references_used_by_request}
 use Rattle.dap_world.specs.World.{World, Schedule}

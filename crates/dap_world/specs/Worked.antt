@@ -8,7 +8,7 @@ use Rattle.dap_frame.specs.Settings.{Settings, usual_settings}
 use Rattle.dap_envelope.specs.Canon.{canon}
 use Rattle.dap_recording.specs.declared.recording.Recording.{Recording}
 use Rattle.dap_replay.specs.Played.{fresh_played, shown_of, FollowsPlayed}
-use Rattle.dap_session.specs.Carried.{Goes}
+use Rattle.dap_plan.specs.Carried.{Goes}
 use Rattle.dap_world.specs.World.{World, Schedule}
 
 -- what was written, and by whom, in order

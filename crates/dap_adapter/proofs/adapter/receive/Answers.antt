@@ -2,7 +2,7 @@ use Rattle.std.proofs.Common.{Option, subst}
 use Rattle.std.proofs.lemmas.Result.{err_from_is_err_and}
 use Rattle.dap_envelope.specs.declared.message.Message.{Message}
 use Rattle.dap_reader.specs.Reader.{Gives, GivesOne}
-use Rattle.dap_session.specs.Taking.{takes}
+use Rattle.dap_plan.specs.Taking.{takes}
 use Rattle.dap_adapter.proofs.Refusing.{untaken_refused, unread_refused, named_stays, apart_stays}
 use Rattle.dap_adapter.proofs.adapter.receive.Goals as goal
 

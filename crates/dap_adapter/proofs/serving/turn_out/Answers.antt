@@ -1,5 +1,5 @@
 use Rattle.std.proofs.Common.{◌≡◌, List, [], ℕ, refl, sym, subst}
-use Rattle.dap_session.specs.Plan.{written_by}
+use Rattle.dap_plan.specs.Plan.{written_by}
 use Rattle.dap_adapter.specs.PrivateServing.{way_of, point_of, Leads}
 use Rattle.dap_adapter.specs.Run.{to_turn, to_poll}
 use Rattle.dap_adapter.proofs.Leading.{leads_step, leads_still, breaks_at_call, breaks_at_bytes}

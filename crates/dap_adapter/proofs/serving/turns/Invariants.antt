@@ -1,5 +1,5 @@
 use Rattle.std.proofs.Common.{[]}
-use Rattle.dap_session.specs.Session.{to_handle}
+use Rattle.dap_plan.specs.Session.{to_handle}
 use Rattle.dap_adapter.specs.PrivateServing.{way_of, point_of, Leads}
 use Rattle.dap_adapter.specs.Run.{to_turn}
 use Rattle.dap_adapter.proofs.serving.turns.Given as goal

@@ -1,7 +1,7 @@
 use Rattle.std.proofs.Common.{◌≡◌, ◌&&◌, length}
 use Rattle.std.specs.List.{list_any}
 use Rattle.dap_tables.specs.Outstanding.{is_parked}
-use Rattle.dap_session.specs.Handling.{wants_terminal}
+use Rattle.dap_plan.specs.Handling.{wants_terminal}
 use Rattle.dap_session.proofs.asking.are_wanting.Given as goal
 
 -- those before were not

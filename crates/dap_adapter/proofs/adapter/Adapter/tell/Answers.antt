@@ -1,6 +1,6 @@
 use Rattle.std.proofs.Common.{◌≡◌, ℕ, List, [], ap, sym, subst, ◌∙◌}
-use Rattle.dap_session.specs.Session.{Session}
-use Rattle.dap_session.specs.declared.fault.AdapterFault.{AdapterFault}
+use Rattle.dap_plan.specs.Session.{Session}
+use Rattle.dap_plan.specs.declared.fault.AdapterFault.{AdapterFault}
 use Rattle.dap_adapter.specs.Parts.{PollsOn, StopsAfter}
 use Rattle.dap_adapter.specs.Run.{to_poll}
 use Rattle.dap_adapter.proofs.Appending.{polled_on, limits_at, stopped_after}

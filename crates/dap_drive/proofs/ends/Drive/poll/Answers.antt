@@ -5,7 +5,7 @@ use Rattle.dap_check.specs.declared.line.Side.TheVariants.{Adapter}
 use Rattle.dap_decision.specs.Table.{is_phase}
 use Rattle.dap_decision.specs.declared.phase.Phase.{Phase}
 use Rattle.dap_decision.specs.declared.phase.Phase.TheVariants.{Stopped}
-use Rattle.dap_session.specs.Polling.{polls}
+use Rattle.dap_plan.specs.Polling.{polls}
 use Rattle.dap_drive.specs.PrivateLines.{WritesLines}
 use Rattle.dap_drive.specs.PrivateHeld.{driven_by, both_of}
 use Rattle.dap_drive.proofs.Delivering.{memory_alone}

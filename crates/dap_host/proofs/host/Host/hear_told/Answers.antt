@@ -2,7 +2,7 @@ use Rattle.std.proofs.Common.{◌≡◌, ◌≢◌, ◌++◌, subst}
 use Rattle.std.specs.Prelude.{IfErr}
 use Rattle.std.proofs.lemmas.Result.{on_ok_weaker}
 use Rattle.dap_live.specs.declared.mail.Coming.{Coming}
-use Rattle.dap_session.specs.declared.fault.AdapterFault.TheVariants.{OutOfMemory}
+use Rattle.dap_plan.specs.declared.fault.AdapterFault.TheVariants.{OutOfMemory}
 use Rattle.dap_host.specs.Hearing.{HostState, HearsTold, StopsTelling, not_heard, IsUnheard}
 use Rattle.dap_host.specs.Written.{refusal_line}
 use Rattle.dap_host.specs.declared.told.Unread.{Unread}

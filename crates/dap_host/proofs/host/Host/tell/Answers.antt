@@ -1,6 +1,6 @@
 use Rattle.std.proofs.Common.{length, vec_len, arith, refl, ◌∙◌, ap}
 use Rattle.std.proofs.Math.Bool.{not}
-use Rattle.dap_session.specs.Polling.{has_debuggee}
+use Rattle.dap_plan.specs.Polling.{has_debuggee}
 use Rattle.dap_host.specs.Hearing.{HostState}
 use Rattle.dap_host.proofs.GoingLemmas.{some_by, none_by, told_at, polls_on_at, stopped_telling_at}
 use Rattle.dap_host.proofs.host.Host.tell.Goals as goal

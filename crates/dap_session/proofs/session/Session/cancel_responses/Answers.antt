@@ -1,9 +1,9 @@
 use Rattle.std.proofs.Common.{◌≡◌, List, sym, ap, subst}
 use Rattle.dap_tables.specs.Outstanding.{Kept}
 use Rattle.dap_outbox.specs.Draft.{Draft}
-use Rattle.dap_session.specs.SessionState.{SessionState}
+use Rattle.dap_plan.specs.SessionState.{SessionState}
 use Rattle.dap_outbox.specs.Outbox.{Holds}
-use Rattle.dap_session.proofs.Cancels.{Finds, names-parked, names-absent, finds, after_cancel-one, is-false}
+use Rattle.dap_plan.proofs.Cancels.{Finds, names-parked, names-absent, finds, after_cancel-one, is-false}
 use Rattle.dap_session.proofs.session.Session.cancel_responses.Goals as goal
 
 pub returns-then-is_parked-clause-none : goal.returns-then-is_parked-clause-none

@@ -1,7 +1,7 @@
 use Rattle.std.proofs.Common.{refl, sym, subst}
-use Rattle.dap_session.specs.Plan.{Plan}
-use Rattle.dap_session.specs.SessionState.{Carries}
-use Rattle.dap_session.proofs.ChangeResults.{change-carries}
+use Rattle.dap_plan.specs.Plan.{Plan}
+use Rattle.dap_plan.specs.SessionState.{Carries}
+use Rattle.dap_plan.proofs.ChangeResults.{change-carries}
 use Rattle.dap_session.proofs.Outboxes.{each-done}
 use Rattle.dap_session.proofs.TakingRequests.{at_once_carries}
 use Rattle.dap_session.proofs.session.Session.change_or_fail.Goals as goal

@@ -1,7 +1,7 @@
 use Rattle.std.proofs.Common.{◌≡◌, Some, subst}
 use Rattle.dap_decision.specs.Decisions.{IsServed}
-use Rattle.dap_session.specs.Handling.{refusal}
-use Rattle.dap_session.specs.SessionState.{SessionState}
+use Rattle.dap_plan.specs.Handling.{refusal}
+use Rattle.dap_plan.specs.SessionState.{SessionState}
 use Rattle.dap_session.proofs.Deciding.{decided-refused, decided-served, decided-suits}
 use Rattle.dap_session.proofs.session.Session.decide.Goals as goal
 

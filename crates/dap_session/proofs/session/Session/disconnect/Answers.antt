@@ -1,8 +1,8 @@
 use Rattle.std.proofs.Common.{rules, refl, ◌≡◌, length, Err, ap, ◌∙◌, sym, subst}
 use Rattle.dap_tables.specs.Outstanding.{HasDistinctSeqs}
-use Rattle.dap_session.specs.Handling.{after_disconnect}
-use Rattle.dap_session.specs.Plan.{at_once}
-use Rattle.dap_session.specs.SessionState.{SessionState}
+use Rattle.dap_plan.specs.Handling.{after_disconnect}
+use Rattle.dap_plan.specs.Plan.{at_once}
+use Rattle.dap_plan.specs.SessionState.{SessionState}
 use Rattle.dap_session.proofs.Disconnects.{messages_due-after_disconnect, refused-for, disconnect-made}
 use Rattle.dap_session.proofs.TakingRequests.{at_once_carries}
 use Rattle.dap_session.proofs.session.Session.disconnect.Goals as goal

@@ -1,9 +1,9 @@
 use Rattle.std.proofs.Common.{rules, refl, ◌≡◌, length, Err, ap, ◌∙◌, sym, subst}
 use Rattle.dap_tables.specs.Outstanding.{HasDistinctSeqs}
 use Rattle.dap_debuggee.specs.Shown.{to_end, done}
-use Rattle.dap_session.specs.Handling.{after_disconnect}
-use Rattle.dap_session.specs.Plan.{asking}
-use Rattle.dap_session.specs.SessionState.{SessionState}
+use Rattle.dap_plan.specs.Handling.{after_disconnect}
+use Rattle.dap_plan.specs.Plan.{asking}
+use Rattle.dap_plan.specs.SessionState.{SessionState}
 use Rattle.dap_session.proofs.Disconnects.{messages_due-after_disconnect, refused-for, disconnect-made}
 use Rattle.dap_session.proofs.TakingRequests.{asking-carries}
 use Rattle.dap_session.proofs.session.Session.end_and_disconnect.Goals as goal

@@ -1,5 +1,5 @@
 use Rattle.std.proofs.Common.{refl}
-use Rattle.dap_session.specs.SessionState.{reply_of}
+use Rattle.dap_plan.specs.SessionState.{reply_of}
 use Rattle.dap_session.proofs.Disconnects.{terminal-made}
 use Rattle.dap_session.proofs.session.Session.end_waiting.Goals as goal
 

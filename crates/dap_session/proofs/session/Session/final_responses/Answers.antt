@@ -3,7 +3,7 @@ use Rattle.std.specs.Prelude.{◌==◌, not}
 use Rattle.dap_body.specs.declared.failure.Failure.TheVariants.{Cancelled}
 use Rattle.dap_tables.specs.Outstanding.{entries, contains_seq}
 use Rattle.dap_outbox.specs.Draft.{failure}
-use Rattle.dap_session.specs.SessionState.{SessionState}
+use Rattle.dap_plan.specs.SessionState.{SessionState}
 use Rattle.dap_outbox.specs.Several.{answer_where, WritesAll}
 use Rattle.dap_session.proofs.Disconnects.{room-first, room-last, holds-after_disconnect}
 use Rattle.dap_session.proofs.Outboxes.{each-done}

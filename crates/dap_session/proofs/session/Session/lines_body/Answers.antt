@@ -1,7 +1,7 @@
 use Rattle.std.proofs.Common.{◌≡◌, Some, ap, subst, sym, ◌∙◌}
-use Rattle.dap_session.specs.Handling.{answers_to}
-use Rattle.dap_session.specs.SessionState.{SessionState}
-use Rattle.dap_session.proofs.ChangeResults.{lines-told}
+use Rattle.dap_plan.specs.Handling.{answers_to}
+use Rattle.dap_plan.specs.SessionState.{SessionState}
+use Rattle.dap_plan.proofs.ChangeResults.{lines-told}
 use Rattle.dap_session.proofs.session.Session.lines_body.Goals as goal
 
 pub returns : goal.returns

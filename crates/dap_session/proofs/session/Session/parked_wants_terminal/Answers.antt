@@ -1,8 +1,8 @@
 use Rattle.std.proofs.Common.{◌≡◌, ◌&&◌, ◌∙◌, subst}
 use Rattle.std.specs.List.{list_any}
 use Rattle.dap_tables.specs.Outstanding.{entries, is_parked}
-use Rattle.dap_session.specs.Handling.{parked_wants_terminal, wants_terminal}
-use Rattle.dap_session.specs.SessionState.{SessionState}
+use Rattle.dap_plan.specs.Handling.{parked_wants_terminal, wants_terminal}
+use Rattle.dap_plan.specs.SessionState.{SessionState}
 use Rattle.dap_session.proofs.SeveralAnswers.{any-parked}
 use Rattle.dap_session.proofs.session.Session.parked_wants_terminal.Goals as goal
 

@@ -1,8 +1,8 @@
 use Rattle.std.proofs.Common.{None}
 use Rattle.dap_debuggee.specs.Shown.{to_pause}
-use Rattle.dap_session.specs.Handling.{by_reply}
-use Rattle.dap_session.specs.Plan.{after_answering}
-use Rattle.dap_session.specs.SessionState.{reply_of}
+use Rattle.dap_plan.specs.Handling.{by_reply}
+use Rattle.dap_plan.specs.Plan.{after_answering}
+use Rattle.dap_plan.specs.SessionState.{reply_of}
 use Rattle.dap_session.proofs.Outboxes.{each-done}
 use Rattle.dap_session.proofs.TakingRequests.{asking-carries}
 use Rattle.dap_session.proofs.session.Session.pause.Goals as goal

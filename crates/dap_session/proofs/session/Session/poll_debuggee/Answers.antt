@@ -1,5 +1,5 @@
 use Rattle.dap_debuggee.specs.Shown.{to_poll, happened}
-use Rattle.dap_session.specs.Polling.{after_poll_reply}
+use Rattle.dap_plan.specs.Polling.{after_poll_reply}
 use Rattle.dap_session.proofs.Outboxes.{each-done}
 use Rattle.dap_session.proofs.TakingRequests.{asking-carries}
 use Rattle.dap_session.proofs.session.Session.poll_debuggee.Goals as goal

@@ -1,8 +1,8 @@
 use Rattle.std.proofs.Common.{subst}
 use Rattle.dap_query.specs.Bodies.{query_result}
 use Rattle.dap_query.specs.QueryResults.{IsQueryResult}
-use Rattle.dap_session.specs.Session.{query_of}
-use Rattle.dap_session.specs.SessionState.{SessionState}
+use Rattle.dap_plan.specs.Session.{query_of}
+use Rattle.dap_plan.specs.SessionState.{SessionState}
 use Rattle.dap_session.proofs.session.Session.query_body.Goals as goal
 
 pub returns-clause-body : goal.returns-clause-body

@@ -1,7 +1,7 @@
 use Rattle.std.proofs.Common.{refl, w64}
 use Rattle.std.proofs.lemmas.Int.{to_z-of_z}
 use Rattle.dap_debuggee.specs.Shown.{to_resume, done, refused}
-use Rattle.dap_session.specs.Handling.{after_resume}
+use Rattle.dap_plan.specs.Handling.{after_resume}
 use Rattle.dap_session.proofs.Outboxes.{each-done}
 use Rattle.dap_session.proofs.TakingRequests.{asking-carries}
 use Rattle.dap_session.proofs.session.Session.resume.Goals as goal

@@ -1,6 +1,6 @@
 use Rattle.std.proofs.Common.{rules, w64, SFits}
 use Rattle.std.proofs.lemmas.Int.{to_z-of_z}
-use Rattle.dap_session.specs.Handling.{plan_for}
+use Rattle.dap_plan.specs.Handling.{plan_for}
 use Rattle.dap_session.proofs.TakingRequests.{at_once_carries}
 use Rattle.dap_session.proofs.session.Session.serve.Goals as goal
 

@@ -1,6 +1,6 @@
 use Rattle.dap_debuggee.specs.Shown.{to_start}
-use Rattle.dap_session.specs.SessionState.{reply_of}
-use Rattle.dap_session.specs.Taking.{after_terminal}
+use Rattle.dap_plan.specs.SessionState.{reply_of}
+use Rattle.dap_plan.specs.Taking.{after_terminal}
 use Rattle.dap_session.proofs.Outboxes.{each-done}
 use Rattle.dap_session.proofs.TakingRequests.{asking-carries}
 use Rattle.dap_session.proofs.session.Session.start_in_terminal.Goals as goal

@@ -2,12 +2,12 @@ use Rattle.std.proofs.Common.{rules, ◌≡◌, ◌+◌, length, Err, ap, ◌∙
 use Rattle.dap_envelope.specs.ReadBack.{AllReadBack}
 use Rattle.dap_tables.specs.Outstanding.{parked_ones}
 use Rattle.dap_debuggee.specs.Shown.{to_start, done}
-use Rattle.dap_session.specs.declared.fault.AdapterFault.TheVariants.{OutOfMemory}
-use Rattle.dap_session.specs.Handling.{after_parked_launch}
+use Rattle.dap_plan.specs.declared.fault.AdapterFault.TheVariants.{OutOfMemory}
+use Rattle.dap_plan.specs.Handling.{after_parked_launch}
 use Rattle.dap_outbox.specs.InRange.{AnswersInRange}
-use Rattle.dap_session.specs.Plan.{asking, written_by}
-use Rattle.dap_session.specs.SessionState.{SessionState, reply_of}
-use Rattle.dap_session.specs.Session.{Session}
+use Rattle.dap_plan.specs.Plan.{asking, written_by}
+use Rattle.dap_plan.specs.SessionState.{SessionState, reply_of}
+use Rattle.dap_plan.specs.Session.{Session}
 use Rattle.dap_session.proofs.Disconnects.{messages_due-started, count-started, refused-for}
 use Rattle.dap_session.proofs.Unasked.{asked}
 use Rattle.dap_session.proofs.session.Session.start_parked.Goals as goal

@@ -1,6 +1,6 @@
 use Rattle.std.proofs.Common.{◌+◌, ◌≤◌, length, sym, subst}
 use Rattle.dap_tables.specs.Outstanding.{entries, is_parked, parked_ones, HasDistinctSeqs}
-use Rattle.dap_session.specs.SessionState.{SessionState, reply_of}
+use Rattle.dap_plan.specs.SessionState.{SessionState, reply_of}
 use Rattle.dap_outbox.specs.Several.{answer_where, answer_by, WritesAll}
 use Rattle.dap_session.proofs.Disconnects.{room-started, holds-started}
 use Rattle.dap_session.proofs.Outboxes.{each-done}

@@ -1,5 +1,5 @@
 use Rattle.std.proofs.Common.{sym, ap, ◌∙◌}
-use Rattle.dap_session.specs.SessionState.{SessionState}
+use Rattle.dap_plan.specs.SessionState.{SessionState}
 use Rattle.dap_decision.specs.Table.{is_phase}
 use Rattle.dap_decision.specs.declared.phase.Phase.TheVariants.{Asked}
 use Rattle.dap_session.proofs.TakingRequests.{late-carries, waiting-carries}

@@ -1,5 +1,5 @@
 use Rattle.std.proofs.Common.{refl}
-use Rattle.dap_session.specs.Plan.{no_change, at_once}
+use Rattle.dap_plan.specs.Plan.{no_change, at_once}
 use Rattle.dap_session.proofs.TakingRequests.{no-step}
 use Rattle.dap_session.proofs.session.Session.take_message.Goals as goal
 

@@ -2,9 +2,9 @@ use Rattle.std.proofs.Common.{◌≡◌, ◌+◌, ◌≤◌, length, true, false
 use Rattle.dap_tables.specs.Outstanding.{contains_seq}
 use Rattle.dap_tables.specs.declared.entry.Entry.{Entry}
 use Rattle.dap_decision.specs.Failures.{of_known, command_of}
-use Rattle.dap_session.specs.SessionState.{SessionState, MadeBy}
-use Rattle.dap_session.specs.Taking.{is_cancel, after_keeping, after_cancel_request}
-use Rattle.dap_session.specs.Session.{Session}
+use Rattle.dap_plan.specs.SessionState.{SessionState, MadeBy}
+use Rattle.dap_plan.specs.Taking.{is_cancel, after_keeping, after_cancel_request}
+use Rattle.dap_plan.specs.Session.{Session}
 use Rattle.dap_decision.specs.Table.{is_phase}
 use Rattle.dap_decision.specs.declared.phase.Phase.TheVariants.{Ended}
 use Rattle.dap_session.proofs.TakingRequests.{IsOpenTo, takes-made, as-cancel, as-other}

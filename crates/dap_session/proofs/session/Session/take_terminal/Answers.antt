@@ -1,5 +1,5 @@
 use Rattle.dap_debuggee.specs.Shown.{refused}
-use Rattle.dap_session.specs.Taking.{after_terminal}
+use Rattle.dap_plan.specs.Taking.{after_terminal}
 use Rattle.dap_session.proofs.Outboxes.{each-done}
 use Rattle.dap_session.proofs.TakingRequests.{at_once_carries}
 use Rattle.dap_session.proofs.session.Session.take_terminal.Goals as goal

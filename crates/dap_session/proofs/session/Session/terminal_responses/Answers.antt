@@ -1,6 +1,6 @@
 use Rattle.std.proofs.Common.{◌+◌, ◌≤◌, length, sym, subst}
 use Rattle.dap_tables.specs.Outstanding.{entries, is_parked, parked_ones, HasDistinctSeqs}
-use Rattle.dap_session.specs.SessionState.{SessionState}
+use Rattle.dap_plan.specs.SessionState.{SessionState}
 use Rattle.dap_outbox.specs.Several.{answer_where, answer_by, WritesAll}
 use Rattle.dap_session.proofs.Disconnects.{room-terminal, holds-terminal}
 use Rattle.dap_session.proofs.Outboxes.{each-done}

@@ -1,6 +1,6 @@
 use Rattle.std.proofs.Common.{◌≡◌, Some, ap, subst, sym}
-use Rattle.dap_session.specs.SessionState.{SessionState}
-use Rattle.dap_session.proofs.ChangeResults.{value-told}
+use Rattle.dap_plan.specs.SessionState.{SessionState}
+use Rattle.dap_plan.proofs.ChangeResults.{value-told}
 use Rattle.dap_session.proofs.session.Session.value_body.Goals as goal
 
 pub returns : goal.returns

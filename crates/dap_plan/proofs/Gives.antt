@@ -1,0 +1,12 @@
+-- What an answer gives is live.
+use Rattle.dap_plan.specs.GivenLaws.{EachAnswerGivesLive}
+use Rattle.dap_plan.proofs.Deliveries.{delivery-is}
+use Rattle.dap_plan.proofs.Happenings.{poll-is}
+use Rattle.dap_plan.proofs.Turns.{turn-is}
+
+pub each_answer_gives_live : EachAnswerGivesLive
+each_answer_gives_live = record {
+  take = λ s m plan made e is. (delivery-is s m plan made e is).sound.gives;
+  turn = λ view s plan made e is. ((turn-is view s plan e).row.outcomes made is).sound.gives;
+  poll = λ s made is. (poll-is s made is).gives;
+}

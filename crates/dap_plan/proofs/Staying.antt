@@ -1,0 +1,90 @@
+-- What is true of a session stays true.
+use Rattle.std.proofs.Common.{◌≡◌, ◌≤◌, List, [], ◌++◌, Option, Some, None, Ok, length, refl, ap, arith}
+use Rattle.std.proofs.lemmas.List.{append-nil}
+use Rattle.dap_frame.specs.Settings.{Settings}
+use Rattle.dap_history.specs.History.{Asked, Answered}
+use Rattle.dap_history.specs.Requests.{asks}
+use Rattle.dap_envelope.specs.declared.message.Message.{Message}
+use Rattle.dap_debuggee.specs.Shown.{Shown}
+use Rattle.dap_plan.specs.Answering.{GoesWell}
+use Rattle.dap_plan.specs.Handling.{turns}
+use Rattle.dap_plan.specs.Laws.{CanMake}
+use Rattle.dap_plan.specs.Plan.{Made, Plan}
+use Rattle.dap_plan.specs.Polling.{polls}
+use Rattle.dap_plan.specs.Session.{Session, IsOrderly, fresh_session}
+use Rattle.dap_plan.specs.Taking.{takes}
+use Rattle.dap_plan.specs.Within.{IsWithin, EachStepStaysWithin}
+use Rattle.dap_plan.proofs.Deliveries.{delivery-is, delivery-exact}
+use Rattle.dap_plan.proofs.Distinct.{AreDistinct, asks-distinct, distinct-asks, distinct-open, length-open, length-asks}
+use Rattle.dap_plan.proofs.Happenings.{poll-is}
+use Rattle.dap_plan.proofs.Moves.{Moves}
+use Rattle.dap_plan.proofs.Outcomes.{Stays}
+use Rattle.dap_plan.proofs.Turns.{turn-is}
+
+orderly : (s : Session) → IsWithin s → IsOrderly s
+orderly s i = record { distinct = i.distinct; asked = i.asked }
+
+-- what a step leaves, where it keeps few enough requests, and there are own numbers enough
+step-within : (s : Session) (came : List Asked) (response : Option Answered) (m : Made) → IsWithin s → Moves s m → Stays s m → GoesWell s came response m → AreDistinct (asks s.kept ++ came) → length m.after.kept ≤ s.limits.requests → m.after.used ≤ s.limits.seq → IsWithin m.after
+step-within s came response m i v t w d k u =
+    let few = v.few (record { references = i.references; numbers = i.numbers }) in
+    let stand = v.stand (record { breakpoints = i.breakpoints; ids = i.ids }) in
+    record {
+      distinct = distinct-asks m.after.kept (rw w.kept (distinct-open m.drafts (asks s.kept ++ came) d));
+      kept = rw v.limits k;
+      asked = t i.asked;
+      used = rw v.limits u;
+      references = rw v.limits few.references;
+      numbers = rw v.limits few.numbers;
+      breakpoints = rw v.limits stand.breakpoints;
+      ids = stand.ids;
+    }
+
+-- none came: no more are kept than were
+none-came : (s : Session) (m : Made) → IsWithin s → Moves s m → Stays s m → GoesWell s [] None m → m.after.used ≤ s.limits.seq → IsWithin m.after
+none-came s m i v t w u =
+    let same : asks s.kept ++ [] ≡ asks s.kept = append-nil (asks s.kept) in
+    let fewer = length-open m.drafts (asks s.kept ++ []) in
+    let all = ap length same in
+    let a = length-asks s.kept in
+    let b = length-asks m.after.kept in
+    let c = ap length w.kept in
+    let most = i.kept in
+    step-within s [] None m i v t w (rw same (asks-distinct s.kept i.distinct)) (omega arith) u
+
+take-stays : (s : Session) (m : Message) (plan : Plan) (made : Made) → IsWithin s → takes m s ≡ Ok plan → CanMake plan made → IsWithin made.after
+take-stays s m plan made i e is =
+    let t = delivery-is s m plan made e is in
+    let well = t.sound.well (orderly s i) in
+    let room = t.room i.used in
+    let now = well.used in
+    step-within s _ _ made i t.sound.moves t.sound.stays well (t.distinct i.distinct) (t.few i.kept) (omega arith)
+
+turn-stays : (view : Shown) (s : Session) (plan : Plan) (made : Made) → IsWithin s → turns view s ≡ Ok (Some plan) → CanMake plan made → IsWithin made.after
+turn-stays view s plan made i e is =
+    let t = turn-is view s plan e in
+    let o = t.row.outcomes made is in
+    let well = o.sound.well (orderly s i) in
+    let many = o.count in
+    let room = t.room in
+    let now = well.used in
+    none-came s made i o.sound.moves o.sound.stays well (omega arith)
+
+poll-stays : (s : Session) (made : Made) → IsWithin s → CanMake (polls s) made → made.after.used ≤ s.limits.seq → IsWithin made.after
+poll-stays s made i is u = let p = poll-is s made is in none-came s made i p.moves p.stays (p.well tt) u
+
+fresh-within : (limits : Settings) → IsWithin (fresh_session limits)
+fresh-within limits = record { distinct = tt; kept = omega arith; asked = refl; used = omega arith; references = omega arith; numbers = omega arith; breakpoints = omega arith; ids = omega arith }
+
+pub each_step_stays_within : EachStepStaysWithin
+each_step_stays_within = record {
+  fresh = fresh-within;
+  take = take-stays;
+  turn = turn-stays;
+  poll = poll-stays;
+  take_keeps_limits = λ s m plan made e is. (delivery-is s m plan made e is).sound.moves.limits;
+  turn_keeps_limits = λ view s plan made e is. ((turn-is view s plan e).row.outcomes made is).sound.moves.limits;
+  poll_keeps_limits = λ s made is. (poll-is s made is).moves.limits;
+  due_is_exact = λ view s plan made i e is. ((turn-is view s plan e).row.outcomes made is).count;
+  take_due_is_exact = λ s m plan made i e is. delivery-exact s m plan e made is;
+}

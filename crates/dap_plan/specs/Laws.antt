@@ -1,0 +1,34 @@
+-- Each step of an adapter goes on as its history does, whatever its debuggee replies.
+use Rattle.std.specs.Prelude.{◌≡◌, ℕ, List, [], ◌∷◌, ◌++◌, Some, Ok}
+use Rattle.dap_history.specs.History.{Entry, In, ins_of, outs_of}
+use Rattle.dap_envelope.specs.declared.message.Message.{Message}
+use Rattle.dap_debuggee.specs.Shown.{Shown, Reply}
+use Rattle.dap_plan.specs.Carried.{Goes, CarriedOut}
+use Rattle.dap_plan.specs.Handling.{turns}
+use Rattle.dap_plan.specs.Plan.{Made, Plan, at_once, asking, entries_of}
+use Rattle.dap_outbox.specs.Draft.{numbered_messages}
+use Rattle.dap_plan.specs.Polling.{polls}
+use Rattle.dap_plan.specs.Session.{Session, IsOrderly}
+use Rattle.dap_plan.specs.Follows.{Follows}
+use Rattle.dap_plan.specs.Taking.{takes}
+
+-- what a plan can come to
+abbrev pub CanMake : Plan → Made → Type 0
+CanMake (at_once m) made = made ≡ m
+CanMake (asking act makes) made = (r : Reply) × (made ≡ makes r)
+
+-- what is made where a plan is carried out is what it can come to
+pub can_make : {D : Type 0} (follows : Goes D) (plan : Plan) (v w : D) (made : Made) → CarriedOut follows plan v made w → CanMake plan made
+can_make follows (at_once m) v w made c = c.0
+can_make follows (asking act makes) v w made c = (c.0, c.2)
+
+pub record EachStepGoesOn : Type 0 where
+  -- what is made is written, all of it and nothing else, and nothing comes by it
+  pub all_go : (used : ℕ) (m : Made) → outs_of (entries_of used m) ≡ numbered_messages used m.drafts
+  pub none_come : (used : ℕ) (m : Made) → ins_of (entries_of used m) ≡ []
+  pub take : (s : Session) (m : Message) (plan : Plan) (made : Made) (h : List Entry) → IsOrderly s → takes m s ≡ Ok plan → CanMake plan made
+      → Follows s h → Follows made.after (h ++ In m ∷ entries_of s.used made)
+  pub turn : (view : Shown) (s : Session) (plan : Plan) (made : Made) (h : List Entry) → IsOrderly s → turns view s ≡ Ok (Some plan) → CanMake plan made
+      → Follows s h → Follows made.after (h ++ entries_of s.used made)
+  pub poll : (s : Session) (made : Made) (h : List Entry) → CanMake (polls s) made
+      → Follows s h → Follows made.after (h ++ entries_of s.used made)

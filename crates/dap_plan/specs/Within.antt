@@ -1,0 +1,47 @@
+-- What stays true of a session, step by step.
+use Rattle.std.specs.Prelude.{◌≡◌, ◌+◌, ◌≤◌, length, Some, Ok}
+use Rattle.dap_frame.specs.Settings.{Settings}
+use Rattle.dap_envelope.specs.declared.message.Message.{Message}
+use Rattle.dap_tables.specs.Outstanding.{HasDistinctSeqs}
+use Rattle.dap_debuggee.specs.Shown.{Shown}
+use Rattle.dap_tables.specs.SourceMap.{count}
+use Rattle.dap_tables.specs.Breakpoints.{max_id}
+use Rattle.dap_plan.specs.Handling.{turns}
+use Rattle.dap_plan.specs.Laws.{CanMake}
+use Rattle.dap_plan.specs.Plan.{Made, Plan, messages_due}
+use Rattle.dap_plan.specs.Polling.{polls}
+use Rattle.dap_plan.specs.Session.{Session, IsAskedIn, fresh_session}
+use Rattle.dap_plan.specs.Taking.{takes}
+
+-- a session keeps to its limits
+pub record IsWithin (s : Session) : Type 0 where
+  -- no two kept requests have the same number
+  pub distinct : HasDistinctSeqs s.kept
+  pub kept : length s.kept ≤ s.limits.requests
+  -- whether an own request waits suits the phase
+  pub asked : IsAskedIn s.phase s.asked
+  -- own sequence numbers
+  pub used : s.used ≤ s.limits.seq
+  -- as many as are live
+  pub references : length s.references.live ≤ s.limits.references
+  -- no reference was given a number past the greatest
+  pub numbers : s.references.base + length s.references.live ≤ s.limits.reference
+  -- as many as stand
+  pub breakpoints : count s.breakpoints.sources ≤ s.limits.breakpoints
+  -- no breakpoint was given an id past the greatest
+  pub ids : s.breakpoints.next_id ≤ max_id + 1
+
+pub record EachStepStaysWithin : Type 0 where
+  pub fresh : (limits : Settings) → IsWithin (fresh_session limits)
+  pub take : (s : Session) (m : Message) (plan : Plan) (made : Made) → IsWithin s → takes m s ≡ Ok plan → CanMake plan made → IsWithin made.after
+  pub turn : (view : Shown) (s : Session) (plan : Plan) (made : Made) → IsWithin s → turns view s ≡ Ok (Some plan) → CanMake plan made → IsWithin made.after
+  -- where the events of what happened are not too many
+  pub poll : (s : Session) (made : Made) → IsWithin s → CanMake (polls s) made → made.after.used ≤ s.limits.seq → IsWithin made.after
+  -- the limits stay
+  pub take_keeps_limits : (s : Session) (m : Message) (plan : Plan) (made : Made) → takes m s ≡ Ok plan → CanMake plan made → made.after.limits ≡ s.limits
+  pub turn_keeps_limits : (view : Shown) (s : Session) (plan : Plan) (made : Made) → turns view s ≡ Ok (Some plan) → CanMake plan made → made.after.limits ≡ s.limits
+  pub poll_keeps_limits : (s : Session) (made : Made) → CanMake (polls s) made → made.after.limits ≡ s.limits
+  -- a turn takes as many messages as was said before the debuggee was asked
+  pub due_is_exact : (view : Shown) (s : Session) (plan : Plan) (made : Made) → IsWithin s → turns view s ≡ Ok (Some plan) → CanMake plan made → length made.drafts ≡ messages_due plan
+  -- and so does a message that is taken
+  pub take_due_is_exact : (s : Session) (m : Message) (plan : Plan) (made : Made) → IsWithin s → takes m s ≡ Ok plan → CanMake plan made → length made.drafts ≡ messages_due plan

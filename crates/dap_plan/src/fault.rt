@@ -1,0 +1,37 @@
+//! Why an adapter is closed.
+
+use dap_frame::FrameFault;
+use dap_envelope::BodyRefusal;
+use std::alloc::AllocError;
+
+/// Why an adapter is closed. It is answered by every later call, and nothing more is written.
+#[derive(Clone, Copy, Debug, PartialEq, Eq)]
+pub enum AdapterFault {
+    /// The stream is no frame at this offset, in bytes.
+    Frame(FrameFault),
+    /// The body of the frame at this offset, in bytes, is no message.
+    Body { cause: BodyRefusal, offset: u64 },
+    /// A request with this seq is not answered yet.
+    RepeatedSeq { seq: u64 },
+    /// No request of this end with this seq waits for a response.
+    Unmatched { request_seq: u64 },
+    /// The request of this end with this seq has another command than the response.
+    CommandMismatch { request_seq: u64 },
+    /// A request came after `disconnect` was answered.
+    Ended,
+    /// More messages were due than own sequence numbers are left.
+    SeqExhausted,
+    /// Memory was refused.
+    OutOfMemory,
+}
+
+impl From<AllocError> for AdapterFault {
+    ghost use Rattle.std.specs.Prelude.{◌≡◌};
+    ghost use Rattle.dap_plan.specs.declared.fault.AdapterFault.{AdapterFault};
+
+    ghost from_gives = { λ _ fault. fault ≡ AdapterFault.OutOfMemory };
+
+    fn from(_: AllocError) -> Self {
+        AdapterFault::OutOfMemory
+    }
+}

@@ -1,0 +1,88 @@
+//! Laws of the definitions, each on a function with nothing to run.
+ghost use Rattle.dap_plan.specs.Answering.{EachStepGoesWell};
+ghost use Rattle.dap_plan.specs.GivenLaws.{EachAnswerGivesLive};
+ghost use Rattle.dap_plan.specs.Laws.{EachStepGoesOn};
+ghost use Rattle.dap_plan.specs.OrderLaws.{FailuresComeInOrder, RefusalsComeInOrder};
+ghost use Rattle.dap_plan.specs.OfferLaws.{OffersAreServed};
+ghost use Rattle.dap_plan.specs.ReferenceLaws.{ReferencesAreApart};
+ghost use Rattle.dap_plan.specs.RefusalLaws.{RefusalsChangeNothing};
+ghost use Rattle.dap_plan.specs.StaleLaws.{DeadNumbersAreStale};
+ghost use Rattle.dap_plan.specs.StateLaws.{EachStepKeepsState};
+ghost use Rattle.dap_plan.specs.Within.{EachStepStaysWithin};
+
+use dap_history::laws::histories_grow;
+
+/// Each step goes on as its history does, whatever the debuggee replies: a request is kept exactly while it is
+/// unanswered, and each response answers exactly one request that was unanswered.
+pub fn each_step_goes_on()
+    ensures { EachStepGoesOn }
+{
+    histories_grow();
+}
+
+/// Each step answers requests that are kept or that came just before it, each once, keeps the others, numbers its messages in
+/// turn, and gives and ends references as its messages say; and a turn leaves fewer requests to handle.
+pub fn each_step_goes_well()
+    ensures { EachStepGoesWell }
+{}
+
+/// What is true of every session stays true: no two kept requests have the same seq, no more requests are kept, references
+/// live and breakpoints stand than there is room for, and no number is given past the greatest of its kind. A turn, and a
+/// message that is taken, come to just as many messages as were due before the debuggee was asked.
+pub fn each_step_stays_within()
+    ensures { EachStepStaysWithin }
+{}
+
+/// A reference that died never names anything again, one that lives keeps its number, and the numbers of an answer name
+/// the objects in their places.
+pub fn references_are_apart()
+    ensures { ReferencesAreApart }
+{}
+
+/// What `initialize` offers is what is served: the flags allow a command just where the table has a row for it, or it is `cancel`,
+/// which is answered where it is taken.
+pub fn offers_are_served()
+    ensures { OffersAreServed }
+{}
+
+/// A served request with good arguments whose number died, or names nothing of its kind, is answered `staleReference` where
+/// the debuggee is stopped, whatever steps came since it died, and nothing else is done.
+pub fn dead_numbers_are_stale()
+    ensures { DeadNumbersAreStale }
+{
+    references_are_apart();
+}
+
+/// An answer that is refused for its size, or for want of room or of numbers, changes nothing: the debuggee is asked nothing,
+/// and references and breakpoints are as they were.
+pub fn refusals_change_nothing()
+    ensures { RefusalsChangeNothing }
+{}
+
+/// Before it is served, a request is refused with the first failure, in the one order that the failures have, whose test
+/// holds, and passes where none does.
+pub fn refusals_come_in_order()
+    ensures { RefusalsComeInOrder }
+{}
+
+/// Within its limits, a session answers a request that is handled with the first failure, in the one order that the failures
+/// have, whose test holds, and does nothing else. Where none holds the debuggee is asked just what the effect asks, and the
+/// request succeeds or is parked; `launch`, `attach`, a resumption, and `pause` while it runs, fail as `debuggee`, and nothing
+/// else is done, where the debuggee refuses. Where a terminal is asked for first, the debuggee is asked nothing, and just one
+/// own request is written: `launch` is parked then, or `configurationDone` succeeds and what is parked stays so.
+pub fn failures_come_in_order()
+    ensures { FailuresComeInOrder }
+{}
+
+/// Whatever the debuggee replies, each reference that a client reads from an answer, by its body and its command, names
+/// something of its kind once the step is made; an answer to `setVariable` gives none.
+pub fn each_answer_gives_live()
+    ensures { EachAnswerGivesLive }
+{}
+
+/// The phase is the debuggee's state, after each step where it was so before, whatever the debuggee may reply, by the laws of
+/// its states: up to a start it is as it was handed in, not started; it runs in Running, is stopped in Stopped, and is gone in
+/// Exited.
+pub fn each_step_keeps_state()
+    ensures { EachStepKeepsState }
+{}

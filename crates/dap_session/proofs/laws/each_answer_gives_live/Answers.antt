@@ -1,5 +1,0 @@
-use Rattle.dap_session.proofs.Gives.{each_answer_gives_live as its_references}
-use Rattle.dap_session.proofs.laws.each_answer_gives_live.Goals as goal
-
-pub returns : goal.returns
-returns c = its_references

@@ -1,5 +1,0 @@
-use Rattle.dap_session.proofs.OrderedAnswers.{failures_come_in_order}
-use Rattle.dap_session.proofs.laws.failures_come_in_order.Goals as goal
-
-pub returns : goal.returns
-returns c = failures_come_in_order

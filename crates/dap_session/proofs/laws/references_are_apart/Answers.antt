@@ -1,5 +1,0 @@
-use Rattle.dap_session.proofs.Apart.{references_are_apart}
-use Rattle.dap_session.proofs.laws.references_are_apart.Goals as goal
-
-pub returns : goal.returns
-returns c = references_are_apart

@@ -1,5 +1,0 @@
-use Rattle.dap_session.proofs.Ordered.{refusals_come_in_order}
-use Rattle.dap_session.proofs.laws.refusals_come_in_order.Goals as goal
-
-pub returns : goal.returns
-returns c = refusals_come_in_order
