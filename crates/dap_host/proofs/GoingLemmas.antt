@@ -24,18 +24,18 @@ use Rattle.dap_plan.specs.Session.{Session, fresh_session}
 use Rattle.dap_plan.specs.SessionState.{SessionState}
 use Rattle.dap_plan.specs.declared.fault.AdapterFault.{AdapterFault}
 use Rattle.dap_host.specs.Hearing.{HostState, IsGoing, HandsOut, SameButAdapter, TakesMessage, AnswersMessage, TellsIt, StopsMessage, StopsTelling, RefusesTold, bad_moment, dropped, IsUnheard, drop_of}
-use Rattle.dap_host.specs.Written.{message_lines}
+use Rattle.dap_line.specs.Written.{message_lines}
 use Rattle.dap_live.specs.declared.mail.Coming.{Coming}
 use Rattle.dap_live.specs.declared.mail.Dropped.{Dropped as Drop}
-use Rattle.dap_host.specs.Moments.{Fails}
+use Rattle.dap_line.specs.Moments.{Fails}
 use Rattle.dap_host.specs.StreamLaws.{StreamLaws}
 use Rattle.dap_host.proofs.StreamLemmas.{same_front, one_frame_more, some_of_a_frame, stays_there}
-use Rattle.dap_host.specs.Told.{said_of}
-use Rattle.dap_host.specs.declared.refusal.Refusal.TheVariants.{Dropped}
-use Rattle.dap_host.specs.declared.told.Told.{Told}
-use Rattle.dap_host.specs.declared.told.Said.TheVariants.{Happened}
-use Rattle.dap_host.specs.declared.told.Unread.{Unread}
-use Rattle.dap_host.specs.declared.told.Unread.TheVariants.{Refused, OutOfMemory as NoMemory}
+use Rattle.dap_line.specs.Told.{said_of}
+use Rattle.dap_line.specs.declared.refusal.Refusal.TheVariants.{Dropped}
+use Rattle.dap_line.specs.declared.told.Told.{Told}
+use Rattle.dap_line.specs.declared.told.Said.TheVariants.{Happened}
+use Rattle.dap_line.specs.declared.told.Unread.{Unread}
+use Rattle.dap_line.specs.declared.told.Unread.TheVariants.{Refused, OutOfMemory as NoMemory}
 
 -- ---- what was used, as frames
 

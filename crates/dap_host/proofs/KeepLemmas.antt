@@ -4,7 +4,7 @@ use Rattle.dap_live.specs.declared.mail.Coming.{Coming}
 use Rattle.dap_recording.specs.declared.recording.RecordedSource.{RecordedSource}
 use Rattle.dap_replay.specs.Played.{Played}
 use Rattle.dap_host.specs.Hearing.{HostState, IsGoing, kept}
-use Rattle.dap_host.specs.Moments.{sources_after}
+use Rattle.dap_line.specs.Moments.{sources_after}
 use Rattle.dap_host.specs.PrivateKeeping.{AreAll, keeps_all}
 
 going_with : (h : HostState) (sources : List RecordedSource) → IsGoing h → IsGoing (record h { sources = sources })

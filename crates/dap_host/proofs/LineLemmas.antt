@@ -7,7 +7,7 @@ use Rattle.dap_recording.specs.declared.reading.RecordingFault.{RecordingFault}
 use Rattle.dap_recording.specs.declared.reading.RecordingFault.TheVariants as fault
 use Rattle.dap_plan.specs.declared.fault.AdapterFault.{AdapterFault}
 use Rattle.dap_host.specs.Hearing.{HostState, IsGoing, counted, mark_of, HearsMarked, StopsMarked, Hears, Stops}
-use Rattle.dap_host.specs.Moments.{HasSources, ReadsSources, FileRefused}
+use Rattle.dap_line.specs.Moments.{HasSources, ReadsSources, FileRefused}
 
 -- only the count is another
 pub counted_is : (o h k : HostState) → o ≡ h → k ≡ record o { number = k.number } → k.number ≡ saturating_count (o.number + 1) → k ≡ counted h

@@ -30,17 +30,17 @@ use Rattle.dap_replay.specs.Played.{Played}
 use Rattle.dap_plan.specs.Session.{fresh_session}
 use Rattle.dap_tables.specs.References.{target_of}
 use Rattle.dap_plan.specs.declared.fault.AdapterFault.{AdapterFault}
-use Rattle.dap_host.specs.Moments.{IsComing, Fails, HasSources, ReadsSources, sources_after, HasRoom}
-use Rattle.dap_host.specs.Told.{said_of, happening_of}
-use Rattle.dap_host.specs.Written.{message_lines, act_lines, refusal_line, target_line}
+use Rattle.dap_line.specs.Moments.{IsComing, Fails, HasSources, ReadsSources, sources_after, HasRoom}
+use Rattle.dap_line.specs.Told.{IsMessage, said_of, happening_of}
+use Rattle.dap_line.specs.Written.{message_lines, act_lines, refusal_line, target_line}
 use Rattle.dap_host.specs.declared.host.Mark.{Mark}
 use Rattle.dap_host.specs.declared.host.Mark.TheVariants as mark
-use Rattle.dap_host.specs.declared.refusal.Refusal.{Refusal}
-use Rattle.dap_host.specs.declared.refusal.Refusal.TheVariants.{BadLine, Body, BodyTooLong, Ended, Dropped}
-use Rattle.dap_host.specs.declared.told.Said.TheVariants.{Happened, Target}
-use Rattle.dap_host.specs.declared.told.Told.{Told}
-use Rattle.dap_host.specs.declared.told.Unread.{Unread}
-use Rattle.dap_host.specs.declared.told.Unread.TheVariants.{Refused, OutOfMemory as NoMemory}
+use Rattle.dap_line.specs.declared.refusal.Refusal.{Refusal}
+use Rattle.dap_line.specs.declared.refusal.Refusal.TheVariants.{BadLine, Body, BodyTooLong, Ended, Dropped}
+use Rattle.dap_line.specs.declared.told.Said.TheVariants.{Happened, Target}
+use Rattle.dap_line.specs.declared.told.Told.{Told}
+use Rattle.dap_line.specs.declared.told.Unread.{Unread}
+use Rattle.dap_line.specs.declared.told.Unread.TheVariants.{Refused, OutOfMemory as NoMemory}
 
 -- ---- a host
 
@@ -83,10 +83,6 @@ pub record SameButAdapter (old new : HostState) : Type 0 where
   pub number : new.number ≡ old.number
 
 -- ---- refusals
-
-pub record IsMessage (body : List ℕ) : Type 0 where
-  pub message : Message
-  pub reads : Msg body message
 
 -- why a message of the client is refused: it is none, or too long, or comes once the session has ended
 abbrev pub RefusesMessage : HostState → List ℕ → Refusal → Type 0

@@ -1,6 +1,3 @@
-pub mod Written
-pub mod Told
-pub mod Moments
 pub mod Hearing
 pub mod PrivateKeeping
 pub mod Fetching

@@ -4,7 +4,7 @@ use Rattle.dap_live.specs.declared.mail.Coming.{Coming}
 use Rattle.dap_recording.specs.declared.recording.RecordedSource.{RecordedSource}
 use Rattle.dap_replay.specs.Played.{Played}
 use Rattle.dap_host.specs.Hearing.{HostState}
-use Rattle.dap_host.specs.Moments.{sources_after}
+use Rattle.dap_line.specs.Moments.{sources_after}
 
 -- all sources, with those that come
 abbrev pub AreAll : Coming → List RecordedSource → Option Played → Type 0

@@ -2,7 +2,7 @@ use Rattle.std.proofs.Common.{refl}
 use Rattle.std.proofs.lemmas.Result.{on_ok_weaker}
 use Rattle.dap_live.specs.declared.mail.Dropped.TheVariants.{TooManySources}
 use Rattle.dap_host.specs.Hearing.{not_heard, heard, no_room}
-use Rattle.dap_host.specs.declared.refusal.Refusal.TheVariants.{Dropped}
+use Rattle.dap_line.specs.declared.refusal.Refusal.TheVariants.{Dropped}
 use Rattle.dap_host.proofs.host.Host.hear_coming.Goals as goal
 
 pub returns-then-not-has_room-clause-hears : goal.returns-then-not-has_room-clause-hears

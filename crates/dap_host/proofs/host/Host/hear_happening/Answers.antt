@@ -2,10 +2,10 @@ use Rattle.std.proofs.Common.{Ok, subst, ap, ◌∙◌, ◌++◌}
 use Rattle.std.proofs.lemmas.Result.{on_ok_weaker}
 use Rattle.dap_tables.specs.References.{target_of}
 use Rattle.dap_host.specs.Hearing.{HostState, not_heard, asked, unread}
-use Rattle.dap_host.specs.Told.{said_of, Says}
-use Rattle.dap_host.specs.Written.{refusal_line, target_line}
-use Rattle.dap_host.specs.declared.told.Said.{Said}
-use Rattle.dap_host.specs.declared.told.Unread.{Unread}
+use Rattle.dap_line.specs.Told.{said_of, Says}
+use Rattle.dap_line.specs.Written.{refusal_line, target_line}
+use Rattle.dap_line.specs.declared.told.Said.{Said}
+use Rattle.dap_line.specs.declared.told.Unread.{Unread}
 use Rattle.dap_host.proofs.host.Host.hear_happening.Goals as goal
 
 pub returns-in-Ok-Target-clause-hears : goal.returns-in-Ok-Target-clause-hears

@@ -2,8 +2,8 @@ use Rattle.std.proofs.Common.{ap, ◌∙◌, ◌++◌, subst, Option}
 use Rattle.std.specs.Option.{IfSome}
 use Rattle.std.proofs.lemmas.Result.{on_ok_weaker}
 use Rattle.dap_host.specs.Hearing.{HostState, refused, RefusesMessage}
-use Rattle.dap_host.specs.Written.{refusal_line}
-use Rattle.dap_host.specs.declared.refusal.Refusal.{Refusal}
+use Rattle.dap_line.specs.Written.{refusal_line}
+use Rattle.dap_line.specs.declared.refusal.Refusal.{Refusal}
 use Rattle.dap_host.proofs.host.Host.hear_message.Goals as goal
 
 pub returns-in-Ok-Some-clause-hears : goal.returns-in-Ok-Some-clause-hears

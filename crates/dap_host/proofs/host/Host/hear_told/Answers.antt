@@ -4,8 +4,8 @@ use Rattle.std.proofs.lemmas.Result.{on_ok_weaker}
 use Rattle.dap_live.specs.declared.mail.Coming.{Coming}
 use Rattle.dap_plan.specs.declared.fault.AdapterFault.TheVariants.{OutOfMemory}
 use Rattle.dap_host.specs.Hearing.{HostState, HearsTold, StopsTelling, not_heard, IsUnheard}
-use Rattle.dap_host.specs.Written.{refusal_line}
-use Rattle.dap_host.specs.declared.told.Unread.{Unread}
+use Rattle.dap_line.specs.Written.{refusal_line}
+use Rattle.dap_line.specs.declared.told.Unread.{Unread}
 use Rattle.dap_host.proofs.host.Host.hear_told.Goals as goal
 
 pub returns-in-Ok-clause-stops : goal.returns-in-Ok-clause-stops

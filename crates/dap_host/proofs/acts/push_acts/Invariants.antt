@@ -1,6 +1,0 @@
-use Rattle.std.proofs.Common.{◌≡◌, ◌++◌, take}
-use Rattle.dap_host.specs.Written.{act_lines}
-use Rattle.dap_host.proofs.acts.push_acts.Given as goal
-
-abbrev pub invariant-loop-act : goal.invariant-loop-act
-invariant-loop-act l = l.out.items ≡ l.fn.out.items ++ act_lines (take l.act-index l.acts)

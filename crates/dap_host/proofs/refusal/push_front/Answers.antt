@@ -1,5 +1,0 @@
-use Rattle.dap_host.proofs.AddsLemmas.{in_three}
-use Rattle.dap_host.proofs.refusal.push_front.Goals as goal
-
-pub returns : goal.returns
-returns c = in_three c.args.out.now.items _ _ _ _ _ _ c.in_ok-extend_from_slice.ensures.items c.in_ok-push_number.ensures c.in_ok-extend_from_slice-2.ensures.items

@@ -1,0 +1,4 @@
+mod AddsLemmas
+mod BodyLemmas
+mod MessageLemmas
+pub mod VariableLemmas

@@ -1,0 +1,258 @@
+-- What a host tells: which JSON tells what, or the first bad key. The format is this profile's choice; `null` counts as absent.
+use Rattle.std.specs.Prelude.{◌≡◌, ℕ, ℤ, Bool, false, List, [], ◌∷◌, ◌++◌, codes, bytes_eq, Vec, Option, Some, None, option_and_then, option_map, Result, Ok, Err, if◌then◌else◌}
+use Rattle.serde_json.specs.Data.{Data, Items, no_items, item}
+use Rattle.serde_json.specs.Find.{as_str, as_bool, as_array}
+use Rattle.dap_command.specs.Numbers.{int_of, number_of}
+use Rattle.dap_debuggee.specs.declared.answers.Category.{Category as Place}
+use Rattle.dap_debuggee.specs.declared.answers.Category.TheVariants.{Console, Stdout, Stderr}
+use Rattle.dap_debuggee.specs.declared.answers.Happening.{Happening}
+use Rattle.dap_debuggee.specs.declared.answers.Happening.TheVariants as happening
+use Rattle.dap_debuggee.specs.declared.answers.Variable.{Variable}
+use Rattle.dap_json.specs.Field.{text_at, tree_at}
+use Rattle.dap_json.specs.Read.{json_of}
+use Rattle.dap_json.specs.Steps.{◌>>=◌, Returns}
+use Rattle.dap_recording.specs.Reading.{exit_of}
+use Rattle.dap_line.specs.declared.refusal.HostKey.{HostKey}
+use Rattle.dap_line.specs.declared.refusal.HostKey.TheVariants.{Happened, Category, Output, Reason, Thread, Moment, Code, Text, Value, Later, Holder, Variables, Name, Asked, Number, Sources}
+use Rattle.dap_line.specs.declared.refusal.Refusal.{Refusal}
+use Rattle.dap_line.specs.declared.refusal.Refusal.TheVariants.{NotJson, BadKey}
+use Rattle.dap_line.specs.declared.told.Kind.{Kind}
+use Rattle.dap_line.specs.declared.told.Kind.TheVariants as kind
+use Rattle.dap_line.specs.declared.told.Told.{Told}
+use Rattle.dap_line.specs.declared.told.Told.TheVariants as told
+use Rattle.dap_line.specs.declared.told.Question.{Question}
+use Rattle.dap_line.specs.declared.told.Question.TheVariants as question
+use Rattle.dap_line.specs.declared.told.Said.{Said}
+use Rattle.dap_line.specs.declared.told.Said.TheVariants as said
+use Rattle.dap_line.specs.declared.told.Unread.{Unread}
+use Rattle.dap_line.specs.declared.told.Unread.TheVariants as unread
+use Rattle.dap_envelope.specs.Meaning.{Msg}
+use Rattle.dap_envelope.specs.declared.message.Message.{Message}
+
+-- bytes that are a message
+pub record IsMessage (body : List ℕ) : Type 0 where
+  pub message : Message
+  pub reads : Msg body message
+
+-- a value, or the first bad key
+abbrev pub Read : Type 0 → Type 0
+Read A = Result A HostKey
+
+abbrev pub or_bad : {A : Type 0} → HostKey → Option A → Read A
+or_bad k None = Err k
+or_bad k (Some x) = Ok x
+
+-- what is told, or why it is not read; nothing is said where memory was refused
+abbrev pub SaysKey : {A : Type 0} → Unread → Read A → Type 0
+SaysKey (unread.Refused why) (Ok x) = ⊥
+SaysKey (unread.Refused why) (Err k) = why ≡ BadKey k
+SaysKey unread.OutOfMemory read = Unit {0}
+
+abbrev pub Gives : {A : Type 0} → Result A Unread → Read A → Type 0
+Gives result read = Returns (λ x. x) SaysKey result read
+
+abbrev pub GivesList : {A B : Type 0} → Result (Vec A B) Unread → Read (List A) → Type 0
+GivesList result read = Returns (λ xs. xs.items) SaysKey result read
+
+-- ---- values
+
+abbrev pub category_named : List ℕ → Option Place
+category_named name = if bytes_eq name (codes "console") then Some Console else (if bytes_eq name (codes "stdout") then Some Stdout else (if bytes_eq name (codes "stderr") then Some Stderr else None))
+
+-- the console where nothing is said
+abbrev pub category_of : Option Data → Option Place
+category_of None = Some Console
+category_of (Some d) = option_and_then category_named (as_str d)
+
+-- a text, or nothing
+abbrev pub value_of : Option Data → Option (Option (List ℕ))
+value_of None = Some None
+value_of (Some d) = option_map Some (as_str d)
+
+-- nothing is told later where nothing is said
+abbrev pub later_of : Option Data → Option Bool
+later_of None = Some false
+later_of (Some d) = as_bool d
+
+-- a holder's number, or nothing
+abbrev pub holder_of : Option Data → Option (Option ℕ)
+holder_of None = Some None
+holder_of (Some d) = option_map Some (number_of d)
+
+abbrev pub text_in : HostKey → List ℕ → Data → Read (List ℕ)
+text_in k name d = or_bad k (text_at name d)
+
+abbrev pub category_in : Data → Read Place
+category_in d = or_bad Category (category_of (tree_at (codes "category") d))
+
+abbrev pub thread_in : Data → Read ℤ
+thread_in d = or_bad Thread (option_and_then int_of (tree_at (codes "thread") d))
+
+abbrev pub code_in : Data → Read ℤ
+code_in d = or_bad Code (option_and_then exit_of (tree_at (codes "code") d))
+
+abbrev pub value_in : Data → Read (Option (List ℕ))
+value_in d = or_bad Value (value_of (tree_at (codes "value") d))
+
+abbrev pub later_in : Data → Read Bool
+later_in d = or_bad Later (later_of (tree_at (codes "later") d))
+
+abbrev pub holder_in : Data → Read (Option ℕ)
+holder_in d = or_bad Holder (holder_of (tree_at (codes "holder") d))
+
+-- one that has to be there
+abbrev pub told_holder_in : Data → Read ℕ
+told_holder_in d = or_bad Holder (option_and_then number_of (tree_at (codes "holder") d))
+
+abbrev pub moment_in : Data → Read Data
+moment_in d = or_bad Moment (tree_at (codes "moment") d)
+
+-- ---- variables
+
+unfoldable pub variable_of : Data → Read Variable
+variable_of d = do
+  name ← text_in Name (codes "name") d
+  value ← text_in Value (codes "value") d
+  holder ← holder_in d
+  Ok (record { name = name; value = value; holder = holder })
+
+-- each one behind those before it
+abbrev pub each_variable : Items → List Variable → Read (List Variable)
+each_variable no_items before = Ok before
+each_variable (item d ds) before = do
+  variable ← variable_of d
+  each_variable ds (before ++ variable ∷ [])
+
+abbrev pub variables_of : Option Items → Read (List Variable)
+variables_of None = Err Variables
+variables_of (Some ds) = each_variable ds []
+
+-- ---- what is told, by its kind
+
+unfoldable pub output_in : Data → Read Told
+output_in d = do
+  category ← category_in d
+  text ← text_in Output (codes "output") d
+  Ok (told.Output category text)
+
+unfoldable pub stop_in : Data → Read Told
+stop_in d = do
+  reason ← text_in Reason (codes "reason") d
+  thread ← thread_in d
+  later ← later_in d
+  moment ← moment_in d
+  Ok (told.Stopped reason thread moment later)
+
+unfoldable pub continued_in : Data → Read Told
+continued_in d = do
+  thread ← thread_in d
+  Ok (told.Continued thread)
+
+unfoldable pub exit_in : Data → Read Told
+exit_in d = do
+  code ← code_in d
+  Ok (told.Exited code)
+
+unfoldable pub learned_in : Data → Read Told
+learned_in d = do
+  text ← text_in Text (codes "text") d
+  value ← value_in d
+  holder ← holder_in d
+  Ok (told.Learned text value holder)
+
+-- of a holder, with these variables
+unfoldable pub variables_in : Data → Data → Read Told
+variables_in d t = do
+  holder ← told_holder_in t
+  variables ← variables_of (as_array d)
+  Ok (told.Variables holder variables)
+
+-- the variables of a holder where there are some, else what a text comes to
+abbrev pub learned_by : Option Data → Data → Read Told
+learned_by None t = learned_in t
+learned_by (Some d) t = variables_in d t
+
+unfoldable pub loaded_in : Data → Read Told
+loaded_in d = do
+  sources ← or_bad Sources (tree_at (codes "sources") d)
+  Ok (told.Loaded sources)
+
+abbrev pub kind_named : List ℕ → Option Kind
+kind_named name =
+    if bytes_eq name (codes "output") then Some kind.Output else
+    (if bytes_eq name (codes "stopped") then Some kind.Stopped else
+    (if bytes_eq name (codes "continued") then Some kind.Continued else
+    (if bytes_eq name (codes "exited") then Some kind.Exited else
+    (if bytes_eq name (codes "learned") then Some kind.Learned else
+    (if bytes_eq name (codes "loaded") then Some kind.Loaded else None)))))
+
+abbrev pub told_by : Kind → Data → Read Told
+told_by kind.Output d = output_in d
+told_by kind.Stopped d = stop_in d
+told_by kind.Continued d = continued_in d
+told_by kind.Exited d = exit_in d
+told_by kind.Learned d = learned_by (tree_at (codes "variables") d) d
+told_by kind.Loaded d = loaded_in d
+
+unfoldable pub told_in : Data → Read Told
+told_in d = do
+  kind ← or_bad Happened (option_and_then kind_named (text_at (codes "happened") d))
+  told_by kind d
+
+-- ---- what is said: what happened, or a question
+
+abbrev pub question_named : List ℕ → Option Question
+question_named name = if bytes_eq name (codes "target") then Some question.Target else None
+
+abbrev pub number_in : Data → Read ℕ
+number_in d = or_bad Number (option_and_then number_of (tree_at (codes "number") d))
+
+unfoldable pub asked_in : Data → Read Said
+asked_in d = do
+  question ← or_bad Asked (option_and_then question_named (text_at (codes "asked") d))
+  number ← number_in d
+  Ok (said.Target number)
+
+unfoldable pub happened_in : Data → Read Said
+happened_in d = do
+  told ← told_in d
+  Ok (said.Happened told)
+
+abbrev pub said_by : Option Data → Data → Read Said
+said_by None d = happened_in d
+said_by (Some asked) d = asked_in d
+
+abbrev pub said_in : Data → Read Said
+said_in d = said_by (tree_at (codes "asked") d) d
+
+-- ---- a text
+
+abbrev pub or_refusal : Read Said → Result Said Refusal
+or_refusal (Ok s) = Ok s
+or_refusal (Err k) = Err (BadKey k)
+
+abbrev pub said_or_none : Option Data → Result Said Refusal
+said_or_none None = Err NotJson
+said_or_none (Some d) = or_refusal (said_in d)
+
+-- what a text says, or why it is refused
+abbrev pub said_of : List ℕ → Result Said Refusal
+said_of text = said_or_none (json_of text)
+
+abbrev pub Says : Unread → Result Said Refusal → Type 0
+Says (unread.Refused why) read = read ≡ Err why
+Says unread.OutOfMemory read = Unit {0}
+
+abbrev pub Tells : Result Said Unread → List ℕ → Type 0
+Tells result text = Returns (λ x. x) Says result (said_of text)
+
+-- ---- what happens by it
+
+abbrev pub happening_of : Told → Happening
+happening_of (told.Output category text) = happening.Output category text
+happening_of (told.Stopped reason thread moment later) = happening.Stopped reason thread
+happening_of (told.Continued thread) = happening.Continued thread
+happening_of (told.Exited code) = happening.Exited code
+happening_of (told.Learned text value holder) = happening.Nothing
+happening_of (told.Variables holder variables) = happening.Nothing
+happening_of (told.Loaded sources) = happening.Nothing

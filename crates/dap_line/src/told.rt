@@ -1,0 +1,436 @@
+//! What a host tells of its debugger, as it is read.
+ghost use Rattle.std.specs.Prelude.{◌≡◌, [], codes, IfOk};
+ghost use Rattle.serde_json.specs.Find.{as_array};
+ghost use Rattle.serde_json.specs.View.{view, items_view};
+ghost use Rattle.dap_json.specs.Field.{tree_at};
+ghost use Rattle.dap_line.specs.Told.{later_in as later_at, holder_in as holder_at, told_holder_in as told_holder_at, variable_of, each_variable, variables_of as variables_of_items, variables_in as variables_told, learned_by as learned_of_key, loaded_in as loaded_of, GivesList};
+ghost use Rattle.dap_line.specs.Told.{Gives, Tells, text_in, category_in as category_of, category_named as category_of_name, thread_in as thread_of, code_in as code_of, value_in as value_of, output_in as output_of, stop_in as stop_of, continued_in as continued_of, exit_in as exit_of, learned_in as learned_of, kind_named as kind_of_name, told_in as told_of, happening_of};
+ghost use Rattle.dap_line.specs.Told.{question_named as question_of_name, number_in as number_of_key, asked_in as asked_of, happened_in as happened_of, said_in as said_of};
+ghost use Rattle.std.specs.Option.{is_some};
+ghost use Rattle.dap_line.specs.Written.{host_key_name};
+ghost use Rattle.dap_line.specs.declared.refusal.Refusal.{Refusal};
+ghost use Rattle.dap_line.specs.declared.told.Unread.{Unread};
+
+use crate::reading::read_value;
+use crate::refusal::{HostKey, Refusal};
+use dap_debuggee::{Category, Happening, Variable};
+use dap_json::object_reader::Scratch;
+use dap_json::{List, ParseFault, Text, Tree, field};
+use dap_recording::numbers;
+use serde_json::Value;
+use std::alloc::{AllocError, AllocFailed, Global};
+
+/// What a host tells.
+#[derive(Drop)]
+pub enum Told {
+    Output {
+        category: Category,
+        text: Text,
+    },
+    Stopped {
+        reason: Text,
+        thread: i64,
+        moment: Tree,
+        later: bool,
+    },
+    Continued {
+        thread: i64,
+    },
+    Exited {
+        code: i32,
+    },
+    Learned {
+        text: Text,
+        value: Option<Text>,
+        holder: Option<u64>,
+    },
+    Variables {
+        holder: u64,
+        variables: List<Variable>,
+    },
+    Loaded {
+        sources: Tree,
+    },
+}
+
+/// What a host says: what it tells, or a question.
+#[derive(Drop)]
+pub enum Said {
+    Happened(Told),
+    /// What a number of the client names.
+    Target(u32),
+}
+
+/// Why what a host tells is not read.
+#[derive(Clone, Copy, Debug)]
+pub enum Unread {
+    Refused(Refusal),
+    OutOfMemory,
+}
+
+impl From<AllocError> for Unread {
+    ghost use Rattle.dap_line.specs.declared.told.Unread.TheVariants.{OutOfMemory};
+
+    ghost from_gives = { λ _ fault. fault ≡ OutOfMemory };
+
+    fn from(_refused: AllocError) -> Unread {
+        Unread::OutOfMemory
+    }
+}
+
+impl<T: Drop> From<AllocFailed<T>> for Unread {
+    ghost use Rattle.dap_line.specs.declared.told.Unread.TheVariants.{OutOfMemory};
+
+    ghost from_gives = { λ _ fault. fault ≡ OutOfMemory };
+
+    fn from(_refused: AllocFailed<T>) -> Unread {
+        Unread::OutOfMemory
+    }
+}
+
+fn bad(key: HostKey) -> Unread
+    ensures { result ≡ Unread.Refused (Refusal.BadKey key) }
+{
+    Unread::Refused(Refusal::BadKey(key))
+}
+
+/// The text at a key.
+fn text_at(alloc: Global, told: &Value, key: HostKey) -> Result<Text, Unread>
+    ensures { Gives result (text_in key (host_key_name key) (view told.now)) }
+{
+    let text = field::text(told, key.name()).ok_or(bad(key))?;
+    Ok(Text::copied(alloc, text)?)
+}
+
+/// The id of a thread.
+fn thread_in(told: &Value) -> Result<i64, Unread>
+    ensures { Gives result (thread_of (view told.now)) }
+{
+    field::present(told, "thread")
+        .and_then(numbers::int)
+        .ok_or(bad(HostKey::Thread))
+}
+
+/// The exit code.
+fn code_in(told: &Value) -> Result<i32, Unread>
+    ensures { Gives result (code_of (view told.now)) }
+{
+    field::present(told, "code")
+        .and_then(numbers::status)
+        .ok_or(bad(HostKey::Code))
+}
+
+fn category_named(name: &str) -> Option<Category>
+    ensures { result ≡ category_of_name name.now }
+{
+    match name {
+        "console" => Some(Category::Console),
+        "stdout" => Some(Category::Stdout),
+        "stderr" => Some(Category::Stderr),
+        _ => None,
+    }
+}
+
+/// Where output belongs: to the console where nothing is said.
+fn category_in(told: &Value) -> Result<Category, Unread>
+    ensures { Gives result (category_of (view told.now)) }
+{
+    let Some(value) = field::present(told, "category") else {
+        return Ok(Category::Console);
+    };
+    value
+        .as_str()
+        .and_then(category_named)
+        .ok_or(bad(HostKey::Category))
+}
+
+/// The value of what is learned, where it has one.
+fn value_in(alloc: Global, told: &Value) -> Result<Option<Text>, Unread>
+    ensures { Gives result (value_of (view told.now)) }
+{
+    let Some(value) = field::present(told, "value") else {
+        return Ok(None);
+    };
+    let text = value.as_str().ok_or(bad(HostKey::Value))?;
+    Ok(Some(Text::copied(alloc, text)?))
+}
+
+/// Whether more is told later: not where nothing is said.
+fn later_in(told: &Value) -> Result<bool, Unread>
+    ensures { Gives result (later_at (view told.now)) }
+{
+    let Some(value) = field::present(told, "later") else {
+        return Ok(false);
+    };
+    value.as_bool().ok_or(bad(HostKey::Later))
+}
+
+/// The number of a holder, where there is one.
+fn holder_in(told: &Value) -> Result<Option<u64>, Unread>
+    ensures { Gives result (holder_at (view told.now)) }
+{
+    let Some(value) = field::present(told, "holder") else {
+        return Ok(None);
+    };
+    let holder = numbers::number(value).ok_or(bad(HostKey::Holder))?;
+    Ok(Some(holder as u64))
+}
+
+/// The number of the holder that is told.
+fn told_holder_in(told: &Value) -> Result<u64, Unread>
+    ensures { Gives result (told_holder_at (view told.now)) }
+{
+    let holder = field::present(told, "holder")
+        .and_then(numbers::number)
+        .ok_or(bad(HostKey::Holder))?;
+    Ok(holder as u64)
+}
+
+#[tactic(auto, unfolding(crate::specs::Told::variable_of))]
+fn variable_in(alloc: Global, value: &Value) -> Result<Variable, Unread>
+    ensures { Gives result (variable_of (view value.now)) }
+{
+    let name = text_at(alloc, value, HostKey::Name)?;
+    let text = text_at(alloc, value, HostKey::Value)?;
+    let holder = holder_in(value)?;
+    Ok(Variable {
+        name,
+        value: text,
+        holder,
+    })
+}
+
+fn each_variable(alloc: Global, items: &[Value]) -> Result<Vec<Variable>, Unread>
+    ensures { GivesList result (each_variable (items_view items.now) []) }
+{
+    let mut variables = Vec::with_capacity(alloc, items.len())?;
+    for item in items {
+        variables.push(variable_in(alloc, item)?)?;
+    }
+    Ok(variables)
+}
+
+fn variables_of(alloc: Global, value: &Value) -> Result<List<Variable>, Unread>
+    ensures { Gives result (variables_of_items (as_array (view value.now))) }
+{
+    let Some(items) = value.as_array() else {
+        return Err(bad(HostKey::Variables));
+    };
+    Ok(List::new(each_variable(alloc, items)?))
+}
+
+#[tactic(auto, unfolding(crate::specs::Told::output_in))]
+fn output_in(alloc: Global, told: &Value) -> Result<Told, Unread>
+    ensures { Gives result (output_of (view told.now)) }
+{
+    let category = category_in(told)?;
+    let text = text_at(alloc, told, HostKey::Output)?;
+    Ok(Told::Output { category, text })
+}
+
+#[tactic(auto, unfolding(crate::specs::Told::stop_in))]
+fn stop_in(alloc: Global, told: &mut Value) -> Result<Told, Unread>
+    ensures { Gives result (stop_of (view told.old)) }
+{
+    let reason = text_at(alloc, told, HostKey::Reason)?;
+    let thread = thread_in(told)?;
+    let later = later_in(told)?;
+    let moment = field::take_tree(told, "moment").ok_or(bad(HostKey::Moment))?;
+    Ok(Told::Stopped {
+        reason,
+        thread,
+        moment,
+        later,
+    })
+}
+
+#[tactic(auto, unfolding(crate::specs::Told::continued_in))]
+fn continued_in(told: &Value) -> Result<Told, Unread>
+    ensures { Gives result (continued_of (view told.now)) }
+{
+    let thread = thread_in(told)?;
+    Ok(Told::Continued { thread })
+}
+
+#[tactic(auto, unfolding(crate::specs::Told::exit_in))]
+fn exit_in(told: &Value) -> Result<Told, Unread>
+    ensures { Gives result (exit_of (view told.now)) }
+{
+    let code = code_in(told)?;
+    Ok(Told::Exited { code })
+}
+
+#[tactic(auto, unfolding(crate::specs::Told::learned_in))]
+fn learned_in(alloc: Global, told: &Value) -> Result<Told, Unread>
+    ensures { Gives result (learned_of (view told.now)) }
+{
+    let text = text_at(alloc, told, HostKey::Text)?;
+    let value = value_in(alloc, told)?;
+    let holder = holder_in(told)?;
+    Ok(Told::Learned {
+        text,
+        value,
+        holder,
+    })
+}
+
+/// The variables of a holder.
+#[tactic(auto, unfolding(crate::specs::Told::variables_in))]
+fn variables_in(alloc: Global, value: &Value, told: &Value) -> Result<Told, Unread>
+    ensures { Gives result (variables_told (view value.now) (view told.now)) }
+{
+    let holder = told_holder_in(told)?;
+    let variables = variables_of(alloc, value)?;
+    Ok(Told::Variables { holder, variables })
+}
+
+/// The variables of a holder where there are some, else what a text comes to.
+fn learned_by(alloc: Global, told: &Value) -> Result<Told, Unread>
+    ensures { Gives result (learned_of_key (tree_at (codes "variables") (view told.now)) (view told.now)) }
+{
+    match field::present(told, "variables") {
+        None => learned_in(alloc, told),
+        Some(value) => variables_in(alloc, value, told),
+    }
+}
+
+#[tactic(auto, unfolding(crate::specs::Told::loaded_in))]
+fn loaded_in(told: &mut Value) -> Result<Told, Unread>
+    ensures { Gives result (loaded_of (view told.old)) }
+{
+    let sources = field::take_tree(told, "sources").ok_or(bad(HostKey::Sources))?;
+    Ok(Told::Loaded { sources })
+}
+
+/// A kind of what a host tells.
+#[derive(Clone, Copy)]
+enum Kind {
+    Output,
+    Stopped,
+    Continued,
+    Exited,
+    Learned,
+    Loaded,
+}
+
+fn kind_named(name: &str) -> Option<Kind>
+    ensures { result ≡ kind_of_name name.now }
+{
+    match name {
+        "output" => Some(Kind::Output),
+        "stopped" => Some(Kind::Stopped),
+        "continued" => Some(Kind::Continued),
+        "exited" => Some(Kind::Exited),
+        "learned" => Some(Kind::Learned),
+        "loaded" => Some(Kind::Loaded),
+        _ => None,
+    }
+}
+
+/// What is told, by its kind.
+#[tactic(auto, unfolding(crate::specs::Told::told_in))]
+fn told_in(alloc: Global, told: &mut Value) -> Result<Told, Unread>
+    ensures { Gives result (told_of (view told.old)) }
+{
+    let kind = field::text(told, "happened")
+        .and_then(kind_named)
+        .ok_or(bad(HostKey::Happened))?;
+    match kind {
+        Kind::Output => output_in(alloc, told),
+        Kind::Stopped => stop_in(alloc, told),
+        Kind::Continued => continued_in(told),
+        Kind::Exited => exit_in(told),
+        Kind::Learned => learned_by(alloc, told),
+        Kind::Loaded => loaded_in(told),
+    }
+}
+
+#[derive(Clone, Copy)]
+enum Question {
+    Target,
+}
+
+fn question_named(name: &str) -> Option<Question>
+    ensures { result ≡ question_of_name name.now }
+{
+    match name {
+        "target" => Some(Question::Target),
+        _ => None,
+    }
+}
+
+/// A number of the client.
+fn number_in(said: &Value) -> Result<u32, Unread>
+    ensures { Gives result (number_of_key (view said.now)) }
+{
+    field::present(said, "number")
+        .and_then(numbers::number)
+        .ok_or(bad(HostKey::Number))
+}
+
+#[tactic(auto, unfolding(crate::specs::Told::asked_in))]
+fn asked_in(said: &Value) -> Result<Said, Unread>
+    ensures { Gives result (asked_of (view said.now)) }
+{
+    let _question = field::text(said, "asked")
+        .and_then(question_named)
+        .ok_or(bad(HostKey::Asked))?;
+    let number = number_in(said)?;
+    Ok(Said::Target(number))
+}
+
+#[tactic(auto, unfolding(crate::specs::Told::happened_in))]
+fn happened_in(alloc: Global, said: &mut Value) -> Result<Said, Unread>
+    ensures { Gives result (happened_of (view said.old)) }
+{
+    let told = told_in(alloc, said)?;
+    Ok(Said::Happened(told))
+}
+
+fn is_question(said: &Value) -> bool
+    ensures { result ≡ is_some (tree_at (codes "asked") (view said.now)) }
+{
+    field::present(said, "asked").is_some()
+}
+
+/// What is said: a question where there is one, else what happened.
+fn said_in(alloc: Global, said: &mut Value) -> Result<Said, Unread>
+    ensures { Gives result (said_of (view said.old)) }
+{
+    if is_question(said) {
+        return asked_in(said);
+    }
+    happened_in(alloc, said)
+}
+
+/// What the JSON text of a host says.
+pub fn read_said(alloc: Global, scratch: &mut Scratch, text: &[u8]) -> Result<Said, Unread>
+    ensures { Tells result text.now }
+{
+    match read_value(alloc, scratch, text) {
+        Ok(mut said) => said_in(alloc, &mut said),
+        Err(ParseFault::NotJson) => Err(Unread::Refused(Refusal::NotJson)),
+        Err(ParseFault::OutOfMemory) => Err(Unread::OutOfMemory),
+    }
+}
+
+/// What happens by what is told.
+pub fn happening_in(told: &Told) -> Result<Happening, AllocError>
+    ensures { IfOk result (λ happening. happening ≡ happening_of told.now) }
+{
+    match told {
+        Told::Output { category, text } => Ok(Happening::Output {
+            category: *category,
+            text: text.clone()?,
+        }),
+        Told::Stopped { reason, thread, .. } => Ok(Happening::Stopped {
+            reason: reason.clone()?,
+            thread: *thread,
+        }),
+        Told::Continued { thread } => Ok(Happening::Continued { thread: *thread }),
+        Told::Exited { code } => Ok(Happening::Exited { code: *code }),
+        Told::Learned { .. } | Told::Variables { .. } | Told::Loaded { .. } => {
+            Ok(Happening::Nothing)
+        }
+    }
+}
