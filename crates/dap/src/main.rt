@@ -5,9 +5,6 @@ ghost use Rattle.std.specs.Prelude.{◌≡◌, IfOk};
 ghost use Rattle.dap_debuggee.specs.declared.answers.State.{State};
 ghost use Rattle.dap_host.specs.Hearing.{IsGoing};
 
-mod command_line;
-mod layout;
-
 use clap::ArgMatches;
 use clap::error::{Error, ErrorKind};
 use dap_adapter::ServeFault;
@@ -17,7 +14,7 @@ use dap_host::{Host, host_channel};
 use dap_recording::RecordingFault;
 use dap_replay::Recorded;
 use dap_tool::{
-    Checked, DriveFault, FileFault, FollowFault, Form, MAX_FILE, OpenFault, Shown, Style,
+    AnySeq, CheckOptions, Checked, DriveFault, FileFault, FollowFault, Form, MAX_FILE, OpenFault, Shown, Style,
     ToolFault, check_text, drive_and_check, explanation, fault_line, follow, most_reads,
     read_whole, status, verdict_line,
 };
@@ -81,13 +78,13 @@ fn main(rt: HostRuntime) -> ExitCode {
 /// Does what the command line asks for, and answers the exit status.
 fn run(rt: &HostRuntime) -> Result<u8, Failure> {
     let words: Vec<String> = std::env::args(rt)?.collect(rt.alloc())?;
-    let limit_texts = command_line::limit_texts(rt.alloc())?;
+    let limit_texts = dap_words::limit_texts(rt.alloc())?;
     run_words(rt, words.as_slice(), limit_texts.as_slice())
 }
 
 /// The same for these words, with these texts on the limits in the help.
 fn run_words(rt: &HostRuntime, words: &[String], limit_texts: &[String]) -> Result<u8, Failure> {
-    let command = command_line::command(rt.alloc(), limit_texts)?;
+    let command = dap_words::command(rt.alloc(), limit_texts)?;
     match command.try_get_matches_from(words) {
         Ok(matches) => Ok(run_subcommand(rt, &matches)),
         Err(error) => explain(rt, &error),
@@ -111,7 +108,7 @@ fn run_subcommand(rt: &HostRuntime, matches: &ArgMatches<'_>) -> u8 {
 /// Prints help, laid out, on the stream that is due.
 fn print_help(rt: &HostRuntime, error: &Error) -> Result<(), Failure> {
     let text = format!(in rt.alloc(); "{error}")?;
-    let help = layout::laid_out(rt.alloc(), text.as_str())?;
+    let help = dap_words::laid_out(rt.alloc(), text.as_str())?;
     let bytes = help.as_str().as_bytes();
     if error.use_stderr() {
         rt.stderr().write_all(bytes)?;
@@ -160,7 +157,7 @@ struct Subject<'a> {
 /// no recording is told before anything is read of the input.
 fn serve(rt: &HostRuntime, matches: &ArgMatches<'_>) -> u8 {
     // The command line took each option in its range, so that the limits are never refused here.
-    let Ok(limits) = command_line::limits(matches) else {
+    let Ok(limits) = dap_words::limits(matches) else {
         return USAGE;
     };
     let recording = match read_recording(rt, matches) {
@@ -213,7 +210,7 @@ fn unwrap(rt: &HostRuntime, matches: &ArgMatches<'_>) -> u8 {
 /// Lists a file on standard output, and answers the exit status. What was listed is printed before a fault is told. Standard
 /// input is listed while it comes.
 fn list(rt: &HostRuntime, matches: &ArgMatches<'_>, style: Style) -> u8 {
-    let Ok(limits) = command_line::limits(matches) else {
+    let Ok(limits) = dap_words::limits(matches) else {
         return USAGE;
     };
     if matches.get_str(FILE) == Some("-") {
@@ -267,7 +264,7 @@ fn tell_shown(rt: &HostRuntime, matches: &ArgMatches<'_>, input: Subject<'_>, sh
 
 /// Writes the lines of a file as frames on standard output, and answers the exit status. At a fault nothing is written.
 fn wrap(rt: &HostRuntime, matches: &ArgMatches<'_>) -> u8 {
-    let Ok(limits) = command_line::limits(matches) else {
+    let Ok(limits) = dap_words::limits(matches) else {
         return USAGE;
     };
     let bytes = match read_input(rt, matches) {
@@ -288,6 +285,23 @@ fn wrap(rt: &HostRuntime, matches: &ArgMatches<'_>) -> u8 {
     }
 }
 
+/// What is to be printed of a transcript.
+fn check_options(matches: &ArgMatches<'_>) -> CheckOptions {
+    let any_seq = match matches.get_str("any-seq") {
+        None => AnySeq::OfNone,
+        Some("client") => AnySeq::OfClient,
+        Some("adapter") => AnySeq::OfAdapter,
+        Some(_) => AnySeq::OfBoth,
+    };
+    CheckOptions {
+        any_seq,
+        all: matches.get_flag("all"),
+        explained: matches.get_flag("explain"),
+        unanswered: matches.get_flag("open"),
+        bodies: matches.get_flag("bodies"),
+    }
+}
+
 /// Prints what the options ask for of the transcript that a file is, and answers the exit status.
 fn check(rt: &HostRuntime, matches: &ArgMatches<'_>) -> u8 {
     let bytes = match read_input(rt, matches) {
@@ -298,7 +312,7 @@ fn check(rt: &HostRuntime, matches: &ArgMatches<'_>) -> u8 {
         name: name_of(matches, FILE),
         bytes: &bytes,
     };
-    let options = command_line::check_options(matches);
+    let options = check_options(matches);
     let verdict = match check_text(rt.alloc(), &bytes, options) {
         Ok(verdict) => verdict,
         Err(fault) => return tell(rt, matches, input, &ToolFault::Check(fault)),
@@ -313,7 +327,7 @@ fn check(rt: &HostRuntime, matches: &ArgMatches<'_>) -> u8 {
 /// Runs both ends by the script that a file is, over the recording that another is, and writes the transcript on standard
 /// output, and where it is asked for what is found in it on standard error. At a fault nothing is written.
 fn drive(rt: &HostRuntime, matches: &ArgMatches<'_>) -> u8 {
-    let Ok(limits) = command_line::limits(matches) else {
+    let Ok(limits) = dap_words::limits(matches) else {
         return USAGE;
     };
     let recording = match read_file(rt, matches, RECORDING) {
@@ -387,7 +401,7 @@ fn tell_driving(
 /// Is the adapter of a debugger in another program, and answers the exit status. A file that has no sources is told before
 /// anything is read of the input.
 fn host(rt: &HostRuntime, matches: &ArgMatches<'_>) -> u8 {
-    let Ok(limits) = command_line::limits(matches) else {
+    let Ok(limits) = dap_words::limits(matches) else {
         return USAGE;
     };
     let host = match read_host(rt, matches, limits) {
@@ -456,7 +470,7 @@ fn tell_sources(
         return tell(rt, matches, file, &ToolFault::Recording(fault));
     };
     let code = tell_line(rt, &ToolFault::Recording(fault));
-    if command_line::explains(matches) {
+    if dap_words::explains(matches) {
         // Where it finds no memory there is none.
         if let Ok(line) = sources_line(rt.alloc(), file.name, key.name()) {
             let _ = rt.stderr().write_all(&line);
@@ -579,7 +593,7 @@ fn print(rt: &HostRuntime, bytes: &[u8]) -> io::Result<()> {
 /// fault's status, whether or not the lines went out.
 fn tell(rt: &HostRuntime, matches: &ArgMatches<'_>, subject: Subject<'_>, fault: &ToolFault) -> u8 {
     let code = tell_line(rt, fault);
-    if command_line::explains(matches) {
+    if dap_words::explains(matches) {
         // Where it finds no memory there is none.
         if let Ok(line) = explanation(rt.alloc(), subject.name, subject.bytes, fault) {
             let _ = rt.stderr().write_all(&line);

@@ -3,7 +3,6 @@
 use clap::builder::ValueParser;
 use clap::{Arg, ArgAction, ArgMatches, Command};
 use dap_frame::{LimitFault, Limits};
-use dap_tool::{AnySeq, CheckOptions};
 use std::alloc::{AllocError, Global};
 
 /// The option that explains faults, and of `check` findings too.
@@ -63,7 +62,7 @@ static LIMIT_OPTIONS: [LimitOption; 7] = [
 ];
 
 /// What the help says of each option that sets a limit, in order.
-pub(crate) fn limit_texts(alloc: Global) -> Result<Vec<String>, AllocError> {
+pub fn limit_texts(alloc: Global) -> Result<Vec<String>, AllocError> {
     let usual = Limits::usual();
     let mut texts = Vec::new(alloc);
     for option in &LIMIT_OPTIONS {
@@ -317,7 +316,7 @@ fn host<'a>(alloc: Global, limit_texts: &'a [String]) -> Result<Command<'a>, All
 }
 
 /// The command line of the program.
-pub(crate) fn command<'a>(
+pub fn command<'a>(
     alloc: Global,
     limit_texts: &'a [String],
 ) -> Result<Command<'a>, AllocError> {
@@ -337,7 +336,7 @@ pub(crate) fn command<'a>(
 }
 
 /// The limits that the options set, and the defaults for the others and for those that the subcommand does not have.
-pub(crate) fn limits(matches: &ArgMatches<'_>) -> Result<Limits, LimitFault> {
+pub fn limits(matches: &ArgMatches<'_>) -> Result<Limits, LimitFault> {
     let usual = Limits::usual();
     let set = |option: &LimitOption| {
         matches
@@ -365,23 +364,6 @@ pub(crate) fn limits(matches: &ArgMatches<'_>) -> Result<Limits, LimitFault> {
 }
 
 /// Whether faults are explained.
-pub(crate) fn explains(matches: &ArgMatches<'_>) -> bool {
+pub fn explains(matches: &ArgMatches<'_>) -> bool {
     matches.get_flag(EXPLAIN)
-}
-
-/// What is to be printed of a transcript.
-pub(crate) fn check_options(matches: &ArgMatches<'_>) -> CheckOptions {
-    let any_seq = match matches.get_str("any-seq") {
-        None => AnySeq::OfNone,
-        Some("client") => AnySeq::OfClient,
-        Some("adapter") => AnySeq::OfAdapter,
-        Some(_) => AnySeq::OfBoth,
-    };
-    CheckOptions {
-        any_seq,
-        all: matches.get_flag("all"),
-        explained: matches.get_flag("explain"),
-        unanswered: matches.get_flag("open"),
-        bodies: matches.get_flag("bodies"),
-    }
 }

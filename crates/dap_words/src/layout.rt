@@ -55,7 +55,7 @@ fn push_line(out: &mut String, line: &str) -> Result<(), AllocError> {
 }
 
 /// The text, with each of its lines laid out.
-pub(crate) fn laid_out(alloc: Global, text: &str) -> Result<String, AllocError> {
+pub fn laid_out(alloc: Global, text: &str) -> Result<String, AllocError> {
     let mut out = String::new(alloc);
     for (place, line) in text.split('\n').enumerate() {
         if place != 0 {

@@ -1,0 +1,11 @@
+//! The words of the program `dap`: its command line with what the help says, and help laid out for a terminal.
+//!
+//! This crate knows the subcommands, their options and the limits' ranges; it must not know what a subcommand does. A contract
+//! says nothing of words: `scripts/try-program` compares them.
+#![tactic(auto)]
+
+mod command_line;
+mod layout;
+
+pub use command_line::{command, explains, limit_texts, limits};
+pub use layout::laid_out;
