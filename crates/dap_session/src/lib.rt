@@ -1,8 +1,9 @@
 //! A session at the adapter: what each request comes to, over a debuggee, without the bytes that come in.
 //!
-//! Overview and Specification. `specs/Table.antt` is the one table of commands and phases, `Failures.antt` the tests in their
-//! one order, `Handling.antt`, `Taking.antt` and `Polling.antt` say what a step comes to: a plan, made at once or of the
-//! debuggee's reply. Bytes of a client and frames stand above, in the adapter.
+//! Overview and Specification. `Handling.antt`, `Taking.antt` and `Polling.antt` in `specs/` say what a step comes to: a
+//! plan, made at once or of the debuggee's reply. Below are the one table of commands and phases with the order of the
+//! failures (`dap_decision`), the answers to queries (`dap_query`), and the texts of messages (`dap_outbox`). Bytes of a
+//! client and frames are above, in the adapter.
 #![tactic(auto)]
 
 mod asking;
