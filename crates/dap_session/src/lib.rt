@@ -2,7 +2,7 @@
 //!
 //! Overview and Specification. `Handling.antt`, `Taking.antt` and `Polling.antt` in `specs/` say what a step comes to: a
 //! plan, made at once or of the debuggee's reply. Below are the one table of commands and phases with the order of the
-//! failures (`dap_decision`), the answers to queries (`dap_query`), and the texts of messages (`dap_outbox`). Bytes of a
+//! failures (`dap_decision`), the answers to queries (`dap_query`), and the messages that are due (`dap_outbox`). Bytes of a
 //! client and frames are above, in the adapter.
 #![tactic(auto)]
 
