@@ -1,4 +1,5 @@
-//! The program `dap`: its command line, its streams and its exit statuses. What it does is in `dap_tool` and `dap_adapter`.
+//! The program `dap`: its command line, its streams and its exit statuses. What it does is in
+//! `dap_tool`, `dap_adapter` and `dap_host`.
 #![tactic(auto)]
 
 ghost use Rattle.std.specs.Prelude.{◌≡◌, IfOk};

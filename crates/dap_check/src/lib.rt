@@ -1,8 +1,8 @@
 //! Whether a recorded conversation keeps the rules of the protocol.
 //!
-//! A transcript is a text with a message a line, each of the client or of the adapter. What this crate knows: lines,
-//! sides, and which earlier lines a message may follow. What it must not know: header bytes, and how JSON is read. It
-//! relies on the public contracts of `dap_message`, and on those by which `dap_json` reads what stands at a key.
+//! A transcript is a text with a message a line, each of the client or of the adapter. What this crate knows: lines, sides,
+//! and which earlier lines a message may follow. What it must not know: header bytes, and how JSON is read. It relies on the
+//! public contracts of `dap_message` and `dap_shape`, and on those by which `dap_json` reads what stands at a key.
 #![tactic(auto)]
 
 mod checking;

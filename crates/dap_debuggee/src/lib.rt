@@ -1,8 +1,9 @@
 //! What is debugged: the interface that an adapter rests on.
 //!
 //! An adapter asks acts and queries of a [`Debuggee`], and rests on its laws alone. Whoever writes a debugger of their own
-//! implements this trait, and needs no other crate than this one. It knows sources, lines and object numbers; it must not
-//! know messages, references nor phases of a session, nor any debuggee.
+//! implements this trait, and needs for it two types of the crates below: `dap_json::Text`, and `dap_call::SourceKey`, which
+//! names a source by path or by number. It knows sources, lines and object numbers; it must not know messages, the
+//! references that an adapter gives, nor phases of a session, nor any debuggee.
 #![tactic(auto)]
 
 mod answers;

@@ -1,7 +1,8 @@
 //! Whether what a message holds is as the Specification has it: required keys, and values of their types.
 //!
-//! This crate knows the types of the Specification as rows of one table, and reads what stands at a key by the public contracts of
-//! `serde_json` and `dap_json`. It must not know in which order messages come, nor which end writes one.
+//! This crate knows the types of the Specification as rows of one table, and reads a message as a tree, or in one pass over
+//! its bytes without one. It must not know in which order messages come, nor which end writes one. It relies on the public
+//! contracts of the crates below, and on those of their lemmas that `docs/ARCHITECTURE.md` lists.
 #![tactic(auto)]
 
 mod body;

@@ -1,5 +1,5 @@
-//! What a client reads of the body of a response: threads, stack frames, scopes, variables, breakpoints, the result of
-//! `evaluate`, the value of `setVariable` and the text of a source, each lent by the JSON tree.
+//! What a client reads of the body of a response: threads, stack frames, scopes, variables, breakpoints, loaded sources, the
+//! result of `evaluate`, the value of `setVariable` and the text of a source, each lent by the JSON tree.
 //!
 //! Specification, the types whose names end in "Response", and "Types". Keys that are not named here are ignored, and
 //! `null` counts as absent. What the body of `initialize` offers is read by [`Capabilities::read`].
