@@ -4,11 +4,11 @@
 //! A request is sent once fewer than two are outstanding and the client accepts it; what it writes goes nowhere.
 #![tactic(auto)]
 
-use dap_client::{AnswerFault, Client, ClientFault, Phase, SendFault, Terminal};
-use dap_frame::Limits;
 use dap_call::{Call, read_call};
+use dap_client::{AnswerFault, Client, ClientFault, Phase, SendFault, Terminal};
 use dap_command::Command;
 use dap_envelope::{Kind, Message};
+use dap_frame::Limits;
 use dap_reader::{MessageReader, ReadFault};
 use std::alloc::{AllocError, Global};
 use std::fs::File;

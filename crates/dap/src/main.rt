@@ -15,9 +15,9 @@ use dap_host::{Host, host_channel};
 use dap_recording::RecordingFault;
 use dap_replay::Recorded;
 use dap_tool::{
-    AnySeq, CheckOptions, Checked, DriveFault, FileFault, FollowFault, Form, MAX_FILE, OpenFault, Shown, Style,
-    ToolFault, check_text, drive_and_check, explanation, fault_line, follow, most_reads,
-    read_whole, status, verdict_line,
+    AnySeq, CheckOptions, Checked, DriveFault, FileFault, FollowFault, Form, MAX_FILE, OpenFault,
+    Shown, Style, ToolFault, check_text, drive_and_check, explanation, fault_line, follow,
+    most_reads, read_whole, status, verdict_line,
 };
 use std::alloc::{AllocError, AllocFailed, Global};
 use std::fs::File;

@@ -18,12 +18,12 @@ ghost use Rattle.dap_decision.specs.declared.phase.Phase.TheVariants.{Asked};
 
 use crate::taken::{Came, Taken, Turned};
 use dap_debuggee::Debuggee;
+use dap_envelope::laws::read_is_in_range;
 use dap_frame::{End, Limits};
 use dap_history::laws::histories_grow;
-use dap_envelope::laws::read_is_in_range;
-use dap_reader::{MessageReader, Next, ReadFault};
-use dap_plan::laws::{each_step_goes_on, each_step_stays_within};
 use dap_plan::AdapterFault;
+use dap_plan::laws::{each_step_goes_on, each_step_stays_within};
+use dap_reader::{MessageReader, Next, ReadFault};
 use dap_session::{Phase, Session};
 use dap_tables::Target;
 use std::alloc::{AllocError, Global};

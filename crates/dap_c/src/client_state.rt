@@ -8,8 +8,8 @@ ghost use Rattle.dap_c.specs.ClientSeen.{IsStateOf, IsStateIn, IsWithin, AreFlag
 
 use crate::client_handle::{YtClient, full, taken};
 use dap_c_parts::codes::{YT_NONE, YT_OK};
-use dap_command::Capabilities;
 use dap_client::{Client, Phase};
+use dap_command::Capabilities;
 use std::alloc::Global;
 
 /// What is seen of a client.

@@ -2,8 +2,8 @@
 ghost use Rattle.std.specs.Prelude.{◌≡◌};
 ghost use Rattle.dap_c_parts.specs.Causes.{refusal_number, body_number};
 
-use dap_frame::Refusal;
 use dap_envelope::BodyRefusal;
+use dap_frame::Refusal;
 
 pub fn cause_of(refusal: Refusal) -> u32
     ensures { result ≡ refusal_number refusal }

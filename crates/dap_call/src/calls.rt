@@ -8,10 +8,11 @@ ghost use Rattle.dap_call.specs.declared.call.CallFault.TheVariants.{OutOfMemory
 
 use crate::argument;
 use crate::argument::Arguments;
-use crate::call::{BreakpointLocations, Call, CallFault, Completions, Evaluate, Initialize, Modules, SetVariable, StackTrace, Variables};
-use dap_command::SourceKey;
-use dap_command::Command;
-use dap_command::Key;
+use crate::call::{
+    BreakpointLocations, Call, CallFault, Completions, Evaluate, Initialize, Modules, SetVariable,
+    StackTrace, Variables,
+};
+use dap_command::{Command, Key, SourceKey};
 use dap_json::{List, Text, Tree, field};
 use serde_json::Value;
 use std::alloc::{AllocError, Global};

@@ -20,7 +20,7 @@ pub use call::{
 };
 pub use calls::read_call;
 pub use dap_command::{
-    Capabilities, Command, FRAMES, FramesGiven, GatheredReferences, Gate, HOLDERS, HoldersGiven,
+    Capabilities, Command, FRAMES, FramesGiven, Gate, GatheredReferences, HOLDERS, HoldersGiven,
     Key, SourceKey, frames_given, holders_given,
 };
 pub use plain::MAX_ARGUMENTS;

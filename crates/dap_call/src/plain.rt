@@ -10,8 +10,7 @@ ghost use Rattle.dap_command.specs.Numbers.{is_number as is_number_in_range, is_
 
 use crate::argument::{MAX_NUMBER, is_int};
 use crate::call::Call;
-use dap_command::SourceKey;
-use dap_command::Command;
+use dap_command::{Command, SourceKey};
 use dap_json::field::MAX_SEQ;
 use dap_json::{Tree, plain};
 

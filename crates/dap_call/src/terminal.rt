@@ -11,9 +11,9 @@ ghost use Rattle.dap_call.specs.Terminal.{terminal_of, terminal_members, termina
 
 use crate::argument::Arguments;
 use crate::call::CallFault;
-use dap_command::Key;
 use crate::members::{add, add_optional_text, add_text};
 use crate::writing::texts;
+use dap_command::Key;
 use dap_json::members::Members;
 use dap_json::{List, Text};
 use serde_json::{Map, Value};

@@ -7,10 +7,12 @@ ghost use Rattle.dap_call.specs.Call.{call_of};
 ghost use Rattle.dap_call.specs.CallTree.{if_any, source_tree, breakpoint_tree, breakpoint_items, function_tree, function_items, text_items, initialize_members, cancel_members, set_breakpoints_members, set_function_breakpoints_members, set_exception_breakpoints_members, thread_members, stack_trace_members, scopes_members, variables_members, evaluate_members, source_members, set_variable_members, modules_members, breakpoint_locations_members, completions_members, call_tree, command_of};
 ghost use Rattle.dap_call.specs.PlainCall.{is_plain_call};
 
-use crate::call::{BreakpointLocations, Call, Completions, Evaluate, Initialize, Modules, SetVariable, StackTrace, Variables};
-use dap_command::SourceKey;
-use dap_command::Key;
+use crate::call::{
+    BreakpointLocations, Call, Completions, Evaluate, Initialize, Modules, SetVariable, StackTrace,
+    Variables,
+};
 use crate::members::{add, add_if_false, add_if_true, add_number, add_optional, add_text};
+use dap_command::{Key, SourceKey};
 use dap_json::members::Members;
 use dap_json::{Text, Tree};
 use serde_json::{Map, Value};

@@ -17,7 +17,10 @@ use crate::checking::CheckFault;
 use crate::line::{Form, Line, Side};
 use crate::words;
 use dap_command::GatheredReferences;
-use dap_envelope::{BodyFault, Heading, HeadingKind, Kind, Message, read_heading_and_references, read_message, read_message_with};
+use dap_envelope::{
+    BodyFault, Heading, HeadingKind, Kind, Message, read_heading_and_references, read_message,
+    read_message_with,
+};
 use dap_json::Text;
 use dap_json::object_reader::Scratch;
 use dap_shape::{message_fault, read_heading_and_shape};

@@ -11,10 +11,10 @@ ghost use Rattle.dap_client.specs.Keeping.{IsWhyNotAnswered};
 use crate::fault::AnswerFault;
 use crate::session::Session;
 use crate::terminal::Terminal;
-use dap_frame::frame_from;
-use dap_message::laws::fixed_messages_are_short;
 use dap_body::{Body, Failure};
 use dap_call::RUN_IN_TERMINAL;
+use dap_frame::frame_from;
+use dap_message::laws::fixed_messages_are_short;
 use dap_message::{append_answer, append_failure};
 use std::alloc::{AllocError, Global};
 

@@ -1,7 +1,7 @@
 //! Why a client sends nothing, and why it is closed.
 
-use dap_frame::FrameFault;
 use dap_envelope::BodyRefusal;
+use dap_frame::FrameFault;
 use std::alloc::AllocError;
 
 /// Why a request is not sent: the first of these that holds, in this order. Nothing changes then.

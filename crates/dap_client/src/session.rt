@@ -9,8 +9,8 @@ ghost use Rattle.dap_call.specs.Terminal.{run_in_terminal};
 
 use crate::change::Change;
 use crate::phase::Phase;
-use dap_frame::Limits;
 use dap_command::Capabilities;
+use dap_frame::Limits;
 use dap_tables::{Entry, Known, Outstanding, PutFault, Seq};
 use std::alloc::{AllocError, Global};
 use std::marker::Model;

@@ -23,14 +23,14 @@ use crate::phase::Phase;
 use crate::response_references::references_given_in;
 use crate::session::Session;
 use crate::signal::Signal;
-use dap_frame::frame_from;
-use dap_message::laws::fixed_messages_are_short;
 use dap_body::Failure;
 use dap_call::{CallFault, RUN_IN_TERMINAL, read_terminal};
 use dap_command::{Capabilities, Command};
 use dap_envelope::{Kind, Message};
+use dap_frame::frame_from;
 use dap_json::{Text, Tree};
 use dap_message::append_failure;
+use dap_message::laws::fixed_messages_are_short;
 use dap_tables::{Entry, KnownFault, ReferenceKind};
 use std::alloc::{AllocError, Global};
 

@@ -10,11 +10,11 @@ ghost use Rattle.dap_connection.specs.Connection.{DoesSend, DoesAnswer, TakesOne
 ghost use Rattle.dap_connection.specs.Connection.{FallsShort, StepFails, HearFails, NextFails, SendFails, AnswerFails, AwaitsInVain, AskFails, StaysOrCloses};
 
 use crate::fault::ConnectionFault;
+use dap_call::Call;
 use dap_channel::{Channel, send};
 use dap_client::{Client, Sent, Terminal};
-use dap_frame::Limits;
-use dap_call::Call;
 use dap_envelope::Message;
+use dap_frame::Limits;
 use std::alloc::{AllocError, Global};
 use std::collections::VecDeque;
 use std::marker::Model;

@@ -5,8 +5,8 @@ ghost use Rattle.dap_decision.specs.Table.{effect_in, is_never_served, is_of_sto
 
 use crate::effect::Effect;
 use crate::phase::Phase;
-use dap_debuggee::How;
 use dap_command::Command;
+use dap_debuggee::How;
 
 fn is_configuring_or_there(phase: Phase) -> bool
     ensures { result ≡ is_among phase ready_to_stopped }

@@ -15,12 +15,12 @@ ghost use Rattle.dap_drive.specs.declared.writing.Unwritten.{Unwritten};
 use crate::fault::DriveFault;
 use crate::writing::{Unwritten, write_lines};
 use dap_adapter::{Adapter, AdapterFault, Phase, Taken, Turned};
+use dap_call::Call;
 use dap_check::Side;
 use dap_client::{AnswerFault, Client, ClientFault, Got, SendFault, Terminal};
 use dap_debuggee::Debuggee;
-use dap_frame::{Frames, Limits, each_stream_has_one_split, written_is_read_again};
-use dap_call::Call;
 use dap_envelope::laws::each_body_is_one;
+use dap_frame::{Frames, Limits, each_stream_has_one_split, written_is_read_again};
 use dap_world::laws::{each_schedule_agrees, moves_are_in_order};
 use std::alloc::{AllocError, Global};
 

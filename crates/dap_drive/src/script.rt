@@ -5,10 +5,10 @@ ghost use Rattle.dap_json.specs.Lent.{lent_data};
 ghost use Rattle.dap_call.specs.PlainCall.{is_plain_call};
 ghost use Rattle.dap_drive.specs.Script.{Gives, GivesArguments, IsPlainOrder, text_before, text_after, command_in, arguments_in, call_in, send_in, order_of};
 
-use dap_client::Terminal;
-use dap_json::{ParseFault, parse};
 use dap_call::{Call, CallFault, read_call};
+use dap_client::Terminal;
 use dap_command::Command;
+use dap_json::{ParseFault, parse};
 use serde_json::Value;
 use std::alloc::Global;
 use std::str;

@@ -9,9 +9,9 @@ ghost use Rattle.dap_check.specs.Rules.{contains_number, gives_frame as frame_gi
 
 use crate::reason::ReferenceKind;
 use dap_check::{Line, Side, words};
-use dap_json::field;
 use dap_command::{Capabilities, Command, Gate, frames_given, holders_given};
 use dap_envelope::Kind;
+use dap_json::field;
 use serde_json::Value;
 
 /// A line that was looked for.

@@ -6,19 +6,15 @@ ghost use Rattle.dap_decision.specs.declared.phase.Phase.{Phase};
 ghost use Rattle.dap_frame.specs.Written.{frame_of};
 ghost use Rattle.dap_host.specs.Hearing.{mark_of, state_of, drop_of, is_for_client};
 
-use dap_line::push_acts;
-use dap_line::push_messages;
-use dap_line::{coming_of, sources_in};
-use dap_line::body_refusal;
-use dap_line::{Refusal, push_refusal};
-use dap_line::HostSources;
 use crate::streams::frames_come_one_by_one;
-use dap_line::push_target;
-use dap_line::{Said, Told, Unread, happening_in, read_said};
 use dap_adapter::{Adapter, AdapterFault, Phase};
 use dap_debuggee::State;
 use dap_frame::{Limits, write_frame};
 use dap_json::object_reader::Scratch;
+use dap_line::{
+    HostSources, Refusal, Said, Told, Unread, body_refusal, coming_of, happening_in, push_acts,
+    push_messages, push_refusal, push_target, read_said, sources_in,
+};
 use dap_live::{Coming, Dropped, Live, Mail, why_dropped};
 use dap_recording::RecordingFault;
 use dap_replay::Recorded;

@@ -2,10 +2,10 @@
 ghost use Rattle.dap_frame.specs.Settings.{bounds_of};
 ghost use Rattle.dap_host.specs.StreamLaws.{StreamLaws};
 
-use dap_line::limits_are_in_range;
 use dap_frame::{
     Limits, each_stream_has_one_split, frame_has_no_frame_within, written_is_read_again,
 };
+use dap_line::limits_are_in_range;
 
 /// That frames within limits come one by one, and are split in one way.
 pub(crate) fn frames_come_one_by_one(limits: &Limits)

@@ -147,11 +147,7 @@ fn push_act(alloc: Global, out: &mut Vec<u8>, act: &HostAct) -> Result<(), Alloc
 }
 
 /// Appends the lines of acts, in order.
-pub fn push_acts(
-    alloc: Global,
-    out: &mut Vec<u8>,
-    acts: &[HostAct],
-) -> Result<(), AllocError>
+pub fn push_acts(alloc: Global, out: &mut Vec<u8>, acts: &[HostAct]) -> Result<(), AllocError>
     ensures { OnOk result (out.new.items ≡ out.old.items ++ act_lines acts.now) }
 {
     for act in acts {

@@ -21,11 +21,7 @@ fn push_line(out: &mut Vec<u8>, line: &[u8]) -> Result<(), AllocError>
 
 /// Appends a line for each message of which an adapter with these limits wrote the frames. A canonical body is one line
 /// already, so each is copied as it stands.
-pub fn push_messages(
-    limits: Limits,
-    bytes: &[u8],
-    out: &mut Vec<u8>,
-) -> Result<(), AllocError>
+pub fn push_messages(limits: Limits, bytes: &[u8], out: &mut Vec<u8>) -> Result<(), AllocError>
     ensures { OnOk result ((outs : List Message) → bytes.now ≡ bytes_of outs → AllReadBack limits.body outs → out.new.items ≡ out.old.items ++ message_lines outs) }
 {
     // For the proof: a length within the limits fits into 64 bits.

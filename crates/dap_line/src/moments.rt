@@ -36,11 +36,7 @@ fn unread_sources(fault: RecordingFault) -> Unread
 }
 
 /// What comes of what is told. A moment is read over the sources.
-pub fn coming_of(
-    alloc: Global,
-    sources: &mut HostSources,
-    told: Told,
-) -> Result<Coming, Unread>
+pub fn coming_of(alloc: Global, sources: &mut HostSources, told: Told) -> Result<Coming, Unread>
     ensures comes { IfOk result (IsComing sources.old told) }
     ensures fails { IfErr result (Fails sources.old told) }
     ensures same { sources.new ≡ sources.old }

@@ -11,9 +11,9 @@ ghost use Rattle.dap_json.specs.declared.bytes.ParseFault.{ParseFault};
 ghost use Rattle.dap_envelope.specs.Refusals.{Bad};
 ghost use Rattle.dap_line.specs.Told.{IsMessage};
 
+use dap_envelope::{BodyFault, BodyRefusal, read_heading, read_message_with};
 use dap_json::object_reader::{Invalid, ObjectReader, Scratch};
 use dap_json::{ParseFault, parse};
-use dap_envelope::{BodyFault, BodyRefusal, read_heading, read_message_with};
 use serde_json::{Map, Value};
 use std::alloc::{AllocError, AllocFailed, Global};
 
@@ -69,11 +69,7 @@ fn object(alloc: Global, scratch: &mut Scratch, bytes: &[u8]) -> Option<Map<Stri
 }
 
 /// [`parse`] with memory that is lent, so that whoever reads many lines makes it once. What it held does not matter.
-pub fn read_value(
-    alloc: Global,
-    scratch: &mut Scratch,
-    bytes: &[u8],
-) -> Result<Value, ParseFault>
+pub fn read_value(alloc: Global, scratch: &mut Scratch, bytes: &[u8]) -> Result<Value, ParseFault>
     ensures ok { IfOk result (λ v. json_of bytes.now ≡ Some (view v)) }
     ensures refused { result ≡ Err ParseFault.NotJson → json_of bytes.now ≡ None }
 {

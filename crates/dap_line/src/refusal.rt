@@ -2,8 +2,8 @@
 ghost use Rattle.std.specs.Prelude.{◌≡◌, ◌++◌, OnOk};
 ghost use Rattle.dap_line.specs.Written.{dropped_name as dropped_name_of, reason_of, refusal_front, refusal_line};
 
-use dap_live::Dropped;
 use dap_envelope::BodyRefusal;
+use dap_live::Dropped;
 use dap_recording::RecordingKey;
 use dap_stream::{body_refusal_name, push_number};
 use std::alloc::AllocError;

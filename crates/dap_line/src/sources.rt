@@ -70,10 +70,7 @@ impl HostSources {
     ghost use Rattle.dap_line.specs.Moments.{ReadsMoment, ReadsSources};
 
     /// Sources as JSON, and a debuggee that has them and has not stopped yet.
-    pub fn open(
-        alloc: Global,
-        told: &Tree,
-    ) -> Result<(HostSources, Recorded), RecordingFault>
+    pub fn open(alloc: Global, told: &Tree) -> Result<(HostSources, Recorded), RecordingFault>
         ensures reads { IfOk result (λ o. ReadsSources told.now (Ok o.1)) }
         ensures sources { IfOk result (λ o. o.0 ≡ o.1.recording.sources) }
         ensures fails { IfErr result (λ fault. fault ≢ RecordingFault.OutOfMemory → ReadsSources told.now (Err fault)) }
@@ -94,11 +91,7 @@ impl HostSources {
     }
 
     /// What a moment shows over these sources. It takes time in proportion to the moment alone.
-    pub fn read_moment(
-        &mut self,
-        alloc: Global,
-        moment: &Tree,
-    ) -> Result<Recorded, RecordingFault>
+    pub fn read_moment(&mut self, alloc: Global, moment: &Tree) -> Result<Recorded, RecordingFault>
         ensures reads { ReadsMoment self.old moment.now result }
         ensures same { self.new ≡ self.old }
     {
@@ -106,11 +99,7 @@ impl HostSources {
     }
 
     /// Other sources as JSON.
-    pub fn read_sources(
-        &mut self,
-        alloc: Global,
-        told: &Tree,
-    ) -> Result<Recorded, RecordingFault>
+    pub fn read_sources(&mut self, alloc: Global, told: &Tree) -> Result<Recorded, RecordingFault>
         ensures reads { ReadsSources told.now result }
         ensures same { self.new ≡ self.old }
     {

@@ -18,8 +18,8 @@ ghost use Rattle.dap_envelope.specs.Meaning.{Msg};
 ghost use Rattle.dap_envelope.specs.Refusals.{max_command};
 ghost use Rattle.dap_envelope.specs.SoundMessage.{IsSoundTree};
 
-use dap_envelope::laws::written_is_read_again;
 use dap_body::{Body, EventBody, Failure, append_body, append_event_body, append_failure_body};
+use dap_envelope::laws::written_is_read_again;
 use dap_json::Tree;
 use dap_json::laws::what_is_read_is_sound;
 use json::Writer;

@@ -1,8 +1,8 @@
 //! How a request is answered, and what is told, before it is written.
 
-use dap_debuggee::Category;
 use dap_body::Failure;
 use dap_command::Capabilities;
+use dap_debuggee::Category;
 use dap_json::Text;
 
 /// A body of a fixed shape.

@@ -10,8 +10,8 @@ ghost use Rattle.dap_message.specs.Lengths.{max_fixed, IsWithin};
 
 use crate::answer::{Answer, Event};
 use crate::texts::{append_reply, append_terminal, append_told};
-use dap_frame::frame_from;
 use dap_body::Body;
+use dap_frame::frame_from;
 use dap_message::append_answer;
 use dap_tables::{Entry, Seq};
 use std::alloc::{AllocError, Global};

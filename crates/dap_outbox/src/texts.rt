@@ -12,10 +12,10 @@ ghost use Rattle.dap_message.specs.Lengths.{max_fixed, IsWithin};
 ghost use Rattle.dap_envelope.specs.ReadBack.{ReadsBack};
 
 use crate::answer::{Answer, Event, Fixed};
-use dap_message::laws::fixed_messages_are_short;
 use dap_body::{Body, EventBody};
 use dap_call::{RUN_IN_TERMINAL, TerminalCall, write_terminal};
 use dap_json::{List, Text, Tree};
+use dap_message::laws::fixed_messages_are_short;
 use dap_message::{append_answer, append_event, append_failure, append_request};
 use dap_tables::Entry;
 use std::alloc::{AllocError, Global};

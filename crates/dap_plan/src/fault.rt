@@ -1,7 +1,7 @@
 //! Why an adapter is closed.
 
-use dap_frame::FrameFault;
 use dap_envelope::BodyRefusal;
+use dap_frame::FrameFault;
 use std::alloc::AllocError;
 
 /// Why an adapter is closed. It is answered by every later call, and nothing more is written.

@@ -13,9 +13,9 @@ use crate::bodies::{
 };
 use crate::no_answer::NoAnswer;
 use crate::queries::Queries;
-use dap_debuggee::{Debuggee, Evaluation};
 use dap_body::{Body, Failure};
 use dap_call::{Call, Evaluate, StackTrace, Variables};
+use dap_debuggee::{Debuggee, Evaluation};
 use std::alloc::{AllocError, Global};
 
 impl Queries {

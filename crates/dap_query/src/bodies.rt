@@ -9,8 +9,8 @@ ghost use Rattle.dap_debuggee.specs.Shown.{window};
 ghost use Rattle.dap_query.specs.Bodies.{protocol_thread, numbered_source, reference_of, protocol_sources, source_of_frame, line_shown, column_shown, frame_with, protocol_frame, protocol_scope, protocol_variable, with_numbers};
 
 use crate::options::Options;
-use dap_debuggee::{Debuggee, DebuggeeFault, Frame, Scope, Source, Thread, Variable};
 use dap_body::StackFrame;
+use dap_debuggee::{Debuggee, DebuggeeFault, Frame, Scope, Source, Thread, Variable};
 use dap_json::Text;
 use dap_tables::{ReferenceKind, Target};
 use std::alloc::{AllocError, Global};

@@ -1,7 +1,7 @@
 //! Why a query has no body for its answer.
 
-use dap_debuggee::DebuggeeFault;
 use dap_body::Failure;
+use dap_debuggee::DebuggeeFault;
 use std::alloc::AllocError;
 
 /// Why there is no body for an answer.

@@ -1,7 +1,7 @@
 //! Why no more messages are read.
 
-use dap_frame::FrameFault;
 use dap_envelope::BodyRefusal;
+use dap_frame::FrameFault;
 
 /// Why no more messages are read. Offsets count bytes from the start of the stream.
 #[derive(Clone, Copy, Debug, PartialEq, Eq)]

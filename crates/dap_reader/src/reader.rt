@@ -10,9 +10,9 @@ ghost use Rattle.dap_reader.specs.declared.fault.ReadFault.{ReadFault};
 ghost use Rattle.dap_reader.specs.Reader.{Advances, Gives, IsRefused, IsUnread, StandsFor};
 
 use crate::fault::ReadFault;
+use dap_envelope::{BodyFault, Message, read_message_with};
 use dap_frame::{End, Frames, Limits};
 use dap_history::laws::histories_grow;
-use dap_envelope::{BodyFault, Message, read_message_with};
 use dap_json::object_reader::Scratch;
 use std::alloc::{AllocError, Global};
 use std::marker::Model;

@@ -6,8 +6,8 @@ ghost use Rattle.dap_reason.specs.Streams.{words_of_refusal, words_of_body_refus
 use crate::excerpt::{Part, bytes_at, header_at, push, push_at, push_at_line};
 use crate::recordings::NO_MEMORY;
 use dap_check::CheckFault;
-use dap_frame::Refusal;
 use dap_envelope::BodyRefusal;
+use dap_frame::Refusal;
 use dap_stream::{ShowFault, WrapFault};
 use std::alloc::AllocError;
 

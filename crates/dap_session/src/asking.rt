@@ -18,16 +18,15 @@ ghost use Rattle.dap_plan.specs.SessionState.{MadeBy, Carries, HasTaken, IsRefus
 ghost use Rattle.dap_plan.specs.Taking.{after_terminal, plan_of_response, plan_of_terminal, takes_response};
 
 use crate::effects::start_phase;
-use dap_plan::AdapterFault;
 use crate::session::Session;
 use crate::starting::start_failure;
-use dap_debuggee::Debuggee;
-use dap_decision::{Effect, Phase};
-use dap_json::field;
 use dap_call::RUN_IN_TERMINAL;
 use dap_command::Command;
-use dap_json::{Text, Tree};
+use dap_debuggee::Debuggee;
+use dap_decision::{Effect, Phase};
+use dap_json::{Text, Tree, field};
 use dap_outbox::{Answer, Chosen, Outbox, answer_chosen};
+use dap_plan::AdapterFault;
 use dap_query::Options;
 use dap_tables::{Entry, InOrder, Outstanding};
 use std::alloc::{AllocError, Global};

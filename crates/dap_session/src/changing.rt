@@ -15,13 +15,13 @@ ghost use Rattle.dap_plan.specs.Plan.{messages_due};
 ghost use Rattle.dap_plan.specs.SessionState.{Carries, IsRefusedFor, IsUnasked};
 ghost use Rattle.dap_plan.specs.Changing.{AreLines, CanChange, IsChange, IsChangeBody, IsMeasured, IsToFail, Changes, lines_given};
 
-use dap_plan::AdapterFault;
 use crate::session::Session;
-use dap_debuggee::Debuggee;
 use dap_body::{Body, Breakpoint, Failure};
 use dap_call::{Call, SetVariable};
 use dap_command::SourceKey;
+use dap_debuggee::Debuggee;
 use dap_outbox::{Answer, Outbox};
+use dap_plan::AdapterFault;
 use dap_query::NoAnswer;
 use dap_tables::{BpFault, Entry};
 use std::alloc::{AllocError, Global};

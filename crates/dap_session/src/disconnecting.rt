@@ -10,12 +10,12 @@ ghost use Rattle.dap_tables.specs.References.{without_references};
 ghost use Rattle.dap_plan.specs.SessionState.{Carries, IsRefusedFor};
 ghost use Rattle.dap_outbox.specs.Outbox.{Holds, IsReady};
 
-use dap_plan::AdapterFault;
 use crate::session::Session;
+use dap_body::Failure;
 use dap_debuggee::Debuggee;
 use dap_decision::Phase;
-use dap_body::Failure;
 use dap_outbox::{Answer, Chosen, Outbox, answer_chosen};
+use dap_plan::AdapterFault;
 use dap_tables::Entry;
 use std::alloc::{AllocError, Global};
 

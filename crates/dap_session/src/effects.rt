@@ -13,11 +13,11 @@ ghost use Rattle.dap_outbox.specs.Draft.{reply, emit};
 ghost use Rattle.dap_outbox.specs.Outbox.{Holds, answer_of, event_of, shape_of, IsReady};
 
 use crate::session::Session;
-use dap_debuggee::{Debuggee, How};
-use dap_decision::Phase;
 use dap_body::Failure;
 use dap_call::Call;
 use dap_command::Capabilities;
+use dap_debuggee::{Debuggee, How};
+use dap_decision::Phase;
 use dap_outbox::{Answer, Event, Fixed, Outbox};
 use dap_query::Options;
 use dap_tables::Entry;

@@ -8,13 +8,13 @@ ghost use Rattle.dap_plan.specs.Handling.{plan, plan_for};
 ghost use Rattle.dap_plan.specs.Plan.{messages_due};
 ghost use Rattle.dap_plan.specs.Changing.{IsSuitable, Suits};
 
-use dap_plan::AdapterFault;
 use crate::session::{Session, give_back};
-use dap_debuggee::Debuggee;
-use dap_decision::{Decision, Effect, decide, thread_of};
 use dap_body::Failure;
 use dap_call::Call;
+use dap_debuggee::Debuggee;
+use dap_decision::{Decision, Effect, decide, thread_of};
 use dap_outbox::{Answer, Outbox};
+use dap_plan::AdapterFault;
 use dap_tables::Entry;
 use std::alloc::{AllocError, Global};
 

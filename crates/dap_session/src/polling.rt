@@ -10,11 +10,11 @@ ghost use Rattle.dap_debuggee.specs.Shown.{to_poll};
 ghost use Rattle.dap_plan.specs.Plan.{asking};
 ghost use Rattle.dap_outbox.specs.Outbox.{Holds, event_of, IsReady};
 
-use dap_plan::AdapterFault;
 use crate::session::{Session, give_back};
 use dap_debuggee::{Debuggee, Happening};
 use dap_decision::Phase;
 use dap_outbox::{Event, Outbox};
+use dap_plan::AdapterFault;
 use std::alloc::{AllocError, Global};
 
 /// Whether there is a debuggee to ask.

@@ -15,9 +15,9 @@ ghost use Rattle.dap_outbox.specs.Outbox.{Holds, IsReady};
 ghost use Rattle.dap_session.specs.PrivateQuerying.{IsOutboxOf, MakesFailure, OnlyGives};
 
 use crate::session::Session;
-use dap_debuggee::Debuggee;
 use dap_body::{Body, Failure};
 use dap_call::Call;
+use dap_debuggee::Debuggee;
 use dap_outbox::{Answer, Outbox};
 use dap_query::NoAnswer;
 use dap_tables::{Entry, Mark};

@@ -10,11 +10,11 @@ ghost use Rattle.dap_outbox.specs.Several.{answer_by};
 ghost use Rattle.dap_outbox.specs.Outbox.{Holds, IsReady};
 
 use crate::effects::start_phase;
-use dap_plan::AdapterFault;
 use crate::session::Session;
-use dap_debuggee::Debuggee;
 use dap_body::Failure;
+use dap_debuggee::Debuggee;
 use dap_outbox::{Answer, Chosen, Outbox, answer_chosen};
+use dap_plan::AdapterFault;
 use dap_tables::Entry;
 use std::alloc::{AllocError, Global};
 

@@ -13,16 +13,16 @@ ghost use Rattle.dap_decision.specs.Table.{is_phase};
 ghost use Rattle.dap_decision.specs.declared.phase.Phase.TheVariants.{Ended};
 ghost use Rattle.dap_plan.specs.Taking.{after_answering_at_once, after_keeping, after_cancel_request, after_cancel, id_in, is_cancel, may_take_memory, takes, takes_request};
 
-use dap_plan::AdapterFault;
 use crate::session::{Session, give_back};
-use dap_debuggee::Debuggee;
-use dap_decision::{Phase, call_in};
 use dap_body::Failure;
 use dap_call::{Call, CallFault};
 use dap_command::Command;
+use dap_debuggee::Debuggee;
+use dap_decision::{Phase, call_in};
 use dap_envelope::{Kind, Message};
 use dap_json::{Text, Tree};
 use dap_outbox::{Answer, Outbox};
+use dap_plan::AdapterFault;
 use dap_tables::Entry;
 use std::alloc::{AllocError, Global};
 

@@ -10,9 +10,8 @@ ghost use Rattle.dap_shape.specs.PrivateSound.{AreFew, AreKept, object_fault, Is
 use crate::rows::fields;
 use crate::shape::{Field, Kind, Shape, TypeName};
 use crate::sound::{SeenRows, column, lacks, member, row_of};
-use dap_command::{FRAMES, HOLDERS};
+use dap_command::{FRAMES, GatheredReferences, HOLDERS};
 use dap_json::object_reader::{Invalid, MAX_DEPTH, Range, keep, whole};
-use dap_command::GatheredReferences;
 use json::{Reader, Token};
 
 /// How deep what stands in a body may nest.

@@ -22,9 +22,9 @@ use crate::entries::{events, requests, responses};
 use crate::message::field_named;
 use crate::shape::{Entry, Field, Kind, Shape};
 use crate::sound::{is_null, value};
-use dap_json::object_reader::{Invalid, MAX_DEPTH, MemberValue, ObjectReader, Scratch};
 use dap_command::GatheredReferences;
 use dap_envelope::{Heading, HeadingKind, Noted, heading_of, none_noted, note_member};
+use dap_json::object_reader::{Invalid, MAX_DEPTH, MemberValue, ObjectReader, Scratch};
 use memchr::{memchr, memmem};
 use std::str::from_utf8;
 

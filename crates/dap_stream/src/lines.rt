@@ -9,7 +9,9 @@ ghost use Rattle.dap_stream.specs.Listing.{IsLineOf};
 ghost use Rattle.dap_stream.specs.PrivateShowSteps.{kind_words, is_failure, IsUnread, IsStopped};
 
 use crate::bodies::{push_unbroken, test_message};
-use dap_envelope::{BodyFault, BodyRefusal, Heading, HeadingKind, Kind, Message, read_heading, read_message};
+use dap_envelope::{
+    BodyFault, BodyRefusal, Heading, HeadingKind, Kind, Message, read_heading, read_message,
+};
 use dap_json::object_reader::Scratch;
 use itoa::Buffer;
 use std::alloc::{AllocError, Global};

@@ -7,8 +7,8 @@ ghost use Rattle.dap_stream.specs.Listing.{IsLineOf, Shows, ShowsAll};
 ghost use Rattle.dap_stream.specs.PrivateShowSteps.{Extends, IsStopped, ListedBefore, ListedTo};
 
 use crate::lines::{Form, Style, make_line_in};
-use dap_frame::{End, FrameFault, Frames, Limits};
 use dap_envelope::{BodyFault, BodyRefusal};
+use dap_frame::{End, FrameFault, Frames, Limits};
 use dap_json::object_reader::Scratch;
 use std::alloc::{AllocError, Global};
 use thiserror::Error;

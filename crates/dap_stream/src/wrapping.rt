@@ -8,9 +8,9 @@ ghost use Rattle.dap_stream.specs.Wrapping.{IsBody, AreBodies, frames_of_bodies,
 
 use crate::bodies::test_message;
 use dap_check::split_line;
-use dap_frame::{Limits, write_frame};
 use dap_envelope::laws::each_body_is_one;
 use dap_envelope::{BodyFault, BodyRefusal};
+use dap_frame::{Limits, write_frame};
 use dap_json::object_reader::Scratch;
 use std::alloc::{AllocError, Global};
 use thiserror::Error;

@@ -11,10 +11,10 @@ ghost use Rattle.dap_ways.specs.ByteWorld.{IsFreshAdapter, IsFreshClient};
 ghost use Rattle.dap_ways.specs.Steps.{AdapterSteps, AdapterStepsOver, ClientSteps, ClientStepsOver, TurnSteps};
 
 use dap_adapter::{Adapter, AdapterFault, Taken, Turned};
+use dap_call::Call;
 use dap_client::{AnswerFault, Client, ClientFault, Got, SendFault, Sent, Terminal};
 use dap_debuggee::Debuggee;
 use dap_frame::Limits;
-use dap_call::Call;
 use std::alloc::{AllocError, Global};
 
 /// A client with which a schedule starts: [`Client::open`].

@@ -316,10 +316,7 @@ fn host<'a>(alloc: Global, limit_texts: &'a [String]) -> Result<Command<'a>, All
 }
 
 /// The command line of the program.
-pub fn command<'a>(
-    alloc: Global,
-    limit_texts: &'a [String],
-) -> Result<Command<'a>, AllocError> {
+pub fn command<'a>(alloc: Global, limit_texts: &'a [String]) -> Result<Command<'a>, AllocError> {
     Command::new(alloc, "dap")
         .about("Serves, lists, makes and checks streams of the Debug Adapter Protocol")
         .version("0.1.0")

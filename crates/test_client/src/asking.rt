@@ -15,8 +15,8 @@
 //! At each call all that the last one wrote has to be named, and as many requests are outstanding as were sent and not
 //! answered. A call that is refused memory changes nothing, and a piece that is closes the client too.
 
-use dap_client::{AnswerFault, Client, ClientFault, Phase, SendFault, Terminal};
 use dap_call::{Call, CallFault, read_call};
+use dap_client::{AnswerFault, Client, ClientFault, Phase, SendFault, Terminal};
 use dap_command::{Capabilities, Command};
 use serde_json::Value;
 use std::alloc::{AllocError, Global};

@@ -3,9 +3,9 @@
 
 use crate::library::initialize;
 use dap_adapter::{Adapter, Turned};
+use dap_call::Call;
 use dap_client::Client;
 use dap_frame::Limits;
-use dap_call::Call;
 use dap_replay::Recorded;
 use std::alloc::Global;
 use std::marker::Model;

@@ -2,9 +2,13 @@
 
 use crate::calls::is_written;
 use crate::outcomes::{both, judge, refused};
-use dap_command::Key;
-use dap_body::{Body, Breakpoint, Failure, Scope, Source, StackFrame, Thread, Variable, body_continue, body_evaluate, body_failure, body_loaded_sources, body_output, body_scopes, body_set_breakpoints, body_set_variable, body_source, body_stack_trace, body_stopped, body_terminal, body_threads, body_variables};
-use dap_command::Capabilities;
+use dap_body::{
+    Body, Breakpoint, Failure, Scope, Source, StackFrame, Thread, Variable, body_continue,
+    body_evaluate, body_failure, body_loaded_sources, body_output, body_scopes,
+    body_set_breakpoints, body_set_variable, body_source, body_stack_trace, body_stopped,
+    body_terminal, body_threads, body_variables,
+};
+use dap_command::{Capabilities, Key};
 use dap_envelope::{BodyFault, Message, read_message, write_message};
 use dap_json::Text;
 use dap_message::append_answer;

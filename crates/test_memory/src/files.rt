@@ -3,8 +3,8 @@
 use crate::outcomes::{both, judge, refused};
 use dap_adapter::{AdapterFault, ServeFault};
 use dap_channel::Input;
-use dap_frame::{Fed, Frames, Limits, write_frame};
 use dap_envelope::BodyRefusal;
+use dap_frame::{Fed, Frames, Limits, write_frame};
 use dap_tool::{
     FileFault, Form, ShowFault, Style, ToolFault, WrapFault, fault_line, list, read_whole, show,
     wrap,

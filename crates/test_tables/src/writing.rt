@@ -1,7 +1,10 @@
 //! For every command what its arguments are written as again, and which calls are not plain.
 
 use crate::checks::check;
-use dap_call::{BreakpointLocations, Call, CallFault, Completions, Evaluate, Modules, SetVariable, StackTrace, Variables, read_call, write_call};
+use dap_call::{
+    BreakpointLocations, Call, CallFault, Completions, Evaluate, Modules, SetVariable, StackTrace,
+    Variables, read_call, write_call,
+};
 use dap_command::{Command, SourceKey};
 use dap_json::{List, Text, Tree};
 use serde_json::Value;

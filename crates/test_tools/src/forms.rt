@@ -2,8 +2,8 @@
 
 use crate::serving::frames_of;
 use crate::told::expect_none;
-use dap_frame::{End, Limits};
 use dap_envelope::BodyRefusal;
+use dap_frame::{End, Limits};
 use dap_tool::{Form, ShowFault, Shown, Style, list, unwrap, wrap};
 use std::alloc::Global;
 use std::test::Fail;

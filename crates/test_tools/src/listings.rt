@@ -2,8 +2,8 @@
 
 use crate::serving::{frames_of, with_bytes_between};
 use crate::told::{expect_none, is_told};
-use dap_frame::{End, FrameFault, Limits, Refusal};
 use dap_envelope::{BodyRefusal, read_heading, read_message};
+use dap_frame::{End, FrameFault, Limits, Refusal};
 use dap_json::object_reader::Scratch;
 use dap_tool::{ShowFault, ToolFault, show};
 use std::alloc::Global;

@@ -5,8 +5,8 @@ use crate::serving::{
 };
 use crate::told::{expect_none, is_told};
 use dap_adapter::{AdapterFault, ServeFault};
-use dap_frame::{FrameFault, Limits, Refusal, write_frame};
 use dap_envelope::BodyRefusal;
+use dap_frame::{FrameFault, Limits, Refusal, write_frame};
 use dap_tool::ToolFault;
 use std::alloc::Global;
 use std::test::Fail;

@@ -1,8 +1,8 @@
 //! The greatest sizes, with ample memory: nothing is refused.
 
+use dap_command::SourceKey;
 use dap_debuggee::Debuggee;
 use dap_frame::{End, Limits, write_frame};
-use dap_command::SourceKey;
 use dap_json::Text;
 use dap_replay::Recorded;
 use dap_tool::show;

@@ -1,8 +1,8 @@
 //! Faults of tools: the status and the line of each, and what a person reads.
 
 use dap_adapter::{AdapterFault, ServeFault};
-use dap_frame::{FrameFault, Refusal};
 use dap_envelope::BodyRefusal;
+use dap_frame::{FrameFault, Refusal};
 use dap_recording::RecordingFault;
 use dap_replay::Recorded;
 use dap_tool::{

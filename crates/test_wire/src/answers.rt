@@ -2,9 +2,9 @@
 
 use crate::checks::check;
 use crate::lists::{breakpoints, frames, scopes, threads, variables};
-use dap_json::Text;
 use dap_body::Body;
 use dap_command::Capabilities;
+use dap_json::Text;
 use dap_message::{append_answer, append_request};
 use std::alloc::{AllocError, Global};
 

@@ -2,9 +2,9 @@
 
 use crate::checks::check;
 use crate::messages::{is_written, nested};
+use dap_envelope::{BodyFault, BodyRefusal, read_message_with};
 use dap_json::object_reader::{MemberValue, ObjectReader, Scratch};
 use dap_json::{Tree, write};
-use dap_envelope::{BodyFault, BodyRefusal, read_message_with};
 use std::alloc::Global;
 
 /// Whether a body is read as a plain message that is written so.

@@ -2,8 +2,8 @@
 
 use crate::checks::check;
 use crate::frames::limits;
-use dap_frame::{End, FrameFault, Refusal};
 use dap_envelope::BodyRefusal;
+use dap_frame::{End, FrameFault, Refusal};
 use dap_reader::{MessageReader, ReadFault};
 use std::alloc::Global;
 
