@@ -17,6 +17,6 @@ mod starting;
 mod taking;
 
 pub use dap_decision::Phase;
-pub use dap_plan::AdapterFault;
+pub use dap_plan::{AdapterFault, laws};
 pub use dap_query::Options;
 pub use session::Session;
