@@ -55,7 +55,7 @@ impl<D: Debuggee + Drop> Session<D> {
     }
 
     /// Does what the table says.
-    #[tactic(auto, using(crate::proofs::TakingRequests::at_once_carries), unfolding(crate::specs::Handling::plan_for))]
+    #[tactic(auto, using(crate::proofs::TakingRequests::at_once_carries), unfolding(dap_plan::specs::Handling::plan_for))]
     fn serve(
         &mut self,
         alloc: Global,

@@ -69,7 +69,7 @@ impl<D: Debuggee + Drop> Session<D> {
     }
 
     /// Tells what happened.
-    #[tactic(auto, unfolding(crate::specs::Polling::after_happening))]
+    #[tactic(auto, unfolding(dap_plan::specs::Polling::after_happening))]
     fn see(
         &mut self,
         alloc: Global,
