@@ -1,9 +1,9 @@
 -- Worked examples of single arguments, each shown by computation.
-use Rattle.std.proofs.Common.{◌≡◌, codes, true, false, Float, Some, None, Ok, Err, pos, negsuc, refl}
-use Rattle.serde_json.specs.Data.{Data, boolean, null, number, unsigned, negative, float, string, array, object, no_items, no_members, put}
+use Rattle.std.proofs.Common.{◌≡◌, codes, true, false, Some, None, Ok, Err, refl}
+use Rattle.serde_json.specs.Data.{Data, boolean, null, number, unsigned, string, array, object, no_items, no_members, put}
 use Rattle.serde_json.specs.Find.{as_str, as_bool}
 use Rattle.dap_call.specs.Argument.{value_at, required_at, optional_at, optional_or, may_be_absent, must_be_there}
-use Rattle.dap_command.specs.Numbers.{int_of, number_of, seq_of}
+use Rattle.dap_command.specs.Numbers.{number_of}
 use Rattle.dap_command.specs.declared.key.Key.TheVariants as key
 
 -- ---- keys

@@ -22,7 +22,6 @@ use Rattle.dap_live.specs.declared.mail.Coming.TheVariants as kind
 use Rattle.dap_live.specs.declared.mail.Dropped.{Dropped as Drop}
 use Rattle.dap_live.specs.declared.mail.Dropped.TheVariants.{OutOfTurn, TooManySources}
 use Rattle.dap_live.specs.declared.mail.HostAct.{HostAct}
-use Rattle.dap_envelope.specs.Meaning.{Msg}
 use Rattle.dap_envelope.specs.Refusals.{Bad}
 use Rattle.dap_envelope.specs.declared.message.Message.{Message}
 use Rattle.dap_recording.specs.declared.recording.RecordedSource.{RecordedSource}

@@ -1,21 +1,15 @@
 -- Worked examples, each shown by computation.
-use Rattle.std.proofs.Common.{◌≡◌, ℕ, List, length, replicate, nat_le, codes, true, false, Some, None, pos, negsuc, refl, sym, true≢false, arith}
+use Rattle.std.proofs.Common.{◌≡◌, length, replicate, codes, true, false, Some, None, pos, negsuc, refl, sym, true≢false, arith}
 use Rattle.std.specs.Fmt.{digits}
-use Rattle.std.specs.Str.{is_utf8, chars}
 use Rattle.json.specs.Print.{escape_byte}
-use Rattle.serde_json.specs.Data.{null, boolean, object, no_members, member, put}
-use Rattle.serde_json.proofs.OnLiterals.{serde_json_on_literals}
 use Rattle.dap_json.specs.Field.{max_seq}
-use Rattle.dap_json.specs.Put.{whole_number}
-use Rattle.dap_json.specs.Read.{json_of}
 use Rattle.dap_command.specs.Capabilities.{capabilities_of, capabilities_data}
 use Rattle.dap_command.specs.declared.capabilities.Capabilities.{Capabilities}
 use Rattle.dap_command.specs.declared.key.Key.TheVariants.{SupportsRunInTerminalRequest}
 use Rattle.dap_body.specs.declared.failure.Failure.TheVariants.{NotInitialized, Unsupported, BadArguments, Cancelled}
-use Rattle.dap_envelope.specs.Canon.{tree_of, canon, request_members, response_members, event_members}
+use Rattle.dap_envelope.specs.Canon.{tree_of, canon, response_members, event_members}
 use Rattle.dap_message.specs.MessageParts.{failure_response, success_response, event_message, initialized, output, stopped, continued, exited, event_name, event_body}
 use Rattle.dap_message.specs.Lengths.{is_exit_code, IsWithin}
-use Rattle.dap_json.specs.Writable.{is_plain_tree}
 use Rattle.dap_body.specs.Failure.{failure_body}
 use Rattle.dap_body.specs.PlainBodies.{IsPlain}
 use Rattle.dap_body.specs.ResponseBody.{continue_body, set_variable_body}
