@@ -11,7 +11,7 @@ of gdb's but `post_event`: all else happens in gdb's thread, one thing after the
 
 This file knows which thing that a client, gdb or `dap host` says leads to which of the others. The rest is beside it:
 `streams.py` has bytes, `lines.py` the lines of `dap host`, `launch.py` the client's arguments, `debuggee.py` gdb's commands,
-`stops.py` frames, `values.py` values.
+`sources.py` sources, `stops.py` frames, `values.py` values.
 """
 import collections
 import json
@@ -28,7 +28,8 @@ sys.path.insert(0, os.path.dirname(os.path.abspath(__file__)))
 from debuggee import Debuggee, Watch, fault_of, line_of_point, load, select  # noqa: E402
 from launch import Launch  # noqa: E402
 from lines import Ended, Lines, output_lines, said  # noqa: E402
-from stops import Sources, Stop  # noqa: E402
+from sources import Sources  # noqa: E402
+from stops import Stop  # noqa: E402
 from streams import Fault, Terminal, bodies_of, framed  # noqa: E402
 from values import as_set, clean, part, settable, shown  # noqa: E402
 
@@ -117,7 +118,7 @@ class Adapter:
         if self.lines:
             self.lines.close()
         self.sources = Sources()
-        self.lines = Lines(self.sources.all)
+        self.lines = Lines(self.sources.news())
         self.silent = True
         self.hand_on(self.heard)
         self.silent = False
@@ -127,7 +128,7 @@ class Adapter:
         acts, targets, over = [], [], False
         for answer, told in self.lines.answers(lines):
             if answer.startswith(b"< "):
-                over = over or told.get("request_seq", 0) == self.ending
+                over = over or self.ending is not None and json.loads(answer[2:]).get("request_seq") == self.ending
                 if not self.silent:
                     self.client_out.write(framed(answer[2:-1]))
             elif "act" in told:
@@ -192,9 +193,8 @@ class Adapter:
         self.tell_output(True)
         self.say_output("console", note)
         if self.found_more:
-            self.found_more, more = False, self.sources.find()
-            if more:
-                self.say("loaded", sources=more)
+            self.found_more = False
+            self.sources.find()
         for path, line, place in self.debuggee.points_found():
             self.say_output("console", "The breakpoint at %s:%d is set, at line %s.\n" % (clean(path), line, place))
         self.tell_moment(reason)
@@ -202,6 +202,9 @@ class Adapter:
 
     def tell_moment(self, reason):
         self.running, self.reason, self.here = False, reason, Stop(self.sources)
+        news = self.sources.news()
+        if news:
+            self.say("loaded", sources=news)
         self.say("stopped", reason=reason, thread=self.here.thread_of_moment, moment=self.here.moment, later=True)
 
     def tell_change(self):
@@ -239,13 +242,19 @@ class Adapter:
         elif kind == "pause":
             self.say_output("console", fault_of("interrupt"))
         elif kind == "setBreakpoints":
-            source = act["source"]
-            path = source["path"] if "path" in source else self.sources.all[source["sourceReference"] - 1].get("path")
-            self.debuggee.set_points(path, sorted(set(act["lines"])) if path else [])
+            self.set_breakpoints(act["source"], sorted(set(act["lines"])))
         elif kind == "setVariable":
             self.set_variable(*self.setting)
         elif kind == "end":
             self.end_program()
+
+    def set_breakpoints(self, source, lines):
+        place = source.get("sourceReference", 0) - 1
+        path = source.get("path", self.sources.all[place].get("path"))
+        if path:
+            self.debuggee.set_points(path, lines)
+        else:
+            self.debuggee.set_points_at(place, filter(None, (self.sources.spot(place, line) for line in lines)))
 
     def start(self, launch):
         self.started, self.running = True, True
@@ -367,8 +376,8 @@ class Adapter:
         """Asks for breakpoints where gdb puts them, or, where it has no code for one, past the end of the source."""
         lines = self.sources.lines(path)
         for point in points if lines else ():
-            place = line_of_point(path, point["line"] + 1 - self.first_line) or lines + 1
-            point["line"] = place - 1 + self.first_line
+            line = point["line"] + 1 - self.first_line
+            point["line"] = (line_of_point(path, line) or max(line, lines + 1)) - 1 + self.first_line
         return bool(points and lines)
 
     def tell_holder(self, holder):
@@ -376,6 +385,7 @@ class Adapter:
         if not self.here.is_told(holder):
             with self.debuggee.looking(self.here.frame_of(holder)):
                 variables = self.here.variables(holder)
+            self.tell_fault("")
             self.say("learned", holder=holder, variables=variables)
 
     def learn_value(self, text, frame, tells):

@@ -110,7 +110,7 @@ class Watch:
 class Debuggee:
     def __init__(self, watch):
         self.watch, self.attached = watch, False
-        self.points = {}  # of each source its breakpoints
+        self.points = {}  # of each path, or place of code, its breakpoints
         self.waiting = {}  # of each breakpoint whose code was not loaded yet, its source and line
 
     @property
@@ -155,11 +155,18 @@ class Debuggee:
 
     def set_points(self, path, lines):
         """These lines replace all others of a source."""
-        for point in self.points.pop(path, []):
+        self.replace(path, [point_at(source=path, line=line) for line in lines])
+        self.waiting.update((point, (path, line)) for point, line in zip(self.points[path], lines) if point.pending)
+
+    def set_points_at(self, place, spots):
+        """These spots, in gdb's words, replace all others of a place."""
+        self.replace(place, [point_at(spec=spot) for spot in spots])
+
+    def replace(self, key, points):
+        for point in self.points.pop(key, []):
             self.waiting.pop(point, None)
             point.delete()
-        self.points[path] = [point_at(path, line) for line in lines]
-        self.waiting.update((point, (path, line)) for point, line in zip(self.points[path], lines) if point.pending)
+        self.points[key] = points
 
     def points_found(self):
         """The breakpoints that waited for their code, which is loaded now: of each its source, its line, and where it is."""
@@ -197,9 +204,9 @@ def quiet():
         os.close(kept)
 
 
-def point_at(path, line, internal=False):
+def point_at(**where):
     with quiet():
-        return gdb.Breakpoint(source=path, line=line, internal=internal)
+        return gdb.Breakpoint(**where)
 
 
 def place_of(point):
@@ -210,7 +217,7 @@ def place_of(point):
 def line_of_point(path, line):
     """Where gdb puts a breakpoint that is set there."""
     try:
-        point = point_at(path, line, True)
+        point = point_at(source=path, line=line, internal=True)
     except gdb.error:
         return None
     place = place_of(point)

@@ -30,7 +30,7 @@ class Lines:
         self.dap.stdin.close()
 
     def answers(self, lines):
-        """What `dap host` says to these lines: of each line its bytes, and what they say.
+        """What `dap host` says to these lines: of each line its bytes, and what they say if it is no message.
 
         An empty object is always refused, so that is where the answer ends."""
         self.count += len(lines) + 1
@@ -40,7 +40,7 @@ class Lines:
             self.dap.stdin.flush()
             while True:
                 answer = self.dap.stdout.readline()
-                told = json.loads(answer[2:])
+                told = {} if answer.startswith(b"< ") else json.loads(answer[2:])
                 if told.get("refused") == self.count:
                     return found
                 found.append((answer, told))

@@ -15,6 +15,7 @@ int main(int argc, char **argv) {
     int (*twice)(int) = (int (*)(int)) dlsym(dlopen(argv[1], RTLD_NOW), "twice");
     const char *word = getenv("WORD");
     printf("%s %d\n", word ? word : "none", twice(21));
+    signal(SIGUSR1, SIG_IGN);
     raise(SIGUSR1);
     return 0;
 }

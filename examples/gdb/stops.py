@@ -1,4 +1,4 @@
-"""Where the program stands, as a moment of docs/RECORDINGS.md: sources, threads, frames, scopes, and what their holders hold.
+"""Where the program stands, as a moment of docs/RECORDINGS.md: threads, frames, scopes, and what their holders hold.
 
 It knows gdb's frames and symbols, and the moment that `dap host` wants. It knows nothing of the client, and changes nothing.
 """
@@ -10,49 +10,6 @@ from values import all_parts, clean, has_parts, part, rest_of, shown
 
 MOST_FRAMES = 200  # of a thread
 OURS = 1000000  # holders from here on are ours; those of a moment are counted from 0
-
-
-def paths_in(listed):
-    """The files that `info sources` lists, also those with a comma in their path."""
-    for line in listed.splitlines():
-        path = ""
-        for piece in line.split(", "):
-            path = piece if piece.startswith("/") or not path else path + ", " + piece
-            if path.startswith("/") and os.path.isfile(path):
-                yield path
-                path = ""
-
-
-class Sources:
-    """The sources that gdb knows of. The first is for frames that are in none of them.
-
-    Each has as many empty lines as its file has lines: an editor reads the file itself."""
-
-    def __init__(self):
-        self.all, self.places = [{"name": "(no source)", "text": "\n"}], {}
-        self.find()
-
-    def find(self):
-        """Those that gdb has found since: they come behind the others."""
-        before = len(self.all)
-        try:
-            listed = gdb.execute("info sources", to_string=True)
-        except gdb.error:  # there is no debug information
-            listed = ""
-        for path in sorted(set(paths_in(listed)) - set(self.places)):
-            self.places[path] = len(self.all)
-            with open(path, "rb") as file:
-                text = "\n" * sum(1 for _ in file)
-            self.all.append({"name": clean(os.path.basename(path)), "path": clean(path), "text": text, "onDisk": True})
-        return self.all[before:]
-
-    def lines(self, path):
-        """How many lines the source has, and none where there is no such source."""
-        return len(self.all[self.places[path]]["text"]) if path in self.places else 0
-
-    def place(self, path, line):
-        """The place of the source and the line in it, where there is such a line."""
-        return (self.places[path], line) if 1 <= line <= self.lines(path) else (0, 1)
 
 
 def name_of(frame, has_source):
@@ -93,10 +50,9 @@ class Stop:
         return {"id": thread.num, "name": clean(thread.name or "thread"), "frames": frames}
 
     def frame(self, frame, thread, level):
-        sal = frame.find_sal()
-        place, line = self.sources.place(sal.symtab and sal.symtab.fullname(), sal.line)
+        place, line = self.sources.place_of(frame)
         self.frames.append((thread, level))
-        return {"name": name_of(frame, place > 0), "source": place, "line": line, "scopes": self.scopes_of(frame)}
+        return {"name": name_of(frame, self.sources.is_file(place)), "source": place, "line": line, "scopes": self.scopes_of(frame)}
 
     def scopes_of(self, frame):
         try:
