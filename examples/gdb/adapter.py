@@ -31,7 +31,7 @@ from lines import Ended, Lines, output_lines, said  # noqa: E402
 from sources import Sources  # noqa: E402
 from stops import Stop  # noqa: E402
 from streams import Fault, Terminal, bodies_of, framed  # noqa: E402
-from values import as_set, clean, part, settable, shown  # noqa: E402
+from values import FAULTS, as_set, clean, part, settable, shown  # noqa: E402
 
 COMMANDS = {"stepIn": "step", "next": "next", "stepOut": "finish", "continue": "continue",
             "stepBack": "reverse-step", "reverseContinue": "reverse-continue"}
@@ -78,7 +78,7 @@ class Adapter:
             self.end(ended.args[0] or 3)
         except OSError as fault:
             self.fail("the client hung up: %s" % fault)
-        except Exception:  # better an end than a client that waits for ever
+        except FAULTS:  # better an end than a client that waits for ever
             traceback.print_exc()
             self.end(1)
         self.busy = False
@@ -209,6 +209,8 @@ class Adapter:
 
     def tell_change(self):
         """Stops once more where something that was told has changed: there is no other way to tell it again."""
+        if not self.debuggee.pid:  # the evaluation has ended the program
+            return
         thread = self.here.thread_of_moment
         with self.debuggee.looking((thread, 0)):
             changed = self.here.has_changed(select)
@@ -218,11 +220,10 @@ class Adapter:
             self.tell_moment(self.reason)
 
     def tell_exit(self, code):
-        if self.running:
+        if self.running or self.here:
             self.tell_output(True)
-            self.running, self.watch.standing = False, None
+            self.running, self.here, self.watch.standing = False, None, None
             self.say("exited", code=code)
-            self.here = None
 
     def tell_death(self):
         """The program is dead, and gdb, for which it stands, hears of it once it goes on."""

@@ -61,6 +61,12 @@ def is_dead(pid):
         return True
 
 
+def interrupt_python(*fault):
+    """Raises a fault in gdb's own Python, wherever that is; without one, takes back a fault that was not raised yet."""
+    thread = ctypes.c_ulong(threading.main_thread().ident)
+    ctypes.pythonapi.PyThreadState_SetAsyncExc(thread, *(map(ctypes.py_object, fault) if fault else [None]))
+
+
 class Watch:
     """A thread that looks after the program while gdb's thread can't. It calls nothing of gdb's."""
 
@@ -79,6 +85,7 @@ class Watch:
             yield
         finally:
             self.called = None
+            interrupt_python()
 
     def interrupt(self, reason):
         """Interrupts what gdb evaluates, if it does."""
@@ -99,8 +106,7 @@ class Watch:
         """Stops the function that was called, or gdb's own Python. One that blocks SIGINT gets SIGSTOP a second later."""
         self.reason = self.reason or "it took more than %g second%s" % (self.seconds, "s" * (self.seconds != 1))
         if state_of(process, thread) in "tZX":
-            thread_of_gdb = ctypes.c_ulong(threading.main_thread().ident)
-            ctypes.pythonapi.PyThreadState_SetAsyncExc(thread_of_gdb, ctypes.py_object(KeyboardInterrupt))
+            interrupt_python(KeyboardInterrupt)
         else:
             LIBC.tgkill(process, thread, self.number)
             self.number = signal.SIGSTOP
