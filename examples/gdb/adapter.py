@@ -31,7 +31,8 @@ from lines import Ended, Lines, output_lines, said  # noqa: E402
 from sources import Sources  # noqa: E402
 from stops import Stop  # noqa: E402
 from streams import Fault, Terminal, bodies_of, framed  # noqa: E402
-from values import FAULTS, as_set, clean, part, settable, shown  # noqa: E402
+from texts import clean  # noqa: E402
+from values import FAULTS, as_set, part, settable, shown  # noqa: E402
 
 COMMANDS = {"stepIn": "step", "next": "next", "stepOut": "finish", "continue": "continue",
             "stepBack": "reverse-step", "reverseContinue": "reverse-continue"}

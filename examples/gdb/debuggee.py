@@ -13,7 +13,7 @@ import time
 
 import gdb
 
-from values import clean
+from texts import clean
 
 TICK = 0.1  # seconds
 NOWHERE = os.open(os.devnull, os.O_WRONLY | os.O_CLOEXEC)

@@ -5,7 +5,7 @@ It knows what a client writes, and no gdb.
 import os
 import shlex
 
-from values import clean
+from texts import clean
 
 KNOWN = {"program", "args", "cwd", "env", "stopOnEntry", "stopAtEntry", "console", "pid"}
 # What editors write for themselves, and hand on all the same; also each name that begins with two underscores.

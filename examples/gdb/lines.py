@@ -7,6 +7,8 @@ import os
 import subprocess
 import tempfile
 
+from texts import pieces_of
+
 MOST_OUTPUT = 128  # bytes of a piece of output, as `dap host` has it
 MOST_AT_ONCE = 16384  # bytes of lines that are written before their answers are read, so that neither pipe is ever full
 HERE = os.path.dirname(os.path.abspath(__file__))
@@ -51,17 +53,6 @@ class Lines:
 def said(happened, **more):
     """The line that says what the debugger did."""
     return b"! " + json.dumps({"happened": happened, **more}).encode()
-
-
-def pieces_of(text, most):
-    """The text in pieces of at most so many bytes, none with a character in part."""
-    data, begin = text.encode(), 0
-    while begin < len(data):
-        end = begin + most
-        while end < len(data) and data[end] & 0xC0 == 0x80:
-            end -= 1
-        yield data[begin:end].decode()
-        begin = end
 
 
 def output_lines(category, text):

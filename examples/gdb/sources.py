@@ -7,7 +7,7 @@ import re
 
 import gdb
 
-from values import clean
+from texts import clean
 
 MOST_SOURCES = 65000  # `dap host` takes 65536
 MOST_CODE = 5000  # instructions of a function

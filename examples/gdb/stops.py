@@ -6,7 +6,8 @@ import os
 
 import gdb
 
-from values import all_parts, clean, has_parts, part, rest_of, shown
+from texts import clean
+from values import all_parts, has_parts, part, rest_of, shown
 
 MOST_FRAMES = 200  # of a thread
 OURS = 1000000  # holders from here on are ours; those of a moment are counted from 0

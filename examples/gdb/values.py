@@ -7,6 +7,8 @@ import itertools
 
 import gdb
 
+from texts import clean
+
 MOST_PARTS = 1000  # of what is unfolded at once: what has more comes in windows
 MOST_SHOWN = 100  # elements in the text of a value
 MOST_TEXT = 500  # characters of a value
@@ -20,11 +22,6 @@ FAULTS = Exception, KeyboardInterrupt
 # Of a part: its name, the expression that gives it where there is one, its value, or a text in place of one, and a call that
 # gives its own parts.
 Part = collections.namedtuple("Part", "name expression value parts")
-
-
-def clean(text):
-    """The text without what is no UTF-8."""
-    return str(text).encode(errors="replace").decode()
 
 
 def object_of(value):
