@@ -25,7 +25,7 @@ import gdb
 
 sys.path.insert(0, os.path.dirname(os.path.abspath(__file__)))
 
-from debuggee import Debuggee, Watch, fault_of, line_of_point, load, select  # noqa: E402
+from debuggee import Debuggee, Watch, fault_of, line_of_point, load, resume, select  # noqa: E402
 from launch import Launch  # noqa: E402
 from lines import Ended, Lines, output_lines, said  # noqa: E402
 from sources import Sources  # noqa: E402
@@ -288,13 +288,12 @@ class Adapter:
             self.say_output("stderr", fault_of("continue&"))
 
     def resume(self, command, thread):
-        select(thread, 0)
         self.running, self.watch.standing = True, None
-        if command == "finish" and not gdb.selected_frame().older():
-            command = "continue"
-        fault = fault_of(command + "&")
-        if fault:
+        fault = resume(command, thread)
+        if fault and self.debuggee.pid:
             self.tell_stop("step", fault)
+        elif fault:
+            self.tell_exit(NOT_STARTED)
 
     def set_variable(self, holder, place, expression, text, value):
         with self.debuggee.looking(self.here.frame_of(holder)):

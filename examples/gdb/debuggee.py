@@ -44,6 +44,17 @@ def select(thread, level):
     gdb.execute("frame %d" % level, to_string=True)
 
 
+def resume(command, thread):
+    """Why a thread can't go on so, if so. One that has no caller goes on to its end."""
+    try:
+        select(thread, 0)
+        if command == "finish" and not gdb.selected_frame().older():
+            command = "continue"
+    except gdb.error as fault:
+        return clean(fault) + "\n"
+    return fault_of(command + "&")
+
+
 def state_of(pid, task):
     """The letter of proc(5) for a thread; X where it is gone."""
     try:

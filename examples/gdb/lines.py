@@ -30,6 +30,7 @@ class Lines:
 
     def close(self):
         self.dap.stdin.close()
+        self.dap.wait()
 
     def answers(self, lines):
         """What `dap host` says to these lines: of each line its bytes, and what they say if it is no message.
