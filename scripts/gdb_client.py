@@ -1,5 +1,4 @@
 """A client of the adapter of examples/gdb, and what the scripts that try it share. It knows no program that is debugged."""
-import json
 import os
 import shutil
 import subprocess

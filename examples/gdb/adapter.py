@@ -106,7 +106,7 @@ class Adapter:
         self.end(3)
 
     def hear_end(self):
-        """Waits for a signal that ends gdb. A program that was not attached to ends with it, by the system, where gdb is stuck."""
+        """Waits for a signal that ends gdb. Where gdb is stuck, the system ends a program that it has started."""
         number = signal.sigwait(ENDING)
         self.watch.interrupt("gdb received %s" % signal.Signals(number).name)
         threading.Timer(5, os._exit, [128 + number]).start()
@@ -121,11 +121,14 @@ class Adapter:
         self.sources = Sources()
         self.lines = Lines(self.sources.news())
         self.silent = True
-        self.hand_on(self.heard)
+        for line in self.heard:
+            self.hand_on([line])
         self.silent = False
 
     def hand_on(self, lines):
-        """Hands lines to `dap host`, writes what it answers to the client, and does what has to be done: the targets asked for."""
+        """Hands lines to `dap host`, writes what it answers to the client, and does what has to be done.
+
+        What is given is the targets that were asked for."""
         acts, targets, over = [], [], False
         for answer, told in self.lines.answers(lines):
             if answer.startswith(b"< "):
@@ -148,7 +151,7 @@ class Adapter:
     def refuse(self, why, line):
         if line.startswith(b"> ") and why != "Ended":
             self.fail("the client sent what is no message: %s" % why)
-        if why in ("TooManySources", "TooManyHolders", "TooLong", "OutOfRange"):
+        if why in ("TooManySources", "TooManyHolders", "OutOfRange"):
             self.say_output("console", "dap host: %s\n" % why)
 
     def say(self, happened, **more):

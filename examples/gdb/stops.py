@@ -53,7 +53,8 @@ class Stop:
     def frame(self, frame, thread, level):
         place, line = self.sources.place_of(frame)
         self.frames.append((thread, level))
-        return {"name": name_of(frame, self.sources.is_file(place)), "source": place, "line": line, "scopes": self.scopes_of(frame)}
+        name = name_of(frame, self.sources.is_file(place))
+        return {"name": name, "source": place, "line": line, "scopes": self.scopes_of(frame)}
 
     def scopes_of(self, frame):
         try:
