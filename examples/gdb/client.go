@@ -166,6 +166,8 @@ func (c *client) session(program, source string) {
 	change := dap.SetVariableArguments{VariablesReference: corners["[0]"].VariablesReference, Name: "x", Value: "7 + shape.first->x"}
 	changed := ask[*dap.SetVariableResponse](c, "setVariable", &dap.SetVariableRequest{Arguments: change}).Body.Value
 	expect("set a part", "10", changed)
+	stop, _ = until[*dap.StoppedEvent](c)
+	expect("what has the part is told again", "breakpoint", stop.Body.Reason)
 
 	ask[*dap.NextResponse](c, "next", &dap.NextRequest{Arguments: dap.NextArguments{ThreadId: thread}})
 	stop, _ = until[*dap.StoppedEvent](c)

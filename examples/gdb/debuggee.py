@@ -1,0 +1,242 @@
+"""The program that is debugged, by gdb's commands: how it is started, stopped and ended, its breakpoints, what a text comes to.
+
+It knows gdb and the system's processes. It knows nothing of `dap host` or of the client.
+"""
+import contextlib
+import ctypes
+import itertools
+import os
+import re
+import signal
+import threading
+import time
+
+import gdb
+
+from texts import clean
+
+TICK = 0.1  # seconds
+NOWHERE = os.open(os.devnull, os.O_WRONLY | os.O_CLOEXEC)
+LIBC = ctypes.CDLL(None)
+
+
+def quoted(path):
+    """A path as one word of a command of gdb."""
+    return re.sub(r"([^\w/.-])", r"\\\1", path)
+
+
+def fault_of(command):
+    """Why gdb does not do a command, in its own words; nothing where it does."""
+    try:
+        gdb.execute(command.replace("\n", " "), to_string=True)
+        return ""
+    except gdb.error as fault:
+        return clean(fault) + "\n"
+
+
+def load(path):
+    """Why gdb can't load a program, if so."""
+    return fault_of("file " + quoted(path))
+
+
+def select(thread, level):
+    gdb.execute("thread %d" % thread, to_string=True)
+    gdb.execute("frame %d" % level, to_string=True)
+
+
+def resume(command, thread):
+    """Why a thread can't go on so, if so. One that has no caller goes on to its end."""
+    try:
+        select(thread, 0)
+        if command == "finish" and not gdb.selected_frame().older():
+            command = "continue"
+    except gdb.error as fault:
+        return clean(fault) + "\n"
+    return fault_of(command + "&")
+
+
+def state_of(pid, task):
+    """The letter of proc(5) for a thread; X where it is gone."""
+    try:
+        with open("/proc/%d/task/%s/stat" % (pid, task)) as file:
+            return file.read().rpartition(") ")[2][0]
+    except OSError:
+        return "X"
+
+
+def is_dead(pid):
+    """Whether none of the threads of a process is alive."""
+    try:
+        return all(state_of(pid, task) in "ZX" for task in os.listdir("/proc/%d/task" % pid))
+    except OSError:
+        return True
+
+
+def interrupt_python(*fault):
+    """Raises a fault in gdb's own Python, wherever that is; without one, takes back a fault that was not raised yet."""
+    thread = ctypes.c_ulong(threading.main_thread().ident)
+    ctypes.pythonapi.PyThreadState_SetAsyncExc(thread, *(map(ctypes.py_object, fault) if fault else [None]))
+
+
+class Watch:
+    """A thread that looks after the program while gdb's thread can't. It calls nothing of gdb's."""
+
+    def __init__(self, seconds, tell_death):
+        self.seconds, self.tell_death = seconds, tell_death
+        self.standing = None  # the process that stands still, as far as gdb knows
+        self.called = None  # the process and the thread of it that an evaluation may let run
+        self.reason = ""  # why that was interrupted
+
+    @contextlib.contextmanager
+    def over(self, process, thread):
+        """Within it, what gdb evaluates is interrupted after some seconds."""
+        self.reason, self.deadline, self.number = "", time.monotonic() + self.seconds, signal.SIGINT
+        self.called = process, thread
+        try:
+            yield
+        finally:
+            self.called = None
+            interrupt_python()
+
+    def interrupt(self, reason):
+        """Interrupts what gdb evaluates, if it does."""
+        if self.called and not self.reason:
+            self.reason, self.deadline = reason, 0
+
+    def run(self):
+        while True:
+            time.sleep(TICK)
+            called, standing = self.called, self.standing
+            if called and time.monotonic() > self.deadline:
+                self.stop(*called)
+            elif standing and not called and is_dead(standing):
+                self.standing = None
+                self.tell_death()
+
+    def stop(self, process, thread):
+        """Stops the function that was called, or gdb's own Python. One that blocks SIGINT gets SIGSTOP a second later."""
+        self.reason = self.reason or "it took more than %g second%s" % (self.seconds, "s" * (self.seconds != 1))
+        if state_of(process, thread) in "tZX":
+            interrupt_python(KeyboardInterrupt)
+        else:
+            LIBC.tgkill(process, thread, self.number)
+            self.number = signal.SIGSTOP
+        self.deadline = time.monotonic() + 1
+
+
+class Debuggee:
+    def __init__(self, watch):
+        self.watch, self.attached = watch, False
+        self.points = {}  # of each path, or place of code, its breakpoints
+        self.waiting = {}  # of each breakpoint whose code was not loaded yet, its source and line
+
+    @property
+    def pid(self):
+        return gdb.selected_inferior().pid
+
+    # Beginning and end
+
+    def start(self, arguments, folder, environment, stops):
+        """Starts the program: why it can't be, if so."""
+        for name, value in environment.items():
+            fault_of("unset environment " + name if value is None else "set environment %s=%s" % (name, value))
+        if arguments is not None:
+            fault_of("set args " + arguments)
+        if folder is not None:
+            if not os.path.isdir(folder):
+                return "%s: No such directory.\n" % clean(folder)
+            fault_of("set cwd " + folder)
+        if not stops:
+            return fault_of("run&")
+        return fault_of("start&") and fault_of("starti&")  # it may have no `main`
+
+    def attach(self, pid):
+        self.attached = True
+        return fault_of("attach %d&" % pid)
+
+    def leave(self, kills):
+        """Ends the program, with its process group, or lets go of one that ran before."""
+        pid = self.pid
+        if not pid:
+            return
+        if self.attached and not kills:
+            fault_of("detach")
+            return
+        try:
+            own = os.getpgid(pid) == pid and not self.attached
+            (os.killpg if own else os.kill)(pid, signal.SIGKILL)
+        except OSError:  # it is gone
+            pass
+
+    # Breakpoints
+
+    def set_points(self, path, lines):
+        """These lines replace all others of a source."""
+        self.replace(path, [point_at(source=path, line=line) for line in lines])
+        self.waiting.update((point, (path, line)) for point, line in zip(self.points[path], lines) if point.pending)
+
+    def set_points_at(self, place, spots):
+        """These spots, in gdb's words, replace all others of a place."""
+        self.replace(place, [point_at(spec=spot) for spot in spots])
+
+    def replace(self, key, points):
+        for point in self.points.pop(key, []):
+            self.waiting.pop(point, None)
+            point.delete()
+        self.points[key] = points
+
+    def points_found(self):
+        """The breakpoints that waited for their code, which is loaded now: of each its source, its line, and where it is."""
+        found = [point for point in self.waiting if not point.pending]
+        return [(*self.waiting.pop(point), place_of(point)) for point in found]
+
+    def all_points(self):
+        return itertools.chain(*self.points.values())
+
+    @contextlib.contextmanager
+    def looking(self, where):
+        """Looks at a frame: a function that is called there has to come to its end, and soon."""
+        points = [point for point in self.all_points() if point.enabled]
+        for point in points:
+            point.enabled = False
+        try:
+            select(*where)
+            with self.watch.over(*gdb.selected_thread().ptid[:2]):
+                yield
+        finally:
+            for point in points:
+                point.enabled = True
+
+
+@contextlib.contextmanager
+def quiet():
+    """Within it gdb says nothing on standard error, such as that it finds no line for a breakpoint."""
+    kept = os.dup(2)
+    os.dup2(NOWHERE, 2)
+    try:
+        yield
+    finally:
+        gdb.flush(gdb.STDERR)
+        os.dup2(kept, 2)
+        os.close(kept)
+
+
+def point_at(**where):
+    with quiet():
+        return gdb.Breakpoint(**where)
+
+
+def place_of(point):
+    """The line that gdb puts a breakpoint at; none where no code of it is loaded."""
+    return point.locations[0].source[1] if point.locations else None
+
+
+def line_of_point(path, line):
+    """Where gdb puts a breakpoint that is set there."""
+    try:
+        point = point_at(source=path, line=line, internal=True)
+    except gdb.error:
+        return None
+    place = place_of(point)
+    point.delete()
+    return place
