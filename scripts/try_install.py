@@ -44,6 +44,27 @@ def manuals():
         expect(f"{name}.1: words", sorted(words - set(re.findall(r"[\w'-]+", re.sub(r"\\f[BIR]", "", page)))), [])
         expect(f"{name}: in bash, zsh and fish", [lacking(name, option, shells) for option in options_in(told)], [[]] * len(options_in(told)))
     expect("the version", run(["--version"]), fine(b"dap 0.1.0\n"))
+    words_of_values()
+
+
+BASH = """
+. "$1"
+compopt() { :; }
+COMP_WORDS=(dap check --any-seq =)
+COMP_CWORD=3
+_dap
+echo "${COMPREPLY[*]}"
+COMP_WORDS+=(a)
+COMP_CWORD=4
+_dap
+echo "${COMPREPLY[*]}"
+"""
+
+
+def words_of_values():
+    """What a value may be is offered behind the sign of equality."""
+    script = os.path.join(RELEASE, "completions", "dap.bash")
+    expect("bash: the words of a value", output_of(["bash", "-c", BASH, "bash", script]), fine(b"client adapter both\nadapter\n"))
 
 
 def lacking(name, option, shells):

@@ -6,6 +6,12 @@ _dap() {
         COMPREPLY=($(compgen -W 'serve show wrap unwrap check drive host help -h --help -V --version' -- "$word"))
         return
     fi
+    # The words that a value may be come after a sign of equality, which is a word of its own here.
+    local option=
+    if [[ $word == = ]]; then option=$before word=; elif [[ $before == = ]]; then option=${COMP_WORDS[COMP_CWORD - 2]}; fi
+    case $option in
+        --any-seq) COMPREPLY=($(compgen -W 'client adapter both' -- "$word")); return ;;
+    esac
     # A number comes after these, as a word of its own or after a sign of equality.
     case $before in --max-body | --max-breakpoints | --max-header | --max-reference | --max-references | --max-requests | --max-seq | =) return ;; esac
     case $command in

@@ -39,7 +39,7 @@ complete -c dap -n '__fish_seen_subcommand_from unwrap; and not __fish_seen_subc
 complete -c dap -n '__fish_seen_subcommand_from unwrap; and not __fish_seen_subcommand_from help' -s h -l help -d 'Print help'
 complete -c dap -n '__fish_seen_subcommand_from check; and not __fish_seen_subcommand_from help' -F
 complete -c dap -n '__fish_seen_subcommand_from check; and not __fish_seen_subcommand_from help' -l all -d 'Prints every line that breaks a rule, and then how many there are'
-complete -c dap -n '__fish_seen_subcommand_from check; and not __fish_seen_subcommand_from help' -l any-seq -d 'Leaves out rule 1, for one side or for both, since some adapters give every message the number 0 [possible values: client, adapter, both]'
+complete -c dap -n '__fish_seen_subcommand_from check; and not __fish_seen_subcommand_from help' -l any-seq -a 'client adapter both' -d 'Leaves out rule 1, for one side or for both, since some adapters give every message the number 0 [possible values: client, adapter, both]'
 complete -c dap -n '__fish_seen_subcommand_from check; and not __fish_seen_subcommand_from help' -l bodies -d 'Checks rule 8 too: that what a message holds is as the Specification has it'
 complete -c dap -n '__fish_seen_subcommand_from check; and not __fish_seen_subcommand_from help' -l explain -d 'Says in a further line why a rule is broken, and against which earlier lines'
 complete -c dap -n '__fish_seen_subcommand_from check; and not __fish_seen_subcommand_from help' -l open -d 'Prints after that each request that nothing has answered'
