@@ -108,11 +108,15 @@ lengths = (refl, refl, refl, refl)
 thread_ids : (is_short (StoppedBy [] (negsuc 9007199254740990)) ≡ true) × (is_short (StoppedBy [] (negsuc 9007199254740991)) ≡ false) × (is_short (Continued (pos 9007199254740991)) ≡ true) × (is_short (Continued (pos 9007199254740992)) ≡ false)
 thread_ids = (refl, refl, refl, refl)
 
-abbrev frame : ℕ → ℕ → ℕ → Frame
+abbrev frame : ℕ → Option ℕ → ℕ → Frame
 frame object source line = record { object = object; name = codes "f"; source = source; line = line }
 
-frames : (is_frame 1 (frame 0 0 1) ≡ true) × (is_frame 1 (frame 0 0 0) ≡ false) × (is_frame 1 (frame 0 0 2147483647) ≡ true) × (is_frame 1 (frame 0 0 2147483648) ≡ false) × (is_frame 1 (frame 0 1 1) ≡ false) × (is_frame 0 (frame 0 0 1) ≡ false)
+frames : (is_frame 1 (frame 0 (Some 0) 1) ≡ true) × (is_frame 1 (frame 0 (Some 0) 0) ≡ false) × (is_frame 1 (frame 0 (Some 0) 2147483647) ≡ true) × (is_frame 1 (frame 0 (Some 0) 2147483648) ≡ false) × (is_frame 1 (frame 0 (Some 1) 1) ≡ false) × (is_frame 0 (frame 0 (Some 0) 1) ≡ false)
 frames = (refl, refl, refl, refl, refl, refl)
+
+-- without a source the line is 0
+frames_without_a_source : (is_frame 0 (frame 0 None 0) ≡ true) × (is_frame 1 (frame 0 None 0) ≡ true) × (is_frame 1 (frame 0 None 1) ≡ false)
+frames_without_a_source = (refl, refl, refl)
 
 categories : (category_name Console ≡ codes "console") × (category_name Stdout ≡ codes "stdout") × (category_name Stderr ≡ codes "stderr")
 categories = (refl, refl, refl)

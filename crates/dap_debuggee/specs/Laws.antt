@@ -177,9 +177,14 @@ is_short (happening.Stopped reason thread) = nat_le (length reason) 64 && is_int
 is_short (happening.Continued thread) = is_int thread
 is_short (happening.Exited code) = is_code code
 
+-- a line in one of so many sources, or line 0 in none
+abbrev pub is_place : ℕ → Option ℕ → ℕ → Bool
+is_place sources None line = nat_eq line 0
+is_place sources (Some source) line = nat_le 1 line && (nat_le line 2147483647 && nat_lt source sources)
+
 -- of so many sources
 abbrev pub is_frame : ℕ → Frame → Bool
-is_frame sources f = nat_le 1 f.line && (nat_le f.line 2147483647 && nat_lt f.source sources)
+is_frame sources f = is_place sources f.source f.line
 
 -- ---- laws
 

@@ -105,9 +105,9 @@ pub struct Frame {
     /// The debuggee's number of it, by which `scopes` and `evaluate` are asked.
     pub object: u64,
     pub name: Text,
-    /// The index of its source, from 0.
-    pub source: u32,
-    /// 1 to 2147483647.
+    /// The index of its source, from 0; `None` where it has none, such as in a library without symbols.
+    pub source: Option<u32>,
+    /// 1 to 2147483647; 0 where there is no source.
     pub line: u32,
 }
 
