@@ -93,10 +93,15 @@ unfolding escape_byte digits
 no_path_is_written = refl
 
 -- one frame of two
-a_window_of_frames : compact_text (stack_trace_body (record { id = 1; name = codes "f"; source = without_a_path; line = 3; column = 1 } ∷ []) 2)
+a_window_of_frames : compact_text (stack_trace_body (record { id = 1; name = codes "f"; source = Some without_a_path; line = 3; column = 1 } ∷ []) 2)
     ≡ codes "{\"stackFrames\":[{\"column\":1,\"id\":1,\"line\":3,\"name\":\"f\",\"source\":{\"name\":\"b.c\",\"sourceReference\":2}}],\"totalFrames\":2}"
 unfolding escape_byte digits
 a_window_of_frames = refl
+
+a_frame_without_a_source : compact_text (stack_trace_body (record { id = 1; name = codes "f"; source = None; line = 0; column = 0 } ∷ []) 1)
+    ≡ codes "{\"stackFrames\":[{\"column\":0,\"id\":1,\"line\":0,\"name\":\"f\"}],\"totalFrames\":1}"
+unfolding escape_byte digits
+a_frame_without_a_source = refl
 
 a_scope_is_not_expensive : compact_text (scopes_body (record { name = codes "Locals"; variables_reference = 2 } ∷ [])) ≡ codes "{\"scopes\":[{\"expensive\":false,\"name\":\"Locals\",\"variablesReference\":2}]}"
 unfolding escape_byte digits

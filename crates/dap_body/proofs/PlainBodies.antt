@@ -24,7 +24,7 @@ use Rattle.dap_body.specs.declared.event.EventBody.TheVariants.{Output, Stopped,
 use Rattle.dap_body.specs.declared.body.Body.{Body}
 use Rattle.dap_body.specs.declared.body.Body.TheVariants.{Initialize, SetBreakpoints, Threads, Continue, StackTrace, Scopes, Variables, SetVariable, Evaluate, Source as SourceText, LoadedSources, RunInTerminal}
 use Rattle.dap_body.specs.EventBody.{stopped_body, continued_body, exited_body}
-use Rattle.dap_body.specs.ResponseBody.{breakpoint, thread, source, stack_frame, scope, variable, list_of, only_member, stack_trace_body, run_in_terminal_body}
+use Rattle.dap_body.specs.ResponseBody.{breakpoint, thread, source, with_source, stack_frame, scope, variable, list_of, only_member, stack_trace_body, run_in_terminal_body}
 use Rattle.dap_body.specs.PlainBodies.{IsPlain, ResponseBodiesArePlain, FailureBodiesArePlain, EventBodiesArePlain}
 use Rattle.dap_body.specs.declared.response.Source.{Source}
 use Rattle.dap_body.specs.declared.response.StackFrame.{StackFrame}
@@ -75,11 +75,19 @@ source_depth_at (Some path) name (Some n) = omega arith
 source_depth : (s : Source) → depth (source s) ≤ 1
 source_depth s = source_depth_at s.path s.name s.source_reference
 
+optional_source_float : (source : Option Source) → members_have_float (with_source source no_members) ≡ false
+optional_source_float None = refl
+optional_source_float (Some s) = rw (source_float s)
+
+optional_source_depth : (source : Option Source) → members_depth (with_source source no_members) ≤ 1
+optional_source_depth None = omega arith
+optional_source_depth (Some s) = omega (arith, source_depth s)
+
 frame_float : (f : StackFrame) → has_float (stack_frame f) ≡ false
-frame_float f = rw (source_float f.source)
+frame_float f = rw (optional_source_float f.source)
 
 frame_depth : (f : StackFrame) → depth (stack_frame f) ≤ 2
-frame_depth f = omega (arith, source_depth f.source)
+frame_depth f = omega (arith, optional_source_depth f.source)
 
 -- ---- capabilities
 

@@ -8,7 +8,7 @@ use Rattle.dap_json.specs.Sound.{IsSound, IsSoundNumber}
 use Rattle.dap_body.specs.ResponseBody.{breakpoint, thread, source, stack_frame, scope, variable, list_of, only_member, stack_trace_body, evaluate_body, source_body, run_in_terminal_body}
 use Rattle.dap_body.specs.EventBody.{output_body, stopped_body, continued_body, exited_body}
 use Rattle.dap_body.specs.Failure.{error_body}
-use Rattle.dap_body.specs.PrivateText.{HasSoundPath, IsSoundOptional}
+use Rattle.dap_body.specs.PrivateText.{HasSoundPath, HasSoundSource, IsSoundOptional}
 use Rattle.dap_body.specs.declared.response.Breakpoint.{Breakpoint}
 use Rattle.dap_body.specs.declared.response.Scope.{Scope}
 use Rattle.dap_body.specs.declared.response.Source.{Source}
@@ -32,9 +32,15 @@ source-sound-if name (Some path) (Some reference) n p r =
 pub source-sound : (s : Source) → IsUtf8 s.name → HasSoundPath s.path → IsSoundOptional s.source_reference → IsSound (source s)
 source-sound s n p r = source-sound-if s.name s.path s.source_reference n p r
 
-pub stack_frame-sound : (f : StackFrame) → f.column < 2 ^ 64 → f.id < 2 ^ 64 → f.line < 2 ^ 64 → IsUtf8 f.name → IsSound (source f.source) → IsSound (stack_frame f)
-stack_frame-sound f column id line name from =
-    (IsUtf8-are_ascii (codes "column") refl, (refl, (refl, (refl, (refl, tt)))), column, (IsUtf8-are_ascii (codes "id") refl, (refl, (refl, (refl, tt))), id, (IsUtf8-are_ascii (codes "line") refl, (refl, (refl, tt)), line, (IsUtf8-are_ascii (codes "name") refl, (refl, tt), name, (IsUtf8-are_ascii (codes "source") refl, tt, from, tt)))))
+stack_frame-sound-if : (source : Option Source) (id : ℕ) (name : List ℕ) (line column : ℕ) → column < 2 ^ 64 → id < 2 ^ 64 → line < 2 ^ 64 → IsUtf8 name → HasSoundSource source
+    → IsSound (stack_frame (record { id = id; name = name; source = source; line = line; column = column }))
+stack_frame-sound-if None id name line column c i l n from =
+    (IsUtf8-are_ascii (codes "column") refl, (refl, (refl, (refl, tt))), c, (IsUtf8-are_ascii (codes "id") refl, (refl, (refl, tt)), i, (IsUtf8-are_ascii (codes "line") refl, (refl, tt), l, (IsUtf8-are_ascii (codes "name") refl, tt, n, tt))))
+stack_frame-sound-if (Some s) id name line column c i l n from =
+    (IsUtf8-are_ascii (codes "column") refl, (refl, (refl, (refl, (refl, tt)))), c, (IsUtf8-are_ascii (codes "id") refl, (refl, (refl, (refl, tt))), i, (IsUtf8-are_ascii (codes "line") refl, (refl, (refl, tt)), l, (IsUtf8-are_ascii (codes "name") refl, (refl, tt), n, (IsUtf8-are_ascii (codes "source") refl, tt, from, tt)))))
+
+pub stack_frame-sound : (f : StackFrame) → f.column < 2 ^ 64 → f.id < 2 ^ 64 → f.line < 2 ^ 64 → IsUtf8 f.name → HasSoundSource f.source → IsSound (stack_frame f)
+stack_frame-sound f column id line name from = stack_frame-sound-if f.source f.id f.name f.line f.column column id line name from
 
 pub scope-sound : (s : Scope) → IsUtf8 s.name → s.variables_reference < 2 ^ 64 → IsSound (scope s)
 scope-sound s name reference = (IsUtf8-are_ascii (codes "expensive") refl, (refl, (refl, tt)), tt, (IsUtf8-are_ascii (codes "name") refl, (refl, tt), name, (IsUtf8-are_ascii (codes "variablesReference") refl, tt, reference, tt)))

@@ -9,9 +9,10 @@ use Rattle.serde_json.specs.Data.{Data, Members}
 use Rattle.serde_json.specs.View.{items_of}
 use Rattle.serde_json.specs.Find.{of_integer}
 use Rattle.serde_json.specs.Written.{items_outline, members_outline, number_text}
-use Rattle.dap_body.specs.ResponseBody.{with_path, with_optional_number}
+use Rattle.dap_body.specs.ResponseBody.{with_path, with_source, with_optional_number}
 use Rattle.dap_body.specs.Adds.{Adds}
-use Rattle.dap_body.specs.PrivateText.{optional_number_tokens, path_tokens, tokens_of}
+use Rattle.dap_body.specs.declared.response.Source.{Source}
+use Rattle.dap_body.specs.PrivateText.{optional_number_tokens, path_tokens, source_tokens, tokens_of}
 
 pub one : {E : Type 0} {r : Result (Unit {0}) E} {old new : Written} {t : Token} → Writes r old new t → new.tokens ≡ old.tokens ++ t ∷ [] → Adds old new (t ∷ [])
 one w tokens = record { before = w.room.0; tokens = tokens }
@@ -31,6 +32,10 @@ tokens-of-path (Some path) rest = refl
 pub tokens-of-optional-number : (key : List ℕ) (n : Option ℕ) (rest : Members) → optional_number_tokens key n ++ members_tokens (members_outline rest) ≡ members_tokens (members_outline (with_optional_number key n rest))
 tokens-of-optional-number key None rest = refl
 tokens-of-optional-number key (Some n) rest = refl
+
+pub tokens-of-source : (s : Option Source) (rest : Members) → source_tokens s ++ members_tokens (members_outline rest) ≡ members_tokens (members_outline (with_source s rest))
+tokens-of-source None rest = refl
+tokens-of-source (Some s) rest = refl
 
 -- an integer, as it is written
 pub signed-text : (z : ℤ) → number_text (of_integer z) ≡ signed_decimal z

@@ -4,7 +4,9 @@ use Rattle.json.specs.Token.{Token, key, number, string}
 use Rattle.json.specs.Tree.{json_tokens}
 use Rattle.serde_json.specs.Data.{Data, string as text_data}
 use Rattle.serde_json.specs.Written.{outline}
-use Rattle.dap_body.specs.ResponseBody.{only_member}
+use Rattle.dap_json.specs.Sound.{IsSound}
+use Rattle.dap_body.specs.ResponseBody.{only_member, source}
+use Rattle.dap_body.specs.declared.response.Source.{Source}
 use Rattle.dap_body.specs.declared.body.Body.{Body}
 use Rattle.dap_body.specs.declared.body.Body.TheVariants.{Initialize}
 
@@ -28,6 +30,15 @@ IsSoundOptional (Some n) = n < 2 ^ 64
 abbrev pub HasSoundPath : Option (List ℕ) → Type 0
 HasSoundPath None = ⊤
 HasSoundPath (Some path) = IsUtf8 path
+
+-- the member of a source, where there is one
+abbrev pub source_tokens : Option Source → List Token
+source_tokens None = []
+source_tokens (Some s) = key (codes "source") ∷ tokens_of (source s)
+
+abbrev pub HasSoundSource : Option Source → Type 0
+HasSoundSource None = ⊤
+HasSoundSource (Some s) = IsSound (source s)
 
 -- an object of one text
 abbrev pub text_member : List ℕ → List ℕ → Data

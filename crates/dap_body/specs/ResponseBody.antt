@@ -44,13 +44,18 @@ source s = object (
     with_optional_number (codes "sourceReference") s.source_reference
     no_members)))
 
+-- a source, where there is one, before what follows
+abbrev pub with_source : Option Source → Members → Members
+with_source None rest = rest
+with_source (Some s) rest = member (codes "source") (source s) rest
+
 abbrev pub stack_frame : StackFrame → Data
 stack_frame f = object (
     member (codes "column") (whole_number f.column) (
     member (codes "id") (whole_number f.id) (
     member (codes "line") (whole_number f.line) (
     member (codes "name") (string f.name) (
-    member (codes "source") (source f.source)
+    with_source f.source
     no_members)))))
 
 abbrev pub scope : Scope → Data

@@ -12,7 +12,7 @@ ghost use Rattle.dap_body.specs.Body.{data_of};
 ghost use Rattle.dap_command.specs.Capabilities.{capabilities_data};
 ghost use Rattle.dap_body.specs.ResponseBody.{list_of, only_member, stack_trace_body, evaluate_body, run_in_terminal_body};
 ghost use Rattle.dap_body.specs.Adds.{Adds};
-ghost use Rattle.dap_body.specs.PrivateText.{HasSoundPath, IsSoundOptional, is_of_parts, optional_number_tokens, path_tokens, text_member, tokens_of};
+ghost use Rattle.dap_body.specs.PrivateText.{HasSoundPath, HasSoundSource, IsSoundOptional, is_of_parts, optional_number_tokens, path_tokens, source_tokens, text_member, tokens_of};
 
 use crate::response::{Breakpoint, Scope, Source, StackFrame, Thread, Variable};
 use dap_command::Capabilities;
@@ -140,8 +140,7 @@ impl Part for StackFrame {
         short(out, "id", self.id)?;
         short(out, "line", self.line)?;
         text(out, "name", &self.name)?;
-        out.key("source")?;
-        self.source.write(out)?;
+        write_source(out, &self.source)?;
         out.end_object()
     }
 }
@@ -230,6 +229,19 @@ fn write_path(out: &mut Writer, path: &Option<Text>) -> Result<(), AllocError>
         None => Ok(()),
         Some(path) => text(out, "path", path),
     }
+}
+
+/// The member of a source, where there is one.
+fn write_source(out: &mut Writer, source: &Option<Source>) -> Result<(), AllocError>
+    ensures adds { OnOk result (Adds out.old out.new (source_tokens source.now)) }
+    ensures before { out.new.before ≡ out.old.before }
+    ensures sound { OnOk result (HasSoundSource source.now) }
+{
+    let Some(source) = source else {
+        return Ok(());
+    };
+    out.key("source")?;
+    source.write(out)
 }
 
 fn write_list<T: Part>(out: &mut Writer, elements: &[T]) -> Result<(), AllocError>

@@ -43,7 +43,8 @@ pub struct StackFrame {
     /// The number by which a client asks for its scopes.
     pub id: u32,
     pub name: Text,
-    pub source: Source,
+    /// `None` where it has none; then a client ignores the line and the column.
+    pub source: Option<Source>,
     pub line: u32,
     pub column: u32,
 }
