@@ -19,14 +19,14 @@ use Rattle.dap_tables.specs.declared.target.Target.{Target}
 use Rattle.dap_query.specs.declared.options.Options.{Options}
 use Rattle.dap_query.specs.declared.no_answer.NoAnswer.{NoAnswer}
 use Rattle.dap_query.specs.declared.no_answer.NoAnswer.TheVariants.{Fails, OutOfMemory}
-use Rattle.dap_query.specs.Bodies.{query_result, result_with_references, with_numbers, frame_with, protocol_frame, protocol_scope, protocol_variable, source_of_frame, page, frame_objects, scope_objects, variable_objects}
+use Rattle.dap_query.specs.Bodies.{query_result, result_with_references, with_numbers, frame_with, protocol_frame, protocol_scope, protocol_variable, optional_source_of_frame, page, frame_objects, scope_objects, variable_objects}
 use Rattle.dap_query.specs.References.{intern_each}
 use Rattle.dap_query.specs.Queries.{QueryState, object_of}
 use Rattle.dap_query.specs.QueryResults.{Says, AnswersWith}
 use Rattle.dap_query.proofs.GivenNumbers.{told-with, fails-with}
 
 pub frames-zipped : (options : Options) (sources : List Source) (ids : List ℕ) (frames : List Frame)
-    → map (λ p. frame_with options p.0 p.1.0 p.1.1) (zip ids (zip frames (map (λ (f : Frame). source_of_frame sources f.source) frames))) ≡ with_numbers (protocol_frame options sources) ids frames
+    → map (λ p. frame_with options p.0 p.1.0 p.1.1) (zip ids (zip frames (map (λ (f : Frame). optional_source_of_frame sources f.source) frames))) ≡ with_numbers (protocol_frame options sources) ids frames
 frames-zipped options sources [] frames = refl
 frames-zipped options sources (id ∷ ids) [] = refl
 frames-zipped options sources (id ∷ ids) (f ∷ frames) = ap (λ (xs : List FrameBody). protocol_frame options sources id f ∷ xs) (frames-zipped options sources ids frames)

@@ -1,11 +1,12 @@
 -- Worked examples of what queries are answered, each shown by computation.
 use Rattle.std.proofs.Common.{◌≡◌, ℕ, List, [], ◌∷◌, true, false, codes, Option, Some, None, Ok, Err, refl}
+use Rattle.dap_debuggee.specs.declared.answers.Frame.{Frame}
 use Rattle.dap_debuggee.specs.declared.answers.Source.{Source}
 use Rattle.dap_debuggee.specs.declared.answers.Variable.{Variable}
 use Rattle.dap_frame.specs.Settings.{Settings}
 use Rattle.dap_body.specs.declared.failure.Failure.TheVariants.{TooManyReferences, ReferencesExhausted}
 use Rattle.dap_debuggee.specs.Shown.{window}
-use Rattle.dap_query.specs.Bodies.{reference_of, numbered_source, source_of_frame, no_source, page, line_shown, column_shown, protocol_sources}
+use Rattle.dap_query.specs.Bodies.{reference_of, numbered_source, source_of_frame, no_source, page, line_shown, column_shown, protocol_frame, protocol_sources}
 use Rattle.dap_query.specs.Queries.{object_of, usual_options}
 use Rattle.dap_query.specs.References.{intern_each, targets_named, with_targets, references_read}
 use Rattle.dap_query.specs.declared.options.Options.{Options}
@@ -52,6 +53,18 @@ all_unless_it_pages = (refl, refl)
 
 lines_and_columns : (line_shown usual_options 1 ≡ 1) × (line_shown from_0 1 ≡ 0) × (line_shown from_0 3 ≡ 2) × (column_shown usual_options ≡ 1) × (column_shown from_0 ≡ 0)
 lines_and_columns = (refl, refl, refl, refl, refl)
+
+abbrev frame_at : Option ℕ → ℕ → Frame
+frame_at source line = record { object = 7; name = codes "f"; source = source; line = line }
+
+-- a frame without a source has line 0 and column 0, from wherever the client counts
+without_a_source : (protocol_frame usual_options (source None ∷ []) 1 (frame_at None 0) ≡ record { id = 1; name = codes "f"; source = None; line = 0; column = 0 })
+    × (protocol_frame from_0 (source None ∷ []) 1 (frame_at None 0) ≡ record { id = 1; name = codes "f"; source = None; line = 0; column = 0 })
+without_a_source = (refl, refl)
+
+with_a_source : (protocol_frame usual_options (source None ∷ []) 1 (frame_at (Some 0) 3) ≡ record { id = 1; name = codes "f"; source = Some (numbered_source 1 (source None)); line = 3; column = 1 })
+    × (protocol_frame from_0 (source None ∷ []) 1 (frame_at (Some 0) 3) ≡ record { id = 1; name = codes "f"; source = Some (numbered_source 1 (source None)); line = 2; column = 0 })
+with_a_source = (refl, refl)
 
 -- ---- numbers
 

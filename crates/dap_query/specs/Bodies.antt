@@ -84,11 +84,17 @@ no_source = record { name = []; path = None; source_reference = Some 0 }
 abbrev pub source_of_frame : List Source → ℕ → SourceBody
 source_of_frame sources index = unwrap_or (option_map (protocol_source index) (slice_get sources index)) no_source
 
-abbrev pub frame_with : Options → ℕ → Frame → SourceBody → StackFrame
-frame_with options id f source = record { id = id; name = f.name; source = source; line = line_shown options f.line; column = column_shown options }
+-- where it has one
+abbrev pub optional_source_of_frame : List Source → Option ℕ → Option SourceBody
+optional_source_of_frame sources source = option_map (source_of_frame sources) source
+
+-- a frame without a source has line 0 and column 0: Specification, "StackFrame"
+abbrev pub frame_with : Options → ℕ → Frame → Option SourceBody → StackFrame
+frame_with options id f None = record { id = id; name = f.name; source = None; line = 0; column = 0 }
+frame_with options id f (Some source) = record { id = id; name = f.name; source = Some source; line = line_shown options f.line; column = column_shown options }
 
 abbrev pub protocol_frame : Options → List Source → ℕ → Frame → StackFrame
-protocol_frame options sources id f = frame_with options id f (source_of_frame sources f.source)
+protocol_frame options sources id f = frame_with options id f (optional_source_of_frame sources f.source)
 
 abbrev pub protocol_scope : ℕ → Scope → ScopeBody
 protocol_scope number scope = record { name = scope.name; variables_reference = number }

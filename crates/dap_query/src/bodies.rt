@@ -6,7 +6,7 @@ ghost use Rattle.dap_debuggee.specs.declared.answers.Scope.{Scope as ScopeWord};
 ghost use Rattle.dap_debuggee.specs.declared.answers.Variable.{Variable as VariableWord};
 ghost use Rattle.dap_tables.specs.References.{frame_of, holder_of};
 ghost use Rattle.dap_debuggee.specs.Shown.{window};
-ghost use Rattle.dap_query.specs.Bodies.{protocol_thread, numbered_source, reference_of, protocol_sources, source_of_frame, line_shown, column_shown, frame_with, protocol_frame, protocol_scope, protocol_variable, with_numbers};
+ghost use Rattle.dap_query.specs.Bodies.{protocol_thread, numbered_source, reference_of, protocol_sources, source_of_frame, optional_source_of_frame, line_shown, column_shown, frame_with, protocol_frame, protocol_scope, protocol_variable, with_numbers};
 
 use crate::options::Options;
 use dap_body::StackFrame;
@@ -197,17 +197,31 @@ fn source_of_frame<D: Debuggee>(
     }
 }
 
+/// The source of a frame, where it has one.
+fn optional_source_of_frame<D: Debuggee>(
+    alloc: Global,
+    debuggee: &D,
+    source: Option<u32>,
+) -> Result<Option<dap_body::Source>, AllocError>
+    ensures { IfOk result (λ told. told ≡ optional_source_of_frame (D.shown debuggee.now).sources source) }
+{
+    match source {
+        None => Ok(None),
+        Some(index) => Ok(Some(source_of_frame(alloc, debuggee, index)?)),
+    }
+}
+
 /// The source of each frame.
 fn sources_of_frames<D: Debuggee>(
     alloc: Global,
     debuggee: &D,
     frames: &[Frame],
-) -> Result<Vec<dap_body::Source>, AllocError>
-    ensures { IfOk result (λ told. told.items ≡ map (λ (f : FrameWord). source_of_frame (D.shown debuggee.now).sources f.source) frames.now) }
+) -> Result<Vec<Option<dap_body::Source>>, AllocError>
+    ensures { IfOk result (λ told. told.items ≡ map (λ (f : FrameWord). optional_source_of_frame (D.shown debuggee.now).sources f.source) frames.now) }
 {
     let mut told = Vec::with_capacity(alloc, frames.len())?;
     for frame in frames {
-        told.push(source_of_frame(alloc, debuggee, frame.source)?)?;
+        told.push(optional_source_of_frame(alloc, debuggee, frame.source)?)?;
     }
     Ok(told)
 }
@@ -229,7 +243,13 @@ fn column_shown(options: Options) -> u32
     if options.columns_start_at_1 { 1 } else { 0 }
 }
 
-fn frame_with(options: Options, id: u32, frame: Frame, source: dap_body::Source) -> StackFrame
+/// A frame as it is told. Where it has no source, its line and its column are 0: Specification, "StackFrame".
+fn frame_with(
+    options: Options,
+    id: u32,
+    frame: Frame,
+    source: Option<dap_body::Source>,
+) -> StackFrame
     ensures { result ≡ frame_with options id frame source }
 {
     let Frame {
@@ -238,12 +258,21 @@ fn frame_with(options: Options, id: u32, frame: Frame, source: dap_body::Source)
         source: _,
         line,
     } = frame;
-    StackFrame {
-        id,
-        name,
-        source,
-        line: line_shown(options, line),
-        column: column_shown(options),
+    match source {
+        None => StackFrame {
+            id,
+            name,
+            source: None,
+            line: 0,
+            column: 0,
+        },
+        Some(source) => StackFrame {
+            id,
+            name,
+            source: Some(source),
+            line: line_shown(options, line),
+            column: column_shown(options),
+        },
     }
 }
 
@@ -252,7 +281,7 @@ fn frames_with(
     options: Options,
     ids: Vec<u32>,
     frames: Vec<Frame>,
-    sources: Vec<dap_body::Source>,
+    sources: Vec<Option<dap_body::Source>>,
 ) -> Result<Vec<StackFrame>, AllocError>
     ensures { IfOk result (λ told. told.items ≡ map (λ p. frame_with options p.0 p.1.0 p.1.1) (zip ids.items (zip frames.items sources.items))) }
 {

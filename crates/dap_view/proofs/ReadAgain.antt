@@ -17,7 +17,7 @@ use Rattle.dap_body.specs.declared.response.Variable.{Variable}
 use Rattle.dap_view.specs.At.{Read}
 use Rattle.dap_view.specs.Elements.{thread_of, source_in, stack_frame_of, scope_of, variable_of, breakpoint_of, evaluation_of}
 use Rattle.dap_view.specs.Bodies.{each, threads_in, stack_frames_in, stack_trace_in, scopes_in, variables_in, breakpoints_in, sources_in, evaluation_in}
-use Rattle.dap_view.specs.ReadAgain.{thread_read, source_read, stack_frame_read, scope_read, variable_read, breakpoint_read, is_number, is_whole, thread_fits, source_fits, stack_frame_fits, scope_fits, variable_fits, breakpoint_fits, WhatIsWrittenIsReadAgain}
+use Rattle.dap_view.specs.ReadAgain.{thread_read, source_read, stack_frame_read, scope_read, variable_read, breakpoint_read, is_number, is_whole, thread_fits, source_fits, optional_source_fits, stack_frame_fits, scope_fits, variable_fits, breakpoint_fits, WhatIsWrittenIsReadAgain}
 use Rattle.dap_view.proofs.Offered.{offered_again}
 
 -- ---- numbers
@@ -41,13 +41,18 @@ source_again s None (Some n) is by e = rw (is, by) (rw (rw by at e) refl)
 source_again s (Some path) None is by e = rw (is, by) refl
 source_again s (Some path) (Some n) is by e = rw (is, by) (rw (rw by at e) refl)
 
-stack_frame_again : (f : StackFrame) → stack_frame_fits f ≡ true → stack_frame_of (stack_frame f) ≡ Ok (stack_frame_read f)
+stack_frame_with : (source : Option Source) (id line column : ℕ) (name : List ℕ) → is_number id ≡ true → is_number line ≡ true → is_number column ≡ true → optional_source_fits source ≡ true
+    → stack_frame_of (stack_frame (record { id = id; name = name; source = source; line = line; column = column })) ≡ Ok (stack_frame_read (record { id = id; name = name; source = source; line = line; column = column }))
 unfolding stack_frame_of
+stack_frame_with None id line column name i l c fits = rw (i, l, c) refl
+stack_frame_with (Some s) id line column name i l c fits = rw (i, l, c, source_again s s.path s.source_reference refl refl fits)
+
+stack_frame_again : (f : StackFrame) → stack_frame_fits f ≡ true → stack_frame_of (stack_frame f) ≡ Ok (stack_frame_read f)
 stack_frame_again f e =
-    let halves = and_parts (is_number f.id && is_number f.line) (is_number f.column && source_fits f.source) e in
+    let halves = and_parts (is_number f.id && is_number f.line) (is_number f.column && optional_source_fits f.source) e in
     let front = and_parts (is_number f.id) (is_number f.line) halves.0 in
-    let back = and_parts (is_number f.column) (source_fits f.source) halves.1 in
-    rw (front.0, front.1, back.0, source_again f.source f.source.path f.source.source_reference refl refl back.1)
+    let back = and_parts (is_number f.column) (optional_source_fits f.source) halves.1 in
+    stack_frame_with f.source f.id f.line f.column f.name front.0 front.1 back.0 back.1
 
 scope_again : (s : Scope) → scope_fits s ≡ true → scope_of (scope s) ≡ Ok (scope_read s)
 unfolding scope_of

@@ -1,6 +1,6 @@
 -- What dap_body writes of a response is read again as it was: each element, in order, with all that was written of it.
 -- Which numbers are written so is this profile's choice: those in the ranges in which they are read.
-use Rattle.std.specs.Prelude.{◌≡◌, ℕ, map, ◌&&◌, Bool, true, false, nat_le, Some, None, unwrap_or, Ok}
+use Rattle.std.specs.Prelude.{◌≡◌, ℕ, map, ◌&&◌, Bool, true, false, nat_le, Option, Some, None, option_map, unwrap_or, Ok}
 use Rattle.std.specs.List.{list_all}
 use Rattle.dap_json.specs.Field.{max_seq}
 use Rattle.dap_command.specs.Numbers.{is_int, max_number}
@@ -26,7 +26,7 @@ abbrev pub source_read : Source → SourceParts
 source_read s = record { name = Some s.name; path = s.path; source_reference = unwrap_or s.source_reference 0 }
 
 abbrev pub stack_frame_read : StackFrame → StackFrameParts
-stack_frame_read f = record { id = f.id; name = f.name; line = f.line; column = f.column; source = Some (source_read f.source) }
+stack_frame_read f = record { id = f.id; name = f.name; line = f.line; column = f.column; source = option_map source_read f.source }
 
 abbrev pub scope_read : Scope → ScopeParts
 scope_read s = record { name = s.name; variables_reference = s.variables_reference; expensive = false }
@@ -51,8 +51,13 @@ thread_fits t = is_int t.id
 abbrev pub source_fits : Source → Bool
 source_fits s = is_number (unwrap_or s.source_reference 0)
 
+-- where there is one
+abbrev pub optional_source_fits : Option Source → Bool
+optional_source_fits None = true
+optional_source_fits (Some s) = source_fits s
+
 abbrev pub stack_frame_fits : StackFrame → Bool
-stack_frame_fits f = (is_number f.id && is_number f.line) && (is_number f.column && source_fits f.source)
+stack_frame_fits f = (is_number f.id && is_number f.line) && (is_number f.column && optional_source_fits f.source)
 
 abbrev pub scope_fits : Scope → Bool
 scope_fits s = is_number s.variables_reference

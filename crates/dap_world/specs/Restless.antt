@@ -42,7 +42,7 @@ restless_shown v = record {
   acts = v.acts;
   last = v.last;
   threads = threads_in v.state;
-  frames = λ thread. if int_eq thread (pos 1) then Some (record { object = 0; name = codes "main"; source = 0; line = 1 } ∷ []) else None;
+  frames = λ thread. if int_eq thread (pos 1) then Some (record { object = 0; name = codes "main"; source = Some 0; line = 1 } ∷ []) else None;
   scopes = λ frame. None;
   children = λ holder. None;
   evaluate = λ frame text. None;

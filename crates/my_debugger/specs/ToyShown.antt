@@ -47,7 +47,7 @@ abbrev pub line_of : Call → ℕ
 line_of call = min call.at 2147483646 + 1
 
 abbrev pub frame_of : ℕ → Call → Frame
-frame_of number call = record { object = number; name = call.name; source = 0; line = line_of call }
+frame_of number call = record { object = number; name = call.name; source = Some 0; line = line_of call }
 
 -- numbered from a number on
 abbrev pub frames_from : ℕ → List Call → List Frame

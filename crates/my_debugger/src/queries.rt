@@ -38,7 +38,7 @@ pub(crate) fn frames(alloc: Global, stack: &[Call]) -> Result<Vec<Frame>, AllocE
         frames.push(Frame {
             object: number as u64,
             name: call.name.clone()?,
-            source: 0,
+            source: Some(0),
             line: line(call),
         })?;
     }
