@@ -4,5 +4,6 @@ mod LineLemmas
 mod FetchLemmas
 mod HostingLemmas
 mod LogLemmas
+mod LongLemmas
 mod StreamLemmas
 mod KeepLemmas

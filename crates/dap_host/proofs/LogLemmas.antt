@@ -12,14 +12,14 @@ use Rattle.dap_host.specs.Hearing.{HostState}
 use Rattle.dap_host.specs.Fetching.{has_line, Fetches}
 use Rattle.dap_host.specs.Hosting.{HostPoint, point_of, BeginsWith, Answered, Heard, none_heard, one_more, HearsAll, at_end, after_last, HearsEach, no_line, line_more, AnswersInput}
 
-abbrev feed : ℕ → Bool
+abbrev pub feed : ℕ → Bool
 feed b = b == 10
 
 fails_at : (b : Bool) → (b ≡ true → ⊥) → b ≡ false
 fails_at true wrong = absurd (wrong refl)
 fails_at false wrong = refl
 
-no_feeds : (text : List ℕ) → has_line text ≡ false → All (λ b. feed b ≡ false) text
+pub no_feeds : (text : List ℕ) → has_line text ≡ false → All (λ b. feed b ≡ false) text
 no_feeds text e = λ k d below. fails_at (feed (get_or text k d)) (λ is. true≢false (sym (list_any_at feed text k d below is) ∙ e))
 
 one_part : (text : List ℕ) → 0 < length text → lines_of_parts (text ∷ []) ≡ text ∷ []

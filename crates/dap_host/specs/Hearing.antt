@@ -1,6 +1,6 @@
 -- What a host's line leads to: it is skipped, or refused, or an adapter over a fed debuggee takes what it says. The format is this
 -- profile's choice.
-use Rattle.std.specs.Prelude.{◌≡◌, ◌≢◌, ℕ, ◌+◌, ◌<◌, ◌≤◌, Bool, true, false, List, [], ◌∷◌, ◌++◌, length, take, drop, codes, bytes_eq, Option, Some, None, Ok, Err, if◌then◌else◌}
+use Rattle.std.specs.Prelude.{◌≡◌, ◌≢◌, ℕ, ◌+◌, ◌<◌, ◌≤◌, nat_lt, Bool, true, false, List, [], ◌∷◌, ◌++◌, length, take, drop, codes, bytes_eq, Option, Some, None, Ok, Err, if◌then◌else◌}
 use Rattle.serde_json.specs.Data.{Data}
 use Rattle.dap_adapter.specs.AdapterState.{AdapterState}
 use Rattle.dap_adapter.specs.Parts.{AnswersPiece, PollsOn, StopsAfter}
@@ -35,7 +35,7 @@ use Rattle.dap_line.specs.Written.{message_lines, act_lines, refusal_line, targe
 use Rattle.dap_host.specs.declared.host.Mark.{Mark}
 use Rattle.dap_host.specs.declared.host.Mark.TheVariants as mark
 use Rattle.dap_line.specs.declared.refusal.Refusal.{Refusal}
-use Rattle.dap_line.specs.declared.refusal.Refusal.TheVariants.{BadLine, Body, BodyTooLong, Ended, Dropped}
+use Rattle.dap_line.specs.declared.refusal.Refusal.TheVariants.{TooLong, BadLine, Body, BodyTooLong, Ended, Dropped}
 use Rattle.dap_line.specs.declared.told.Said.TheVariants.{Happened, Target}
 use Rattle.dap_line.specs.declared.told.Told.{Told}
 use Rattle.dap_line.specs.declared.told.Unread.{Unread}
@@ -43,11 +43,12 @@ use Rattle.dap_line.specs.declared.told.Unread.TheVariants.{Refused, OutOfMemory
 
 -- ---- a host
 
--- the adapter, the sources over which moments are read, the limits, and how many lines came
+-- the adapter, the sources over which moments are read, the limits, how many bytes a line may have, and how many lines came
 pub record HostState : Type 0 where
   pub adapter : AdapterState LiveState
   pub sources : List RecordedSource
   pub limits : Settings
+  pub longest : ℕ
   pub number : ℕ
 
 -- its adapter is open, between two messages, and what it wrote can be read
@@ -59,7 +60,7 @@ pub record IsGoing (h : HostState) : Type 0 where
   pub limits_are : h.adapter.session.limits ≡ h.limits
 
 -- a host of this file to which no line came
-pub record IsFresh (limits : Settings) (bytes : List ℕ) (h : HostState) : Type 0 where
+pub record IsFresh (limits : Settings) (longest : ℕ) (bytes : List ℕ) (h : HostState) : Type 0 where
   pub told : Data
   pub has : HasSources bytes told
   pub base : Played
@@ -69,6 +70,7 @@ pub record IsFresh (limits : Settings) (bytes : List ℕ) (h : HostState) : Type
   pub session : h.adapter.session ≡ fresh_session limits
   pub debuggee : h.adapter.debuggee ≡ fresh_live base
   pub limits_are : h.limits ≡ limits
+  pub longest_is : h.longest ≡ longest
   pub number : h.number ≡ 0
 
 -- a line more came
@@ -79,6 +81,7 @@ counted h = record h { number = saturating_count (h.number + 1) }
 pub record SameButAdapter (old new : HostState) : Type 0 where
   pub sources : new.sources ≡ old.sources
   pub limits : new.limits ≡ old.limits
+  pub longest : new.longest ≡ old.longest
   pub number : new.number ≡ old.number
 
 -- ---- refusals
@@ -224,9 +227,21 @@ HearsMarked mark.Happening old text before after new = HearsHappening old text b
 HearsMarked mark.None old text before after new = Refuses old BadLine before after new
 
 -- an empty line is skipped, and counted
+abbrev pub HearsText : HostState → List ℕ → List ℕ → List ℕ → HostState → Type 0
+HearsText old [] before after new = (after ≡ before) × (new ≡ counted old)
+HearsText old line before after new = HearsMarked (mark_of line) (counted old) (drop 2 line) before after new
+
+-- a line that is too long is refused, whatever it says, and counted
+abbrev pub HearsIf : Bool → HostState → List ℕ → List ℕ → List ℕ → HostState → Type 0
+HearsIf true old line before after new = Refuses (counted old) TooLong before after new
+HearsIf false old line before after new = HearsText old line before after new
+
+-- more bytes than a line may have
+abbrev pub is_too_long : HostState → List ℕ → Bool
+is_too_long h line = nat_lt h.longest (length line)
+
 abbrev pub Hears : HostState → List ℕ → List ℕ → List ℕ → HostState → Type 0
-Hears old [] before after new = (after ≡ before) × (new ≡ counted old)
-Hears old line before after new = HearsMarked (mark_of line) (counted old) (drop 2 line) before after new
+Hears old line before after new = HearsIf (is_too_long old line) old line before after new
 
 -- ---- why it stops, where memory is not refused: the adapter is closed within an answer, and what it wrote before is appended
 
@@ -245,5 +260,9 @@ StopsMarked mark.Message old text before after new fault = TakesMessage old text
 StopsMarked mark.Happening old text before after new fault = ((coming : Coming) × HearsTold old text coming) × StopsTelling old before after new fault
 StopsMarked mark.None old text before after new fault = ⊥
 
+abbrev pub StopsIf : Bool → HostState → List ℕ → List ℕ → List ℕ → HostState → AdapterFault → Type 0
+StopsIf true old line before after new fault = ⊥
+StopsIf false old line before after new fault = StopsMarked (mark_of line) (counted old) (drop 2 line) before after new fault
+
 abbrev pub Stops : HostState → List ℕ → List ℕ → List ℕ → HostState → AdapterFault → Type 0
-Stops old line before after new fault = StopsMarked (mark_of line) (counted old) (drop 2 line) before after new fault
+Stops old line before after new fault = StopsIf (is_too_long old line) old line before after new fault

@@ -1,5 +1,5 @@
 -- The code's words for a host over a channel. Only private clauses cite these.
-use Rattle.std.specs.Prelude.{◌≡◌, ◌⊎◌, ℕ, ◌+◌, ◌<◌, ◌≤◌, take, List, [], length}
+use Rattle.std.specs.Prelude.{◌≡◌, ◌⊎◌, ℕ, ◌+◌, ◌<◌, ◌≤◌, take, Bool, true, false, List, [], length}
 use Rattle.dap_adapter.specs.declared.served.ServeFault.{ServeFault}
 use Rattle.dap_adapter.specs.declared.served.ServeFault.TheVariants as serve
 use Rattle.dap_channel.specs.Channel.{IoEvent}
@@ -28,6 +28,11 @@ pub record SoFar {C : Type 0} (goes : C → IoEvent → C → Type 0) (start : H
   pub count : v.written ≡ saturating_count went
 
 -- ---- an answer
+
+-- a line of which these bytes are held: they are all of it, or it is too long
+abbrev pub IsWhole : ℕ → Bool → List ℕ → List ℕ → Type 0
+IsWhole longest false held whole = whole ≡ held
+IsWhole longest true held whole = longest < length whole
 
 -- a line was answered, after so many bytes; and now so many went out
 pub record Answers {C : Type 0} (goes : C → IoEvent → C → Type 0) (c : C) (h : HostState) (line : List ℕ) (d : C) (k : HostState) (written total : ℕ) : Type 0 where

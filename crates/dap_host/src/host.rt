@@ -22,6 +22,9 @@ use std::alloc::{AllocError, Global};
 use std::marker::Model;
 use std::rc::Rc;
 
+/// Room for a message of the greatest body, and the mark before it: 16777218 bytes.
+pub const LONGEST_LINE: usize = 16777218;
+
 /// Where what a line says goes, by its first two bytes.
 #[derive(Clone, Copy)]
 pub(crate) enum Mark {
@@ -108,6 +111,8 @@ pub struct Host {
     mail: Rc<Mail>,
     sources: HostSources,
     limits: Limits,
+    /// The most bytes that a line may have.
+    longest: usize,
     /// How many lines came.
     number: u64,
     /// For what lines say.
@@ -123,12 +128,12 @@ impl Model for Host {
 
     ghost coded = { Prim.hlevel (codes, coded_data) };
 
-    ghost view = { λ h. record { adapter = h.adapter; sources = h.sources; limits = h.limits; number = h.number } };
+    ghost view = { λ h. record { adapter = h.adapter; sources = h.sources; limits = h.limits; longest = h.longest; number = h.number } };
 }
 
 impl Host {
-    ghost use Rattle.std.specs.Prelude.{◌≡◌, ◌≢◌, ◌↔◌, ◌++◌, List, IfOk, IfErr, OnOk, OnErr, IfSome, IsTrue, None, Ok, Err, true, false};
-    ghost use Rattle.dap_host.specs.Hearing.{IsFresh, IsGoing, HandsOut, RefusesMessage, TakesMessage, Comes, HearsTold, IsUnheard, AnswersMessage, SaysDropped, TellsIt, TellsOrDrops, TellsAndKeeps, StopsMessage, StopsTelling, HearsMessage, HearsHappening, HearsMarked, StopsMarked, Hears, Stops};
+    ghost use Rattle.std.specs.Prelude.{◌≡◌, ◌≢◌, ◌↔◌, ◌<◌, ◌++◌, List, ℕ, length, IfOk, IfErr, OnOk, OnErr, IfSome, IsTrue, None, Ok, Err, true, false};
+    ghost use Rattle.dap_host.specs.Hearing.{IsFresh, IsGoing, HandsOut, RefusesMessage, TakesMessage, Comes, HearsTold, IsUnheard, AnswersMessage, SaysDropped, TellsIt, TellsOrDrops, TellsAndKeeps, StopsMessage, StopsTelling, HearsMessage, HearsHappening, HearsMarked, StopsMarked, HearsText, Hears, Stops, counted};
     ghost use Rattle.dap_line.specs.Moments.{FileRefused, HasRoom};
     ghost use Rattle.dap_host.specs.PrivateKeeping.{AreAll, keeps_all};
     ghost use Rattle.dap_line.specs.Told.{said_of};
@@ -141,14 +146,20 @@ impl Host {
     ghost use Rattle.dap_plan.specs.Polling.{has_debuggee};
 
     /// A host of a debuggee that is not started. The bytes are a JSON object with the `sources` of a recording, the first of
-    /// which has a line; a recording is one, and what else it has is not looked at.
+    /// which has a line; a recording is one, and what else it has is not looked at. A line may have so many bytes as `longest` says;
+    /// [`LONGEST_LINE`] has room for the greatest message.
     ///
     /// # Errors
     /// `NotJson` and `NotObject` as of `Recorded::read`. `BadKey` with `sources` where these are absent, `null`, no array or more
     /// than 65536, with the first bad key of a source, with `source` where there is none, and with `line` where the first has no
     /// line. `OutOfMemory` where memory is refused.
-    pub fn open(alloc: Global, limits: Limits, bytes: &[u8]) -> Result<Host, RecordingFault>
-        ensures fresh { IfOk result (IsFresh limits bytes.now) }
+    pub fn open(
+        alloc: Global,
+        limits: Limits,
+        longest: usize,
+        bytes: &[u8],
+    ) -> Result<Host, RecordingFault>
+        ensures fresh { IfOk result (IsFresh limits longest bytes.now) }
         ensures going { IfOk result IsGoing }
         ensures refused { IfErr result (FileRefused bytes.now) }
     {
@@ -168,13 +179,14 @@ impl Host {
             mail,
             sources,
             limits,
+            longest,
             number: 0,
             scratch: Scratch::new(alloc),
         })
     }
 
     /// Hears a line, without the line feed at its end, and appends the lines that are due then to `out`. A line without bytes is
-    /// skipped; lines are counted from 1, also that one.
+    /// skipped, and one with too many refused; lines are counted from 1, also those.
     ///
     /// # Errors
     /// Those of `Adapter::answer` and `Adapter::tell`, where the adapter is closed: then the lines of what was made before are
@@ -192,11 +204,50 @@ impl Host {
         // Why it stops.
         ensures stops { IfErr result (λ fault. fault ≢ AdapterFault.OutOfMemory → Stops self.old line.now out.old.items out.new.items self.new fault) }
     {
+        if line.len() > self.longest() {
+            return self.hear_too_long(out);
+        }
+        self.hear_text(alloc, line, out)
+    }
+
+    /// The most bytes that a line may have.
+    pub fn longest(&self) -> usize
+        ensures { result ≡ self.now.longest }
+    {
+        self.longest
+    }
+
+    /// Hears a line that is not too long.
+    fn hear_text(
+        &mut self,
+        alloc: Global,
+        line: &[u8],
+        out: &mut Vec<u8>,
+    ) -> Result<(), AdapterFault>
+        requires { IsGoing self.old }
+        ensures hears { OnOk result (HearsText self.old line.now out.old.items out.new.items self.new) }
+        ensures going { OnOk result (IsGoing self.new) }
+        ensures stops { IfErr result (λ fault. fault ≢ AdapterFault.OutOfMemory → StopsMarked (mark_of line.now) (counted self.old) (drop 2 line.now) out.old.items out.new.items self.new fault) }
+    {
         self.number = self.number.saturating_add(1);
         if line.is_empty() {
             return Ok(());
         }
         self.hear(alloc, line, out)
+    }
+
+    /// Hears a line with more bytes than a line may have, of which nothing has to be kept: it is refused, and counted.
+    ///
+    /// # Errors
+    /// `OutOfMemory` alone: then a part of the refusal may be appended.
+    pub fn hear_too_long(&mut self, out: &mut Vec<u8>) -> Result<(), AdapterFault>
+        requires { IsGoing self.old }
+        ensures hears { OnOk result ((line : List ℕ) → self.old.longest < length line → Hears self.old line out.old.items out.new.items self.new) }
+        ensures going { OnOk result (IsGoing self.new) }
+        ensures memory { IfErr result (λ fault. fault ≡ AdapterFault.OutOfMemory) }
+    {
+        self.number = self.number.saturating_add(1);
+        self.refuse(Refusal::TooLong, out)
     }
 
     /// Hears a line that has bytes, and is counted.

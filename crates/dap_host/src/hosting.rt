@@ -1,9 +1,11 @@
 //! A host over a channel: each line is answered whole before the next is heard.
-ghost use Rattle.std.specs.Prelude.{◌≡◌, ℕ, ◌+◌, [], true, false, IfOk, IfErr, OnOk, Err};
-ghost use Rattle.dap_host.specs.Hearing.{IsGoing};
+ghost use Rattle.std.specs.Prelude.{◌≡◌, ◌≢◌, ℕ, ◌+◌, ◌<◌, ◌++◌, List, [], length, true, false, IfOk, IfErr, OnOk, Err};
+ghost use Rattle.dap_plan.specs.declared.fault.AdapterFault.{AdapterFault};
+ghost use Rattle.dap_host.specs.Hearing.{Hears, IsGoing, Stops};
+ghost use Rattle.dap_host.specs.PrivateFetching.{IsDropped};
 ghost use Rattle.dap_host.specs.Fetching.{has_line};
 ghost use Rattle.dap_host.specs.Hosting.{HostPoint, point_of, HearsAll, Hosts, AnswersInput};
-ghost use Rattle.dap_host.specs.PrivateHosting.{Answers, AnswerStops, AnswersFirst, FirstStops, AnswersLast, LastStops, SoFar};
+ghost use Rattle.dap_host.specs.PrivateHosting.{Answers, AnswerStops, AnswersFirst, FirstStops, AnswersLast, IsWhole, LastStops, SoFar, with_held};
 
 use crate::fetching::fetch;
 use crate::host::Host;
@@ -13,21 +15,43 @@ use dap_check::split_line;
 use std::alloc::Global;
 use std::marker::Model;
 
-/// Hears a line, and writes and flushes what is due then, before a fault too. It answers how many bytes went out in all.
+/// Hears a line of which these bytes are held.
+fn hear(
+    alloc: Global,
+    host: &mut Host,
+    line: &[u8],
+    is_long: bool,
+    out: &mut Vec<u8>,
+) -> Result<(), AdapterFault>
+    requires { IsGoing host.old }
+    ensures going { OnOk result (IsGoing host.new) }
+    ensures hears { OnOk result ((whole : List ℕ) → IsWhole host.old.longest is_long line.now whole → Hears host.old whole out.old.items out.new.items host.new) }
+    ensures stops { IfErr result (λ fault. fault ≢ AdapterFault.OutOfMemory → (whole : List ℕ) → IsWhole host.old.longest is_long line.now whole → Stops host.old whole out.old.items out.new.items host.new fault) }
+{
+    if is_long {
+        host.hear_too_long(out)
+    } else {
+        host.line(alloc, line, out)
+    }
+}
+
+/// Hears a line of which these bytes are held, and writes and flushes what is due then, before a fault too. It answers how many
+/// bytes went out in all.
 fn answer_line<C: Channel>(
     alloc: Global,
     channel: &mut C,
     host: &mut Host,
     line: &[u8],
+    is_long: bool,
     written: u64,
 ) -> Result<u64, ServeFault>
     requires { IsGoing host.old }
     ensures going { OnOk result (IsGoing host.new) }
-    ensures answered { IfOk result (λ total. Answers C.goes channel.old host.old line.now channel.new host.new written total) }
-    ensures stops { IfErr result (AnswerStops C.goes channel.old host.old line.now channel.new written) }
+    ensures answered { IfOk result (λ total. (whole : List ℕ) → IsWhole host.old.longest is_long line.now whole → Answers C.goes channel.old host.old whole channel.new host.new written total) }
+    ensures stops { IfErr result (λ fault. (whole : List ℕ) → IsWhole host.old.longest is_long line.now whole → AnswerStops C.goes channel.old host.old whole channel.new written fault) }
 {
     let mut out = Vec::new(alloc);
-    let heard = host.line(alloc, line, &mut out);
+    let heard = hear(alloc, host, line, is_long, &mut out);
     // Where memory is refused, a part of a line may be there.
     if let Err(AdapterFault::OutOfMemory) = heard {
         return Err(ServeFault::OutOfMemory);
@@ -40,6 +64,14 @@ fn answer_line<C: Channel>(
         Ok(()) => Ok(total),
         Err(fault) => Err(ServeFault::Adapter(fault)),
     }
+}
+
+/// Whether there is no last line, of which these bytes are held.
+fn is_none(held: &[u8], is_long: bool) -> bool
+    ensures none { result ≡ true → (is_long ≡ false) × (held.now ≡ []) }
+    ensures some { result ≡ false → is_long ≡ false → 0 < length held.now }
+{
+    !is_long && held.is_empty()
 }
 
 /// A host, the bytes that were read and are no line yet, and how many went out.
@@ -75,19 +107,24 @@ impl Model for Hosting {
 }
 
 impl Hosting {
-    /// Answers the first line of what is held.
-    fn answer_first<C: Channel>(&mut self, alloc: Global, channel: &mut C) -> Result<(), ServeFault>
+    /// Answers the first line of what is held, behind what was dropped of it where it is too long.
+    fn answer_first<C: Channel>(
+        &mut self,
+        alloc: Global,
+        channel: &mut C,
+        is_long: bool,
+    ) -> Result<(), ServeFault>
         requires going { IsGoing self.old.host }
         requires line { has_line self.old.held ≡ true }
         ensures going { OnOk result (IsGoing self.new.host) }
-        ensures answered { OnOk result (AnswersFirst C.goes channel.old self.old channel.new self.new) }
-        ensures stops { IfErr result (FirstStops C.goes channel.old self.old channel.new) }
+        ensures answered { OnOk result ((dropped : List ℕ) → IsDropped self.old.host.longest is_long dropped → AnswersFirst C.goes channel.old (with_held (dropped ++ self.old.held) self.old) channel.new self.new) }
+        ensures stops { IfErr result (λ fault. (dropped : List ℕ) → IsDropped self.old.host.longest is_long dropped → FirstStops C.goes channel.old (with_held (dropped ++ self.old.held) self.old) channel.new fault) }
     {
         let (line, rest) = split_line(&self.held);
         let Ok(rest) = rest.to_vec(alloc) else {
             return Err(ServeFault::OutOfMemory);
         };
-        match answer_line(alloc, channel, &mut self.host, line, self.written) {
+        match answer_line(alloc, channel, &mut self.host, line, is_long, self.written) {
             Ok(written) => {
                 self.written = written;
                 self.held = rest;
@@ -97,19 +134,25 @@ impl Hosting {
         }
     }
 
-    /// Answers what is held at the end of the input, if anything is.
-    fn answer_last<C: Channel>(&mut self, alloc: Global, channel: &mut C) -> Result<(), ServeFault>
+    /// Answers what is held at the end of the input, behind what was dropped of it, if anything is.
+    fn answer_last<C: Channel>(
+        &mut self,
+        alloc: Global,
+        channel: &mut C,
+        is_long: bool,
+    ) -> Result<(), ServeFault>
         requires going { IsGoing self.old.host }
-        ensures answered { OnOk result (AnswersLast C.goes channel.old self.old channel.new) }
-        ensures stops { IfErr result (LastStops C.goes channel.old self.old channel.new) }
+        ensures answered { OnOk result ((dropped : List ℕ) → IsDropped self.old.host.longest is_long dropped → AnswersLast C.goes channel.old (with_held (dropped ++ self.old.held) self.old) channel.new) }
+        ensures stops { IfErr result (λ fault. (dropped : List ℕ) → IsDropped self.old.host.longest is_long dropped → LastStops C.goes channel.old (with_held (dropped ++ self.old.held) self.old) channel.new fault) }
     {
-        if self.held.is_empty() {
+        if is_none(&self.held, is_long) {
             return Ok(());
         }
-        match answer_line(alloc, channel, &mut self.host, &self.held, self.written) {
-            Ok(_written) => Ok(()),
-            Err(fault) => Err(fault),
+        match answer_line(alloc, channel, &mut self.host, &self.held, is_long, self.written) {
+            Ok(_written) => {}
+            Err(fault) => return Err(fault),
         }
+        Ok(())
     }
 
     /// Reads and answers the next line. It answers whether another may come.
@@ -127,22 +170,25 @@ impl Hosting {
     {
         // A law for the proof: what calls come to that are made one after the other.
         calls_add_up::<C>();
-        match fetch(channel, &mut self.held, max_reads) {
-            Ok(true) => match self.answer_first(alloc, channel) {
+        let fetched = match fetch(channel, &mut self.held, self.host.longest(), max_reads) {
+            Ok(fetched) => fetched,
+            Err(fault) => return Err(fault),
+        };
+        if fetched.more {
+            return match self.answer_first(alloc, channel, fetched.is_long) {
                 Ok(()) => Ok(true),
                 Err(fault) => Err(fault),
-            },
-            Ok(false) => match self.answer_last(alloc, channel) {
-                Ok(()) => Ok(false),
-                Err(fault) => Err(fault),
-            },
+            };
+        }
+        match self.answer_last(alloc, channel, fetched.is_long) {
+            Ok(()) => Ok(false),
             Err(fault) => Err(fault),
         }
     }
 }
 
 /// Answers the lines of a host that come over a channel, until the input ends. The channel is read in pieces of at most 4096
-/// bytes. Each line is answered whole, and what is due is written and flushed, before the next is heard. At most `max_reads`
+/// bytes. Of a line that is too long nothing is kept: at most 4097 bytes more are held than a line may have. Each line is answered whole, and what is due is written and flushed, before the next is heard. At most `max_reads`
 /// lines are answered, and at most as many reads are made for each.
 ///
 /// # Errors

@@ -12,5 +12,5 @@ mod hosting;
 mod streams;
 
 pub use dap_line::{HostKey, Refusal};
-pub use host::Host;
+pub use host::{Host, LONGEST_LINE};
 pub use hosting::host_channel;

@@ -22,7 +22,7 @@ use Rattle.dap_tables.specs.declared.target.Target.{Target}
 use Rattle.dap_line.specs.declared.refusal.HostKey.{HostKey}
 use Rattle.dap_line.specs.declared.refusal.HostKey.TheVariants.{Happened, Category, Output, Reason, Thread, Moment, Code, Text, Value, Later, Holder, Variables, Name, Asked, Number, Sources}
 use Rattle.dap_line.specs.declared.refusal.Refusal.{Refusal}
-use Rattle.dap_line.specs.declared.refusal.Refusal.TheVariants.{BadLine, Body, BodyTooLong, Ended, NotJson, BadKey, BadMoment, BadSources, Dropped}
+use Rattle.dap_line.specs.declared.refusal.Refusal.TheVariants.{TooLong, BadLine, Body, BodyTooLong, Ended, NotJson, BadKey, BadMoment, BadSources, Dropped}
 
 -- ---- messages for the client
 
@@ -126,6 +126,7 @@ dropped_name Told = codes "Told"
 dropped_name TooManyHolders = codes "TooManyHolders"
 
 unfoldable pub reason_of : Refusal → List ℕ
+reason_of TooLong = codes "TooLong"
 reason_of BadLine = codes "BadLine"
 reason_of (Body cause) = name_of_body_refusal cause
 reason_of BodyTooLong = codes "BodyTooLong"

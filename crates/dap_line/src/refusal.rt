@@ -60,6 +60,8 @@ impl HostKey {
 /// Why a line of a host is refused.
 #[derive(Clone, Copy, Debug, PartialEq, Eq)]
 pub enum Refusal {
+    /// It has more bytes than a line may have. Nothing of it is kept.
+    TooLong,
     /// It begins neither with `> ` nor with `! `.
     BadLine,
     /// What should be a message of the client is none.
@@ -106,6 +108,7 @@ fn push_reason(out: &mut Vec<u8>, why: Refusal) -> Result<(), AllocError>
     ensures { OnOk result (out.new.items ≡ out.old.items ++ reason_of why) }
 {
     match why {
+        Refusal::TooLong => out.extend_from_slice(b"TooLong"),
         Refusal::BadLine => out.extend_from_slice(b"BadLine"),
         Refusal::Body(cause) => out.extend_from_slice(body_refusal_name(cause).as_bytes()),
         Refusal::BodyTooLong => out.extend_from_slice(b"BodyTooLong"),

@@ -89,9 +89,16 @@ abbrev pub optional_source_of_frame : List Source → Option ℕ → Option Sour
 optional_source_of_frame sources source = option_map (source_of_frame sources) source
 
 -- a frame without a source has line 0 and column 0: Specification, "StackFrame"
+abbrev pub line_in : Options → Option SourceBody → ℕ → ℕ
+line_in options None line = 0
+line_in options (Some source) line = line_shown options line
+
+abbrev pub column_in : Options → Option SourceBody → ℕ
+column_in options None = 0
+column_in options (Some source) = column_shown options
+
 abbrev pub frame_with : Options → ℕ → Frame → Option SourceBody → StackFrame
-frame_with options id f None = record { id = id; name = f.name; source = None; line = 0; column = 0 }
-frame_with options id f (Some source) = record { id = id; name = f.name; source = Some source; line = line_shown options f.line; column = column_shown options }
+frame_with options id f source = record { id = id; name = f.name; source = source; line = line_in options source f.line; column = column_in options source }
 
 abbrev pub protocol_frame : Options → List Source → ℕ → Frame → StackFrame
 protocol_frame options sources id f = frame_with options id f (optional_source_of_frame sources f.source)

@@ -6,7 +6,7 @@ use Rattle.dap_host.proofs.host.Host.answer.Goals as goal
 pub returns-in-Ok-answer-clause-answers : goal.returns-in-Ok-answer-clause-answers
 returns-in-Ok-answer-clause-answers c = on_ok_weaker c.hand_out.result (λ out.
     answered_at _ c.args.self.now _ c.args.body.now c.deref.result.now c.new-bytes.result.items c.answer.new.out.items c.args.out.now.items c.hand_out.new.out.items c.in-Ok-answer._ended c.self.view_is c.requires.going c.frames_come_one_by_one.ensures c.requires.takes
-    (c.deref.ensures.value ∙ c.in-Ok.ensures) c.new-bytes.ensures.items c.in-Ok-answer.ensures.answers (λ outs are fits. out outs (c.deref-in-Ok-answer.ensures.value ∙ are) fits) (record { sources = refl; limits = refl; number = refl })) c.hand_out.ensures.out
+    (c.deref.ensures.value ∙ c.in-Ok.ensures) c.new-bytes.ensures.items c.in-Ok-answer.ensures.answers (λ outs are fits. out outs (c.deref-in-Ok-answer.ensures.value ∙ are) fits) (record { sources = refl; limits = refl; longest = refl; number = refl })) c.hand_out.ensures.out
 
 pub returns-in-Ok-answer-clause-going : goal.returns-in-Ok-answer-clause-going
 returns-in-Ok-answer-clause-going c = on_ok_weaker c.hand_out.result (λ out.

@@ -17,6 +17,7 @@ returns-clause-fresh c = record {
   session = c.in_ok-adapter.ensures.session;
   debuggee = c.in_ok-adapter.ensures.debuggee ∙ c.open-live.ensures;
   limits_are = refl;
+  longest_is = refl;
   number = refl;
 }
 
