@@ -76,8 +76,28 @@ fn main(rt: HostRuntime) -> ExitCode {
     ExitCode::from(code)
 }
 
+/// How much of the stack the deepest work takes, in bytes.
+const STACK: usize = 393216;
+
+#[inline(never)]
+fn fill(room: &mut [u8], byte: u8) {
+    room.fill(byte);
+}
+
+/// Uses so much of the stack, before any memory is taken: where the system has no more for the stack later, it has refused memory
+/// before, and that is told.
+#[inline(never)]
+fn reserve_stack(byte: u8) -> bool {
+    let mut room = [0; STACK];
+    fill(&mut room, byte);
+    room[STACK - 1] == byte
+}
+
 /// Does what the command line asks for, and answers the exit status.
 fn run(rt: &HostRuntime) -> Result<u8, Failure> {
+    if !reserve_stack(1) {
+        return Err(Failure::Memory);
+    }
     let words: Vec<String> = std::env::args(rt)?.collect(rt.alloc())?;
     let limit_texts = dap_words::limit_texts(rt.alloc())?;
     run_words(rt, words.as_slice(), limit_texts.as_slice())
@@ -436,7 +456,8 @@ fn read_host(rt: &HostRuntime, matches: &ArgMatches<'_>, limits: Limits) -> Resu
     ensures { IfOk result IsGoing }
 {
     let bytes = read_file(rt, matches, SOURCES)?;
-    match Host::open(rt.alloc(), limits, &bytes) {
+    let longest = dap_words::longest_line(matches) as usize;
+    match Host::open(rt.alloc(), limits, longest, &bytes) {
         Ok(host) => Ok(host),
         Err(fault) => {
             let file = Subject {

@@ -61,6 +61,13 @@ static LIMIT_OPTIONS: [LimitOption; 7] = [
     },
 ];
 
+/// The option that bounds a line of a host, with its least and its greatest value, and the one where it is not given: a line has
+/// room for a message of a body of that size, and for the mark before it.
+const MAX_LINE: &str = "max-line";
+const LEAST_LINE: u64 = 1026;
+const GREATEST_LINE: u64 = 1073741826;
+const USUAL_LINE: u64 = 16777218;
+
 /// What the help says of each option that sets a limit, in order.
 pub fn limit_texts(alloc: Global) -> Result<Vec<String>, AllocError> {
     let usual = Limits::usual();
@@ -312,7 +319,23 @@ fn host<'a>(alloc: Global, limit_texts: &'a [String]) -> Result<Command<'a>, All
             "The sources of what is debugged: a JSON object with `sources` as a recording has them, of at most 67108864 bytes",
         ))?
         .arg(explain_faults(alloc))?;
-    with_limits(alloc, host, limit_texts, LIMIT_OPTIONS.len())
+    with_limits(alloc, host, limit_texts, LIMIT_OPTIONS.len())?.arg(max_line(alloc))
+}
+
+/// The option that bounds a line of a host.
+fn max_line<'a>(alloc: Global) -> Arg<'a> {
+    Arg::new(alloc, MAX_LINE)
+        .long(MAX_LINE)
+        .value_name("BYTES")
+        .help("Greatest length of a line in, 1026 to 1073741826 [default: 16777218]")
+        .action(ArgAction::Set)
+        .allow_negative_numbers(true)
+        .value_parser(ValueParser::unsigned(LEAST_LINE, GREATEST_LINE))
+}
+
+/// The most bytes that a line of a host may have.
+pub fn longest_line(matches: &ArgMatches<'_>) -> u64 {
+    matches.get_one::<u64>(MAX_LINE).unwrap_or(USUAL_LINE)
 }
 
 /// The command line of the program.

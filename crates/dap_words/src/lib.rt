@@ -7,5 +7,5 @@
 mod command_line;
 mod layout;
 
-pub use command_line::{command, explains, limit_texts, limits};
+pub use command_line::{command, explains, limit_texts, limits, longest_line};
 pub use layout::laid_out;
